@@ -1,0 +1,17 @@
+pub mod Spelled
+pub mod Devices
+pub mod Parts
+pub mod Numbers
+pub mod Advance
+pub mod Viable
+pub mod FixedText
+pub mod Lengths
+pub mod Walk
+pub mod Whole
+pub mod Choices
+pub mod Stands
+pub mod Fronts
+pub mod Unique
+pub mod Sources
+pub mod Writable
+pub mod Total

@@ -1,0 +1,316 @@
+-- What is said of bytes is said in one way alone: events, complete events, faults.
+use Rattle.std.proofs.Common.{◌≡◌, ℕ, zero, suc, ◌+◌, ◌<◌, ◌≤◌, Bool, true, false, cond, leb, List, [], ◌∷◌, ◌++◌, length, take, Option, Some, None, refl, sym, ap, subst, ◌∙◌, append_assoc, arith, length-append, inl, inr}
+use Rattle.std.specs.Prelude.{IsTrue, slice_get}
+use Rattle.std.specs.List.{AllByRecursion}
+use Rattle.std.proofs.lemmas.List.{append-nil, take-append-le}
+use Rattle.std.proofs.lemmas.Bool.{cond-true, cond-false, le-leb, lt-leb, cases_lt}
+use Rattle.sixel_grammar.specs.declared.command.Event.{Event}
+use Rattle.sixel_grammar.specs.declared.command.Placed.{Placed}
+use Rattle.sixel_grammar.specs.declared.fault.Reason.{Reason}
+use Rattle.sixel_grammar.specs.declared.fault.Fault.{Fault}
+use Rattle.sixel_grammar.specs.Document.{Piece, bytes_of, joined, events_in, placed_from, AreRest, AreWhole, Parses, Document, IsDocument}
+use Rattle.sixel_grammar.specs.Prefix.{completed_at, complete_from, CompleteIn, IsViable}
+use Rattle.sixel_grammar.specs.declared.command.Event.TheVariants.{Start, Step, Finish}
+use Rattle.sixel_grammar.specs.Spelling.{is_open_ended}
+use Rattle.sixel_grammar.specs.Faults.{Form, NothingYet, Ended, EndsIn, IsClosed, refusal, Stops, IsTooLong, IsRefused, IsFaultOf}
+use Rattle.sixel_grammar.specs.Next.{next_of}
+use Rattle.sixel_grammar.proofs.Walk.{Stamp, stamp, State, state, with_stamp, moved, after, walk, walk-none, walk-append, walk-then}
+use Rattle.sixel_grammar.proofs.Whole.{start, stamped_from, document_walk, ends_walk}
+use Rattle.sixel_grammar.proofs.Stands.{fault_at}
+use Rattle.sixel_grammar.proofs.Viable.{complete}
+use Rattle.sixel_grammar.proofs.Fronts.{fronts}
+
+abbrev placed_of : List Stamp → List Placed
+placed_of [] = []
+placed_of (t ∷ ts) = t.placed ∷ placed_of ts
+
+placed-append : (xs ys : List Stamp) → placed_of (xs ++ ys) ≡ placed_of xs ++ placed_of ys
+placed-append [] ys = refl
+placed-append (x ∷ xs) ys = ap (λ (t : List Placed). x.placed ∷ t) (placed-append xs ys)
+
+placed-stamped : (n : ℕ) (ps : List Piece) → placed_of (stamped_from n ps) ≡ placed_from n ps
+placed-stamped n [] = refl
+placed-stamped n (p ∷ ps) = ap (λ (t : List Placed). record { place = n + length p.filler; event = p.event } ∷ t) (placed-stamped (n + length (bytes_of p)) ps)
+
+abbrev so_far_at : Option State → List Stamp
+so_far_at None = []
+so_far_at (Some s) = s.so_far
+
+events_walk : (events : List Placed) (bytes : List ℕ) → Document events bytes → events ≡ placed_of (so_far_at (walk 0 start bytes))
+events_walk events bytes d = d.events_are ∙ sym (placed-stamped 0 d.pieces) ∙ ap (λ (s : Option State). placed_of (so_far_at s)) (sym (document_walk d.pieces bytes d.parses))
+
+pub document_once : (bytes : List ℕ) (first second : List Placed) → Document first bytes → Document second bytes → first ≡ second
+document_once bytes first second a b = events_walk first bytes a ∙ sym (events_walk second bytes b)
+
+-- ---- events come at the byte that completes them
+
+abbrev CameIn : ℕ → ℕ → List Stamp → Type 0
+CameIn n m ts = AllByRecursion (λ (t : Stamp). (n < t.completed) × (t.completed ≤ m)) ts
+
+came-append : (n m k : ℕ) (xs ys : List Stamp) → n ≤ m → m ≤ k → CameIn n m xs → CameIn m k ys → CameIn n k (xs ++ ys)
+came-append n m k [] [] l g h i = tt
+came-append n m k [] (y ∷ ys) l g h i = ((omega arith, omega arith), came-append n m k [] ys l g tt i.1)
+came-append n m k (x ∷ xs) ys l g h i = ((omega arith, omega arith), came-append n m k xs ys l g h.1 i)
+
+adds : (n o k : ℕ) (s : List Stamp) (ended done : Option Event) → (later : List Stamp) × (with_stamp (with_stamp s (n + 1) o ended) (n + 1) k done ≡ s ++ later) × CameIn n (n + 1) later
+adds n o k s None None = ([], sym (append-nil s), tt)
+adds n o k s None (Some e) = (stamp (n + 1) k e ∷ [], refl, ((omega arith, omega arith), tt))
+adds n o k s (Some e) None = (stamp (n + 1) o e ∷ [], refl, ((omega arith, omega arith), tt))
+adds n o k s (Some e) (Some d) = (stamp (n + 1) o e ∷ stamp (n + 1) k d ∷ [], append_assoc s (stamp (n + 1) o e ∷ []) (stamp (n + 1) k d ∷ []), ((omega arith, omega arith), ((omega arith, omega arith), tt)))
+
+abbrev Grows : ℕ → ℕ → List Stamp → List Stamp → Type 0
+Grows n m old new = (later : List Stamp) × (new ≡ old ++ later) × CameIn n m later
+
+grows : (more : List ℕ) (n : ℕ) (s u : State) → walk n (Some s) more ≡ Some u → Grows n (n + length more) s.so_far u.so_far
+grows [] n s u h = ([], ap so_far_at (sym h) ∙ sym (append-nil s.so_far), tt)
+grows (b ∷ more) n s u h = by_next (λ v k. grows more (n + 1) v u k) (next_of s.form b) h
+  where
+    by_next : ((v : State) → walk (n + 1) (Some v) more ≡ Some u → Grows (n + 1) (n + 1 + length more) v.so_far u.so_far) → (x : Option (Option Event × Form × Option Event)) → walk (n + 1) (after n s.opened s.so_far x) more ≡ Some u → Grows n (n + length (b ∷ more)) s.so_far u.so_far
+    by_next go None k = absurd (let none = walk-none (n + 1) more in cc)
+    by_next go (Some x) k =
+        let a = adds n s.opened (moved s.opened n x.0) s.so_far x.0 x.2 in
+        let g = go _ k in
+        let e : n + 1 + length more ≡ n + length (b ∷ more) = omega arith in (
+          a.0 ++ g.0,
+          g.1 ∙ ap (λ (t : List Stamp). t ++ g.0) a.1 ∙ append_assoc s.so_far a.0 g.0,
+          subst (λ (m : ℕ). CameIn n m (a.0 ++ g.0)) e (came-append n (n + 1) (n + 1 + length more) a.0 g.0 (omega arith) (omega arith) a.2 g.2),
+        )
+
+-- those that came up to a byte
+abbrev early_of : ℕ → List Stamp → List Stamp
+early_of held [] = []
+early_of held (t ∷ ts) = cond (leb t.completed held) (t ∷ early_of held ts) []
+
+cond-placed : (b : Bool) (t : Stamp) (xs : List Placed) (ts : List Stamp) → xs ≡ placed_of ts → cond b (t.placed ∷ xs) [] ≡ placed_of (cond b (t ∷ ts) [])
+cond-placed true t xs ts h = ap (λ (k : List Placed). t.placed ∷ k) h
+cond-placed false t xs ts h = refl
+
+complete-early : (held n : ℕ) (ps : List Piece) → complete_from held n ps ≡ placed_of (early_of held (stamped_from n ps))
+complete-early held n [] = refl
+complete-early held n (p ∷ ps) = cond-placed (leb (completed_at n p) held) (stamp (completed_at n p) (n + length p.filler) p.event) _ _ (complete-early held (n + length (bytes_of p)) ps)
+
+early-split : (n held m : ℕ) (xs ys : List Stamp) → CameIn n held xs → CameIn held m ys → early_of held (xs ++ ys) ≡ xs
+early-split n held m [] [] h k = refl
+early-split n held m [] (y ∷ ys) h k = cond-false (leb y.completed held) _ _ (lt-leb y.completed held k.0.0)
+early-split n held m (x ∷ xs) ys h k = cond-true (leb x.completed held) _ _ (le-leb x.completed held h.0.1) ∙ ap (λ (t : List Stamp). x ∷ t) (early-split n held m xs ys h.1 k)
+
+-- a viable front is walked, and the events so far are those that are complete
+abbrev Walks : List Placed → List ℕ → Type 0
+Walks events front = (u : State) × (walk 0 start front ≡ Some u) × (events ≡ placed_of u.so_far)
+
+viable_walks : (events : List Placed) (front : List ℕ) → CompleteIn events front → Walks events front
+viable_walks events front c = by_state (walk 0 start front) refl
+  where
+    by_state : (w : Option State) → walk 0 start front ≡ w → Walks events front
+    by_state None h =
+        absurd (let d = document_walk c.pieces (front ++ c.tail) c.parses in
+        let n : walk 0 start (front ++ c.tail) ≡ None = walk-then 0 (0 + length front) start None None front c.tail refl h (walk-none (0 + length front) c.tail) in cc)
+    by_state (Some u) h =
+        let z : 0 + length front ≡ length front = omega arith in
+        let d = document_walk c.pieces (front ++ c.tail) c.parses in
+        let g1 = grows front 0 (state NothingYet 0 []) u h in
+        let w2 : walk (length front) (Some u) c.tail ≡ Some (state _ (length (front ++ c.tail)) (stamped_from 0 c.pieces)) =
+        ap (λ (s : Option State). walk (length front) s c.tail) (sym h) ∙ sym (walk-append 0 (length front) start front c.tail (sym z)) ∙ d in
+        let g2 = grows c.tail (length front) u (state _ (length (front ++ c.tail)) (stamped_from 0 c.pieces)) w2 in
+        let came : CameIn 0 (length front) u.so_far = subst (λ (k : ℕ). CameIn 0 k u.so_far) z (subst (CameIn 0 (0 + length front)) (sym g1.1) g1.2) in (
+          u,
+          h,
+          c.complete ∙ complete-early (length front) 0 c.pieces ∙ ap (λ (t : List Stamp). placed_of (early_of (length front) t)) g2.1
+              ∙ ap placed_of (early-split 0 (length front) (length front + length c.tail) u.so_far g2.0 came g2.2),
+        )
+
+abbrev state_or : State → Option State → State
+state_or s None = s
+state_or s (Some u) = u
+
+pub complete_once : (front : List ℕ) (first second : List Placed) → CompleteIn first front → CompleteIn second front → first ≡ second
+complete_once front first second a b =
+    let x = viable_walks first front a in
+    let y = viable_walks second front b in
+    x.2 ∙ ap (λ (s : Option State). placed_of (so_far_at s)) (sym x.1 ∙ y.1) ∙ sym y.2
+
+pub complete_stays : (front rest : List ℕ) (first second : List Placed) → CompleteIn first front → CompleteIn second (front ++ rest) → (more : List Placed) × (second ≡ first ++ more)
+complete_stays front rest first second a b =
+    let x = viable_walks first front a in
+    let y = viable_walks second (front ++ rest) b in
+    let w : walk (0 + length front) (Some x.0) rest ≡ Some y.0 = ap (λ (s : Option State). walk (0 + length front) s rest) (sym x.1) ∙ sym (walk-append 0 (0 + length front) start front rest refl) ∙ y.1 in
+    let g = grows rest (0 + length front) x.0 y.0 w in
+    (placed_of g.0, y.2 ∙ ap placed_of g.1 ∙ placed-append x.0.so_far g.0 ∙ ap (λ (t : List Placed). t ++ placed_of g.0) (sym x.2))
+
+-- ---- faults
+
+front_of : (m n : ℕ) (xs : List ℕ) → m ≤ n → (r : List ℕ) × (take n xs ≡ take m xs ++ r)
+front_of zero n [] le = (take n [], refl)
+front_of zero n (x ∷ xs) le = (take n (x ∷ xs), refl)
+front_of (suc m) zero xs le = absurd (omega arith)
+front_of (suc m) (suc n) [] le = ([], refl)
+front_of (suc m) (suc n) (x ∷ xs) le = let r = front_of m n xs (omega arith) in (r.0, ap (λ (t : List ℕ). x ∷ t) r.1)
+
+get-front : (xs ys : List ℕ) (n : ℕ) → n < length xs → slice_get (xs ++ ys) n ≡ slice_get xs n
+get-front [] ys n h = absurd (omega arith)
+get-front (x ∷ xs) ys zero h = refl
+get-front (x ∷ xs) ys (suc n) h = get-front xs ys n (omega arith)
+
+get-past : (xs : List ℕ) → slice_get xs (length xs) ≡ None
+get-past [] = refl
+get-past (x ∷ xs) = get-past xs
+
+take-whole : (xs : List ℕ) → take (length xs) xs ≡ xs
+take-whole [] = refl
+take-whole (x ∷ xs) = ap (λ (t : List ℕ). x ∷ t) (take-whole xs)
+
+take_front : (n : ℕ) (xs ys : List ℕ) → n ≤ length xs → take n (xs ++ ys) ≡ take n xs
+take_front n xs ys le = rw take-append-le refl
+
+pub fault_stays : (bytes more : List ℕ) (fault : Fault) → IsFaultOf bytes fault → fault.place < length bytes → IsFaultOf (bytes ++ more) fault
+fault_stays bytes more fault h lt =
+    let len = length-append bytes more in
+    elim h [
+      | inl t ↦ let long = t.long in let le : 268435456 ≤ length bytes = omega arith in inl (record {
+        long = omega arith;
+        viable = subst IsViable (sym (take_front 268435456 bytes more le)) t.viable;
+        fault_is = t.fault_is;
+      })
+      | inr r ↦
+          let same = take_front fault.place bytes more (omega arith) in
+          let next = take_front (fault.place + 1) bytes more (omega arith) in
+          inr (record {
+            longest = record {
+              within = omega arith;
+              viable = subst IsViable (sym same) r.longest.viable;
+              longest = λ n le v. elim (cases_lt fault.place n) [
+                | inl past ↦
+                    let f = front_of (fault.place + 1) n (bytes ++ more) (omega arith) in
+                    let front = fronts (take (fault.place + 1) (bytes ++ more)) f.0 (subst IsViable f.1 v) in
+                    let too = r.longest.longest (fault.place + 1) (omega arith) (subst IsViable next front) in
+                    absurd (omega arith)
+                | inr k ↦ k
+              ];
+            };
+            within = let w = r.within in omega arith;
+            refuses = subst (λ (o : Option ℕ). Stops (take fault.place (bytes ++ more)) o fault.reason) (sym (get-front bytes more fault.place lt))
+                (subst (λ (f : List ℕ). Stops f (slice_get bytes fault.place) fault.reason) (sym same) r.refuses);
+          })
+    ]
+
+document_viable : (bytes : List ℕ) → IsDocument bytes → IsViable bytes
+document_viable bytes d = (
+  complete_from (length bytes) 0 d.1.pieces,
+  record {
+    tail = [];
+    is_tail = (9, omega arith, refl);
+    pieces = d.1.pieces;
+    parses = subst (Parses d.1.pieces) (sym (append-nil bytes)) d.1.parses;
+    complete = refl;
+  },
+)
+
+pub fault_no_document : (bytes : List ℕ) (fault : Fault) → IsFaultOf bytes fault → IsDocument bytes → ⊥
+fault_no_document bytes fault h d =
+    elim h [
+      | inl t ↦ let long = t.long in let short = d.1.short in omega arith
+      | inr r ↦
+          let le = r.longest.longest (length bytes) (omega arith) (subst IsViable (sym (take-whole bytes)) (document_viable bytes d)) in
+          let k : fault.place ≡ length bytes = let w = r.longest.within in omega arith in
+          let f = subst (λ (n : ℕ). Stops (take n bytes) (slice_get bytes n) fault.reason) k r.refuses in
+          let g = subst (λ (o : Option ℕ). Stops (take (length bytes) bytes) o fault.reason) (get-past bytes) f in
+          g.0 (subst IsDocument (sym (take-whole bytes)) d)
+    ]
+
+abbrev form_at : Option State → Form
+form_at None = NothingYet
+form_at (Some s) = s.form
+
+pub form_once : (bytes : List ℕ) (f g : Form) {events more : List Placed} {o p : ℕ} → EndsIn f events o bytes → EndsIn g more p bytes → f ≡ g
+form_once bytes f g a b = ap form_at (sym (ends_walk f a) ∙ ends_walk g b)
+
+reason_once : (front : List ℕ) (next : Option ℕ) (r s : Reason) → Stops front next r → Stops front next s → r ≡ s
+reason_once front None r s a b = a.1 ∙ sym b.1
+reason_once front (Some b) r s a c = a.4 ∙ ap (λ (f : Form). refusal f b) (form_once front a.0 c.0 a.3 c.3) ∙ sym c.4
+
+pub fault_once : (bytes : List ℕ) (f g : Fault) → IsFaultOf bytes f → IsFaultOf bytes g → f ≡ g
+fault_once bytes f g a b =
+    elim a [
+      | inl t ↦ elim b [
+        | inl u ↦ t.fault_is ∙ sym u.fault_is
+        | inr r ↦ absurd (apart t r)
+      ]
+      | inr r ↦ elim b [
+        | inl t ↦ absurd (apart t r)
+        | inr q ↦
+            let k : f.place ≡ g.place =
+            (let x = q.longest.longest f.place r.longest.within r.longest.viable in let y = r.longest.longest g.place q.longest.within q.longest.viable in omega arith) in
+            let same = reason_once (take g.place bytes) (slice_get bytes g.place) f.reason g.reason (subst (λ (n : ℕ). Stops (take n bytes) (slice_get bytes n) f.reason) k r.refuses) q.refuses in
+            ap (λ (v : Reason). fault_at v f.place) same ∙ ap (fault_at g.reason) k
+      ]
+    ]
+  where
+    apart : {h i : Fault} → IsTooLong bytes h → IsRefused bytes i → ⊥
+    apart {h} {i} t r =
+        let long = t.long in
+        let w = r.within in
+        let le = r.longest.longest 268435456 (omega arith) t.viable in
+        omega arith
+
+-- ---- documents
+
+last_finish : (e : Event) (n : ℕ) → AreRest (e ∷ []) → IsTrue (is_open_ended e) → 0 < n
+last_finish (Start eight ps) n h t = absurd h
+last_finish (Step c) n h t = absurd h
+last_finish (Finish eight) n h t = cc
+
+rest_more : (e f : Event) (more : List Event) → AreRest (e ∷ f ∷ more) → AreRest (f ∷ more)
+rest_more (Start eight ps) f more h = absurd h
+rest_more (Step c) f more h = h
+rest_more (Finish eight) f more h = cc
+
+closed_rest : (ps : List Piece) (n : ℕ) → AreRest (events_in ps) → IsClosed ps n
+closed_rest [] n h = absurd h
+closed_rest (p ∷ []) n h = last_finish p.event n h
+closed_rest (p ∷ q ∷ ps) n h = closed_rest (q ∷ ps) n (rest_more p.event q.event (events_in ps) h)
+
+rest_of : (e : Event) (more : List Event) → AreWhole (e ∷ more) → AreRest more
+rest_of (Start eight ps) more h = h
+rest_of (Step c) more h = absurd h
+rest_of (Finish eight) more h = absurd h
+
+closed_whole : (ps : List Piece) (n : ℕ) → AreWhole (events_in ps) → IsClosed ps n
+closed_whole [] n h = absurd h
+closed_whole (p ∷ []) n h = absurd (rest_of p.event [] h)
+closed_whole (p ∷ q ∷ ps) n h = closed_rest (q ∷ ps) n (rest_of p.event (events_in (q ∷ ps)) h)
+
+-- a document ends where its string has ended
+pub document_ends : (events : List Placed) (bytes : List ℕ) → Document events bytes → (opened : ℕ) × EndsIn Ended events opened bytes
+document_ends events bytes d = (
+  length (joined d.pieces) + length d.parses.after,
+  record {
+    pieces = d.pieces;
+    filler = d.parses.after;
+    open_bytes = [];
+    bytes_are = d.parses.bytes_are ∙ sym (append-nil (joined d.pieces ++ d.parses.after));
+    each = d.parses.each;
+    filler_is = d.parses.after_is;
+    opens = refl;
+    before = d.parses.whole;
+    closed = closed_whole d.pieces (length d.parses.after + 0) d.parses.whole;
+    events_are = d.events_are;
+    opened_is = refl;
+  },
+)
+
+-- the events of a document are complete in all of its bytes
+pub document_complete : (events : List Placed) (bytes : List ℕ) → Document events bytes → CompleteIn events bytes
+document_complete events bytes d = complete Ended (document_ends events bytes d).1
+
+-- what a list of bytes that parses begins with is viable
+pub parsed_front : (front rest : List ℕ) (pieces : List Piece) → Parses pieces (front ++ rest) → IsViable front
+parsed_front front rest pieces h = fronts front rest (
+  complete_from (length (front ++ rest)) 0 pieces,
+  record {
+    tail = [];
+    is_tail = (9, omega arith, refl);
+    pieces = pieces;
+    parses = subst (Parses pieces) (sym (append-nil (front ++ rest))) h;
+    complete = refl;
+  },
+)

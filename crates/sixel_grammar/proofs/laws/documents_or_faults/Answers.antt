@@ -1,0 +1,5 @@
+use Rattle.sixel_grammar.proofs.Total.{judged}
+use Rattle.sixel_grammar.proofs.laws.documents_or_faults.Goals as goal
+
+pub returns : goal.returns
+returns c = judged

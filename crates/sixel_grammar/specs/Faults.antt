@@ -1,0 +1,153 @@
+-- Where bytes stop being the front of a document, and why.
+use Rattle.std.specs.Prelude.{◌≡◌, ℕ, ◌+◌, ◌<◌, ◌≤◌, ◌⊎◌, IsTrue, List, [], ◌∷◌, ◌++◌, length, take, slice_get, Option, Some, None, min, Bool, true, false, ◌||◌, ◌==◌, if◌then◌else◌}
+use Rattle.std.specs.List.{AllByRecursion}
+use Rattle.sixel_grammar.specs.declared.command.Event.{Event}
+use Rattle.sixel_grammar.specs.declared.command.Event.TheVariants.{Start, Step, Finish}
+use Rattle.sixel_grammar.specs.declared.command.Placed.{Placed}
+use Rattle.sixel_grammar.specs.declared.fault.Reason.{Reason}
+use Rattle.sixel_grammar.specs.declared.fault.Reason.TheVariants.{NotSixel, BadByte, NumberTooLarge, FieldCount, BadRepeat, BadTerminator, Truncated, TooLong, Trailing}
+use Rattle.sixel_grammar.specs.declared.fault.Fault.{Fault}
+use Rattle.sixel_grammar.specs.Bytes.{is_digit, is_body, escape, separator, repeat_sign, raster_sign, colour_sign, introducer}
+use Rattle.sixel_grammar.specs.Number.{NumberText, Fields}
+use Rattle.sixel_grammar.specs.Spelling.{is_open_ended}
+use Rattle.sixel_grammar.specs.Document.{AreFiller, Piece, IsPiece, joined, events_in, placed_from, AreWhole, IsDocument, most_bytes}
+use Rattle.sixel_grammar.specs.Prefix.{IsViable}
+
+-- what is open where a viable prefix ends; of fields, the numbers before the last `;` and the one after it
+pub data Form : Type 0 where
+  -- nothing yet
+  NothingYet : Form
+  -- the ESC of an introducer
+  Introducing : Form
+  -- an introducer, 8-bit or not, and parameters with at most two `;`
+  Parameters : Bool → List ℕ → ℕ → Form
+  -- an introducer, and parameters after the third `;`
+  LastSeparator : Bool → List ℕ → Form
+  -- no command
+  NoCommand : Form
+  -- `!` and its number
+  RepeatNumber : ℕ → Form
+  -- `"` with its fields
+  RasterFields : List ℕ → ℕ → Form
+  -- `#` with its fields
+  ColourFields : List ℕ → ℕ → Form
+  -- the ESC of a terminator
+  Terminating : Form
+  -- the string has ended
+  Ended : Form
+
+-- nothing is open
+abbrev pub is_idle : Form → Bool
+is_idle NothingYet = true
+is_idle NoCommand = true
+is_idle Ended = true
+is_idle _ = false
+
+-- these bytes open it
+abbrev pub Opens : Form → List ℕ → Type 0
+Opens NothingYet bytes = bytes ≡ []
+Opens Introducing bytes = bytes ≡ escape ∷ []
+Opens (Parameters eight ns n) bytes =
+    (fields : List ℕ) × Fields (ns ++ n ∷ []) fields × (length ns ≤ 2) × (bytes ≡ introducer eight ++ fields)
+Opens (LastSeparator eight ns) bytes =
+    (fields : List ℕ) × Fields ns fields × (length ns ≡ 3) × (bytes ≡ introducer eight ++ fields ++ separator ∷ [])
+Opens NoCommand bytes = bytes ≡ []
+Opens (RepeatNumber n) bytes = (number : List ℕ) × NumberText n number × (bytes ≡ repeat_sign ∷ number)
+Opens (RasterFields ns n) bytes =
+    (fields : List ℕ) × Fields (ns ++ n ∷ []) fields × (length ns ≤ 3) × (bytes ≡ raster_sign ∷ fields)
+Opens (ColourFields ns n) bytes =
+    (fields : List ℕ) × Fields (ns ++ n ∷ []) fields × (length ns ≤ 4) × (bytes ≡ colour_sign ∷ fields)
+Opens Terminating bytes = bytes ≡ escape ∷ []
+Opens Ended bytes = bytes ≡ []
+
+abbrev pub AreSteps : List Event → Type 0
+AreSteps [] = Unit {0}
+AreSteps (Start eight parameters ∷ more) = ⊥
+AreSteps (Step command ∷ more) = AreSteps more
+AreSteps (Finish eight ∷ more) = ⊥
+
+-- a start, and commands
+abbrev pub AreBegun : List Event → Type 0
+AreBegun [] = ⊥
+AreBegun (Start eight parameters ∷ more) = AreSteps more
+AreBegun (Step command ∷ more) = ⊥
+AreBegun (Finish eight ∷ more) = ⊥
+
+-- none yet, or a start and commands, or a whole document's
+abbrev pub AreFront : List Event → Type 0
+AreFront events = (events ≡ []) ⊎ AreBegun events ⊎ AreWhole events
+
+-- the events that stand before what is open
+abbrev pub Precede : Form → List Event → Type 0
+Precede NothingYet events = events ≡ []
+Precede Introducing events = events ≡ []
+Precede (Parameters eight ns n) events = events ≡ []
+Precede (LastSeparator eight ns) events = events ≡ []
+Precede NoCommand events = AreBegun events
+Precede (RepeatNumber n) events = AreBegun events
+Precede (RasterFields ns n) events = AreBegun events
+Precede (ColourFields ns n) events = AreBegun events
+Precede Terminating events = AreBegun events
+Precede Ended events = AreWhole events
+
+-- the last of the pieces is not open-ended, or n bytes follow it, at least one
+abbrev pub IsClosed : List Piece → ℕ → Type 0
+IsClosed [] n = Unit {0}
+IsClosed (p ∷ []) n = IsTrue (is_open_ended p.event) → 0 < n
+IsClosed (p ∷ q ∷ ps) n = IsClosed (q ∷ ps) n
+
+-- the bytes are whole pieces, then filler, and then what is open from this place on
+pub record EndsIn (form : Form) (events : List Placed) (opened : ℕ) (bytes : List ℕ) : Type 0 where
+  pub pieces : List Piece
+  pub filler : List ℕ
+  pub open_bytes : List ℕ
+  pub bytes_are : bytes ≡ joined pieces ++ filler ++ open_bytes
+  pub each : AllByRecursion IsPiece pieces
+  pub filler_is : AreFiller filler
+  pub opens : Opens form open_bytes
+  pub before : Precede form (events_in pieces)
+  pub closed : IsClosed pieces (length filler + length open_bytes)
+  pub events_are : events ≡ placed_from 0 pieces
+  pub opened_is : opened ≡ length (joined pieces) + length filler
+
+-- why a byte can't follow, by what is open
+abbrev pub refusal : Form → ℕ → Reason
+refusal NothingYet b = NotSixel
+refusal Introducing b = NotSixel
+refusal (Parameters eight ns n) b = if is_digit b then NumberTooLarge else NotSixel
+refusal (LastSeparator eight ns) b = if is_digit b || (b == separator) then FieldCount else NotSixel
+refusal NoCommand b = BadByte
+refusal (RepeatNumber n) b = if is_digit b then NumberTooLarge else BadRepeat
+refusal (RasterFields ns n) b = if is_digit b then NumberTooLarge else (if b == separator then FieldCount else BadByte)
+refusal (ColourFields ns n) b =
+    if is_digit b then NumberTooLarge else (if (b == separator) || is_body b then FieldCount else BadByte)
+refusal Terminating b = BadTerminator
+refusal Ended b = Trailing
+
+-- the longest front of the bytes with which some document begins
+pub record IsLongest (place : ℕ) (bytes : List ℕ) : Type 0 where
+  pub within : place ≤ length bytes
+  pub viable : IsViable (take place bytes)
+  pub longest : (n : ℕ) → n ≤ length bytes → IsViable (take n bytes) → n ≤ place
+
+-- why this byte, or the end, can't follow the front
+abbrev pub Stops : List ℕ → Option ℕ → Reason → Type 0
+Stops front None reason = (IsDocument front → ⊥) × (reason ≡ Truncated)
+Stops front (Some b) reason =
+    (form : Form) × (events : List Placed) × (opened : ℕ) × EndsIn form events opened front × (reason ≡ refusal form b)
+
+-- a byte stands past the limit, and those before it are viable
+pub record IsTooLong (bytes : List ℕ) (fault : Fault) : Type 0 where
+  pub long : most_bytes < length bytes
+  pub viable : IsViable (take most_bytes bytes)
+  pub fault_is : fault ≡ record { reason = TooLong; place = most_bytes }
+
+-- within the limit, the longest viable front ends at the fault
+pub record IsRefused (bytes : List ℕ) (fault : Fault) : Type 0 where
+  pub longest : IsLongest fault.place bytes
+  pub within : min (fault.place + 1) (length bytes) ≤ most_bytes
+  pub refuses : Stops (take fault.place bytes) (slice_get bytes fault.place) fault.reason
+
+-- the fault of bytes that are no document
+abbrev pub IsFaultOf : List ℕ → Fault → Type 0
+IsFaultOf bytes fault = IsTooLong bytes fault ⊎ IsRefused bytes fault

@@ -1,0 +1,15 @@
+pub mod Bytes
+pub mod Number
+pub mod Spelling
+pub mod Document
+pub mod Prefix
+pub mod Faults
+pub mod Devices
+pub mod Blocks
+pub mod SliceDevices
+pub mod Standing
+pub mod Next
+pub mod Pending
+pub mod FixedText
+pub mod Lengths
+pub mod Reading

@@ -1,0 +1,26 @@
+-- What a refusal of a whole input says.
+use Rattle.std.specs.Prelude.{ℕ, ◌++◌, List, Result, Ok, Err}
+use Rattle.sixel_grammar.specs.declared.fault.InputFault.{InputFault}
+use Rattle.sixel_grammar.specs.declared.fault.InputFault.TheVariants.{Grammar, OutOfMemory, Read}
+use Rattle.sixel_grammar.specs.Devices.{one_more}
+use Rattle.sixel_grammar.specs.Faults.{IsFaultOf}
+
+-- a fault of the grammar is that of the bytes; the others say nothing of them
+abbrev pub Explains : InputFault → List ℕ → Type 0
+Explains (Grammar fault) bytes = IsFaultOf bytes fault
+Explains OutOfMemory bytes = Unit {0}
+Explains Read bytes = Unit {0}
+
+-- the source's failures after the call: one more where the answer is `Read`, else as before
+abbrev pub failures_after : {A : Type 0} → Result A InputFault → ℕ → ℕ
+failures_after (Err Read) n = one_more n
+failures_after (Err OutOfMemory) n = n
+failures_after (Err (Grammar fault)) n = n
+failures_after (Ok x) n = n
+
+-- a fault of the grammar is that of the bytes and of all that they begin
+-- `Read` is not answered where no source is read
+abbrev pub ExplainsAlways : InputFault → List ℕ → Type 0
+ExplainsAlways (Grammar fault) bytes = (rest : List ℕ) → IsFaultOf (bytes ++ rest) fault
+ExplainsAlways OutOfMemory bytes = Unit {0}
+ExplainsAlways Read bytes = ⊥

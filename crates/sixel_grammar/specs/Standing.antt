@@ -1,0 +1,44 @@
+-- What a reader has read. Other crates take `StandsAfter` as it is, and never look into it or into a reader's fields.
+use Rattle.std.specs.Prelude.{◌≡◌, ℕ, ◌+◌, List, [], ◌∷◌, ◌++◌, length, Option, Some, None, if◌then◌else◌}
+use Rattle.std.specs.Option.{option_to_list}
+use Rattle.sixel_grammar.specs.declared.command.Placed.{Placed}
+use Rattle.sixel_grammar.specs.declared.command.Completed.{Completed}
+use Rattle.sixel_grammar.specs.declared.fault.Fault.{Fault}
+use Rattle.sixel_grammar.specs.declared.reader.Reader.{Reader}
+use Rattle.sixel_grammar.specs.Document.{most_bytes}
+use Rattle.sixel_grammar.specs.Faults.{EndsIn, IsFaultOf, is_idle}
+use Rattle.sixel_grammar.specs.Pending.{form_of}
+
+-- the events that one byte completed, in order
+abbrev pub completions : Completed → List Placed
+completions c = option_to_list c.first ++ option_to_list c.second
+
+-- how many bytes more may come
+abbrev pub left_of : Reader → ℕ
+left_of reader = reader.left
+
+abbrev pub fault_of : Reader → Option Fault
+fault_of reader = reader.fault
+
+-- where what is open began, after n bytes; what is not open yet would begin there
+abbrev pub opened_after : ℕ → Reader → ℕ
+opened_after n reader = if is_idle (form_of reader.pending) then n else reader.opened
+
+-- the reader has no fault, and stands after these bytes, in which these events are complete
+pub record StandsAfter (reader : Reader) (events : List Placed) (bytes : List ℕ) : Type 0 where
+  pub no_fault : reader.fault ≡ None
+  pub left : left_of reader + length bytes ≡ most_bytes
+  pub ends : EndsIn (form_of reader.pending) events (opened_after (length bytes) reader) bytes
+
+-- wherever the reader stood, it stands after one byte more, with which these events are complete
+abbrev pub Takes : Reader → Reader → ℕ → List Placed → Type 0
+Takes old new byte done =
+    (events : List Placed) (bytes : List ℕ) → StandsAfter old events bytes →
+    StandsAfter new (events ++ done) (bytes ++ byte ∷ [])
+
+-- wherever the reader stood, this is the fault of the bytes with that byte
+-- it stands at that byte, and the reader has it
+abbrev pub Refuses : Reader → Reader → ℕ → Fault → Type 0
+Refuses old new byte fault =
+    (events : List Placed) (bytes : List ℕ) → StandsAfter old events bytes →
+    IsFaultOf (bytes ++ byte ∷ []) fault × (fault.place ≡ length bytes) × (fault_of new ≡ Some fault)

@@ -1,0 +1,635 @@
+//! What is open after the bytes of a document so far, and how one byte goes on with it.
+
+ghost use Rattle.std.specs.Prelude.{◌≡◌, ◌<◌, ◌+◌, ◌-◌, IsTrue, true, false, if◌then◌else◌, length, List, [], ◌∷◌, ◌++◌, IsNone, IsSome, IfSome, OnSome, Some, None, nat_le, ◌↔◌};
+ghost use Rattle.std.specs.Option.{option_map};
+ghost use Rattle.sixel_grammar.specs.declared.command.Event.TheVariants.{Step as step_of};
+ghost use Rattle.sixel_grammar.specs.Bytes.{is_filler as filler_test, is_digit as digit_test, is_data as data_test, is_body as body_test};
+ghost use Rattle.sixel_grammar.specs.Faults.{NothingYet as NothingForm, NoCommand as NoCommandForm, RepeatNumber as RepeatForm, RasterFields as RasterForm, ColourFields as ColourForm, Ended as EndedForm, refusal, is_idle};
+ghost use Rattle.sixel_grammar.specs.Next.{begin as begin_of, within as within_of, only_grown, only_whole, settled as settled_of, next_of, with_digit};
+ghost use Rattle.sixel_grammar.specs.Pending.{Grows, MakesWhole, event_of, form_of, takes_digits};
+
+use crate::command::{Command, Event};
+use crate::fault::Reason;
+use arrayvec::ArrayVec;
+
+const ESCAPE: u8 = 0x1b;
+
+/// What is open.
+#[derive(Clone, Copy, Debug, PartialEq, Eq)]
+pub(crate) enum Open {
+    NothingYet,
+    Introducing,
+    Parameters,
+    RepeatNumber,
+    RasterFields,
+    ColourFields,
+    LastSeparator,
+    NoCommand,
+    Terminating,
+    Ended,
+}
+
+/// What is open, with its numbers.
+#[derive(Debug, Drop)]
+pub(crate) struct Pending {
+    form: Open,
+    eight: bool,
+    number: u16,
+    parameters: ArrayVec<u16, 3>,
+    fields: ArrayVec<u16, 4>,
+}
+
+/// An event that is whole with a byte.
+#[derive(Clone, Copy, Debug, PartialEq, Eq)]
+pub(crate) enum Whole {
+    Start,
+    Step(Command),
+    Finish { eight: bool },
+}
+
+/// The command that a byte ends, and the event that it makes whole itself.
+#[derive(Clone, Copy, Debug, PartialEq, Eq)]
+pub(crate) struct Both {
+    pub ended: Command,
+    pub whole: Whole,
+}
+
+#[inline]
+fn is_filler(byte: u8) -> bool
+    ensures { result ≡ filler_test byte }
+{
+    matches!(byte, b'\t' | b'\n' | b'\r' | b' ')
+}
+
+#[inline]
+pub(crate) fn is_digit(byte: u8) -> bool
+    ensures { result ≡ digit_test byte }
+{
+    b'0' <= byte && byte <= b'9'
+}
+
+#[inline]
+fn is_data(byte: u8) -> bool
+    ensures { result ≡ data_test byte }
+{
+    b'?' <= byte && byte <= b'~'
+}
+
+/// Whether it may stand where no command is open.
+fn is_body(byte: u8) -> bool
+    ensures { result ≡ body_test byte }
+{
+    is_data(byte)
+        || (b'!' <= byte && byte <= b'$')
+        || byte == b'-'
+        || is_filler(byte)
+        || byte == ESCAPE
+        || byte == 0x9c
+}
+
+fn raster(fields: &[u16], number: u16) -> Option<Command>
+    ensures { option_map step_of result ≡ settled_of (RasterForm fields.now number) }
+{
+    let (pan, pad, width, height) = match fields {
+        [] => (number, 0, 0, 0),
+        [pan] => (*pan, number, 0, 0),
+        [pan, pad] => (*pan, *pad, number, 0),
+        [pan, pad, width] => (*pan, *pad, *width, number),
+        _ => return None,
+    };
+    Some(Command::Raster {
+        pan,
+        pad,
+        width,
+        height,
+    })
+}
+
+fn colour(fields: &[u16], number: u16) -> Option<Command>
+    ensures { option_map step_of result ≡ settled_of (ColourForm fields.now number) }
+{
+    match fields {
+        [] => Some(Command::Select(number)),
+        [register, system, x, y] => Some(Command::Define {
+            register: *register,
+            system: *system,
+            x: *x,
+            y: *y,
+            z: number,
+        }),
+        _ => None,
+    }
+}
+
+impl Pending {
+    pub(crate) fn new() -> Pending
+        ensures { form_of result ≡ NothingForm }
+    {
+        Pending {
+            form: Open::NothingYet,
+            eight: false,
+            number: 0,
+            parameters: ArrayVec::new(),
+            fields: ArrayVec::new(),
+        }
+    }
+
+    /// Whether no command is open, in the picture data.
+    #[inline]
+    pub(crate) fn is_between_commands(&self) -> bool
+        ensures { IsTrue result ↔ (form_of self.now ≡ NoCommandForm) }
+    {
+        match self.form {
+            Open::NoCommand => true,
+            _ => false,
+        }
+    }
+
+    /// The command that is open, where the next byte ends it.
+    fn settled(&self) -> Option<Command>
+        ensures { option_map step_of result ≡ settled_of (form_of self.now) }
+    {
+        match self.form {
+            Open::RasterFields => raster(self.fields.as_slice(), self.number),
+            Open::ColourFields => colour(self.fields.as_slice(), self.number),
+            _ => None,
+        }
+    }
+
+    /// The command that the byte ends, where it begins another or is filler, and makes nothing whole itself.
+    pub(crate) fn ended_by(&mut self, byte: u8) -> Option<Command>
+        requires { only_grown (within_of (form_of self.old) byte) ≡ None }
+        ensures ended { IfSome result (λ command. next_of (form_of self.old) byte ≡ Some (Some (step_of command), form_of self.new, None)) }
+        ensures not_ended { IsNone result → OnSome (settled_of (form_of self.old)) (only_grown (begin_of byte) ≡ None) }
+        ensures refused { IsNone result → self.new ≡ self.old }
+    {
+        match self.settled() {
+            Some(command) if self.has_begun(byte) => Some(command),
+            _ => None,
+        }
+    }
+
+    /// The command that the byte ends, and the event that it makes whole itself.
+    pub(crate) fn ends_whole(&mut self, byte: u8) -> Option<Both>
+        requires { only_grown (within_of (form_of self.old) byte) ≡ None }
+        ensures ended { IfSome result (λ both. next_of (form_of self.old) byte ≡ Some (Some (step_of both.ended), form_of self.new, Some (event_of both.whole self.new))) }
+        ensures not_ended { IsNone result → OnSome (settled_of (form_of self.old)) (only_whole (begin_of byte) ≡ None) }
+        ensures refused { IsNone result → self.new ≡ self.old }
+    {
+        match self.settled() {
+            None => None,
+            Some(ended) => match self.begins_whole(byte) {
+                Some(whole) => Some(Both { ended, whole }),
+                None => None,
+            },
+        }
+    }
+
+    /// Whether the byte begins a command, or is filler, where no command is open.
+    fn has_begun(&mut self, byte: u8) -> bool
+        ensures grown { Grows result self.new (begin_of byte) }
+        ensures refused { result ≡ false → self.new ≡ self.old }
+    {
+        match byte {
+            b'\t' | b'\n' | b'\r' | b' ' => self.set(Open::NoCommand),
+            b'!' => self.begin_repeat(),
+            b'"' => self.begin_fields(Open::RasterFields),
+            b'#' => self.begin_fields(Open::ColourFields),
+            ESCAPE => self.set(Open::Terminating),
+            _ => return false,
+        }
+        true
+    }
+
+    /// The event that a byte is by itself, where no command is open.
+    fn begins_whole(&mut self, byte: u8) -> Option<Whole>
+        ensures whole { MakesWhole result self.new (begin_of byte) }
+        ensures refused { IsNone result → self.new ≡ self.old }
+    {
+        if is_data(byte) {
+            self.set(Open::NoCommand);
+            return Some(Whole::Step(Command::Sixel(byte - b'?')));
+        }
+        match byte {
+            b'$' => {
+                self.set(Open::NoCommand);
+                Some(Whole::Step(Command::CarriageReturn))
+            }
+            b'-' => {
+                self.set(Open::NoCommand);
+                Some(Whole::Step(Command::NextLine))
+            }
+            0x9c => {
+                self.set(Open::Ended);
+                Some(Whole::Finish { eight: true })
+            }
+            _ => None,
+        }
+    }
+
+    /// Whether the byte goes on with what is open, and makes nothing whole.
+    pub(crate) fn has_grown(&mut self, byte: u8) -> bool
+        ensures grown { Grows result self.new (within_of (form_of self.old) byte) }
+        ensures refused { result ≡ false → self.new ≡ self.old }
+    {
+        match self.form {
+            Open::NothingYet => self.has_opened(byte),
+            Open::Introducing => self.has_introduced(byte),
+            Open::Parameters => self.has_more_parameters(byte),
+            Open::RepeatNumber => self.has_more_repeat(byte),
+            Open::RasterFields => self.has_more_raster(byte),
+            Open::ColourFields => self.has_more_colour(byte),
+            Open::LastSeparator => false,
+            Open::NoCommand => self.has_begun(byte),
+            Open::Terminating => false,
+            Open::Ended => is_filler(byte),
+        }
+    }
+
+    fn has_opened(&mut self, byte: u8) -> bool
+        requires { self.old.form ≡ Open.NothingYet }
+        ensures grown { Grows result self.new (within_of (form_of self.old) byte) }
+        ensures refused { result ≡ false → self.new ≡ self.old }
+    {
+        if is_filler(byte) {
+            true
+        } else if byte == ESCAPE {
+            self.set(Open::Introducing);
+            true
+        } else if byte == 0x90 {
+            self.introduce(true);
+            true
+        } else {
+            false
+        }
+    }
+
+    fn has_introduced(&mut self, byte: u8) -> bool
+        requires { self.old.form ≡ Open.Introducing }
+        ensures grown { Grows result self.new (within_of (form_of self.old) byte) }
+        ensures refused { result ≡ false → self.new ≡ self.old }
+    {
+        if byte == b'P' {
+            self.introduce(false);
+            true
+        } else {
+            false
+        }
+    }
+
+    fn has_more_parameters(&mut self, byte: u8) -> bool
+        requires { self.old.form ≡ Open.Parameters }
+        ensures grown { Grows result self.new (within_of (form_of self.old) byte) }
+        ensures refused { result ≡ false → self.new ≡ self.old }
+    {
+        if is_digit(byte) {
+            self.has_added(byte)
+        } else if byte == b';' && !self.parameters.is_full() {
+            let is_last = self.parameters.len() >= 2;
+            self.add_parameter();
+            if is_last {
+                self.set(Open::LastSeparator);
+            }
+            true
+        } else {
+            false
+        }
+    }
+
+    fn has_more_repeat(&mut self, byte: u8) -> bool
+        requires { self.old.form ≡ Open.RepeatNumber }
+        ensures grown { Grows result self.new (within_of (form_of self.old) byte) }
+        ensures refused { result ≡ false → self.new ≡ self.old }
+    {
+        is_digit(byte) && self.has_added(byte)
+    }
+
+    fn has_more_raster(&mut self, byte: u8) -> bool
+        requires { self.old.form ≡ Open.RasterFields }
+        ensures grown { Grows result self.new (within_of (form_of self.old) byte) }
+        ensures refused { result ≡ false → self.new ≡ self.old }
+    {
+        if is_digit(byte) {
+            self.has_added(byte)
+        } else if byte == b';' && self.fields.len() < 3 {
+            self.add_field();
+            true
+        } else {
+            false
+        }
+    }
+
+    fn has_more_colour(&mut self, byte: u8) -> bool
+        requires { self.old.form ≡ Open.ColourFields }
+        ensures grown { Grows result self.new (within_of (form_of self.old) byte) }
+        ensures refused { result ≡ false → self.new ≡ self.old }
+    {
+        if is_digit(byte) {
+            self.has_added(byte)
+        } else if byte == b';' && self.fields.len() < 4 {
+            self.add_field();
+            true
+        } else {
+            false
+        }
+    }
+
+    /// The event that is whole with the byte, where what is open goes on with it.
+    pub(crate) fn makes_whole(&mut self, byte: u8) -> Option<Whole>
+        ensures whole { MakesWhole result self.new (within_of (form_of self.old) byte) }
+        ensures refused { IsNone result → self.new ≡ self.old }
+    {
+        match self.form {
+            Open::Parameters => self.starts(byte),
+            Open::LastSeparator => self.starts_last(byte),
+            Open::RepeatNumber => self.repeats(byte),
+            Open::NoCommand => self.begins_whole(byte),
+            Open::Terminating => self.finishes(byte),
+            _ => None,
+        }
+    }
+
+    fn starts(&mut self, byte: u8) -> Option<Whole>
+        requires { self.old.form ≡ Open.Parameters }
+        ensures whole { MakesWhole result self.new (within_of (form_of self.old) byte) }
+        ensures refused { IsNone result → self.new ≡ self.old }
+    {
+        if byte == b'q' && !self.parameters.is_full() {
+            self.add_parameter();
+            self.set(Open::NoCommand);
+            Some(Whole::Start)
+        } else {
+            None
+        }
+    }
+
+    fn starts_last(&mut self, byte: u8) -> Option<Whole>
+        requires { self.old.form ≡ Open.LastSeparator }
+        ensures whole { MakesWhole result self.new (within_of (form_of self.old) byte) }
+        ensures refused { IsNone result → self.new ≡ self.old }
+    {
+        if byte == b'q' {
+            self.set(Open::NoCommand);
+            Some(Whole::Start)
+        } else {
+            None
+        }
+    }
+
+    fn repeats(&mut self, byte: u8) -> Option<Whole>
+        requires { self.old.form ≡ Open.RepeatNumber }
+        ensures whole { MakesWhole result self.new (within_of (form_of self.old) byte) }
+        ensures refused { IsNone result → self.new ≡ self.old }
+    {
+        if is_data(byte) {
+            let count = self.number;
+            self.set(Open::NoCommand);
+            Some(Whole::Step(Command::Repeat {
+                count,
+                bits: byte - b'?',
+            }))
+        } else {
+            None
+        }
+    }
+
+    fn finishes(&mut self, byte: u8) -> Option<Whole>
+        requires { self.old.form ≡ Open.Terminating }
+        ensures whole { MakesWhole result self.new (within_of (form_of self.old) byte) }
+        ensures refused { IsNone result → self.new ≡ self.old }
+    {
+        if byte == b'\\' {
+            self.set(Open::Ended);
+            Some(Whole::Finish { eight: false })
+        } else {
+            None
+        }
+    }
+
+    /// Changes what is open, and keeps the numbers.
+    fn set(&mut self, form: Open)
+        ensures { self.new ≡ record self.old { form = form } }
+    {
+        self.form = form;
+    }
+
+    fn begin_repeat(&mut self)
+        ensures { self.new ≡ record self.old { form = Open.RepeatNumber; number = 0 } }
+    {
+        self.set(Open::RepeatNumber);
+        self.number = 0;
+    }
+
+    /// Begins a command of fields, with none yet.
+    fn begin_fields(&mut self, form: Open)
+        ensures { self.new ≡ record self.old { form = form; fields = record { items = [] }; number = 0 } }
+    {
+        self.set(form);
+        self.fields = ArrayVec::new();
+        self.number = 0;
+    }
+
+    /// Begins the parameters.
+    fn introduce(&mut self, eight: bool)
+        ensures { self.new ≡ record self.old { form = Open.Parameters; eight = eight; parameters = record { items = [] }; number = 0 } }
+    {
+        self.set(Open::Parameters);
+        self.eight = eight;
+        self.parameters = ArrayVec::new();
+        self.number = 0;
+    }
+
+    fn add_field(&mut self)
+        requires { length self.old.fields.items < 4 }
+        ensures { self.new ≡ record self.old { fields = record { items = self.old.fields.items ++ self.old.number ∷ [] }; number = 0 } }
+    {
+        self.fields.push(self.number);
+        self.number = 0;
+    }
+
+    fn add_parameter(&mut self)
+        requires { length self.old.parameters.items < 3 }
+        ensures { self.new ≡ record self.old { parameters = record { items = self.old.parameters.items ++ self.old.number ∷ [] }; number = 0 } }
+    {
+        self.parameters.push(self.number);
+        self.number = 0;
+    }
+
+    /// Whether the number that is open isn't too large with the digit; it has it then.
+    #[inline]
+    fn has_added(&mut self, byte: u8) -> bool
+        requires { IsTrue (digit_test byte) }
+        ensures answer { result ≡ nat_le (with_digit self.old.number byte) 65535 }
+        ensures after { self.new ≡ (if result then record self.old { number = with_digit self.old.number byte } else self.old) }
+    {
+        let number = u32::from(self.number) * 10 + u32::from(byte - b'0');
+        if number <= 65535 {
+            self.number = number as u16;
+            true
+        } else {
+            false
+        }
+    }
+
+    /// Whether a number is open.
+    #[inline]
+    fn has_number(&self) -> bool
+        ensures { result ≡ takes_digits self.now.form }
+    {
+        matches!(
+            self.form,
+            Open::Parameters | Open::RepeatNumber | Open::RasterFields | Open::ColourFields
+        )
+    }
+
+    /// Whether a number is open, and isn't too large with the digit; it has it then.
+    #[inline]
+    pub(crate) fn has_taken_digit(&mut self, byte: u8) -> bool
+        requires { IsTrue (digit_test byte) }
+        ensures taken { result ≡ true → within_of (form_of self.old) byte ≡ Some (form_of self.new, None) }
+        ensures unfinished { result ≡ true → is_idle (form_of self.old) ≡ false }
+        ensures refused { result ≡ false → self.new ≡ self.old }
+    {
+        self.has_number() && self.has_added(byte)
+    }
+
+    /// Whether the fields of a colour command are open, and may be one more; that one is open then.
+    #[inline]
+    pub(crate) fn has_taken_separator(&mut self) -> bool
+        ensures taken { result ≡ true → within_of (form_of self.old) 59 ≡ Some (form_of self.new, None) }
+        ensures unfinished { result ≡ true → is_idle (form_of self.old) ≡ false }
+        ensures refused { result ≡ false → self.new ≡ self.old }
+    {
+        match self.form {
+            Open::ColourFields if self.fields.len() < 4 => {
+                self.add_field();
+                true
+            }
+            _ => false,
+        }
+    }
+
+    /// Whether the byte ends a repeat; the answer is that repeat.
+    #[inline]
+    pub(crate) fn ended_repeat(&mut self, byte: u8) -> Option<Command>
+        ensures ended { IfSome result (λ command. within_of (form_of self.old) byte ≡ Some (NoCommandForm, Some (step_of command))) }
+        ensures after { IsSome result → form_of self.new ≡ NoCommandForm }
+        ensures unfinished { IsSome result → is_idle (form_of self.old) ≡ false }
+        ensures refused { IsNone result → self.new ≡ self.old }
+    {
+        match self.form {
+            Open::RepeatNumber if is_data(byte) => {
+                let count = self.number;
+                self.set(Open::NoCommand);
+                Some(Command::Repeat {
+                    count,
+                    bits: byte - b'?',
+                })
+            }
+            _ => None,
+        }
+    }
+
+    /// The event that is whole; a start has the parameters that were read.
+    #[inline]
+    pub(crate) fn event_of(&self, whole: Whole) -> Event
+        ensures { result ≡ event_of whole self.now }
+    {
+        match whole {
+            Whole::Start => self.start(),
+            Whole::Step(command) => Event::Step(command),
+            Whole::Finish { eight } => Event::Finish { eight },
+        }
+    }
+
+    fn start(&self) -> Event
+        ensures { result ≡ Event.Start self.now.eight self.now.parameters }
+    {
+        let mut parameters = ArrayVec::new();
+        let _ = parameters.try_extend_from_slice(self.parameters.as_slice());
+        Event::Start {
+            eight: self.eight,
+            parameters,
+        }
+    }
+
+    /// Whether nothing is open.
+    #[inline]
+    pub(crate) fn is_idle(&self) -> bool
+        ensures { result ≡ is_idle (form_of self.now) }
+    {
+        match self.form {
+            Open::NothingYet => true,
+            Open::NoCommand => true,
+            Open::Ended => true,
+            Open::Introducing => false,
+            Open::Parameters => false,
+            Open::LastSeparator => false,
+            Open::RepeatNumber => false,
+            Open::RasterFields => false,
+            Open::ColourFields => false,
+            Open::Terminating => false,
+        }
+    }
+
+    /// Whether the string has ended.
+    pub(crate) fn has_ended(&self) -> bool
+        ensures { IsTrue result ↔ (form_of self.now ≡ EndedForm) }
+    {
+        match self.form {
+            Open::Ended => true,
+            _ => false,
+        }
+    }
+
+    /// Why the byte can't follow, where it can't.
+    pub(crate) fn reason_for(&self, byte: u8) -> Reason
+        ensures { result ≡ refusal (form_of self.now) byte }
+    {
+        match self.form {
+            Open::NothingYet | Open::Introducing => Reason::NotSixel,
+            Open::Parameters => {
+                if is_digit(byte) {
+                    Reason::NumberTooLarge
+                } else {
+                    Reason::NotSixel
+                }
+            }
+            Open::LastSeparator => {
+                if is_digit(byte) || byte == b';' {
+                    Reason::FieldCount
+                } else {
+                    Reason::NotSixel
+                }
+            }
+            Open::NoCommand => Reason::BadByte,
+            Open::RepeatNumber => {
+                if is_digit(byte) {
+                    Reason::NumberTooLarge
+                } else {
+                    Reason::BadRepeat
+                }
+            }
+            Open::RasterFields => {
+                if is_digit(byte) {
+                    Reason::NumberTooLarge
+                } else if byte == b';' {
+                    Reason::FieldCount
+                } else {
+                    Reason::BadByte
+                }
+            }
+            Open::ColourFields => {
+                if is_digit(byte) {
+                    Reason::NumberTooLarge
+                } else if byte == b';' || is_body(byte) {
+                    Reason::FieldCount
+                } else {
+                    Reason::BadByte
+                }
+            }
+            Open::Terminating => Reason::BadTerminator,
+            Open::Ended => Reason::Trailing,
+        }
+    }
+}

@@ -1,0 +1,293 @@
+//! Reads a document byte by byte.
+
+ghost use Rattle.std.specs.Prelude.{◌≡◌, ◌<◌, ◌≤◌, ◌+◌, ◌-◌, IsTrue, true, false, length, List, [], ◌∷◌, ◌++◌, ℕ, Option, Some, None, IfSome, IfOk, IfErr, MatchResult, IsNone, IsSome, OnSome, Err};
+ghost use Rattle.sixel_grammar.specs.declared.command.Placed.{Placed as PlacedEvent};
+ghost use Rattle.sixel_grammar.specs.Bytes.{is_data as data_test};
+ghost use Rattle.sixel_grammar.specs.Document.{Document};
+ghost use Rattle.sixel_grammar.specs.Faults.{IsFaultOf, NoCommand as NoCommandForm};
+ghost use Rattle.sixel_grammar.specs.Next.{begin as begin_of, settled as settled_of, within as within_of, only_grown};
+ghost use Rattle.sixel_grammar.specs.Pending.{form_of};
+
+use crate::command::{Command, Completed, Event, Placed};
+use crate::fault::{Fault, Reason};
+use crate::pending::{Pending, is_digit};
+
+/// The greatest length of a document.
+const MOST_BYTES: u64 = 268_435_456;
+
+/// Reads a document byte by byte, and hands out each event as it is complete.
+///
+/// It keeps nothing of the bytes but what is open, and takes no memory.
+#[derive(Debug, Drop)]
+pub struct Reader {
+    /// How many bytes more may come before the limit; none after a fault.
+    left: u64,
+    /// Where what is open began.
+    opened: u64,
+    /// How many byte values, from `?` on, are a sixel by themselves now: 64 between commands, none where nothing may come.
+    sixels: u8,
+    pending: Pending,
+    fault: Option<Fault>,
+    ghost within: { left ≤ 268435456 },
+    ghost stopped: { IsSome fault → left ≡ 0 },
+    ghost ready: { 0 < sixels → (sixels ≡ 64) × (0 < left) × (form_of pending ≡ NoCommandForm) },
+}
+
+impl Reader {
+    ghost use Rattle.sixel_grammar.specs.Standing.{Refuses, StandsAfter, Takes, completions, fault_of, opened_after};
+
+    /// A reader that has read nothing.
+    pub fn new() -> Reader
+        ensures { StandsAfter result [] [] }
+    {
+        Reader {
+            left: MOST_BYTES,
+            opened: 0,
+            sixels: 0,
+            pending: Pending::new(),
+            fault: None,
+        }
+    }
+
+    /// Reads one byte. After an `Err` the reader answers that fault ever after.
+    #[inline]
+    pub fn feed(&mut self, byte: u8) -> Result<Completed, Fault>
+        ensures kept { IfSome (fault_of self.old) (λ fault. (result ≡ Err fault) × (self.new ≡ self.old)) }
+        ensures accepted { IfOk result (λ c. Takes self.old self.new byte (completions c)) }
+        ensures refused { IfErr result (Refuses self.old self.new byte) }
+        ensures in_order { IfOk result (λ c. IsNone c.first → IsNone c.second) }
+    {
+        if let Some(completed) = self.feed_quickly(byte) {
+            return Ok(completed);
+        }
+        if self.has_grown(byte) {
+            return Ok(Completed::of_none());
+        }
+        self.feed_slowly(byte)
+    }
+
+    /// The ways of nearly all bytes: a sixel by itself, a digit, a separator of colour fields, the data byte that ends a repeat.
+    #[inline]
+    fn feed_quickly(&mut self, byte: u8) -> Option<Completed>
+        ensures accepted { IfSome result (λ c. Takes self.old self.new byte (completions c)) }
+        ensures kept { IsNone result → self.new ≡ self.old }
+        ensures stopped { IsSome (fault_of self.old) → IsNone result }
+        ensures in_order { IfSome result (λ c. IsNone c.first → IsNone c.second) }
+    {
+        if self.is_sixel(byte) {
+            return Some(self.take_sixel(byte));
+        }
+        if is_digit(byte) {
+            if self.left > 0 && self.pending.has_taken_digit(byte) {
+                self.left -= 1;
+                return Some(Completed::of_none());
+            }
+            return None;
+        }
+        if byte == b';' {
+            if self.left > 0 && self.pending.has_taken_separator() {
+                self.left -= 1;
+                return Some(Completed::of_none());
+            }
+            return None;
+        }
+        if self.left == 0 {
+            return None;
+        }
+        match self.pending.ended_repeat(byte) {
+            Some(repeat) => {
+                self.left -= 1;
+                self.sixels = ready_for(self.left, &self.pending);
+                Some(Completed::of_one(self.opened, Event::Step(repeat)))
+            }
+            None => None,
+        }
+    }
+
+    /// Whether the byte is a sixel by itself.
+    #[inline]
+    fn is_sixel(&self, byte: u8) -> bool
+        ensures { IsTrue result → IsTrue (data_test byte) × (0 < self.now.left) × (form_of self.now.pending ≡ NoCommandForm) }
+    {
+        byte.wrapping_sub(b'?') < self.sixels
+    }
+
+    #[inline]
+    fn take_sixel(&mut self, byte: u8) -> Completed
+        requires data { IsTrue (data_test byte) }
+        requires left { 0 < self.old.left }
+        ensures completed { result ≡ record { first = Some (record { place = 268435456 - self.old.left; event = Event.Step (Command.Sixel (byte - 63)) }); second = None } }
+        ensures pending { self.new.pending ≡ self.old.pending }
+        ensures fault { self.new.fault ≡ self.old.fault }
+        ensures left { self.new.left ≡ self.old.left - 1 }
+    {
+        let place = MOST_BYTES - self.left;
+        self.left -= 1;
+        if self.left == 0 {
+            self.sixels = 0;
+        }
+        Completed::of_one(place, Event::Step(Command::Sixel(byte - b'?')))
+    }
+
+    /// Whether the byte goes on with what is open, and completes nothing.
+    #[inline(never)]
+    fn has_grown(&mut self, byte: u8) -> bool
+        ensures accepted { result ≡ true → Takes self.old self.new byte [] }
+        ensures kept { result ≡ false → self.new ≡ self.old }
+        ensures stopped { IsSome (fault_of self.old) → result ≡ false }
+        ensures refused { result ≡ false → 0 < self.old.left → only_grown (within_of (form_of self.old.pending) byte) ≡ None }
+    {
+        if self.left == 0 {
+            return false;
+        }
+        let opened = self.opened_at(MOST_BYTES - self.left);
+        if !self.pending.has_grown(byte) {
+            return false;
+        }
+        self.opened = opened;
+        self.left -= 1;
+        self.sixels = ready_for(self.left, &self.pending);
+        true
+    }
+
+    /// The command that the byte ends, where it completes nothing else.
+    #[inline(never)]
+    fn ended_by(&mut self, byte: u8) -> Option<Placed>
+        requires { 0 < self.old.left → only_grown (within_of (form_of self.old.pending) byte) ≡ None }
+        ensures accepted { IfSome result (λ ended. Takes self.old self.new byte (ended ∷ [])) }
+        ensures kept { IsNone result → self.new ≡ self.old }
+        ensures stopped { IsSome (fault_of self.old) → IsNone result }
+        ensures refused { IsNone result → 0 < self.old.left → OnSome (settled_of (form_of self.old.pending)) (only_grown (begin_of byte) ≡ None) }
+    {
+        if self.left == 0 {
+            return None;
+        }
+        let place = MOST_BYTES - self.left;
+        match self.pending.ended_by(byte) {
+            Some(command) => {
+                let opened = self.opened;
+                self.opened = place;
+                self.left -= 1;
+                self.sixels = ready_for(self.left, &self.pending);
+                Some(Placed {
+                    place: opened,
+                    event: Event::Step(command),
+                })
+            }
+            None => None,
+        }
+    }
+
+    /// Any other byte. Its answers have places of their own here, so that the ways above touch no memory for them.
+    #[inline(always)]
+    fn feed_slowly(&mut self, byte: u8) -> Result<Completed, Fault>
+        requires { 0 < self.old.left → only_grown (within_of (form_of self.old.pending) byte) ≡ None }
+        ensures kept { IfSome (fault_of self.old) (λ fault. (result ≡ Err fault) × (self.new ≡ self.old)) }
+        ensures accepted { IfOk result (λ c. Takes self.old self.new byte (completions c)) }
+        ensures refused { IfErr result (Refuses self.old self.new byte) }
+        ensures in_order { IfOk result (λ c. IsNone c.first → IsNone c.second) }
+    {
+        if let Some(ended) = self.ended_by(byte) {
+            return Ok(Completed {
+                first: Some(ended),
+                second: None,
+            });
+        }
+        self.feed_any(byte)
+    }
+
+    #[inline(never)]
+    fn feed_any(&mut self, byte: u8) -> Result<Completed, Fault>
+        requires not_grown { 0 < self.old.left → only_grown (within_of (form_of self.old.pending) byte) ≡ None }
+        requires not_ended { 0 < self.old.left → OnSome (settled_of (form_of self.old.pending)) (only_grown (begin_of byte) ≡ None) }
+        ensures kept { IfSome (fault_of self.old) (λ fault. (result ≡ Err fault) × (self.new ≡ self.old)) }
+        ensures accepted { IfOk result (λ c. Takes self.old self.new byte (completions c)) }
+        ensures refused { IfErr result (Refuses self.old self.new byte) }
+        ensures in_order { IfOk result (λ c. IsNone c.first → IsNone c.second) }
+    {
+        if let Some(fault) = self.fault {
+            return Err(fault);
+        }
+        let place = MOST_BYTES - self.left;
+        if self.left == 0 {
+            return Err(self.refuse(Reason::TooLong, place));
+        }
+        let opened = self.opened_at(place);
+        if let Some(whole) = self.pending.makes_whole(byte) {
+            self.opened = opened;
+            self.left -= 1;
+            self.sixels = ready_for(self.left, &self.pending);
+            return Ok(Completed::of_one(opened, self.pending.event_of(whole)));
+        }
+        match self.pending.ends_whole(byte) {
+            Some(both) => {
+                self.opened = place;
+                self.left -= 1;
+                self.sixels = ready_for(self.left, &self.pending);
+                let first = Event::Step(both.ended);
+                let second = self.pending.event_of(both.whole);
+                Ok(Completed::of_two(opened, first, place, second))
+            }
+            None => {
+                let reason = self.pending.reason_for(byte);
+                Err(self.refuse(reason, place))
+            }
+        }
+    }
+
+    /// Where what is open began; what is not open yet would begin here.
+    #[inline]
+    fn opened_at(&self, place: u64) -> u64
+        ensures { result ≡ opened_after place self.now }
+    {
+        if self.pending.is_idle() {
+            place
+        } else {
+            self.opened
+        }
+    }
+
+    fn refuse(&mut self, reason: Reason, place: u64) -> Fault
+        ensures answer { result ≡ record { reason = reason; place = place } }
+        ensures after { self.new.fault ≡ Some result }
+    {
+        let fault = Fault { reason, place };
+        self.left = 0;
+        self.sixels = 0;
+        self.fault = Some(fault);
+        fault
+    }
+
+    /// Whether the bytes so far are a document; else their fault.
+    ///
+    /// It changes nothing, so feeding may go on after a `Truncated`.
+    pub fn finish(&self) -> Result<(), Fault>
+        ensures fault { IfSome (fault_of self.now) (λ fault. result ≡ Err fault) }
+        ensures answer { (events : List PlacedEvent) (bytes : List ℕ) → StandsAfter self.now events bytes →
+            MatchResult result (λ _. Document events bytes) (λ fault. IsFaultOf bytes fault × (fault.place ≡ length bytes)) }
+    {
+        if let Some(fault) = self.fault {
+            return Err(fault);
+        }
+        if self.pending.has_ended() {
+            Ok(())
+        } else {
+            Err(Fault {
+                reason: Reason::Truncated,
+                place: MOST_BYTES - self.left,
+            })
+        }
+    }
+}
+
+/// How many byte values, from `?` on, are a sixel by themselves, where so many bytes may come.
+#[inline]
+fn ready_for(left: u64, pending: &Pending) -> u8
+    ensures { 0 < result → (result ≡ 64) × (0 < left) × (form_of pending.now ≡ NoCommandForm) }
+{
+    if left > 0 && pending.is_between_commands() {
+        64
+    } else {
+        0
+    }
+}

@@ -1,0 +1,6 @@
+//! What no contract says: that the definitions are the format's, by its tables and worked documents.
+
+mod devices;
+mod documents;
+mod faults;
+mod spelling;
