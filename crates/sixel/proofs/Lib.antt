@@ -1,0 +1,5 @@
+pub mod Puts
+pub mod Listing
+pub mod Outputs
+pub mod Runs
+pub mod Matches

@@ -1,0 +1,103 @@
+-- What any run owes: a task gives one text and answer, and where the flush fails a front of the text was written.
+use Rattle.std.proofs.Common.{◌≡◌, ◌∙◌, ℕ, List, [], ◌++◌, take, Option, Some, None, refl, sym, ap, subst, inl, inr}
+use Rattle.std.specs.Prelude.{Result, Ok, Err, IfSome}
+use Rattle.std.specs.Io.KnownBytes.{Keeps}
+use Rattle.std.proofs.lemmas.List.{append-nil}
+use Rattle.sixel_grammar.specs.declared.fault.Fault.{Fault}
+use Rattle.sixel_grammar.specs.Prefix.{CompleteIn}
+use Rattle.sixel_grammar.proofs.Unique.{complete_once, document_once, fault_no_document, fault_once}
+use Rattle.sixel.specs.declared.fault.RunFault.{RunFault}
+use Rattle.sixel.specs.declared.fault.RunFault.TheVariants.{Grammar, OutOfMemory, Read, Write}
+use Rattle.sixel.specs.declared.task.Status.{Status}
+use Rattle.sixel.specs.declared.task.Status.TheVariants.{Done}
+use Rattle.sixel.specs.declared.task.Task.{Task}
+use Rattle.sixel.specs.declared.task.Task.TheVariants.{List as Listing}
+use Rattle.sixel.specs.Outputs.{Gives, GivesUnread, ListGives, Wrote}
+use Rattle.sixel.specs.Texts.{Text, BeginsWith, list_text}
+use Rattle.sixel.proofs.Outputs.{gives-begins}
+use Rattle.sixel.proofs.Puts.{Appends-keeps}
+use Rattle.sixel_grammar.proofs.Total.{judged, viable_before}
+
+-- ---- lists
+
+pub list-once : (bytes : List ℕ) (first second : Text) (a b : Result Status RunFault) → ListGives bytes first a
+    → ListGives bytes second b → (first ≡ second) × (a ≡ b)
+list-once bytes first second (Ok s) (Ok r) g h = (
+  g.1.2 ∙ ap list_text (document_once bytes g.1.0 h.1.0 g.1.1 h.1.1)
+      ∙ sym h.1.2,
+  ap (λ (t : Status). Ok t) (g.0 ∙ sym h.0),
+)
+list-once bytes first second (Ok s) (Err (Grammar f)) g h = absurd (fault_no_document bytes f h.0 (g.1.0, g.1.1))
+list-once bytes first second (Err (Grammar f)) (Ok s) g h = absurd (fault_no_document bytes f g.0 (h.1.0, h.1.1))
+list-once bytes first second (Err (Grammar f)) (Err (Grammar e)) g h =
+    let same : f ≡ e = fault_once bytes f e g.0 h.0 in
+    let c = subst (λ (k : Fault). CompleteIn g.1.0 (take k.place bytes)) same g.1.1 in (
+      g.1.2 ∙ ap list_text (complete_once (take e.place bytes) g.1.0 h.1.0 c h.1.1)
+          ∙ sym h.1.2,
+      ap (λ (k : Fault). Err (Grammar k)) same,
+    )
+list-once bytes first second (Err OutOfMemory) b g h = absurd g
+list-once bytes first second (Err Read) b g h = absurd g
+list-once bytes first second (Err Write) b g h = absurd g
+list-once bytes first second (Ok s) (Err OutOfMemory) g h = absurd h
+list-once bytes first second (Ok s) (Err Read) g h = absurd h
+list-once bytes first second (Ok s) (Err Write) g h = absurd h
+list-once bytes first second (Err (Grammar f)) (Err OutOfMemory) g h = absurd h
+list-once bytes first second (Err (Grammar f)) (Err Read) g h = absurd h
+list-once bytes first second (Err (Grammar f)) (Err Write) g h = absurd h
+
+pub list-gives : (bytes : List ℕ) → (text : Text) × (answer : Result Status RunFault) × ListGives bytes text answer
+list-gives bytes =
+    elim (judged bytes) [
+      | inl d ↦ (list_text d.0, Ok Done, (refl, (d.0, d.1, refl)))
+      | inr f ↦ let v = viable_before bytes f.0 f.1 in (list_text v.0, Err (Grammar f.0), (f.1, (v.0, v.1, refl)))
+    ]
+
+-- ---- tasks
+
+gives-once : (task : Task) (bytes : List ℕ) (first second : Text) (a b : Result Status RunFault)
+    → Gives task bytes first a → Gives task bytes second b → first ≡ second
+gives-once Listing bytes first second a b g h = (list-once bytes first second a b g h).0
+
+-- what was written before reading failed is a front of what the task gives
+unread-begins : (task : Task) (bytes given rest : List ℕ) (text whole : Text) (answer : Result Status RunFault)
+    → bytes ≡ given ++ rest → GivesUnread task given text → Gives task bytes whole answer → BeginsWith whole text
+unread-begins Listing bytes given rest text whole answer is unread gives =
+    subst (BeginsWith whole) (sym unread.1.2)
+    (gives-begins bytes given rest unread.1.0 is unread.1.1 unread.0 whole answer gives)
+
+begins-all : (first second : Text) → first ≡ second → BeginsWith second first
+begins-all first second e = ([], sym e ∙ sym (append-nil first))
+
+-- ---- a flush that fails
+
+unflushed-run : (task : Task) (bytes : List ℕ) (left had mid has : Option (List ℕ)) (answer : Result Status RunFault)
+    → Wrote task bytes left answer had mid → Keeps mid has → Wrote task bytes left (Err Write) had has
+unflushed-run task bytes left had mid has (Ok status) w kept = (
+  w.0,
+  Appends-keeps had mid has w.0 w.2 kept,
+  λ text answer g. begins-all w.0 text
+      (gives-once task bytes w.0 text (Ok status) answer w.1 g),
+)
+unflushed-run task bytes left had mid has (Err (Grammar fault)) w kept = (
+  w.0,
+  Appends-keeps had mid has w.0 w.2 kept,
+  λ text answer g. begins-all w.0 text
+      (gives-once task bytes w.0 text (Err (Grammar fault)) answer w.1 g),
+)
+unflushed-run task bytes left had mid has (Err OutOfMemory) w kept =
+    ([], Appends-keeps had mid has [] w kept, λ text answer g. (text, refl))
+unflushed-run task bytes None had mid has (Err Read) w kept = absurd w.2
+unflushed-run task bytes (Some rest) had mid has (Err Read) w kept = (
+  w.1,
+  Appends-keeps had mid has w.1 w.4 kept,
+  λ text answer g. unread-begins task bytes w.0 rest w.1 text answer
+      w.2 w.3 g,
+)
+unflushed-run task bytes left had mid has (Err Write) w kept = (w.0, Appends-keeps had mid has w.0 w.1 kept, w.2)
+
+pub unflushed : (task : Task) (a left had mid has : Option (List ℕ)) (answer : Result Status RunFault)
+    → IfSome a (λ (bytes : List ℕ). Wrote task bytes left answer had mid) → Keeps mid has
+    → IfSome a (λ (bytes : List ℕ). Wrote task bytes left (Err Write) had has)
+unflushed task None left had mid has answer w kept = tt
+unflushed task (Some bytes) left had mid has answer w kept = unflushed-run task bytes left had mid has answer w kept

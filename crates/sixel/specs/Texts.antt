@@ -1,0 +1,81 @@
+-- The lines that the program writes.
+use Rattle.std.specs.Prelude.{◌≡◌, ℕ, Bool, List, [], ◌∷◌, ◌++◌, codes, decimal, flat_map, map, if◌then◌else◌}
+use Rattle.sixel_grammar.specs.declared.command.Command.{Command}
+use Rattle.sixel_grammar.specs.declared.command.Command.TheVariants.{Sixel, Repeat, Raster, Select, Define, CarriageReturn, NextLine}
+use Rattle.sixel_grammar.specs.declared.command.Event.{Event}
+use Rattle.sixel_grammar.specs.declared.command.Event.TheVariants.{Start, Step, Finish}
+use Rattle.sixel_grammar.specs.declared.command.Placed.{Placed}
+use Rattle.sixel_grammar.specs.declared.fault.Reason.{Reason}
+use Rattle.sixel_grammar.specs.declared.fault.Reason.TheVariants.{NotSixel, BadByte, NumberTooLarge, FieldCount, BadRepeat, BadTerminator, Truncated, TooLong, Trailing}
+use Rattle.sixel.specs.declared.fault.RunFault.{RunFault}
+use Rattle.sixel.specs.declared.fault.RunFault.TheVariants.{Grammar, OutOfMemory, Read, Write}
+
+abbrev pub Text : Type 0
+Text = List ℕ
+
+-- the text begins with this part
+abbrev pub BeginsWith : Text → Text → Type 0
+BeginsWith text part = (rest : Text) × (text ≡ part ++ rest)
+
+-- ---- lines
+
+-- each part after one space
+abbrev pub spaced : List Text → Text
+spaced parts = flat_map (λ part. 32 ∷ part) parts
+
+-- a line: its parts, one space between two, and a line feed
+abbrev pub line : Text → List Text → Text
+line first parts = first ++ spaced parts ++ 10 ∷ []
+
+-- each number in decimal digits
+abbrev pub numbers : List ℕ → List Text
+numbers ns = map decimal ns
+
+-- ---- events
+
+abbrev pub kind_name : Bool → Text
+kind_name eight = if eight then codes "8bit" else codes "7bit"
+
+abbrev pub command_parts : Command → List Text
+command_parts (Sixel bits) = codes "sixel" ∷ numbers (bits ∷ [])
+command_parts (Repeat count bits) = codes "repeat" ∷ numbers (count ∷ bits ∷ [])
+command_parts (Raster pan pad width height) = codes "raster" ∷ numbers (pan ∷ pad ∷ width ∷ height ∷ [])
+command_parts (Select register) = codes "select" ∷ numbers (register ∷ [])
+command_parts (Define register system x y z) = codes "define" ∷ numbers (register ∷ system ∷ x ∷ y ∷ z ∷ [])
+command_parts CarriageReturn = codes "return" ∷ []
+command_parts NextLine = codes "newline" ∷ []
+
+abbrev pub event_parts : Event → List Text
+event_parts (Start eight parameters) = codes "start" ∷ kind_name eight ∷ numbers parameters.items
+event_parts (Step command) = command_parts command
+event_parts (Finish eight) = codes "end" ∷ kind_name eight ∷ []
+
+-- the line of an event, its place first
+abbrev pub event_line : Placed → Text
+event_line p = line (decimal p.place) (event_parts p.event)
+
+-- a line for each event
+abbrev pub list_text : List Placed → Text
+list_text events = flat_map event_line events
+
+-- ---- faults
+
+abbrev pub reason_name : Reason → Text
+reason_name NotSixel = codes "NotSixel"
+reason_name BadByte = codes "BadByte"
+reason_name NumberTooLarge = codes "NumberTooLarge"
+reason_name FieldCount = codes "FieldCount"
+reason_name BadRepeat = codes "BadRepeat"
+reason_name BadTerminator = codes "BadTerminator"
+reason_name Truncated = codes "Truncated"
+reason_name TooLong = codes "TooLong"
+reason_name Trailing = codes "Trailing"
+
+abbrev pub fault_parts : RunFault → List Text
+fault_parts (Grammar fault) = reason_name fault.reason ∷ codes "at" ∷ decimal fault.place ∷ []
+fault_parts OutOfMemory = codes "out of memory" ∷ []
+fault_parts Read = codes "read failed" ∷ []
+fault_parts Write = codes "write failed" ∷ []
+
+abbrev pub fault_line : RunFault → Text
+fault_line fault = line (codes "sixel:") (fault_parts fault)

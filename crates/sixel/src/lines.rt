@@ -1,0 +1,176 @@
+//! The lines that the program writes.
+
+ghost use Rattle.std.specs.Prelude.{◌≡◌, ◌+◌, ◌≤◌, ◌++◌, ◌∷◌, length, decimal};
+ghost use Rattle.arrayvec.specs.ArrayVec.{array_vec_len};
+ghost use Rattle.sixel_grammar.specs.Devices.{CountsFailure, Puts};
+ghost use Rattle.sixel.specs.Texts.{event_line, fault_line, kind_name, reason_name, spaced, event_parts};
+
+use crate::fault::RunFault;
+use arrayvec::ArrayVec;
+use itoa::Buffer;
+use sixel_grammar::{Command, DeviceFault, Event, Placed, Reason, Sink, put_all};
+
+/// A line, with its line feed: of an event at most 58 bytes, of a fault at most 46.
+pub type Line = ArrayVec<u8, 96>;
+
+fn push_all(line: &mut Line, text: &[u8])
+    requires { array_vec_len line.old + length text.now ≤ 96 }
+    ensures items { line.new.items ≡ line.old.items ++ text.now }
+    ensures len { array_vec_len line.new ≡ array_vec_len line.old + length text.now }
+{
+    let _ = line.try_extend_from_slice(text);
+}
+
+/// A number after a space: at most 20 digits.
+fn push_number(line: &mut Line, number: u64)
+    requires { array_vec_len line.old + 21 ≤ 96 }
+    ensures items { line.new.items ≡ line.old.items ++ 32 ∷ decimal number }
+    ensures len { array_vec_len line.new ≤ array_vec_len line.old + 21 }
+{
+    let mut buffer = Buffer::new();
+    line.push(b' ');
+    push_all(line, buffer.format(number).as_bytes());
+}
+
+/// A number of a document after a space: at most 5 digits.
+fn push_small(line: &mut Line, number: u16)
+    requires { array_vec_len line.old + 6 ≤ 96 }
+    ensures items { line.new.items ≡ line.old.items ++ 32 ∷ decimal number }
+    ensures len { array_vec_len line.new ≤ array_vec_len line.old + 6 }
+{
+    let mut buffer = Buffer::new();
+    line.push(b' ');
+    push_all(line, buffer.format(number).as_bytes());
+}
+
+fn push_kind(line: &mut Line, eight: bool)
+    requires { array_vec_len line.old + 5 ≤ 96 }
+    ensures items { line.new.items ≡ line.old.items ++ 32 ∷ kind_name eight }
+    ensures len { array_vec_len line.new ≡ array_vec_len line.old + 5 }
+{
+    push_all(line, if eight { b" 8bit" } else { b" 7bit" });
+}
+
+fn push_command(line: &mut Line, command: &Command)
+    requires { array_vec_len line.old ≤ 20 }
+    ensures items { line.new.items ≡ line.old.items ++ spaced (event_parts (Event.Step command.now)) }
+    ensures len { array_vec_len line.new ≤ 60 }
+{
+    match command {
+        Command::Sixel(bits) => {
+            push_all(line, b" sixel");
+            push_small(line, u16::from(*bits));
+        }
+        Command::Repeat { count, bits } => {
+            push_all(line, b" repeat");
+            push_small(line, *count);
+            push_small(line, u16::from(*bits));
+        }
+        Command::Raster {
+            pan,
+            pad,
+            width,
+            height,
+        } => {
+            push_all(line, b" raster");
+            push_small(line, *pan);
+            push_small(line, *pad);
+            push_small(line, *width);
+            push_small(line, *height);
+        }
+        Command::Select(register) => {
+            push_all(line, b" select");
+            push_small(line, *register);
+        }
+        Command::Define {
+            register,
+            system,
+            x,
+            y,
+            z,
+        } => {
+            push_all(line, b" define");
+            push_small(line, *register);
+            push_small(line, *system);
+            push_small(line, *x);
+            push_small(line, *y);
+            push_small(line, *z);
+        }
+        Command::CarriageReturn => push_all(line, b" return"),
+        Command::NextLine => push_all(line, b" newline"),
+    }
+}
+
+/// The line of an event.
+pub fn event_line(placed: &Placed) -> Line
+    ensures { result.items ≡ event_line placed.now }
+{
+    let mut line = ArrayVec::new();
+    let mut buffer = Buffer::new();
+    push_all(&mut line, buffer.format(placed.place).as_bytes());
+    match &placed.event {
+        Event::Start { eight, parameters } => {
+            push_all(&mut line, b" start");
+            push_kind(&mut line, *eight);
+            for parameter in parameters.as_slice() {
+                push_small(&mut line, *parameter);
+            }
+        }
+        Event::Step(command) => push_command(&mut line, command),
+        Event::Finish { eight } => {
+            push_all(&mut line, b" end");
+            push_kind(&mut line, *eight);
+        }
+    }
+    line.push(b'\n');
+    line
+}
+
+fn reason_name(reason: Reason) -> &'static str
+    ensures text { result.now ≡ reason_name reason }
+    ensures short { length result.now ≤ 14 }
+{
+    match reason {
+        Reason::NotSixel => "NotSixel",
+        Reason::BadByte => "BadByte",
+        Reason::NumberTooLarge => "NumberTooLarge",
+        Reason::FieldCount => "FieldCount",
+        Reason::BadRepeat => "BadRepeat",
+        Reason::BadTerminator => "BadTerminator",
+        Reason::Truncated => "Truncated",
+        Reason::TooLong => "TooLong",
+        Reason::Trailing => "Trailing",
+    }
+}
+
+/// The line of a fault.
+fn fault_line(fault: &RunFault) -> Line
+    ensures { result.items ≡ fault_line fault.now }
+{
+    let mut line = ArrayVec::new();
+    push_all(&mut line, b"sixel: ");
+    match fault {
+        RunFault::Grammar(fault) => {
+            push_all(&mut line, reason_name(fault.reason).as_bytes());
+            push_all(&mut line, b" at");
+            push_number(&mut line, fault.place);
+        }
+        RunFault::OutOfMemory => push_all(&mut line, b"out of memory"),
+        RunFault::Read => push_all(&mut line, b"read failed"),
+        RunFault::Write => push_all(&mut line, b"write failed"),
+    }
+    line.push(b'\n');
+    line
+}
+
+/// Writes the line of a fault, or on an `Err` a front of it. It doesn't flush.
+pub fn write_fault<K: Sink>(fault: &RunFault, out: &mut K) -> Result<(), DeviceFault>
+    ensures bytes { Puts result (K.taken out.old) (K.taken out.new) (fault_line fault.now) }
+    ensures failures { CountsFailure result (K.failure_count out.old) (K.failure_count out.new) }
+{
+    let line = fault_line(fault);
+    put_all(out, line.as_slice())
+}
+
+#[cfg(test)]
+mod tests;

@@ -1,0 +1,128 @@
+//! The program `sixel`: reads a sixel picture from standard input and says what it is.
+#![tactic(auto)]
+
+ghost use Rattle.std.specs.Prelude.{◌≡◌, IfErr, IfSome, Ok};
+ghost use Rattle.sixel.specs.Exits.{exit_for_answer, exit_for_words};
+ghost use Rattle.sixel.specs.Outputs.{Gives};
+ghost use Rattle.sixel.specs.Texts.{Text};
+ghost use Rattle.sixel.specs.Words.{IsSortedOut};
+
+mod fault;
+mod laws;
+mod lines;
+mod run;
+mod task;
+#[cfg(test)]
+mod watched;
+mod words;
+
+use clap::Error;
+use fault::RunFault;
+use lines::write_fault;
+use sixel_grammar::{FromRead, ToWrite, put_all};
+use std::alloc::Global;
+use std::env;
+use std::io::{ErrorKind, Read, Write};
+use std::process::ExitCode;
+use std::rt::Env;
+use task::{Status, Task};
+use words::{WordsFault, parse_words, usage};
+
+/// How the program ends. The numbers are its exit statuses.
+#[derive(Clone, Copy, Debug, PartialEq, Eq)]
+enum Exit {
+    Done = 0,
+    Refused = 2,
+    Usage = 3,
+}
+
+fn main(rt: HostRuntime) -> ExitCode {
+    let exit = match asked_task(&rt) {
+        Ok(task) => execute(rt.alloc(), task, rt.stdin(), rt.stdout(), rt.stderr()),
+        Err(fault) => explain(rt.alloc(), fault, rt.stdout(), rt.stderr()),
+    };
+    ExitCode::from(exit as u8)
+}
+
+/// The task that the program's arguments name.
+fn asked_task<R: Env + AllocGlobal>(rt: &R) -> Result<Task, WordsFault>
+    ensures { IfErr result IsSortedOut }
+{
+    let arguments = match env::args(rt) {
+        Ok(arguments) => arguments,
+        Err(error) if error.kind() == ErrorKind::OutOfMemory => return Err(WordsFault::OutOfMemory),
+        Err(_) => return Err(usage(rt.alloc(), "the arguments are not text")),
+    };
+    match arguments.collect::<Vec<String>>(rt.alloc()) {
+        Ok(words) => parse_words(rt.alloc(), words.as_slice()),
+        Err(_) => Err(WordsFault::OutOfMemory),
+    }
+}
+
+/// Runs the task, and says on the third stream why it was refused.
+fn execute<R: Read + Drop, W: Write + Drop, E: Write + Drop>(
+    alloc: Global,
+    task: Task,
+    input: R,
+    output: W,
+    errors: E,
+) -> Exit
+    ensures { result ≡ Exit.Done → IfSome (R.remaining input) (λ bytes.
+        (text : Text) × Gives task bytes text (Ok Status.Done)) }
+{
+    let answer = run::run(
+        alloc,
+        task,
+        &mut FromRead::new(input),
+        &mut ToWrite::new(output),
+    );
+    if let Err(fault) = answer {
+        // If the line can't be written, the exit status stays.
+        let _ = write_fault(&fault, &mut ToWrite::new(errors));
+    }
+    exit_of(answer)
+}
+
+fn exit_of(answer: Result<Status, RunFault>) -> Exit
+    ensures { result ≡ exit_for_answer answer }
+{
+    match answer {
+        Ok(Status::Done) => Exit::Done,
+        Err(_) => Exit::Refused,
+    }
+}
+
+/// Shows the help that was asked for, or says what is wrong with the words.
+fn explain<W: Write + Drop, E: Write + Drop>(
+    alloc: Global,
+    fault: WordsFault,
+    output: W,
+    errors: E,
+) -> Exit
+    ensures { result ≡ exit_for_words fault }
+{
+    match fault {
+        WordsFault::Help(text) => {
+            show(alloc, &text, output);
+            Exit::Done
+        }
+        WordsFault::Usage(text) => {
+            show(alloc, &text, errors);
+            Exit::Usage
+        }
+        WordsFault::OutOfMemory => {
+            let _ = write_fault(&RunFault::OutOfMemory, &mut ToWrite::new(errors));
+            Exit::Refused
+        }
+    }
+}
+
+/// Writes the text of usage or help. If it can't be made or written, the exit status stays.
+fn show<W: Write + Drop>(alloc: Global, text: &Error, out: W) {
+    if let Ok(text) = format!(in alloc; "{text}") {
+        let _ = put_all(&mut ToWrite::new(out), text.as_bytes());
+    }
+}
+
+#[cfg(test)]
+mod tests;

@@ -1,0 +1,60 @@
+//! Runs a task from a source to a sink. Each task has a file of its own, and `run` flushes after all of them.
+
+ghost use Rattle.std.specs.Prelude.{◌≡◌, ◌≢◌, Err, IfSome, true};
+ghost use Rattle.sixel.specs.Outputs.{CountsReads, CountsWrites, TakesMemory, Wrote, failures_by};
+
+mod list;
+
+use crate::fault::RunFault;
+use crate::task::{Status, Task};
+use sixel_grammar::{Sink, Source};
+use std::alloc::Global;
+
+/// Runs a task: reads the input as far as the task wants it, writes what it gives, and flushes once at the end.
+///
+/// The output is written in blocks, and what a piece of input completed is written before the next is read. A device
+/// that failed isn't called again; where both failed, the answer is `Write`.
+pub fn run<S: Source, K: Sink>(
+    alloc: Global,
+    task: Task,
+    input: &mut S,
+    output: &mut K,
+) -> Result<Status, RunFault>
+    ensures wrote { IfSome (S.remaining input.old) (λ bytes.
+        Wrote task bytes (S.remaining input.new) result (K.taken output.old) (K.taken output.new)) }
+    ensures memory { result ≡ Err RunFault.OutOfMemory → TakesMemory task }
+    ensures reads { CountsReads result (S.failure_count input.old) (S.failure_count input.new) }
+    ensures writes { CountsWrites result (K.failure_count output.old) (K.failure_count output.new) }
+    ensures flushed { result ≢ Err RunFault.Write → K.is_flushed output.new ≡ true }
+{
+    let answer = perform(alloc, task, input, output);
+    match answer {
+        Err(RunFault::Write) => Err(RunFault::Write),
+        _ => match output.flush() {
+            Ok(()) => answer,
+            Err(_) => Err(RunFault::Write),
+        },
+    }
+}
+
+/// Does all of a task but the flush.
+fn perform<S: Source, K: Sink>(
+    alloc: Global,
+    task: Task,
+    input: &mut S,
+    output: &mut K,
+) -> Result<Status, RunFault>
+    ensures wrote { IfSome (S.remaining input.old) (λ bytes.
+        Wrote task bytes (S.remaining input.new) result (K.taken output.old) (K.taken output.new)) }
+    ensures memory { result ≡ Err RunFault.OutOfMemory → TakesMemory task }
+    ensures reads { S.failure_count input.new ≡ failures_by RunFault.Read result (S.failure_count input.old) }
+    ensures writes { CountsWrites result (K.failure_count output.old) (K.failure_count output.new) }
+{
+    let _ = alloc;
+    match task {
+        Task::List => list::list(input, output),
+    }
+}
+
+#[cfg(test)]
+mod tests;

@@ -1,0 +1,135 @@
+//! Lists the events of a sixel picture, a line each.
+
+ghost use Rattle.std.specs.Prelude.{◌≡◌, ◌≢◌, ℕ, List, [], Err, IfSome, OnOk};
+ghost use Rattle.std.specs.Option.{option_to_list};
+ghost use Rattle.sixel_grammar.specs.declared.command.Placed.{Placed as Place};
+ghost use Rattle.sixel_grammar.specs.Blocks.{TakesMore, in_all};
+ghost use Rattle.sixel_grammar.specs.Devices.{CountsFailure, Puts};
+ghost use Rattle.sixel_grammar.specs.Standing.{StandsAfter, completions};
+ghost use Rattle.sixel.specs.declared.task.Task.TheVariants.{List as Listing};
+ghost use Rattle.sixel.specs.Feeding.{Feeds};
+ghost use Rattle.sixel.specs.Outputs.{CountsWrites, Wrote, failures_by};
+ghost use Rattle.sixel.specs.Texts.{list_text};
+
+use crate::fault::RunFault;
+use crate::lines::event_line;
+use crate::task::Status;
+use sixel_grammar::{Block, Completed, DeviceFault, Placed, Reader, Sink, Source};
+
+/// How many bytes are read at a time.
+const PIECE: usize = 65_536;
+
+/// Room for 12 bytes of lines a byte read. A data byte gives up to 19, so a piece of them leaves in two writes.
+type Lines = Block<786_432>;
+
+/// Writes a line for each event as it is complete, also before a fault. It takes no memory and doesn't flush.
+pub fn list<S: Source, K: Sink>(input: &mut S, output: &mut K) -> Result<Status, RunFault>
+    ensures wrote { IfSome (S.remaining input.old) (λ bytes.
+        Wrote Listing bytes (S.remaining input.new) result (K.taken output.old) (K.taken output.new)) }
+    ensures memory { result ≢ Err RunFault.OutOfMemory }
+    ensures reads { S.failure_count input.new ≡ failures_by RunFault.Read result (S.failure_count input.old) }
+    ensures writes { CountsWrites result (K.failure_count output.old) (K.failure_count output.new) }
+{
+    let mut reader = Reader::new();
+    let mut lines = Lines::new();
+    let mut piece = [0; PIECE];
+    loop {
+        let count = match input.fill(&mut piece) {
+            Ok(count) => count,
+            Err(_) => return Err(RunFault::Read),
+        };
+        if count == 0 {
+            return match reader.finish() {
+                Ok(()) => Ok(Status::Done),
+                Err(fault) => Err(RunFault::Grammar(fault)),
+            };
+        }
+        if let Err(fault) = list_piece(&mut reader, &piece[..count], &mut lines, output) {
+            return Err(fault);
+        }
+    }
+}
+
+/// Reads the bytes of a piece, and writes the lines of the events that they complete.
+fn list_piece<K: Sink>(
+    reader: &mut Reader,
+    piece: &[u8],
+    lines: &mut Lines,
+    out: &mut K,
+) -> Result<(), RunFault>
+    requires { lines.old ≡ [] }
+    ensures fed { (events : List Place) (bytes : List ℕ) → StandsAfter reader.old events bytes →
+        Feeds result reader.new piece.now (K.taken out.old) (K.taken out.new) events bytes }
+    ensures drained { OnOk result (lines.new ≡ []) }
+    ensures failures { CountsWrites result (K.failure_count out.old) (K.failure_count out.new) }
+{
+    let fed = feed_all(reader, piece, lines, out);
+    match fed {
+        Err(RunFault::Write) => Err(RunFault::Write),
+        _ => match lines.drain(out) {
+            Ok(()) => fed,
+            Err(_) => Err(RunFault::Write),
+        },
+    }
+}
+
+/// Reads the bytes of a piece. The lines are in the block, or where it was full at the sink.
+fn feed_all<K: Sink>(
+    reader: &mut Reader,
+    piece: &[u8],
+    lines: &mut Lines,
+    out: &mut K,
+) -> Result<(), RunFault>
+    ensures fed { (events : List Place) (bytes : List ℕ) → StandsAfter reader.old events bytes →
+        Feeds result reader.new piece.now
+        (in_all (K.taken out.old) lines.old) (in_all (K.taken out.new) lines.new) events bytes }
+    ensures more { TakesMore (K.taken out.old) (K.taken out.new) }
+    ensures failures { CountsWrites result (K.failure_count out.old) (K.failure_count out.new) }
+{
+    for byte in piece {
+        match reader.feed(*byte) {
+            Ok(completed) => match put_lines(completed, lines, out) {
+                Ok(()) => {}
+                Err(_) => return Err(RunFault::Write),
+            },
+            Err(fault) => return Err(RunFault::Grammar(fault)),
+        }
+    }
+    Ok(())
+}
+
+fn put_lines<K: Sink>(
+    completed: Completed,
+    lines: &mut Lines,
+    out: &mut K,
+) -> Result<(), DeviceFault>
+    ensures bytes { Puts result (in_all (K.taken out.old) lines.old) (in_all (K.taken out.new) lines.new)
+        (list_text (completions completed)) }
+    ensures more { TakesMore (K.taken out.old) (K.taken out.new) }
+    ensures failures { CountsFailure result (K.failure_count out.old) (K.failure_count out.new) }
+{
+    let Completed { first, second } = completed;
+    match put_line(first, lines, out) {
+        Ok(()) => put_line(second, lines, out),
+        Err(fault) => Err(fault),
+    }
+}
+
+fn put_line<K: Sink>(
+    placed: Option<Placed>,
+    lines: &mut Lines,
+    out: &mut K,
+) -> Result<(), DeviceFault>
+    ensures bytes { Puts result (in_all (K.taken out.old) lines.old) (in_all (K.taken out.new) lines.new)
+        (list_text (option_to_list placed)) }
+    ensures more { TakesMore (K.taken out.old) (K.taken out.new) }
+    ensures failures { CountsFailure result (K.failure_count out.old) (K.failure_count out.new) }
+{
+    match placed {
+        Some(placed) => {
+            let line = event_line(&placed);
+            lines.put(line.as_slice(), out)
+        }
+        None => Ok(()),
+    }
+}

@@ -1,0 +1,75 @@
+use crate::task::Task;
+use crate::words::{WordsFault, parse_words, usage};
+use crate::{Exit, execute, explain};
+use std::test::Fail;
+
+/// How a list of the bytes ends, and what it writes to standard output and to standard error.
+fn ends(
+    rt: &HostRuntime,
+    bytes: &[u8],
+    exit: Exit,
+    written: &str,
+    said: &str,
+) -> Result<bool, Fail> {
+    let mut output = Vec::new(rt.alloc());
+    let mut errors = Vec::new(rt.alloc());
+    let ended = execute(rt.alloc(), Task::List, bytes, &mut output, &mut errors);
+    Ok(
+        ended == exit
+            && output.as_slice() == written.as_bytes()
+            && errors.as_slice() == said.as_bytes(),
+    )
+}
+
+#[test]
+fn ends_by_what_came_of_the_task(rt: HostRuntime) -> Result<(), Fail> {
+    assert!(rt;
+        ends(
+            &rt,
+            b"\x1bPq\x1b\\",
+            Exit::Done,
+            "0 start 7bit 0\n3 end 7bit\n",
+            ""
+        )?
+    );
+    assert!(rt;
+        ends(
+            &rt,
+            b"\x1bPq!65536~",
+            Exit::Refused,
+            "0 start 7bit 0\n",
+            "sixel: NumberTooLarge at 8\n"
+        )?
+    );
+    Ok(())
+}
+
+/// How the program ends where the words give no task, and whether it wrote to standard output and to standard error.
+fn explains(rt: &HostRuntime, fault: WordsFault) -> (Exit, bool, bool) {
+    let mut output = Vec::new(rt.alloc());
+    let mut errors = Vec::new(rt.alloc());
+    let exit = explain(rt.alloc(), fault, &mut output, &mut errors);
+    (exit, !output.is_empty(), !errors.is_empty())
+}
+
+#[test]
+fn ends_by_what_is_wrong_with_the_words(rt: HostRuntime) -> Result<(), Fail> {
+    let alloc = rt.alloc();
+    let mut words = Vec::new(alloc);
+    for word in ["sixel", "--help"] {
+        words.push(String::from_str(alloc, word)?)?;
+    }
+    match parse_words(alloc, words.as_slice()) {
+        Ok(_) => assert!(rt; false),
+        Err(fault) => assert_eq!(rt; explains(&rt, fault), (Exit::Done, true, false)),
+    }
+    assert_eq!(rt;
+        explains(&rt, usage(alloc, "not text")),
+        (Exit::Usage, false, true)
+    );
+    assert_eq!(rt;
+        explains(&rt, WordsFault::OutOfMemory),
+        (Exit::Refused, false, true)
+    );
+    Ok(())
+}
