@@ -1,0 +1,4 @@
+pub mod SheetLemmas
+pub mod ByteLemmas
+pub mod SinkLemmas
+pub mod PpmLemmas

@@ -1,0 +1,91 @@
+-- On what was put into a block, and on what the sink behind it took.
+use Rattle.std.proofs.Common.{◌≡◌, ℕ, ◌+◌, ◌<◌, ◌≤◌, Option, Some, None, Result, Ok, Err, List, [], ◌∷◌, ◌++◌}
+use Rattle.std.proofs.Common.{length, take, drop, get_or, refl, sym, ap, subst, ◌∙◌, append_assoc, arith}
+use Rattle.std.specs.Prelude.{OnOk}
+use Rattle.std.specs.Io.KnownBytes.{Appends, Keeps, append_known}
+use Rattle.std.proofs.KnownBytes.{Appends-trans}
+use Rattle.std.proofs.lemmas.List.{append-nil, append_cancel_left, length-append, length-take}
+use Rattle.std.proofs.lemmas.List.{take-append-drop, take_all, take_at, take_more, take-take}
+use Rattle.sixel_grammar.specs.Blocks.{TakesMore, in_all}
+use Rattle.sixel_grammar.specs.Devices.{Puts}
+
+-- ---- what the items of a list give, put one after another
+
+-- what a front of a list gives is a front of what the list gives
+front_given : {X : Type 0} (f : List X → List ℕ) (xs : List X) (i : ℕ)
+    → ((ys zs : List X) → f (ys ++ zs) ≡ f ys ++ f zs) → take (length (f (take i xs))) (f xs) ≡ f (take i xs)
+front_given f xs i joins =
+    let whole : f xs ≡ f (take i xs) ++ f (drop i xs) =
+    ap f (sym (take-append-drop i xs)) ∙ joins (take i xs) (drop i xs) in
+    ap (take (length (f (take i xs)))) whole ∙ take_at (f (take i xs)) (f (drop i xs)) _ refl
+
+-- what a front of the items gives was put, and then nothing: a front of it all was put
+pub put_front : {X : Type 0} (f : List X → List ℕ) (xs : List X) (i : ℕ)
+    → ((ys zs : List X) → f (ys ++ zs) ≡ f ys ++ f zs)
+    → (a b c : Option (List ℕ)) → Appends a b (f (take i xs)) → Keeps b c → (n : ℕ) × Appends a c (take n (f xs))
+put_front f xs i joins None b c put kept = (0, tt)
+put_front f xs i joins (Some a) None c put kept = absurd put
+put_front f xs i joins (Some a) (Some b) None put kept = absurd kept
+put_front f xs i joins (Some a) (Some b) (Some c) put kept =
+    (length (f (take i xs)), rw (front_given f xs i joins) (kept ∙ put))
+
+-- what a front of the items gives was put, and then what one more gives
+pub put_more : {X : Type 0} (f : List X → List ℕ) (xs : List X) (i : ℕ) (x d : X)
+    → ((ys zs : List X) → f (ys ++ zs) ≡ f ys ++ f zs)
+    → (a b c : Option (List ℕ)) → i < length xs → x ≡ get_or xs i d → Appends a b (f (take i xs))
+    → Appends b c (f (x ∷ [])) → Appends a c (f (take (i + 1) xs))
+put_more f xs i x d joins a b c lt is put more =
+    let longer : f (take (i + 1) xs) ≡ f (take i xs) ++ f (x ∷ []) =
+    ap f (take_more xs i d lt ∙ ap (λ y. take i xs ++ y ∷ []) (sym is)) ∙ joins (take i xs) (x ∷ []) in
+    subst (λ (t : List ℕ). Appends a c t) (sym longer) (Appends-trans a b c _ _ put more)
+
+-- ---- what the sink took of what was put
+
+cancelled : (x y bs waiting front : List ℕ) → y ≡ x ++ bs → y ++ waiting ≡ x ++ front → bs ++ waiting ≡ front
+cancelled x y bs waiting front taken put =
+    append_cancel_left x (bs ++ waiting) front
+    (sym (append_assoc x bs waiting) ∙ ap (λ (t : List ℕ). t ++ waiting) (sym taken) ∙ put)
+
+take-take_min : (m n : ℕ) (xs : List ℕ) → m ≤ length (take n xs) → take m (take n xs) ≡ take m xs
+take-take_min m n xs short = take-take m n xs (omega (arith, length-take n xs))
+
+-- the sink took a front of what it and the block behind it took
+pub sink_front : (a b : Option (List ℕ)) (waiting text : List ℕ) (n : ℕ)
+    → Appends a (append_known b waiting) (take n text) → TakesMore a b → (m : ℕ) × Appends a b (take m text)
+sink_front None b waiting text n put more = (0, tt)
+sink_front (Some x) None waiting text n put more = absurd more.1
+sink_front (Some x) (Some y) waiting text n put more =
+    let bs = more.0 in
+    let joined : bs ++ waiting ≡ take n text = cancelled x y bs waiting (take n text) more.1 put in
+    let front : take (length bs) (take n text) ≡ bs =
+    ap (take (length bs)) (sym joined) ∙ take_at bs waiting _ refl in
+    let short : length bs ≤ length (take n text) = omega (arith, ap length joined, length-append bs waiting) in
+    (length bs, more.1 ∙ ap (λ (t : List ℕ). x ++ t) (sym front ∙ take-take_min (length bs) n text short))
+
+-- the block was empty before
+pub put_from_empty : (a b : Option (List ℕ)) (none xs : List ℕ) → none ≡ []
+    → Appends (in_all a none) b xs → Appends a b xs
+put_from_empty None b none xs e put = tt
+put_from_empty (Some x) None none xs e put = absurd put
+put_from_empty (Some x) (Some y) none xs e put =
+    put ∙ ap (λ (t : List ℕ). t ++ xs) (ap (λ (t : List ℕ). x ++ t) e ∙ append-nil x)
+
+-- the block is empty now
+put_to_empty : (a b : Option (List ℕ)) (none xs : List ℕ) → none ≡ [] → Appends a (in_all b none) xs → Appends a b xs
+put_to_empty None b none xs e put = tt
+put_to_empty (Some x) None none xs e put = absurd put
+put_to_empty (Some x) (Some y) none xs e put = sym (append-nil y) ∙ ap (λ (t : List ℕ). y ++ t) (sym e) ∙ put
+
+pub nothing_put : (a b : Option (List ℕ)) → Keeps a b → Appends a b []
+nothing_put None b kept = tt
+nothing_put (Some x) None kept = absurd kept
+nothing_put (Some x) (Some y) kept = kept ∙ sym (append-nil x)
+
+-- all was put, and the sink took what waits, or on an `Err` a front of it
+pub drained : {A E : Type 0} (result : Result A E) (a b : Option (List ℕ)) (waiting text : List ℕ)
+    → OnOk result (waiting ≡ []) → Appends a (in_all b waiting) text → TakesMore a b → Puts result a b text
+drained (Ok x) a b waiting text empty put extends = put_to_empty a b waiting text empty put
+drained (Err f) a b waiting text empty put extends =
+    sink_front a b waiting text (length text)
+    (subst (λ (t : List ℕ). Appends a (in_all b waiting) t) (sym (take_all (length text) text (omega arith))) put)
+    extends

@@ -1,0 +1,24 @@
+-- What the laws say.
+use Rattle.std.specs.Prelude.{◌≡◌, ◌<◌, ℕ, Some, None, map, if◌then◌else◌}
+use Rattle.sixel_picture.specs.Colours.{palette_at}
+use Rattle.sixel_picture.specs.Geometry.{covers}
+use Rattle.sixel_picture.specs.Pictures.{PictureValue, IsPicture}
+use Rattle.sixel_picture.specs.Ppm.{colours_of}
+use Rattle.sixel_picture.specs.Sheets.{Sheet, blank_sheet, cell, painted_sheet}
+
+-- the colours of a picture are those of the registers of its pixels, one for each
+abbrev pub PixelsHaveColours : ℕ → Type 0
+PixelsHaveColours registers =
+    (p : PictureValue) → IsPicture registers p
+    → map (λ c. Some c) (colours_of p) ≡ map (palette_at p.palette) p.registers
+
+-- no pixel of a blank plane has a register
+abbrev pub BlankSheetsAreBlank : Type 0
+BlankSheetsAreBlank = (width height x y : ℕ) → x < width → y < height → cell (blank_sheet width height) x y ≡ None
+
+-- after a run its pixels have the register, and each other is as it was
+abbrev pub RunsPaintTheirPixels : Type 0
+RunsPaintTheirPixels =
+    (s : Sheet) (left band count bits register x y : ℕ) → x < s.width → y < s.height
+    → cell (painted_sheet s left band count bits register) x y
+    ≡ (if covers left count band 1 bits x y then Some register else cell s x y)

@@ -1,0 +1,46 @@
+-- A picture, as contracts see it.
+use Rattle.std.specs.Prelude.{◌≡◌, ◌==◌, ◌&&◌, ℕ, ◌+◌, ◌*◌, Bool, Option, Some, None, IfSome, List, All}
+use Rattle.std.specs.Prelude.{length, not, nat_le, nat_lt, is_some, slice_index, if◌then◌else◌}
+use Rattle.std.specs.List.{list_all}
+use Rattle.sixel_picture.specs.Colours.{IsColour, palette_at}
+use Rattle.sixel_picture.specs.declared.colour.Parts.{Parts}
+use Rattle.sixel_picture.specs.declared.picture.PictureReason.{PictureReason}
+use Rattle.sixel_picture.specs.declared.picture.PictureReason.TheVariants.{Size, Count, Register, NoColour}
+
+-- the size, an optional colour for each register, and a register for each pixel, row by row
+pub record PictureValue : Type 0 where
+  pub width : ℕ
+  pub height : ℕ
+  pub palette : List (Option Parts)
+  pub registers : List ℕ
+
+abbrev pub picture_of_parts : ℕ → ℕ → List (Option Parts) → List ℕ → PictureValue
+picture_of_parts width height palette registers =
+    record { width = width; height = height; palette = palette; registers = registers }
+
+-- the register of a pixel inside
+abbrev pub register_of : PictureValue → ℕ → ℕ → ℕ
+register_of p x y = slice_index p.registers (y * p.width + x)
+
+-- a side of a picture
+abbrev pub is_side : ℕ → Bool
+is_side n = nat_le 1 n && nat_le n 2048
+
+-- the first reason why the parts make no picture of a palette of so many registers
+abbrev pub picture_fault : ℕ → ℕ → ℕ → List (Option Parts) → List ℕ → Option PictureReason
+picture_fault registers width height palette pixels =
+    if not (is_side width && is_side height) then Some Size
+    else if not (length pixels == width * height) then Some Count
+    else if not (list_all (λ r. nat_lt r registers) pixels) then Some Register
+    else if not (list_all (λ r. is_some (palette_at palette r)) pixels) then Some NoColour
+    else None
+
+-- a palette of so many registers: one entry for each, and each colour is in range
+pub record IsPalette (registers : ℕ) (palette : List (Option Parts)) : Type 0 where
+  pub entries : length palette ≡ registers
+  pub in_range : All (λ o. IfSome o IsColour) palette
+
+-- a picture of so many registers: its parts make one
+pub record IsPicture (registers : ℕ) (p : PictureValue) : Type 0 where
+  pub accepted : picture_fault registers p.width p.height p.palette p.registers ≡ None
+  pub palette : IsPalette registers p.palette

@@ -1,0 +1,18 @@
+//! Laws about the definitions. Each function's contract is the law.
+
+ghost use Rattle.sixel_picture.specs.Laws.{BlankSheetsAreBlank, PixelsHaveColours, RunsPaintTheirPixels};
+
+/// Each pixel of a picture has a colour, so that the text of its PPM leaves no pixel out.
+pub fn pixels_have_colours()
+    ensures { PixelsHaveColours 16 }
+{}
+
+/// No pixel of a blank plane has a register.
+pub fn blank_sheets_are_blank()
+    ensures { BlankSheetsAreBlank }
+{}
+
+/// A run gives its pixels the register, and leaves each other pixel as it was.
+pub fn runs_paint_their_pixels()
+    ensures { RunsPaintTheirPixels }
+{}

@@ -1,0 +1,20 @@
+//! Colours, palettes, pictures, planes of pixels, and pictures as PPM files.
+#![tactic(auto)]
+
+mod byte_plane;
+mod colour;
+pub mod laws;
+mod palette;
+mod picture;
+mod plane;
+mod ppm;
+
+pub use byte_plane::BytePlane;
+pub use colour::{Colour, Parts};
+pub use palette::Palette;
+pub use picture::{Picture, PictureFault, PictureReason};
+pub use plane::Plane;
+pub use ppm::{PpmFault, write_ppm, write_ppm_colours};
+
+#[cfg(test)]
+mod tests;

@@ -1,0 +1,151 @@
+//! A picture: its size, its palette, and a register for each pixel.
+
+ghost use Rattle.std.specs.Prelude.{◌≡◌, ◌<◌, None, Some, MatchResult, nat_lt};
+ghost use Rattle.std.specs.List.{list_all};
+ghost use Rattle.sixel_picture.specs.Pictures.{IsPicture, picture_fault, picture_of_parts, register_of};
+
+use crate::palette::Palette;
+use std::marker::Model;
+
+/// A picture of 1 to 2,048 by 1 to 2,048 pixels, each in a register that has a colour.
+///
+/// Contracts see its width, its height, its palette, and the registers of its pixels row by row from
+/// the top left.
+#[derive(Debug, Drop)]
+pub struct Picture {
+    width: u32,
+    height: u32,
+    palette: Palette,
+    registers: Vec<u8>,
+}
+
+impl Model for Picture {
+    ghost use Rattle.sixel_picture.specs.Pictures.{IsPicture, PictureValue, picture_of_parts};
+
+    ghost Value = { PictureValue };
+
+    ghost view = { λ p. picture_of_parts p.width p.height p.palette p.registers.items };
+
+    ghost invariant = { λ p. IsPicture 16 (picture_of_parts p.width p.height p.palette p.registers.items) };
+}
+
+/// Why parts make no picture. Where several reasons apply, the first of them in this order is answered.
+#[derive(Clone, Copy, Debug, PartialEq, Eq)]
+pub enum PictureReason {
+    /// The width or the height is not from 1 to 2,048.
+    Size = 1,
+    /// There are not as many registers as the width times the height.
+    Count = 2,
+    /// A register is above 15.
+    Register = 3,
+    /// A pixel is in a register that has no colour.
+    NoColour = 4,
+}
+
+/// The reason, and the parts handed back as they were.
+#[derive(Debug, Drop)]
+pub struct PictureFault {
+    pub reason: PictureReason,
+    pub palette: Palette,
+    pub registers: Vec<u8>,
+}
+
+/// Whether each register is below 16.
+fn all_below(registers: &[u8]) -> bool
+    ensures { result ≡ list_all (λ r. nat_lt r 16) registers.now }
+{
+    registers.iter().all(|register| *register < 16)
+}
+
+impl Picture {
+    /// The picture of these parts, or the first reason why they make none. Takes no memory.
+    pub fn new(
+        width: u32,
+        height: u32,
+        palette: Palette,
+        registers: Vec<u8>,
+    ) -> Result<Picture, PictureFault>
+        ensures reason { MatchResult result
+            (λ p. picture_fault 16 width height palette registers.items ≡ None)
+            (λ f. picture_fault 16 width height palette registers.items ≡ Some f.reason) }
+        ensures parts { MatchResult result
+            (λ p. p ≡ picture_of_parts width height palette registers.items)
+            (λ f. (f.palette ≡ palette) × (f.registers ≡ registers)) }
+    {
+        if width < 1 || width > 2048 || height < 1 || height > 2048 {
+            return Err(PictureFault {
+                reason: PictureReason::Size,
+                palette,
+                registers,
+            });
+        }
+        if registers.len() != (width * height) as usize {
+            return Err(PictureFault {
+                reason: PictureReason::Count,
+                palette,
+                registers,
+            });
+        }
+        if !all_below(&registers) {
+            return Err(PictureFault {
+                reason: PictureReason::Register,
+                palette,
+                registers,
+            });
+        }
+        if !palette.has_all(&registers) {
+            return Err(PictureFault {
+                reason: PictureReason::NoColour,
+                palette,
+                registers,
+            });
+        }
+        Ok(Picture {
+            width,
+            height,
+            palette,
+            registers,
+        })
+    }
+
+    /// The width in pixels.
+    pub fn width(&self) -> u32
+        ensures same { result ≡ self.now.width }
+        ensures picture { IsPicture 16 self.now }
+    {
+        self.width
+    }
+
+    /// The height in pixels.
+    pub fn height(&self) -> u32
+        ensures same { result ≡ self.now.height }
+        ensures picture { IsPicture 16 self.now }
+    {
+        self.height
+    }
+
+    pub fn palette(&self) -> &Palette
+        ensures same { result.now ≡ self.now.palette }
+        ensures picture { IsPicture 16 self.now }
+    {
+        &self.palette
+    }
+
+    /// The register of the pixel in column `x` and row `y`, both from 0 at the top left.
+    pub fn register_at(&self, x: u32, y: u32) -> u8
+        requires inside_x { x < self.now.width }
+        requires inside_y { y < self.now.height }
+        ensures same { result ≡ register_of self.now x y }
+        ensures picture { IsPicture 16 self.now }
+    {
+        self.registers[y as usize * self.width as usize + x as usize]
+    }
+
+    /// The registers of the pixels, row by row.
+    pub(crate) fn registers(&self) -> &[u8]
+        ensures same { result.now ≡ self.now.registers }
+        ensures picture { IsPicture 16 self.now }
+    {
+        &self.registers
+    }
+}
