@@ -32,9 +32,10 @@ IsTaskOf words t = (name : Text) × (rows : List Row)
 
 -- ---- the refusals
 
--- help is what asks for help or the version, and usage what doesn't
+-- help holds what asks for help or the version, and usage neither that nor want of memory
 abbrev pub IsSortedOut : WordsFault → Type 0
 IsSortedOut (fault.Usage error) = (kind_of error ≢ kind.DisplayHelp) × (kind_of error ≢ kind.DisplayVersion)
+    × (kind_of error ≢ kind.OutOfMemory)
 IsSortedOut (fault.Help error) = (kind_of error ≡ kind.DisplayHelp) ⊎ (kind_of error ≡ kind.DisplayVersion)
 IsSortedOut fault.OutOfMemory = ⊤
 

@@ -2,7 +2,7 @@
 
 ghost use Rattle.std.specs.Prelude.{◌≡◌, ◌+◌, ◌≤◌, ◌++◌, ◌∷◌, length, decimal};
 ghost use Rattle.arrayvec.specs.ArrayVec.{array_vec_len};
-ghost use Rattle.sixel_grammar.specs.Devices.{CountsFailure, Puts};
+ghost use Rattle.sixel_grammar.specs.Devices.{CountsFailure, NeverFlushes, Puts};
 ghost use Rattle.sixel.specs.Texts.{event_line, fault_line, kind_name, reason_name, spaced, event_parts};
 
 use crate::fault::RunFault;
@@ -166,6 +166,7 @@ fn fault_line(fault: &RunFault) -> Line
 /// Writes the line of a fault, or on an `Err` a front of it. It doesn't flush.
 pub fn write_fault<K: Sink>(fault: &RunFault, out: &mut K) -> Result<(), DeviceFault>
     ensures bytes { Puts result (K.taken out.old) (K.taken out.new) (fault_line fault.now) }
+    ensures unflushed { NeverFlushes (K.is_flushed out.old) (K.is_flushed out.new) }
     ensures failures { CountsFailure result (K.failure_count out.old) (K.failure_count out.new) }
 {
     let line = fault_line(fault);

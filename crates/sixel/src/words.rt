@@ -25,8 +25,8 @@ pub enum WordsFault {
     OutOfMemory,
 }
 
-/// The task that the words give. The first of them is the program's name. An `Err` for other reasons than memory has the
-/// text of clap, which says what is wrong.
+/// The task that the words give. The first of them is the program's name. `Usage` and `Help` hold the text of clap for
+/// these words.
 pub fn parse_words(alloc: Global, words: &[String]) -> Result<Task, WordsFault>
     ensures task { IfOk result (IsTaskOf (map string_bytes words.now)) }
     ensures fault { IfErr result IsSortedOut }

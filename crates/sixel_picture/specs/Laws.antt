@@ -8,8 +8,8 @@ use Rattle.sixel_picture.specs.Sheets.{Sheet, blank_sheet, cell, painted_sheet}
 
 -- the colours of a picture are those of the registers of its pixels, one for each
 abbrev pub PixelsHaveColours : ℕ → Type 0
-PixelsHaveColours registers =
-    (p : PictureValue) → IsPicture registers p
+PixelsHaveColours count =
+    (p : PictureValue) → IsPicture count p
     → map (λ c. Some c) (colours_of p) ≡ map (palette_at p.palette) p.registers
 
 -- no pixel of a blank plane has a register

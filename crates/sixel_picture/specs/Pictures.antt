@@ -28,19 +28,19 @@ is_side n = nat_le 1 n && nat_le n 2048
 
 -- the first reason why the parts make no picture of a palette of so many registers
 abbrev pub picture_fault : ℕ → ℕ → ℕ → List (Option Parts) → List ℕ → Option PictureReason
-picture_fault registers width height palette pixels =
+picture_fault count width height palette registers =
     if not (is_side width && is_side height) then Some Size
-    else if not (length pixels == width * height) then Some Count
-    else if not (list_all (λ r. nat_lt r registers) pixels) then Some Register
-    else if not (list_all (λ r. is_some (palette_at palette r)) pixels) then Some NoColour
+    else if not (length registers == width * height) then Some Count
+    else if not (list_all (λ r. nat_lt r count) registers) then Some Register
+    else if not (list_all (λ r. is_some (palette_at palette r)) registers) then Some NoColour
     else None
 
 -- a palette of so many registers: one entry for each, and each colour is in range
-pub record IsPalette (registers : ℕ) (palette : List (Option Parts)) : Type 0 where
-  pub entries : length palette ≡ registers
+pub record IsPalette (count : ℕ) (palette : List (Option Parts)) : Type 0 where
+  pub entries : length palette ≡ count
   pub in_range : All (λ o. IfSome o IsColour) palette
 
 -- a picture of so many registers: its parts make one
-pub record IsPicture (registers : ℕ) (p : PictureValue) : Type 0 where
-  pub accepted : picture_fault registers p.width p.height p.palette p.registers ≡ None
-  pub palette : IsPalette registers p.palette
+pub record IsPicture (count : ℕ) (p : PictureValue) : Type 0 where
+  pub accepted : picture_fault count p.width p.height p.palette p.registers ≡ None
+  pub palette : IsPalette count p.palette

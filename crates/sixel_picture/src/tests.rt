@@ -84,6 +84,15 @@ fn picture_of(alloc: Global, width: u32, height: u32, registers: &[u8]) -> Resul
 }
 
 #[test]
+fn a_picture_wants_a_colour_for_each_register(rt: HostRuntime) -> Result<(), Fail> {
+    match Picture::new(1, 1, Palette::new(), [3].to_vec(rt.alloc())?) {
+        Ok(_) => assert!(rt; false, "a picture"),
+        Err(fault) => assert_eq!(rt; fault.reason, PictureReason::NoColour),
+    }
+    Ok(())
+}
+
+#[test]
 fn pictures_keep_their_parts(rt: HostRuntime) -> Result<(), Fail> {
     let picture = picture_of(rt.alloc(), 2, 3, &[0, 3, 3, 0, 0, 0])?;
     assert_eq!(rt; picture.width(), 2);
@@ -164,6 +173,27 @@ fn pictures_are_written_as_ppm(rt: HostRuntime) -> Result<(), Fail> {
 }
 
 #[test]
+fn the_smallest_pictures_are_written_or_refused(rt: HostRuntime) -> Result<(), Fail> {
+    for (colour, result, text) in [
+        (
+            Colour::rgb(0, 0, 0),
+            Ok(()),
+            b"P6\n1 1\n100\n\x00\x00\x00".as_slice(),
+        ),
+        (Colour::hls(0, 0, 0), Err(PpmFault::NotRgb), [].as_slice()),
+    ] {
+        let mut palette = Palette::new();
+        palette.set(0, colour.ok_or("a colour")?);
+        let picture = Picture::new(1, 1, palette, [0].to_vec(rt.alloc())?).or(Err("a picture"))?;
+        let mut room = [0; 32];
+        let mut sink = SliceSink::new(&mut room, 32, None);
+        assert_eq!(rt; write_ppm(&picture, &mut sink), result);
+        assert_eq!(rt; sink.written(), text);
+    }
+    Ok(())
+}
+
+#[test]
 fn colours_are_written_as_ppm(rt: HostRuntime) -> Result<(), Fail> {
     let red = Colour::rgb(100, 0, 0).ok_or("red")?;
     let blue = Colour::rgb(0, 0, 100).ok_or("blue")?;
@@ -235,7 +265,7 @@ impl Sink for CountingSink {
     }
 }
 
-/// The PPM of 300 by 200 blue pixels has 180,015 bytes, of which 65,535 are whole pixels' in a block.
+/// The PPM of 300 by 200 blue pixels has 180,015 bytes. A block of 65,536 takes the header's 15 and 21,840 pixels'.
 #[test]
 fn large_pictures_leave_in_blocks(rt: HostRuntime) -> Result<(), Fail> {
     let registers = vec![in rt.alloc(); 3; 300 * 200]?;

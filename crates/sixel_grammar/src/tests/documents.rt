@@ -292,7 +292,7 @@ fn a_document_ends_at_the_limit(rt: HostRuntime) {
     assert_eq!(rt; at_the_limit(&rt, b""), (truncated, too_long, too_long));
 }
 
-/// With ample memory this reads; `rt try --test --fail-alloc 1..` refuses each growth in turn, and then this is `OutOfMemory`.
+/// With ample memory this reads. `rt try --test --fail-alloc N` refuses the N-th growth: then this is `OutOfMemory`.
 #[test]
 fn each_growth_is_refused_by_name(rt: HostRuntime) -> Result<(), Fail> {
     let mut source = SliceSource::new(b"\x1bPq\"1;1;1;1#0;2;0;0;0#0@\x1b\\", 64, None);
