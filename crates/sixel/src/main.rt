@@ -1,7 +1,7 @@
 //! The program `sixel`: reads a sixel picture from standard input and says what it is.
 #![tactic(auto)]
 
-ghost use Rattle.std.specs.Prelude.{◌≡◌, IfErr, IfSome, Ok};
+ghost use Rattle.std.specs.Prelude.{◌≡◌, ◌≢◌, IfErr, IfSome, Ok};
 ghost use Rattle.sixel.specs.Exits.{exit_for_answer, exit_for_words};
 ghost use Rattle.sixel.specs.Outputs.{Gives};
 ghost use Rattle.sixel.specs.Texts.{Text};
@@ -67,8 +67,9 @@ fn execute<R: Read + Drop, W: Write + Drop, E: Write + Drop>(
     output: W,
     errors: E,
 ) -> Exit
-    ensures { result ≡ Exit.Done → IfSome (R.remaining input) (λ bytes.
+    ensures done { result ≡ Exit.Done → IfSome (R.remaining input) (λ bytes.
         (text : Text) × Gives task bytes text (Ok Status.Done)) }
+    ensures no_usage { result ≢ Exit.Usage }
 {
     let answer = run::run(
         alloc,
