@@ -11,7 +11,8 @@ use Rattle.std.proofs.lemmas.Bool.Decides.{nat_tests}
 use Rattle.std.proofs.lemmas.List.{get_or-map, get_or-replicate, length-map, length-replicate}
 use Rattle.std.proofs.lemmas.Nat.{div-add-mod', mod_below, same_from_place}
 use Rattle.std.proofs.lemmas.Option.{slice_get-get_or}
-use Rattle.sixel_picture.specs.Geometry.{any_below, covers}
+use Rattle.sixel_picture.specs.Geometry.{covers}
+use Rattle.sixel_picture.specs.Positions.{any_below}
 use Rattle.sixel_picture.specs.Sheets.{IsFull, blank_sheet, cell, first_blank, painted_sheet}
 use Rattle.sixel_picture.specs.BytePlanes.{register_of_byte, sheet_of_bytes}
 use Rattle.sixel_picture.proofs.SheetLemmas.{rows_from_index}
@@ -109,7 +110,7 @@ painted_none w left count band bits register xs = record {
       (sym (and_false (nat_le left (i % w) && nat_lt (i % w) (left + count))));
 }
 
-same_test : (a b : Bool) → (a ≡ true → b ≡ true) → (b ≡ true → a ≡ true) → a ≡ b
+pub same_test : (a b : Bool) → (a ≡ true → b ≡ true) → (b ≡ true → a ≡ true) → a ≡ b
 same_test true b f g = sym (f refl)
 same_test false true f g = g refl
 same_test false false f g = refl
@@ -149,7 +150,7 @@ in_row_at w row p q left count in_width fits =
     (lt-ltb (p * w + q) (row * w + left + count) (omega arith)))
 
 -- the places of a run in a row
-in_row : (w row left count i : ℕ) → 0 < w → left + count ≤ w
+pub in_row : (w row left count i : ℕ) → 0 < w → left + count ≤ w
     → (nat_le (row * w + left) i && nat_lt i (row * w + left + count))
     ≡ ((nat_le left (i % w) && nat_lt (i % w) (left + count)) && (nat_le row (i / w) && nat_lt (i / w) (row + 1)))
 in_row w row left count i some fits =

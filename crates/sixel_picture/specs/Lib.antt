@@ -1,5 +1,7 @@
 pub mod Colours
 pub mod Pictures
+pub mod Positions
+pub mod Events
 pub mod Geometry
 pub mod Sheets
 pub mod BytePlanes

@@ -1,0 +1,71 @@
+-- What each event says.
+use Rattle.std.specs.Prelude.{◌==◌, ℕ, Bool, true, false, ◌&&◌, Option, Some, None, nat_lt, if◌then◌else◌}
+use Rattle.sixel_grammar.specs.declared.command.Command.TheVariants.{Sixel, Repeat, Raster, Select, Define, CarriageReturn, NextLine}
+use Rattle.sixel_grammar.specs.declared.command.Event.{Event}
+use Rattle.sixel_grammar.specs.declared.command.Event.TheVariants.{Step}
+
+-- what a definition of a register says: a colour system and three coordinates
+pub record Definition : Type 0 where
+  pub system : ℕ
+  pub x : ℕ
+  pub y : ℕ
+  pub z : ℕ
+
+-- what raster attributes say: the aspect ratio pan to pad, and the size of the declared box
+pub record Attributes : Type 0 where
+  pub pan : ℕ
+  pub pad : ℕ
+  pub width : ℕ
+  pub height : ℕ
+
+-- the ratio is 1 to 1
+abbrev pub is_square : Attributes → Bool
+is_square a = (a.pan == 1) && (a.pad == 1)
+
+-- the point lies in the declared box
+abbrev pub is_in_box : Attributes → ℕ → ℕ → Bool
+is_in_box a x y = nat_lt x a.width && nat_lt y a.height
+
+-- the bits of a data command; any other event has none set
+abbrev pub bits_of : Event → ℕ
+bits_of (Step (Sixel bits)) = bits
+bits_of (Step (Repeat count bits)) = bits
+bits_of _ = 0
+
+-- the columns of a data command, where a repeat of 0 has so many; any other event has none
+abbrev pub columns_of : ℕ → Event → ℕ
+columns_of zero_columns (Step (Sixel bits)) = 1
+columns_of zero_columns (Step (Repeat count bits)) = if count == 0 then zero_columns else count
+columns_of zero_columns _ = 0
+
+abbrev pub is_next_line : Event → Bool
+is_next_line (Step NextLine) = true
+is_next_line _ = false
+
+-- to the left margin, of the same line of six or the next
+abbrev pub is_return : Event → Bool
+is_return (Step CarriageReturn) = true
+is_return (Step NextLine) = true
+is_return _ = false
+
+abbrev pub raster_of : Event → Option Attributes
+raster_of (Step (Raster pan pad width height)) =
+    Some (record { pan = pan; pad = pad; width = width; height = height })
+raster_of _ = None
+
+-- the register that a select names
+abbrev pub select_of : Event → Option ℕ
+select_of (Step (Select register)) = Some register
+select_of _ = None
+
+-- the register that a select or a definition names
+abbrev pub named_by : Event → Option ℕ
+named_by (Step (Select register)) = Some register
+named_by (Step (Define register system x y z)) = Some register
+named_by _ = None
+
+-- what a definition says, if its register passes
+abbrev pub definition_where : (ℕ → Bool) → Event → Option Definition
+definition_where p (Step (Define register system x y z)) =
+    if p register then Some (record { system = system; x = x; y = y; z = z }) else None
+definition_where p _ = None

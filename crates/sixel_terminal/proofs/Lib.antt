@@ -1,0 +1,10 @@
+pub mod Rooms
+pub mod CanvasLemmas
+pub mod PaintLemmas
+pub mod SelectLemmas
+pub mod StandLemmas
+pub mod PixelLemmas
+pub mod RunLemmas
+pub mod InkLemmas
+pub mod ShownLemmas
+pub mod DrawLemmas

@@ -1,0 +1,251 @@
+-- On painting the pixels of a screen.
+use Rattle.std.proofs.Common.{◌≡◌, ◌==◌, ℕ, ◌+◌, ◌-◌, ◌*◌, ◌/◌, ◌%◌, ◌<◌, Bool, true, false, ◌&&◌, ◌||◌, cond}
+use Rattle.std.proofs.Common.{List, length, get_or, nat_le, nat_lt, refl, sym, ap, ap₂, ◌∙◌, arith, add-one}
+use Rattle.std.specs.Int.{bit_at}
+use Rattle.std.proofs.lemmas.Bool.Decides.{nat_tests}
+use Rattle.std.proofs.lemmas.Nat.{div_below, mod_below}
+use Rattle.sixel_picture.specs.Geometry.{covers}
+use Rattle.sixel_picture.specs.Positions.{any_below}
+use Rattle.std.specs.Prelude.{None, unwrap_or, if◌then◌else◌}
+use Rattle.std.specs.Bool.{then_some}
+use Rattle.std.specs.Option.{option_map}
+use Rattle.sixel_grammar.specs.declared.command.Command.{Command}
+use Rattle.sixel_grammar.specs.declared.command.Command.TheVariants.{Sixel, Repeat, Raster, Select, Define, CarriageReturn, NextLine}
+use Rattle.sixel_grammar.specs.declared.command.Event.{Event}
+use Rattle.sixel_grammar.specs.declared.command.Event.TheVariants.{Step}
+use Rattle.sixel_picture.specs.declared.colour.Parts.{Parts}
+use Rattle.sixel_picture.specs.Events.{bits_of, columns_of, raster_of}
+use Rattle.sixel_terminal.specs.declared.choices.Ground.{Ground}
+use Rattle.sixel_terminal.specs.declared.choices.Ground.TheVariants.{Kept, Filled}
+use Rattle.sixel_terminal.specs.Drawing.{filled_on}
+use Rattle.sixel_terminal.specs.declared.canvas.Ink.{Ink}
+use Rattle.sixel_terminal.specs.declared.canvas.Span.{Span}
+use Rattle.sixel_terminal.specs.declared.pen.Pen.{Pen}
+use Rattle.sixel_terminal.specs.Canvases.{black, is_in_span, span_of}
+use Rattle.sixel_terminal.specs.Displays.{Display}
+use Rattle.sixel_terminal.specs.Steps.{ink_after, ink_with, is_from_origin}
+
+-- the pixels of a span on the screen, counted from the origin
+span_from : (o l c w x : ℕ) → x < w
+    → is_in_span (span_of (o + l) c w) x ≡ (nat_le o x && (nat_le l (x - o) && nat_lt (x - o) (l + c)))
+span_from o l c w x lt = grind (arith, nat_tests)
+
+-- the same of a span that begins at the origin
+span_at : (o c w x : ℕ) → x < w → is_in_span (span_of o c w) x ≡ (nat_le o x && nat_lt (x - o) c)
+span_at o c w x lt = grind (arith, nat_tests)
+
+and_cross : (a b p q : Bool) → ((a && p) && (b && q)) ≡ ((a && b) && (p && q))
+and_cross true true p q = refl
+and_cross true false true q = refl
+and_cross true false false q = refl
+and_cross false b p q = refl
+
+pub box_pixel : (t : Display) (width height x y : ℕ) → x < t.choices.screen_width → y < t.choices.screen_height
+    → (is_in_span (span_of t.choices.origin_x width t.choices.screen_width) x
+    && is_in_span (span_of t.choices.origin_y height t.choices.screen_height) y)
+    ≡ (is_from_origin t x y && (nat_lt (x - t.choices.origin_x) width && nat_lt (y - t.choices.origin_y) height))
+box_pixel t width height x y p q =
+    ap₂ (λ a b. a && b) (span_at t.choices.origin_x width t.choices.screen_width x p)
+    (span_at t.choices.origin_y height t.choices.screen_height y q)
+    ∙ and_cross (nat_le t.choices.origin_x x) (nat_le t.choices.origin_y y)
+    (nat_lt (x - t.choices.origin_x) width) (nat_lt (y - t.choices.origin_y) height)
+
+-- the pixels of a box that begins at the origin
+pub box_pixels : (t : Display) (width height : ℕ) (columns rows : Span) (ink : Ink) (old new : List Ink)
+    → length old ≡ t.choices.screen_width * t.choices.screen_height → 0 < t.choices.screen_width
+    → columns ≡ span_of t.choices.origin_x width t.choices.screen_width
+    → rows ≡ span_of t.choices.origin_y height t.choices.screen_height
+    → ((i : ℕ) → i < length old
+    → get_or new i black
+    ≡ cond (is_in_span columns (i % t.choices.screen_width) && is_in_span rows (i / t.choices.screen_width)) ink (get_or old i black))
+    → (i : ℕ) → i < length old
+    → get_or new i black
+    ≡ cond (is_from_origin t (i % t.choices.screen_width) (i / t.choices.screen_width)
+    && (nat_lt (i % t.choices.screen_width - t.choices.origin_x) width
+    && nat_lt (i / t.choices.screen_width - t.choices.origin_y) height)) ink (get_or old i black)
+box_pixels t width height columns rows ink old new whole some across down filled i lt =
+    let in_width = mod_below i t.choices.screen_width some in
+    let in_height = div_below i t.choices.screen_width t.choices.screen_height some (omega (arith, whole, lt)) in
+    filled i lt
+    ∙ ap (λ (v : Bool). cond v ink (get_or old i black))
+    (rw (across, down) (box_pixel t width height (i % t.choices.screen_width) (i / t.choices.screen_width) in_width in_height))
+
+-- bit k is set, and its rows hold y
+abbrev bit_covers : Pen → ℕ → ℕ → ℕ → Bool
+bit_covers p bits y k =
+    (bit_at bits k == 1) && nat_le ((6 * p.band + k) * p.height) y && nat_lt y ((6 * p.band + k) * p.height + p.height)
+
+-- the point lies in the columns and in the rows of a set bit below n
+abbrev pub covered_below : ℕ → Pen → ℕ → ℕ → ℕ → ℕ → Bool
+covered_below n p count bits x y =
+    nat_le p.column x && nat_lt x (p.column + count) && any_below n (bit_covers p bits y)
+
+-- the pixel is painted by a bit below n
+abbrev pub painted_below : ℕ → Display → Pen → ℕ → ℕ → ℕ → ℕ → Bool
+painted_below n t p count bits x y =
+    is_from_origin t x y && covered_below n p count bits (x - t.choices.origin_x) (y - t.choices.origin_y)
+
+-- the pixels after the rows of the bits below n
+pub record IsPaintedBelow (n : ℕ) (t : Display) (p : Pen) (count bits : ℕ) (ink : Ink) (old new : List Ink) : Type 0 where
+  pub long : length new ≡ length old
+  pub pixels : (i : ℕ) → i < length old
+      → get_or new i black
+      ≡ cond (painted_below n t p count bits (i % t.choices.screen_width) (i / t.choices.screen_width)) ink (get_or old i black)
+
+and_false : (t : Bool) → (t && false) ≡ false
+and_false true = refl
+and_false false = refl
+
+pub painted_none : (t : Display) (p : Pen) (count bits : ℕ) (ink : Ink) (xs : List Ink)
+    → IsPaintedBelow 0 t p count bits ink xs xs
+unfolding any_below
+painted_none t p count bits ink xs = record {
+  long = refl;
+  pixels = λ i lt.
+      let x = i % t.choices.screen_width in
+      let y = i / t.choices.screen_width in
+      let inside = nat_le p.column (x - t.choices.origin_x) && nat_lt (x - t.choices.origin_x) (p.column + count) in
+      ap (λ v. cond v ink (get_or xs i black))
+      (sym (ap (λ v. is_from_origin t x y && v) (and_false inside) ∙ and_false (is_from_origin t x y)));
+}
+
+-- a bit's rows on top of those before
+on_top : (a b c r o : Bool) (i k : Ink)
+    → cond ((a && c) && (b && r)) i (cond ((a && b) && (c && o)) i k) ≡ cond ((a && b) && (c && (r || o))) i k
+on_top true true true true o i k = refl
+on_top true true true false o i k = refl
+on_top true true false r o i k = refl
+on_top true false true r o i k = refl
+on_top true false false r o i k = refl
+on_top false b c r o i k = refl
+
+set_covers : (p : Pen) (bits y k : ℕ) → (bit_at bits k == 1) ≡ true
+    → bit_covers p bits y k
+    ≡ (nat_le ((6 * p.band + k) * p.height) y && nat_lt y ((6 * p.band + k) * p.height + p.height))
+set_covers p bits y k set = rw set refl
+
+clear_covers : (p : Pen) (bits y k : ℕ) → (bit_at bits k == 1) ≡ false → bit_covers p bits y k ≡ false
+clear_covers p bits y k clear = rw clear refl
+
+-- one more bit, which is set
+pub painted_more : (k : ℕ) (t : Display) (p : Pen) (count bits : ℕ) (ink : Ink) (columns rows : Span) (old mid new : List Ink)
+    → length old ≡ t.choices.screen_width * t.choices.screen_height → 0 < t.choices.screen_width
+    → columns ≡ span_of (t.choices.origin_x + p.column) count t.choices.screen_width
+    → rows ≡ span_of (t.choices.origin_y + (6 * p.band + k) * p.height) p.height t.choices.screen_height
+    → (bit_at bits k == 1) ≡ true → IsPaintedBelow k t p count bits ink old mid → length new ≡ length mid
+    → ((i : ℕ) → i < length mid
+    → get_or new i black
+    ≡ cond (is_in_span columns (i % t.choices.screen_width) && is_in_span rows (i / t.choices.screen_width)) ink (get_or mid i black))
+    → IsPaintedBelow (k + 1) t p count bits ink old new
+unfolding any_below
+painted_more k t p count bits ink columns rows old mid new whole some across down set before long filled = record {
+  long = long ∙ before.long;
+  pixels = λ i lt.
+      let x = i % t.choices.screen_width in
+      let y = i / t.choices.screen_width in
+      let px = x - t.choices.origin_x in
+      let py = y - t.choices.origin_y in
+      let a = nat_le t.choices.origin_x x in
+      let b = nat_le t.choices.origin_y y in
+      let c = nat_le p.column px && nat_lt px (p.column + count) in
+      let top = (6 * p.band + k) * p.height in
+      let r = nat_le top py && nat_lt py (top + p.height) in
+      let o = any_below k (bit_covers p bits py) in
+      let in_width : x < t.choices.screen_width = mod_below i t.choices.screen_width some in
+      let in_height : y < t.choices.screen_height = div_below i t.choices.screen_width t.choices.screen_height some (omega (arith, whole, lt)) in
+      let in_mid : i < length mid = omega (arith, before.long) in
+      let here : (is_in_span columns x && is_in_span rows y) ≡ ((a && c) && (b && r)) =
+      rw (across, down) (ap₂ (λ v w. v && w)
+      (span_from t.choices.origin_x p.column count t.choices.screen_width x in_width)
+      (span_from t.choices.origin_y top p.height t.choices.screen_height y in_height)) in
+      let written : get_or new i black ≡ cond ((a && c) && (b && r)) ink (get_or mid i black) =
+      filled i in_mid ∙ ap (λ (v : Bool). cond v ink (get_or mid i black)) here in
+      let joined : get_or new i black ≡ cond ((a && b) && (c && (r || o))) ink (get_or old i black) =
+      written ∙ ap (λ n. cond ((a && c) && (b && r)) ink n) (before.pixels i lt) ∙ on_top a b c r o ink (get_or old i black) in
+      rw (add-one, set_covers p bits py k set) joined;
+}
+
+-- one more bit, which isn't
+pub painted_same : (k : ℕ) (t : Display) (p : Pen) (count bits : ℕ) (ink : Ink) (old new : List Ink)
+    → (bit_at bits k == 1) ≡ false → IsPaintedBelow k t p count bits ink old new
+    → IsPaintedBelow (k + 1) t p count bits ink old new
+unfolding any_below
+painted_same k t p count bits ink old new clear before = record {
+  long = before.long;
+  pixels = λ i lt.
+      rw (add-one, clear_covers p bits (i / t.choices.screen_width - t.choices.origin_y) k clear) (before.pixels i lt);
+}
+
+-- all six bits
+pub painted_all : (t : Display) (p : Pen) (count bits : ℕ) (ink : Ink) (old new : List Ink)
+    → IsPaintedBelow 6 t p count bits ink old new → (i : ℕ) → i < length old
+    → get_or new i black
+    ≡ cond (is_from_origin t (i % t.choices.screen_width) (i / t.choices.screen_width)
+    && covers p.column count p.band p.height bits (i % t.choices.screen_width - t.choices.origin_x)
+    (i / t.choices.screen_width - t.choices.origin_y)) ink (get_or old i black)
+unfolding covers
+painted_all t p count bits ink old new painted i lt = painted.pixels i lt
+
+no_columns : (l line rows bits x y : ℕ) → covers l 0 line rows bits x y ≡ false
+unfolding covers
+no_columns l line rows bits x y = rw (outside l x) refl
+  where
+    outside : (l x : ℕ) → (nat_le l x && nat_lt x (l + 0)) ≡ false
+    outside l x = grind (arith, nat_tests)
+
+pixel : (from inside : Bool) (f : ℕ → Ink) (register : ℕ) (ink : Ink)
+    → cond (from && inside) (f register) ink
+    ≡ unwrap_or (option_map f (if from then then_some inside register else None)) ink
+pixel true true f register ink = refl
+pixel true false f register ink = refl
+pixel false inside f register ink = refl
+
+nothing : (from : Bool) (f : ℕ → Ink) (ink : Ink) → ink ≡ unwrap_or (option_map f (if from then None else None)) ink
+nothing true f ink = refl
+nothing false f ink = refl
+
+-- what raster attributes fill
+pub filled_pixel : (t : Display) (p : Pen) (colours : List Parts) (pan pad width height register x y : ℕ) (ink : Ink)
+    → t.choices.ground ≡ Filled register
+    → cond (is_from_origin t x y && (nat_lt (x - t.choices.origin_x) width && nat_lt (y - t.choices.origin_y) height))
+    (ink_with t colours register) ink
+    ≡ ink_after t p colours (Step (Raster pan pad width height)) x y ink
+filled_pixel t p colours pan pad width height register x y ink ground =
+    rw (ground, no_columns p.column p.band p.height 0 (x - t.choices.origin_x) (y - t.choices.origin_y))
+    (pixel (is_from_origin t x y) (nat_lt (x - t.choices.origin_x) width && nat_lt (y - t.choices.origin_y) height)
+    (ink_with t colours) register ink)
+
+-- an event that is neither a data command nor raster attributes paints nothing
+pub unpainted_pixel : (t : Display) (p : Pen) (colours : List Parts) (e : Event) (x y : ℕ) (ink : Ink)
+    → columns_of t.choices.zero e ≡ 0 → filled_on t.choices.ground e (x - t.choices.origin_x) (y - t.choices.origin_y) ≡ None
+    → ink ≡ ink_after t p colours e x y ink
+unpainted_pixel t p colours e x y ink none unfilled =
+    rw (none, unfilled, no_columns p.column p.band p.height (bits_of e) (x - t.choices.origin_x) (y - t.choices.origin_y))
+    (nothing (is_from_origin t x y) (ink_with t colours) ink)
+
+-- raster attributes whose ground is kept
+pub kept_pixel : (t : Display) (p : Pen) (colours : List Parts) (pan pad width height x y : ℕ) (ink : Ink)
+    → t.choices.ground ≡ Kept → ink ≡ ink_after t p colours (Step (Raster pan pad width height)) x y ink
+kept_pixel t p colours pan pad width height x y ink ground =
+    unpainted_pixel t p colours (Step (Raster pan pad width height)) x y ink refl (rw ground refl)
+
+pub none_filled : (g : Ground) (e : Event) (x y : ℕ) → raster_of e ≡ None → filled_on g e x y ≡ None
+none_filled Kept e x y none = refl
+none_filled (Filled register) e x y none = rw none refl
+
+-- a command that is neither a data command nor raster attributes
+pub other_pixel : (t : Display) (p : Pen) (colours : List Parts) (command : Command) (x y : ℕ) (ink : Ink)
+    → ((bits : ℕ) → command ≡ Sixel bits → ⊥) → ((count bits : ℕ) → command ≡ Repeat count bits → ⊥)
+    → ((pan pad width height : ℕ) → command ≡ Raster pan pad width height → ⊥)
+    → ink ≡ ink_after t p colours (Step command) x y ink
+other_pixel t p colours (Sixel bits) x y ink no_sixel no_repeat no_raster = absurd (no_sixel bits refl)
+other_pixel t p colours (Repeat count bits) x y ink no_sixel no_repeat no_raster = absurd (no_repeat count bits refl)
+other_pixel t p colours (Raster a b c d) x y ink no_sixel no_repeat no_raster = absurd (no_raster a b c d refl)
+other_pixel t p colours (Select r) x y ink no_sixel no_repeat no_raster =
+    unpainted_pixel t p colours (Step (Select r)) x y ink refl (none_filled t.choices.ground _ _ _ refl)
+other_pixel t p colours (Define r s a b c) x y ink no_sixel no_repeat no_raster =
+    unpainted_pixel t p colours (Step (Define r s a b c)) x y ink refl (none_filled t.choices.ground _ _ _ refl)
+other_pixel t p colours CarriageReturn x y ink no_sixel no_repeat no_raster =
+    unpainted_pixel t p colours (Step CarriageReturn) x y ink refl (none_filled t.choices.ground _ _ _ refl)
+other_pixel t p colours NextLine x y ink no_sixel no_repeat no_raster =
+    unpainted_pixel t p colours (Step NextLine) x y ink refl (none_filled t.choices.ground _ _ _ refl)

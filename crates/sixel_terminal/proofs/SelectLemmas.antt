@@ -1,0 +1,33 @@
+-- On the register that a command selects.
+use Rattle.std.proofs.Common.{◌≡◌, ℕ, Bool, true, false, Some, None, refl}
+use Rattle.std.specs.Prelude.{if◌then◌else◌}
+use Rattle.std.specs.Bool.{then_some}
+use Rattle.sixel_grammar.specs.declared.command.Command.{Command}
+use Rattle.sixel_grammar.specs.declared.command.Command.TheVariants.{Sixel, Repeat, Raster, Select, Define, CarriageReturn, NextLine}
+use Rattle.sixel_grammar.specs.declared.command.Event.TheVariants.{Step}
+use Rattle.sixel_picture.specs.Events.{named_by, select_of}
+
+pub select_selects : (b : Bool) (r : ℕ) → Some r ≡ (if b then named_by else select_of) (Step (Select r))
+select_selects true r = refl
+select_selects false r = refl
+
+pub define_selects : (b : Bool) (r system x y z : ℕ)
+    → then_some b r ≡ (if b then named_by else select_of) (Step (Define r system x y z))
+define_selects true r system x y z = refl
+define_selects false r system x y z = refl
+
+pub none_selects : (b : Bool) (command : Command) → ((r : ℕ) → command ≡ Select r → ⊥)
+    → ((r system x y z : ℕ) → command ≡ Define r system x y z → ⊥)
+    → None ≡ (if b then named_by else select_of) (Step command)
+none_selects b (Select r) no_select no_define = absurd (no_select r refl)
+none_selects b (Define r s x y z) no_select no_define = absurd (no_define r s x y z refl)
+none_selects true (Sixel bits) no_select no_define = refl
+none_selects true (Repeat count bits) no_select no_define = refl
+none_selects true (Raster a b c d) no_select no_define = refl
+none_selects true CarriageReturn no_select no_define = refl
+none_selects true NextLine no_select no_define = refl
+none_selects false (Sixel bits) no_select no_define = refl
+none_selects false (Repeat count bits) no_select no_define = refl
+none_selects false (Raster a b c d) no_select no_define = refl
+none_selects false CarriageReturn no_select no_define = refl
+none_selects false NextLine no_select no_define = refl

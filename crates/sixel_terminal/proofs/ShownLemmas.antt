@@ -1,0 +1,103 @@
+-- What is kept after all events is what is shown.
+use Rattle.std.proofs.Common.{◌≡◌, ℕ, zero, suc, ◌+◌, ◌*◌, ◌/◌, ◌%◌, ◌<◌, Bool, true, false}
+use Rattle.std.proofs.Common.{Option, Some, None, List, length, take, get_or, map, refl, ap, ◌∙◌, arith}
+use Rattle.std.specs.Prelude.{slice_get, unwrap_or, if◌then◌else◌}
+use Rattle.std.specs.Option.{option_or, option_map, option_and_then}
+use Rattle.std.proofs.Math.Nat.{mod-eq_of_lt}
+use Rattle.std.proofs.lemmas.List.{get_or-map, length-map}
+use Rattle.sixel_grammar.specs.declared.command.Event.{Event}
+use Rattle.sixel_picture.specs.declared.colour.Parts.{Parts}
+use Rattle.sixel_picture.specs.declared.colour.Parts.TheVariants.{Rgb}
+use Rattle.sixel_picture.specs.Positions.{at_position, last_at, last_below}
+use Rattle.sixel_picture.proofs.PositionLemmas.{last_below_same}
+use Rattle.sixel_picture.proofs.SheetLemmas.{rows_from_index}
+use Rattle.sixel_terminal.specs.declared.canvas.Ink.{Ink}
+use Rattle.sixel_terminal.specs.declared.canvas.Ink.TheVariants.{Fixed, Bound}
+use Rattle.sixel_terminal.specs.declared.pen.Pen.{Pen}
+use Rattle.sixel_terminal.specs.Canvases.{black}
+use Rattle.sixel_terminal.specs.Displays.{Display, registers_of}
+use Rattle.sixel_terminal.specs.Drawing.{inked_on, map_on, paints_on, screen_on, shown_on}
+use Rattle.sixel_terminal.specs.Standing.{StandsAfter, ink_of, ink_on, inked_by, shown_in}
+use Rattle.sixel_terminal.proofs.InkLemmas.{map_same, paints_below}
+use Rattle.sixel_terminal.proofs.RunLemmas.{Runs}
+
+map_or : {A B : Type 0} (f : A → B) (o p : Option A) → option_map f (option_or o p) ≡ option_or (option_map f o) (option_map f p)
+map_or f None p = refl
+map_or f (Some a) p = refl
+
+map_below : {A B : Type 0} (f : A → B) (n : ℕ) (g : ℕ → Option A)
+    → option_map f (last_below n g) ≡ last_below n (λ i. option_map f (g i))
+unfolding last_below
+map_below f zero g = refl
+map_below f (suc n) g =
+    map_or f (g n) (last_below n g) ∙ ap (option_or (option_map f (g n))) (map_below f n g)
+
+same_there : {X A : Type 0} (f g : X → Option A) (o : Option X) → ((x : X) → f x ≡ g x) → option_and_then f o ≡ option_and_then g o
+same_there f g None h = refl
+same_there f g (Some x) h = h x
+
+map_then : {X A B : Type 0} (f : A → B) (g : X → Option A) (o : Option X)
+    → option_map f (option_and_then g o) ≡ option_and_then (λ x. option_map f (g x)) o
+map_then f g None = refl
+map_then f g (Some x) = refl
+
+-- f of what the last position gives, where f of each is h
+map_last : {X A B : Type 0} (f : A → B) (g : List X → X → Option A) (h : List X → X → Option B) (xs : List X)
+    → ((before : List X) (x : X) → option_map f (g before x) ≡ h before x)
+    → option_map f (last_at g xs) ≡ last_at h xs
+unfolding last_at at_position
+map_last f g h xs each =
+    map_below f (length xs) (at_position g xs)
+    ∙ last_below_same (length xs) _ _ (λ i lt.
+    map_then f (g (take i xs)) (slice_get xs i)
+    ∙ same_there (λ x. option_map f (g (take i xs) x)) (h (take i xs)) (slice_get xs i) (each (take i xs)))
+
+map_map : {A B C : Type 0} (f : B → C) (g : A → B) (o : Option A) → option_map f (option_map g o) ≡ option_map (λ a. f (g a)) o
+map_map f g None = refl
+map_map f g (Some a) = refl
+
+unwrap_map : {A B : Type 0} (f : A → B) (o : Option A) (d : A) → f (unwrap_or o d) ≡ unwrap_or (option_map f o) (f d)
+unwrap_map f None d = refl
+unwrap_map f (Some a) d = refl
+
+-- the colours of the registers at the end
+abbrev AreAtEnd : Display → List Event → List Parts → Type 0
+AreAtEnd t events colours =
+    (length colours ≡ registers_of t) × ((r : ℕ) → r < registers_of t → get_or colours r (Rgb 0 0 0) ≡ map_on t events r)
+
+ink_shows : (binds : Bool) (t : Display) (events before : List Event) (colours : List Parts) (r : ℕ)
+    → AreAtEnd t events colours → r < registers_of t
+    → shown_in colours (if binds then Bound r else Fixed (map_on t before r)) ≡ map_on t (if binds then events else before) r
+ink_shows true t events before colours r s lt =
+    let below : r < length colours = omega (arith, s.0, lt) in
+    ap (λ n. get_or colours n (Rgb 0 0 0)) (mod-eq_of_lt below) ∙ s.1 r lt
+ink_shows false t events before colours r s lt = refl
+
+painting_shows : (t : Display) (events : List Event) (colours : List Parts) (x y : ℕ) (before : List Event) (e : Event)
+    → Runs t → AreAtEnd t events colours
+    → option_map (shown_in colours) (inked_by t x y before e) ≡ inked_on t events x y before e
+painting_shows t events colours x y before e runs s =
+    map_map (shown_in colours) (ink_of t before) (paints_on t before e x y)
+    ∙ map_same _ _ (paints_on t before e x y)
+    (λ r h. ink_shows t.choices.binds_at_showing t events before colours r s (paints_below t before e x y r runs h))
+
+pixel_shows : (t : Display) (events : List Event) (colours : List Parts) (x y : ℕ) → Runs t → AreAtEnd t events colours
+    → shown_in colours (ink_on t events x y) ≡ shown_on t events x y
+unfolding ink_on shown_on
+pixel_shows t events colours x y runs s =
+    unwrap_map (shown_in colours) (last_at (inked_by t x y) events) _
+    ∙ ap (λ o. unwrap_or o (get_or t.screen (y * t.choices.screen_width + x) (Rgb 0 0 0)))
+    (map_last (shown_in colours) (inked_by t x y) (inked_on t events x y) events
+    (λ before e. painting_shows t events colours x y before e runs s))
+
+-- the colours of all pixels
+pub all_shown : (t : Display) (events : List Event) (p : Pen) (colours : List Parts) (inks : List Ink) → Runs t
+    → StandsAfter t events p colours inks → map (shown_in colours) inks ≡ screen_on t events
+unfolding screen_on
+all_shown t events p colours inks runs s =
+    rows_from_index t.choices.screen_width t.choices.screen_height (shown_on t events) (map (shown_in colours) inks) (Rgb 0 0 0)
+    (simp length-map s.pixels)
+    (λ i lt.
+    get_or-map (shown_in colours) inks i black (Rgb 0 0 0) (omega (arith, s.pixels, lt))
+    ∙ ap (shown_in colours) (s.inks_are i lt)
+    ∙ pixel_shows t events colours (i % t.choices.screen_width) (i / t.choices.screen_width) runs (s.registers, s.colours_are))

@@ -1,0 +1,38 @@
+-- The class of terminals.
+use Rattle.std.specs.Prelude.{◌≡◌, ℕ, ◌+◌, ◌*◌, ◌<◌, ◌≤◌, List, length}
+use Rattle.sixel_picture.specs.declared.colour.Parts.{Parts}
+use Rattle.sixel_terminal.specs.declared.choices.Choices.{Choices}
+use Rattle.sixel_terminal.specs.declared.choices.Ground.{Ground}
+use Rattle.sixel_terminal.specs.declared.choices.Ground.TheVariants.{Kept, Filled}
+
+-- a terminal: its choices, the colour that each of its registers starts with, and the colours on its screen, row by row
+pub record Display : Type 0 where
+  pub choices : Choices
+  pub colours : List Parts
+  pub screen : List Parts
+
+-- how many registers it has
+abbrev pub registers_of : Display → ℕ
+registers_of t = length t.colours
+
+-- the register of a filled ground is one of so many
+abbrev pub IsGroundBelow : ℕ → Ground → Type 0
+IsGroundBelow registers Kept = Unit {0}
+IsGroundBelow registers (Filled register) = register < registers
+
+-- the terminal belongs to the class for pictures of so many registers
+-- it may have more of them, any colours, and a screen of any size
+pub record IsInClass (registers : ℕ) (t : Display) : Type 0 where
+  pub enough : registers ≤ registers_of t
+  pub selected : t.choices.selected < registers_of t
+  pub ground : IsGroundBelow (registers_of t) t.choices.ground
+  pub zero : t.choices.zero ≤ 1
+  pub tall : 1 ≤ t.choices.tall
+  pub screen : length t.screen ≡ t.choices.screen_width * t.choices.screen_height
+  pub origin_x : t.choices.origin_x < t.choices.screen_width
+  pub origin_y : t.choices.origin_y < t.choices.screen_height
+
+-- a box of this size, which begins at the origin, lies on the screen
+pub record HasRoom (t : Display) (width height : ℕ) : Type 0 where
+  pub across : t.choices.origin_x + width ≤ t.choices.screen_width
+  pub down : t.choices.origin_y + height ≤ t.choices.screen_height

@@ -1,0 +1,89 @@
+-- What a terminal shows after a list of events. Columns and rows are counted in pixels of the screen from its top left,
+-- points from the origin of the picture.
+use Rattle.std.specs.Prelude.{◌==◌, ◌&&◌, ℕ, ◌+◌, ◌-◌, ◌*◌, ◌%◌, Bool, nat_le, Option, Some, None, IsSome, List}
+use Rattle.std.specs.Prelude.{slice_index_or, unwrap_or, if◌then◌else◌}
+use Rattle.std.specs.Bool.{then_some}
+use Rattle.std.specs.Option.{option_map, option_and_then, option_map_or}
+use Rattle.sixel_grammar.specs.declared.command.Event.{Event}
+use Rattle.sixel_picture.specs.declared.colour.Parts.{Parts}
+use Rattle.sixel_picture.specs.declared.colour.Parts.TheVariants.{Rgb}
+use Rattle.sixel_picture.specs.Colours.{clamped, colour_in, is_colour}
+use Rattle.sixel_picture.specs.Events.{Attributes, Definition, definition_where, is_in_box, is_square, named_by, raster_of, select_of}
+use Rattle.sixel_picture.specs.Geometry.{touches}
+use Rattle.sixel_picture.specs.Positions.{HoldsAtPosition, last_at, latest}
+use Rattle.sixel_picture.specs.Sheets.{row_by_row}
+use Rattle.sixel_terminal.specs.declared.choices.Ground.{Ground}
+use Rattle.sixel_terminal.specs.declared.choices.Ground.TheVariants.{Kept, Filled}
+use Rattle.sixel_terminal.specs.Displays.{Display, registers_of}
+
+-- the height of one sixel pixel: 1 where the last raster attributes before give the ratio 1 to 1, else the terminal's own
+unfoldable pub height_of : Display → List Event → ℕ
+height_of t before =
+    option_map_or (λ (a : Attributes). if is_square a then 1 else t.choices.tall) (latest raster_of before) t.choices.tall
+
+-- the event is a data command that paints the point
+unfoldable pub touches_on : Display → List Event → Event → ℕ → ℕ → Bool
+touches_on t before e x y = touches t.choices.zero (height_of t before) before e x y
+
+-- the selected register: that of the last select before, or of the last select or definition where a definition selects
+-- too, modulo the count of registers; where there is none, the register selected at the start
+unfoldable pub selected_on : Display → List Event → ℕ
+selected_on t before =
+    option_map_or (λ r. r % registers_of t) (latest (if t.choices.selects then named_by else select_of) before)
+    t.choices.selected
+
+-- a colour as the terminal takes it: one out of range is clamped, or it is none
+abbrev pub taken_on : Display → Parts → Option Parts
+taken_on t c = if is_colour c then Some c else if t.choices.clamps then Some (clamped c) else None
+
+-- the colour that a definition gives, if it gives one
+abbrev pub given_on : Display → Definition → Option Parts
+given_on t d = option_and_then (taken_on t) (colour_in d.system d.x d.y d.z)
+
+-- the colour that the event gives the register, if it defines it, its number taken modulo the count of registers
+abbrev pub defined_on : Display → ℕ → Event → Option Parts
+defined_on t register e =
+    option_and_then (given_on t) (definition_where (λ r. (r % registers_of t) == register) e)
+
+-- the colour of a register: that of its last definition before that gives one, or the one it starts with
+unfoldable pub map_on : Display → List Event → ℕ → Parts
+map_on t before register =
+    unwrap_or (latest (defined_on t register) before) (slice_index_or t.colours register (Rgb 0 0 0))
+
+-- the register in which the event fills the point: that of a filled ground, in the box of raster attributes
+abbrev pub filled_on : Ground → Event → ℕ → ℕ → Option ℕ
+filled_on Kept e x y = None
+filled_on (Filled register) e x y = option_and_then (λ a. then_some (is_in_box a x y) register) (raster_of e)
+
+-- the register in which the event paints the point
+abbrev pub paint_at : Display → List Event → Event → ℕ → ℕ → Option ℕ
+paint_at t before e x y =
+    if touches_on t before e x y then Some (selected_on t before) else filled_on t.choices.ground e x y
+
+-- the register in which the event paints the pixel, which need not lie on the screen
+unfoldable pub paints_on : Display → List Event → Event → ℕ → ℕ → Option ℕ
+paints_on t before e x y =
+    if nat_le t.choices.origin_x x && nat_le t.choices.origin_y y
+    then paint_at t before e (x - t.choices.origin_x) (y - t.choices.origin_y)
+    else None
+
+-- some event paints the pixel
+unfoldable pub IsPainted : Display → List Event → ℕ → ℕ → Type 0
+IsPainted t events x y =
+    (i : ℕ) × HoldsAtPosition (λ before e. IsSome (paints_on t before e x y)) events i
+
+-- the colour of the register in which the event paints the pixel, if it does: the colour at its painting, or at the end
+-- of the events
+abbrev pub inked_on : Display → List Event → ℕ → ℕ → List Event → Event → Option Parts
+inked_on t events x y before e =
+    option_map (map_on t (if t.choices.binds_at_showing then events else before)) (paints_on t before e x y)
+
+-- the colour shown at a pixel of the screen: that of the last painting, or the one that stood there
+unfoldable pub shown_on : Display → List Event → ℕ → ℕ → Parts
+shown_on t events x y =
+    unwrap_or (last_at (inked_on t events x y) events)
+    (slice_index_or t.screen (y * t.choices.screen_width + x) (Rgb 0 0 0))
+
+-- the colours shown on the whole screen, row by row
+unfoldable pub screen_on : Display → List Event → List Parts
+screen_on t events = row_by_row t.choices.screen_width t.choices.screen_height (shown_on t events)

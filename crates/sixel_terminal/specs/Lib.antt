@@ -1,0 +1,7 @@
+pub mod Displays
+pub mod Limits
+pub mod Drawing
+pub mod Canvases
+pub mod Steps
+pub mod Standing
+pub mod Laws

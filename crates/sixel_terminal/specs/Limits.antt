@@ -1,0 +1,40 @@
+-- What a terminal that runs is made of. Its limits on the screen and on the registers are no limits of the class.
+use Rattle.std.specs.Prelude.{◌==◌, ◌&&◌, ℕ, ◌*◌, Bool, true, not, nat_le, nat_lt, Option, Some, None}
+use Rattle.std.specs.Prelude.{List, length, if◌then◌else◌}
+use Rattle.sixel_picture.specs.declared.colour.Parts.{Parts}
+use Rattle.sixel_terminal.specs.declared.choices.Choices.{Choices}
+use Rattle.sixel_terminal.specs.declared.choices.Ground.{Ground}
+use Rattle.sixel_terminal.specs.declared.choices.Ground.TheVariants.{Kept, Filled}
+use Rattle.sixel_terminal.specs.declared.terminal.TerminalReason.{TerminalReason}
+use Rattle.sixel_terminal.specs.declared.terminal.TerminalReason.TheVariants.{Registers, Selected, Ground as GroundReason, Zero, Tall, Screen, Origin}
+use Rattle.sixel_terminal.specs.Displays.{Display}
+
+abbrev pub display_of : Choices → List Parts → List Parts → Display
+display_of choices colours screen = record { choices = choices; colours = colours; screen = screen }
+
+-- the register of a filled ground is one of so many
+abbrev pub is_ground_below : ℕ → Ground → Bool
+is_ground_below registers Kept = true
+is_ground_below registers (Filled register) = nat_lt register registers
+
+abbrev pub is_screen_side : ℕ → Bool
+is_screen_side n = nat_le 1 n && nat_le n 4096
+
+-- the sides are in range, and there is one colour for each pixel
+abbrev pub is_screen : Choices → List Parts → Bool
+is_screen choices screen =
+    is_screen_side choices.screen_width && is_screen_side choices.screen_height
+    && (length screen == choices.screen_width * choices.screen_height)
+
+-- the first reason why the parts make no terminal
+abbrev pub terminal_fault : Choices → List Parts → List Parts → Option TerminalReason
+terminal_fault choices colours screen =
+    if not (nat_le 16 (length colours) && nat_le (length colours) 256) then Some Registers
+    else if not (nat_lt choices.selected (length colours)) then Some Selected
+    else if not (is_ground_below (length colours) choices.ground) then Some GroundReason
+    else if not (nat_le choices.zero 1) then Some Zero
+    else if choices.tall == 0 then Some Tall
+    else if not (is_screen choices screen) then Some Screen
+    else if not (nat_lt choices.origin_x choices.screen_width && nat_lt choices.origin_y choices.screen_height)
+    then Some Origin
+    else None

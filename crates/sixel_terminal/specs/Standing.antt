@@ -1,0 +1,49 @@
+-- What a terminal that draws keeps after a list of events.
+use Rattle.std.specs.Prelude.{◌≡◌, ◌<◌, ℕ, ◌+◌, ◌*◌, ◌/◌, ◌%◌, List, Option, length, min, slice_index_or, unwrap_or, if◌then◌else◌}
+use Rattle.std.specs.Option.{option_map}
+use Rattle.sixel_grammar.specs.declared.command.Event.{Event}
+use Rattle.sixel_picture.specs.declared.colour.Parts.{Parts}
+use Rattle.sixel_picture.specs.declared.colour.Parts.TheVariants.{Rgb}
+use Rattle.sixel_picture.specs.Geometry.{band, column}
+use Rattle.sixel_picture.specs.Positions.{last_at}
+use Rattle.sixel_terminal.specs.declared.canvas.Ink.{Ink}
+use Rattle.sixel_terminal.specs.declared.canvas.Ink.TheVariants.{Fixed, Bound}
+use Rattle.sixel_terminal.specs.declared.pen.Pen.{Pen}
+use Rattle.sixel_terminal.specs.Canvases.{black}
+use Rattle.sixel_terminal.specs.Displays.{Display, registers_of}
+use Rattle.sixel_terminal.specs.Drawing.{height_of, map_on, paints_on, selected_on}
+use Rattle.sixel_terminal.specs.Steps.{most}
+
+-- what is painted in a register
+abbrev pub ink_of : Display → List Event → ℕ → Ink
+ink_of t before r = if t.choices.binds_at_showing then Bound r else Fixed (map_on t before r)
+
+-- the ink of a pixel that an event paints
+abbrev pub inked_by : Display → ℕ → ℕ → List Event → Event → Option Ink
+inked_by t x y before e = option_map (ink_of t before) (paints_on t before e x y)
+
+-- the ink of the pixel after the events
+unfoldable pub ink_on : Display → List Event → ℕ → ℕ → Ink
+ink_on t before x y =
+    unwrap_or (last_at (inked_by t x y) before) (Fixed (slice_index_or t.screen (y * t.choices.screen_width + x) (Rgb 0 0 0)))
+
+pub record IsPenAfter (t : Display) (before : List Event) (p : Pen) : Type 0 where
+  pub column_is : p.column ≡ min (column t.choices.zero before) most
+  pub band_is : p.band ≡ min (band before) most
+  pub height_is : p.height ≡ height_of t before
+  pub selected_is : p.selected ≡ selected_on t before
+  pub selected_below : p.selected < registers_of t
+
+-- the pen, the colour of each register and the ink of each pixel after the events
+pub record StandsAfter (t : Display) (before : List Event) (p : Pen) (colours : List Parts) (inks : List Ink) : Type 0 where
+  pub pen : IsPenAfter t before p
+  pub registers : length colours ≡ registers_of t
+  pub colours_are : (r : ℕ) → r < registers_of t → slice_index_or colours r (Rgb 0 0 0) ≡ map_on t before r
+  pub pixels : length inks ≡ t.choices.screen_width * t.choices.screen_height
+  pub inks_are : (i : ℕ) → i < t.choices.screen_width * t.choices.screen_height
+      → slice_index_or inks i black ≡ ink_on t before (i % t.choices.screen_width) (i / t.choices.screen_width)
+
+-- the colour that an ink shows, where the registers have these colours
+abbrev pub shown_in : List Parts → Ink → Parts
+shown_in colours (Fixed c) = c
+shown_in colours (Bound r) = slice_index_or colours (r % length colours) (Rgb 0 0 0)

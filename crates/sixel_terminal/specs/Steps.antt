@@ -1,0 +1,64 @@
+-- What one event does to what is drawn.
+use Rattle.std.specs.Prelude.{◌&&◌, ℕ, ◌+◌, ◌-◌, ◌%◌, Bool, List, Option, Some, None, min, nat_le, nat_lt}
+use Rattle.std.specs.Prelude.{slice_index_or, unwrap_or, if◌then◌else◌}
+use Rattle.std.specs.Option.{option_map, option_map_or}
+use Rattle.sixel_grammar.specs.declared.command.Event.{Event}
+use Rattle.sixel_picture.specs.declared.colour.Parts.{Parts}
+use Rattle.sixel_picture.specs.declared.colour.Parts.TheVariants.{Rgb}
+use Rattle.sixel_picture.specs.Events.{Attributes, bits_of, columns_of, is_next_line, is_return, is_square, named_by, raster_of, select_of}
+use Rattle.sixel_picture.specs.Geometry.{covers}
+use Rattle.sixel_terminal.specs.declared.canvas.Ink.{Ink}
+use Rattle.sixel_terminal.specs.declared.canvas.Ink.TheVariants.{Fixed, Bound}
+use Rattle.sixel_terminal.specs.declared.pen.Pen.{Pen}
+use Rattle.sixel_terminal.specs.Displays.{Display, registers_of}
+use Rattle.sixel_terminal.specs.Drawing.{filled_on}
+
+-- the greatest column or band of a pen, which is off every screen
+abbrev pub most : ℕ
+most = 4294967295
+
+abbrev pub next_column : Display → Pen → Event → ℕ
+next_column t p e = if is_return e then 0 else min (p.column + columns_of t.choices.zero e) most
+
+abbrev pub next_band : Pen → Event → ℕ
+next_band p e = min (p.band + (if is_next_line e then 1 else 0)) most
+
+abbrev pub next_height : Display → Pen → Event → ℕ
+next_height t p e =
+    option_map_or (λ (a : Attributes). if is_square a then 1 else t.choices.tall) (raster_of e) p.height
+
+abbrev pub next_selected : Display → Pen → Event → ℕ
+next_selected t p e =
+    option_map_or (λ r. r % registers_of t) ((if t.choices.selects then named_by else select_of) e) p.selected
+
+-- the pixel is neither left of the origin nor above it
+abbrev pub is_from_origin : Display → ℕ → ℕ → Bool
+is_from_origin t x y = nat_le t.choices.origin_x x && nat_le t.choices.origin_y y
+
+-- a pen paints the pixel with these bits in so many columns
+abbrev pub pen_covers : Display → Pen → ℕ → ℕ → ℕ → ℕ → Bool
+pen_covers t p count bits x y =
+    is_from_origin t x y
+    && covers p.column count p.band p.height bits (x - t.choices.origin_x) (y - t.choices.origin_y)
+
+-- the pixel lies in a box of this size that begins at the origin
+abbrev pub box_covers : Display → ℕ → ℕ → ℕ → ℕ → Bool
+box_covers t width height x y =
+    is_from_origin t x y && (nat_lt (x - t.choices.origin_x) width && nat_lt (y - t.choices.origin_y) height)
+
+-- the register in which the event paints the pixel
+abbrev pub painted_by : Display → Pen → Event → ℕ → ℕ → Option ℕ
+painted_by t p e x y =
+    if is_from_origin t x y
+    then if covers p.column (columns_of t.choices.zero e) p.band p.height (bits_of e) (x - t.choices.origin_x) (y - t.choices.origin_y)
+    then Some p.selected
+    else filled_on t.choices.ground e (x - t.choices.origin_x) (y - t.choices.origin_y)
+    else None
+
+-- what is painted in a register that has one of these colours
+abbrev pub ink_with : Display → List Parts → ℕ → Ink
+ink_with t colours r = if t.choices.binds_at_showing then Bound r else Fixed (slice_index_or colours r (Rgb 0 0 0))
+
+-- the ink of the pixel after the event
+abbrev pub ink_after : Display → Pen → List Parts → Event → ℕ → ℕ → Ink → Ink
+ink_after t p colours e x y ink = unwrap_or (option_map (ink_with t colours) (painted_by t p e x y)) ink

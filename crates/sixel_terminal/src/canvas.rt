@@ -1,0 +1,62 @@
+//! The pixels of a screen while it is drawn on.
+
+ghost use Rattle.std.specs.Prelude.{◌≡◌, ◌≤◌, ◌<◌, ◌+◌, ◌*◌, ◌/◌, ◌%◌, ◌&&◌, ◌^◌, nat_le, nat_lt};
+ghost use Rattle.std.specs.Prelude.{EachIndex, length, slice_index_or, if◌then◌else◌};
+ghost use Rattle.sixel_terminal.specs.Canvases.{black, is_in_span, span_of};
+
+use sixel_picture::Colour;
+
+/// What a pixel shows.
+#[derive(Clone, Copy, Debug, PartialEq, Eq)]
+pub(crate) enum Ink {
+    /// This colour.
+    Fixed(Colour),
+    /// The colour that this register has at the end.
+    Bound(u16),
+}
+
+/// Some columns or rows of the screen that stand side by side: from `start` on, before `end`.
+#[derive(Clone, Copy, Debug)]
+pub(crate) struct Span {
+    pub start: usize,
+    pub end: usize,
+}
+
+impl Span {
+    /// So many from `start` on, of those below `limit`.
+    pub(crate) fn new(start: u64, count: u64, limit: u32) -> Span
+        requires { start + count < 2 ^ 64 }
+        ensures { result ≡ span_of start count limit }
+    {
+        Span {
+            start: start.min(limit as u64) as usize,
+            end: (start + count).min(limit as u64) as usize,
+        }
+    }
+}
+
+/// Gives the pixels in these columns of these rows the ink.
+pub(crate) fn fill(inks: &mut [Ink], width: usize, columns: Span, rows: Span, ink: &Ink)
+    requires some { 0 < width }
+    requires columns_are { (columns.start ≤ columns.end) × (columns.end ≤ width) }
+    requires rows_are { (rows.start ≤ rows.end) × (rows.end * width ≤ length inks.old) }
+    ensures { EachIndex inks.old (λ i. slice_index_or inks.new i black
+        ≡ (if is_in_span columns (i % width) && is_in_span rows (i / width)
+        then ink.now else slice_index_or inks.old i black)) }
+{
+    for row in rows.start..rows.end {
+        let start = row * width + columns.start;
+        fill_row(inks, start, columns.end - columns.start, ink);
+    }
+}
+
+/// Gives so many pixels from `start` on the ink.
+fn fill_row(inks: &mut [Ink], start: usize, count: usize, ink: &Ink)
+    requires { start + count ≤ length inks.old }
+    ensures { EachIndex inks.old (λ i. slice_index_or inks.new i black
+        ≡ (if nat_le start i && nat_lt i (start + count)
+        then ink.now else slice_index_or inks.old i black)) }
+{
+    let end = start + count;
+    inks[start..end].fill(*ink);
+}

@@ -1,0 +1,144 @@
+//! A terminal with a screen.
+
+mod drawing;
+mod painting;
+mod steps;
+
+ghost use Rattle.std.specs.Prelude.{◌≡◌, ◌↔◌, None, Some, IsTrue, MatchResult};
+ghost use Rattle.sixel_terminal.specs.Displays.{HasRoom};
+ghost use Rattle.sixel_terminal.specs.Limits.{display_of, is_ground_below, terminal_fault};
+
+use crate::choices::{Choices, Ground};
+use sixel_picture::Colour;
+use std::marker::Model;
+
+/// Why parts make no terminal, in the order of checking.
+#[derive(Clone, Copy, Debug, PartialEq, Eq)]
+pub enum TerminalReason {
+    /// There are fewer than 16 colours or more than 256.
+    Registers = 1,
+    /// The register selected at the start isn't below their count.
+    Selected = 2,
+    /// The register of a filled ground isn't below their count.
+    Ground = 3,
+    /// A repeat of 0 has more than 1 column.
+    Zero = 4,
+    /// A sixel pixel has the height 0.
+    Tall = 5,
+    /// A side of the screen is outside 1 to 4,096 pixels, or there isn't one colour for each pixel.
+    Screen = 6,
+    /// The origin isn't on the screen.
+    Origin = 7,
+}
+
+/// The reason, and the lists handed back.
+#[derive(Debug, Drop)]
+pub struct TerminalFault {
+    pub reason: TerminalReason,
+    pub colours: Vec<Colour>,
+    pub screen: Vec<Colour>,
+}
+
+/// A terminal of the class. Contracts see its choices, its starting colours and its screen.
+#[derive(Debug, Drop)]
+pub struct Terminal {
+    choices: Choices,
+    colours: Vec<Colour>,
+    screen: Vec<Colour>,
+}
+
+impl Model for Terminal {
+    ghost use Rattle.std.specs.Prelude.{◌≡◌, None};
+    ghost use Rattle.sixel_terminal.specs.Displays.{Display};
+
+    ghost Value = { Display };
+
+    ghost use Rattle.sixel_terminal.specs.Limits.{display_of, terminal_fault};
+
+    ghost view = { λ t. display_of t.choices t.colours.items t.screen.items };
+
+    ghost invariant = { λ t. terminal_fault t.choices t.colours.items t.screen.items ≡ None };
+}
+
+/// Whether the register of a filled ground is one of so many.
+fn is_below(ground: Ground, registers: usize) -> bool
+    ensures { result ≡ is_ground_below registers ground }
+{
+    match ground {
+        Ground::Kept => true,
+        Ground::Filled(register) => (register as usize) < registers,
+    }
+}
+
+/// The first reason why the parts make no terminal.
+fn fault_of(choices: Choices, colours: &[Colour], screen: &[Colour]) -> Option<TerminalReason>
+    ensures { result ≡ terminal_fault choices colours.now screen.now }
+{
+    let registers = colours.len();
+    if registers < 16 || registers > 256 {
+        return Some(TerminalReason::Registers);
+    }
+    if choices.selected as usize >= registers {
+        return Some(TerminalReason::Selected);
+    }
+    if !is_below(choices.ground, registers) {
+        return Some(TerminalReason::Ground);
+    }
+    if choices.zero > 1 {
+        return Some(TerminalReason::Zero);
+    }
+    if choices.tall == 0 {
+        return Some(TerminalReason::Tall);
+    }
+    let sides = choices.screen_width >= 1
+        && choices.screen_width <= 4096
+        && choices.screen_height >= 1
+        && choices.screen_height <= 4096;
+    if !sides || screen.len() != (choices.screen_width * choices.screen_height) as usize {
+        return Some(TerminalReason::Screen);
+    }
+    if choices.origin_x >= choices.screen_width || choices.origin_y >= choices.screen_height {
+        return Some(TerminalReason::Origin);
+    }
+    None
+}
+
+impl Terminal {
+    /// The terminal of these choices, of one starting colour for each register and of the colours on the
+    /// screen, row by row; or the first reason why they make none.
+    pub fn new(
+        choices: Choices,
+        colours: Vec<Colour>,
+        screen: Vec<Colour>,
+    ) -> Result<Terminal, TerminalFault>
+        ensures reason { MatchResult result
+            (λ t. terminal_fault choices colours.items screen.items ≡ None)
+            (λ f. terminal_fault choices colours.items screen.items ≡ Some f.reason) }
+        ensures parts { MatchResult result
+            (λ t. t ≡ display_of choices colours.items screen.items)
+            (λ f. (f.colours ≡ colours) × (f.screen ≡ screen)) }
+    {
+        if let Some(reason) = fault_of(choices, &colours, &screen) {
+            return Err(TerminalFault {
+                reason,
+                colours,
+                screen,
+            });
+        }
+        Ok(Terminal {
+            choices,
+            colours,
+            screen,
+        })
+    }
+
+    /// Whether a box of this width and height in pixels, which begins at the origin, lies on the screen.
+    pub fn has_room(&self, width: u32, height: u32) -> bool
+        ensures { IsTrue result ↔ HasRoom self.now width height }
+    {
+        width <= self.choices.screen_width
+            && self.choices.origin_x <= self.choices.screen_width - width
+            && height <= self.choices.screen_height
+            && self.choices.origin_y <= self.choices.screen_height - height
+    }
+}

@@ -1,0 +1,96 @@
+//! Drawing a list of events in one pass.
+
+ghost use Rattle.std.specs.Prelude.{◌≡◌, ◌<◌, ◌++◌, ◌∷◌, [], List, IfOk, length, map};
+ghost use Rattle.sixel_grammar.specs.declared.command.Event.{Event};
+ghost use Rattle.sixel_grammar.specs.Document.{events_of};
+ghost use Rattle.sixel_terminal.specs.declared.canvas.Ink.TheVariants.{Fixed};
+ghost use Rattle.sixel_terminal.specs.Drawing.{screen_on};
+ghost use Rattle.sixel_terminal.specs.Standing.{IsPenAfter, StandsAfter, shown_in};
+
+use crate::canvas::Ink;
+use crate::pen::Pen;
+use crate::terminal::Terminal;
+use sixel_grammar::{Event, Placed};
+use sixel_picture::Colour;
+use std::alloc::{AllocError, Global};
+
+/// Ink of these colours.
+fn inks_of(alloc: Global, screen: &[Colour]) -> Result<Vec<Ink>, AllocError>
+    ensures { IfOk result (λ inks. inks.items ≡ map (λ c. Fixed c) screen.now) }
+{
+    let mut inks = Vec::with_capacity(alloc, screen.len())?;
+    for colour in screen {
+        inks.push(Ink::Fixed(*colour))?;
+    }
+    Ok(inks)
+}
+
+/// The colour that the ink shows, where the registers have these colours.
+fn colour_of(colours: &[Colour], ink: Ink) -> Colour
+    requires { 0 < length colours.now }
+    ensures { result ≡ shown_in colours.now ink }
+{
+    match ink {
+        Ink::Fixed(colour) => colour,
+        Ink::Bound(register) => colours[register as usize % colours.len()],
+    }
+}
+
+/// The colours that the inks show, where the registers have these colours.
+fn colours_of(alloc: Global, colours: &[Colour], inks: &[Ink]) -> Result<Vec<Colour>, AllocError>
+    requires { 0 < length colours.now }
+    ensures { IfOk result (λ shown. shown.items ≡ map (shown_in colours.now) inks.now) }
+{
+    let mut shown = Vec::with_capacity(alloc, inks.len())?;
+    for ink in inks {
+        shown.push(colour_of(colours, *ink))?;
+    }
+    Ok(shown)
+}
+
+impl Terminal {
+    /// What stands before any event.
+    fn first_pen(&self) -> Pen
+        ensures { IsPenAfter self.now [] result }
+    {
+        Pen {
+            column: 0,
+            band: 0,
+            height: self.choices.tall,
+            selected: self.choices.selected,
+        }
+    }
+
+    /// Draws one event more.
+    fn draw(&self, pen: Pen, colours: &mut [Colour], inks: &mut [Ink], event: &Event) -> Pen
+        requires { (before : List Event) × StandsAfter self.now before pen colours.old inks.old }
+        ensures { (before : List Event) → StandsAfter self.now before pen colours.old inks.old
+            → StandsAfter self.now (before ++ event.now ∷ []) result colours.new inks.new }
+    {
+        let _ = &self.choices;
+        match event {
+            Event::Step(command) => {
+                self.paint(pen, colours, inks, *command);
+                self.define(colours, *command);
+                self.next_pen(pen, *command)
+            }
+            _ => pen,
+        }
+    }
+
+    /// The colours of the whole screen after the events, row by row.
+    ///
+    /// It takes any list of events; a start and a finish paint nothing. What lies off the screen is left out.
+    /// `AllocError` is answered only where a growth was refused.
+    pub fn show(&self, alloc: Global, events: &[Placed]) -> Result<Vec<Colour>, AllocError>
+        ensures { IfOk result (λ shown. shown.items ≡ screen_on self.now (events_of events.now)) }
+    {
+        let mut colours = Vec::from_slice(alloc, &self.colours)?;
+        let mut inks = inks_of(alloc, &self.screen)?;
+        let mut pen = self.first_pen();
+        for placed in events {
+            pen = self.draw(pen, &mut colours, &mut inks, &placed.event);
+        }
+        colours_of(alloc, &colours, &inks)
+    }
+}

@@ -1,0 +1,62 @@
+//! Painting on a screen.
+
+ghost use Rattle.std.specs.Prelude.{◌≡◌, ◌==◌, ◌<◌, ◌+◌, ◌*◌, ◌/◌, ◌%◌};
+ghost use Rattle.std.specs.Prelude.{EachIndex, length, slice_index_or, if◌then◌else◌};
+ghost use Rattle.std.specs.Int.{bit_at};
+ghost use Rattle.sixel_terminal.specs.Canvases.{black, span_of};
+ghost use Rattle.sixel_terminal.specs.Steps.{box_covers, pen_covers};
+
+use crate::canvas::{Ink, Span, fill};
+use crate::pen::Pen;
+use crate::terminal::Terminal;
+
+fn is_set(bits: u8, bit: u32) -> bool
+    requires { bit < 6 }
+    ensures { result ≡ (bit_at bits bit == 1) }
+{
+    bits >> bit & 1 == 1
+}
+
+impl Terminal {
+    /// The rows of the screen in which a bit of the pen's band lies.
+    fn rows_of(&self, pen: Pen, bit: u32) -> Span
+        requires { bit < 6 }
+        ensures { result ≡ span_of (self.now.choices.origin_y + (6 * pen.band + bit) * pen.height) pen.height
+            self.now.choices.screen_height }
+    {
+        let row = (6 * pen.band as u64 + bit as u64) * pen.height as u64;
+        let start = self.choices.origin_y as u64 + row;
+        Span::new(start, pen.height as u64, self.choices.screen_height)
+    }
+
+    /// Gives the pixels of the set bits of so many columns from the pen on the ink.
+    pub(crate) fn paint_columns(&self, pen: Pen, count: u16, bits: u8, ink: &Ink, inks: &mut [Ink])
+        requires { length inks.old ≡ self.now.choices.screen_width * self.now.choices.screen_height }
+        ensures { EachIndex inks.old (λ i. slice_index_or inks.new i black
+            ≡ (if pen_covers self.now pen count bits (i % self.now.choices.screen_width) (i / self.now.choices.screen_width)
+            then ink.now else slice_index_or inks.old i black)) }
+    {
+        let left = self.choices.origin_x as u64 + pen.column as u64;
+        let columns = Span::new(left, count as u64, self.choices.screen_width);
+        for bit in 0..6 {
+            if is_set(bits, bit) {
+                let rows = self.rows_of(pen, bit);
+                fill(inks, self.choices.screen_width as usize, columns, rows, ink);
+            }
+        }
+    }
+
+    /// Gives the pixels of a box that begins at the origin the ink.
+    pub(crate) fn paint_box(&self, width: u16, height: u16, ink: &Ink, inks: &mut [Ink])
+        requires { length inks.old ≡ self.now.choices.screen_width * self.now.choices.screen_height }
+        ensures { EachIndex inks.old (λ i. slice_index_or inks.new i black
+            ≡ (if box_covers self.now width height (i % self.now.choices.screen_width) (i / self.now.choices.screen_width)
+            then ink.now else slice_index_or inks.old i black)) }
+    {
+        let left = self.choices.origin_x as u64;
+        let top = self.choices.origin_y as u64;
+        let columns = Span::new(left, width as u64, self.choices.screen_width);
+        let rows = Span::new(top, height as u64, self.choices.screen_height);
+        fill(inks, self.choices.screen_width as usize, columns, rows, ink);
+    }
+}

@@ -1,0 +1,210 @@
+//! What one command does.
+
+ghost use Rattle.std.specs.Prelude.{◌≡◌, ◌==◌, ◌<◌, ◌*◌, ◌/◌, ◌%◌};
+ghost use Rattle.std.specs.Prelude.{EachIndex, length, slice_index_or, unwrap_or, if◌then◌else◌};
+ghost use Rattle.std.specs.Option.{option_and_then, option_map_or};
+ghost use Rattle.sixel_grammar.specs.declared.command.Event.TheVariants.{Step};
+ghost use Rattle.sixel_picture.specs.declared.colour.Parts.TheVariants.{Rgb, Hls};
+ghost use Rattle.sixel_picture.specs.Colours.{colour_in};
+ghost use Rattle.sixel_picture.specs.Events.{named_by, select_of};
+ghost use Rattle.sixel_terminal.specs.Canvases.{black};
+ghost use Rattle.sixel_terminal.specs.Displays.{registers_of};
+ghost use Rattle.sixel_terminal.specs.Drawing.{defined_on, taken_on};
+ghost use Rattle.sixel_terminal.specs.Steps.{ink_after, ink_with, next_band, next_column, next_height, next_selected};
+
+use crate::canvas::Ink;
+use crate::choices::Ground;
+use crate::pen::Pen;
+use crate::terminal::Terminal;
+use sixel_grammar::Command;
+use sixel_picture::Colour;
+
+impl Terminal {
+    /// A number of a register is taken modulo their count.
+    fn register_of(&self, number: u16) -> u16
+        ensures value { result ≡ number % registers_of self.now }
+        ensures below { result < registers_of self.now }
+    {
+        (number as usize % self.colours.len()) as u16
+    }
+
+    /// A repeat of 0 paints as many columns as the terminal chose.
+    fn columns_of(&self, count: u16) -> u16
+        ensures { result ≡ (if count == 0 then self.now.choices.zero else count) }
+    {
+        if count == 0 {
+            self.choices.zero as u16
+        } else {
+            count
+        }
+    }
+
+    /// A colour of hue, lightness and saturation as the terminal takes it.
+    fn hls(&self, hue: u16, lightness: u16, saturation: u16) -> Option<Colour>
+        ensures { result ≡ taken_on self.now (Hls hue lightness saturation) }
+    {
+        let is_in_range = hue <= 360 && lightness <= 100 && saturation <= 100;
+        if is_in_range || self.choices.clamps {
+            Colour::hls(
+                hue.min(360),
+                lightness.min(100) as u8,
+                saturation.min(100) as u8,
+            )
+        } else {
+            None
+        }
+    }
+
+    /// A colour of red, green and blue as the terminal takes it.
+    fn rgb(&self, red: u16, green: u16, blue: u16) -> Option<Colour>
+        ensures { result ≡ taken_on self.now (Rgb red green blue) }
+    {
+        let is_in_range = red <= 100 && green <= 100 && blue <= 100;
+        if is_in_range || self.choices.clamps {
+            Colour::rgb(
+                red.min(100) as u8,
+                green.min(100) as u8,
+                blue.min(100) as u8,
+            )
+        } else {
+            None
+        }
+    }
+
+    /// The colour that a definition gives, if it gives one.
+    fn colour_of(&self, system: u16, x: u16, y: u16, z: u16) -> Option<Colour>
+        ensures { result ≡ option_and_then (taken_on self.now) (colour_in system x y z) }
+    {
+        match system {
+            1 => self.hls(x, y, z),
+            2 => self.rgb(x, y, z),
+            _ => None,
+        }
+    }
+
+    /// The register that is selected after the command.
+    fn next_selected(&self, selected: u16, command: Command) -> u16
+        ensures { result ≡ option_map_or (λ r. r % registers_of self.now)
+            ((if self.now.choices.selects then named_by else select_of) (Step command)) selected }
+    {
+        match selected_by(self.choices.selects, command) {
+            Some(number) => self.register_of(number),
+            None => selected,
+        }
+    }
+
+    /// Where the next data command paints after the command.
+    fn next_place(&self, pen: Pen, command: Command) -> Pen
+        ensures column { result.column ≡ next_column self.now pen (Step command) }
+        ensures band { result.band ≡ next_band pen (Step command) }
+        ensures height { result.height ≡ next_height self.now pen (Step command) }
+    {
+        match command {
+            Command::Sixel(_) => pen.moved(1),
+            Command::Repeat { count, bits: _ } => pen.moved(self.columns_of(count)),
+            Command::Raster {
+                pan,
+                pad,
+                width: _,
+                height: _,
+            } => pen.with_height(if pan == 1 && pad == 1 {
+                1
+            } else {
+                self.choices.tall
+            }),
+            Command::CarriageReturn => pen.at_margin(pen.band),
+            Command::NextLine => pen.at_margin(pen.band.saturating_add(1)),
+            _ => pen,
+        }
+    }
+
+    /// What stands after the command.
+    pub(crate) fn next_pen(&self, pen: Pen, command: Command) -> Pen
+        ensures column { result.column ≡ next_column self.now pen (Step command) }
+        ensures band { result.band ≡ next_band pen (Step command) }
+        ensures height { result.height ≡ next_height self.now pen (Step command) }
+        ensures selected { result.selected ≡ next_selected self.now pen (Step command) }
+    {
+        let selected = self.next_selected(pen.selected, command);
+        self.next_place(pen, command).with_selected(selected)
+    }
+
+    /// Gives the register of a definition the colour that it gives, if it gives one.
+    pub(crate) fn define(&self, colours: &mut [Colour], command: Command)
+        requires { length colours.old ≡ registers_of self.now }
+        ensures { EachIndex colours.old (λ r. slice_index_or colours.new r (Rgb 0 0 0)
+            ≡ unwrap_or (defined_on self.now r (Step command)) (slice_index_or colours.old r (Rgb 0 0 0))) }
+    {
+        if let Command::Define {
+            register,
+            system,
+            x,
+            y,
+            z,
+        } = command
+            && let Some(colour) = self.colour_of(system, x, y, z)
+        {
+            colours[self.register_of(register) as usize] = colour;
+        }
+    }
+
+    /// What is painted in this register.
+    fn ink(&self, colours: &[Colour], register: u16) -> Ink
+        requires { register < length colours.now }
+        ensures { result ≡ ink_with self.now colours.now register }
+    {
+        if self.choices.binds_at_showing {
+            Ink::Bound(register)
+        } else {
+            Ink::Fixed(colours[register as usize])
+        }
+    }
+
+    /// Paints what the command paints, with the pen and the colours that stand before it.
+    pub(crate) fn paint(&self, pen: Pen, colours: &[Colour], inks: &mut [Ink], command: Command)
+        requires selected { pen.selected < length colours.now }
+        requires colours_are { length colours.now ≡ registers_of self.now }
+        requires screen { length inks.old ≡ self.now.choices.screen_width * self.now.choices.screen_height }
+        ensures { EachIndex inks.old (λ i. slice_index_or inks.new i black
+            ≡ ink_after self.now pen colours.now (Step command) (i % self.now.choices.screen_width)
+            (i / self.now.choices.screen_width) (slice_index_or inks.old i black)) }
+    {
+        match command {
+            Command::Sixel(bits) => {
+                self.paint_columns(pen, 1, bits, &self.ink(colours, pen.selected), inks);
+            }
+            Command::Repeat { count, bits } => {
+                let columns = self.columns_of(count);
+                self.paint_columns(pen, columns, bits, &self.ink(colours, pen.selected), inks);
+            }
+            Command::Raster {
+                pan: _,
+                pad: _,
+                width,
+                height,
+            } => {
+                if let Ground::Filled(register) = self.choices.ground {
+                    self.paint_box(width, height, &self.ink(colours, register), inks);
+                }
+            }
+            _ => {}
+        }
+    }
+}
+
+/// The register that the command selects, where a definition selects or doesn't.
+fn selected_by(selects: bool, command: Command) -> Option<u16>
+    ensures { result ≡ (if selects then named_by else select_of) (Step command) }
+{
+    match command {
+        Command::Select(register) => Some(register),
+        Command::Define {
+            register,
+            system: _,
+            x: _,
+            y: _,
+            z: _,
+        } => selects.then_some(register),
+        _ => None,
+    }
+}
