@@ -1,21 +1,23 @@
 -- What any run owes: a task gives one text and answer, and where the flush fails a front of the text was written.
-use Rattle.std.proofs.Common.{◌≡◌, ◌∙◌, ℕ, List, [], ◌++◌, take, Option, Some, None, refl, sym, ap, subst, inl, inr}
+use Rattle.std.proofs.Common.{◌≡◌, ◌∙◌, ℕ, List, [], take, Option, Some, None, refl, sym, ap, subst, inl, inr}
 use Rattle.std.specs.Prelude.{Result, Ok, Err, IfSome}
-use Rattle.std.specs.Io.KnownBytes.{Keeps}
+use Rattle.std.specs.Io.KnownBytes.{Appends, Keeps}
 use Rattle.std.proofs.lemmas.List.{append-nil}
 use Rattle.sixel_grammar.specs.declared.fault.Fault.{Fault}
 use Rattle.sixel_grammar.specs.Prefix.{CompleteIn}
 use Rattle.sixel_grammar.proofs.Unique.{complete_once, document_once, fault_no_document, fault_once}
 use Rattle.sixel.specs.declared.fault.RunFault.{RunFault}
-use Rattle.sixel.specs.declared.fault.RunFault.TheVariants.{Grammar, OutOfMemory, Read, Write}
+use Rattle.sixel.specs.declared.fault.RunFault.TheVariants.{Grammar, NotRgb, OutOfMemory, Read, Write}
 use Rattle.sixel.specs.declared.task.Status.{Status}
 use Rattle.sixel.specs.declared.task.Status.TheVariants.{Done}
 use Rattle.sixel.specs.declared.task.Task.{Task}
-use Rattle.sixel.specs.declared.task.Task.TheVariants.{List as Listing}
-use Rattle.sixel.specs.Outputs.{Gives, GivesUnread, ListGives, Wrote}
+use Rattle.sixel.specs.declared.task.Task.TheVariants.{List as Listing, Show}
+use Rattle.sixel.specs.Outputs.{Gives, ListGives, ListsUnread, Wrote, WroteUnread}
+use Rattle.sixel.specs.Screens.{show_choices, show_terminal}
 use Rattle.sixel.specs.Texts.{Text, BeginsWith, list_text}
 use Rattle.sixel.proofs.Outputs.{gives-begins}
 use Rattle.sixel.proofs.Puts.{Appends-keeps}
+use Rattle.sixel.proofs.Screens.{show-gives, show-once}
 use Rattle.sixel_grammar.proofs.Total.{judged, viable_before}
 
 -- ---- lists
@@ -36,12 +38,15 @@ list-once bytes first second (Err (Grammar f)) (Err (Grammar e)) g h =
           ∙ sym h.1.2,
       ap (λ (k : Fault). Err (Grammar k)) same,
     )
+list-once bytes first second (Err NotRgb) b g h = absurd g
 list-once bytes first second (Err OutOfMemory) b g h = absurd g
 list-once bytes first second (Err Read) b g h = absurd g
 list-once bytes first second (Err Write) b g h = absurd g
+list-once bytes first second (Ok s) (Err NotRgb) g h = absurd h
 list-once bytes first second (Ok s) (Err OutOfMemory) g h = absurd h
 list-once bytes first second (Ok s) (Err Read) g h = absurd h
 list-once bytes first second (Ok s) (Err Write) g h = absurd h
+list-once bytes first second (Err (Grammar f)) (Err NotRgb) g h = absurd h
 list-once bytes first second (Err (Grammar f)) (Err OutOfMemory) g h = absurd h
 list-once bytes first second (Err (Grammar f)) (Err Read) g h = absurd h
 list-once bytes first second (Err (Grammar f)) (Err Write) g h = absurd h
@@ -55,46 +60,85 @@ list-gives bytes =
 
 -- ---- tasks
 
-gives-once : (task : Task) (bytes : List ℕ) (first second : Text) (a b : Result Status RunFault)
-    → Gives task bytes first a → Gives task bytes second b → first ≡ second
-gives-once Listing bytes first second a b g h = (list-once bytes first second a b g h).0
+pub gives-once : (task : Task) (bytes : List ℕ) (first second : Text) (a b : Result Status RunFault)
+    → Gives task bytes first a → Gives task bytes second b → (first ≡ second) × (a ≡ b)
+gives-once Listing bytes first second a b g h = list-once bytes first second a b g h
+gives-once (Show showing fill selects width height) bytes first second a b g h =
+    show-once (show_terminal (show_choices showing fill selects width height)) bytes first second a b g h
 
--- what was written before reading failed is a front of what the task gives
-unread-begins : (task : Task) (bytes given rest : List ℕ) (text whole : Text) (answer : Result Status RunFault)
-    → bytes ≡ given ++ rest → GivesUnread task given text → Gives task bytes whole answer → BeginsWith whole text
-unread-begins Listing bytes given rest text whole answer is unread gives =
-    subst (BeginsWith whole) (sym unread.1.2)
-    (gives-begins bytes given rest unread.1.0 is unread.1.1 unread.0 whole answer gives)
+pub gives : (task : Task) (bytes : List ℕ) → (text : Text) × (answer : Result Status RunFault) × Gives task bytes text answer
+gives Listing bytes = list-gives bytes
+gives (Show showing fill selects width height) bytes =
+    show-gives (show_terminal (show_choices showing fill selects width height)) bytes
 
 begins-all : (first second : Text) → first ≡ second → BeginsWith second first
 begins-all first second e = ([], sym e ∙ sym (append-nil first))
 
 -- ---- a flush that fails
 
-unflushed-run : (task : Task) (bytes : List ℕ) (left had mid has : Option (List ℕ)) (answer : Result Status RunFault)
-    → Wrote task bytes left answer had mid → Keeps mid has → Wrote task bytes left (Err Write) had has
-unflushed-run task bytes left had mid has (Ok status) w kept = (
-  w.0,
-  Appends-keeps had mid has w.0 w.2 kept,
-  λ text answer g. begins-all w.0 text
-      (gives-once task bytes w.0 text (Ok status) answer w.1 g),
-)
-unflushed-run task bytes left had mid has (Err (Grammar fault)) w kept = (
-  w.0,
-  Appends-keeps had mid has w.0 w.2 kept,
-  λ text answer g. begins-all w.0 text
-      (gives-once task bytes w.0 text (Err (Grammar fault)) answer w.1 g),
-)
-unflushed-run task bytes left had mid has (Err OutOfMemory) w kept =
-    ([], Appends-keeps had mid has [] w kept, λ text answer g. (text, refl))
-unflushed-run task bytes None had mid has (Err Read) w kept = absurd w.2
-unflushed-run task bytes (Some rest) had mid has (Err Read) w kept = (
+-- what was written before reading failed is a front of what a list gives
+unflushed-list : (bytes : List ℕ) (left had mid has : Option (List ℕ)) → ListsUnread bytes left had mid → Keeps mid has
+    → Wrote Listing bytes left (Err Write) had has
+unflushed-list bytes None had mid has w kept = absurd w.2
+unflushed-list bytes (Some rest) had mid has w kept = (
   w.1,
   Appends-keeps had mid has w.1 w.4 kept,
-  λ text answer g. unread-begins task bytes w.0 rest w.1 text answer
-      w.2 w.3 g,
+  λ text answer g. subst (BeginsWith text) (sym w.3.1.2)
+      (gives-begins bytes w.0 rest w.3.1.0 w.2 w.3.1.1 w.3.0 text answer g),
 )
+
+unflushed-unread : (task : Task) (bytes : List ℕ) (left had mid has : Option (List ℕ))
+    → WroteUnread task bytes left had mid → Keeps mid has → Wrote task bytes left (Err Write) had has
+unflushed-unread Listing bytes left had mid has w kept = unflushed-list bytes left had mid has w kept
+unflushed-unread (Show showing fill selects width height) bytes left had mid has w kept =
+    ([], Appends-keeps had mid has [] w kept, λ text answer g. (text, refl))
+
+unflushed-text : (task : Task) (bytes : List ℕ) (left had mid has : Option (List ℕ)) (answer : Result Status RunFault)
+    (text : Text) → Gives task bytes text answer → Appends had mid text → Keeps mid has
+    → Wrote task bytes left (Err Write) had has
+unflushed-text task bytes left had mid has answer text g put kept = (
+  text,
+  Appends-keeps had mid has text put kept,
+  λ other answers h. begins-all text other (gives-once task bytes text other answer answers g h).0,
+)
+
+unflushed-run : (task : Task) (bytes : List ℕ) (left had mid has : Option (List ℕ)) (answer : Result Status RunFault)
+    → Wrote task bytes left answer had mid → Keeps mid has → Wrote task bytes left (Err Write) had has
+unflushed-run task bytes left had mid has (Ok status) w kept =
+    unflushed-text task bytes left had mid has (Ok status) w.0 w.1 w.2 kept
+unflushed-run task bytes left had mid has (Err (Grammar fault)) w kept =
+    unflushed-text task bytes left had mid has (Err (Grammar fault)) w.0 w.1 w.2 kept
+unflushed-run task bytes left had mid has (Err NotRgb) w kept =
+    unflushed-text task bytes left had mid has (Err NotRgb) w.0 w.1 w.2 kept
+unflushed-run task bytes left had mid has (Err OutOfMemory) w kept =
+    ([], Appends-keeps had mid has [] w kept, λ text answer g. (text, refl))
+unflushed-run task bytes left had mid has (Err Read) w kept = unflushed-unread task bytes left had mid has w kept
 unflushed-run task bytes left had mid has (Err Write) w kept = (w.0, Appends-keeps had mid has w.0 w.1 kept, w.2)
+
+-- ---- a flush that succeeds
+
+flushed-unread : (task : Task) (bytes : List ℕ) (left had mid has : Option (List ℕ))
+    → WroteUnread task bytes left had mid → Keeps mid has → WroteUnread task bytes left had has
+flushed-unread Listing bytes left had mid has w kept =
+    (w.0, w.1, w.2, w.3, Appends-keeps had mid has w.1 w.4 kept)
+flushed-unread (Show showing fill selects width height) bytes left had mid has w kept =
+    Appends-keeps had mid has [] w kept
+
+flushed-run : (task : Task) (bytes : List ℕ) (left had mid has : Option (List ℕ)) (answer : Result Status RunFault)
+    → Wrote task bytes left answer had mid → Keeps mid has → Wrote task bytes left answer had has
+flushed-run task bytes left had mid has (Ok status) w kept = (w.0, w.1, Appends-keeps had mid has w.0 w.2 kept)
+flushed-run task bytes left had mid has (Err (Grammar fault)) w kept =
+    (w.0, w.1, Appends-keeps had mid has w.0 w.2 kept)
+flushed-run task bytes left had mid has (Err NotRgb) w kept = (w.0, w.1, Appends-keeps had mid has w.0 w.2 kept)
+flushed-run task bytes left had mid has (Err OutOfMemory) w kept = Appends-keeps had mid has [] w kept
+flushed-run task bytes left had mid has (Err Read) w kept = flushed-unread task bytes left had mid has w kept
+flushed-run task bytes left had mid has (Err Write) w kept = (w.0, Appends-keeps had mid has w.0 w.1 kept, w.2)
+
+pub flushed : (task : Task) (a left had mid has : Option (List ℕ)) (answer : Result Status RunFault)
+    → IfSome a (λ (bytes : List ℕ). Wrote task bytes left answer had mid) → Keeps mid has
+    → IfSome a (λ (bytes : List ℕ). Wrote task bytes left answer had has)
+flushed task None left had mid has answer w kept = tt
+flushed task (Some bytes) left had mid has answer w kept = flushed-run task bytes left had mid has answer w kept
 
 pub unflushed : (task : Task) (a left had mid has : Option (List ℕ)) (answer : Result Status RunFault)
     → IfSome a (λ (bytes : List ℕ). Wrote task bytes left answer had mid) → Keeps mid has

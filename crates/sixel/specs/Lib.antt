@@ -1,4 +1,6 @@
 pub mod Texts
+pub mod Conversions
+pub mod Screens
 pub mod Outputs
 pub mod Feeding
 pub mod Words

@@ -1,17 +1,21 @@
 -- What a run writes and answers.
-use Rattle.std.specs.Prelude.{◌≡◌, ◌⊎◌, ℕ, List, [], ◌≤◌, length, take, Option, Some, Result, Ok, Err}
+use Rattle.std.specs.Prelude.{◌≡◌, ◌⊎◌, ℕ, List, [], ◌≤◌, length, take, Option, Some, IsTrue, IsFalse, Result, Ok, Err}
 use Rattle.std.specs.Io.KnownBytes.{Appends, Consumes}
 use Rattle.sixel_grammar.specs.declared.command.Placed.{Placed}
 use Rattle.sixel_grammar.specs.Devices.{one_more}
-use Rattle.sixel_grammar.specs.Document.{Document, most_bytes}
+use Rattle.sixel_grammar.specs.Document.{Document, events_of, most_bytes}
 use Rattle.sixel_grammar.specs.Prefix.{CompleteIn}
 use Rattle.sixel_grammar.specs.Faults.{IsFaultOf}
+use Rattle.sixel_picture.specs.Ppm.{are_rgb, is_file_side}
+use Rattle.sixel_terminal.specs.Displays.{Display}
+use Rattle.sixel_terminal.specs.Drawing.{screen_on}
 use Rattle.sixel.specs.declared.fault.RunFault.{RunFault}
-use Rattle.sixel.specs.declared.fault.RunFault.TheVariants.{Grammar, OutOfMemory, Read, Write}
+use Rattle.sixel.specs.declared.fault.RunFault.TheVariants.{Grammar, NotRgb, OutOfMemory, Read, Write}
 use Rattle.sixel.specs.declared.task.Status.{Status}
 use Rattle.sixel.specs.declared.task.Status.TheVariants.{Done}
 use Rattle.sixel.specs.declared.task.Task.{Task}
-use Rattle.sixel.specs.declared.task.Task.TheVariants.{List as Listing}
+use Rattle.sixel.specs.declared.task.Task.TheVariants.{List as Listing, Show}
+use Rattle.sixel.specs.Screens.{screen_text, show_choices, show_terminal}
 use Rattle.sixel.specs.Texts.{Text, BeginsWith, list_text}
 
 -- ---- lists
@@ -25,38 +29,79 @@ abbrev pub ListGives : List ℕ → Text → Result Status RunFault → Type 0
 ListGives bytes text (Ok status) = (status ≡ Done)
     × ((events : List Placed) × Document events bytes × (text ≡ list_text events))
 ListGives bytes text (Err (Grammar fault)) = IsFaultOf bytes fault × ListsFront (take fault.place bytes) text
+ListGives bytes text (Err NotRgb) = ⊥
 ListGives bytes text (Err OutOfMemory) = ⊥
 ListGives bytes text (Err Read) = ⊥
 ListGives bytes text (Err Write) = ⊥
 
+-- the lines of the events complete in the bytes that were given, which are those before `left` and in which no fault was
+-- met
+abbrev pub ListsUnread : List ℕ → Option (List ℕ) → Option (List ℕ) → Option (List ℕ) → Type 0
+ListsUnread bytes left had has =
+    (given : List ℕ) × (text : Text) × Consumes (Some bytes) left given
+    × ((length given ≤ most_bytes) × ListsFront given text) × Appends had has text
+
+-- ---- screens
+
+-- the picture file of what the terminal shows after a document, if all its colours are of red, green and blue
+-- of other bytes their fault, and nothing is written
+abbrev pub ShowGives : Display → List ℕ → Text → Result Status RunFault → Type 0
+ShowGives t bytes text (Ok status) = (status ≡ Done)
+    × ((events : List Placed) × Document events bytes × IsTrue (are_rgb (screen_on t (events_of events)))
+    × (text ≡ screen_text t (events_of events)))
+ShowGives t bytes text (Err NotRgb) = (text ≡ [])
+    × ((events : List Placed) × Document events bytes × IsFalse (are_rgb (screen_on t (events_of events))))
+ShowGives t bytes text (Err (Grammar fault)) = (text ≡ []) × IsFaultOf bytes fault
+ShowGives t bytes text (Err OutOfMemory) = ⊥
+ShowGives t bytes text (Err Read) = ⊥
+ShowGives t bytes text (Err Write) = ⊥
+
 -- ---- tasks
+
+-- the sides of a screen to show are in range
+abbrev pub HasSides : Task → Type 0
+HasSides Listing = Unit {0}
+HasSides (Show showing fill selects width height) = IsTrue (is_file_side width) × IsTrue (is_file_side height)
 
 -- what a task writes for these bytes, and its answer, where memory is ample and no device fails
 abbrev pub Gives : Task → List ℕ → Text → Result Status RunFault → Type 0
 Gives Listing bytes text answer = ListGives bytes text answer
+Gives (Show showing fill selects width height) bytes text answer =
+    ShowGives (show_terminal (show_choices showing fill selects width height)) bytes text answer
 
--- what a task has written when reading fails after these bytes, in which no fault was met
-abbrev pub GivesUnread : Task → List ℕ → Text → Type 0
-GivesUnread Listing given text = (length given ≤ most_bytes) × ListsFront given text
+-- nothing was appended to what the sink `had`
+abbrev pub WroteNothing : Option (List ℕ) → Option (List ℕ) → Type 0
+WroteNothing had has = Appends had has []
+
+-- what a task has written to what the sink `had` when reading these bytes fails before `left`
+abbrev pub WroteUnread : Task → List ℕ → Option (List ℕ) → Option (List ℕ) → Option (List ℕ) → Type 0
+WroteUnread Listing bytes left had has = ListsUnread bytes left had has
+WroteUnread (Show showing fill selects width height) bytes left had has = WroteNothing had has
 
 -- the task may be refused for want of memory
 abbrev pub TakesMemory : Task → Type 0
 TakesMemory Listing = ⊥
+TakesMemory (Show showing fill selects width height) = Unit {0}
 
--- a run over these bytes, of which `left` are left to give, appended this to what the sink `had` and answered so
+-- a run that answered so appended to what the sink `had` the text that is given with the answer, or on `Write` a front of
+-- what is given, or on `Read` what `unread` says, or for want of memory nothing
+abbrev pub WroteBy : (Text → Result Status RunFault → Type 0) → (Option (List ℕ) → Option (List ℕ) → Type 0)
+    → Result Status RunFault → Option (List ℕ) → Option (List ℕ) → Type 0
+WroteBy gives unread (Ok status) had has = (text : Text) × gives text (Ok status) × Appends had has text
+WroteBy gives unread (Err (Grammar fault)) had has =
+    (text : Text) × gives text (Err (Grammar fault)) × Appends had has text
+WroteBy gives unread (Err NotRgb) had has = (text : Text) × gives text (Err NotRgb) × Appends had has text
+WroteBy gives unread (Err OutOfMemory) had has = WroteNothing had has
+WroteBy gives unread (Err Read) had has = unread had has
+WroteBy gives unread (Err Write) had has =
+    (part : Text) × Appends had has part
+    × ((text : Text) (answer : Result Status RunFault) → gives text answer → BeginsWith text part)
+
+-- a run of the task over these bytes, of which `left` are left to give, appended this to what the sink `had` and answered
+-- so
 abbrev pub Wrote : Task → List ℕ → Option (List ℕ)
     → Result Status RunFault → Option (List ℕ) → Option (List ℕ) → Type 0
-Wrote task bytes left (Ok status) had has = (text : Text) × Gives task bytes text (Ok status) × Appends had has text
-Wrote task bytes left (Err (Grammar fault)) had has =
-    (text : Text) × Gives task bytes text (Err (Grammar fault)) × Appends had has text
-Wrote task bytes left (Err OutOfMemory) had has = Appends had has []
--- the bytes that were given are those before `left`
-Wrote task bytes left (Err Read) had has =
-    (given : List ℕ) × (text : Text) × Consumes (Some bytes) left given × GivesUnread task given text × Appends had has text
--- a front of what the task gives
-Wrote task bytes left (Err Write) had has =
-    (part : Text) × Appends had has part
-    × ((text : Text) (answer : Result Status RunFault) → Gives task bytes text answer → BeginsWith text part)
+Wrote task bytes left answer had has = WroteBy (Gives task bytes) (WroteUnread task bytes left) answer had has
 
 -- ---- failures of devices
 

@@ -8,7 +8,7 @@ use Rattle.sixel_grammar.specs.declared.command.Placed.{Placed}
 use Rattle.sixel_grammar.specs.declared.fault.Reason.{Reason}
 use Rattle.sixel_grammar.specs.declared.fault.Reason.TheVariants.{NotSixel, BadByte, NumberTooLarge, FieldCount, BadRepeat, BadTerminator, Truncated, TooLong, Trailing}
 use Rattle.sixel.specs.declared.fault.RunFault.{RunFault}
-use Rattle.sixel.specs.declared.fault.RunFault.TheVariants.{Grammar, OutOfMemory, Read, Write}
+use Rattle.sixel.specs.declared.fault.RunFault.TheVariants.{Grammar, NotRgb, OutOfMemory, Read, Write}
 
 abbrev pub Text : Type 0
 Text = List ℕ
@@ -73,6 +73,7 @@ reason_name Trailing = codes "Trailing"
 
 abbrev pub fault_parts : RunFault → List Text
 fault_parts (Grammar fault) = reason_name fault.reason ∷ codes "at" ∷ decimal fault.place ∷ []
+fault_parts NotRgb = codes "NotRgb" ∷ []
 fault_parts OutOfMemory = codes "out of memory" ∷ []
 fault_parts Read = codes "read failed" ∷ []
 fault_parts Write = codes "write failed" ∷ []

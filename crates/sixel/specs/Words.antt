@@ -1,8 +1,13 @@
 -- The command line: what the words say, over the matches that `clap` states.
-use Rattle.std.specs.Prelude.{◌≡◌, ◌≢◌, ◌⊎◌, List, Some, true, codes, ⊤}
-use Rattle.clap.specs.Simple.{App, new_app, on_top, subcommand_of, with_subcommand}
+use Rattle.std.specs.Prelude.{◌≡◌, ◌≢◌, ◌⊎◌, ◌≤◌, ℕ, Bool, false, true, List, [], ◌∷◌, Some, codes, pos, ⊤}
+use Rattle.std.specs.Option.{option_map_or}
+use Rattle.std.specs.Str.{bytes_eq}
+use Rattle.std.specs.Str.Parse.{IsNumeral, digits_value, without_leading_plus}
+use Rattle.clap.specs.Simple.{App, new_app, new_rule, on_top, subcommand_of, with_rule, with_subcommand}
 use Rattle.clap.specs.Values.{kind_of}
-use Rattle.clap.specs.Walk.{Row, Text}
+use Rattle.clap.specs.Walk.{Row, Rule, Text, first_of, one_of}
+use Rattle.clap.specs.declared.builder.action.ArgAction.TheVariants.{SetTrue}
+use Rattle.clap.specs.declared.builder.value_parser.ValueParser.TheVariants as parser
 use Rattle.clap.specs.declared.error.kind.ErrorKind.TheVariants as kind
 use Rattle.sixel.specs.declared.task.Task.{Task}
 use Rattle.sixel.specs.declared.task.Task.TheVariants as task
@@ -15,15 +20,62 @@ use Rattle.sixel.specs.declared.words.WordsFault.TheVariants as fault
 abbrev pub with_plain : App → Text → App
 with_plain a name = with_subcommand a (new_app name).top
 
+-- `--name`, which takes no value
+abbrev pub flag : Text → Rule
+flag name = record (new_rule name) { long = Some name; action = Some SetTrue }
+
+-- `--name N`, a number from 1 to 4,096, which is `fallback` where the option isn't given
+abbrev pub side : Text → Text → Rule
+side name fallback = record (new_rule name) {
+  long = Some name;
+  value_names = 1;
+  defaults = fallback ∷ [];
+  parser = Some (parser.Signed (pos 1) (pos 4096));
+}
+
+-- `show`
+abbrev pub show_app : App
+show_app =
+    with_rule (with_rule (with_rule (with_rule (with_rule (new_app (codes "show"))
+    (flag (codes "showing")))
+    (flag (codes "fill")))
+    (flag (codes "define-selects")))
+    (side (codes "width") (codes "800")))
+    (side (codes "height") (codes "480"))
+
 -- `sixel`, which wants a subcommand
 abbrev pub sixel_app : App
-sixel_app = with_plain (on_top (λ s. record s { subcommand_required = true }) (new_app (codes "sixel"))) (codes "list")
+sixel_app =
+    with_subcommand
+    (with_plain (on_top (λ s. record s { subcommand_required = true }) (new_app (codes "sixel"))) (codes "list"))
+    show_app.top
 
 -- ---- the task
+
+-- the flag was given
+abbrev pub is_given : Text → List Row → Bool
+is_given name rows = option_map_or (λ text. bytes_eq text (codes "true")) (first_of name rows) false
+
+-- the text is a number from 1 to 4,096, in decimal digits after perhaps a plus
+pub record IsSideText (text : Text) (n : ℕ) : Type 0 where
+  pub numeral : IsNumeral 10 (without_leading_plus text)
+  pub value : digits_value 10 (without_leading_plus text) ≡ n
+  pub least : 1 ≤ n
+  pub most : n ≤ 4096
+
+-- the option's entry is this number from 1 to 4,096
+abbrev pub HasSide : Text → List Row → ℕ → Type 0
+HasSide name rows n = (text : Text) × (one_of name rows ≡ Some text) × IsSideText text n
 
 -- the task of a subcommand's name and of its options' entries
 abbrev pub IsTask : Text → List Row → Task → Type 0
 IsTask name rows task.List = name ≡ codes "list"
+IsTask name rows (task.Show showing fill selects width height) = (name ≡ codes "show")
+    × (is_given (codes "showing") rows ≡ showing)
+    × (is_given (codes "fill") rows ≡ fill)
+    × (is_given (codes "define-selects") rows ≡ selects)
+    × HasSide (codes "width") rows width
+    × HasSide (codes "height") rows height
 
 -- the task that the words give, of which the first is the program's name
 abbrev pub IsTaskOf : List Text → Task → Type 0

@@ -1,6 +1,8 @@
 //! Why a run is refused.
 
-use sixel_grammar::Fault;
+use sixel_grammar::{Fault, InputFault};
+use sixel_picture::PpmFault;
+use std::alloc::AllocError;
 use thiserror::Error;
 
 /// Why a run gave no result. Its `Display` is the variant's name; the line that the program prints is that of
@@ -10,6 +12,9 @@ pub enum RunFault {
     /// The input is no document: why, and after how many bytes.
     #[error("Grammar")]
     Grammar(Fault),
+    /// A pixel's colour is one of hue, lightness and saturation, which a PPM has no place for. Nothing was written.
+    #[error("NotRgb")]
+    NotRgb,
     #[error("OutOfMemory")]
     OutOfMemory,
     /// The input could not be read.
@@ -18,4 +23,44 @@ pub enum RunFault {
     /// The output could not be written or flushed; a front of it was written.
     #[error("Write")]
     Write,
+}
+
+impl From<InputFault> for RunFault {
+    ghost use Rattle.std.specs.Prelude.{◌≡◌};
+    ghost use Rattle.sixel.specs.Conversions.{of_input};
+
+    ghost from_gives = { λ fault result. result ≡ of_input fault };
+
+    fn from(fault: InputFault) -> RunFault {
+        match fault {
+            InputFault::Grammar(fault) => RunFault::Grammar(fault),
+            InputFault::OutOfMemory => RunFault::OutOfMemory,
+            InputFault::Read => RunFault::Read,
+        }
+    }
+}
+
+impl From<PpmFault> for RunFault {
+    ghost use Rattle.std.specs.Prelude.{◌≡◌};
+    ghost use Rattle.sixel.specs.Conversions.{of_ppm};
+
+    ghost from_gives = { λ fault result. result ≡ of_ppm fault };
+
+    fn from(fault: PpmFault) -> RunFault {
+        match fault {
+            PpmFault::NotRgb => RunFault::NotRgb,
+            PpmFault::Write => RunFault::Write,
+        }
+    }
+}
+
+impl From<AllocError> for RunFault {
+    ghost use Rattle.std.specs.Prelude.{◌≡◌};
+    ghost use Rattle.sixel.specs.declared.fault.RunFault.TheVariants.{OutOfMemory};
+
+    ghost from_gives = { λ fault result. result ≡ OutOfMemory };
+
+    fn from(_: AllocError) -> RunFault {
+        RunFault::OutOfMemory
+    }
 }

@@ -155,6 +155,7 @@ fn fault_line(fault: &RunFault) -> Line
             push_all(&mut line, b" at");
             push_number(&mut line, fault.place);
         }
+        RunFault::NotRgb => push_all(&mut line, b"NotRgb"),
         RunFault::OutOfMemory => push_all(&mut line, b"out of memory"),
         RunFault::Read => push_all(&mut line, b"read failed"),
         RunFault::Write => push_all(&mut line, b"write failed"),

@@ -1,9 +1,9 @@
 //! The program `sixel`: reads a sixel picture from standard input and says what it is.
 #![tactic(auto)]
 
-ghost use Rattle.std.specs.Prelude.{◌≡◌, ◌≢◌, IfErr, IfSome, Ok};
+ghost use Rattle.std.specs.Prelude.{◌≡◌, ◌≢◌, IfErr, IfOk, IfSome, Ok};
 ghost use Rattle.sixel.specs.Exits.{exit_for_answer, exit_for_words};
-ghost use Rattle.sixel.specs.Outputs.{Gives};
+ghost use Rattle.sixel.specs.Outputs.{Gives, HasSides};
 ghost use Rattle.sixel.specs.Texts.{Text};
 ghost use Rattle.sixel.specs.Words.{IsSortedOut};
 
@@ -46,7 +46,8 @@ fn main(rt: HostRuntime) -> ExitCode {
 
 /// The task that the program's arguments name.
 fn asked_task<R: Env + AllocGlobal>(rt: &R) -> Result<Task, WordsFault>
-    ensures { IfErr result IsSortedOut }
+    ensures fault { IfErr result IsSortedOut }
+    ensures sides { IfOk result HasSides }
 {
     let arguments = match env::args(rt) {
         Ok(arguments) => arguments,
@@ -67,6 +68,7 @@ fn execute<R: Read + Drop, W: Write + Drop, E: Write + Drop>(
     output: W,
     errors: E,
 ) -> Exit
+    requires { HasSides task }
     ensures done { result ≡ Exit.Done → IfSome (R.remaining input) (λ bytes.
         (text : Text) × Gives task bytes text (Ok Status.Done)) }
     ensures no_usage { result ≢ Exit.Usage }

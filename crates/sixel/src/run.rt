@@ -1,9 +1,10 @@
 //! Runs a task from a source to a sink. Each task has a file of its own, and `run` flushes after all of them.
 
 ghost use Rattle.std.specs.Prelude.{◌≡◌, ◌≢◌, Err, IfSome, true};
-ghost use Rattle.sixel.specs.Outputs.{CountsReads, CountsWrites, TakesMemory, Wrote, failures_by};
+ghost use Rattle.sixel.specs.Outputs.{CountsReads, CountsWrites, HasSides, TakesMemory, Wrote, failures_by};
 
 mod list;
+mod show;
 
 use crate::fault::RunFault;
 use crate::task::{Status, Task};
@@ -13,13 +14,15 @@ use std::alloc::Global;
 /// Runs a task: reads the input as far as the task wants it, writes what it gives, and flushes once at the end.
 ///
 /// The output is written in blocks, and what a piece of input completed is written before the next is read. A device
-/// that failed isn't called again; where both failed, the answer is `Write`.
+/// that failed isn't called again; where both failed, the answer is `Write`. The sides of a screen to show are from 1 to
+/// 4,096 pixels.
 pub fn run<S: Source, K: Sink>(
     alloc: Global,
     task: Task,
     input: &mut S,
     output: &mut K,
 ) -> Result<Status, RunFault>
+    requires { HasSides task }
     ensures wrote { IfSome (S.remaining input.old) (λ bytes.
         Wrote task bytes (S.remaining input.new) result (K.taken output.old) (K.taken output.new)) }
     ensures memory { result ≡ Err RunFault.OutOfMemory → TakesMemory task }
@@ -44,15 +47,25 @@ fn perform<S: Source, K: Sink>(
     input: &mut S,
     output: &mut K,
 ) -> Result<Status, RunFault>
+    requires { HasSides task }
     ensures wrote { IfSome (S.remaining input.old) (λ bytes.
         Wrote task bytes (S.remaining input.new) result (K.taken output.old) (K.taken output.new)) }
     ensures memory { result ≡ Err RunFault.OutOfMemory → TakesMemory task }
     ensures reads { S.failure_count input.new ≡ failures_by RunFault.Read result (S.failure_count input.old) }
     ensures writes { CountsWrites result (K.failure_count output.old) (K.failure_count output.new) }
 {
-    let _ = alloc;
     match task {
         Task::List => list::list(input, output),
+        Task::Show {
+            showing,
+            fill,
+            selects,
+            width,
+            height,
+        } => {
+            let choices = show::show_choices(showing, fill, selects, width, height);
+            show::show(alloc, choices, input, output)
+        }
     }
 }
 

@@ -6,6 +6,20 @@ pub enum Task {
     /// A line for each event of a sixel picture (DEC EK-VT3XX-GP, volume 2, the chapter on sixel graphics): its place in
     /// bytes, what it is, and its numbers.
     List,
+    /// The screen of one terminal of 16 registers after a sixel picture, written as a PPM of Netpbm. Register n starts as
+    /// the grey of 6n percent, the screen is white, and the picture begins at its top left.
+    Show {
+        /// A pixel shows the colour that its register has at the end of the string, not at its painting.
+        showing: bool,
+        /// Raster attributes fill their box with register 0.
+        fill: bool,
+        /// A definition of a register also selects it.
+        selects: bool,
+        /// The width of the screen in pixels, from 1 to 4,096.
+        width: u32,
+        /// Its height, likewise.
+        height: u32,
+    },
 }
 
 /// What came of a task that was not refused.

@@ -1,19 +1,24 @@
+ghost use Rattle.sixel.specs.Outputs.{HasSides};
+
 use crate::task::Task;
 use crate::words::{WordsFault, parse_words, usage};
 use crate::{Exit, execute, explain};
 use std::test::Fail;
 
-/// How a list of the bytes ends, and what it writes to standard output and to standard error.
+/// How a task on the bytes ends, and what it writes to standard output and to standard error.
 fn ends(
     rt: &HostRuntime,
+    task: Task,
     bytes: &[u8],
     exit: Exit,
     written: &str,
     said: &str,
-) -> Result<bool, Fail> {
+) -> Result<bool, Fail>
+    requires { HasSides task }
+{
     let mut output = Vec::new(rt.alloc());
     let mut errors = Vec::new(rt.alloc());
-    let ended = execute(rt.alloc(), Task::List, bytes, &mut output, &mut errors);
+    let ended = execute(rt.alloc(), task, bytes, &mut output, &mut errors);
     Ok(
         ended == exit
             && output.as_slice() == written.as_bytes()
@@ -26,6 +31,7 @@ fn ends_by_what_came_of_the_task(rt: HostRuntime) -> Result<(), Fail> {
     assert!(rt;
         ends(
             &rt,
+            Task::List,
             b"\x1bPq\x1b\\",
             Exit::Done,
             "0 start 7bit 0\n3 end 7bit\n",
@@ -35,10 +41,28 @@ fn ends_by_what_came_of_the_task(rt: HostRuntime) -> Result<(), Fail> {
     assert!(rt;
         ends(
             &rt,
+            Task::List,
             b"\x1bPq!65536~",
             Exit::Refused,
             "0 start 7bit 0\n",
             "sixel: NumberTooLarge at 8\n"
+        )?
+    );
+    let pixel = Task::Show {
+        showing: false,
+        fill: false,
+        selects: false,
+        width: 1,
+        height: 1,
+    };
+    assert!(rt;
+        ends(
+            &rt,
+            pixel,
+            b"\x1bPq#0;1;360;50;100#0@\x1b\\",
+            Exit::Refused,
+            "",
+            "sixel: NotRgb\n"
         )?
     );
     Ok(())

@@ -1,18 +1,21 @@
 //! The words of the command line.
 
-ghost use Rattle.std.specs.Prelude.{◌≡◌, IfOk, IfErr, IfSome, IsNone, codes, map, true};
-ghost use Rattle.clap.specs.Walk.{rows_of};
+ghost use Rattle.std.specs.Prelude.{◌≡◌, ◌≤◌, ◌↔◌, ℕ, IfOk, IfErr, IfSome, IsNone, IsTrue, codes, false, map, true};
+ghost use Rattle.clap.specs.Walk.{rows_of, rule_of};
 ghost use Rattle.clap.specs.Values.{kind_of};
 ghost use Rattle.clap.specs.Simple.{app_of};
+ghost use Rattle.clap.specs.declared.builder.command.Command.TheViews.{out-Command as fields_of};
 ghost use Rattle.clap.specs.Matches.{found_of};
 ghost use Rattle.clap.specs.Takes.{takes};
 ghost use Rattle.std.specs.String.{string_bytes};
 ghost use Rattle.sixel.specs.declared.task.Task.{Task as ATask};
-ghost use Rattle.sixel.specs.Words.{IsRefusal, IsSortedOut, IsTask, IsTaskOf, sixel_app, with_plain};
+ghost use Rattle.sixel.specs.Outputs.{HasSides};
+ghost use Rattle.sixel.specs.Words.{HasSide, IsRefusal, IsSortedOut, IsTask, IsTaskOf, flag, is_given, show_app, side};
+ghost use Rattle.sixel.specs.Words.{sixel_app, with_plain};
 
 use crate::task::Task;
 use clap::error::ErrorKind;
-use clap::{ArgMatches, Command, Error};
+use clap::{Arg, ArgAction, ArgMatches, Command, Error};
 use std::alloc::{AllocError, Global};
 
 /// Why words give no task. `Usage` and `Help` hold the text to show, which ends with a line feed.
@@ -29,6 +32,7 @@ pub enum WordsFault {
 /// these words.
 pub fn parse_words(alloc: Global, words: &[String]) -> Result<Task, WordsFault>
     ensures task { IfOk result (IsTaskOf (map string_bytes words.now)) }
+    ensures sides { IfOk result HasSides }
     ensures fault { IfErr result IsSortedOut }
     ensures accepted { IfErr result (λ fault. takes sixel_app (map string_bytes words.now) ≡ true →
         (t : ATask) → IsTaskOf (map string_bytes words.now) t → fault ≡ WordsFault.OutOfMemory) }
@@ -82,7 +86,68 @@ fn sixel_command<'a>(alloc: Global) -> Result<Command<'a>, AllocError>
         "list",
         "Lists what the picture says, a line for each command",
     )?;
-    Ok(command)
+    command.subcommand(show_command(alloc)?)
+}
+
+/// `show`, which has five options.
+fn show_command<'a>(alloc: Global) -> Result<Command<'a>, AllocError>
+    ensures app { IfOk result (λ c. app_of c ≡ show_app) }
+    ensures local { IfOk result (λ c. (fields_of c).has_globals ≡ false) }
+{
+    let showing = flag_arg(
+        alloc,
+        "showing",
+        "Give each pixel the last colour of its register",
+    );
+    let fill = flag_arg(alloc, "fill", "Fill the declared box with register 0");
+    let selects = flag_arg(
+        alloc,
+        "define-selects",
+        "Let a definition select its register",
+    );
+    let width = side_arg(
+        alloc,
+        "width",
+        "800",
+        "The width of the screen in pixels, 1 to 4096",
+    );
+    let height = side_arg(
+        alloc,
+        "height",
+        "480",
+        "The height of the screen in pixels, 1 to 4096",
+    );
+    Command::new(alloc, "show")
+        .about("Draws the picture as one terminal would, and writes its screen as a PPM")
+        .arg(showing)?
+        .arg(fill)?
+        .arg(selects)?
+        .arg(width)?
+        .arg(height)
+}
+
+/// `--name`, which takes no value.
+fn flag_arg<'a>(alloc: Global, name: &'a str, help: &'a str) -> Arg<'a>
+    ensures rule { rule_of result ≡ flag name.entry.now }
+    ensures local { result.global ≡ false }
+{
+    Arg::new(alloc, name)
+        .long(name)
+        .action(ArgAction::SetTrue)
+        .help(help)
+}
+
+/// `--name N`, with a number to take where the option isn't given.
+fn side_arg<'a>(alloc: Global, name: &'a str, fallback: &'a str, help: &'a str) -> Arg<'a>
+    ensures rule { rule_of result ≡ side name.entry.now fallback.entry.now }
+    ensures local { result.global ≡ false }
+{
+    Arg::new(alloc, name)
+        .long(name)
+        .value_name("N")
+        .value_parser(clap::value_parser!(u32).range(1..=4096))
+        .default_value(fallback)
+        .help(help)
 }
 
 /// The command with one subcommand more, which has no options.
@@ -100,13 +165,60 @@ fn with_plain_command<'a>(
 /// The task of a subcommand.
 fn task_of(name: &str, matches: &ArgMatches<'_>) -> Option<Task>
     ensures task { IfSome result (IsTask name.now (rows_of (found_of matches.now))) }
+    ensures sides { IfSome result HasSides }
     ensures none { IsNone result → (t : ATask) → IsTask name.now (rows_of (found_of matches.now)) t → ⊥ }
 {
-    let _ = matches;
     match name {
         "list" => Some(Task::List),
+        "show" => show_task(matches),
         _ => None,
     }
+}
+
+/// The task of `show` with these options.
+fn show_task(matches: &ArgMatches<'_>) -> Option<Task>
+    ensures task { IfSome result (IsTask (codes "show") (rows_of (found_of matches.now))) }
+    ensures sides { IfSome result HasSides }
+    ensures none { IsNone result → (t : ATask) → IsTask (codes "show") (rows_of (found_of matches.now)) t → ⊥ }
+{
+    match (side_of(matches, "width"), side_of(matches, "height")) {
+        (Some(width), Some(height)) => Some(Task::Show {
+            showing: flag_of(matches, "showing"),
+            fill: flag_of(matches, "fill"),
+            selects: flag_of(matches, "define-selects"),
+            width,
+            height,
+        }),
+        _ => None,
+    }
+}
+
+/// Whether the flag was given.
+fn flag_of(matches: &ArgMatches<'_>, name: &str) -> bool
+    ensures { is_given name.now (rows_of (found_of matches.now)) ≡ result }
+{
+    match matches.get_str(name) {
+        Some(text) => text == "true",
+        None => false,
+    }
+}
+
+/// The number of an option. The parser lets none through that is out of range; what it states of the options of a
+/// subcommand doesn't say so.
+fn side_of(matches: &ArgMatches<'_>, name: &str) -> Option<u32>
+    ensures some { IfSome result (HasSide name.now (rows_of (found_of matches.now))) }
+    ensures none { IsNone result → (n : ℕ) → HasSide name.now (rows_of (found_of matches.now)) n → ⊥ }
+{
+    match matches.get_one::<u32>(name) {
+        Some(number) if is_side(number) => Some(number),
+        _ => None,
+    }
+}
+
+fn is_side(number: u32) -> bool
+    ensures { IsTrue result ↔ (1 ≤ number) × (number ≤ 4096) }
+{
+    number >= 1 && number <= 4096
 }
 
 fn sorted_out(error: Error) -> WordsFault

@@ -12,6 +12,7 @@ const GRAMMAR: RunFault = RunFault::Grammar(Fault {
 fn writes_the_line_of_each_fault(rt: HostRuntime) {
     let rows = [
         (GRAMMAR, "sixel: NumberTooLarge at 268435456\n"),
+        (RunFault::NotRgb, "sixel: NotRgb\n"),
         (RunFault::OutOfMemory, "sixel: out of memory\n"),
         (RunFault::Read, "sixel: read failed\n"),
         (RunFault::Write, "sixel: write failed\n"),
@@ -61,6 +62,7 @@ fn writes_a_front_where_the_device_fails(rt: HostRuntime) {
 fn derives_the_name_of_each_fault(rt: HostRuntime) -> Result<(), Fail> {
     let rows = [
         (GRAMMAR, "Grammar"),
+        (RunFault::NotRgb, "NotRgb"),
         (RunFault::OutOfMemory, "OutOfMemory"),
         (RunFault::Read, "Read"),
         (RunFault::Write, "Write"),

@@ -1,4 +1,3 @@
-use crate::task::Task;
 use crate::words::{WordsFault, parse_words};
 use std::test::Fail;
 
@@ -10,7 +9,7 @@ fn said(rt: &HostRuntime, line: &str) -> Result<String, Fail> {
         words.push(String::from_str(alloc, word)?)?;
     }
     Ok(match parse_words(alloc, words.as_slice()) {
-        Ok(Task::List) => format!(in alloc; "list")?,
+        Ok(task) => format!(in alloc; "{task:?}")?,
         Err(WordsFault::Usage(text)) => format!(in alloc; "usage {text}")?,
         Err(WordsFault::Help(text)) => format!(in alloc; "help {text}")?,
         Err(WordsFault::OutOfMemory) => format!(in alloc; "out of memory")?,
@@ -19,7 +18,36 @@ fn said(rt: &HostRuntime, line: &str) -> Result<String, Fail> {
 
 #[test]
 fn names_the_task(rt: HostRuntime) -> Result<(), Fail> {
-    assert_eq!(rt; said(&rt, "sixel list")?.as_str(), "list");
+    let rows = [
+        ("sixel list", "List"),
+        (
+            "sixel show --width 2 --height 1",
+            "Show { showing: false, fill: false, selects: false, width: 2, height: 1 }",
+        ),
+        (
+            "sixel show",
+            "Show { showing: false, fill: false, selects: false, width: 800, height: 480 }",
+        ),
+        (
+            "sixel show --height 4096 --define-selects --fill --width 1 --showing",
+            "Show { showing: true, fill: true, selects: true, width: 1, height: 4096 }",
+        ),
+        (
+            "sixel show --width=4096 --fill",
+            "Show { showing: false, fill: true, selects: false, width: 4096, height: 480 }",
+        ),
+        (
+            "sixel show --showing --height 0007",
+            "Show { showing: true, fill: false, selects: false, width: 800, height: 7 }",
+        ),
+        (
+            "sixel show --define-selects",
+            "Show { showing: false, fill: false, selects: true, width: 800, height: 480 }",
+        ),
+    ];
+    for (line, task) in rows {
+        assert_eq!(rt; said(&rt, line)?.as_str(), task, "{line}");
+    }
     Ok(())
 }
 
@@ -29,7 +57,7 @@ fn refuses_other_words(rt: HostRuntime) -> Result<(), Fail> {
     let rows = [
         (
             "sixel",
-            "usage error: 'sixel' requires a subcommand but one was not provided\n  [subcommands: list, help]\n\nUsage: sixel <COMMAND>",
+            "usage error: 'sixel' requires a subcommand but one was not provided\n  [subcommands: list, show, help]\n\nUsage: sixel <COMMAND>",
         ),
         (
             "sixel check",
@@ -43,6 +71,18 @@ fn refuses_other_words(rt: HostRuntime) -> Result<(), Fail> {
             "sixel list twice",
             "usage error: unexpected argument 'twice' found\n\nUsage: sixel list",
         ),
+        (
+            "sixel show --width 0",
+            "usage error: invalid value '0' for '--width <N>': 0 is not in 1..=4096",
+        ),
+        (
+            "sixel show --height 4097",
+            "usage error: invalid value '4097' for '--height <N>': 4097 is not in 1..=4096",
+        ),
+        (
+            "sixel show --width many",
+            "usage error: invalid value 'many' for '--width <N>': invalid digit found in string",
+        ),
     ];
     for (line, text) in rows {
         let whole = format!(in rt.alloc(); "{text}{more}")?;
@@ -54,7 +94,7 @@ fn refuses_other_words(rt: HostRuntime) -> Result<(), Fail> {
 #[test]
 fn shows_help(rt: HostRuntime) -> Result<(), Fail> {
     let whole =
-        "help Reads a sixel picture from standard input\n\nUsage: sixel <COMMAND>\n\nCommands:\n  list  Lists what the picture says, a line for each command\n  help  Print this message or the help of the given subcommand(s)\n\nOptions:\n  -h, --help  Print help\n";
+        "help Reads a sixel picture from standard input\n\nUsage: sixel <COMMAND>\n\nCommands:\n  list  Lists what the picture says, a line for each command\n  show  Draws the picture as one terminal would, and writes its screen as a PPM\n  help  Print this message or the help of the given subcommand(s)\n\nOptions:\n  -h, --help  Print help\n";
     for line in ["sixel --help", "sixel -h", "sixel help"] {
         assert_eq!(rt; said(&rt, line)?.as_str(), whole, "{line}");
     }
@@ -62,6 +102,26 @@ fn shows_help(rt: HostRuntime) -> Result<(), Fail> {
         "help Lists what the picture says, a line for each command\n\nUsage: sixel list\n\nOptions:\n  -h, --help  Print help\n";
     for line in ["sixel list --help", "sixel help list"] {
         assert_eq!(rt; said(&rt, line)?.as_str(), list, "{line}");
+    }
+    Ok(())
+}
+
+#[test]
+fn shows_the_options_of_show(rt: HostRuntime) -> Result<(), Fail> {
+    let show = "help Draws the picture as one terminal would, and writes its screen as a PPM
+
+Usage: sixel show [OPTIONS]
+
+Options:
+      --showing         Give each pixel the last colour of its register
+      --fill            Fill the declared box with register 0
+      --define-selects  Let a definition select its register
+      --width <N>       The width of the screen in pixels, 1 to 4096 [default: 800]
+      --height <N>      The height of the screen in pixels, 1 to 4096 [default: 480]
+  -h, --help            Print help
+";
+    for line in ["sixel show --help", "sixel help show"] {
+        assert_eq!(rt; said(&rt, line)?.as_str(), show, "{line}");
     }
     Ok(())
 }

@@ -1,4 +1,4 @@
-use Rattle.sixel.proofs.Runs.{unflushed}
+use Rattle.sixel.proofs.Runs.{flushed, unflushed}
 use Rattle.sixel.proofs.run.run.Goals as goal
 
 pub returns-in-Err-clause-wrote : goal.returns-in-Err-clause-wrote
@@ -7,3 +7,10 @@ returns-in-Err-clause-wrote g c =
     (g.K.Sink.taken c.args.output.now) (g.K.Sink.taken c.perform-answer.new.output)
     (g.K.Sink.taken c.flush.new.self) c.perform-answer.result
     c.perform-answer.ensures.wrote c.in-Err.ensures.bytes
+
+pub returns-in-Ok-clause-wrote : goal.returns-in-Ok-clause-wrote
+returns-in-Ok-clause-wrote g c =
+    flushed c.args.task (g.S.Source.remaining c.args.input.now) (g.S.Source.remaining c.perform-answer.new.input)
+    (g.K.Sink.taken c.args.output.now) (g.K.Sink.taken c.perform-answer.new.output)
+    (g.K.Sink.taken c.flush.new.self) c.perform-answer.result
+    c.perform-answer.ensures.wrote c.in-Ok.ensures.bytes

@@ -1,6 +1,7 @@
-use Rattle.std.proofs.Common.{◌≡◌, ◌∙◌, ap, codes, true}
-use Rattle.clap.specs.Simple.{App, app_of, app_of_fields, new_app, on_top}
-use Rattle.sixel.specs.Words.{with_plain}
+use Rattle.std.proofs.Common.{◌≡◌, ◌∙◌, ap, ap₂, codes, true}
+use Rattle.std.proofs.lemmas.Result.{IfOk-weaker}
+use Rattle.clap.specs.Simple.{App, app_of, app_of_fields, new_app, on_top, with_subcommand}
+use Rattle.sixel.specs.Words.{show_app, with_plain}
 use Rattle.sixel.proofs.words.sixel_command.Goals as goal
 
 -- `sixel` with no subcommand yet
@@ -14,4 +15,9 @@ returns c =
     let zeroth : app_of c.subcommand_required-command.result ≡ bare =
     ap app_of_fields c.subcommand_required-command.ensures
     ∙ ap (on_top (λ s. record s { subcommand_required = true })) about in
-    c.in_ok-command.ensures ∙ ap (λ (a : App). with_plain a (codes "list")) zeroth
+    let first : app_of c.in_ok-command.command ≡ with_plain bare (codes "list") = c.in_ok-command.ensures
+    ∙ ap (λ (a : App). with_plain a (codes "list")) zeroth in
+    let show : app_of c.in_ok-show_command.field-0 ≡ show_app = c.in_ok-show_command.ensures.app in
+    IfOk-weaker c.subcommand.result _ _
+    (λ r h. h.shape c.in_ok-show_command.ensures.local ∙ ap₂ with_subcommand first (ap (λ (a : App). a.top) show))
+    c.subcommand.ensures

@@ -1,0 +1,5 @@
+use Rattle.sixel.proofs.Runs.{gives}
+use Rattle.sixel.proofs.laws.tasks_give_an_output.Goals as goal
+
+pub returns : goal.returns
+returns c = gives

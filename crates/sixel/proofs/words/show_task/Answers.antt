@@ -1,0 +1,13 @@
+use Rattle.std.proofs.Common.{refl}
+use Rattle.clap.specs.Walk.{rows_of}
+use Rattle.clap.specs.Matches.{found_of}
+use Rattle.sixel.proofs.Matches.{without_height, without_width}
+use Rattle.sixel.proofs.words.show_task.Goals as goal
+
+pub returns-in_default-clause-none : goal.returns-in_default-clause-none
+returns-in_default-clause-none c = λ none t is.
+    without_height (rows_of (found_of c.args.matches.now)) t (c.in_default.ensures'.none refl) is
+
+pub returns-in_default-2-clause-none : goal.returns-in_default-2-clause-none
+returns-in_default-2-clause-none c = λ none t is.
+    without_width (rows_of (found_of c.args.matches.now)) t (c.side_of.ensures.none (rw c.in_default.is-0 refl)) is

@@ -1,0 +1,46 @@
+-- The terminal on which a picture is shown, and the picture file of its screen.
+use Rattle.std.specs.Prelude.{ℕ, ◌*◌, Bool, true, List, map, replicate, if◌then◌else◌}
+use Rattle.std.specs.List.{range_with_len}
+use Rattle.sixel_grammar.specs.declared.command.Event.{Event}
+use Rattle.sixel_picture.specs.declared.colour.Parts.{Parts}
+use Rattle.sixel_picture.specs.declared.colour.Parts.TheVariants.{Rgb}
+use Rattle.sixel_picture.specs.Ppm.{ppm_text}
+use Rattle.sixel_terminal.specs.declared.choices.Choices.{Choices}
+use Rattle.sixel_terminal.specs.declared.choices.Ground.{Ground}
+use Rattle.sixel_terminal.specs.declared.choices.Ground.TheVariants.{Kept, Filled}
+use Rattle.sixel_terminal.specs.Displays.{Display}
+use Rattle.sixel_terminal.specs.Drawing.{screen_on}
+use Rattle.sixel_terminal.specs.Limits.{display_of}
+use Rattle.sixel.specs.Texts.{Text}
+
+-- binding at showing, a ground filled with register 0 and a definition that selects are asked for; so is the size
+abbrev pub show_choices : Bool → Bool → Bool → ℕ → ℕ → Choices
+show_choices showing fill selects width height = let ground : Ground = if fill then Filled 0 else Kept in record {
+  binds_at_showing = showing;
+  selects = selects;
+  ground = ground;
+  selected = 0;
+  zero = 1;
+  clamps = true;
+  tall = 1;
+  screen_width = width;
+  screen_height = height;
+  origin_x = 0;
+  origin_y = 0;
+}
+
+-- 16 registers, of which register n starts as the grey of 6n percent
+abbrev pub greys : List Parts
+greys = map (λ n. Rgb (6 * n) (6 * n) (6 * n)) (range_with_len 0 16)
+
+-- every pixel is white
+abbrev pub white_screen : Choices → List Parts
+white_screen choices = replicate (choices.screen_width * choices.screen_height) (Rgb 100 100 100)
+
+-- the terminal of these choices
+unfoldable pub show_terminal : Choices → Display
+show_terminal choices = display_of choices greys (white_screen choices)
+
+-- the picture file of what the terminal shows after the events
+unfoldable pub screen_text : Display → List Event → Text
+screen_text t events = ppm_text t.choices.screen_width t.choices.screen_height (screen_on t events)

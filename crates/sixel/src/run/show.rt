@@ -1,0 +1,122 @@
+//! Shows a sixel picture as one terminal would draw it, as a PPM.
+
+ghost use Rattle.std.specs.Prelude.{◌≡◌, ◌≢◌, ◌*◌, ◌≤◌, ℕ, Err, IfOk, IfSome, IsTrue, List, None, length};
+ghost use Rattle.sixel_grammar.specs.declared.command.Placed.{Placed as Place};
+ghost use Rattle.sixel_grammar.specs.Document.{Document, events_of};
+ghost use Rattle.sixel_picture.specs.Ppm.{is_file_side};
+ghost use Rattle.sixel_picture.specs.declared.colour.Parts.TheVariants.{Rgb};
+ghost use Rattle.sixel_terminal.specs.Drawing.{screen_on};
+ghost use Rattle.sixel_terminal.specs.Limits.{terminal_fault};
+ghost use Rattle.sixel.specs.declared.fault.RunFault.TheVariants.{Read};
+ghost use Rattle.sixel.specs.Outputs.{CountsWrites, ShowGives, WroteBy, WroteNothing, failures_by};
+ghost use Rattle.sixel.specs.Screens.{greys, show_choices, show_terminal, white_screen};
+
+use crate::fault::RunFault;
+use crate::task::Status;
+use sixel_grammar::{Placed, Sink, Source, read_all};
+use sixel_picture::{Colour, write_ppm_colours};
+use sixel_terminal::{Choices, Ground, Terminal};
+use std::alloc::{AllocError, Global};
+
+/// The choices of the terminal: what is asked for, and beside it a screen as large as asked for, on which the picture
+/// begins at the top left.
+pub fn show_choices(showing: bool, fill: bool, selects: bool, width: u32, height: u32) -> Choices
+    ensures { result ≡ show_choices showing fill selects width height }
+{
+    Choices {
+        binds_at_showing: showing,
+        selects,
+        ground: if fill {
+            Ground::Filled(0)
+        } else {
+            Ground::Kept
+        },
+        selected: 0,
+        zero: 1,
+        clamps: true,
+        tall: 1,
+        screen_width: width,
+        screen_height: height,
+        origin_x: 0,
+        origin_y: 0,
+    }
+}
+
+/// Reads the whole document, draws it on the terminal of these choices, and writes the screen. It doesn't flush.
+pub fn show<S: Source, K: Sink>(
+    alloc: Global,
+    choices: Choices,
+    input: &mut S,
+    output: &mut K,
+) -> Result<Status, RunFault>
+    requires { terminal_fault choices greys (white_screen choices) ≡ None }
+    ensures wrote { IfSome (S.remaining input.old) (λ bytes.
+        WroteBy (ShowGives (show_terminal choices) bytes) WroteNothing result (K.taken output.old) (K.taken output.new)) }
+    ensures reads { S.failure_count input.new ≡ failures_by Read result (S.failure_count input.old) }
+    ensures writes { CountsWrites result (K.failure_count output.old) (K.failure_count output.new) }
+{
+    let events = read_all(alloc, input)?;
+    let shown = screen_after(alloc, choices, &events)?;
+    write_screen(choices, &shown, output)
+}
+
+/// Writes these colours of a screen.
+fn write_screen<K: Sink>(
+    choices: Choices,
+    shown: &[Colour],
+    output: &mut K,
+) -> Result<Status, RunFault>
+    requires width { IsTrue (is_file_side choices.screen_width) }
+    requires height { IsTrue (is_file_side choices.screen_height) }
+    requires whole { length shown.now ≡ choices.screen_width * choices.screen_height }
+    ensures wrote { (events : List Place) (bytes : List ℕ) → Document events bytes →
+        shown.now ≡ screen_on (show_terminal choices) (events_of events) →
+        WroteBy (ShowGives (show_terminal choices) bytes) WroteNothing result (K.taken output.old) (K.taken output.new) }
+    ensures unread { result ≢ Err Read }
+    ensures writes { CountsWrites result (K.failure_count output.old) (K.failure_count output.new) }
+{
+    match write_ppm_colours(choices.screen_width, choices.screen_height, shown, output) {
+        Ok(()) => Ok(Status::Done),
+        Err(fault) => Err(RunFault::from(fault)),
+    }
+}
+
+/// The colours of the whole screen after the events.
+#[tactic(auto, unfolding(crate::specs::Screens::show_terminal))]
+fn screen_after(
+    alloc: Global,
+    choices: Choices,
+    events: &[Placed],
+) -> Result<Vec<Colour>, AllocError>
+    requires { terminal_fault choices greys (white_screen choices) ≡ None }
+    ensures { IfOk result (λ shown. shown.items ≡ screen_on (show_terminal choices) (events_of events.now)) }
+{
+    let pixels = (choices.screen_width * choices.screen_height) as usize;
+    let screen = vec![in alloc; grey(100); pixels]?;
+    match Terminal::new(choices, greys(alloc)?, screen) {
+        Ok(terminal) => terminal.show(alloc, events),
+        Err(_) => unreachable!(),
+    }
+}
+
+fn grey(percent: u8) -> Colour
+    requires { percent ≤ 100 }
+    ensures { result ≡ Rgb percent percent percent }
+{
+    Colour::rgb(percent, percent, percent).unwrap()
+}
+
+/// The starting colours of 16 registers.
+#[tactic(auto, using(crate::proofs::Screens::greys_more))]
+fn greys(alloc: Global) -> Result<Vec<Colour>, AllocError>
+    ensures { IfOk result (λ colours. colours.items ≡ greys) }
+{
+    let mut colours = Vec::with_capacity(alloc, 16)?;
+    for register in 0..16 {
+        colours.push(grey(6 * register))?;
+    }
+    Ok(colours)
+}
+
+#[cfg(test)]
+mod tests;
