@@ -9,38 +9,6 @@ use Rattle.sixel_grammar.specs.Devices.{Puts}
 use Rattle.sixel_grammar.proofs.Devices.{Appends-then}
 use Rattle.sixel.specs.Texts.{Text, BeginsWith}
 
-pub Appends-none : (a : Option (List ℕ)) → Appends a a []
-Appends-none None = tt
-Appends-none (Some x) = sym (append-nil x)
-
--- bytes that were appended stay where more is kept
-pub Appends-keeps : (a b c : Option (List ℕ)) (xs : List ℕ) → Appends a b xs → Keeps b c → Appends a c xs
-Appends-keeps None b c xs p q = tt
-Appends-keeps (Some a) None c xs p q = absurd p
-Appends-keeps (Some a) (Some b) None xs p q = absurd q
-Appends-keeps (Some a) (Some b) (Some c) xs p q = q ∙ p
-
--- a front of a front is a front
-pub take-longer : (n : ℕ) (xs ys : List ℕ) → (m : ℕ) × (take m (xs ++ ys) ≡ take n xs)
-take-longer zero xs ys = (0, refl)
-take-longer (suc n) [] ys = (0, refl)
-take-longer (suc n) (x ∷ xs) ys = let r = take-longer n xs ys in (suc r.0, ap (λ (t : List ℕ). x ∷ t) r.1)
-
--- where putting some bytes failed, so did putting more
-pub puts-longer : (a b : Option (List ℕ)) (xs ys : List ℕ) → ((n : ℕ) × Appends a b (take n xs)) → (n : ℕ)
-    × Appends a b (take n (xs ++ ys))
-puts-longer a b xs ys p = let r = take-longer p.0 xs ys in (r.0, rw r.1 p.1)
-
--- some bytes were put, and then others
-pub puts-then : {A E : Type 0} (result : Result A E) (a b c : Option (List ℕ)) (xs ys : List ℕ) → Appends a b xs
-    → Puts result b c ys → Puts result a c (xs ++ ys)
-puts-then (Ok x) a b c xs ys p q = Appends-then a b c xs ys (xs ++ ys) p q refl
-puts-then (Err e) a b c xs ys p q = (
-  length xs + q.0,
-  Appends-then a b c xs (take q.0 ys) (take (length xs + q.0) (xs ++ ys)) p q.1
-      (take-append-add xs ys q.0),
-)
-
 -- an empty block that was drained again: all went to the sink
 pub drained : (had mid has : Option (List ℕ)) (ws w v text : List ℕ) → ws ≡ [] → v ≡ []
     → Appends (in_all had ws) (in_all mid w) text → Keeps (in_all mid w) (in_all has v) → Appends had has text

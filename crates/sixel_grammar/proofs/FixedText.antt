@@ -1,5 +1,5 @@
 -- Fixed spellings, joined, are a document of just these events.
-use Rattle.std.proofs.Common.{◌≡◌, ℕ, ◌+◌, ◌≤◌, List, [], ◌∷◌, ◌++◌, length, refl, sym, ap, subst, ◌∙◌, arith}
+use Rattle.std.proofs.Common.{◌≡◌, ℕ, ◌+◌, ◌≤◌, List, [], ◌∷◌, ◌++◌, length, refl, sym, ap, subst, ◌∙◌, append_assoc, arith}
 use Rattle.std.specs.List.{AllByRecursion}
 use Rattle.std.proofs.lemmas.List.{append-nil}
 use Rattle.sixel_grammar.specs.declared.command.Event.{Event}
@@ -8,6 +8,12 @@ use Rattle.sixel_grammar.specs.Spelling.{fixed_spelling}
 use Rattle.sixel_grammar.specs.Document.{Piece, IsPiece, joined, events_in, placed_from, AreWhole, Document, most_bytes}
 use Rattle.sixel_grammar.specs.FixedText.{fixed_text, fixed_places, CanWrite}
 use Rattle.sixel_grammar.proofs.Spelled.{fixed_spells}
+
+pub fixed_text-append : (xs ys : List Event) → fixed_text (xs ++ ys) ≡ fixed_text xs ++ fixed_text ys
+fixed_text-append [] ys = refl
+fixed_text-append (x ∷ xs) ys =
+    ap (λ (t : List ℕ). fixed_spelling x ++ t) (fixed_text-append xs ys)
+    ∙ sym (append_assoc (fixed_spelling x) (fixed_text xs) (fixed_text ys))
 
 abbrev fixed_pieces : List Event → List Piece
 fixed_pieces [] = []

@@ -1,5 +1,6 @@
 pub mod Spelled
 pub mod Devices
+pub mod Sinks
 pub mod Parts
 pub mod Numbers
 pub mod Advance

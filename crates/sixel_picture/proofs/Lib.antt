@@ -1,6 +1,20 @@
 pub mod SheetLemmas
 pub mod ByteLemmas
-pub mod SinkLemmas
 pub mod PpmLemmas
 pub mod PositionLemmas
 pub mod StepLemmas
+pub mod KnownLemmas
+pub mod LatestLemmas
+pub mod AppendLemmas
+pub mod RuleLemmas
+pub mod Rows
+pub mod LeftLemmas
+pub mod CoverLemmas
+pub mod FirstLemmas
+pub mod LastLemmas
+pub mod KeepLemmas
+mod PpmRows
+pub mod PpmHeaderLemmas
+pub mod PpmColourLemmas
+pub mod PpmSampleLemmas
+pub mod PpmReadLemmas

@@ -19,7 +19,7 @@ use Rattle.sixel_picture.specs.Ppm.{is_rgb, are_rgb, samples_of, colours_of, ppm
 use Rattle.sixel_picture.specs.declared.colour.Parts.{Parts}
 use Rattle.sixel_picture.specs.declared.picture.PictureReason.{PictureReason}
 use Rattle.sixel_picture.specs.declared.picture.PictureReason.TheVariants.{Size, Count, Register, NoColour}
-use Rattle.sixel_picture.proofs.SinkLemmas.{drained, nothing_put, put_from_empty, sink_front}
+use Rattle.sixel_grammar.proofs.Sinks.{drained, nothing_put, put_from_empty, sink_front}
 
 -- ---- which colours are red, green and blue
 

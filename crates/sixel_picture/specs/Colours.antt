@@ -1,5 +1,6 @@
 -- Colours by their coordinates.
-use Rattle.std.specs.Prelude.{ℕ, ◌≤◌, ◌==◌, ◌&&◌, Bool, Option, Some, None, List, slice_get, nat_le, min, if◌then◌else◌}
+use Rattle.std.specs.Prelude.{ℕ, ◌≤◌, ◌==◌, ◌&&◌, Bool, false, Option, Some, None, List, slice_get, nat_le, min}
+use Rattle.std.specs.Prelude.{if◌then◌else◌}
 use Rattle.std.specs.Option.{option_flatten}
 use Rattle.sixel_picture.specs.declared.colour.Parts.{Parts}
 use Rattle.sixel_picture.specs.declared.colour.Parts.TheVariants.{Rgb, Hls}
@@ -27,3 +28,15 @@ clamped (Hls hue lightness saturation) = Hls (min hue 360) (min lightness 100) (
 -- the colour of a register in a palette, which is a list of optional colours, one a register
 abbrev pub palette_at : List (Option Parts) → ℕ → Option Parts
 palette_at palette register = option_flatten (slice_get palette register)
+
+-- whether two colours are one: they have one system and the same coordinates
+abbrev pub is_same : Parts → Parts → Bool
+is_same (Rgb red green blue) (Rgb r g b) = (red == r) && (green == g) && (blue == b)
+is_same (Hls hue lightness saturation) (Hls h l s) = (hue == h) && (lightness == l) && (saturation == s)
+is_same (Rgb red green blue) (Hls h l s) = false
+is_same (Hls hue lightness saturation) (Rgb r g b) = false
+
+-- whether an entry of a palette is a colour
+abbrev pub is_entry : Parts → Option Parts → Bool
+is_entry colour None = false
+is_entry colour (Some other) = is_same colour other

@@ -1,8 +1,10 @@
 -- What each event says.
-use Rattle.std.specs.Prelude.{◌==◌, ℕ, Bool, true, false, ◌&&◌, Option, Some, None, nat_lt, if◌then◌else◌}
-use Rattle.sixel_grammar.specs.declared.command.Command.TheVariants.{Sixel, Repeat, Raster, Select, Define, CarriageReturn, NextLine}
+use Rattle.std.specs.Prelude.{◌==◌, ℕ, Bool, true, false, ◌&&◌, not, Option, Some, None, nat_lt, if◌then◌else◌}
+use Rattle.sixel_picture.specs.Pictures.{is_side}
+use Rattle.sixel_grammar.specs.declared.command.Command.TheVariants.{Sixel, Repeat, Raster, Select, Define}
+use Rattle.sixel_grammar.specs.declared.command.Command.TheVariants.{CarriageReturn, NextLine}
 use Rattle.sixel_grammar.specs.declared.command.Event.{Event}
-use Rattle.sixel_grammar.specs.declared.command.Event.TheVariants.{Step}
+use Rattle.sixel_grammar.specs.declared.command.Event.TheVariants.{Step, Finish}
 
 -- what a definition of a register says: a colour system and three coordinates
 pub record Definition : Type 0 where
@@ -11,6 +13,10 @@ pub record Definition : Type 0 where
   pub y : ℕ
   pub z : ℕ
 
+-- the same system and the same coordinates
+abbrev pub is_same_definition : Definition → Definition → Bool
+is_same_definition d e = (d.system == e.system) && (d.x == e.x) && (d.y == e.y) && (d.z == e.z)
+
 -- what raster attributes say: the aspect ratio pan to pad, and the size of the declared box
 pub record Attributes : Type 0 where
   pub pan : ℕ
@@ -18,19 +24,42 @@ pub record Attributes : Type 0 where
   pub width : ℕ
   pub height : ℕ
 
--- the ratio is 1 to 1
+-- both numbers of the ratio are 1 (2 and 2, the same ratio, aren't)
 abbrev pub is_square : Attributes → Bool
 is_square a = (a.pan == 1) && (a.pad == 1)
+
+-- each side of the declared box is from 1 to 2,048 pixels
+abbrev pub has_sides : Attributes → Bool
+has_sides a = is_side a.width && is_side a.height
 
 -- the point lies in the declared box
 abbrev pub is_in_box : Attributes → ℕ → ℕ → Bool
 is_in_box a x y = nat_lt x a.width && nat_lt y a.height
+
+-- a sixel, or a repeat of one
+abbrev pub is_data_command : Event → Bool
+is_data_command (Step (Sixel bits)) = true
+is_data_command (Step (Repeat count bits)) = true
+is_data_command _ = false
+
+abbrev pub is_finish : Event → Bool
+is_finish (Finish eight) = true
+is_finish _ = false
 
 -- the bits of a data command; any other event has none set
 abbrev pub bits_of : Event → ℕ
 bits_of (Step (Sixel bits)) = bits
 bits_of (Step (Repeat count bits)) = bits
 bits_of _ = 0
+
+-- a data command with a set bit
+abbrev pub is_painting : Event → Bool
+is_painting e = not (bits_of e == 0)
+
+-- a repeat of 0
+abbrev pub is_repeat_of_zero : Event → Bool
+is_repeat_of_zero (Step (Repeat count bits)) = count == 0
+is_repeat_of_zero _ = false
 
 -- the columns of a data command, where a repeat of 0 has so many; any other event has none
 abbrev pub columns_of : ℕ → Event → ℕ

@@ -25,3 +25,7 @@ covers left count line rows bits x y =
 unfoldable pub touches : ℕ → ℕ → List Event → Event → ℕ → ℕ → Bool
 touches zero_columns rows before e x y =
     covers (column zero_columns before) (columns_of zero_columns e) (band before) rows (bits_of e) x y
+
+-- the event is a data command that paints the point, where a repeat of 0 has no columns and a bit has one row
+unfoldable pub falls : List Event → Event → ℕ → ℕ → Bool
+falls before e x y = touches 0 1 before e x y

@@ -5,5 +5,12 @@ pub mod Events
 pub mod Geometry
 pub mod Sheets
 pub mod BytePlanes
+pub mod Rules
 pub mod Ppm
+pub mod PpmReading
+pub mod PpmHeader
+pub mod PpmColours
+pub mod PpmHeld
+pub mod PpmSamples
+pub mod PpmFeeding
 pub mod Laws

@@ -1,13 +1,18 @@
 -- What is found at a position of a list, given the items before it; and the last position that gives something.
 use Rattle.std.specs.Prelude.{◌≡◌, ℕ, zero, suc, Bool, false, ◌||◌, Option, Some, None}
 use Rattle.std.specs.Prelude.{List, [], ◌∷◌, length, take, slice_get, if◌then◌else◌}
-use Rattle.std.specs.Option.{option_or, option_and_then}
+use Rattle.std.specs.Option.{option_or, option_and_then, option_map_or}
 use Rattle.std.specs.List.{list_any}
 
 -- what f gives of the last item of which it gives something
 unfoldable pub latest : {X A : Type 0} → (X → Option A) → List X → Option A
 latest f [] = None
 latest f (x ∷ xs) = option_or (latest f xs) (f x)
+
+-- what f gives of the first item of which it gives something
+unfoldable pub earliest : {X A : Type 0} → (X → Option A) → List X → Option A
+earliest f [] = None
+earliest f (x ∷ xs) = option_or (f x) (earliest f xs)
 
 -- the items after the last one that passes, or all where none passes
 unfoldable pub since : {X : Type 0} → (X → Bool) → List X → List X
@@ -37,3 +42,15 @@ pub record HoldsAtPosition {X : Type 0} (P : List X → X → Type 0) (xs : List
   pub item : X
   pub here : slice_get xs i ≡ Some item
   pub holds : P (take i xs) item
+
+-- P holds at no position
+abbrev pub HoldsNowhere : {X : Type 0} → (List X → X → Type 0) → List X → Type 0
+HoldsNowhere P xs = (i : ℕ) → ¬ HoldsAtPosition P xs i
+
+-- whether the item at position i passes, given the items before it
+unfoldable pub passes_at : {X : Type 0} → (List X → X → Bool) → List X → ℕ → Bool
+passes_at p xs i = option_map_or (λ x. p (take i xs) x) (slice_get xs i) false
+
+-- whether some item passes, given the items before it
+unfoldable pub any_at : {X : Type 0} → (List X → X → Bool) → List X → Bool
+any_at p xs = any_below (length xs) (passes_at p xs)

@@ -9,7 +9,7 @@ use Rattle.sixel_picture.specs.Pictures.{PictureValue}
 use Rattle.sixel_picture.specs.declared.colour.Parts.{Parts}
 use Rattle.sixel_picture.specs.declared.colour.Parts.TheVariants.{Rgb, Hls}
 use Rattle.sixel_picture.specs.declared.ppm.PpmFault.{PpmFault}
-use Rattle.sixel_picture.specs.declared.ppm.PpmFault.TheVariants.{NotRgb, Write}
+use Rattle.sixel_picture.specs.declared.ppm.PpmFault.TheVariants.{Format, NotRgb, OutOfMemory, Read, Write}
 
 abbrev pub is_rgb : Parts → Bool
 is_rgb (Rgb red green blue) = true
@@ -40,7 +40,7 @@ abbrev pub is_file_side : ℕ → Bool
 is_file_side n = nat_le 1 n && nat_le n 4096
 
 -- all colours are red, green and blue, and the text was appended; or they are, and a front of it was
--- appended; or one isn't, and nothing was appended
+-- appended; or one isn't, and nothing was appended. Writing answers no other fault
 abbrev pub WritesPpm : {A : Type 0} → Result A PpmFault → Option (List ℕ) → Option (List ℕ)
     → ℕ → ℕ → List Parts → Type 0
 WritesPpm (Ok _) old new width height colours =
@@ -49,9 +49,15 @@ WritesPpm (Err Write) old new width height colours =
     IsTrue (are_rgb colours) × (n : ℕ) × Appends old new (take n (ppm_text width height colours))
 WritesPpm (Err NotRgb) old new width height colours =
     IsFalse (are_rgb colours) × Keeps old new
+WritesPpm (Err (Format reason place)) old new width height colours = ⊥
+WritesPpm (Err OutOfMemory) old new width height colours = ⊥
+WritesPpm (Err Read) old new width height colours = ⊥
 
 -- a call counts as a failure of the sink exactly where it answers `Write`
 abbrev pub CountsWriteFault : {A : Type 0} → Result A PpmFault → ℕ → ℕ → Type 0
 CountsWriteFault (Ok _) old new = new ≡ old
 CountsWriteFault (Err Write) old new = new ≡ one_more old
 CountsWriteFault (Err NotRgb) old new = new ≡ old
+CountsWriteFault (Err (Format reason place)) old new = ⊥
+CountsWriteFault (Err OutOfMemory) old new = ⊥
+CountsWriteFault (Err Read) old new = ⊥

@@ -1,7 +1,7 @@
 //! Colours by their coordinates.
 
 ghost use Rattle.std.specs.Prelude.{◌≡◌, ◌≤◌, ◌↔◌, IsSome, IfSome};
-ghost use Rattle.sixel_picture.specs.Colours.{IsColour};
+ghost use Rattle.sixel_picture.specs.Colours.{IsColour, is_same};
 
 use std::marker::Model;
 
@@ -71,5 +71,30 @@ impl Colour {
         ensures in_range { IsColour self.now }
     {
         self.parts
+    }
+
+    /// The colour of percentages that are in range.
+    pub(crate) fn of_percentages(red: u8, green: u8, blue: u8) -> Colour
+        requires { IsColour (Parts.Rgb red green blue) }
+        ensures { result ≡ Parts.Rgb red green blue }
+    {
+        Colour {
+            parts: Parts::Rgb(red, green, blue),
+        }
+    }
+
+    /// Whether two colours are one: they have one system and the same coordinates.
+    pub(crate) fn is_same(self, other: Colour) -> bool
+        ensures { result ≡ is_same self other }
+    {
+        match (self.parts, other.parts) {
+            (Parts::Rgb(red, green, blue), Parts::Rgb(r, g, b)) => red == r
+                && green == g
+                && blue == b,
+            (Parts::Hls(hue, lightness, saturation), Parts::Hls(h, l, s)) => hue == h
+                && lightness == l
+                && saturation == s,
+            _ => false,
+        }
     }
 }

@@ -14,7 +14,7 @@ pub use colour::{Colour, Parts};
 pub use palette::Palette;
 pub use picture::{Picture, PictureFault, PictureReason};
 pub use plane::Plane;
-pub use ppm::{PpmFault, write_ppm, write_ppm_colours};
+pub use ppm::{PpmFault, PpmReason, read_ppm, write_ppm, write_ppm_colours};
 
 #[cfg(test)]
 mod tests;

@@ -108,6 +108,21 @@ impl Picture {
         })
     }
 
+    /// The picture of parts that make one, which aren't looked at again.
+    pub(crate) fn of_parts(width: u32, height: u32, palette: Palette, registers: Vec<u8>) -> Picture
+        requires { picture_fault 16 width height palette registers.items ≡ None }
+        ensures { result ≡ picture_of_parts width height palette registers.items }
+    {
+        // A call that does nothing: its contract says that the colours are in range.
+        let _ = palette.get(0);
+        Picture {
+            width,
+            height,
+            palette,
+            registers,
+        }
+    }
+
     /// The width in pixels.
     pub fn width(&self) -> u32
         ensures same { result ≡ self.now.width }

@@ -12,6 +12,8 @@ use sixel_grammar::{DeviceFault, Sink, SliceSink};
 use std::alloc::{AllocError, Global};
 use std::test::Fail;
 
+mod reading;
+
 #[test]
 fn colours_are_in_range(rt: HostRuntime) -> Result<(), Fail> {
     for (colour, expected) in [

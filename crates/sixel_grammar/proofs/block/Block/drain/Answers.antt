@@ -10,6 +10,7 @@ loop-self-init g c =
       in_range = c.self.invariant.0;
       front = (none.0, none.1, c.self.view_is ∙ none.2);
       unflushed = λ t. t;
+      held = λ less. absurd (omega (arith, ap length c.self.view_is));
       failures = refl;
     }
 
@@ -24,5 +25,6 @@ loop-self-preserved g c =
       in_range = omega (arith, length-drop start text);
       front = takes-further _ (g.K.Sink.taken c.loop-self.out) _ c.args.self.now (drop start text) _ c.in_ok-count.count c.loop-self.invariant.front (rw rest at c.in_ok-count.ensures.bytes) (drop-plus start c.in_ok-count.count text);
       unflushed = λ t. cc (c.in_ok-count.ensures.flushed, t);
+      held = λ less. c.in_ok-count.ensures.flushed;
       failures = cc (c.in_ok-count.ensures.failures, c.loop-self.invariant.failures);
     }

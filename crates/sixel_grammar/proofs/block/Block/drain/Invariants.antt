@@ -1,4 +1,4 @@
-use Rattle.std.proofs.Common.{◌-◌, ◌≡◌, ◌≤◌, length, take, drop, ℕ}
+use Rattle.std.proofs.Common.{◌-◌, ◌≡◌, ◌<◌, ◌≤◌, false, length, take, drop, ℕ}
 use Rattle.std.specs.Io.KnownBytes.{Appends}
 use Rattle.sixel_grammar.specs.Devices.{NeverFlushes}
 use Rattle.sixel_grammar.proofs.block.Block.drain.Given as goal
@@ -8,6 +8,7 @@ invariant-loop-self g l = record {
   in_range : l.self-inside.start ≤ length l.self-inside.text.items;
   front : (n : ℕ) × Appends (g.K.Sink.taken l.fn.out) (g.K.Sink.taken l.out) (take n l.fn.self) × (drop l.self-inside.start l.self-inside.text.items ≡ drop n l.fn.self);
   unflushed : NeverFlushes (g.K.Sink.is_flushed l.fn.out) (g.K.Sink.is_flushed l.out);
+  held : length (drop l.self-inside.start l.self-inside.text.items) < length l.fn.self → g.K.Sink.is_flushed l.out ≡ false;
   failures : g.K.Sink.failure_count l.out ≡ g.K.Sink.failure_count l.fn.out;
 }
 

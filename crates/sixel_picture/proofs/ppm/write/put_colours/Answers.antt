@@ -6,7 +6,7 @@ use Rattle.std.proofs.lemmas.Result.{err_from_is_err_and}
 use Rattle.sixel_grammar.specs.Blocks.{in_all}
 use Rattle.sixel_grammar.proofs.Devices.{TakesMore-then}
 use Rattle.sixel_picture.specs.Ppm.{samples_of}
-use Rattle.sixel_picture.proofs.SinkLemmas.{put_front, put_more}
+use Rattle.sixel_grammar.proofs.Sinks.{put_front, put_more}
 use Rattle.sixel_picture.proofs.ppm.write.put_colours.Goals as goal
 
 pub returns-in_err-put_colour-clause-bytes : goal.returns-in_err-put_colour-clause-bytes

@@ -1,13 +1,16 @@
 -- On what was put into a block, and on what the sink behind it took.
-use Rattle.std.proofs.Common.{◌≡◌, ℕ, ◌+◌, ◌<◌, ◌≤◌, Option, Some, None, Result, Ok, Err, List, [], ◌∷◌, ◌++◌}
+use Rattle.std.proofs.Common.{◌≡◌, ℕ, zero, suc, ◌+◌, ◌-◌, ◌<◌, ◌≤◌, Option, Some, None, Result, Ok, Err, List, []}
+use Rattle.std.proofs.Common.{◌∷◌, ◌++◌}
 use Rattle.std.proofs.Common.{length, take, drop, get_or, refl, sym, ap, subst, ◌∙◌, append_assoc, arith}
 use Rattle.std.specs.Prelude.{OnOk}
 use Rattle.std.specs.Io.KnownBytes.{Appends, Keeps, append_known}
 use Rattle.std.proofs.KnownBytes.{Appends-trans}
 use Rattle.std.proofs.lemmas.List.{append-nil, append_cancel_left, length-append, length-take}
 use Rattle.std.proofs.lemmas.List.{take-append-drop, take_all, take_at, take_more, take-take}
-use Rattle.sixel_grammar.specs.Blocks.{TakesMore, in_all}
+use Rattle.std.proofs.Math.Seq.{take-append-add}
+use Rattle.sixel_grammar.specs.Blocks.{PutsAllOrNone, TakesMore, in_all}
 use Rattle.sixel_grammar.specs.Devices.{Puts}
+use Rattle.sixel_grammar.proofs.Devices.{Appends-then}
 
 -- ---- what the items of a list give, put one after another
 
@@ -89,3 +92,103 @@ drained (Err f) a b waiting text empty put extends =
     sink_front a b waiting text (length text)
     (subst (λ (t : List ℕ). Appends a (in_all b waiting) t) (sym (take_all (length text) text (omega arith))) put)
     extends
+
+-- ---- bytes that are put one piece after another
+
+pub Appends-none : (a : Option (List ℕ)) → Appends a a []
+Appends-none None = tt
+Appends-none (Some x) = sym (append-nil x)
+
+-- bytes that were appended stay where more is kept
+pub Appends-keeps : (a b c : Option (List ℕ)) (xs : List ℕ) → Appends a b xs → Keeps b c → Appends a c xs
+Appends-keeps None b c xs p q = tt
+Appends-keeps (Some a) None c xs p q = absurd p
+Appends-keeps (Some a) (Some b) None xs p q = absurd q
+Appends-keeps (Some a) (Some b) (Some c) xs p q = q ∙ p
+
+-- a front of a front is a front
+pub take-longer : (n : ℕ) (xs ys : List ℕ) → (m : ℕ) × (take m (xs ++ ys) ≡ take n xs)
+take-longer zero xs ys = (0, refl)
+take-longer (suc n) [] ys = (0, refl)
+take-longer (suc n) (x ∷ xs) ys = let r = take-longer n xs ys in (suc r.0, ap (λ (t : List ℕ). x ∷ t) r.1)
+
+-- where putting some bytes failed, so did putting more
+pub puts-longer : (a b : Option (List ℕ)) (xs ys : List ℕ) → ((n : ℕ) × Appends a b (take n xs)) → (n : ℕ)
+    × Appends a b (take n (xs ++ ys))
+puts-longer a b xs ys p = let r = take-longer p.0 xs ys in (r.0, rw r.1 p.1)
+
+-- some bytes were put, and then others
+pub puts-then : {A E : Type 0} (result : Result A E) (a b c : Option (List ℕ)) (xs ys : List ℕ) → Appends a b xs
+    → Puts result b c ys → Puts result a c (xs ++ ys)
+puts-then (Ok x) a b c xs ys p q = Appends-then a b c xs ys (xs ++ ys) p q refl
+puts-then (Err e) a b c xs ys p q = (
+  length xs + q.0,
+  Appends-then a b c xs (take q.0 ys) (take (length xs + q.0) (xs ++ ys)) p q.1
+      (take-append-add xs ys q.0),
+)
+
+-- all or none of the bytes were put
+pub puts-whole : {A E : Type 0} (result : Result A E) (a b : Option (List ℕ)) (xs : List ℕ)
+    → PutsAllOrNone result a b xs
+    → Puts result a b xs
+puts-whole (Ok x) a b xs p = p
+puts-whole (Err e) a b xs p = (0, nothing_put a b p)
+
+-- some bytes were put, and then a front of others, all of which lie at the front of a whole
+pub puts-stopped : (a b c : Option (List ℕ)) (xs ys rest whole : List ℕ) → Appends a b xs
+    → ((n : ℕ) × Appends b c (take n ys)) → whole ≡ (xs ++ ys) ++ rest → (n : ℕ) × Appends a c (take n whole)
+puts-stopped a b c xs ys rest whole p q e =
+    let cut : (n : ℕ) × Appends a c (take n (xs ++ ys)) = (
+      length xs + q.0,
+      Appends-then a b c xs (take q.0 ys) _ p q.1 (take-append-add xs ys q.0),
+    ) in
+    rw e (puts-longer a c (xs ++ ys) rest cut)
+
+-- ---- a text that is put step by step
+
+-- what is put stays at the front
+text-grows : (f s : ℕ → List ℕ) → ((i : ℕ) → f (i + 1) ≡ f i ++ s i) → (k i : ℕ)
+    → (rest : List ℕ) × (f (i + k) ≡ f i ++ rest)
+text-grows f s more zero i =
+    let same : i + 0 ≡ i = omega arith in ([], ap f same ∙ sym (append-nil (f i)))
+text-grows f s more (suc k) i =
+    let before = text-grows f s more k i in
+    let last : i + suc k ≡ i + k + 1 = omega arith in (
+      before.0 ++ s (i + k),
+      ap f last ∙ more (i + k) ∙ ap (λ (t : List ℕ). t ++ s (i + k)) before.1 ∙ append_assoc (f i) before.0 (s (i + k)),
+    )
+
+-- the first steps were put, and then a front of the next one
+pub steps-stopped : (f s : ℕ → List ℕ) → ((i : ℕ) → f (i + 1) ≡ f i ++ s i) → (i n : ℕ) → i < n
+    → (a b c : Option (List ℕ)) → Appends a b (f i) → ((m : ℕ) × Appends b c (take m (s i)))
+    → (m : ℕ) × Appends a c (take m (f n))
+steps-stopped f s more i n lt a b c p q =
+    let whole = text-grows f s more (n - (i + 1)) (i + 1) in
+    let end : i + 1 + (n - (i + 1)) ≡ n = omega arith in
+    puts-stopped a b c (f i) (s i) whole.0 (f n) p q
+    (ap f (sym end) ∙ whole.1 ∙ ap (λ (t : List ℕ). t ++ whole.0) (more i))
+
+-- the first steps were put, and then the next one
+pub steps-put : (f s : ℕ → List ℕ) → ((i : ℕ) → f (i + 1) ≡ f i ++ s i) → (i : ℕ)
+    → (a b c : Option (List ℕ)) → Appends a b (f i) → Appends b c (s i) → Appends a c (f (i + 1))
+steps-put f s more i a b c p q = Appends-then a b c (f i) (s i) (f (i + 1)) p q (more i)
+
+-- ---- a text of two parts
+
+pub put-as : (a b : Option (List ℕ)) (xs ys : List ℕ) → xs ≡ ys → Appends a b xs → Appends a b ys
+put-as a b xs ys e p = subst (λ (t : List ℕ). Appends a b t) e p
+
+-- the first part was put, and then the second, or a front of it
+pub puts-joined : {A E : Type 0} (result : Result A E) (a b c : Option (List ℕ)) (xs ys zs : List ℕ) → zs ≡ xs ++ ys
+    → Appends a b xs → Puts result b c ys → Puts result a c zs
+puts-joined result a b c xs ys zs e p q = subst (λ (t : List ℕ). Puts result a c t) (sym e)
+    (puts-then result a b c xs ys p q)
+
+-- a front of the first part was put
+pub puts-cut : (a b : Option (List ℕ)) (xs ys zs : List ℕ) → zs ≡ xs ++ ys → ((n : ℕ) × Appends a b (take n xs))
+    → (n : ℕ) × Appends a b (take n zs)
+puts-cut a b xs ys zs e p = rw e (puts-longer a b xs ys p)
+
+-- nothing was put
+pub puts-nothing : (a b : Option (List ℕ)) (zs : List ℕ) → Keeps a b → (n : ℕ) × Appends a b (take n zs)
+puts-nothing a b zs kept = (0, nothing_put a b kept)

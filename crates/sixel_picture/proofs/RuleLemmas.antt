@@ -1,0 +1,177 @@
+-- On the rules by their numbers, and on the first that is broken.
+use Rattle.std.proofs.Common.{◌≡◌, ◌<◌, ◌≤◌, inl, inr, lit≤, ℕ, Bool, true, false, Some, List, [], ◌∷◌, ◌++◌, length}
+use Rattle.std.proofs.Common.{take, refl, arith}
+use Rattle.std.proofs.lemmas.Bool.{eqb-true, leb-true, leb-false}
+use Rattle.std.specs.Prelude.{◌==◌, nat_le, slice_get, IsTrue, IsFalse}
+use Rattle.std.specs.Bool.{MatchBool}
+use Rattle.sixel_grammar.specs.declared.command.Event.{Event}
+use Rattle.sixel_picture.specs.Positions.{HoldsAtPosition}
+use Rattle.sixel_picture.specs.Rules.{Breaks, BreaksNone, BreaksOutside, BreaksUncovered, IsFirstBroken}
+use Rattle.sixel_picture.specs.Rules.{breaks_box_size, breaks_colour_value, breaks_ratio, breaks_raster_first}
+use Rattle.sixel_picture.specs.Rules.{breaks_raster_twice}
+use Rattle.sixel_picture.specs.Rules.{breaks_redefined, breaks_register, breaks_repeat_zero, breaks_undefined}
+use Rattle.sixel_picture.specs.Rules.{breaks_unselected}
+use Rattle.sixel_picture.proofs.PositionLemmas.{holds_before, holds_end, holds_push, holds_within}
+
+-- the event breaks none of the twelve rules
+pub record Keeps (registers : ℕ) (before : List Event) (e : Event) : Type 0 where
+  pub raster_first : IsFalse (breaks_raster_first before e)
+  pub raster_twice : IsFalse (breaks_raster_twice before e)
+  pub ratio : IsFalse (breaks_ratio e)
+  pub box_size : IsFalse (breaks_box_size e)
+  pub register : IsFalse (breaks_register registers e)
+  pub colour_value : IsFalse (breaks_colour_value e)
+  pub repeat_zero : IsFalse (breaks_repeat_zero e)
+  pub unselected : IsFalse (breaks_unselected before e)
+  pub undefined : IsFalse (breaks_undefined before e)
+  pub redefined : IsFalse (breaks_redefined before e)
+  pub outside : ¬ BreaksOutside before e
+  pub uncovered : ¬ BreaksUncovered before e
+
+neither : {P Q : Type 0} (b : Bool) → ¬ P → ¬ Q → ¬ MatchBool b P Q
+neither true p q h = p h
+neither false p q h = q h
+
+not_true : (b : Bool) → IsFalse b → ¬ IsTrue b
+not_true true f t = cc
+not_true false f t = cc
+
+is_false : (b : Bool) → ¬ IsTrue b → IsFalse b
+is_false true h = absurd (h refl)
+is_false false h = refl
+
+-- an event that keeps each rule breaks none by number
+pub keeps_none : (registers n : ℕ) (before : List Event) (e : Event) → Keeps registers before e
+    → ¬ Breaks registers n before e
+unfolding Breaks
+keeps_none registers n before e k =
+    neither (n == 1) (not_true _ k.raster_first)
+    (neither (n == 2) (not_true _ k.raster_twice)
+    (neither (n == 3) (not_true _ k.ratio)
+    (neither (n == 4) (not_true _ k.box_size)
+    (neither (n == 5) (not_true _ k.register)
+    (neither (n == 6) (not_true _ k.colour_value)
+    (neither (n == 7) (not_true _ k.repeat_zero)
+    (neither (n == 8) (not_true _ k.unselected)
+    (neither (n == 9) (not_true _ k.undefined)
+    (neither (n == 10) (not_true _ k.redefined)
+    (neither (n == 11) k.outside
+    (neither (n == 12) k.uncovered (λ h. h))))))))))))
+
+-- and an event that breaks none of the twelve keeps each
+pub none_keeps : (registers : ℕ) (before : List Event) (e : Event) → ((n : ℕ) → n ≤ 12 → ¬ Breaks registers n before e)
+    → Keeps registers before e
+unfolding Breaks
+none_keeps registers before e h = record {
+  raster_first = is_false _ (h 1 (lit≤ tt));
+  raster_twice = is_false _ (h 2 (lit≤ tt));
+  ratio = is_false _ (h 3 (lit≤ tt));
+  box_size = is_false _ (h 4 (lit≤ tt));
+  register = is_false _ (h 5 (lit≤ tt));
+  colour_value = is_false _ (h 6 (lit≤ tt));
+  repeat_zero = is_false _ (h 7 (lit≤ tt));
+  unselected = is_false _ (h 8 (lit≤ tt));
+  undefined = is_false _ (h 9 (lit≤ tt));
+  redefined = is_false _ (h 10 (lit≤ tt));
+  outside = h 11 (lit≤ tt);
+  uncovered = h 12 (lit≤ tt);
+}
+
+-- in a list in which no rule is broken each event keeps each
+pub keeps_at : (registers : ℕ) (events : List Event) → BreaksNone registers 12 events → (i : ℕ) (e : Event)
+    → slice_get events i ≡ Some e → Keeps registers (take i events) e
+unfolding BreaksNone
+keeps_at registers events none i e here =
+    none_keeps registers (take i events) e (λ n le b. none n le i (record { item = e; here = here; holds = b }))
+
+-- ---- one event more
+
+-- no event of none breaks a rule
+pub none_of_none : (registers last : ℕ) → BreaksNone registers last []
+unfolding BreaksNone
+none_of_none registers last n le i h = cc h.here
+
+-- no rule is broken with one more event that keeps each
+pub none_push : (registers last : ℕ) (before : List Event) (e : Event) → BreaksNone registers last before
+    → Keeps registers before e → BreaksNone registers last (before ++ e ∷ [])
+unfolding BreaksNone
+none_push registers last before e none k n le i h =
+    elim (holds_push (Breaks registers n) before e i h) [
+      | inl b ↦ none n le i b.1
+      | inr b ↦ keeps_none registers n before e k b.1
+    ]
+
+-- and none was broken without the last event
+pub none_before : (registers last : ℕ) (before : List Event) (e : Event) → BreaksNone registers last (before ++ e ∷ [])
+    → BreaksNone registers last before
+unfolding BreaksNone
+none_before registers last before e none n le i h =
+    none n le i (holds_before (Breaks registers n) before e i (holds_within (Breaks registers n) before i h) h)
+
+past : (P Q : Type 0) (b : Bool) → (b ≡ true → ⊥) → ¬ Q → ¬ MatchBool b P Q
+past P Q true h q m = h refl
+past P Q false h q m = q m
+
+beyond : (P Q : Type 0) (n k : ℕ) → k < n → ¬ Q → ¬ MatchBool (n == k) P Q
+beyond P Q n k lt q = past P Q (n == k) (λ e. let same : n ≡ k = eqb-true n k e in absurd (omega (arith, same, lt))) q
+
+-- no rule has a number above 12
+pub no_more_rules : (registers n : ℕ) (before : List Event) (e : Event) → 12 < n → ¬ Breaks registers n before e
+unfolding Breaks
+no_more_rules registers n before e lt h =
+    beyond _ _ n 1 (omega (arith, lt))
+    (beyond _ _ n 2 (omega (arith, lt))
+    (beyond _ _ n 3 (omega (arith, lt))
+    (beyond _ _ n 4 (omega (arith, lt))
+    (beyond _ _ n 5 (omega (arith, lt))
+    (beyond _ _ n 6 (omega (arith, lt))
+    (beyond _ _ n 7 (omega (arith, lt))
+    (beyond _ _ n 8 (omega (arith, lt))
+    (beyond _ _ n 9 (omega (arith, lt))
+    (beyond _ _ n 10 (omega (arith, lt))
+    (beyond _ _ n 11 (omega (arith, lt))
+    (beyond _ _ n 12 (omega (arith, lt)) (λ f. f)))))))))))) h
+
+-- an event that breaks none of the twelve breaks none
+pub nowhere : (registers m i : ℕ) (events : List Event) → BreaksNone registers 12 events
+    → ¬ HoldsAtPosition (Breaks registers m) events i
+unfolding BreaksNone
+nowhere registers m i events none h =
+    split (nat_le m 12) refl
+  where
+    split : (b : Bool) → nat_le m 12 ≡ b → ⊥
+    split true e = none m (leb-true m 12 e) i h
+    split false e = no_more_rules registers m (take i events) h.item (leb-false m 12 e) h.holds
+
+-- the first broken rule stays the first
+pub first_push : (registers n i : ℕ) (before : List Event) (e : Event) → IsFirstBroken registers before n i
+    → IsFirstBroken registers (before ++ e ∷ []) n i
+first_push registers n i before e f =
+    let lt : i < length before = holds_within (Breaks registers n) before i f.broken in
+    record {
+      broken = holds_before (Breaks registers n) before e i lt f.broken;
+      none_earlier = λ m j l h. elim (holds_push (Breaks registers m) before e j h) [
+        | inl b ↦ f.none_earlier m j l b.1
+        | inr b ↦ absurd (omega (arith, b.0, l, lt))
+      ];
+      none_smaller = λ m l h. elim (holds_push (Breaks registers m) before e i h) [
+        | inl b ↦ f.none_smaller m l b.1
+        | inr b ↦ absurd (omega (arith, b.0, lt))
+      ];
+    }
+
+-- where no rule was broken, the least rule that the event breaks is the first
+pub first_there : (registers n : ℕ) (before : List Event) (e : Event) → BreaksNone registers 12 before
+    → Breaks registers n before e → ((m : ℕ) → m < n → ¬ Breaks registers m before e)
+    → IsFirstBroken registers (before ++ e ∷ []) n (length before)
+first_there registers n before e none b least = record {
+  broken = holds_end (Breaks registers n) before e b;
+  none_earlier = λ m j l h. elim (holds_push (Breaks registers m) before e j h) [
+    | inl c ↦ nowhere registers m j before none c.1
+    | inr c ↦ absurd (omega (arith, c.0, l))
+  ];
+  none_smaller = λ m l h. elim (holds_push (Breaks registers m) before e (length before) h) [
+    | inl c ↦ absurd (omega (arith, c.0))
+    | inr c ↦ least m l c.1
+  ];
+}

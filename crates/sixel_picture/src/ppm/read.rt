@@ -1,0 +1,131 @@
+//! Reads pictures from PPM files.
+
+ghost use Rattle.std.specs.Prelude.{List, IfErr, IfOk, IfSome};
+ghost use Rattle.sixel_picture.specs.PpmFeeding.{FeedsHeader, HasStarted, ReadsHeader, ReadsRest};
+ghost use Rattle.sixel_picture.specs.PpmReading.{CountsReadFault, ReadsPpm};
+ghost use Rattle.sixel_picture.specs.PpmSamples.{Holds, samples_on};
+ghost use Rattle.sixel_picture.specs.declared.colour.Parts.{Parts};
+
+use crate::picture::Picture;
+use crate::ppm::header::{Frame, Next, Progress, begun, step};
+use crate::ppm::samples::Samples;
+use crate::ppm::{PpmFault, PpmReason};
+use sixel_grammar::Source;
+use std::alloc::Global;
+
+/// How many bytes are asked of a source at once.
+const PIECE: usize = 65_536;
+
+/// What a piece makes of a header.
+#[derive(Clone, Copy, Debug, PartialEq, Eq)]
+pub(crate) enum Fed {
+    More(Progress),
+    /// The header is whole, and so many bytes of the piece belong to it.
+    Whole(Frame, usize),
+    Refused(PpmFault),
+}
+
+/// A whole header, and where in the piece the samples after it stand.
+#[derive(Clone, Copy, Debug, PartialEq, Eq)]
+pub(crate) struct Started {
+    pub(crate) frame: Frame,
+    pub(crate) start: usize,
+    pub(crate) end: usize,
+}
+
+/// Reads a picture from a PPM of Netpbm: `P6`, a width and a height of 1 to 2,048 pixels, a maximum of
+/// 1 to 255, and three samples a pixel, which become percentages of red, green and blue. Registers are
+/// numbered from 0 in the order in which their colours are first seen, and the palette holds no other.
+///
+/// The source is read to its end. Memory is taken once, for the registers, after the header.
+pub fn read_ppm<S: Source>(alloc: Global, input: &mut S) -> Result<Picture, PpmFault>
+    ensures bytes { IfSome (S.remaining input.old) (ReadsPpm result) }
+    ensures failures { CountsReadFault result (S.failure_count input.old) (S.failure_count input.new) }
+{
+    let mut piece = [0u8; PIECE];
+    let started = match read_header(input, &mut piece) {
+        Ok(started) => started,
+        Err(fault) => return Err(fault),
+    };
+    let mut samples = match Samples::new(alloc, started.frame) {
+        Ok(samples) => samples,
+        Err(fault) => return Err(fault),
+    };
+    if let Err(fault) = samples.feed(&piece[started.start..started.end]) {
+        return Err(fault);
+    }
+    read_samples(samples, input, &mut piece)
+}
+
+/// What a piece makes of the header.
+fn feed_header(begun: Progress, piece: &[u8]) -> Fed
+    ensures { FeedsHeader begun piece.now result }
+{
+    let mut progress = begun;
+    for (index, byte) in piece.iter().enumerate() {
+        match step(progress, *byte) {
+            Next::More(next) => progress = next,
+            Next::Whole(frame) => return Fed::Whole(frame, index + 1),
+            Next::Refused { reason, place } => {
+                return Fed::Refused(PpmFault::Format { reason, place });
+            }
+        }
+    }
+    Fed::More(progress)
+}
+
+/// Reads up to the end of the header, piece by piece.
+fn read_header<S: Source>(input: &mut S, piece: &mut [u8; PIECE]) -> Result<Started, PpmFault>
+    ensures started { IfOk result (λ s. HasStarted (S.remaining input.old) (S.remaining input.new) piece.new s) }
+    ensures failed { IfErr result (λ fault. IfSome (S.remaining input.old) (ReadsHeader fault)) }
+    ensures failures { CountsReadFault result (S.failure_count input.old) (S.failure_count input.new) }
+{
+    let mut progress = begun();
+    loop {
+        match input.fill(piece) {
+            Err(_) => return Err(PpmFault::Read),
+            Ok(0) => {
+                return Err(PpmFault::Format {
+                    reason: PpmReason::Short,
+                    place: progress.place,
+                });
+            }
+            Ok(count) => match feed_header(progress, &piece[..count]) {
+                Fed::More(next) => progress = next,
+                Fed::Whole(frame, start) => {
+                    return Ok(Started {
+                        frame,
+                        start,
+                        end: count,
+                    });
+                }
+                Fed::Refused(fault) => return Err(fault),
+            },
+        }
+    }
+}
+
+/// Reads the samples to the end of the source, piece by piece.
+fn read_samples<S: Source>(
+    begun: Samples,
+    input: &mut S,
+    piece: &mut [u8; PIECE],
+) -> Result<Picture, PpmFault>
+    requires { (colours : List Parts) × Holds begun colours }
+    ensures bytes { (colours : List Parts) → Holds begun colours →
+        IfSome (S.remaining input.old) (λ rest. ReadsRest result (samples_on begun colours rest)) }
+    ensures failures { CountsReadFault result (S.failure_count input.old) (S.failure_count input.new) }
+{
+    let mut samples = begun;
+    loop {
+        match input.fill(piece) {
+            Err(_) => return Err(PpmFault::Read),
+            Ok(0) => return samples.finish(),
+            Ok(count) => {
+                if let Err(fault) = samples.feed(&piece[..count]) {
+                    return Err(fault);
+                }
+            }
+        }
+    }
+}
