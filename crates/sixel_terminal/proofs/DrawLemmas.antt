@@ -57,9 +57,10 @@ none_chosen true e n d h g = rw h refl
 none_chosen false e n d h g = rw g refl
 
 -- an event that says nothing changes nothing
-stands_same : (t : Display) (before : List Event) (p : Pen) (e : Event) (colours : List Parts) (inks : List Ink) → Runs t
-    → StandsAfter t before p colours inks → is_return e ≡ false → is_next_line e ≡ false → columns_of t.choices.zero e ≡ 0
-    → raster_of e ≡ None → named_by e ≡ None → select_of e ≡ None → ((r : ℕ) → defined_on t r e ≡ None)
+stands_same : (t : Display) (before : List Event) (p : Pen) (e : Event) (colours : List Parts) (inks : List Ink)
+    → Runs t → StandsAfter t before p colours inks → is_return e ≡ false → is_next_line e ≡ false
+    → columns_of t.choices.zero e ≡ 0 → raster_of e ≡ None → named_by e ≡ None → select_of e ≡ None
+    → ((r : ℕ) → defined_on t r e ≡ None)
     → StandsAfter t (before ++ e ∷ []) p colours inks
 stands_same t before p e colours inks runs s no_return no_line no_columns no_raster no_name no_select no_definition =
     stands_push t before p p e colours colours inks inks runs s
@@ -71,8 +72,8 @@ stands_same t before p e colours inks runs s no_return no_line no_columns no_ras
     refl (λ i lt.
     unpainted_pixel t p colours e _ _ (get_or inks i black) no_columns (none_filled t.choices.ground e _ _ no_raster))
 
-pub stands_idle : (t : Display) (before : List Event) (p : Pen) (e : Event) (colours : List Parts) (inks : List Ink) → Runs t
-    → StandsAfter t before p colours inks → ((command : Command) → e ≡ Step command → ⊥)
+pub stands_idle : (t : Display) (before : List Event) (p : Pen) (e : Event) (colours : List Parts) (inks : List Ink)
+    → Runs t → StandsAfter t before p colours inks → ((command : Command) → e ≡ Step command → ⊥)
     → StandsAfter t (before ++ e ∷ []) p colours inks
 stands_idle t before p (Start eight parameters) colours inks runs s no_step =
     stands_same t before p (Start eight parameters) colours inks runs s refl refl refl refl refl refl (λ r. refl)

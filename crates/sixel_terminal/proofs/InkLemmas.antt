@@ -54,11 +54,13 @@ pub paints_below : (t : Display) (before : List Event) (e : Event) (x y r : ℕ)
 unfolding paints_on
 paints_below t before e x y r runs h =
     paint_below _ (touches_on t before e (x - t.choices.origin_x) (y - t.choices.origin_y)) (registers_of t)
-    (selected_on t before) t.choices.ground e _ _ r (selected_below t before runs.in_class.selected) runs.in_class.ground h
+    (selected_on t before) t.choices.ground e _ _ r (selected_below t before runs.in_class.selected)
+    runs.in_class.ground h
 
 -- ---- one event more
 
-pub map_same : {A B : Type 0} (f g : A → B) (o : Option A) → ((a : A) → o ≡ Some a → f a ≡ g a) → option_map f o ≡ option_map g o
+pub map_same : {A B : Type 0} (f g : A → B) (o : Option A)
+    → ((a : A) → o ≡ Some a → f a ≡ g a) → option_map f o ≡ option_map g o
 map_same f g None h = refl
 map_same f g (Some a) h = ap Some (h a refl)
 
@@ -79,7 +81,8 @@ ink_step t before p colours inks e x y runs s lx ly =
     ∙ sym (ink_push t before e x y)
 
 -- what stands after one event more
-pub stands_push : (t : Display) (before : List Event) (p q : Pen) (e : Event) (colours colours' : List Parts) (inks inks' : List Ink)
+pub stands_push : (t : Display) (before : List Event) (p q : Pen) (e : Event) (colours colours' : List Parts)
+    (inks inks' : List Ink)
     → Runs t → StandsAfter t before p colours inks
     → q.column ≡ next_column t p e → q.band ≡ next_band p e → q.height ≡ next_height t p e
     → q.selected ≡ next_selected t p e

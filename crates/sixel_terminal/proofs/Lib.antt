@@ -8,3 +8,4 @@ pub mod RunLemmas
 pub mod InkLemmas
 pub mod ShownLemmas
 pub mod DrawLemmas
+pub mod PlainLemmas

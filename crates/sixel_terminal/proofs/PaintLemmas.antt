@@ -1,6 +1,6 @@
 -- On painting the pixels of a screen.
 use Rattle.std.proofs.Common.{◌≡◌, ◌==◌, ℕ, ◌+◌, ◌-◌, ◌*◌, ◌/◌, ◌%◌, ◌<◌, Bool, true, false, ◌&&◌, ◌||◌, cond}
-use Rattle.std.proofs.Common.{List, length, get_or, nat_le, nat_lt, refl, sym, ap, ap₂, ◌∙◌, arith, add-one}
+use Rattle.std.proofs.Common.{List, length, get_or, min, nat_le, nat_lt, refl, sym, ap, ap₂, ◌∙◌, arith, add-one}
 use Rattle.std.specs.Int.{bit_at}
 use Rattle.std.proofs.lemmas.Bool.Decides.{nat_tests}
 use Rattle.std.proofs.lemmas.Nat.{div_below, mod_below}
@@ -10,7 +10,8 @@ use Rattle.std.specs.Prelude.{None, unwrap_or, if◌then◌else◌}
 use Rattle.std.specs.Bool.{then_some}
 use Rattle.std.specs.Option.{option_map}
 use Rattle.sixel_grammar.specs.declared.command.Command.{Command}
-use Rattle.sixel_grammar.specs.declared.command.Command.TheVariants.{Sixel, Repeat, Raster, Select, Define, CarriageReturn, NextLine}
+use Rattle.sixel_grammar.specs.declared.command.Command.TheVariants.{Sixel, Repeat, Raster, Select, Define}
+use Rattle.sixel_grammar.specs.declared.command.Command.TheVariants.{CarriageReturn, NextLine}
 use Rattle.sixel_grammar.specs.declared.command.Event.{Event}
 use Rattle.sixel_grammar.specs.declared.command.Event.TheVariants.{Step}
 use Rattle.sixel_picture.specs.declared.colour.Parts.{Parts}
@@ -57,7 +58,8 @@ pub box_pixels : (t : Display) (width height : ℕ) (columns rows : Span) (ink :
     → rows ≡ span_of t.choices.origin_y height t.choices.screen_height
     → ((i : ℕ) → i < length old
     → get_or new i black
-    ≡ cond (is_in_span columns (i % t.choices.screen_width) && is_in_span rows (i / t.choices.screen_width)) ink (get_or old i black))
+    ≡ cond (is_in_span columns (i % t.choices.screen_width) && is_in_span rows (i / t.choices.screen_width)) ink
+    (get_or old i black))
     → (i : ℕ) → i < length old
     → get_or new i black
     ≡ cond (is_from_origin t (i % t.choices.screen_width) (i / t.choices.screen_width)
@@ -68,7 +70,8 @@ box_pixels t width height columns rows ink old new whole some across down filled
     let in_height = div_below i t.choices.screen_width t.choices.screen_height some (omega (arith, whole, lt)) in
     filled i lt
     ∙ ap (λ (v : Bool). cond v ink (get_or old i black))
-    (rw (across, down) (box_pixel t width height (i % t.choices.screen_width) (i / t.choices.screen_width) in_width in_height))
+    (rw (across, down)
+    (box_pixel t width height (i % t.choices.screen_width) (i / t.choices.screen_width) in_width in_height))
 
 -- bit k is set, and its rows hold y
 abbrev bit_covers : Pen → ℕ → ℕ → ℕ → Bool
@@ -86,11 +89,13 @@ painted_below n t p count bits x y =
     is_from_origin t x y && covered_below n p count bits (x - t.choices.origin_x) (y - t.choices.origin_y)
 
 -- the pixels after the rows of the bits below n
-pub record IsPaintedBelow (n : ℕ) (t : Display) (p : Pen) (count bits : ℕ) (ink : Ink) (old new : List Ink) : Type 0 where
+pub record IsPaintedBelow (n : ℕ) (t : Display) (p : Pen) (count bits : ℕ) (ink : Ink)
+    (old new : List Ink) : Type 0 where
   pub long : length new ≡ length old
   pub pixels : (i : ℕ) → i < length old
       → get_or new i black
-      ≡ cond (painted_below n t p count bits (i % t.choices.screen_width) (i / t.choices.screen_width)) ink (get_or old i black)
+      ≡ cond (painted_below n t p count bits (i % t.choices.screen_width) (i / t.choices.screen_width)) ink
+      (get_or old i black)
 
 and_false : (t : Bool) → (t && false) ≡ false
 and_false true = refl
@@ -128,14 +133,16 @@ clear_covers : (p : Pen) (bits y k : ℕ) → (bit_at bits k == 1) ≡ false →
 clear_covers p bits y k clear = rw clear refl
 
 -- one more bit, which is set
-pub painted_more : (k : ℕ) (t : Display) (p : Pen) (count bits : ℕ) (ink : Ink) (columns rows : Span) (old mid new : List Ink)
+pub painted_more : (k : ℕ) (t : Display) (p : Pen) (count bits : ℕ) (ink : Ink) (columns rows : Span)
+    (old mid new : List Ink)
     → length old ≡ t.choices.screen_width * t.choices.screen_height → 0 < t.choices.screen_width
     → columns ≡ span_of (t.choices.origin_x + p.column) count t.choices.screen_width
     → rows ≡ span_of (t.choices.origin_y + (6 * p.band + k) * p.height) p.height t.choices.screen_height
     → (bit_at bits k == 1) ≡ true → IsPaintedBelow k t p count bits ink old mid → length new ≡ length mid
     → ((i : ℕ) → i < length mid
     → get_or new i black
-    ≡ cond (is_in_span columns (i % t.choices.screen_width) && is_in_span rows (i / t.choices.screen_width)) ink (get_or mid i black))
+    ≡ cond (is_in_span columns (i % t.choices.screen_width) && is_in_span rows (i / t.choices.screen_width)) ink
+    (get_or mid i black))
     → IsPaintedBelow (k + 1) t p count bits ink old new
 unfolding any_below
 painted_more k t p count bits ink columns rows old mid new whole some across down set before long filled = record {
@@ -152,7 +159,8 @@ painted_more k t p count bits ink columns rows old mid new whole some across dow
       let r = nat_le top py && nat_lt py (top + p.height) in
       let o = any_below k (bit_covers p bits py) in
       let in_width : x < t.choices.screen_width = mod_below i t.choices.screen_width some in
-      let in_height : y < t.choices.screen_height = div_below i t.choices.screen_width t.choices.screen_height some (omega (arith, whole, lt)) in
+      let in_height : y < t.choices.screen_height =
+      div_below i t.choices.screen_width t.choices.screen_height some (omega (arith, whole, lt)) in
       let in_mid : i < length mid = omega (arith, before.long) in
       let here : (is_in_span columns x && is_in_span rows y) ≡ ((a && c) && (b && r)) =
       rw (across, down) (ap₂ (λ v w. v && w)
@@ -161,7 +169,8 @@ painted_more k t p count bits ink columns rows old mid new whole some across dow
       let written : get_or new i black ≡ cond ((a && c) && (b && r)) ink (get_or mid i black) =
       filled i in_mid ∙ ap (λ (v : Bool). cond v ink (get_or mid i black)) here in
       let joined : get_or new i black ≡ cond ((a && b) && (c && (r || o))) ink (get_or old i black) =
-      written ∙ ap (λ n. cond ((a && c) && (b && r)) ink n) (before.pixels i lt) ∙ on_top a b c r o ink (get_or old i black) in
+      written ∙ ap (λ n. cond ((a && c) && (b && r)) ink n) (before.pixels i lt)
+      ∙ on_top a b c r o ink (get_or old i black) in
       rw (add-one, set_covers p bits py k set) joined;
 }
 
@@ -185,6 +194,39 @@ pub painted_all : (t : Display) (p : Pen) (count bits : ℕ) (ink : Ink) (old ne
     (i / t.choices.screen_width - t.choices.origin_y)) ink (get_or old i black)
 unfolding covers
 painted_all t p count bits ink old new painted i lt = painted.pixels i lt
+
+empty_across : (o l c w x : ℕ) → x < w → min (o + l) w ≡ min (o + l + c) w
+    → (nat_le o x && (nat_le l (x - o) && nat_lt (x - o) (l + c))) ≡ false
+empty_across o l c w x lt empty = grind (arith, nat_tests)
+
+and_first : (a b c d : Bool) → (a && c) ≡ false → ((a && b) && (c && d)) ≡ false
+and_first true true true d h = cc
+and_first true true false d h = refl
+and_first true false c d h = refl
+and_first false b c d h = refl
+
+-- a pen that has no column on the screen paints none of its pixels
+pub off_screen : (t : Display) (p : Pen) (count bits : ℕ) (columns : Span) (ink : Ink) (xs : List Ink)
+    → length xs ≡ t.choices.screen_width * t.choices.screen_height → 0 < t.choices.screen_width
+    → columns ≡ span_of (t.choices.origin_x + p.column) count t.choices.screen_width → columns.start ≡ columns.end
+    → (i : ℕ) → i < length xs
+    → get_or xs i black
+    ≡ cond (is_from_origin t (i % t.choices.screen_width) (i / t.choices.screen_width)
+    && covers p.column count p.band p.height bits (i % t.choices.screen_width - t.choices.origin_x)
+    (i / t.choices.screen_width - t.choices.origin_y)) ink (get_or xs i black)
+unfolding covers
+off_screen t p count bits columns ink xs whole some across empty i lt =
+    let x = i % t.choices.screen_width in
+    let ends : min (t.choices.origin_x + p.column) t.choices.screen_width
+    ≡ min (t.choices.origin_x + p.column + count) t.choices.screen_width = rw across at empty in
+    let none = empty_across t.choices.origin_x p.column count t.choices.screen_width x
+    (mod_below i t.choices.screen_width some) ends in
+    let px = x - t.choices.origin_x in
+    let y = i / t.choices.screen_width in
+    ap (λ (v : Bool). cond v ink (get_or xs i black))
+    (sym (and_first (nat_le t.choices.origin_x x) (nat_le t.choices.origin_y y)
+    (nat_le p.column px && nat_lt px (p.column + count))
+    (any_below 6 (bit_covers p bits (y - t.choices.origin_y))) none))
 
 no_columns : (l line rows bits x y : ℕ) → covers l 0 line rows bits x y ≡ false
 unfolding covers
@@ -217,10 +259,15 @@ filled_pixel t p colours pan pad width height register x y ink ground =
 
 -- an event that is neither a data command nor raster attributes paints nothing
 pub unpainted_pixel : (t : Display) (p : Pen) (colours : List Parts) (e : Event) (x y : ℕ) (ink : Ink)
-    → columns_of t.choices.zero e ≡ 0 → filled_on t.choices.ground e (x - t.choices.origin_x) (y - t.choices.origin_y) ≡ None
+    → columns_of t.choices.zero e ≡ 0
+    → filled_on t.choices.ground e (x - t.choices.origin_x) (y - t.choices.origin_y) ≡ None
     → ink ≡ ink_after t p colours e x y ink
 unpainted_pixel t p colours e x y ink none unfilled =
-    rw (none, unfilled, no_columns p.column p.band p.height (bits_of e) (x - t.choices.origin_x) (y - t.choices.origin_y))
+    rw (
+      none,
+      unfilled,
+      no_columns p.column p.band p.height (bits_of e) (x - t.choices.origin_x) (y - t.choices.origin_y),
+    )
     (nothing (is_from_origin t x y) (ink_with t colours) ink)
 
 -- raster attributes whose ground is kept

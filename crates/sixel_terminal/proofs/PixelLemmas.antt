@@ -42,7 +42,8 @@ high_rows : (b k h y : ℕ) → most ≤ b → 1 ≤ h → y < most
 high_rows b k h y high some lt =
     let stopped = at_least (6 * min b most + k) h some in
     let whole = at_least (6 * b + k) h some in
-    both_high ((6 * min b most + k) * h) ((6 * b + k) * h) h y (omega (arith, stopped, high, lt)) (omega (arith, whole, high, lt))
+    both_high ((6 * min b most + k) * h) ((6 * b + k) * h) h y (omega (arith, stopped, high, lt))
+    (omega (arith, whole, high, lt))
 
 -- the rows of a stopped band hold the same pixels of a screen
 stopped_rows : (b k h y : ℕ) → 1 ≤ h → y < most
@@ -84,8 +85,8 @@ pen_covers : (t : Display) (before : List Event) (p : Pen) (e : Event) (x y : �
 unfolding touches_on touches
 pen_covers t before p e x y s tall lx ly =
     rw (s.column_is, s.band_is, s.height_is)
-    (stopped_covers (column t.choices.zero before) (columns_of t.choices.zero e) (band before) (height_of t before) (bits_of e)
-    x y (height_some t before tall) lx ly)
+    (stopped_covers (column t.choices.zero before) (columns_of t.choices.zero e) (band before) (height_of t before)
+    (bits_of e) x y (height_some t before tall) lx ly)
 
 -- the pen paints what the definitions say
 pub pen_paints : (t : Display) (before : List Event) (p : Pen) (e : Event) (x y : ℕ) → IsPenAfter t before p

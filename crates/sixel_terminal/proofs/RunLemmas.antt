@@ -1,13 +1,13 @@
 -- What is known of a terminal that runs.
 use Rattle.std.proofs.Common.{◌≡◌, ◌==◌, ℕ, zero, suc, ◌*◌, ◌≤◌, Bool, true, false, ◌&&◌, not, nat_le, nat_lt}
-use Rattle.std.proofs.Common.{Option, Some, None, List, length, refl, arith}
+use Rattle.std.proofs.Common.{Option, Some, None, List, length, refl, subst, arith}
 use Rattle.std.specs.Prelude.{if◌then◌else◌}
 use Rattle.std.proofs.lemmas.Bool.{and_parts, eqb-true, leb-true, ltb-true}
 use Rattle.sixel_picture.specs.declared.colour.Parts.{Parts}
 use Rattle.sixel_terminal.specs.declared.choices.Choices.{Choices}
 use Rattle.sixel_terminal.specs.declared.choices.Ground.{Ground}
 use Rattle.sixel_terminal.specs.declared.choices.Ground.TheVariants.{Kept, Filled}
-use Rattle.sixel_terminal.specs.Displays.{Display, IsGroundBelow, IsInClass}
+use Rattle.sixel_terminal.specs.Displays.{Display, IsGroundBelow, IsInClass, registers_of}
 use Rattle.sixel_terminal.specs.Limits.{display_of, is_ground_below, is_screen_side, terminal_fault}
 
 -- it is in the class, and its screen is no larger than a terminal that runs may have
@@ -16,11 +16,13 @@ pub record Runs (t : Display) : Type 0 where
   pub width : t.choices.screen_width ≤ 4096
   pub height : t.choices.screen_height ≤ 4096
 
-passed : {A : Type 0} (b : Bool) (x : A) (o : Option A) → (if not b then Some x else o) ≡ None → (b ≡ true) × (o ≡ None)
+passed : {A : Type 0} (b : Bool) (x : A) (o : Option A) → (if not b then Some x else o) ≡ None
+    → (b ≡ true) × (o ≡ None)
 passed true x o h = (refl, h)
 passed false x o h = cc
 
-not_passed : {A : Type 0} (b : Bool) (x : A) (o : Option A) → (if b then Some x else o) ≡ None → (b ≡ false) × (o ≡ None)
+not_passed : {A : Type 0} (b : Bool) (x : A) (o : Option A) → (if b then Some x else o) ≡ None
+    → (b ≡ false) × (o ≡ None)
 not_passed true x o h = cc
 not_passed false x o h = (refl, h)
 
@@ -48,7 +50,8 @@ runs choices colours screen h =
     let both = and_parts (is_screen_side choices.screen_width) (is_screen_side choices.screen_height) sides.0 in
     let across = and_parts (nat_le 1 choices.screen_width) (nat_le choices.screen_width 4096) both.0 in
     let down = and_parts (nat_le 1 choices.screen_height) (nat_le choices.screen_height 4096) both.1 in
-    let at = and_parts (nat_lt choices.origin_x choices.screen_width) (nat_lt choices.origin_y choices.screen_height) origin.0 in
+    let at = and_parts (nat_lt choices.origin_x choices.screen_width)
+    (nat_lt choices.origin_y choices.screen_height) origin.0 in
     record {
       in_class = record {
         enough = leb-true _ _ count.0;
@@ -63,3 +66,22 @@ runs choices colours screen h =
       width = leb-true _ _ across.1;
       height = leb-true _ _ down.1;
     }
+
+-- what contracts see of a terminal runs
+pub runs_seen : (t : Display) (choices : Choices) (colours screen : List Parts) → display_of choices colours screen ≡ t
+    → terminal_fault choices colours screen ≡ None → Runs t
+runs_seen t choices colours screen same h = subst (λ (d : Display). Runs d) same (runs choices colours screen h)
+
+-- a terminal of the class for pictures of some count of registers is one for each count up to its own
+pub in_class_up_to : (registers n : ℕ) (t : Display) → IsInClass n t → registers ≤ registers_of t
+    → IsInClass registers t
+in_class_up_to registers n t known few = record {
+  enough = few;
+  selected = known.selected;
+  ground = known.ground;
+  zero = known.zero;
+  tall = known.tall;
+  screen = known.screen;
+  origin_x = known.origin_x;
+  origin_y = known.origin_y;
+}

@@ -1,11 +1,18 @@
 -- On the register that a command selects.
-use Rattle.std.proofs.Common.{◌≡◌, ℕ, Bool, true, false, Some, None, refl}
+use Rattle.std.proofs.Common.{◌≡◌, ℕ, Bool, true, false, Some, None, List, refl}
 use Rattle.std.specs.Prelude.{if◌then◌else◌}
 use Rattle.std.specs.Bool.{then_some}
 use Rattle.sixel_grammar.specs.declared.command.Command.{Command}
-use Rattle.sixel_grammar.specs.declared.command.Command.TheVariants.{Sixel, Repeat, Raster, Select, Define, CarriageReturn, NextLine}
+use Rattle.sixel_grammar.specs.declared.command.Command.TheVariants.{Sixel, Repeat, Raster, Select, Define}
+use Rattle.sixel_grammar.specs.declared.command.Command.TheVariants.{CarriageReturn, NextLine}
+use Rattle.std.proofs.Math.Nat.{mod-eq_of_lt}
+use Rattle.sixel_grammar.specs.declared.command.Event.{Event}
 use Rattle.sixel_grammar.specs.declared.command.Event.TheVariants.{Step}
 use Rattle.sixel_picture.specs.Events.{named_by, select_of}
+use Rattle.sixel_picture.specs.Positions.{latest}
+use Rattle.sixel_picture.proofs.KnownLemmas.{Known, known_is}
+use Rattle.sixel_terminal.specs.Drawing.{selected_on}
+use Rattle.sixel_terminal.specs.Laws.{KnownIsSelected}
 
 pub select_selects : (b : Bool) (r : ℕ) → Some r ≡ (if b then named_by else select_of) (Step (Select r))
 select_selects true r = refl
@@ -31,3 +38,14 @@ none_selects false (Repeat count bits) no_select no_define = refl
 none_selects false (Raster a b c d) no_select no_define = refl
 none_selects false CarriageReturn no_select no_define = refl
 none_selects false NextLine no_select no_define = refl
+
+last_of_either : (b : Bool) (before : List Event) (r : ℕ) → Known before r
+    → latest (if b then named_by else select_of) before ≡ Some r
+last_of_either true before r k = k.named
+last_of_either false before r k = k.selected
+
+-- a known register is the selected one
+pub known_is_selected : KnownIsSelected
+unfolding selected_on
+known_is_selected t before r h below =
+    rw (last_of_either t.choices.selects before r (known_is before r h)) (mod-eq_of_lt below)

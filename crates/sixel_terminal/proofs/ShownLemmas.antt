@@ -21,7 +21,8 @@ use Rattle.sixel_terminal.specs.Standing.{StandsAfter, ink_of, ink_on, inked_by,
 use Rattle.sixel_terminal.proofs.InkLemmas.{map_same, paints_below}
 use Rattle.sixel_terminal.proofs.RunLemmas.{Runs}
 
-map_or : {A B : Type 0} (f : A → B) (o p : Option A) → option_map f (option_or o p) ≡ option_or (option_map f o) (option_map f p)
+map_or : {A B : Type 0} (f : A → B) (o p : Option A)
+    → option_map f (option_or o p) ≡ option_or (option_map f o) (option_map f p)
 map_or f None p = refl
 map_or f (Some a) p = refl
 
@@ -32,7 +33,8 @@ map_below f zero g = refl
 map_below f (suc n) g =
     map_or f (g n) (last_below n g) ∙ ap (option_or (option_map f (g n))) (map_below f n g)
 
-same_there : {X A : Type 0} (f g : X → Option A) (o : Option X) → ((x : X) → f x ≡ g x) → option_and_then f o ≡ option_and_then g o
+same_there : {X A : Type 0} (f g : X → Option A) (o : Option X) → ((x : X) → f x ≡ g x)
+    → option_and_then f o ≡ option_and_then g o
 same_there f g None h = refl
 same_there f g (Some x) h = h x
 
@@ -52,7 +54,8 @@ map_last f g h xs each =
     map_then f (g (take i xs)) (slice_get xs i)
     ∙ same_there (λ x. option_map f (g (take i xs) x)) (h (take i xs)) (slice_get xs i) (each (take i xs)))
 
-map_map : {A B C : Type 0} (f : B → C) (g : A → B) (o : Option A) → option_map f (option_map g o) ≡ option_map (λ a. f (g a)) o
+map_map : {A B C : Type 0} (f : B → C) (g : A → B) (o : Option A)
+    → option_map f (option_map g o) ≡ option_map (λ a. f (g a)) o
 map_map f g None = refl
 map_map f g (Some a) = refl
 
@@ -63,11 +66,13 @@ unwrap_map f (Some a) d = refl
 -- the colours of the registers at the end
 abbrev AreAtEnd : Display → List Event → List Parts → Type 0
 AreAtEnd t events colours =
-    (length colours ≡ registers_of t) × ((r : ℕ) → r < registers_of t → get_or colours r (Rgb 0 0 0) ≡ map_on t events r)
+    (length colours ≡ registers_of t)
+    × ((r : ℕ) → r < registers_of t → get_or colours r (Rgb 0 0 0) ≡ map_on t events r)
 
 ink_shows : (binds : Bool) (t : Display) (events before : List Event) (colours : List Parts) (r : ℕ)
     → AreAtEnd t events colours → r < registers_of t
-    → shown_in colours (if binds then Bound r else Fixed (map_on t before r)) ≡ map_on t (if binds then events else before) r
+    → shown_in colours (if binds then Bound r else Fixed (map_on t before r))
+    ≡ map_on t (if binds then events else before) r
 ink_shows true t events before colours r s lt =
     let below : r < length colours = omega (arith, s.0, lt) in
     ap (λ n. get_or colours n (Rgb 0 0 0)) (mod-eq_of_lt below) ∙ s.1 r lt
@@ -95,9 +100,11 @@ pub all_shown : (t : Display) (events : List Event) (p : Pen) (colours : List Pa
     → StandsAfter t events p colours inks → map (shown_in colours) inks ≡ screen_on t events
 unfolding screen_on
 all_shown t events p colours inks runs s =
-    rows_from_index t.choices.screen_width t.choices.screen_height (shown_on t events) (map (shown_in colours) inks) (Rgb 0 0 0)
+    rows_from_index t.choices.screen_width t.choices.screen_height (shown_on t events)
+    (map (shown_in colours) inks) (Rgb 0 0 0)
     (simp length-map s.pixels)
     (λ i lt.
     get_or-map (shown_in colours) inks i black (Rgb 0 0 0) (omega (arith, s.pixels, lt))
     ∙ ap (shown_in colours) (s.inks_are i lt)
-    ∙ pixel_shows t events colours (i % t.choices.screen_width) (i / t.choices.screen_width) runs (s.registers, s.colours_are))
+    ∙ pixel_shows t events colours (i % t.choices.screen_width) (i / t.choices.screen_width) runs
+    (s.registers, s.colours_are))

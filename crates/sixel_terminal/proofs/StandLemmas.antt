@@ -5,7 +5,8 @@ use Rattle.std.specs.Prelude.{unwrap_or, if◌then◌else◌}
 use Rattle.std.specs.Option.{option_or, option_map_or}
 use Rattle.std.proofs.lemmas.Nat.{mod_below}
 use Rattle.sixel_grammar.specs.declared.command.Event.{Event}
-use Rattle.sixel_picture.specs.Events.{Attributes, columns_of, is_next_line, is_return, is_square, named_by, raster_of, select_of}
+use Rattle.sixel_picture.specs.Events.{Attributes, columns_of, is_next_line, is_return, is_square}
+use Rattle.sixel_picture.specs.Events.{named_by, raster_of, select_of}
 use Rattle.sixel_picture.specs.Geometry.{band, column}
 use Rattle.sixel_picture.specs.Positions.{last_at, latest}
 use Rattle.sixel_picture.proofs.PositionLemmas.{latest_push, last_at_push}
@@ -55,9 +56,10 @@ pen_push t before p q e s c b h sel = record {
       ∙ stopped_band (band before) (cond (is_next_line e) 1 0)
       ∙ ap (λ n. min n most) (sym (band_push before e));
   height_is =
-      h ∙ ap (λ n. option_map_or (λ (a : Attributes). if is_square a then 1 else t.choices.tall) (raster_of e) n) s.height_is
-      ∙ sym (map_or_or (λ (a : Attributes). if is_square a then 1 else t.choices.tall) (raster_of e) (latest raster_of before) t.choices.tall)
-      ∙ ap (λ o. option_map_or (λ (a : Attributes). if is_square a then 1 else t.choices.tall) o t.choices.tall) (sym (latest_push raster_of before e));
+      let height = λ (a : Attributes). if is_square a then 1 else t.choices.tall in
+      h ∙ ap (λ n. option_map_or height (raster_of e) n) s.height_is
+      ∙ sym (map_or_or height (raster_of e) (latest raster_of before) t.choices.tall)
+      ∙ ap (λ o. option_map_or height o t.choices.tall) (sym (latest_push raster_of before e));
   selected_is =
       let f = (if t.choices.selects then named_by else select_of) in
       sel ∙ ap (λ n. option_map_or (λ r. r % registers_of t) (f e) n) s.selected_is

@@ -21,7 +21,7 @@ IsGroundBelow registers Kept = Unit {0}
 IsGroundBelow registers (Filled register) = register < registers
 
 -- the terminal belongs to the class for pictures of so many registers
--- it may have more of them, any colours, and a screen of any size
+-- it may have more of them, a screen of any size, and any colours, even such as are out of range
 pub record IsInClass (registers : ℕ) (t : Display) : Type 0 where
   pub enough : registers ≤ registers_of t
   pub selected : t.choices.selected < registers_of t

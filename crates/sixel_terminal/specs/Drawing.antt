@@ -8,7 +8,8 @@ use Rattle.sixel_grammar.specs.declared.command.Event.{Event}
 use Rattle.sixel_picture.specs.declared.colour.Parts.{Parts}
 use Rattle.sixel_picture.specs.declared.colour.Parts.TheVariants.{Rgb}
 use Rattle.sixel_picture.specs.Colours.{clamped, colour_in, is_colour}
-use Rattle.sixel_picture.specs.Events.{Attributes, Definition, definition_where, is_in_box, is_square, named_by, raster_of, select_of}
+use Rattle.sixel_picture.specs.Events.{Attributes, Definition, definition_where, is_in_box, is_square, named_by}
+use Rattle.sixel_picture.specs.Events.{raster_of, select_of}
 use Rattle.sixel_picture.specs.Geometry.{touches}
 use Rattle.sixel_picture.specs.Positions.{HoldsAtPosition, last_at, latest}
 use Rattle.sixel_picture.specs.Sheets.{row_by_row}
@@ -16,10 +17,12 @@ use Rattle.sixel_terminal.specs.declared.choices.Ground.{Ground}
 use Rattle.sixel_terminal.specs.declared.choices.Ground.TheVariants.{Kept, Filled}
 use Rattle.sixel_terminal.specs.Displays.{Display, registers_of}
 
--- the height of one sixel pixel: 1 where the last raster attributes before give the ratio 1 to 1, else the terminal's own
+-- the height of one sixel pixel: 1 where both numbers of the ratio in the last raster attributes before are 1, else the
+-- terminal's own
 unfoldable pub height_of : Display → List Event → ℕ
 height_of t before =
-    option_map_or (λ (a : Attributes). if is_square a then 1 else t.choices.tall) (latest raster_of before) t.choices.tall
+    option_map_or (λ (a : Attributes). if is_square a then 1 else t.choices.tall) (latest raster_of before)
+    t.choices.tall
 
 -- the event is a data command that paints the point
 unfoldable pub touches_on : Display → List Event → Event → ℕ → ℕ → Bool

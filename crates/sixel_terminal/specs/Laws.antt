@@ -1,16 +1,39 @@
 -- What the laws say.
-use Rattle.std.specs.Prelude.{◌≡◌, ℕ, None, List}
+use Rattle.std.specs.Prelude.{◌≡◌, ◌<◌, ◌≤◌, ℕ, Some, None, IfSome, IsFalse, IsSome, IsTrue, List, length, slice_get}
+use Rattle.std.specs.Prelude.{take}
+use Rattle.std.specs.List.{AllByRecursion}
+use Rattle.sixel_grammar.specs.declared.command.Event.{Event}
 use Rattle.sixel_picture.specs.declared.colour.Parts.{Parts}
+use Rattle.sixel_picture.specs.Events.{is_repeat_of_zero, is_square, raster_of}
+use Rattle.sixel_picture.specs.Geometry.{falls}
+use Rattle.sixel_picture.specs.Rules.{known, raster_before}
 use Rattle.sixel_terminal.specs.declared.choices.Choices.{Choices}
-use Rattle.sixel_terminal.specs.Displays.{Display, HasRoom, IsInClass}
+use Rattle.sixel_terminal.specs.Displays.{Display, HasRoom, IsInClass, registers_of}
+use Rattle.sixel_terminal.specs.Drawing.{selected_on, touches_on}
 use Rattle.sixel_terminal.specs.Limits.{display_of, terminal_fault}
 
 -- for pictures of any count of registers and any size, some terminal of the class has room
 abbrev pub SomeTerminalHasRoom : Type 0
 SomeTerminalHasRoom = (registers width height : ℕ) → (t : Display) × IsInClass registers t × HasRoom t width height
 
--- parts in which there is no fault make a terminal of the class
+-- parts in which there is no fault make a terminal of the class, for pictures of any count of registers up to its own
 abbrev pub TerminalsAreInClass : Type 0
 TerminalsAreInClass =
-    (choices : Choices) (colours screen : List Parts) → terminal_fault choices colours screen ≡ None
-    → IsInClass 16 (display_of choices colours screen)
+    (registers : ℕ) (choices : Choices) (colours screen : List Parts) → terminal_fault choices colours screen ≡ None
+    → registers ≤ length colours → IsInClass registers (display_of choices colours screen)
+
+-- there is no repeat of 0, and no ratio but 1 to 1
+pub record IsPlain (events : List Event) : Type 0 where
+  pub no_repeat_of_zero : AllByRecursion (λ e. IsFalse (is_repeat_of_zero e)) events
+  pub square : AllByRecursion (λ e. IfSome (raster_of e) (λ a. IsTrue (is_square a))) events
+
+-- in a plain list an event after raster attributes paints the same points on each terminal
+abbrev pub SamePointsOnEach : Type 0
+SamePointsOnEach =
+    (t : Display) (events : List Event) (i : ℕ) (e : Event) (x y : ℕ) → IsPlain events → slice_get events i ≡ Some e
+    → IsSome (raster_before (take i events)) → touches_on t (take i events) e x y ≡ falls (take i events) e x y
+
+-- the known register is the selected one on each terminal that has it
+abbrev pub KnownIsSelected : Type 0
+KnownIsSelected =
+    (t : Display) (before : List Event) (r : ℕ) → known before ≡ Some r → r < registers_of t → selected_on t before ≡ r

@@ -6,7 +6,9 @@ use Rattle.sixel_terminal.specs.declared.choices.Choices.{Choices}
 use Rattle.sixel_terminal.specs.declared.choices.Ground.{Ground}
 use Rattle.sixel_terminal.specs.declared.choices.Ground.TheVariants.{Kept, Filled}
 use Rattle.sixel_terminal.specs.declared.terminal.TerminalReason.{TerminalReason}
-use Rattle.sixel_terminal.specs.declared.terminal.TerminalReason.TheVariants.{Registers, Selected, Ground as GroundReason, Zero, Tall, Screen, Origin}
+use Rattle.sixel_terminal.specs.declared.terminal.TerminalReason.TheVariants.{Registers, Selected}
+use Rattle.sixel_terminal.specs.declared.terminal.TerminalReason.TheVariants.{Ground as GroundReason}
+use Rattle.sixel_terminal.specs.declared.terminal.TerminalReason.TheVariants.{Zero, Tall, Screen, Origin}
 use Rattle.sixel_terminal.specs.Displays.{Display}
 
 abbrev pub display_of : Choices → List Parts → List Parts → Display

@@ -1,5 +1,7 @@
--- What a terminal that draws keeps after a list of events.
-use Rattle.std.specs.Prelude.{◌≡◌, ◌<◌, ℕ, ◌+◌, ◌*◌, ◌/◌, ◌%◌, List, Option, length, min, slice_index_or, unwrap_or, if◌then◌else◌}
+-- What a terminal that draws keeps after a list of events. Private contracts alone cite these words: what a terminal
+-- shows is said in Drawing.
+use Rattle.std.specs.Prelude.{◌≡◌, ◌<◌, ℕ, ◌+◌, ◌*◌, ◌/◌, ◌%◌, List, Option, length, min}
+use Rattle.std.specs.Prelude.{slice_index_or, unwrap_or, if◌then◌else◌}
 use Rattle.std.specs.Option.{option_map}
 use Rattle.sixel_grammar.specs.declared.command.Event.{Event}
 use Rattle.sixel_picture.specs.declared.colour.Parts.{Parts}
@@ -25,7 +27,8 @@ inked_by t x y before e = option_map (ink_of t before) (paints_on t before e x y
 -- the ink of the pixel after the events
 unfoldable pub ink_on : Display → List Event → ℕ → ℕ → Ink
 ink_on t before x y =
-    unwrap_or (last_at (inked_by t x y) before) (Fixed (slice_index_or t.screen (y * t.choices.screen_width + x) (Rgb 0 0 0)))
+    unwrap_or (last_at (inked_by t x y) before)
+    (Fixed (slice_index_or t.screen (y * t.choices.screen_width + x) (Rgb 0 0 0)))
 
 pub record IsPenAfter (t : Display) (before : List Event) (p : Pen) : Type 0 where
   pub column_is : p.column ≡ min (column t.choices.zero before) most
@@ -35,7 +38,8 @@ pub record IsPenAfter (t : Display) (before : List Event) (p : Pen) : Type 0 whe
   pub selected_below : p.selected < registers_of t
 
 -- the pen, the colour of each register and the ink of each pixel after the events
-pub record StandsAfter (t : Display) (before : List Event) (p : Pen) (colours : List Parts) (inks : List Ink) : Type 0 where
+pub record StandsAfter (t : Display) (before : List Event) (p : Pen) (colours : List Parts)
+    (inks : List Ink) : Type 0 where
   pub pen : IsPenAfter t before p
   pub registers : length colours ≡ registers_of t
   pub colours_are : (r : ℕ) → r < registers_of t → slice_index_or colours r (Rgb 0 0 0) ≡ map_on t before r

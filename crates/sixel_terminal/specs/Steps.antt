@@ -1,11 +1,13 @@
--- What one event does to what is drawn.
-use Rattle.std.specs.Prelude.{◌&&◌, ℕ, ◌+◌, ◌-◌, ◌%◌, Bool, List, Option, Some, None, min, nat_le, nat_lt}
+-- What one event does to what is drawn. Private contracts alone cite these words: what a terminal shows is said in
+-- Drawing, and none of its words is by steps.
+use Rattle.std.specs.Prelude.{◌&&◌, ℕ, ◌+◌, ◌-◌, ◌%◌, ◌^◌, Bool, List, Option, Some, None, min, nat_le, nat_lt}
 use Rattle.std.specs.Prelude.{slice_index_or, unwrap_or, if◌then◌else◌}
 use Rattle.std.specs.Option.{option_map, option_map_or}
 use Rattle.sixel_grammar.specs.declared.command.Event.{Event}
 use Rattle.sixel_picture.specs.declared.colour.Parts.{Parts}
 use Rattle.sixel_picture.specs.declared.colour.Parts.TheVariants.{Rgb}
-use Rattle.sixel_picture.specs.Events.{Attributes, bits_of, columns_of, is_next_line, is_return, is_square, named_by, raster_of, select_of}
+use Rattle.sixel_picture.specs.Events.{Attributes, bits_of, columns_of, is_next_line, is_return, is_square}
+use Rattle.sixel_picture.specs.Events.{named_by, raster_of, select_of}
 use Rattle.sixel_picture.specs.Geometry.{covers}
 use Rattle.sixel_terminal.specs.declared.canvas.Ink.{Ink}
 use Rattle.sixel_terminal.specs.declared.canvas.Ink.TheVariants.{Fixed, Bound}
@@ -13,9 +15,9 @@ use Rattle.sixel_terminal.specs.declared.pen.Pen.{Pen}
 use Rattle.sixel_terminal.specs.Displays.{Display, registers_of}
 use Rattle.sixel_terminal.specs.Drawing.{filled_on}
 
--- the greatest column or band of a pen, which is off every screen
+-- the greatest column or band of a pen, which is off the screen of each terminal that runs
 abbrev pub most : ℕ
-most = 4294967295
+most = 2 ^ 32 - 1
 
 abbrev pub next_column : Display → Pen → Event → ℕ
 next_column t p e = if is_return e then 0 else min (p.column + columns_of t.choices.zero e) most
@@ -50,7 +52,8 @@ box_covers t width height x y =
 abbrev pub painted_by : Display → Pen → Event → ℕ → ℕ → Option ℕ
 painted_by t p e x y =
     if is_from_origin t x y
-    then if covers p.column (columns_of t.choices.zero e) p.band p.height (bits_of e) (x - t.choices.origin_x) (y - t.choices.origin_y)
+    then if covers p.column (columns_of t.choices.zero e) p.band p.height (bits_of e)
+    (x - t.choices.origin_x) (y - t.choices.origin_y)
     then Some p.selected
     else filled_on t.choices.ground e (x - t.choices.origin_x) (y - t.choices.origin_y)
     else None

@@ -9,22 +9,25 @@ pub enum Ground {
     Filled(u16),
 }
 
-/// What a terminal does where DEC EK-VT3XX-GP, volume 2, the chapter on sixel graphics, leaves it open.
+/// What the terminals of the class do, each in its own way.
+///
+/// The class is this project's own. The commands are those of DEC EK-VT3XX-GP, volume 2, the chapter on sixel
+/// graphics.
 #[derive(Clone, Copy, Debug, PartialEq, Eq)]
 pub struct Choices {
     /// A pixel shows the colour that its register has at the end of the string, not at its painting.
     pub binds_at_showing: bool,
-    /// A definition of a register also selects it.
+    /// A definition of a register also selects it, even where it gives no colour.
     pub selects: bool,
     pub ground: Ground,
     /// The register that is selected at the start.
     pub selected: u16,
     /// The columns that a repeat of 0 paints: 0 or 1.
     pub zero: u8,
-    /// A coordinate out of range becomes the nearest in range; else its definition gives no colour.
+    /// A coordinate out of range becomes the nearest in range; if not, its definition gives no colour.
     pub clamps: bool,
-    /// The height of a sixel pixel, in pixels of the screen from 1 upwards, where the latest raster attributes
-    /// don't give the ratio 1 to 1 or there are none.
+    /// The height of a sixel pixel, in pixels of the screen from 1 upwards, where there are no raster attributes
+    /// yet or one of the two numbers of the latest ratio isn't 1. So it is the height at 2;2 too.
     pub tall: u16,
     /// In pixels, as are the three that follow.
     pub screen_width: u32,

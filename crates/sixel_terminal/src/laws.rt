@@ -1,13 +1,25 @@
 //! Laws about the definitions. Each function's contract is the law.
 
-ghost use Rattle.sixel_terminal.specs.Laws.{SomeTerminalHasRoom, TerminalsAreInClass};
+ghost use Rattle.sixel_terminal.specs.Laws.{KnownIsSelected, SamePointsOnEach, SomeTerminalHasRoom};
+ghost use Rattle.sixel_terminal.specs.Laws.{TerminalsAreInClass};
 
 /// For pictures of any count of registers and any size, some terminal of the class has room.
 pub fn some_terminal_has_room()
     ensures { SomeTerminalHasRoom }
 {}
 
-/// A terminal that runs belongs to the class.
+/// Parts without a fault make a terminal of the class, for pictures of up to as many registers as it has.
 pub fn terminals_are_in_class()
     ensures { TerminalsAreInClass }
+{}
+
+/// Where no repeat of 0 and no ratio but 1 to 1 stands in a list, an event after raster attributes paints the same
+/// points on each terminal, with bits of one row.
+pub fn same_points_on_each()
+    ensures { SamePointsOnEach }
+{}
+
+/// The known register, the last selected and the last named, is the selected one on each terminal that has it.
+pub fn known_is_selected()
+    ensures { KnownIsSelected }
 {}

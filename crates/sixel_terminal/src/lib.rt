@@ -1,4 +1,4 @@
-//! The class of terminals that a portable picture looks the same on, and what one of them shows.
+//! A class of terminals, and what one of them shows after a list of events.
 #![tactic(auto)]
 
 mod canvas;

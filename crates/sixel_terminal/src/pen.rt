@@ -1,8 +1,9 @@
 //! Where the next data command paints, and in what.
 
 ghost use Rattle.std.specs.Prelude.{◌≡◌, ◌+◌, min};
+ghost use Rattle.sixel_terminal.specs.Steps.{most};
 
-/// What stands before a command. Column and band stop at `u32::MAX`, which is off every screen.
+/// What stands before a command. Column and band stop at `u32::MAX`, which is off each screen of a `Terminal`.
 #[derive(Clone, Copy, Debug)]
 pub(crate) struct Pen {
     pub column: u32,
@@ -18,7 +19,7 @@ impl Pen {
     /// So many columns to the right.
     pub(crate) fn moved(self, columns: u16) -> Pen
         ensures { result ≡ record {
-          column = min (self.column + columns) 4294967295;
+          column = min (self.column + columns) most;
           band = self.band;
           height = self.height;
           selected = self.selected;

@@ -4,8 +4,8 @@ mod drawing;
 mod painting;
 mod steps;
 
-ghost use Rattle.std.specs.Prelude.{◌≡◌, ◌↔◌, None, Some, IsTrue, MatchResult};
-ghost use Rattle.sixel_terminal.specs.Displays.{HasRoom};
+ghost use Rattle.std.specs.Prelude.{◌≡◌, ◌↔◌, None, Some, IfErr, IfOk, IsTrue, MatchResult};
+ghost use Rattle.sixel_terminal.specs.Displays.{HasRoom, IsInClass};
 ghost use Rattle.sixel_terminal.specs.Limits.{display_of, is_ground_below, terminal_fault};
 
 use crate::choices::{Choices, Ground};
@@ -114,9 +114,8 @@ impl Terminal {
         ensures reason { MatchResult result
             (λ t. terminal_fault choices colours.items screen.items ≡ None)
             (λ f. terminal_fault choices colours.items screen.items ≡ Some f.reason) }
-        ensures parts { MatchResult result
-            (λ t. t ≡ display_of choices colours.items screen.items)
-            (λ f. (f.colours ≡ colours) × (f.screen ≡ screen)) }
+        ensures made { IfOk result (λ t. t ≡ display_of choices colours.items screen.items) }
+        ensures parts { IfErr result (λ f. (f.colours ≡ colours) × (f.screen ≡ screen)) }
     {
         if let Some(reason) = fault_of(choices, &colours, &screen) {
             return Err(TerminalFault {
@@ -134,7 +133,8 @@ impl Terminal {
 
     /// Whether a box of this width and height in pixels, which begins at the origin, lies on the screen.
     pub fn has_room(&self, width: u32, height: u32) -> bool
-        ensures { IsTrue result ↔ HasRoom self.now width height }
+        ensures room { IsTrue result ↔ HasRoom self.now width height }
+        ensures in_class { IsInClass 16 self.now }
     {
         width <= self.choices.screen_width
             && self.choices.origin_x <= self.choices.screen_width - width

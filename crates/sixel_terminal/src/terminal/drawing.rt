@@ -80,7 +80,9 @@ impl Terminal {
 
     /// The colours of the whole screen after the events, row by row.
     ///
-    /// It takes any list of events; a start and a finish paint nothing. What lies off the screen is left out.
+    /// It takes any list of events, also one that no text spells: bits above the six of a sixel paint nothing. Nor do
+    /// a start and a finish. What lies off the screen is left out.
+    ///
     /// `AllocError` is answered only where a growth was refused.
     pub fn show(&self, alloc: Global, events: &[Placed]) -> Result<Vec<Colour>, AllocError>
         ensures { IfOk result (λ shown. shown.items ≡ screen_on self.now (events_of events.now)) }

@@ -33,11 +33,15 @@ impl Terminal {
     pub(crate) fn paint_columns(&self, pen: Pen, count: u16, bits: u8, ink: &Ink, inks: &mut [Ink])
         requires { length inks.old ≡ self.now.choices.screen_width * self.now.choices.screen_height }
         ensures { EachIndex inks.old (λ i. slice_index_or inks.new i black
-            ≡ (if pen_covers self.now pen count bits (i % self.now.choices.screen_width) (i / self.now.choices.screen_width)
-            then ink.now else slice_index_or inks.old i black)) }
+            ≡ (if pen_covers self.now pen count bits (i % self.now.choices.screen_width)
+            (i / self.now.choices.screen_width) then ink.now else slice_index_or inks.old i black)) }
     {
         let left = self.choices.origin_x as u64 + pen.column as u64;
         let columns = Span::new(left, count as u64, self.choices.screen_width);
+        // No column of it is on the screen, so none of its rows needs a look.
+        if columns.start == columns.end {
+            return;
+        }
         for bit in 0..6 {
             if is_set(bits, bit) {
                 let rows = self.rows_of(pen, bit);
@@ -50,8 +54,8 @@ impl Terminal {
     pub(crate) fn paint_box(&self, width: u16, height: u16, ink: &Ink, inks: &mut [Ink])
         requires { length inks.old ≡ self.now.choices.screen_width * self.now.choices.screen_height }
         ensures { EachIndex inks.old (λ i. slice_index_or inks.new i black
-            ≡ (if box_covers self.now width height (i % self.now.choices.screen_width) (i / self.now.choices.screen_width)
-            then ink.now else slice_index_or inks.old i black)) }
+            ≡ (if box_covers self.now width height (i % self.now.choices.screen_width)
+            (i / self.now.choices.screen_width) then ink.now else slice_index_or inks.old i black)) }
     {
         let left = self.choices.origin_x as u64;
         let top = self.choices.origin_y as u64;

@@ -5,7 +5,8 @@ use Rattle.sixel_terminal.proofs.terminal.Terminal.paint.Goals as goal
 
 pub returns-in-Filled : goal.returns-in-Filled
 returns-in-Filled c = λ i lt.
-    let same : c.self.inside.choices.ground ≡ c.args.self.now.choices.ground = ap (λ (t : Display). t.choices.ground) c.self.view_is in
+    let same : c.self.inside.choices.ground ≡ c.args.self.now.choices.ground =
+    ap (λ (t : Display). t.choices.ground) c.self.view_is in
     rw c.in-Raster.is
     ((rw c.ink-in-Filled.ensures at c.paint_box.ensures) i lt
     ∙ filled_pixel c.args.self.now c.args.pen c.args.colours.now c.in-Raster.pan c.in-Raster.pad c.in-Raster.width
@@ -13,7 +14,8 @@ returns-in-Filled c = λ i lt.
 
 pub returns-in_default-ground : goal.returns-in_default-ground
 returns-in_default-ground c = λ i lt.
-    let same : c.self.inside.choices.ground ≡ c.args.self.now.choices.ground = ap (λ (t : Display). t.choices.ground) c.self.view_is in
+    let same : c.self.inside.choices.ground ≡ c.args.self.now.choices.ground =
+    ap (λ (t : Display). t.choices.ground) c.self.view_is in
     rw c.in-Raster.is
     (kept_pixel c.args.self.now c.args.pen c.args.colours.now c.in-Raster.pan c.in-Raster.pad c.in-Raster.width
     c.in-Raster.height _ _ _ (sym same ∙ c.in_default-ground.is))

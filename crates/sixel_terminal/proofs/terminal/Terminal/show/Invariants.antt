@@ -4,4 +4,5 @@ use Rattle.sixel_terminal.specs.Standing.{StandsAfter}
 use Rattle.sixel_terminal.proofs.terminal.Terminal.show.Given as goal
 
 abbrev pub invariant-loop-placed : goal.invariant-loop-placed
-invariant-loop-placed l = StandsAfter l.self (events_of (take l.placed-index l.events)) l.pen l.colours.items l.inks.items
+invariant-loop-placed l =
+    StandsAfter l.self (events_of (take l.placed-index l.events)) l.pen l.colours.items l.inks.items
