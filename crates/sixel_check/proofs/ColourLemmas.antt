@@ -1,0 +1,151 @@
+-- On the colours that definitions give on terminals, where no rule is broken.
+use Rattle.std.proofs.Common.{◌≡◌, ◌<◌, ◌≤◌, ℕ, Bool, true, false, cond, not, Option, Some, None, List, [], ◌∷◌, take}
+use Rattle.std.proofs.Common.{refl, arith}
+use Rattle.std.specs.Prelude.{◌==◌, nat_le, unwrap_or, IfSome, IsFalse, IsSome}
+use Rattle.std.specs.List.{AllByRecursion}
+use Rattle.std.specs.Option.{option_and_then, option_map_or}
+use Rattle.std.proofs.lemmas.Bool.{leb-false}
+use Rattle.std.proofs.Math.Nat.{mod-eq_of_lt}
+use Rattle.sixel_grammar.specs.declared.command.Command.TheVariants.{Sixel, Repeat, Raster, Select, Define}
+use Rattle.sixel_grammar.specs.declared.command.Command.TheVariants.{CarriageReturn, NextLine}
+use Rattle.sixel_grammar.specs.declared.command.Event.{Event}
+use Rattle.sixel_grammar.specs.declared.command.Event.TheVariants.{Start, Step, Finish}
+use Rattle.sixel_picture.specs.declared.colour.Parts.{Parts}
+use Rattle.sixel_picture.specs.Colours.{is_colour}
+use Rattle.sixel_picture.specs.Events.{Definition, definition_where, named_by}
+use Rattle.sixel_picture.specs.Positions.{latest}
+use Rattle.sixel_picture.specs.Rules.{BreaksNone, breaks_colour_value, breaks_register, colour_by, colour_of}
+use Rattle.sixel_picture.specs.Rules.{definition_of}
+use Rattle.sixel_picture.specs.Rules.{gives_colour, known}
+use Rattle.sixel_picture.proofs.KnownLemmas.{each_before, each_there, known_is, latest_each}
+use Rattle.sixel_picture.proofs.LatestLemmas.{Gives, each_from_positions, latest_gives, latest_same, latest_then}
+use Rattle.sixel_picture.proofs.RuleLemmas.{Keeps, keeps_at}
+use Rattle.sixel_terminal.specs.Displays.{Display, registers_of}
+use Rattle.sixel_terminal.specs.Drawing.{defined_on, given_on, map_on, taken_on}
+
+pub from_not : (b : Bool) → not b ≡ false → b ≡ true
+from_not true h = refl
+from_not false h = cc
+
+-- the register that the event names is below n, and its definition gives a colour in range
+pub record IsSound (n : ℕ) (e : Event) : Type 0 where
+  pub register : IsFalse (breaks_register n e)
+  pub colour : IsFalse (breaks_colour_value e)
+
+pub each_sound : (n : ℕ) (events : List Event) → BreaksNone n 12 events → AllByRecursion (IsSound n) events
+each_sound n events none = each_from_positions (IsSound n) events (λ j e here.
+    let k : Keeps n (take j events) e = keeps_at n events none j e here in
+    record { register = k.register; colour = k.colour_value })
+
+below_count : (n : ℕ) (e : Event) → IsFalse (breaks_register n e) → IfSome (named_by e) (λ r. r < n)
+unfolding breaks_register
+below_count n e h = split (named_by e) h
+  where
+    split : (o : Option ℕ) → option_map_or (λ r. nat_le n r) o false ≡ false → IfSome o (λ r. r < n)
+    split None h = tt
+    split (Some r) h = leb-false n r h
+
+-- a known register was named, so it is below n
+pub known_in_range : (n r i : ℕ) (events : List Event) → BreaksNone n 12 events → known (take i events) ≡ Some r → r < n
+known_in_range n r i events none k =
+    let before : List Event = take i events in
+    let g : Gives named_by before r = latest_gives named_by before r (known_is before r k).named in
+    let sound : IsSound n g.item
+    = each_there (IsSound n) g.at before g.item (each_before (IsSound n) i events (each_sound n events none)) g.here in
+    let low : IfSome (named_by g.item) (λ r. r < n) = below_count n g.item sound.register in
+    rw g.gives at low
+
+-- a definition in range gives the same colour on each terminal
+given_same : (t : Display) (d : Definition) → gives_colour d ≡ true → given_on t d ≡ colour_by d
+given_same t d h = split (colour_by d) h
+  where
+    split : (o : Option Parts) → option_map_or is_colour o false ≡ true → option_and_then (taken_on t) o ≡ o
+    split None h = refl
+    split (Some c) h = rw h refl
+
+some_given : (d : Definition) → gives_colour d ≡ true → IsSome (colour_by d)
+some_given d h = split (colour_by d) h
+  where
+    split : (o : Option Parts) → option_map_or is_colour o false ≡ true → IsSome o
+    split None h = cc
+    split (Some c) h = refl
+
+abbrev pub made : ℕ → ℕ → ℕ → ℕ → Definition
+made s x y z = record { system = s; x = x; y = y; z = z }
+
+define_if : (t : Display) (d : Definition) (b : Bool) → gives_colour d ≡ true
+    → option_and_then (given_on t) (cond b (Some d) None) ≡ option_and_then colour_by (cond b (Some d) None)
+define_if t d true h = given_same t d h
+define_if t d false h = refl
+
+-- on a terminal with enough registers a sound event defines the register where it names it, and gives the same colour
+define_same : (t : Display) (n r : ℕ) → n ≤ registers_of t → (e : Event) → IsSound n e
+    → defined_on t r e ≡ option_and_then colour_by (definition_where (λ q. q == r) e)
+unfolding breaks_colour_value
+define_same t n r enough (Step (Define q s x y z)) sound =
+    let below : q < n = below_count n (Step (Define q s x y z)) sound.register in
+    let small : q < registers_of t = omega arith in
+    rw (mod-eq_of_lt small) (define_if t (made s x y z) (q == r) (from_not _ sound.colour))
+define_same t n r enough (Start eight parameters) sound = refl
+define_same t n r enough (Step (Sixel bits)) sound = refl
+define_same t n r enough (Step (Repeat count bits)) sound = refl
+define_same t n r enough (Step (Raster a b c d)) sound = refl
+define_same t n r enough (Step (Select q)) sound = refl
+define_same t n r enough (Step CarriageReturn) sound = refl
+define_same t n r enough (Step NextLine) sound = refl
+define_same t n r enough (Finish eight) sound = refl
+
+some_if : (d : Definition) (b : Bool) → gives_colour d ≡ true
+    → IfSome (cond b (Some d) None) (λ d. IsSome (colour_by d))
+some_if d true h = some_given d h
+some_if d false h = tt
+
+-- a definition in a sound event gives a colour
+define_some : (n r : ℕ) (e : Event) → IsSound n e
+    → IfSome (definition_where (λ q. q == r) e) (λ d. IsSome (colour_by d))
+unfolding breaks_colour_value
+define_some n r (Step (Define q s x y z)) sound = some_if (made s x y z) (q == r) (from_not _ sound.colour)
+define_some n r (Start eight parameters) sound = tt
+define_some n r (Step (Sixel bits)) sound = tt
+define_some n r (Step (Repeat count bits)) sound = tt
+define_some n r (Step (Raster a b c d)) sound = tt
+define_some n r (Step (Select q)) sound = tt
+define_some n r (Step CarriageReturn) sound = tt
+define_some n r (Step NextLine) sound = tt
+define_some n r (Finish eight) sound = tt
+
+each_define_same : (t : Display) (n r : ℕ) → n ≤ registers_of t → (es : List Event) → AllByRecursion (IsSound n) es
+    → AllByRecursion (λ e. defined_on t r e ≡ option_and_then colour_by (definition_where (λ q. q == r) e)) es
+each_define_same t n r enough [] h = tt
+each_define_same t n r enough (e ∷ es) h = (define_same t n r enough e h.0, each_define_same t n r enough es h.1)
+
+each_define_some : (n r : ℕ) (es : List Event) → AllByRecursion (IsSound n) es
+    → AllByRecursion (λ e. IfSome (definition_where (λ q. q == r) e) (λ d. IsSome (colour_by d))) es
+each_define_some n r [] h = tt
+each_define_some n r (e ∷ es) h = (define_some n r e h.0, each_define_some n r es h.1)
+
+some_unwrap : {A : Type 0} (o : Option A) (x : A) → IsSome o → o ≡ Some (unwrap_or o x)
+some_unwrap None x h = cc
+some_unwrap (Some y) x h = refl
+
+then_some_of : {A B : Type 0} (g : A → Option B) (o : Option A) (d : A) → o ≡ Some d → IfSome o (λ a. IsSome (g a))
+    → IsSome (option_and_then g o)
+then_some_of g None d h k = cc
+then_some_of g (Some a) d h k = k
+
+-- a defined register has on each terminal with enough registers the colour of its last definition
+pub map_defined : (t : Display) (n r : ℕ) (before : List Event) (d : Definition) → n ≤ registers_of t
+    → AllByRecursion (IsSound n) before → definition_of before r ≡ Some d
+    → colour_of before r ≡ Some (map_on t before r)
+unfolding map_on colour_of definition_of
+map_defined t n r before d enough sound defined =
+    let gives = λ (e : Event). option_and_then colour_by (definition_where (λ q. q == r) e) in
+    let each = each_define_some n r before sound in
+    let same : latest (defined_on t r) before ≡ latest gives before
+    = latest_same (defined_on t r) gives before (each_define_same t n r enough before sound) in
+    let both : latest gives before ≡ option_and_then colour_by (latest (definition_where (λ q. q == r)) before)
+    = latest_then (definition_where (λ q. q == r)) colour_by before each in
+    let there : IsSome (option_and_then colour_by (latest (definition_where (λ q. q == r)) before))
+    = then_some_of colour_by _ d defined
+    (latest_each (definition_where (λ q. q == r)) (λ d. IsSome (colour_by d)) before each) in
+    rw (same, both) (some_unwrap _ _ there)

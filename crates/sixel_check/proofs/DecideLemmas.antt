@@ -1,0 +1,308 @@
+-- A list has some verdict: a rule is broken, or none is.
+use Rattle.std.proofs.Common.{◌≡◌, ◌==◌, ◌<◌, ◌≤◌, ◌+◌, ◌*◌, ◌⊎◌, ℕ, zero, suc, Bool, true, false, ◌&&◌, nat_lt, inl, inr}
+use Rattle.std.proofs.Common.{Option, Some, None, List, [], ◌∷◌, length, take, refl, sym, ap, subst, ◌∙◌, arith}
+use Rattle.std.specs.Prelude.{IsSomeAnd, IsTrue, IsFalse, slice_get}
+use Rattle.std.specs.Bool.{MatchBool}
+use Rattle.std.specs.Option.{option_map}
+use Rattle.std.proofs.lemmas.Bool.{and_parts, eqb-false, eqb-true, lt-ltb, ltb-true, or_cases}
+use Rattle.std.proofs.lemmas.List.{length-map}
+use Rattle.sixel_grammar.specs.declared.command.Event.{Event}
+use Rattle.sixel_grammar.specs.declared.command.Placed.{Placed}
+use Rattle.sixel_grammar.specs.Document.{events_of}
+use Rattle.sixel_picture.specs.Events.{Attributes, bits_of, columns_of, is_finish, is_in_box}
+use Rattle.sixel_picture.specs.Geometry.{band, column, falls, touches}
+use Rattle.sixel_picture.specs.Positions.{HoldsAtPosition}
+use Rattle.sixel_picture.specs.Rules.{Breaks, BreaksNone, BreaksOutside, BreaksUncovered, FallsOutside, IsFirstBroken, IsFirstPoint}
+use Rattle.sixel_picture.specs.Rules.{StaysBlank, is_before, is_covered, picture_left, raster_before}
+use Rattle.sixel_picture.proofs.CoverLemmas.{lies_under}
+use Rattle.sixel_picture.proofs.PositionLemmas.{holds_within}
+use Rattle.sixel_picture.proofs.RuleLemmas.{no_more_rules}
+use Rattle.sixel_check.specs.declared.rule.Rule.{Rule}
+use Rattle.sixel_check.specs.declared.rule.Rule.TheVariants.{RasterFirst, RasterTwice, Ratio, BoxSize, Register, ColourValue}
+use Rattle.sixel_check.specs.declared.rule.Rule.TheVariants.{RepeatZero, Unselected, Undefined, Redefined, Outside, Uncovered}
+use Rattle.sixel_check.specs.declared.verdict.Finding.{Finding}
+use Rattle.sixel_check.specs.declared.verdict.Verdict.{Verdict}
+use Rattle.sixel_check.specs.declared.verdict.Verdict.TheVariants.{Portable, Broken}
+use Rattle.sixel_check.specs.Verdicts.{IsFinding, IsPixel, IsVerdict, capped, number_of}
+use Rattle.sixel_check.proofs.SearchLemmas.{Decided, LeastBelow, Searchable, decide_either, decide_true, first_point, least_below}
+
+-- ---- the two rules on points
+
+searchable_in : (P : Attributes → ℕ → ℕ → Type 0) (o : Option Attributes) → ((a : Attributes) → Searchable (P a))
+    → Searchable (λ x y. IsSomeAnd o (λ a. P a x y))
+searchable_in P None s = record {
+  width = 0;
+  height = 0;
+  decide = λ x y. inr (λ none. none);
+  left = λ x y none. absurd none;
+  above = λ x y none. absurd none;
+}
+searchable_in P (Some a) s = record {
+  width = (s a).width;
+  height = (s a).height;
+  decide = (s a).decide;
+  left = (s a).left;
+  above = (s a).above;
+}
+
+differ : (b : Bool) → b ≡ true → b ≡ false → ⊥
+differ b p q = let bad : true ≡ false = sym p ∙ q in cc
+
+falls_decided : (before : List Event) (e : Event) (a : Attributes) (x y : ℕ) (b c : Bool) → falls before e x y ≡ b
+    → is_in_box a x y ≡ c → Decided (FallsOutside before e a x y)
+falls_decided before e a x y true false p q = inl (record { painted = p; outside = q })
+falls_decided before e a x y true true p q = inr (λ f. differ (is_in_box a x y) q f.outside)
+falls_decided before e a x y false c p q = inr (λ f. differ (falls before e x y) f.painted p)
+
+falls_left : (before : List Event) (e : Event) (x y : ℕ) → falls before e x y ≡ true
+    → (x < column 0 before + columns_of 0 e) × (y < 6 * band before + 6)
+unfolding falls touches
+falls_left before e x y h =
+    let under = lies_under (column 0 before) (columns_of 0 e) (band before) (bits_of e) x y h in
+    let row : y ≡ 6 * band before + under.bit = under.row in
+    let bit : under.bit < 6 = under.below in
+    (under.to, omega (arith, row, bit))
+
+falls_searchable : (before : List Event) (e : Event) (a : Attributes) → Searchable (FallsOutside before e a)
+falls_searchable before e a = record {
+  width = column 0 before + columns_of 0 e;
+  height = 6 * band before + 6;
+  decide = λ x y. falls_decided before e a x y (falls before e x y) (is_in_box a x y) refl refl;
+  left = λ x y f. (falls_left before e x y f.painted).0;
+  above = λ x y f. (falls_left before e x y f.painted).1;
+}
+
+blank_decided : (before : List Event) (a : Attributes) (x y : ℕ) (b c : Bool) → is_in_box a x y ≡ b
+    → is_covered before x y ≡ c → Decided (StaysBlank before a x y)
+blank_decided before a x y true false p q = inl (record { inside = p; blank = q })
+blank_decided before a x y true true p q = inr (λ f. differ (is_covered before x y) q f.blank)
+blank_decided before a x y false c p q = inr (λ f. differ (is_in_box a x y) f.inside p)
+
+blank_searchable : (before : List Event) (a : Attributes) → Searchable (StaysBlank before a)
+blank_searchable before a = record {
+  width = a.width;
+  height = a.height;
+  decide = λ x y. blank_decided before a x y (is_in_box a x y) (is_covered before x y) refl refl;
+  left = λ x y f. ltb-true x a.width (and_parts (nat_lt x a.width) (nat_lt y a.height) f.inside).0;
+  above = λ x y f. ltb-true y a.height (and_parts (nat_lt x a.width) (nat_lt y a.height) f.inside).1;
+}
+
+-- a point outside the box that the event paints, and one in it that no event paints
+abbrev IsPointOutside : List Event → Event → ℕ → ℕ → Type 0
+IsPointOutside before e x y = IsSomeAnd (raster_before before) (λ a. FallsOutside before e a x y)
+
+abbrev IsPointBlank : List Event → ℕ → ℕ → Type 0
+IsPointBlank before x y = IsSomeAnd (raster_before before) (λ a. StaysBlank before a x y)
+
+outside_first : (before : List Event) (e : Event)
+    → ((x : ℕ) × (y : ℕ) × IsFirstPoint (IsPointOutside before e) x y) ⊎ ((x y : ℕ) → ¬ IsPointOutside before e x y)
+outside_first before e =
+    first_point (IsPointOutside before e)
+    (searchable_in (λ a x y. FallsOutside before e a x y) (raster_before before) (falls_searchable before e))
+
+blank_first : (before : List Event)
+    → ((x : ℕ) × (y : ℕ) × IsFirstPoint (IsPointBlank before) x y) ⊎ ((x y : ℕ) → ¬ IsPointBlank before x y)
+blank_first before =
+    first_point (IsPointBlank before)
+    (searchable_in (λ a x y. StaysBlank before a x y) (raster_before before) (blank_searchable before))
+
+some_point : (o : Option Attributes) (P : Attributes → ℕ → ℕ → Type 0)
+    → IsSomeAnd o (λ a. (x : ℕ) × (y : ℕ) × P a x y) → (x : ℕ) × (y : ℕ) × IsSomeAnd o (λ a. P a x y)
+some_point None P h = absurd h
+some_point (Some a) P h = h
+
+point_some : (o : Option Attributes) (P : Attributes → ℕ → ℕ → Type 0) (x y : ℕ) → IsSomeAnd o (λ a. P a x y)
+    → IsSomeAnd o (λ a. (x : ℕ) × (y : ℕ) × P a x y)
+point_some None P x y h = absurd h
+point_some (Some a) P x y h = (x, y, h)
+
+outside_decided : (before : List Event) (e : Event) → Decided (BreaksOutside before e)
+unfolding BreaksOutside
+outside_decided before e = elim (outside_first before e) [
+  | inl f ↦ inl (point_some (raster_before before) (λ a x y. FallsOutside before e a x y) f.0 f.1 f.2.holds)
+  | inr none ↦ inr (λ h.
+      let p = some_point (raster_before before) (λ a x y. FallsOutside before e a x y) h in none p.0 p.1 p.2)
+]
+
+blank_somewhere : (before : List Event)
+    → Decided (IsSomeAnd (raster_before before) (λ a. (x : ℕ) × (y : ℕ) × StaysBlank before a x y))
+blank_somewhere before = elim (blank_first before) [
+  | inl f ↦ inl (point_some (raster_before before) (λ a x y. StaysBlank before a x y) f.0 f.1 f.2.holds)
+  | inr none ↦ inr (λ h.
+      let p = some_point (raster_before before) (λ a x y. StaysBlank before a x y) h in none p.0 p.1 p.2)
+]
+
+both_decided : (P Q : Type 0) → Decided P → Decided Q → Decided (P × Q)
+both_decided P Q (inl p) (inl q) = inl (p, q)
+both_decided P Q (inl p) (inr q) = inr (λ h. q h.1)
+both_decided P Q (inr p) q = inr (λ h. p h.0)
+
+uncovered_decided : (before : List Event) (e : Event) → Decided (BreaksUncovered before e)
+unfolding BreaksUncovered
+uncovered_decided before e = both_decided _ _ (decide_true (is_finish e)) (blank_somewhere before)
+
+-- ---- the least rule of an event
+
+rule_decided : (registers n : ℕ) (before : List Event) (e : Event) → Decided (Breaks registers n before e)
+unfolding Breaks
+rule_decided registers n before e =
+    decide_either (n == 1) _ _ (decide_true _)
+    (decide_either (n == 2) _ _ (decide_true _)
+    (decide_either (n == 3) _ _ (decide_true _)
+    (decide_either (n == 4) _ _ (decide_true _)
+    (decide_either (n == 5) _ _ (decide_true _)
+    (decide_either (n == 6) _ _ (decide_true _)
+    (decide_either (n == 7) _ _ (decide_true _)
+    (decide_either (n == 8) _ _ (decide_true _)
+    (decide_either (n == 9) _ _ (decide_true _)
+    (decide_either (n == 10) _ _ (decide_true _)
+    (decide_either (n == 11) _ _ (outside_decided before e)
+    (decide_either (n == 12) _ _ (uncovered_decided before e) (inr (λ none. none)))))))))))))
+
+rule_of : (n : ℕ) → 1 ≤ n → n ≤ 12 → (r : Rule) × (number_of r ≡ n)
+rule_of zero least most = absurd (omega arith)
+rule_of (suc zero) least most = (RasterFirst, refl)
+rule_of (suc (suc zero)) least most = (RasterTwice, refl)
+rule_of (suc (suc (suc zero))) least most = (Ratio, refl)
+rule_of (suc (suc (suc (suc zero)))) least most = (BoxSize, refl)
+rule_of (suc (suc (suc (suc (suc zero))))) least most = (Register, refl)
+rule_of (suc (suc (suc (suc (suc (suc zero)))))) least most = (ColourValue, refl)
+rule_of (suc (suc (suc (suc (suc (suc (suc zero))))))) least most = (RepeatZero, refl)
+rule_of (suc (suc (suc (suc (suc (suc (suc (suc zero)))))))) least most = (Unselected, refl)
+rule_of (suc (suc (suc (suc (suc (suc (suc (suc (suc zero))))))))) least most = (Undefined, refl)
+rule_of (suc (suc (suc (suc (suc (suc (suc (suc (suc (suc zero)))))))))) least most = (Redefined, refl)
+rule_of (suc (suc (suc (suc (suc (suc (suc (suc (suc (suc (suc zero))))))))))) least most = (Outside, refl)
+rule_of (suc (suc (suc (suc (suc (suc (suc (suc (suc (suc (suc (suc zero)))))))))))) least most = (Uncovered, refl)
+rule_of (suc (suc (suc (suc (suc (suc (suc (suc (suc (suc (suc (suc (suc (n)))))))))))))) least most = absurd (omega arith)
+
+no_rule_zero : (registers : ℕ) (before : List Event) (e : Event) → ¬ Breaks registers 0 before e
+unfolding Breaks
+no_rule_zero registers before e h = h
+
+pixel_of : (registers : ℕ) (r : Rule) (before : List Event) (e : Event) → Breaks registers (number_of r) before e
+    → (pixel : Option (ℕ × ℕ)) × IsPixel r pixel before e
+unfolding Breaks BreaksOutside BreaksUncovered
+pixel_of registers RasterFirst before e h = (None, refl)
+pixel_of registers RasterTwice before e h = (None, refl)
+pixel_of registers Ratio before e h = (None, refl)
+pixel_of registers BoxSize before e h = (None, refl)
+pixel_of registers Register before e h = (None, refl)
+pixel_of registers ColourValue before e h = (None, refl)
+pixel_of registers RepeatZero before e h = (None, refl)
+pixel_of registers Unselected before e h = (None, refl)
+pixel_of registers Undefined before e h = (None, refl)
+pixel_of registers Redefined before e h = (None, refl)
+pixel_of registers Outside before e h = elim (outside_first before e) [
+  | inl f ↦ (Some (capped f.0, capped f.1), (f.0, f.1, f.2, refl))
+  | inr none ↦
+      let p = some_point (raster_before before) (λ a x y. FallsOutside before e a x y) h in absurd (none p.0 p.1 p.2)
+]
+pixel_of registers Uncovered before e h = elim (blank_first before) [
+  | inl f ↦ (Some (capped f.0, capped f.1), (f.0, f.1, f.2, refl))
+  | inr none ↦
+      let p = some_point (raster_before before) (λ a x y. StaysBlank before a x y) h.1 in absurd (none p.0 p.1 p.2)
+]
+
+-- ---- the first event that breaks a rule
+
+-- the least rule that is broken at position i
+abbrev LeastAt : ℕ → List Event → ℕ → Type 0
+LeastAt registers events i = LeastBelow (λ n. HoldsAtPosition (Breaks registers n) events i) 13
+
+held_decided : (registers n : ℕ) (events : List Event) (i : ℕ) (o : Option Event) → slice_get events i ≡ o
+    → Decided (HoldsAtPosition (Breaks registers n) events i)
+held_decided registers n events i None is = inr (λ h. let bad : Some h.item ≡ None = sym h.here ∙ is in cc)
+held_decided registers n events i (Some e) is = elim (rule_decided registers n (take i events) e) [
+  | inl b ↦ inl (record { item = e; here = is; holds = b })
+  | inr not ↦ inr (λ h.
+      let same : Some h.item ≡ Some e = sym h.here ∙ is in
+      let item : h.item ≡ e = cc in
+      not (subst (Breaks registers n (take i events)) item h.holds))
+]
+
+position_decided : (registers : ℕ) (events : List Event) (i : ℕ)
+    → LeastAt registers events i ⊎ ((n : ℕ) → ¬ HoldsAtPosition (Breaks registers n) events i)
+position_decided registers events i =
+    elim (least_below (λ n. HoldsAtPosition (Breaks registers n) events i)
+    (λ n. held_decided registers n events i (slice_get events i) refl) 13) [
+      | inl f ↦ inl f
+      | inr none ↦ inr (λ n h. elim (decide_true (nat_lt n 13)) [
+        | inl low ↦ none n (ltb-true n 13 low) h
+        | inr high ↦
+            let above : ¬ (n < 13) = λ lt. high (lt-ltb n 13 lt) in
+            no_more_rules registers n (take i events) h.item (omega (arith, above)) h.holds
+      ])
+    ]
+
+broken_decided : (registers : ℕ) (events : List Event) (i : ℕ) → Decided (LeastAt registers events i)
+broken_decided registers events i = elim (position_decided registers events i) [
+  | inl f ↦ inl f
+  | inr none ↦ inr (λ f. none f.number f.holds)
+]
+
+first_broken : (registers : ℕ) (events : List Event) (f : LeastBelow (LeastAt registers events) (length events))
+    → IsFirstBroken registers events f.holds.number f.number
+first_broken registers events f = record {
+  broken = f.holds.holds;
+  none_earlier = λ m j lt h. elim (position_decided registers events j) [
+    | inl g ↦ f.least j lt g
+    | inr none ↦ none m h
+  ];
+  none_smaller = f.holds.least;
+}
+
+least_rule : (registers : ℕ) (events : List Event) (i : ℕ) (f : LeastAt registers events i)
+    → (r : Rule) × (number_of r ≡ f.number)
+least_rule registers events i f =
+    let below : f.number < 13 = f.below in
+    let not_zero : ¬ (f.number ≡ 0) = λ e.
+    no_rule_zero registers (take i events) f.holds.item
+    (subst (λ (n : ℕ). Breaks registers n (take i events) f.holds.item) e f.holds.holds) in
+    rule_of f.number (omega (arith, not_zero)) (omega (arith, below))
+
+get_some : {X : Type 0} (xs : List X) (i : ℕ) → i < length xs → (x : X) × (slice_get xs i ≡ Some x)
+get_some [] i lt = absurd (omega (arith, lt))
+get_some (x ∷ xs) zero lt = (x, refl)
+get_some (x ∷ xs) (suc i) lt = get_some xs i (omega arith)
+
+place_of : (placed : List Placed) (i : ℕ) → i < length placed
+    → (place : ℕ) × (option_map (λ (p : Placed). p.place) (slice_get placed i) ≡ Some place)
+place_of placed i lt = got (slice_get placed i) (get_some placed i lt)
+  where
+    got : (o : Option Placed) → (p : Placed) × (o ≡ Some p)
+        → (place : ℕ) × (option_map (λ (p : Placed). p.place) o ≡ Some place)
+    got o h = (h.0.place, ap (option_map (λ (p : Placed). p.place)) h.1)
+
+pub verdict_exists : (registers : ℕ) (placed : List Placed) → (v : Verdict) × IsVerdict registers placed v
+unfolding BreaksNone
+verdict_exists registers placed =
+    let events : List Event = events_of placed in
+    elim (least_below (LeastAt registers events) (broken_decided registers events) (length events)) [
+      | inl f ↦
+          let i : ℕ = f.number in
+          let rule = least_rule registers events i f.holds in
+          let held : HoldsAtPosition (Breaks registers f.holds.number) events i = f.holds.holds in
+          let pixel = pixel_of registers rule.0 (take i events) held.item
+          (subst (λ (n : ℕ). Breaks registers n (take i events) held.item) (sym rule.1) held.holds) in
+          let place = place_of placed i (subst (λ (n : ℕ). i < n) (length-map placed (λ (p : Placed). p.event)) f.below) in (
+            Broken (record { rule = rule.0; place = place.0; pixel = pixel.0 }),
+            (
+              i,
+              record {
+                first = subst (λ (n : ℕ). IsFirstBroken registers events n i) (sym rule.1) (first_broken registers events f);
+                place = place.1;
+                pixel = record { item = held.item; here = held.here; holds = pixel.1 };
+              },
+            ),
+          )
+      | inr none ↦ (
+        Portable (picture_left registers events),
+        (
+          (λ n le i h. elim (position_decided registers events i) [
+            | inl g ↦ none i (holds_within (Breaks registers n) events i h) g
+            | inr not ↦ not n h
+          ]),
+          refl,
+        ),
+      )
+    ]

@@ -1,0 +1,247 @@
+-- On what is drawn of an event that breaks no rule.
+use Rattle.std.proofs.Common.{◌≡◌, ◌≢◌, ◌==◌, ◌&&◌, ◌+◌, ℕ, zero, suc, ◌<◌, ◌≤◌, Bool, true, false, not, Option, Some}
+use Rattle.std.proofs.Common.{None, IsTrue, IsFalse}
+use Rattle.std.proofs.Common.{List, [], ◌∷◌, ◌++◌, arith, sym, ◌∙◌, ap, ap₂, subst, refl, ◌||◌}
+use Rattle.std.specs.Prelude.{IfSome, IsSome, is_none, is_some, nat_le, if◌then◌else◌}
+use Rattle.std.specs.Option.{option_map, option_map_or, option_or}
+use Rattle.std.proofs.lemmas.Bool.{and_parts, eqb-true, eqb-false, leb-true, ne_eqb}
+use Rattle.sixel_grammar.specs.Spelling.{IsSpellable}
+use Rattle.sixel_grammar.specs.declared.command.Command.TheVariants.{Sixel, Repeat, Raster, Select, Define}
+use Rattle.sixel_grammar.specs.declared.command.Command.TheVariants.{CarriageReturn, NextLine}
+use Rattle.sixel_grammar.specs.declared.command.Event.{Event}
+use Rattle.sixel_grammar.specs.declared.command.Event.TheVariants.{Start, Step, Finish}
+use Rattle.sixel_picture.specs.Events.{Attributes, Definition, bits_of, columns_of, definition_where, has_sides}
+use Rattle.sixel_picture.specs.Events.{is_data_command, is_finish, is_painting, is_return, is_square, raster_of}
+use Rattle.sixel_picture.specs.Pictures.{is_side}
+use Rattle.sixel_picture.specs.Geometry.{band, column, falls, touches}
+use Rattle.sixel_picture.specs.Rules.{BreaksOutside, breaks_box_size, breaks_raster_first, breaks_ratio}
+use Rattle.sixel_picture.specs.Rules.{breaks_repeat_zero, breaks_undefined, breaks_unselected, definition_of, known}
+use Rattle.sixel_picture.specs.Rules.{raster_before, register_at}
+use Rattle.sixel_picture.specs.Sheets.{Sheet, blank_sheet, painted_sheet}
+use Rattle.sixel_picture.proofs.RuleLemmas.{Keeps}
+use Rattle.sixel_picture.proofs.StepLemmas.{definition_push, register_push}
+use Rattle.sixel_check.specs.declared.notes.Notes.{Notes}
+use Rattle.sixel_check.specs.Breaches.{NoneBelow}
+use Rattle.sixel_check.specs.Judging.{AreColoured, AreNotesAfter, IsDrawn, IsUndrawn}
+use Rattle.sixel_check.specs.Outside.{PaintsOutside}
+use Rattle.sixel_check.specs.Steps.{known_in}
+use Rattle.sixel_check.specs.Verdicts.{capped}
+use Rattle.sixel_check.proofs.BlankLemmas.{small}
+use Rattle.sixel_check.proofs.DrawnLemmas.{drawn_first, drawn_idle, idle_falls, undrawn_push}
+use Rattle.sixel_check.proofs.NoteLemmas.{keeps, known_below, known_is}
+use Rattle.sixel_check.proofs.RunLemmas.{RunFits, run_fits, drawn_capped}
+
+-- ---- a painting command
+
+pub has_columns : (e : Event) → IsFalse (breaks_repeat_zero e) → is_painting e ≡ true → 0 < columns_of 0 e
+unfolding breaks_repeat_zero
+has_columns (Start eight parameters) h p = cc
+has_columns (Step (Sixel bits)) h p = omega arith
+has_columns (Step (Repeat count bits)) h p =
+    let some : count ≢ 0 = eqb-false count 0 h in
+    rw h (omega (arith, some))
+has_columns (Step (Raster pan pad width height)) h p = cc
+has_columns (Step (Select register)) h p = cc
+has_columns (Step (Define register system x y z)) h p = cc
+has_columns (Step CarriageReturn) h p = cc
+has_columns (Step NextLine) h p = cc
+has_columns (Finish eight) h p = cc
+
+pub few_bits : (e : Event) → IsSpellable e → bits_of e ≤ 63
+few_bits (Start eight parameters) h = omega arith
+few_bits (Step (Sixel bits)) h = h
+few_bits (Step (Repeat count bits)) h = h
+few_bits (Step (Raster pan pad width height)) h = omega arith
+few_bits (Step (Select register)) h = omega arith
+few_bits (Step (Define register system x y z)) h = omega arith
+few_bits (Step CarriageReturn) h = omega arith
+few_bits (Step NextLine) h = omega arith
+few_bits (Finish eight) h = omega arith
+
+no_bits : (n : ℕ) → not (n == 0) ≡ false → n ≡ 0
+no_bits n h = split (n == 0) refl h
+  where
+    split : (b : Bool) → (n == 0) ≡ b → not b ≡ false → n ≡ 0
+    split true e h = eqb-true n 0 e
+    split false e h = cc
+
+some_bits : (n : ℕ) → not (n == 0) ≡ true → n ≢ 0
+some_bits n h = split (n == 0) refl h
+  where
+    split : (b : Bool) → (n == 0) ≡ b → not b ≡ true → n ≢ 0
+    split true e h = cc
+    split false e h = eqb-false n 0 e
+
+-- nothing falls outside the box of a sheet
+inside_alone : (s : Sheet) (before : List Event) (e : Event) → IsDrawn s before → ¬ BreaksOutside before e
+    → (x y : ℕ) → PaintsOutside (column 0 before) (columns_of 0 e) (band before) (bits_of e) s.width s.height x y → ⊥
+unfolding BreaksOutside falls touches
+inside_alone s before e d none x y p =
+    none (rw d.box (x, y, record { painted = p.painted; outside = p.outside }))
+
+-- the plane takes the run
+pub run_fits_in : (n : Notes) (s : Sheet) (before : List Event) (e : Event) → AreNotesAfter n before → IsDrawn s before
+    → NoneBelow 13 before e → IsSpellable e → is_painting e ≡ true
+    → RunFits n.column n.band (columns_of 0 e) (bits_of e) s.width s.height
+run_fits_in n s before e a d none spellable paints =
+    let k = keeps before e none in
+    let real = run_fits (column 0 before) (band before) (columns_of 0 e) (bits_of e) s.width s.height
+    (inside_alone s before e d k.outside) (has_columns e k.repeat_zero paints) (few_bits e spellable)
+    (some_bits (bits_of e) paints) in
+    let narrow = small s.width d.width in
+    let low = small s.height d.height in
+    let column_fits : column 0 before + columns_of 0 e ≤ s.width = real.columns in
+    let band_fits : band before < s.height = real.low in
+    let column_same : n.column ≡ column 0 before = a.column_is ∙ omega arith in
+    let band_same : n.band ≡ band before = a.band_is ∙ omega arith in
+    rw (column_same, band_same) real
+
+-- the sheet with the run of a painting command
+pub drawn_paint : (n : Notes) (s : Sheet) (before : List Event) (e : Event) (r : ℕ) → AreNotesAfter n before
+    → IsDrawn s before → NoneBelow 13 before e → IsSpellable e → is_painting e ≡ true → known_in n ≡ Some r
+    → IsDrawn (painted_sheet s n.column n.band (columns_of 0 e) (bits_of e) r) (before ++ e ∷ [])
+drawn_paint n s before e r a d none spellable paints is =
+    drawn_capped s before e r n.column n.band (sym (known_is n before a) ∙ is) a.column_is a.band_is
+    (run_fits_in n s before e a d none spellable paints) d
+
+-- and without one
+pub drawn_still : (s : Sheet) (before : List Event) (e : Event) → is_painting e ≡ false → IsDrawn s before
+    → IsDrawn s (before ++ e ∷ [])
+drawn_still s before e still d = drawn_idle s before e (no_bits (bits_of e) still) d
+
+-- a painting command has a known register
+pub knows : (n : Notes) (before : List Event) (e : Event) → AreNotesAfter n before → NoneBelow 13 before e
+    → is_painting e ≡ true → known_in n ≡ None → ⊥
+unfolding breaks_unselected
+knows n before e a none paints is =
+    let k = keeps before e none in
+    let unselected : is_painting e && is_none (known before) ≡ false = k.unselected in
+    let unknown : known before ≡ None = sym (known_is n before a) ∙ is in
+    let broken : is_painting e && is_none (known before) ≡ true = rw (paints, unknown) refl in
+    cc
+
+-- ---- the box
+
+or_left : (a b : Bool) → (a || b) ≡ false → a ≡ false
+or_left true b h = cc
+or_left false b h = refl
+
+-- no box, and an event that makes none
+pub undrawn_still : (before : List Event) (e : Event) → NoneBelow 13 before e → raster_of e ≡ None → IsUndrawn before
+    → IsUndrawn (before ++ e ∷ [])
+unfolding breaks_raster_first
+undrawn_still before e none bare u =
+    let k = keeps before e none in
+    let kept = rw u.no_box at k.raster_first in
+    let first : (is_data_command e || is_return e) ≡ false =
+    or_left (is_data_command e || is_return e) (is_finish e) kept in
+    undrawn_push before e bare (or_left (is_data_command e) (is_return e) first) u
+
+square_is : (a : Attributes) → is_square a ≡ true
+    → Some a ≡ Some (record { pan = 1; pad = 1; width = a.width; height = a.height })
+square_is a h =
+    let parts = and_parts (a.pan == 1) (a.pad == 1) h in
+    let pan : a.pan ≡ 1 = eqb-true a.pan 1 parts.0 in
+    let pad : a.pad ≡ 1 = eqb-true a.pad 1 parts.1 in
+    ap₂ (λ (p q : ℕ). Some (record { pan = p; pad = q; width = a.width; height = a.height })) pan pad
+
+not_false : (b : Bool) → not b ≡ false → b ≡ true
+not_false true h = refl
+not_false false h = cc
+
+-- raster attributes that break no rule
+pub good_sides : (before : List Event) (e : Event) (a : Attributes) → NoneBelow 13 before e → raster_of e ≡ Some a
+    → IsTrue (is_side a.width) × IsTrue (is_side a.height)
+unfolding breaks_box_size
+good_sides before e a none is =
+    let k = keeps before e none in
+    and_parts (is_side a.width) (is_side a.height) (not_false (has_sides a) (rw is at k.box_size))
+
+pub good_ratio : (before : List Event) (e : Event) (a : Attributes) → NoneBelow 13 before e → raster_of e ≡ Some a
+    → raster_of e ≡ Some (record { pan = 1; pad = 1; width = a.width; height = a.height })
+unfolding breaks_ratio
+good_ratio before e a none is =
+    let k = keeps before e none in
+    is ∙ square_is a (not_false (is_square a) (rw is at k.ratio))
+
+abbrev pub sides : Option Attributes → Option (ℕ × ℕ)
+sides o = option_map (λ (a : Attributes). (a.width, a.height)) o
+
+pub no_attributes : (o : Option Attributes) → sides o ≡ None → o ≡ None
+no_attributes None h = refl
+no_attributes (Some a) h = cc
+
+pub attributes_of : (o : Option Attributes) (w h : ℕ) → sides o ≡ Some (w, h)
+    → (a : Attributes) × (o ≡ Some a) × (a.width ≡ w) × (a.height ≡ h)
+attributes_of None w h e = cc
+attributes_of (Some a) w h e =
+    let same : (a.width, a.height) ≡ (w, h) = cc in
+    (a, refl, ap (λ (p : ℕ × ℕ). p.0) same, ap (λ (p : ℕ × ℕ). p.1) same)
+
+pub sides_good : (before : List Event) (e : Event) (w h : ℕ) → NoneBelow 13 before e → sides (raster_of e) ≡ Some (w, h)
+    → IsTrue (is_side w) × IsTrue (is_side h)
+sides_good before e w h none is =
+    let a = attributes_of (raster_of e) w h is in
+    let good = good_sides before e a.0 none a.1 in
+    (subst (λ (n : ℕ). IsTrue (is_side n)) a.2 good.0, subst (λ (n : ℕ). IsTrue (is_side n)) a.3 good.1)
+
+-- the first box
+pub drawn_box : (before : List Event) (e : Event) (w h : ℕ) → NoneBelow 13 before e → sides (raster_of e) ≡ Some (w, h)
+    → IsUndrawn before → IsDrawn (blank_sheet w h) (before ++ e ∷ [])
+drawn_box before e w h none is u =
+    let a = attributes_of (raster_of e) w h is in
+    let good = good_sides before e a.0 none a.1 in
+    let first = drawn_first before e a.0.width a.0.height (good_ratio before e a.0 none a.1) good.0 good.1 u in
+    subst (λ (n : ℕ). IsDrawn (blank_sheet n h) (before ++ e ∷ [])) a.2
+    (subst (λ (n : ℕ). IsDrawn (blank_sheet a.0.width n) (before ++ e ∷ [])) a.3 first)
+
+-- ---- the registers that are painted in
+
+pub some_stays : (o p : Option Definition) → IsSome p → IsSome (option_or o p)
+some_stays None p h = h
+some_stays (Some d) p h = refl
+
+not_none : {A : Type 0} (o : Option A) → is_none o ≡ false → IsSome o
+not_none None h = cc
+not_none (Some a) h = refl
+
+falls_paint : (before : List Event) (e : Event) (x y : ℕ) (b : Bool) → is_painting e ≡ b → falls before e x y ≡ true
+    → is_painting e ≡ true
+falls_paint before e x y true p f = p
+falls_paint before e x y false p f =
+    let still : falls before e x y ≡ false = idle_falls before e x y (no_bits (bits_of e) p) in
+    cc
+
+known_defined : (before : List Event) (e : Event) (r : ℕ) → NoneBelow 13 before e → is_painting e ≡ true
+    → known before ≡ Some r → IsSome (definition_of before r)
+unfolding breaks_undefined
+known_defined before e r none paints is =
+    let k = keeps before e none in
+    not_none (definition_of before r) (rw (paints, is) at k.undefined)
+
+coloured_there : (n : Notes) (before : List Event) (e : Event) (x y r : ℕ) → AreNotesAfter n before
+    → NoneBelow 13 before e
+    → AreColoured before → (b : Bool) → falls before e x y ≡ b
+    → (if b then known before else register_at before x y) ≡ Some r → (r < 16) × IsSome (definition_of before r)
+coloured_there n before e x y r a none c true f is =
+    let paints = falls_paint before e x y (is_painting e) refl f in
+    let low : IfSome (known_in n) (λ q. q < 16) = known_below n.selected n.named 16 a.selected_below in
+    (rw (known_is n before a, is) at low, known_defined before e r none paints is)
+coloured_there n before e x y r a none c false f is = c x y r is
+
+pub coloured_push : (n : Notes) (before : List Event) (e : Event) → AreNotesAfter n before → NoneBelow 13 before e
+    → AreColoured before → AreColoured (before ++ e ∷ [])
+coloured_push n before e a none c x y r is =
+    let there =
+    coloured_there n before e x y r a none c (falls before e x y) refl (sym (register_push before e x y) ∙ is) in
+    (there.0, rw (definition_push before e r) (some_stays (definition_where (λ q. q == r) e) (definition_of before r) there.1))
+
+-- a run that fits begins at small numbers
+pub narrow : (column band count bits width height : ℕ) → IsTrue (is_side width) → IsTrue (is_side height)
+    → RunFits column band count bits width height → (column < 4294967296) × (band < 4294967296)
+narrow column band count bits width height w h fits =
+    let wide : width ≤ 2048 = leb-true width 2048 (and_parts (nat_le 1 width) (nat_le width 2048) w).1 in
+    let high : height ≤ 2048 = leb-true height 2048 (and_parts (nat_le 1 height) (nat_le height 2048) h).1 in
+    let columns : column + count ≤ width = fits.columns in
+    let low : band < height = fits.low in
+    (omega (arith, wide, columns), omega (arith, high, low))

@@ -1,0 +1,152 @@
+-- How a sheet follows the events.
+use Rattle.std.proofs.Common.{◌≡◌, ℕ, ◌<◌, Bool, true, false, ◌||◌}
+use Rattle.std.proofs.Common.{Option, Some, None, List, [], ◌∷◌, ◌++◌, refl, sym, ap, ap₂, ◌∙◌}
+use Rattle.std.specs.Prelude.{IsTrue, is_some, if◌then◌else◌}
+use Rattle.std.specs.Option.{option_or}
+use Rattle.sixel_grammar.specs.declared.command.Event.{Event}
+use Rattle.sixel_grammar.specs.declared.command.Event.TheVariants.{Start, Step, Finish}
+use Rattle.sixel_grammar.specs.declared.command.Command.TheVariants.{Sixel, Repeat, Raster, Select, Define}
+use Rattle.sixel_grammar.specs.declared.command.Command.TheVariants.{CarriageReturn, NextLine}
+use Rattle.sixel_picture.specs.Events.{Attributes, bits_of, columns_of, is_data_command, raster_of}
+use Rattle.sixel_picture.specs.Geometry.{band, column, covers, falls, touches}
+use Rattle.sixel_picture.specs.Pictures.{is_side}
+use Rattle.sixel_picture.specs.Positions.{any_at, any_below, earliest, last_at, last_below}
+use Rattle.sixel_picture.specs.Rules.{is_covered, known, raster_before, register_at}
+use Rattle.sixel_picture.specs.Sheets.{Sheet, blank_sheet, cell, painted_sheet}
+use Rattle.sixel_picture.proofs.CoverLemmas.{no_bits_cover}
+use Rattle.sixel_picture.proofs.SheetLemmas.{cell-blank_sheet, cell-painted_sheet, length_rows}
+use Rattle.sixel_picture.proofs.StepLemmas.{covered_push, raster_push, register_push}
+use Rattle.sixel_check.specs.Judging.{IsDrawn, IsUndrawn}
+
+-- ---- events that paint nothing
+
+-- an event without a set bit paints no point
+pub idle_falls : (before : List Event) (e : Event) (x y : ℕ) → bits_of e ≡ 0 → falls before e x y ≡ false
+unfolding falls touches
+idle_falls before e x y h = rw h (no_bits_cover (column 0 before) (columns_of 0 e) (band before) x y)
+
+pub idle_covered : (before : List Event) (e : Event) (x y : ℕ) → bits_of e ≡ 0
+    → is_covered (before ++ e ∷ []) x y ≡ is_covered before x y
+idle_covered before e x y h = covered_push before e x y ∙ rw (idle_falls before e x y h) refl
+
+pub idle_register : (before : List Event) (e : Event) (x y : ℕ) → bits_of e ≡ 0
+    → register_at (before ++ e ∷ []) x y ≡ register_at before x y
+idle_register before e x y h = register_push before e x y ∙ rw (idle_falls before e x y h) refl
+
+-- only data commands have set bits
+pub no_data_bits : (e : Event) → is_data_command e ≡ false → bits_of e ≡ 0
+no_data_bits (Step (Sixel bits)) h = cc
+no_data_bits (Step (Repeat count bits)) h = cc
+no_data_bits (Step (Raster a b c d)) h = refl
+no_data_bits (Step (Select r)) h = refl
+no_data_bits (Step (Define r s a b c)) h = refl
+no_data_bits (Step CarriageReturn) h = refl
+no_data_bits (Step NextLine) h = refl
+no_data_bits (Start eight parameters) h = refl
+no_data_bits (Finish eight) h = refl
+
+pub raster_bits : (e : Event) (a : Attributes) → raster_of e ≡ Some a → bits_of e ≡ 0
+raster_bits (Step (Sixel bits)) a h = cc
+raster_bits (Step (Repeat count bits)) a h = cc
+raster_bits (Step (Raster p q c d)) a h = refl
+raster_bits (Step (Select r)) a h = refl
+raster_bits (Step (Define r s p q c)) a h = refl
+raster_bits (Step CarriageReturn) a h = refl
+raster_bits (Step NextLine) a h = refl
+raster_bits (Start eight parameters) a h = refl
+raster_bits (Finish eight) a h = refl
+
+-- ---- before there is a box
+
+pub undrawn_empty : IsUndrawn []
+unfolding raster_before earliest is_covered any_at any_below register_at last_at last_below
+undrawn_empty = record { no_box = refl; uncovered = λ x y. refl; no_register = λ x y. refl }
+
+pub undrawn_idle : (before : List Event) (e : Event) → raster_of e ≡ None → bits_of e ≡ 0 → IsUndrawn before
+    → IsUndrawn (before ++ e ∷ [])
+undrawn_idle before e none idle u = record {
+  no_box = raster_push before e ∙ ap₂ option_or u.no_box none;
+  uncovered = λ x y. idle_covered before e x y idle ∙ u.uncovered x y;
+  no_register = λ x y. idle_register before e x y idle ∙ u.no_register x y;
+}
+
+-- neither raster attributes nor a data command
+pub undrawn_push : (before : List Event) (e : Event) → raster_of e ≡ None → is_data_command e ≡ false → IsUndrawn before
+    → IsUndrawn (before ++ e ∷ [])
+undrawn_push before e none no_data u = undrawn_idle before e none (no_data_bits e no_data) u
+
+-- ---- from the box on
+
+-- the first raster attributes
+pub drawn_first : (before : List Event) (e : Event) (w h : ℕ)
+    → raster_of e ≡ Some (record { pan = 1; pad = 1; width = w; height = h }) → IsTrue (is_side w) → IsTrue (is_side h)
+    → IsUndrawn before → IsDrawn (blank_sheet w h) (before ++ e ∷ [])
+unfolding blank_sheet
+drawn_first before e w h is width height u =
+    let idle : bits_of e ≡ 0 = raster_bits e _ is in
+    let bare : (x y : ℕ) → x < w → y < h → cell (blank_sheet w h) x y ≡ None = cell-blank_sheet w h in
+    record {
+      box = raster_push before e ∙ ap₂ option_or u.no_box is;
+      width = width;
+      height = height;
+      pixels = length_rows w h _;
+      registers = λ x y p q. bare x y p q ∙ sym (idle_register before e x y idle ∙ u.no_register x y);
+      covered = λ x y p q. ap is_some (bare x y p q) ∙ sym (idle_covered before e x y idle ∙ u.uncovered x y);
+    }
+
+-- the box stays
+box_stays : (before : List Event) (e : Event) (a : Attributes) → raster_before before ≡ Some a
+    → raster_before (before ++ e ∷ []) ≡ Some a
+box_stays before e a is = raster_push before e ∙ ap (λ (o : Option Attributes). option_or o (raster_of e)) is
+
+-- an event without a set bit leaves the sheet as it is
+pub drawn_idle : (s : Sheet) (before : List Event) (e : Event) → bits_of e ≡ 0 → IsDrawn s before
+    → IsDrawn s (before ++ e ∷ [])
+drawn_idle s before e idle d = record {
+  box = box_stays before e _ d.box;
+  width = d.width;
+  height = d.height;
+  pixels = d.pixels;
+  registers = λ x y p q. d.registers x y p q ∙ sym (idle_register before e x y idle);
+  covered = λ x y p q. d.covered x y p q ∙ sym (idle_covered before e x y idle);
+}
+
+-- the pixel after a command that paints in register r
+painted_register : (s : Sheet) (before : List Event) (e : Event) (r x y : ℕ) → known before ≡ Some r → IsDrawn s before
+    → x < s.width → y < s.height
+    → cell (painted_sheet s (column 0 before) (band before) (columns_of 0 e) (bits_of e) r) x y
+    ≡ register_at (before ++ e ∷ []) x y
+unfolding falls touches
+painted_register s before e r x y is d p q =
+    cell-painted_sheet s (column 0 before) (band before) (columns_of 0 e) (bits_of e) r x y p q
+    ∙ ap₂ (λ (o m : Option ℕ).
+    if covers (column 0 before) (columns_of 0 e) (band before) 1 (bits_of e) x y then o else m)
+    (sym is) (d.registers x y p q)
+    ∙ sym (register_push before e x y)
+
+known_or : (b covered : Bool) (o q : Option ℕ) (r : ℕ) → q ≡ Some r → is_some o ≡ covered
+    → is_some (if b then q else o) ≡ (b || covered)
+known_or true covered o q r is has = rw is refl
+known_or false covered o q r is has = has
+
+register_covered : (s : Sheet) (before : List Event) (e : Event) (r x y : ℕ) → known before ≡ Some r → IsDrawn s before
+    → x < s.width → y < s.height → is_some (register_at (before ++ e ∷ []) x y) ≡ is_covered (before ++ e ∷ []) x y
+register_covered s before e r x y is d p q =
+    let had : is_some (register_at before x y) ≡ is_covered before x y =
+    ap is_some (sym (d.registers x y p q)) ∙ d.covered x y p q in
+    rw (register_push before e x y, covered_push before e x y)
+    (known_or (falls before e x y) (is_covered before x y) (register_at before x y) (known before) r is had)
+
+-- a command that paints in the known register
+pub drawn_run : (s : Sheet) (before : List Event) (e : Event) (r : ℕ) → known before ≡ Some r → IsDrawn s before
+    → IsDrawn (painted_sheet s (column 0 before) (band before) (columns_of 0 e) (bits_of e) r) (before ++ e ∷ [])
+unfolding painted_sheet
+drawn_run s before e r is d = record {
+  box = box_stays before e _ d.box;
+  width = d.width;
+  height = d.height;
+  pixels = length_rows s.width s.height _;
+  registers = λ x y p q. painted_register s before e r x y is d p q;
+  covered = λ x y p q.
+      ap is_some (painted_register s before e r x y is d p q) ∙ register_covered s before e r x y is d p q;
+}

@@ -1,0 +1,108 @@
+-- What stands after one event more.
+use Rattle.std.proofs.Common.{◌≡◌, ℕ, ◌<◌, true, false, Option, Some, None, List, [], ◌∷◌, ◌++◌, length, map, arith}
+use Rattle.std.proofs.Common.{sym, ◌∙◌, ap, subst, refl}
+use Rattle.std.specs.Prelude.{is_some, slice_get}
+use Rattle.std.specs.Option.{option_map}
+use Rattle.std.proofs.lemmas.List.{map-append, length-map}
+use Rattle.sixel_grammar.specs.Document.{events_of}
+use Rattle.sixel_grammar.specs.declared.command.Event.{Event}
+use Rattle.sixel_grammar.specs.declared.command.Placed.{Placed}
+use Rattle.sixel_picture.specs.Positions.{HoldsAtPosition, at_position, last_at, last_below}
+use Rattle.sixel_picture.specs.Rules.{Breaks, IsFirstBroken, register_at}
+use Rattle.sixel_picture.specs.Sheets.{Sheet}
+use Rattle.sixel_picture.proofs.PositionLemmas.{get_before, get_end, holds_before, holds_end, holds_within}
+use Rattle.sixel_picture.proofs.RuleLemmas.{first_push, first_there, none_of_none, none_push}
+use Rattle.sixel_check.specs.declared.breach.Breach.{Breach}
+use Rattle.sixel_check.specs.declared.notes.Notes.{Notes}
+use Rattle.sixel_check.specs.declared.verdict.Finding.{Finding}
+use Rattle.sixel_check.specs.Breaches.{IsBreach, NoneBelow}
+use Rattle.sixel_check.specs.Judging.{AreNotesAfter, IsSheetAfter, JudgesAfter, StandsUnbroken}
+use Rattle.sixel_check.specs.Verdicts.{IsFinding, IsPixel, number_of}
+use Rattle.sixel_check.proofs.DrawLemmas.{coloured_push}
+use Rattle.sixel_check.proofs.DrawnLemmas.{undrawn_empty}
+use Rattle.sixel_check.proofs.NoteLemmas.{keeps}
+
+pub events_push : (seen : List Placed) (p : Placed) → events_of (seen ++ p ∷ []) ≡ events_of seen ++ p.event ∷ []
+events_push seen p = map-append (λ (q : Placed). q.event) seen (p ∷ [])
+
+length_events : (seen : List Placed) → length (events_of seen) ≡ length seen
+length_events seen = length-map seen (λ (q : Placed). q.event)
+
+pub judge_start : (notes : Notes) → AreNotesAfter notes [] → StandsUnbroken notes None []
+unfolding register_at last_at last_below
+judge_start notes a = record {
+  unbroken = none_of_none 16 12;
+  notes_are = a;
+  sheet_is = undrawn_empty;
+  coloured = λ x y r h. cc;
+}
+
+-- a finding stays the first
+pub judge_broken : (seen : List Placed) (p : Placed) (f : Finding) → (i : ℕ) × IsFinding 16 seen f i
+    → (i : ℕ) × IsFinding 16 (seen ++ p ∷ []) f i
+judge_broken seen p f found =
+    let i : ℕ = found.0 in
+    let finding : IsFinding 16 seen f found.0 = found.1 in
+    let low : found.0 < length (events_of seen) = holds_within _ (events_of seen) found.0 finding.pixel in
+    let low_seen : found.0 < length seen = subst (λ (n : ℕ). found.0 < n) (length_events seen) low in (
+      found.0,
+      record {
+        first = subst (λ (es : List Event). IsFirstBroken 16 es (number_of f.rule) found.0) (sym (events_push seen p))
+            (first_push 16 (number_of f.rule) found.0 (events_of seen) p.event finding.first);
+        place = ap (option_map (λ (q : Placed). q.place)) (get_before seen (p ∷ []) found.0 low_seen) ∙ finding.place;
+        pixel =
+            subst (λ (es : List Event). HoldsAtPosition (IsPixel f.rule f.pixel) es found.0) (sym (events_push seen p))
+            (holds_before (IsPixel f.rule f.pixel) (events_of seen) p.event found.0 low finding.pixel);
+      },
+    )
+
+-- the first finding
+pub judge_finds : (notes : Notes) (sheet : Option Sheet) (seen : List Placed) (p : Placed) (b : Breach)
+    → StandsUnbroken notes sheet (events_of seen) → IsBreach (events_of seen) p.event b
+    → (i : ℕ) × IsFinding 16 (seen ++ p ∷ []) (record { rule = b.rule; place = p.place; pixel = b.pixel }) i
+judge_finds notes sheet seen p b s breach = (
+  length (events_of seen),
+  record {
+    first =
+        subst (λ (es : List Event). IsFirstBroken 16 es (number_of b.rule) (length (events_of seen)))
+        (sym (events_push seen p))
+        (first_there 16 (number_of b.rule) (events_of seen) p.event s.unbroken breach.broken breach.none_smaller);
+    place =
+        ap (λ (n : ℕ). option_map (λ (q : Placed). q.place) (slice_get (seen ++ p ∷ []) n)) (length_events seen)
+        ∙ ap (option_map (λ (q : Placed). q.place)) (get_end seen p);
+    pixel = subst (λ (es : List Event). HoldsAtPosition (IsPixel b.rule b.pixel) es (length (events_of seen)))
+        (sym (events_push seen p))
+        (holds_end (IsPixel b.rule b.pixel) (events_of seen) p.event breach.pixel);
+  },
+)
+
+-- no finding, and an event that breaks no rule
+pub judge_goes_on : (notes next : Notes) (sheet drawn : Option Sheet) (seen : List Placed) (p : Placed)
+    → StandsUnbroken notes sheet (events_of seen) → NoneBelow 13 (events_of seen) p.event
+    → AreNotesAfter next (events_of seen ++ p.event ∷ []) → IsSheetAfter drawn (events_of seen ++ p.event ∷ [])
+    → StandsUnbroken next drawn (events_of (seen ++ p ∷ []))
+judge_goes_on notes next sheet drawn seen p s none a d =
+    subst (StandsUnbroken next drawn) (sym (events_push seen p))
+    (record {
+      unbroken = none_push 16 12 (events_of seen) p.event s.unbroken (keeps (events_of seen) p.event none);
+      notes_are = a;
+      sheet_is = d;
+      coloured = coloured_push notes (events_of seen) p.event s.notes_are none s.coloured;
+    })
+
+-- where there is a finding
+pub finding_stays : (o : Option Finding) (notes : Notes) (sheet : Option Sheet) (seen : List Placed) (p : Placed)
+    → is_some o ≡ true → JudgesAfter o notes sheet seen → JudgesAfter o notes sheet (seen ++ p ∷ [])
+finding_stays (Some f) notes sheet seen p e j = judge_broken seen p f j
+finding_stays None notes sheet seen p e j = cc
+
+-- where there is none
+pub unbroken_of : (o : Option Finding) (notes : Notes) (sheet : Option Sheet) (seen : List Placed)
+    → is_some o ≡ false → JudgesAfter o notes sheet seen → StandsUnbroken notes sheet (events_of seen)
+unbroken_of (Some f) notes sheet seen e j = cc
+unbroken_of None notes sheet seen e j = j
+
+pub judges_of : (o : Option Finding) (notes : Notes) (sheet : Option Sheet) (seen : List Placed)
+    → is_some o ≡ false → StandsUnbroken notes sheet (events_of seen) → JudgesAfter o notes sheet seen
+judges_of (Some f) notes sheet seen e s = cc
+judges_of None notes sheet seen e s = s

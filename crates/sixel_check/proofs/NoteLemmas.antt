@@ -1,0 +1,202 @@
+-- What is noted after one event more.
+use Rattle.std.proofs.Common.{◌≡◌, ℕ, ◌+◌, ◌<◌, ◌≤◌, ◌==◌, ◌&&◌, ◌||◌, Bool, true, false, cond, min, Option, Some, None}
+use Rattle.std.proofs.Common.{IsTrue, IsFalse}
+use Rattle.std.proofs.Common.{List, [], ◌∷◌, ◌++◌, length, get_or, set, refl, sym, ap, ◌∙◌, subst, arith, replicate}
+use Rattle.std.specs.Prelude.{IfSome, nat_lt, nat_le, not, if◌then◌else◌}
+use Rattle.std.specs.Bool.{then_some}
+use Rattle.std.specs.Option.{option_and_then, option_map_or, option_or}
+use Rattle.std.proofs.lemmas.Bool.{eqb-true, eqb-false, leb-false, lt-ltb}
+use Rattle.std.proofs.lemmas.List.{get_or-replicate, get_or-set_same, get_or-set_other, length-set}
+use Rattle.sixel_grammar.specs.declared.command.Command.TheVariants.{Sixel, Repeat, Raster, Select, Define}
+use Rattle.sixel_grammar.specs.declared.command.Command.TheVariants.{CarriageReturn, NextLine}
+use Rattle.sixel_grammar.specs.declared.command.Event.{Event}
+use Rattle.sixel_grammar.specs.declared.command.Event.TheVariants.{Start, Step, Finish}
+use Rattle.sixel_picture.specs.declared.colour.Parts.{Parts}
+use Rattle.sixel_picture.specs.Colours.{colour_in, is_colour}
+use Rattle.sixel_picture.specs.Events.{Definition, columns_of, definition_where, is_next_line, is_painting, is_return}
+use Rattle.sixel_picture.specs.Events.{named_by, select_of}
+use Rattle.sixel_picture.specs.Geometry.{band, column}
+use Rattle.sixel_picture.specs.Positions.{latest, earliest, since, any_at, any_below}
+use Rattle.sixel_picture.specs.Rules.{Breaks, breaks_colour_value, breaks_register, definition_of, gives_colour}
+use Rattle.sixel_picture.specs.Rules.{is_painted_in, is_that, known, known_by, palette_left, colour_of}
+use Rattle.sixel_picture.proofs.LeftLemmas.{left_define, left_idle}
+use Rattle.sixel_picture.proofs.PositionLemmas.{latest_push}
+use Rattle.sixel_picture.proofs.RuleLemmas.{Keeps, none_keeps}
+use Rattle.sixel_picture.proofs.StepLemmas.{band_push, column_push, definition_push, painted_in_push}
+use Rattle.sixel_check.specs.declared.notes.Notes.{Notes}
+use Rattle.sixel_check.specs.Breaches.{NoneBelow}
+use Rattle.sixel_check.specs.Judging.{AreNotesAfter, IsGood}
+use Rattle.sixel_check.specs.Steps.{IsBelow, colour_within, known_in, next_band, next_column, next_named, next_painted}
+use Rattle.sixel_check.specs.Steps.{next_palette, next_selected}
+use Rattle.sixel_check.specs.Verdicts.{capped}
+
+-- an event that breaks none of the rules keeps each
+pub keeps : (before : List Event) (e : Event) → NoneBelow 13 before e → Keeps 16 before e
+keeps before e none = none_keeps 16 before e (λ n le. none n (omega (arith, le)))
+
+-- a column that stops at the greatest
+stopped : (b : Bool) (c w : ℕ) → cond b 0 (capped (capped c + w)) ≡ capped (cond b 0 (c + w))
+stopped true c w = omega arith
+stopped false c w = omega arith
+
+stopped_band : (b : Bool) (n : ℕ) → cond b (capped (capped n + 1)) (capped n) ≡ capped (n + cond b 1 0)
+stopped_band true n = omega arith
+stopped_band false n = omega arith
+
+select_below : (e : Event) → IsFalse (breaks_register 16 e) → IfSome (select_of e) (λ r. r < 16)
+unfolding breaks_register
+select_below (Start eight parameters) h = tt
+select_below (Step (Sixel bits)) h = tt
+select_below (Step (Repeat count bits)) h = tt
+select_below (Step (Raster pan pad width height)) h = tt
+select_below (Step (Select register)) h = leb-false 16 register h
+select_below (Step (Define register system x y z)) h = tt
+select_below (Step CarriageReturn) h = tt
+select_below (Step NextLine) h = tt
+select_below (Finish eight) h = tt
+
+or_each : {A : Type 0} (P : A → Type 0) (o p : Option A) → IfSome o P → IfSome p P → IfSome (option_or o p) P
+or_each P None p h k = k
+or_each P (Some x) p h k = h
+
+-- ---- definitions
+
+not_false : (b : Bool) → not b ≡ false → b ≡ true
+not_false true h = refl
+not_false false h = cc
+
+where_good : (b : Bool) (q r : ℕ) (d : Definition) → (q == r) ≡ b → q < 16 → IsTrue (gives_colour d)
+    → IfSome (if b then Some d else None) (IsGood r)
+where_good true q r d e lt h = let same : q ≡ r = eqb-true q r e in (omega (arith, lt, same), h)
+where_good false q r d e lt h = tt
+
+defined_good : (e : Event) (r : ℕ) → IsFalse (breaks_register 16 e) → IsFalse (breaks_colour_value e)
+    → IfSome (definition_where (λ q. q == r) e) (IsGood r)
+unfolding breaks_register breaks_colour_value
+defined_good (Start eight parameters) r h k = tt
+defined_good (Step (Sixel bits)) r h k = tt
+defined_good (Step (Repeat count bits)) r h k = tt
+defined_good (Step (Raster pan pad width height)) r h k = tt
+defined_good (Step (Select register)) r h k = tt
+defined_good (Step (Define register system x y z)) r h k =
+    where_good (register == r) register r _ refl (leb-false 16 register h) (not_false _ k)
+defined_good (Step CarriageReturn) r h k = tt
+defined_good (Step NextLine) r h k = tt
+defined_good (Finish eight) r h k = tt
+
+-- ---- the palette
+
+within : (o : Option Parts) → option_map_or is_colour o false ≡ true
+    → (c : Parts) × (o ≡ Some c) × (option_and_then (λ c. if is_colour c then Some c else None) o ≡ Some c)
+within None h = cc
+within (Some c) h = (c, refl, ap (λ (b : Bool). if b then Some c else None) h)
+
+palette_push : (n : Notes) (before : List Event) (e : Event) → n.palette ≡ palette_left 16 before
+    → IsFalse (breaks_register 16 e) → IsFalse (breaks_colour_value e)
+    → next_palette n e ≡ palette_left 16 (before ++ e ∷ [])
+unfolding breaks_register breaks_colour_value
+palette_push n before (Start eight parameters) s h k = s ∙ left_idle 16 before (Start eight parameters) (λ r. refl)
+palette_push n before (Step (Sixel bits)) s h k = s ∙ left_idle 16 before (Step (Sixel bits)) (λ r. refl)
+palette_push n before (Step (Repeat count bits)) s h k = s ∙ left_idle 16 before (Step (Repeat count bits)) (λ r. refl)
+palette_push n before (Step (Raster pan pad width height)) s h k =
+    s ∙ left_idle 16 before (Step (Raster pan pad width height)) (λ r. refl)
+palette_push n before (Step (Select register)) s h k = s ∙ left_idle 16 before (Step (Select register)) (λ r. refl)
+palette_push n before (Step (Define register system x y z)) s h k =
+    let lt : register < 16 = leb-false 16 register h in
+    let found = within (colour_in system x y z) (not_false _ k) in
+    let is_low : nat_lt register 16 ≡ true = lt-ltb register 16 lt in
+    rw (is_low, found.2)
+    (ap (λ (p : List (Option Parts)). set p register (Some found.0)) s
+    ∙ left_define 16 register system x y z found.0 before lt found.1)
+palette_push n before (Step CarriageReturn) s h k = s ∙ left_idle 16 before (Step CarriageReturn) (λ r. refl)
+palette_push n before (Step NextLine) s h k = s ∙ left_idle 16 before (Step NextLine) (λ r. refl)
+palette_push n before (Finish eight) s h k = s ∙ left_idle 16 before (Finish eight) (λ r. refl)
+
+-- ---- the registers in which was painted
+
+length_painted : (b : Bool) (o : Option ℕ) (xs : List Bool)
+    → length (if b then option_map_or (λ r. set xs r true) o xs else xs) ≡ length xs
+length_painted true (Some r) xs = length-set xs r true
+length_painted true None xs = refl
+length_painted false o xs = refl
+
+set_is : (b : Bool) (q r : ℕ) (xs : List Bool) → (q == r) ≡ b → q < length xs
+    → get_or (set xs q true) r false ≡ (b || get_or xs r false)
+set_is true q r xs e lt =
+    let same : q ≡ r = eqb-true q r e in
+    ap (λ (i : ℕ). get_or (set xs q true) i false) (sym same) ∙ get_or-set_same xs q true false lt
+set_is false q r xs e lt = get_or-set_other xs q r true false (λ d. eqb-false q r e (sym d))
+
+painted_is : (b : Bool) (o : Option ℕ) (r : ℕ) (xs : List Bool) → IfSome o (λ q. q < length xs)
+    → get_or (if b then option_map_or (λ q. set xs q true) o xs else xs) r false ≡
+    ((b && is_that r o) || get_or xs r false)
+painted_is true (Some q) r xs lt = set_is (q == r) q r xs refl lt
+painted_is true None r xs lt = refl
+painted_is false o r xs lt = refl
+
+pub known_below : (s n : Option ℕ) (m : ℕ) → IfSome s (λ r. r < m) → IfSome (known_by s n) (λ r. r < m)
+known_below None n m h = tt
+known_below (Some r) n m h = keep (is_that r n)
+  where
+    keep : (b : Bool) → IfSome (then_some b r) (λ r. r < m)
+    keep true = h
+    keep false = tt
+
+pub known_is : (n : Notes) (before : List Event) → AreNotesAfter n before → known_in n ≡ known before
+unfolding known
+known_is n before s = rw (s.selected_is, s.named_is) refl
+
+-- ---- all notes
+
+pub notes_start : (palette : List (Option Parts)) → palette ≡ replicate 16 None
+    → AreNotesAfter
+    (record { column = 0; band = 0; selected = None; named = None; palette = palette; painted = replicate 16 false }) []
+unfolding column band since latest palette_left colour_of definition_of is_painted_in any_at any_below
+notes_start palette h = record {
+  column_is = refl;
+  band_is = refl;
+  selected_is = refl;
+  selected_below = tt;
+  named_is = refl;
+  palette_is = h;
+  in_range = λ r. tt;
+  registers = refl;
+  painted_is = λ r lt. get_or-replicate 16 r false false lt;
+}
+
+-- the notes after one event more, which breaks no rule
+pub notes_push : (n : Notes) (before : List Event) (e : Event) → AreNotesAfter n before → NoneBelow 13 before e
+    → AreNotesAfter (record {
+      column = next_column n e;
+      band = next_band n e;
+      selected = next_selected n e;
+      named = next_named n e;
+      palette = next_palette n e;
+      painted = next_painted n e;
+    }) (before ++ e ∷ [])
+unfolding is_painted_in
+notes_push n before e s none =
+    let k = keeps before e none in
+    record {
+      column_is =
+          ap (λ m. cond (is_return e) 0 (capped (m + columns_of 0 e))) s.column_is
+          ∙ stopped (is_return e) (column 0 before) (columns_of 0 e)
+          ∙ ap capped (sym (column_push 0 before e));
+      band_is =
+          ap (λ m. cond (is_next_line e) (capped (m + 1)) m) s.band_is
+          ∙ stopped_band (is_next_line e) (band before)
+          ∙ ap capped (sym (band_push before e));
+      selected_is = ap (option_or (select_of e)) s.selected_is ∙ sym (latest_push select_of before e);
+      selected_below = or_each (λ r. r < 16) (select_of e) n.selected (select_below e k.register) s.selected_below;
+      named_is = ap (option_or (named_by e)) s.named_is ∙ sym (latest_push named_by before e);
+      palette_is = palette_push n before e s.palette_is k.register k.colour_value;
+      in_range = λ r. subst (λ (o : Option Definition). IfSome o (IsGood r)) (sym (definition_push before e r))
+          (or_each (IsGood r) (definition_where (λ q. q == r) e) (definition_of before r) (defined_good e r k.register k.colour_value) (s.in_range r));
+      registers = length_painted (is_painting e) (known_in n) n.painted ∙ s.registers;
+      painted_is = λ r lt.
+          painted_is (is_painting e) (known_in n) r n.painted
+          (subst (λ (m : ℕ). IfSome (known_in n) (λ q. q < m)) (sym s.registers) (known_below n.selected n.named 16 s.selected_below))
+          ∙ ap (λ (o : Option ℕ). (is_painting e && is_that r o) || get_or n.painted r false) (known_is n before s)
+          ∙ ap (λ (b : Bool). (is_painting e && is_that r (known before)) || b) (s.painted_is r lt)
+          ∙ sym (painted_in_push before e r);
+    }

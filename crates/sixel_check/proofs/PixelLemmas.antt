@@ -1,0 +1,90 @@
+-- On the rules that look at pixels.
+use Rattle.std.proofs.Common.{◌≡◌, ℕ, ◌<◌, Bool, true, false, Option, Some, None, List, arith, sym, ◌∙◌, ap, subst}
+use Rattle.std.proofs.Common.{refl}
+use Rattle.std.specs.Prelude.{IsTrue, is_some}
+use Rattle.std.specs.Option.{option_map}
+use Rattle.sixel_grammar.specs.declared.command.Event.{Event}
+use Rattle.sixel_picture.specs.Events.{Attributes, is_finish}
+use Rattle.sixel_picture.specs.Rules.{Breaks, BreaksUncovered, FallsOutside, StaysBlank, raster_before}
+use Rattle.sixel_picture.specs.Sheets.{Sheet}
+use Rattle.sixel_check.specs.declared.breach.Breach.{Breach}
+use Rattle.sixel_check.specs.declared.notes.Notes.{Notes}
+use Rattle.sixel_check.specs.declared.rule.Rule.{Rule}
+use Rattle.sixel_check.specs.declared.rule.Rule.TheVariants.{Outside, Uncovered}
+use Rattle.sixel_check.specs.Breaches.{IsBreach, IsBreachOf, NoneBelow, rule_in}
+use Rattle.sixel_check.specs.Judging.{AreNotesAfter, IsDrawn, IsSheetAfter, IsUndrawn, box_of}
+use Rattle.sixel_check.specs.Outside.{IsFirstIfAny}
+use Rattle.sixel_check.proofs.BreachLemmas.{IsLeast, IsLeastOf, least_rule, none_more}
+use Rattle.sixel_check.proofs.RunLemmas.{breaks_outside, breaks_uncovered, first_in_box, keeps_covered, keeps_inside}
+use Rattle.sixel_check.proofs.RunLemmas.{no_box_outside, no_box_uncovered}
+
+-- a breach of a rule that looks at no pixel
+pub breach_plain : (before : List Event) (e : Event) (rule : Rule) → IsLeast before e rule
+    → IsBreach before e (record { rule = rule; pixel = None })
+breach_plain before e rule l = record { broken = l.broken; none_smaller = l.none_smaller; pixel = l.no_pixel }
+
+pub breach_outside : (before : List Event) (e : Event) (s : Sheet) (pixel : ℕ × ℕ) → IsDrawn s before
+    → NoneBelow 11 before e → IsFirstIfAny (FallsOutside before e (box_of s)) (Some pixel)
+    → IsBreach before e (record { rule = Outside; pixel = Some pixel })
+unfolding Breaks
+breach_outside before e s pixel d none first = record {
+  broken = breaks_outside before e (box_of s) pixel d.box first;
+  none_smaller = none;
+  pixel = first_in_box (FallsOutside before e) (raster_before before) (box_of s) pixel d.box first;
+}
+
+pub none_outside : (before : List Event) (e : Event) (s : Sheet) → IsDrawn s before → NoneBelow 11 before e
+    → IsFirstIfAny (FallsOutside before e (box_of s)) None → NoneBelow 12 before e
+unfolding Breaks
+none_outside before e s d none first = none_more before e 11 none (keeps_inside before e (box_of s) d.box first)
+
+pub breach_uncovered : (before : List Event) (e : Event) (s : Sheet) (pixel : ℕ × ℕ) → is_finish e ≡ true
+    → IsDrawn s before
+    → NoneBelow 12 before e → IsFirstIfAny (StaysBlank before (box_of s)) (Some pixel)
+    → IsBreach before e (record { rule = Uncovered; pixel = Some pixel })
+unfolding Breaks
+breach_uncovered before e s pixel end d none first = record {
+  broken = breaks_uncovered before e (box_of s) pixel end d.box first;
+  none_smaller = none;
+  pixel = first_in_box (StaysBlank before) (raster_before before) (box_of s) pixel d.box first;
+}
+
+pub none_uncovered : (before : List Event) (e : Event) (s : Sheet) → IsDrawn s before → NoneBelow 12 before e
+    → IsFirstIfAny (StaysBlank before (box_of s)) None → NoneBelow 13 before e
+unfolding Breaks
+none_uncovered before e s d none first = none_more before e 12 none (keeps_covered before e (box_of s) d.box first)
+
+not_end : (before : List Event) (e : Event) → is_finish e ≡ false → ¬ BreaksUncovered before e
+unfolding BreaksUncovered
+not_end before e goes_on h = let yes : is_finish e ≡ true = h.0 in cc
+
+-- an event that isn't the end leaves nothing uncovered
+pub none_before_end : (before : List Event) (e : Event) → is_finish e ≡ false → NoneBelow 12 before e
+    → NoneBelow 13 before e
+unfolding Breaks
+none_before_end before e goes_on none = none_more before e 12 none (not_end before e goes_on)
+
+-- without a box no pixel is looked at
+pub none_without_box : (before : List Event) (e : Event) → raster_before before ≡ None → NoneBelow 11 before e
+    → NoneBelow 13 before e
+unfolding Breaks
+none_without_box before e is none =
+    none_more before e 12 (none_more before e 11 none (no_box_outside before e is)) (no_box_uncovered before e is)
+
+-- there is a sheet exactly where there is a box
+pub box_there : (sheet : Option Sheet) (before : List Event) → IsSheetAfter sheet before
+    → is_some sheet ≡ is_some (raster_before before)
+box_there None before u = ap is_some (sym u.no_box)
+box_there (Some s) before d = ap is_some (sym d.box)
+
+pub has_sheet : {P : Type 0} (f : P → Sheet) (o : Option P) → is_some o ≡ is_some (option_map f o)
+has_sheet f None = refl
+has_sheet f (Some p) = refl
+
+-- the rule that was found is the least of those that look at no pixel
+pub least_noted : (n : Notes) (sheet : Option Sheet) (before : List Event) (e : Event) (has_box : Bool)
+    (o : Option Rule)
+    → has_box ≡ is_some sheet → o ≡ rule_in n has_box e → AreNotesAfter n before → IsSheetAfter sheet before
+    → IsLeastOf before e o
+least_noted n sheet before e has_box o box is s d =
+    subst (IsLeastOf before e) (sym is) (least_rule n before e has_box (box ∙ box_there sheet before d) s)

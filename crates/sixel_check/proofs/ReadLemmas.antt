@@ -1,0 +1,161 @@
+-- On the events that bytes complete, one after another.
+use Rattle.std.proofs.Common.{◌≡◌, ℕ, zero, suc, ◌&&◌, Bool, true, false, not, Option, Some, None, IsTrue, ◌⊎◌, inl}
+use Rattle.std.proofs.Common.{inr}
+use Rattle.std.proofs.Common.{List, [], ◌∷◌, ◌++◌, length, sym, ◌∙◌, ap, subst, refl, append_assoc}
+use Rattle.std.specs.Prelude.{Err, IfSome}
+use Rattle.std.specs.List.{AllByRecursion, list_any}
+use Rattle.std.specs.Option.{option_to_list}
+use Rattle.std.proofs.lemmas.Bool.{and_from}
+use Rattle.std.proofs.lemmas.List.{append-nil, map-append}
+use Rattle.sixel_grammar.specs.Document.{AreRest, AreWhole, events_of}
+use Rattle.sixel_grammar.specs.Faults.{AreBegun, AreFront, AreSteps, IsFaultOf}
+use Rattle.sixel_grammar.specs.FixedText.{CanWrite, CanWriteAll}
+use Rattle.sixel_grammar.specs.Reading.{Explains, ExplainsAlways, failures_after}
+use Rattle.sixel_grammar.specs.declared.fault.InputFault.{InputFault}
+use Rattle.sixel_grammar.specs.declared.fault.InputFault.TheVariants.{Grammar, OutOfMemory, Read}
+use Rattle.sixel_grammar.specs.Prefix.{CompleteIn}
+use Rattle.sixel_grammar.specs.Spelling.{IsSpellable}
+use Rattle.sixel_grammar.specs.Standing as grammar
+use Rattle.sixel_grammar.specs.declared.command.Completed.{Completed}
+use Rattle.sixel_grammar.specs.declared.command.Event.{Event}
+use Rattle.sixel_grammar.specs.declared.command.Event.TheVariants.{Start, Step, Finish}
+use Rattle.sixel_grammar.specs.declared.command.Placed.{Placed}
+use Rattle.sixel_grammar.specs.declared.reader.Reader.{Reader}
+use Rattle.sixel_grammar.proofs.Stands.{read_complete}
+use Rattle.sixel_grammar.proofs.Total.{complete_front}
+use Rattle.sixel_grammar.proofs.Writable.{events_can}
+use Rattle.sixel_picture.specs.Events.{is_finish}
+use Rattle.sixel_check.specs.Reading.{AreAfter, MayCome, MayComplete}
+use Rattle.sixel_check.specs.Standing.{StandsAfter, expects, is_start, is_whole}
+use Rattle.sixel_check.proofs.StandLemmas.{begun_goes_on, steps_go_on, whole_events}
+
+-- ---- an event of a front may come next
+
+starts : (e : Event) (more : List Event) → AreBegun (e ∷ more) ⊎ AreWhole (e ∷ more) → is_start e ≡ true
+starts (Start eight parameters) more h = refl
+starts (Step command) more h = elim h [ inl begun ↦ absurd begun | inr whole ↦ absurd whole ]
+starts (Finish eight) more h = elim h [ inl begun ↦ absurd begun | inr whole ↦ absurd whole ]
+
+some_front : (events : List Event) → (events ≡ [] → ⊥) → AreFront events → AreBegun events ⊎ AreWhole events
+some_front events some h = elim h [ inl none ↦ absurd (some none) | inr rest ↦ rest ]
+
+step_next : (e : Event) (more : List Event) → AreSteps (e ∷ more) → is_start e ≡ false
+step_next (Start eight parameters) more h = absurd h
+step_next (Step command) more h = refl
+step_next (Finish eight) more h = absurd h
+
+rest_next : (e : Event) (more : List Event) → AreRest (e ∷ more) → is_start e ≡ false
+rest_next (Start eight parameters) more h = absurd h
+rest_next (Step command) more h = refl
+rest_next (Finish eight) more h = refl
+
+steps_split : (xs : List Event) (e : Event) (ys : List Event) → AreSteps (xs ++ e ∷ ys)
+    → AreSteps xs × (is_start e ≡ false)
+steps_split [] e ys h = (tt, step_next e ys h)
+steps_split (Start eight parameters ∷ xs) e ys h = absurd h
+steps_split (Step command ∷ xs) e ys h = steps_split xs e ys h
+steps_split (Finish eight ∷ xs) e ys h = absurd h
+
+not_empty : (xs : List Event) (e : Event) (ys : List Event) → xs ++ e ∷ ys ≡ [] → ⊥
+not_empty [] e ys h = cc
+not_empty (x ∷ xs) e ys h = cc
+
+rest_split : (xs : List Event) (e : Event) (ys : List Event) → AreRest (xs ++ e ∷ ys)
+    → AreSteps xs × (is_start e ≡ false)
+rest_split [] e ys h = (tt, rest_next e ys h)
+rest_split (Start eight parameters ∷ xs) e ys h = absurd h
+rest_split (Step command ∷ xs) e ys h = rest_split xs e ys h
+rest_split (Finish eight ∷ xs) e ys h = absurd (not_empty xs e ys h)
+
+begun_split : (x : Event) (xs : List Event) (e : Event) (ys : List Event)
+    → AreBegun (x ∷ (xs ++ e ∷ ys)) ⊎ AreWhole (x ∷ (xs ++ e ∷ ys)) → AreBegun (x ∷ xs) × (is_start e ≡ false)
+begun_split (Start eight parameters) xs e ys h =
+    elim h [ inl begun ↦ steps_split xs e ys begun | inr whole ↦ rest_split xs e ys whole ]
+begun_split (Step command) xs e ys h = elim h [ inl begun ↦ absurd begun | inr whole ↦ absurd whole ]
+begun_split (Finish eight) xs e ys h = elim h [ inl begun ↦ absurd begun | inr whole ↦ absurd whole ]
+
+-- what follows in a front is expected
+expected_next : (seen : List Placed) (e : Event) (ys : List Event) → AreFront (events_of seen ++ e ∷ ys)
+    → IsTrue (expects seen e)
+expected_next [] e ys h = starts e ys (some_front (e ∷ ys) (λ n. cc) h)
+expected_next (q ∷ qs) e ys h =
+    let parts = begun_split q.event (events_of qs) e ys (some_front (events_of (q ∷ qs) ++ e ∷ ys) (λ n. cc) h) in
+    let unended : is_whole (q ∷ qs) ≡ false =
+    sym (whole_events (q ∷ qs)) ∙ begun_goes_on (events_of (q ∷ qs)) parts.0 in
+    and_from (not (is_whole (q ∷ qs))) (not (is_start e)) (ap not unended) (ap not parts.1)
+
+writable_there : (seen : List Placed) (p : Placed) (rest : List Placed) → CanWriteAll (seen ++ p ∷ rest)
+    → IsSpellable p.event
+writable_there [] p rest h = h.0.spellable
+writable_there (q ∷ qs) p rest h = writable_there qs p rest h.1
+
+events_then : (seen : List Placed) (p : Placed) (rest : List Placed)
+    → events_of (seen ++ p ∷ rest) ≡ events_of seen ++ p.event ∷ events_of rest
+events_then seen p rest = map-append (λ (q : Placed). q.event) seen (p ∷ rest)
+
+may_come : (seen : List Placed) (p : Placed) (rest : List Placed) → AreFront (events_of (seen ++ p ∷ rest))
+    → CanWriteAll (seen ++ p ∷ rest) → MayCome seen (Some p)
+may_come seen p rest front can = (
+  expected_next seen p.event (events_of rest) (subst AreFront (events_then seen p rest) front),
+  writable_there seen p rest can,
+)
+
+-- the events that a byte completes may come, in order
+may_complete : (seen : List Placed) (first second : Option Placed)
+    → AreFront (events_of (seen ++ (option_to_list first ++ option_to_list second)))
+    → CanWriteAll (seen ++ (option_to_list first ++ option_to_list second))
+    → MayCome seen first × MayCome (seen ++ option_to_list first) second
+may_complete seen None None front can = (tt, tt)
+may_complete seen None (Some q) front can =
+    (tt, subst (λ (l : List Placed). MayCome l (Some q)) (sym (append-nil seen)) (may_come seen q [] front can))
+may_complete seen (Some p) None front can = (may_come seen p [] front can, tt)
+may_complete seen (Some p) (Some q) front can = (
+  may_come seen p (q ∷ []) front can,
+  may_come (seen ++ p ∷ []) q []
+      (subst (λ (l : List Placed). AreFront (events_of l)) (sym (append_assoc seen (p ∷ []) (q ∷ []))) front)
+      (subst CanWriteAll (sym (append_assoc seen (p ∷ []) (q ∷ []))) can),
+)
+
+-- what a reader completes may come
+pub read_may : (reader : Reader) (seen : List Placed) (c : Completed) (bytes : List ℕ)
+    → grammar.StandsAfter reader (seen ++ grammar.completions c) bytes → MayComplete seen c
+read_may reader seen c bytes s =
+    let complete : CompleteIn (seen ++ grammar.completions c) bytes =
+    read_complete reader (seen ++ grammar.completions c) bytes s in
+    may_complete seen c.first c.second (complete_front (seen ++ grammar.completions c) bytes complete)
+    (events_can (seen ++ grammar.completions c) bytes complete)
+
+-- both stand after one byte more
+pub after_byte : (old new : Reader) (kept more : List Placed) (c : Completed) (front : List ℕ) (byte : ℕ)
+    → grammar.Takes old new byte (grammar.completions c)
+    → ((seen : List Placed) → StandsAfter kept seen → StandsAfter more (seen ++ grammar.completions c))
+    → AreAfter old kept front → AreAfter new more (front ++ byte ∷ [])
+after_byte old new kept more c front byte takes keeps a = record {
+  events = a.events ++ grammar.completions c;
+  read = takes a.events front a.read;
+  checked = keeps a.events a.checked;
+}
+
+-- neither has read a byte
+pub after_none : (reader : Reader) (kept : List Placed) → grammar.StandsAfter reader [] [] → StandsAfter kept []
+    → AreAfter reader kept []
+after_none reader kept read checked = record { events = []; read = read; checked = checked }
+
+-- a fault of whatever the bytes begin is one of the bytes
+pub explains_now : (fault : InputFault) (bytes : List ℕ) → ExplainsAlways fault bytes → Explains fault bytes
+explains_now (Grammar f) bytes h = subst (λ (t : List ℕ). IsFaultOf t f) (append-nil bytes) (h [])
+explains_now OutOfMemory bytes h = tt
+explains_now Read bytes h = tt
+
+-- where no source is read, none fails
+pub never_read : (fault : InputFault) (bytes : List ℕ) → ExplainsAlways fault bytes → fault ≡ Read → ⊥
+never_read (Grammar f) bytes h e = cc
+never_read OutOfMemory bytes h e = cc
+never_read Read bytes h e = h
+
+-- a fault of the bytes is none of the source
+pub not_failed : (A : Type 0) (fault : InputFault) (bytes : List ℕ) (n : ℕ) → ExplainsAlways fault bytes
+    → n ≡ failures_after {A = A} (Err fault) n
+not_failed A (Grammar f) bytes n h = refl
+not_failed A OutOfMemory bytes n h = refl
+not_failed A Read bytes n h = absurd h

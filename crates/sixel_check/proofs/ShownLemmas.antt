@@ -1,0 +1,266 @@
+-- On what terminals show, where no rule is broken: the picture that is left.
+use Rattle.std.proofs.Common.{◌≡◌, ◌<◌, ◌≤◌, ◌+◌, ◌-◌, ◌*◌, ℕ, Bool, true, false, ◌&&◌, cond, Option, Some, None}
+use Rattle.std.proofs.Common.{List, length}
+use Rattle.std.proofs.Common.{take, refl, sym, ap, ◌∙◌, arith}
+use Rattle.std.specs.Prelude.{◌==◌, if◌then◌else◌, is_none, slice_get, slice_index_or, unwrap_or, IsSome}
+use Rattle.std.specs.Option.{option_flatten, option_map}
+use Rattle.std.proofs.lemmas.Bool.{and_from, eqb-true, false_from_ne_true, le-leb, lt-ltb, not_from_false}
+use Rattle.std.proofs.lemmas.Option.{slice_get_within}
+use Rattle.sixel_grammar.specs.declared.command.Event.{Event}
+use Rattle.sixel_grammar.specs.Document.{AreWhole}
+use Rattle.sixel_picture.specs.declared.colour.Parts.{Parts}
+use Rattle.sixel_picture.specs.declared.colour.Parts.TheVariants.{Rgb}
+use Rattle.sixel_picture.specs.Colours.{palette_at}
+use Rattle.sixel_picture.specs.Events.{Attributes, bits_of, is_data_command, is_in_box, is_painting, raster_of}
+use Rattle.sixel_picture.specs.Geometry.{falls}
+use Rattle.sixel_picture.specs.Pictures.{register_of}
+use Rattle.sixel_picture.specs.Positions.{any_at, at_position, last_at, last_below, passes_at}
+use Rattle.sixel_picture.specs.Rules.{BreaksNone, breaks_unselected, is_covered, known, picture_left, raster_before}
+use Rattle.sixel_picture.specs.Rules.{register_at}
+use Rattle.sixel_picture.proofs.LastLemmas.{IsLast, at_there, is_last, item_there, last_is, passes_there, some_last}
+use Rattle.sixel_picture.proofs.RuleLemmas.{Keeps, keeps_at}
+use Rattle.sixel_picture.proofs.SheetLemmas.{get_rows}
+use Rattle.sixel_terminal.specs.Displays.{Display, registers_of}
+use Rattle.sixel_terminal.specs.Drawing.{inked_on, map_on, paint_at, paints_on, selected_on, shown_on, touches_on}
+use Rattle.sixel_terminal.proofs.PaintLemmas.{none_filled}
+use Rattle.sixel_terminal.proofs.PlainLemmas.{same_points_on_each}
+use Rattle.sixel_terminal.proofs.SelectLemmas.{known_is_selected}
+use Rattle.sixel_check.specs.Laws.{HasColourLeft, LeftIsPortable}
+use Rattle.sixel_check.specs.Portable.{IsPortable}
+use Rattle.sixel_check.proofs.ColourLemmas.{known_in_range}
+use Rattle.sixel_check.proofs.CoverLemmas.{all_covered, box_at_data, box_later, box_there, filled_first, some_value}
+use Rattle.sixel_check.proofs.DrawnLemmas.{idle_falls}
+use Rattle.sixel_check.proofs.SteadyLemmas.{painted_colour_is_left}
+use Rattle.sixel_check.proofs.WithinLemmas.{none_painted_outside, plain, touches_data}
+
+-- ---- the last painting of a pixel
+
+-- what paints a point has a set bit
+falls_paints : (before : List Event) (e : Event) (x y : ℕ) → falls before e x y ≡ true → is_painting e ≡ true
+falls_paints before e x y h = not_from_false _ (false_from_ne_true (bits_of e == 0) (λ is.
+    let no : true ≡ false = sym h ∙ idle_falls before e x y (eqb-true (bits_of e) 0 is) in cc))
+
+known_if : (b : Bool) (o : Option ℕ) → (b && is_none o) ≡ false → b ≡ true → IsSome o
+known_if b (Some r) h p = refl
+known_if true None h p = cc
+known_if false None h p = cc
+
+-- a command that paints a point knows its register
+falls_known : (n : ℕ) (before : List Event) (e : Event) (x y : ℕ) → Keeps n before e → falls before e x y ≡ true
+    → IsSome (known before)
+unfolding breaks_unselected
+falls_known n before e x y k h = known_if (is_painting e) (known before) k.unselected (falls_paints before e x y h)
+
+-- what is known where an event paints the point
+abbrev known_where : ℕ → ℕ → List Event → Event → Option (Option ℕ)
+known_where x y before e = if falls before e x y then Some (known before) else None
+
+-- the last event that paints the point, and the register that it knows
+pub record IsLastPainting (events : List Event) (x y r : ℕ) : Type 0 where
+  pub at : ℕ
+  pub event : Event
+  pub here : slice_get events at ≡ Some event
+  pub fell : falls (take at events) event x y ≡ true
+  pub register : known (take at events) ≡ Some r
+  pub after : (j : ℕ) (e : Event) → at < j → slice_get events j ≡ Some e → falls (take j events) e x y ≡ false
+
+fell_if : (b : Bool) (o p : Option ℕ) → cond b (Some o) None ≡ Some p → (b ≡ true) × (o ≡ p)
+fell_if true o p h = (refl, (let same : o ≡ p = cc in same))
+fell_if false o p h = cc
+
+not_fell : (b : Bool) (o : Option ℕ) → cond b (Some o) None ≡ None → b ≡ false
+not_fell true o h = cc
+not_fell false o h = refl
+
+flat_some : (o : Option (Option ℕ)) (r : ℕ) → option_flatten o ≡ Some r → o ≡ Some (Some r)
+flat_some None r h = cc
+flat_some (Some p) r h = ap (λ (q : Option ℕ). Some q) h
+
+last_painting : (events : List Event) (x y r : ℕ) → register_at events x y ≡ Some r → IsLastPainting events x y r
+unfolding register_at last_at
+last_painting events x y r found =
+    let l : IsLast (at_position (known_where x y) events) (length events) (Some r)
+    = last_is (length events) (at_position (known_where x y) events) (Some r) (flat_some _ r found) in
+    let e : (e : Event) × (slice_get events l.at ≡ Some e) = item_there events l.at l.below in
+    let here : slice_get events l.at ≡ Some (e.0) = e.1 in
+    let both : (falls (take l.at events) (e.0) x y ≡ true) × (known (take l.at events) ≡ Some r)
+    = fell_if (falls (take l.at events) (e.0) x y) (known (take l.at events)) (Some r)
+    (sym (at_there (known_where x y) events l.at (e.0) here) ∙ l.gives) in
+    record {
+      at = l.at;
+      event = e.0;
+      here = here;
+      fell = both.0;
+      register = both.1;
+      after = λ j d lt is. not_fell (falls (take j events) d x y) (known (take j events))
+          (sym (at_there (known_where x y) events j d is) ∙ l.after j lt (slice_get_within events j d is));
+    }
+
+-- a covered pixel has a register
+has_register : (n : ℕ) (events : List Event) (x y : ℕ) → BreaksNone n 12 events → is_covered events x y ≡ true
+    → IsSome (register_at events x y)
+unfolding is_covered any_at register_at last_at
+has_register n events x y none covered =
+    let q : (o : Option ℕ) × (last_below (length events) (at_position (known_where x y) events) ≡ Some o)
+    = some_value _ (some_last (length events) (passes_at (λ earlier e. falls earlier e x y) events)
+    (at_position (known_where x y) events) at_each covered) in
+    let l : IsLast (at_position (known_where x y) events) (length events) (q.0)
+    = last_is (length events) (at_position (known_where x y) events) (q.0) (q.1) in
+    let e : (e : Event) × (slice_get events l.at ≡ Some e) = item_there events l.at l.below in
+    let here : slice_get events l.at ≡ Some (e.0) = e.1 in
+    let both : (falls (take l.at events) (e.0) x y ≡ true) × (known (take l.at events) ≡ q.0)
+    = fell_if (falls (take l.at events) (e.0) x y) (known (take l.at events)) (q.0)
+    (sym (at_there (known_where x y) events l.at (e.0) here) ∙ l.gives) in
+    let some : IsSome (known (take l.at events))
+    = falls_known n (take l.at events) (e.0) x y (keeps_at n events none l.at (e.0) here) both.0 in
+    rw q.1 (rw both.1 at some)
+  where
+    at_each : (i : ℕ) → i < length events → passes_at (λ earlier e. falls earlier e x y) events i ≡ true
+        → IsSome (at_position (known_where x y) events i)
+    at_each i lt p =
+        let e : (e : Event) × (slice_get events i ≡ Some e) = item_there events i lt in
+        let here : slice_get events i ≡ Some (e.0) = e.1 in
+        let fell : falls (take i events) (e.0) x y ≡ true
+        = sym (passes_there (λ earlier e. falls earlier e x y) events i (e.0) here) ∙ p in
+        rw (at_there (known_where x y) events i (e.0) here, fell) refl
+
+-- ---- the pixel on a terminal
+
+-- a point counted from the origin
+at_origin : (t : Display) (before : List Event) (e : Event) (x y : ℕ)
+    → paints_on t before e (t.choices.origin_x + x) (t.choices.origin_y + y) ≡ paint_at t before e x y
+unfolding paints_on
+at_origin t before e x y =
+    let across : t.choices.origin_x ≤ t.choices.origin_x + x = omega arith in
+    let down : t.choices.origin_y ≤ t.choices.origin_y + y = omega arith in
+    let dx : (t.choices.origin_x + x) - t.choices.origin_x ≡ x = omega arith in
+    let dy : (t.choices.origin_y + y) - t.choices.origin_y ≡ y = omega arith in
+    rw (
+      le-leb t.choices.origin_x (t.choices.origin_x + x) across,
+      le-leb t.choices.origin_y (t.choices.origin_y + y) down,
+      dx,
+      dy,
+    ) refl
+
+falls_data : (before : List Event) (e : Event) (x y : ℕ) → falls before e x y ≡ true → is_data_command e ≡ true
+unfolding falls
+falls_data before e x y h = touches_data 0 1 before e x y h
+
+-- the box stands before what paints a point
+box_at_painting : (n : ℕ) (events : List Event) (x y r : ℕ) → BreaksNone n 12 events → (p : IsLastPainting events x y r)
+    → IsSome (raster_before (take p.at events))
+box_at_painting n events x y r none p =
+    box_at_data n (take p.at events) p.event (keeps_at n events none p.at p.event p.here)
+    (falls_data (take p.at events) p.event x y p.fell)
+
+-- the last painting of a pixel is in its register
+paint_last : (n : ℕ) (t : Display) (events : List Event) (x y r : ℕ) → BreaksNone n 12 events → n ≤ registers_of t
+    → (p : IsLastPainting events x y r) → paint_at t (take p.at events) p.event x y ≡ Some r
+paint_last n t events x y r none enough p =
+    let same : touches_on t (take p.at events) p.event x y ≡ true
+    = same_points_on_each t events p.at p.event x y (plain n events none) p.here
+    (box_at_painting n events x y r none p) ∙ p.fell in
+    let low : r < n = known_in_range n r p.at events none p.register in
+    let selected : selected_on t (take p.at events) ≡ r
+    = known_is_selected t (take p.at events) r p.register (omega arith) in
+    rw (same, selected) refl
+
+-- and no event after it paints the pixel
+paint_after : (n : ℕ) (t : Display) (events : List Event) (x y r : ℕ) → BreaksNone n 12 events
+    → (p : IsLastPainting events x y r) (j : ℕ) (e : Event) → p.at < j → slice_get events j ≡ Some e
+    → paint_at t (take j events) e x y ≡ None
+paint_after n t events x y r none p j e lt here =
+    let still : IsSome (raster_before (take j events))
+    = box_later p.at j events (omega arith) (box_at_painting n events x y r none p) in
+    let same : touches_on t (take j events) e x y ≡ false
+    = same_points_on_each t events j e x y (plain n events none) here still ∙ p.after j e lt here in
+    let no_raster : raster_of e ≡ None
+    = filled_first n events p.at j p.event e none lt p.here
+    (falls_data (take p.at events) p.event x y p.fell) here in
+    rw (same, none_filled t.choices.ground e x y no_raster) refl
+
+colour_either : (n : ℕ) (t : Display) (events : List Event) (i r : ℕ) (b : Bool) → HasColourLeft n t events i r
+    → palette_at (picture_left n events).palette r ≡ Some (map_on t (if b then events else take i events) r)
+colour_either n t events i r true h = h.at_showing
+colour_either n t events i r false h = h.at_painting
+
+-- what is inked at the last painting, and after it
+inked_at : (n : ℕ) (t : Display) (events : List Event) (x y r : ℕ) → BreaksNone n 12 events → n ≤ registers_of t
+    → (p : IsLastPainting events x y r)
+    → IsLast (at_position (inked_on t events (t.choices.origin_x + x) (t.choices.origin_y + y)) events) (length events)
+    (map_on t (if t.choices.binds_at_showing then events else take p.at events) r)
+inked_at n t events x y r none enough p =
+    let f = inked_on t events (t.choices.origin_x + x) (t.choices.origin_y + y) in
+    record {
+      at = p.at;
+      below = slice_get_within events p.at p.event p.here;
+      gives = at_there f events p.at p.event p.here
+          ∙ ap (option_map (map_on t (if t.choices.binds_at_showing then events else take p.at events)))
+          (at_origin t (take p.at events) p.event x y ∙ paint_last n t events x y r none enough p);
+      after = λ j lt le.
+          let e : (e : Event) × (slice_get events j ≡ Some e) = item_there events j le in
+          at_there f events j (e.0) (e.1)
+          ∙ ap (option_map (map_on t (if t.choices.binds_at_showing then events else take j events)))
+          (at_origin t (take j events) (e.0) x y ∙ paint_after n t events x y r none p j (e.0) lt (e.1));
+    }
+
+-- a terminal shows the colour of the register that is left at the pixel
+shown_is : (n : ℕ) (t : Display) (events : List Event) (x y r : ℕ) → BreaksNone n 12 events → n ≤ registers_of t
+    → register_at events x y ≡ Some r
+    → palette_at (picture_left n events).palette r
+    ≡ Some (shown_on t events (t.choices.origin_x + x) (t.choices.origin_y + y))
+unfolding shown_on last_at
+shown_is n t events x y r none enough found =
+    let p : IsLastPainting events x y r = last_painting events x y r found in
+    let colours : HasColourLeft n t events p.at r
+    = painted_colour_is_left n t events p.at p.event r enough none p.here
+    (falls_paints (take p.at events) p.event x y p.fell) p.register in
+    let last = is_last (length events) _ _ (inked_at n t events x y r none enough p) in
+    colour_either n t events p.at r t.choices.binds_at_showing colours
+    ∙ sym (ap (λ (o : Option Parts). Some (unwrap_or o (slice_index_or t.screen
+    ((t.choices.origin_y + y) * t.choices.screen_width + (t.choices.origin_x + x)) (Rgb 0 0 0)))) last)
+
+-- ---- the picture that is left
+
+register_left : (n : ℕ) (events : List Event) (a : Attributes) (x y r : ℕ) → raster_before events ≡ Some a → x < a.width
+    → y < a.height → register_at events x y ≡ Some r → register_of (picture_left n events) x y ≡ r
+unfolding picture_left
+register_left n events a x y r box p q found =
+    rw box (get_rows a.width a.height (λ x y. unwrap_or (register_at events x y) 0) x y 0 p q ∙ rw found refl)
+
+-- each terminal with enough registers shows it in the box
+shows_left : (n : ℕ) (t : Display) (events : List Event) (a : Attributes) (x y : ℕ) → AreWhole events
+    → BreaksNone n 12 events → n ≤ registers_of t → raster_before events ≡ Some a → x < a.width → y < a.height
+    → palette_at (picture_left n events).palette (register_of (picture_left n events) x y)
+    ≡ Some (shown_on t events (t.choices.origin_x + x) (t.choices.origin_y + y))
+shows_left n t events a x y whole none enough box p q =
+    let inside : is_in_box a x y ≡ true = and_from _ _ (lt-ltb x a.width p) (lt-ltb y a.height q) in
+    let covered : is_covered events x y ≡ true = all_covered n events a x y whole none box inside in
+    let r : (r : ℕ) × (register_at events x y ≡ Some r)
+    = some_value (register_at events x y) (has_register n events x y none covered) in
+    rw (register_left n events a x y (r.0) box p q (r.1)) (shown_is n t events x y (r.0) none enough (r.1))
+
+size_left : (n : ℕ) (events : List Event) (a : Attributes) → raster_before events ≡ Some a
+    → ((picture_left n events).width ≡ a.width) × ((picture_left n events).height ≡ a.height)
+unfolding picture_left
+size_left n events a box = rw box (refl, refl)
+
+box_is_portable : (n : ℕ) (events : List Event) (a : Attributes) → AreWhole events → BreaksNone n 12 events
+    → raster_before events ≡ Some a → IsPortable n events (picture_left n events)
+box_is_portable n events a whole none box =
+    let w : (picture_left n events).width ≡ a.width = (size_left n events a box).0 in
+    let v : (picture_left n events).height ≡ a.height = (size_left n events a box).1 in
+    record {
+      size = rw box (w, v);
+      shown = λ t class room. record {
+        inside = λ x y p q. shows_left n t events a x y whole none class.enough box (omega arith) (omega arith);
+        outside = λ x y out painted. none_painted_outside n t events a x y none box
+            (λ b. out (record { left = b.left; top = b.top; right = rw w b.right; bottom = rw v b.bottom })) painted;
+      };
+    }
+
+pub left_is_portable : (n : ℕ) → LeftIsPortable n
+left_is_portable n events whole none =
+    let a : (a : Attributes) × (raster_before events ≡ Some a)
+    = some_value (raster_before events) (box_there n events whole none) in
+    box_is_portable n events (a.0) whole none (a.1)

@@ -1,0 +1,48 @@
+use Rattle.std.proofs.Common.{◌≡◌, ◌+◌, ◌<◌, ◌≤◌, ◌≢◌, ◌++◌, ℕ, length, take, sym, ◌∙◌, arith}
+use Rattle.std.proofs.lemmas.List.{length-append, length-take-le}
+use Rattle.sixel_grammar.specs.Document.{most_bytes}
+use Rattle.sixel_grammar.specs.Standing.{left_of}
+use Rattle.sixel_grammar.proofs.Sources.{consumes-then, refused_early}
+use Rattle.sixel_check.specs.declared.verdict.Verdict.{Verdict}
+use Rattle.sixel_check.proofs.ReadLemmas.{not_failed}
+use Rattle.sixel_check.proofs.checking.check_on.Goals as goal
+
+pub returns-in-Err-read_piece-clause-answer : goal.returns-in-Err-read_piece-clause-answer
+returns-in-Err-read_piece-clause-answer g c =
+    let i = c.loop-checker.invariant in
+    refused_early _ _ c.in-Err-read_piece.fault (i.0 ++ take c.in-Ok.count c.fill.new.piece)
+    (consumes-then _ _ _ i.0 (take c.in-Ok.count c.fill.new.piece) i.2 c.in-Ok.ensures.bytes.0)
+    (c.in-Err-read_piece.ensures.refused i.0 i.1)
+
+pub returns-in-Err-read_piece-clause-failures : goal.returns-in-Err-read_piece-clause-failures
+returns-in-Err-read_piece-clause-failures g c =
+    let i = c.loop-checker.invariant in
+    c.in-Ok.ensures.failures ∙ i.3
+    ∙ not_failed Verdict c.in-Err-read_piece.fault (i.0 ++ take c.in-Ok.count c.fill.new.piece) _
+    (c.in-Err-read_piece.ensures.refused i.0 i.1)
+
+pub loop-checker-smaller : goal.loop-checker-smaller
+loop-checker-smaller g c =
+    let i = c.loop-checker.invariant in
+    let old : left_of c.loop-checker.reader + length i.0 ≡ most_bytes = i.1.read.left in
+    let new : left_of c.read_piece.new.reader + length (i.0 ++ take c.in-Ok.count c.fill.new.piece) ≡ most_bytes =
+    (c.in_default.ensures.read i.0 i.1).read.left in
+    let some : 0 < c.in-Ok.count = omega arith in
+    let long : c.in-Ok.count ≤ length c.fill.new.piece = omega (arith, c.in-Ok.ensures.bound, c.fill.auto.piece) in
+    omega (
+      arith,
+      old,
+      new,
+      some,
+      length-append i.0 (take c.in-Ok.count c.fill.new.piece),
+      length-take-le c.in-Ok.count c.fill.new.piece long,
+    )
+
+pub loop-checker-preserved : goal.loop-checker-preserved
+loop-checker-preserved g c =
+    let i = c.loop-checker.invariant in (
+      i.0 ++ take c.in-Ok.count c.fill.new.piece,
+      c.in_default.ensures.read i.0 i.1,
+      consumes-then _ _ _ i.0 (take c.in-Ok.count c.fill.new.piece) i.2 c.in-Ok.ensures.bytes.0,
+      c.in-Ok.ensures.failures ∙ i.3,
+    )

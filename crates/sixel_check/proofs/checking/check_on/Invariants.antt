@@ -1,0 +1,13 @@
+use Rattle.std.proofs.Common.{◌≡◌, ℕ, List}
+use Rattle.std.specs.Io.KnownBytes.{Consumes}
+use Rattle.sixel_grammar.specs.Standing.{left_of}
+use Rattle.sixel_check.specs.Reading.{AreAfter}
+use Rattle.sixel_check.proofs.checking.check_on.Given as goal
+
+abbrev pub invariant-loop-checker : goal.invariant-loop-checker
+invariant-loop-checker g l = (front : List ℕ) × AreAfter l.reader l.checker front
+    × Consumes (g.S.Source.remaining l.fn.input) (g.S.Source.remaining l.input) front
+    × (g.S.Source.failure_count l.input ≡ g.S.Source.failure_count l.fn.input)
+
+abbrev pub decreases-loop-checker : goal.decreases-loop-checker
+decreases-loop-checker g l = left_of l.reader

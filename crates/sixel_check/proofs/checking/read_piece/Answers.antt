@@ -1,0 +1,28 @@
+use Rattle.std.proofs.Common.{ℕ, ◌+◌, List, ◌++◌, take, drop, subst, arith}
+use Rattle.sixel_check.specs.Reading.{AreAfter}
+use Rattle.sixel_grammar.proofs.Sources.{refuses-more, one_past, split_past, take_past}
+use Rattle.sixel_check.proofs.checking.read_piece.Goals as goal
+
+pub read_byte-requires : goal.read_byte-requires
+read_byte-requires g c =
+    (c.requires.0 ++ take c.loop-byte.byte-index c.args.piece.now, c.loop-byte.invariant c.requires.0 c.requires.1)
+
+pub returns-in-Err-clause-refused : goal.returns-in-Err-clause-refused
+returns-in-Err-clause-refused g c = λ front a.
+    let h =
+    c.in-Err.ensures.refused (front ++ take c.loop-byte.byte-index c.args.piece.now) (c.loop-byte.invariant front a) in
+    refuses-more c.in-Err.fault _ (drop (c.loop-byte.byte-index + 1) c.args.piece.now) (front ++ c.args.piece.now)
+    (split_past front c.args.piece.now c.loop-byte.byte-index (omega arith)) h
+
+pub loop-byte-preserved : goal.loop-byte-preserved
+loop-byte-preserved g c = λ front a.
+    let h =
+    c.in_default.ensures.read (front ++ take c.loop-byte.byte-index c.args.piece.now) (c.loop-byte.invariant front a) in
+    subst (λ (t : List ℕ). AreAfter c.read_byte.new.reader c.read_byte.new.checker t)
+    (one_past front c.args.piece.now c.loop-byte.byte-index (omega arith)) h
+
+pub returns-clause-read : goal.returns-clause-read
+returns-clause-read g c = λ front a.
+    let whole = take_past c.loop-byte.byte-index c.args.piece.now (omega arith) in
+    subst (λ (t : List ℕ). AreAfter c.loop-byte.reader c.loop-byte.checker (front ++ t)) whole
+    (c.loop-byte.invariant front a)

@@ -1,0 +1,7 @@
+use Rattle.std.proofs.Common.{ℕ, List, ◌++◌, take}
+use Rattle.sixel_check.specs.Reading.{AreAfter}
+use Rattle.sixel_check.proofs.checking.read_piece.Given as goal
+
+abbrev pub invariant-loop-byte : goal.invariant-loop-byte
+invariant-loop-byte g l = (front : List ℕ) → AreAfter l.fn.reader l.fn.checker front
+    → AreAfter l.reader l.checker (front ++ take l.byte-index l.piece)

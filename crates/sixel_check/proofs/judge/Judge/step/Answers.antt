@@ -1,0 +1,31 @@
+use Rattle.std.proofs.Common.{◌≡◌, false, [], ◌∷◌, ◌++◌, sym, ◌∙◌}
+use Rattle.std.specs.Prelude.{is_some}
+use Rattle.std.specs.Option.{option_map}
+use Rattle.sixel_grammar.specs.Document.{events_of}
+use Rattle.sixel_check.proofs.JudgeLemmas.{finding_stays, judge_finds, judge_goes_on, judges_of, unbroken_of}
+use Rattle.sixel_check.proofs.judge.Judge.step.Goals as goal
+
+pub returns-then-is_some-clause-ok : goal.returns-then-is_some-clause-ok
+returns-then-is_some-clause-ok g c = λ seen j.
+    finding_stays c.args.self.now.finding c.args.self.now.notes (option_map g.P.Plane.sheet c.args.self.now.plane) seen
+    c.args.placed.now (sym c.is_some.ensures ∙ c.if-is_some.true) j
+
+pub returns-in-Some-clause-ok : goal.returns-in-Some-clause-ok
+returns-in-Some-clause-ok g c = λ seen j.
+    let none : is_some c.args.self.now.finding ≡ false = sym c.is_some.ensures ∙ c.if-is_some.false in
+    let sheet = option_map g.P.Plane.sheet c.args.self.now.plane in
+    let s = unbroken_of c.args.self.now.finding c.args.self.now.notes sheet seen none j in
+    judge_finds c.args.self.now.notes sheet seen c.args.placed.now c.in-Some.breach s
+    (c.in-Some.ensures (events_of seen) s.notes_are s.sheet_is)
+
+pub returns-in_ok-draw-in-None-clause-ok : goal.returns-in_ok-draw-in-None-clause-ok
+returns-in_ok-draw-in-None-clause-ok g c = λ seen j.
+    let none : is_some c.args.self.now.finding ≡ false = sym c.is_some.ensures ∙ c.if-is_some.false in
+    let sheet = option_map g.P.Plane.sheet c.args.self.now.plane in
+    let drawn = option_map g.P.Plane.sheet c.draw.new.plane in
+    let s = unbroken_of c.args.self.now.finding c.args.self.now.notes sheet seen none j in
+    let keeps = c.in-None.ensures (events_of seen) s.notes_are s.sheet_is in
+    judges_of c.args.self.now.finding c.take.new.self drawn (seen ++ c.args.placed.now ∷ []) none
+    (judge_goes_on c.args.self.now.notes c.take.new.self sheet drawn seen c.args.placed.now s keeps
+    (c.take.ensures (events_of seen) s.notes_are keeps)
+    (c.in_ok-draw-in-None.ensures.ok (events_of seen) s.notes_are s.sheet_is keeps))

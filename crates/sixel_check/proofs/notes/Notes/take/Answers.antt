@@ -1,0 +1,9 @@
+use Rattle.std.proofs.Common.{◌++◌, [], ◌∷◌, subst, sym}
+use Rattle.sixel_check.specs.Judging.{AreNotesAfter}
+use Rattle.sixel_check.proofs.NoteLemmas.{notes_push}
+use Rattle.sixel_check.proofs.notes.Notes.take.Goals as goal
+
+pub returns : goal.returns
+returns c = λ before s none.
+    rw (c.define.ensures, c.name.ensures, c.move_on.ensures, c.mark.ensures)
+    (notes_push c.args.self.now before c.args.event.now s none)

@@ -1,0 +1,7 @@
+use Rattle.std.proofs.Common.{List, take}
+use Rattle.sixel_grammar.specs.declared.command.Placed.{Placed}
+use Rattle.sixel_check.specs.Standing.{StandsAfter}
+use Rattle.sixel_check.proofs.tests.steps.pushed.Given as goal
+
+abbrev pub invariant-loop-placed : goal.invariant-loop-placed
+invariant-loop-placed g l = (seen : List Placed) × StandsAfter l.checker seen

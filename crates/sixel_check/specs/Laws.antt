@@ -1,0 +1,71 @@
+-- What the laws say.
+use Rattle.std.specs.Prelude.{◌≡◌, ◌<◌, ◌≤◌, ℕ, false, Some, None, IsTrue, List, [], ◌∷◌, slice_get, take}
+use Rattle.sixel_grammar.specs.declared.command.Command.TheVariants.{Sixel, Raster, Select, Define}
+use Rattle.sixel_grammar.specs.declared.command.Event.{Event}
+use Rattle.sixel_grammar.specs.declared.command.Event.TheVariants.{Start, Step, Finish}
+use Rattle.sixel_grammar.specs.declared.command.Placed.{Placed}
+use Rattle.sixel_grammar.specs.Document.{AreWhole, events_of}
+use Rattle.sixel_picture.specs.Colours.{palette_at}
+use Rattle.sixel_picture.specs.Events.{Attributes, is_data_command, is_in_box, is_painting, raster_of}
+use Rattle.sixel_picture.specs.Pictures.{PictureValue}
+use Rattle.sixel_picture.specs.Rules.{BreaksNone, is_covered, known, picture_left, raster_before}
+use Rattle.sixel_terminal.specs.Displays.{Display, registers_of}
+use Rattle.sixel_terminal.specs.Drawing.{IsPainted, map_on}
+use Rattle.sixel_check.specs.declared.verdict.Verdict.{Verdict}
+use Rattle.sixel_check.specs.declared.verdict.Verdict.TheVariants.{Portable}
+use Rattle.sixel_check.specs.Portable.{IsInBoxOn, IsPortable}
+use Rattle.sixel_check.specs.Verdicts.{IsVerdict}
+
+-- on the terminal the register has the colour that is left, before the event at position i and at the end
+pub record HasColourLeft (registers : ℕ) (t : Display) (events : List Event) (i r : ℕ) : Type 0 where
+  pub at_painting : palette_at (picture_left registers events).palette r ≡ Some (map_on t (take i events) r)
+  pub at_showing : palette_at (picture_left registers events).palette r ≡ Some (map_on t events r)
+
+-- where no rule is broken, the register in which a command paints has the colour that is left, at the painting and at
+-- the end, on each terminal with enough registers
+abbrev pub PaintedColourIsLeft : ℕ → Type 0
+PaintedColourIsLeft registers =
+    (t : Display) (events : List Event) (i : ℕ) (e : Event) (r : ℕ) → registers ≤ registers_of t
+    → BreaksNone registers 12 events → slice_get events i ≡ Some e → IsTrue (is_painting e)
+    → known (take i events) ≡ Some r → HasColourLeft registers t events i r
+
+-- where no rule is broken, no raster attributes stand after a data command
+abbrev pub FilledFirst : ℕ → Type 0
+FilledFirst registers =
+    (events : List Event) (i j : ℕ) (d e : Event) → BreaksNone registers 12 events → i < j
+    → slice_get events i ≡ Some d → IsTrue (is_data_command d) → slice_get events j ≡ Some e → raster_of e ≡ None
+
+-- where no rule is broken in a whole list, some event paints each pixel of the box
+abbrev pub AllCovered : ℕ → Type 0
+AllCovered registers =
+    (events : List Event) (a : Attributes) (x y : ℕ) → AreWhole events → BreaksNone registers 12 events
+    → raster_before events ≡ Some a → IsTrue (is_in_box a x y) → IsTrue (is_covered events x y)
+
+-- where no rule is broken, no event paints a pixel outside the box, on any terminal
+abbrev pub NonePaintedOutside : ℕ → Type 0
+NonePaintedOutside registers =
+    (t : Display) (events : List Event) (a : Attributes) (x y : ℕ) → BreaksNone registers 12 events
+    → raster_before events ≡ Some a → ¬ IsInBoxOn t a.width a.height x y → ¬ IsPainted t events x y
+
+-- where no rule is broken in a whole list, the picture that is left is portable
+abbrev pub LeftIsPortable : ℕ → Type 0
+LeftIsPortable registers =
+    (events : List Event) → AreWhole events → BreaksNone registers 12 events
+    → IsPortable registers events (picture_left registers events)
+
+-- where no rule is broken, the verdict is the picture that is left, and no other
+abbrev pub VerdictIsLeft : ℕ → Type 0
+VerdictIsLeft registers =
+    (placed : List Placed) (p : PictureValue) → BreaksNone registers 12 (events_of placed)
+    → p ≡ picture_left registers (events_of placed)
+    → IsVerdict registers placed (Portable p) × ((v : Verdict) → IsVerdict registers placed v → v ≡ Portable p)
+
+-- a box of one pixel, painted in a register that is defined and selected
+abbrev pub one_pixel : List Event
+one_pixel =
+    Start false (record { items = 0 ∷ [] }) ∷ Step (Raster 1 1 1 1) ∷ Step (Define 0 2 0 0 0) ∷ Step (Select 0)
+    ∷ Step (Sixel 1) ∷ Finish false ∷ []
+
+-- it is a whole list, and breaks no rule: the laws on such lists speak of some
+abbrev pub OnePixelBreaksNone : Type 0
+OnePixelBreaksNone = AreWhole one_pixel × BreaksNone 16 12 one_pixel

@@ -1,0 +1,9 @@
+pub mod Verdicts
+pub mod Standing
+pub mod Judging
+pub mod Steps
+pub mod Breaches
+pub mod Outside
+pub mod Reading
+pub mod Portable
+pub mod Laws

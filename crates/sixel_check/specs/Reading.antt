@@ -1,0 +1,37 @@
+-- What a check of bytes answers.
+use Rattle.std.specs.Prelude.{◌≡◌, ◌++◌, ℕ, List, Option, IfSome, IsTrue, Result, Ok, Err}
+use Rattle.std.specs.Option.{option_to_list}
+use Rattle.sixel_grammar.specs.Document.{Document, events_of}
+use Rattle.sixel_grammar.specs.Reading.{Explains}
+use Rattle.sixel_grammar.specs.Spelling.{IsSpellable}
+use Rattle.sixel_grammar.specs.Standing as grammar
+use Rattle.sixel_grammar.specs.declared.command.Completed.{Completed}
+use Rattle.sixel_grammar.specs.declared.command.Placed.{Placed}
+use Rattle.sixel_grammar.specs.declared.fault.InputFault.{InputFault}
+use Rattle.sixel_grammar.specs.declared.reader.Reader.{Reader}
+use Rattle.sixel_check.specs.Portable.{IsShownEverywhere}
+use Rattle.sixel_check.specs.Standing.{StandsAfter, expects}
+use Rattle.sixel_check.specs.Verdicts.{IsVerdict}
+use Rattle.sixel_check.specs.declared.verdict.Verdict.{Verdict}
+
+-- the bytes are a document, the verdict is that on its events, and a picture that it answers is portable; or a fault of
+-- the grammar is that of the bytes
+abbrev pub Answers : Result Verdict InputFault → List ℕ → Type 0
+Answers (Ok verdict) bytes =
+    (events : List Placed) × Document events bytes × IsVerdict 16 events verdict
+    × IsShownEverywhere 16 (events_of events) verdict
+Answers (Err fault) bytes = Explains fault bytes
+
+-- the reader stands after these bytes, and the checker after the events that are complete in them
+pub record AreAfter (reader : Reader) (kept : List Placed) (bytes : List ℕ) : Type 0 where
+  pub events : List Placed
+  pub read : grammar.StandsAfter reader events bytes
+  pub checked : StandsAfter kept events
+
+-- the event may come next, and is spellable
+abbrev pub MayCome : List Placed → Option Placed → Type 0
+MayCome seen placed = IfSome placed (λ p. IsTrue (expects seen p.event) × IsSpellable p.event)
+
+-- the events may come next, in order
+abbrev pub MayComplete : List Placed → Completed → Type 0
+MayComplete seen c = MayCome seen c.first × MayCome (seen ++ option_to_list c.first) c.second

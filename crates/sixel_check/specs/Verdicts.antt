@@ -1,0 +1,59 @@
+-- Verdicts on a list of events with their places.
+use Rattle.std.specs.Prelude.{◌≡◌, ℕ, ◌-◌, ◌^◌, min, Option, Some, None, IsSomeAnd, List, slice_get}
+use Rattle.std.specs.Option.{option_map}
+use Rattle.sixel_grammar.specs.declared.command.Event.{Event}
+use Rattle.sixel_grammar.specs.declared.command.Placed.{Placed}
+use Rattle.sixel_grammar.specs.Document.{events_of}
+use Rattle.sixel_picture.specs.Positions.{HoldsAtPosition}
+use Rattle.sixel_picture.specs.Rules.{BreaksNone, FallsOutside, IsFirstBroken, IsFirstPoint, StaysBlank, picture_left}
+use Rattle.sixel_picture.specs.Rules.{raster_before}
+use Rattle.sixel_check.specs.declared.rule.Rule.{Rule}
+use Rattle.sixel_check.specs.declared.rule.Rule.TheVariants.{RasterFirst, RasterTwice, Ratio, BoxSize, Register}
+use Rattle.sixel_check.specs.declared.rule.Rule.TheVariants.{ColourValue}
+use Rattle.sixel_check.specs.declared.rule.Rule.TheVariants.{RepeatZero, Unselected, Undefined, Redefined, Outside}
+use Rattle.sixel_check.specs.declared.rule.Rule.TheVariants.{Uncovered}
+use Rattle.sixel_check.specs.declared.verdict.Finding.{Finding}
+use Rattle.sixel_check.specs.declared.verdict.Verdict.{Verdict}
+use Rattle.sixel_check.specs.declared.verdict.Verdict.TheVariants.{Portable, Broken}
+
+abbrev pub number_of : Rule → ℕ
+number_of RasterFirst = 1
+number_of RasterTwice = 2
+number_of Ratio = 3
+number_of BoxSize = 4
+number_of Register = 5
+number_of ColourValue = 6
+number_of RepeatZero = 7
+number_of Unselected = 8
+number_of Undefined = 9
+number_of Redefined = 10
+number_of Outside = 11
+number_of Uncovered = 12
+
+-- the number, or the largest of 64 bits
+abbrev pub capped : ℕ → ℕ
+capped n = min n (2 ^ 64 - 1)
+
+-- the first point, in row order, of which P holds; the pixel is it, each coordinate capped
+abbrev pub IsFirstPixel : (ℕ → ℕ → Type 0) → Option (ℕ × ℕ) → Type 0
+IsFirstPixel P pixel = (x : ℕ) × (y : ℕ) × IsFirstPoint P x y × (pixel ≡ Some (capped x, capped y))
+
+-- the pixel of a finding at this event: the first outside the box, the first that stays blank, or none
+abbrev pub IsPixel : Rule → Option (ℕ × ℕ) → List Event → Event → Type 0
+IsPixel Outside pixel before e =
+    IsFirstPixel (λ x y. IsSomeAnd (raster_before before) (λ a. FallsOutside before e a x y)) pixel
+IsPixel Uncovered pixel before e =
+    IsFirstPixel (λ x y. IsSomeAnd (raster_before before) (λ a. StaysBlank before a x y)) pixel
+IsPixel _ pixel before e = pixel ≡ None
+
+-- the finding is the first broken rule, at position i
+pub record IsFinding (registers : ℕ) (placed : List Placed) (f : Finding) (i : ℕ) : Type 0 where
+  pub first : IsFirstBroken registers (events_of placed) (number_of f.rule) i
+  pub place : option_map (λ (p : Placed). p.place) (slice_get placed i) ≡ Some f.place
+  pub pixel : HoldsAtPosition (IsPixel f.rule f.pixel) (events_of placed) i
+
+-- the verdict: the first broken rule, or where none is broken the picture that is left
+abbrev pub IsVerdict : ℕ → List Placed → Verdict → Type 0
+IsVerdict registers placed (Portable picture) =
+    BreaksNone registers 12 (events_of placed) × (picture ≡ picture_left registers (events_of placed))
+IsVerdict registers placed (Broken finding) = (i : ℕ) × IsFinding registers placed finding i

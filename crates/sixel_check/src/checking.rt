@@ -1,0 +1,144 @@
+//! Checking the bytes of a document.
+
+ghost use Rattle.std.specs.Prelude.{◌≡◌, ◌++◌, ◌∷◌, [], ℕ, List, IfErr, IfSome, OnOk};
+ghost use Rattle.std.specs.Option.{option_to_list};
+ghost use Rattle.sixel_grammar.specs.Reading.{ExplainsAlways, failures_after};
+ghost use Rattle.sixel_grammar.specs.Standing.{completions};
+ghost use Rattle.sixel_grammar.specs.declared.command.Placed.{Placed as PlacedValue};
+ghost use Rattle.sixel_check.specs.Reading.{Answers, AreAfter, MayCome, MayComplete};
+ghost use Rattle.sixel_check.specs.Standing.{StandsAfter};
+
+use crate::checker::Checker;
+use crate::verdict::Verdict;
+use sixel_grammar::{Completed, InputFault, Placed, Reader, Source};
+use sixel_picture::{BytePlane, Plane};
+use std::alloc::Global;
+
+/// How many bytes are asked of a source at once.
+const PIECE: usize = 65_536;
+
+/// Pushes an event, if there is one.
+fn keep_one<P: Plane>(checker: &mut Checker<P>, placed: Option<Placed>) -> Result<(), InputFault>
+    requires { (seen : List PlacedValue) × StandsAfter checker.old seen × MayCome seen placed }
+    ensures kept { OnOk result ((seen : List PlacedValue) → StandsAfter checker.old seen
+        → StandsAfter checker.new (seen ++ option_to_list placed)) }
+    ensures refused { IfErr result (λ fault. fault ≡ InputFault.OutOfMemory) }
+{
+    match placed {
+        None => Ok(()),
+        Some(placed) => match checker.push(&placed) {
+            Ok(()) => Ok(()),
+            Err(_) => Err(InputFault::OutOfMemory),
+        },
+    }
+}
+
+/// Pushes the events that a byte completed.
+fn keep<P: Plane>(checker: &mut Checker<P>, completed: Completed) -> Result<(), InputFault>
+    requires { (seen : List PlacedValue) × StandsAfter checker.old seen × MayComplete seen completed }
+    ensures kept { OnOk result ((seen : List PlacedValue) → StandsAfter checker.old seen
+        → StandsAfter checker.new (seen ++ completions completed)) }
+    ensures refused { IfErr result (λ fault. fault ≡ InputFault.OutOfMemory) }
+{
+    let Completed { first, second } = completed;
+    keep_one(checker, first)?;
+    keep_one(checker, second)
+}
+
+/// Reads one byte, and pushes the events that it completes.
+fn read_byte<P: Plane>(
+    reader: &mut Reader,
+    checker: &mut Checker<P>,
+    byte: u8,
+) -> Result<(), InputFault>
+    requires { (front : List ℕ) × AreAfter reader.old checker.old front }
+    ensures read { OnOk result ((front : List ℕ) → AreAfter reader.old checker.old front
+        → AreAfter reader.new checker.new (front ++ byte ∷ [])) }
+    ensures refused { IfErr result (λ fault. (front : List ℕ) → AreAfter reader.old checker.old front
+        → ExplainsAlways fault (front ++ byte ∷ [])) }
+{
+    match reader.feed(byte) {
+        Ok(completed) => keep(checker, completed),
+        Err(fault) => Err(InputFault::Grammar(fault)),
+    }
+}
+
+/// Reads the bytes of a piece.
+fn read_piece<P: Plane>(
+    reader: &mut Reader,
+    checker: &mut Checker<P>,
+    piece: &[u8],
+) -> Result<(), InputFault>
+    requires { (front : List ℕ) × AreAfter reader.old checker.old front }
+    ensures read { OnOk result ((front : List ℕ) → AreAfter reader.old checker.old front
+        → AreAfter reader.new checker.new (front ++ piece.now)) }
+    ensures refused { IfErr result (λ fault. (front : List ℕ) → AreAfter reader.old checker.old front
+        → ExplainsAlways fault (front ++ piece.now)) }
+{
+    for byte in piece {
+        if let Err(fault) = read_byte(reader, checker, *byte) {
+            return Err(fault);
+        }
+    }
+    Ok(())
+}
+
+/// The answer at the end of the bytes.
+fn conclude<P: Plane>(reader: &Reader, checker: Checker<P>) -> Result<Verdict, InputFault>
+    requires { (front : List ℕ) × AreAfter reader.now checker front }
+    ensures answer { (front : List ℕ) → AreAfter reader.now checker front → Answers result front }
+    ensures never_read { IfErr result (λ fault. fault ≡ InputFault.Read → ⊥) }
+{
+    match reader.finish() {
+        Ok(()) => match checker.finish() {
+            Ok(verdict) => Ok(verdict),
+            Err(_) => Err(InputFault::OutOfMemory),
+        },
+        Err(fault) => Err(InputFault::Grammar(fault)),
+    }
+}
+
+/// Checks the bytes that a source gives, over a kind of plane.
+fn check_on<P: Plane, S: Source>(alloc: Global, input: &mut S) -> Result<Verdict, InputFault>
+    ensures answer { IfSome (S.remaining input.old) (Answers result) }
+    ensures failures { S.failure_count input.new ≡ failures_after result (S.failure_count input.old) }
+{
+    let mut reader = Reader::new();
+    let mut checker: Checker<P> = Checker::new(alloc);
+    let mut piece = [0u8; PIECE];
+    loop {
+        match input.fill(&mut piece) {
+            Err(_) => return Err(InputFault::Read),
+            Ok(0) => return conclude(&reader, checker),
+            Ok(count) => {
+                if let Err(fault) = read_piece(&mut reader, &mut checker, &piece[..count]) {
+                    return Err(fault);
+                }
+            }
+        }
+    }
+}
+
+/// The verdict on the document that the source gives.
+///
+/// Whatever is met first in one pass over its bytes is answered: a fault of the grammar, a failure of the source, or a
+/// growth that was refused. Only a whole document has a verdict. The source isn't read after a fault, nor after its end.
+pub fn check<S: Source>(alloc: Global, input: &mut S) -> Result<Verdict, InputFault>
+    ensures answer { IfSome (S.remaining input.old) (Answers result) }
+    ensures failures { S.failure_count input.new ≡ failures_after result (S.failure_count input.old) }
+{
+    check_on::<BytePlane, S>(alloc, input)
+}
+
+/// The verdict on a document; else its fault, or `OutOfMemory` where a growth was refused before the fault was met.
+pub fn check_bytes(alloc: Global, bytes: &[u8]) -> Result<Verdict, InputFault>
+    ensures answer { Answers result bytes.now }
+    ensures never_read { IfErr result (λ fault. fault ≡ InputFault.Read → ⊥) }
+{
+    let mut reader = Reader::new();
+    let mut checker: Checker<BytePlane> = Checker::new(alloc);
+    match read_piece(&mut reader, &mut checker, bytes) {
+        Ok(()) => conclude(&reader, checker),
+        Err(fault) => Err(fault),
+    }
+}

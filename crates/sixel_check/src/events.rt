@@ -1,0 +1,160 @@
+//! What each event says.
+
+ghost use Rattle.std.specs.Prelude.{◌≡◌, ◌≤◌, is_some};
+ghost use Rattle.std.specs.Option.{option_map};
+ghost use Rattle.sixel_grammar.specs.Spelling.{IsSpellable};
+ghost use Rattle.sixel_picture.specs.Events as said;
+ghost use Rattle.sixel_check.specs.Standing.{is_start as start_test};
+
+use sixel_grammar::{Command, Event};
+
+/// The bits of a data command; any other event has none set.
+pub(crate) fn bits_of(event: &Event) -> u8
+    ensures value { result ≡ said.bits_of event.now }
+    ensures below { IsSpellable event.now → result ≤ 63 }
+{
+    match event {
+        Event::Step(Command::Sixel(bits)) => *bits,
+        Event::Step(Command::Repeat { count: _, bits }) => *bits,
+        _ => 0,
+    }
+}
+
+/// The columns of a data command; any other event has none.
+pub(crate) fn columns_of(event: &Event) -> u16
+    ensures { result ≡ said.columns_of 0 event.now }
+{
+    match event {
+        Event::Step(Command::Sixel(_)) => 1,
+        Event::Step(Command::Repeat { count, bits: _ }) => *count,
+        _ => 0,
+    }
+}
+
+pub(crate) fn is_painting(event: &Event) -> bool
+    ensures { result ≡ said.is_painting event.now }
+{
+    bits_of(event) != 0
+}
+
+pub(crate) fn is_data_command(event: &Event) -> bool
+    ensures { result ≡ said.is_data_command event.now }
+{
+    match event {
+        Event::Step(Command::Sixel(_)) => true,
+        Event::Step(Command::Repeat { count: _, bits: _ }) => true,
+        _ => false,
+    }
+}
+
+pub(crate) fn is_repeat_of_zero(event: &Event) -> bool
+    ensures { result ≡ said.is_repeat_of_zero event.now }
+{
+    match event {
+        Event::Step(Command::Repeat { count, bits: _ }) => *count == 0,
+        _ => false,
+    }
+}
+
+pub(crate) fn is_next_line(event: &Event) -> bool
+    ensures { result ≡ said.is_next_line event.now }
+{
+    match event {
+        Event::Step(Command::NextLine) => true,
+        _ => false,
+    }
+}
+
+/// Whether it goes to the left margin.
+pub(crate) fn is_return(event: &Event) -> bool
+    ensures { result ≡ said.is_return event.now }
+{
+    match event {
+        Event::Step(Command::CarriageReturn) => true,
+        Event::Step(Command::NextLine) => true,
+        _ => false,
+    }
+}
+
+pub(crate) fn is_finish(event: &Event) -> bool
+    ensures { result ≡ said.is_finish event.now }
+{
+    match event {
+        Event::Finish { eight: _ } => true,
+        _ => false,
+    }
+}
+
+/// The register that a select names.
+pub(crate) fn select_of(event: &Event) -> Option<u16>
+    ensures { result ≡ said.select_of event.now }
+{
+    match event {
+        Event::Step(Command::Select(register)) => Some(*register),
+        _ => None,
+    }
+}
+
+/// The register that a select or a definition names.
+pub(crate) fn named_by(event: &Event) -> Option<u16>
+    ensures { result ≡ said.named_by event.now }
+{
+    match event {
+        Event::Step(Command::Select(register)) => Some(*register),
+        Event::Step(
+            Command::Define {
+                register,
+                system: _,
+                x: _,
+                y: _,
+                z: _,
+            },
+        ) => Some(*register),
+        _ => None,
+    }
+}
+
+pub(crate) fn is_raster(event: &Event) -> bool
+    ensures { result ≡ is_some (said.raster_of event.now) }
+{
+    match event {
+        Event::Step(
+            Command::Raster {
+                pan: _,
+                pad: _,
+                width: _,
+                height: _,
+            },
+        ) => true,
+        _ => false,
+    }
+}
+
+/// The width and the height of the box that raster attributes declare.
+pub(crate) fn sides_of(event: &Event) -> Option<(u32, u32)>
+    ensures { result ≡ option_map (λ a. (a.width, a.height)) (said.raster_of event.now) }
+{
+    match event {
+        Event::Step(
+            Command::Raster {
+                pan: _,
+                pad: _,
+                width,
+                height,
+            },
+        ) => Some((*width as u32, *height as u32)),
+        _ => None,
+    }
+}
+
+pub(crate) fn is_start(event: &Event) -> bool
+    ensures { result ≡ start_test event.now }
+{
+    match event {
+        Event::Start {
+            eight: _,
+            parameters: _,
+        } => true,
+        _ => false,
+    }
+}

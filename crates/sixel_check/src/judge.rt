@@ -1,0 +1,86 @@
+//! Judging events one by one.
+
+ghost use Rattle.std.specs.Prelude.{◌≡◌, ◌++◌, ◌∷◌, [], List, OnOk, OnErr};
+ghost use Rattle.std.specs.Option.{option_map};
+ghost use Rattle.sixel_grammar.specs.declared.command.Placed.{Placed as PlacedValue};
+ghost use Rattle.sixel_grammar.specs.Document.{AreWhole, events_of};
+ghost use Rattle.sixel_grammar.specs.Spelling.{IsSpellable};
+ghost use Rattle.sixel_check.specs.Judging.{JudgesAfter};
+ghost use Rattle.sixel_check.specs.Verdicts.{IsVerdict};
+
+use crate::notes::Notes;
+use crate::pixels::{breach_of, draw, picture_of};
+use crate::verdict::{Finding, Verdict};
+use sixel_grammar::Placed;
+use sixel_picture::Plane;
+use std::alloc::{AllocError, Global};
+
+/// What stands after some events: the first broken rule; or, as long as none is broken, what the rules ask of them.
+#[derive(Drop)]
+pub(crate) struct Judge<P: Plane> {
+    pub finding: Option<Finding>,
+    pub notes: Notes,
+    /// The pixels of the box, from the first raster attributes on.
+    pub plane: Option<P>,
+}
+
+impl<P: Plane> Judge<P> {
+    /// What stands before any event.
+    pub(crate) fn new() -> Judge<P>
+        ensures { JudgesAfter result.finding result.notes (option_map P.sheet result.plane) [] }
+    {
+        Judge {
+            finding: None,
+            notes: Notes::new(),
+            plane: None,
+        }
+    }
+
+    /// Judges one event more. Memory is taken for the plane alone; refused, all is as it was.
+    pub(crate) fn step(&mut self, alloc: Global, placed: &Placed) -> Result<(), AllocError>
+        requires stands { (seen : List PlacedValue)
+            × JudgesAfter self.old.finding self.old.notes (option_map P.sheet self.old.plane) seen }
+        requires spellable { IsSpellable placed.now.event }
+        ensures ok { OnOk result ((seen : List PlacedValue)
+            → JudgesAfter self.old.finding self.old.notes (option_map P.sheet self.old.plane) seen
+            → JudgesAfter self.new.finding self.new.notes (option_map P.sheet self.new.plane) (seen ++ placed.now ∷ [])) }
+        ensures err { OnErr result (self.new ≡ self.old) }
+    {
+        if self.finding.is_some() {
+            return Ok(());
+        }
+        match breach_of(&self.notes, &self.plane, &placed.event) {
+            Some(breach) => {
+                self.finding = Some(Finding {
+                    rule: breach.rule,
+                    place: placed.place,
+                    pixel: breach.pixel,
+                });
+            }
+            None => {
+                draw(alloc, &self.notes, &mut self.plane, &placed.event)?;
+                self.notes.take(&placed.event);
+            }
+        }
+        Ok(())
+    }
+
+    /// The verdict on a whole list.
+    pub(crate) fn verdict(self) -> Verdict
+        requires { (seen : List PlacedValue) × JudgesAfter self.finding self.notes (option_map P.sheet self.plane) seen
+            × AreWhole (events_of seen) }
+        ensures { (seen : List PlacedValue) → JudgesAfter self.finding self.notes (option_map P.sheet self.plane) seen
+            → IsVerdict 16 seen result }
+    {
+        let Judge {
+            finding,
+            notes,
+            plane,
+        } = self;
+        match (finding, plane) {
+            (Some(finding), _) => Verdict::Broken(finding),
+            (None, Some(plane)) => Verdict::Portable(picture_of(&notes, plane)),
+            (None, None) => unreachable!(),
+        }
+    }
+}

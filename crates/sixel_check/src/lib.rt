@@ -1,0 +1,24 @@
+//! The rules of a portable picture, and verdicts on documents.
+#![tactic(auto)]
+
+mod breach;
+mod checker;
+mod checking;
+mod colours;
+mod events;
+mod judge;
+pub mod laws;
+mod notes;
+mod outside;
+mod pixels;
+mod rule;
+mod rules;
+mod verdict;
+
+pub use checker::Checker;
+pub use checking::{check, check_bytes};
+pub use rule::Rule;
+pub use verdict::{Finding, Verdict};
+
+#[cfg(test)]
+mod tests;

@@ -1,0 +1,148 @@
+//! What a judge remembers of the events, but the pixels.
+
+ghost use Rattle.std.specs.Prelude.{◌≡◌, ◌<◌, ◌++◌, ◌∷◌, [], List, IfSome, replicate, None, false};
+ghost use Rattle.sixel_grammar.specs.declared.command.Event.{Event as EventValue};
+ghost use Rattle.sixel_check.specs.Breaches.{NoneBelow};
+
+use crate::colours::colour_in;
+use crate::events::{columns_of, is_next_line, is_painting, is_return, named_by, select_of};
+use sixel_grammar::{Command, Event};
+use sixel_picture::Palette;
+
+/// What the rules ask of the events before, but the pixels, as long as no rule is broken.
+#[derive(Clone, Copy, Debug)]
+pub(crate) struct Notes {
+    /// The sum of the widths since the last return. It stops at `u64::MAX`.
+    pub column: u64,
+    /// The number of next lines. It stops at `u64::MAX`.
+    pub band: u64,
+    /// The register of the last select.
+    pub selected: Option<u16>,
+    /// The register of the last select or definition.
+    pub named: Option<u16>,
+    /// The last colour of each register.
+    pub palette: Palette,
+    /// For each register whether a command painted in it.
+    pub painted: [bool; 16],
+}
+
+impl Notes {
+    ghost use Rattle.sixel_check.specs.Judging.{AreNotesAfter};
+    ghost use Rattle.sixel_check.specs.Steps.{IsBelow, known_in, next_band, next_column, next_named, next_painted, next_palette, next_selected};
+
+    /// What stands before any event.
+    pub(crate) fn new() -> Notes
+        ensures { AreNotesAfter result [] }
+    {
+        Notes {
+            column: 0,
+            band: 0,
+            selected: None,
+            named: None,
+            palette: Palette::new(),
+            painted: [false; 16],
+        }
+    }
+
+    /// The register that was selected last, if it was named last too.
+    pub(crate) fn known(&self) -> Option<u8>
+        requires { IsBelow self.now }
+        ensures value { result ≡ known_in self.now }
+        ensures below { IfSome result (λ r. r < 16) }
+    {
+        match (self.selected, self.named) {
+            (Some(selected), Some(named)) if named == selected => Some(selected as u8),
+            _ => None,
+        }
+    }
+
+    fn move_on(&mut self, event: &Event)
+        ensures { self.new ≡ record {
+          column = next_column self.old event.now;
+          band = next_band self.old event.now;
+          selected = self.old.selected;
+          named = self.old.named;
+          palette = self.old.palette;
+          painted = self.old.painted;
+        } }
+    {
+        self.column = if is_return(event) {
+            0
+        } else {
+            self.column.saturating_add(columns_of(event) as u64)
+        };
+        if is_next_line(event) {
+            self.band = self.band.saturating_add(1);
+        }
+    }
+
+    fn name(&mut self, event: &Event)
+        ensures { self.new ≡ record {
+          column = self.old.column;
+          band = self.old.band;
+          selected = next_selected self.old event.now;
+          named = next_named self.old event.now;
+          palette = self.old.palette;
+          painted = self.old.painted;
+        } }
+    {
+        self.selected = select_of(event).or(self.selected);
+        self.named = named_by(event).or(self.named);
+    }
+
+    fn define(&mut self, event: &Event)
+        ensures { self.new ≡ record {
+          column = self.old.column;
+          band = self.old.band;
+          selected = self.old.selected;
+          named = self.old.named;
+          palette = next_palette self.old event.now;
+          painted = self.old.painted;
+        } }
+    {
+        if let Event::Step(
+            Command::Define {
+                register,
+                system,
+                x,
+                y,
+                z,
+            },
+        ) = event
+            && *register < 16
+            && let Some(colour) = colour_in(*system, *x, *y, *z)
+        {
+            self.palette.set(*register as u8, colour);
+        }
+    }
+
+    fn mark(&mut self, event: &Event)
+        requires { IsBelow self.old }
+        ensures { self.new ≡ record {
+          column = self.old.column;
+          band = self.old.band;
+          selected = self.old.selected;
+          named = self.old.named;
+          palette = self.old.palette;
+          painted = next_painted self.old event.now;
+        } }
+    {
+        if is_painting(event)
+            && let Some(register) = self.known()
+        {
+            self.painted[register as usize] = true;
+        }
+    }
+
+    /// Takes an event that breaks no rule.
+    pub(crate) fn take(&mut self, event: &Event)
+        requires { IsBelow self.old }
+        ensures { (before : List EventValue) → AreNotesAfter self.old before → NoneBelow 13 before event.now
+            → AreNotesAfter self.new (before ++ event.now ∷ []) }
+    {
+        self.mark(event);
+        self.move_on(event);
+        self.name(event);
+        self.define(event);
+    }
+}

@@ -1,0 +1,65 @@
+//! Where a run of columns paints outside the box.
+
+ghost use Rattle.std.specs.Prelude.{◌≡◌, ◌==◌, ◌<◌, ◌+◌, ◌*◌, ℕ};
+ghost use Rattle.std.specs.Int.{bit_at};
+ghost use Rattle.sixel_check.specs.Outside.{IsFirstIfAny, PaintsOutside, first_column};
+ghost use Rattle.sixel_check.specs.Verdicts.{capped};
+
+fn is_set(bits: u8, bit: u32) -> bool
+    requires { bit < 6 }
+    ensures { result ≡ (bit_at bits bit == 1) }
+{
+    bits >> bit & 1 == 1
+}
+
+/// The row of a bit of a band. It stops at `u64::MAX`.
+fn row_of(band: u64, bit: u32) -> u64
+    ensures { result ≡ capped (6 * band + bit) }
+{
+    band.saturating_mul(6).saturating_add(bit as u64)
+}
+
+/// The first of some columns of a row that lies outside a box of this width and height.
+fn outside_column(column: u64, count: u16, row: u64, width: u32, height: u32) -> Option<u64>
+    ensures { result ≡ first_column column count row width height }
+{
+    if row >= height as u64 {
+        Some(column)
+    } else if column.saturating_add(count as u64) > width as u64 {
+        Some(column.max(width as u64))
+    } else {
+        None
+    }
+}
+
+/// The first point, in row order, that a run paints outside a box of this width and height in pixels.
+///
+/// The run has `count` columns from `column` on, in the rows of the set bits of its band of six. A column or a band
+/// of `u64::MAX` stands for each greater one too, and so does a coordinate of the result.
+pub(crate) fn outside_pixel(
+    column: u64,
+    band: u64,
+    count: u16,
+    bits: u8,
+    width: u32,
+    height: u32,
+) -> Option<(u64, u64)>
+    ensures { (left line : ℕ) → column ≡ capped left → band ≡ capped line
+        → IsFirstIfAny (PaintsOutside left count line bits width height) result }
+{
+    if count == 0 {
+        return None;
+    }
+    for bit in 0..6 {
+        if is_set(bits, bit) {
+            let row = row_of(band, bit);
+            if let Some(x) = outside_column(column, count, row, width, height) {
+                return Some((x, row));
+            }
+        }
+    }
+    None
+}
+
+#[cfg(test)]
+mod tests;

@@ -1,0 +1,180 @@
+//! The rules, one by one.
+
+ghost use Rattle.std.specs.Prelude.{◌≡◌};
+ghost use Rattle.sixel_picture.specs.Rules as of;
+ghost use Rattle.sixel_check.specs.Breaches as noted;
+ghost use Rattle.sixel_check.specs.Steps.{IsBelow};
+
+use crate::colours::{colour_in, is_colour_of};
+use crate::events::{
+    is_data_command, is_finish, is_painting, is_raster, is_repeat_of_zero, is_return, named_by,
+};
+use crate::notes::Notes;
+use crate::rule::Rule;
+use sixel_grammar::{Command, Event};
+
+/// A data command, a return or an end before all raster attributes.
+fn breaks_raster_first(has_box: bool, event: &Event) -> bool
+    ensures { result ≡ noted.raster_first_in has_box event.now }
+{
+    !has_box && (is_data_command(event) || is_return(event) || is_finish(event))
+}
+
+/// Raster attributes after raster attributes.
+fn breaks_raster_twice(has_box: bool, event: &Event) -> bool
+    ensures { result ≡ noted.raster_twice_in has_box event.now }
+{
+    has_box && is_raster(event)
+}
+
+/// A ratio other than 1 to 1.
+#[tactic(auto, unfolding(sixel_picture::specs::Rules::breaks_ratio))]
+fn breaks_ratio(event: &Event) -> bool
+    ensures { result ≡ of.breaks_ratio event.now }
+{
+    match event {
+        Event::Step(
+            Command::Raster {
+                pan,
+                pad,
+                width: _,
+                height: _,
+            },
+        ) => !(*pan == 1 && *pad == 1),
+        _ => false,
+    }
+}
+
+/// A side outside 1 to 2,048.
+#[tactic(auto, unfolding(sixel_picture::specs::Rules::breaks_box_size))]
+fn breaks_box_size(event: &Event) -> bool
+    ensures { result ≡ of.breaks_box_size event.now }
+{
+    match event {
+        Event::Step(
+            Command::Raster {
+                pan: _,
+                pad: _,
+                width,
+                height,
+            },
+        ) => !(*width >= 1 && *width <= 2048 && (*height >= 1 && *height <= 2048)),
+        _ => false,
+    }
+}
+
+/// A register above 15.
+#[tactic(auto, unfolding(sixel_picture::specs::Rules::breaks_register))]
+fn breaks_register(event: &Event) -> bool
+    ensures { result ≡ of.breaks_register 16 event.now }
+{
+    match named_by(event) {
+        Some(register) => register >= 16,
+        None => false,
+    }
+}
+
+/// A definition that gives no colour in range.
+#[tactic(auto, unfolding(sixel_picture::specs::Rules::breaks_colour_value))]
+fn breaks_colour_value(event: &Event) -> bool
+    ensures { result ≡ of.breaks_colour_value event.now }
+{
+    match event {
+        Event::Step(
+            Command::Define {
+                register: _,
+                system,
+                x,
+                y,
+                z,
+            },
+        ) => colour_in(*system, *x, *y, *z).is_none(),
+        _ => false,
+    }
+}
+
+/// A repeat of 0.
+#[tactic(auto, unfolding(sixel_picture::specs::Rules::breaks_repeat_zero))]
+fn breaks_repeat_zero(event: &Event) -> bool
+    ensures { result ≡ of.breaks_repeat_zero event.now }
+{
+    is_repeat_of_zero(event)
+}
+
+/// A painting command where no register is known.
+fn breaks_unselected(notes: &Notes, event: &Event) -> bool
+    requires { IsBelow notes.now }
+    ensures { result ≡ noted.unselected_in notes.now event.now }
+{
+    is_painting(event) && notes.known().is_none()
+}
+
+/// A painting command whose known register has no colour.
+fn breaks_undefined(notes: &Notes, event: &Event) -> bool
+    requires { IsBelow notes.now }
+    ensures { result ≡ noted.undefined_in notes.now event.now }
+{
+    if !is_painting(event) {
+        return false;
+    }
+    match notes.known() {
+        Some(register) => notes.palette.get(register).is_none(),
+        None => false,
+    }
+}
+
+/// A definition of a register in which was painted, in another colour than it has.
+fn breaks_redefined(notes: &Notes, event: &Event) -> bool
+    ensures { result ≡ noted.redefined_in notes.now event.now }
+{
+    match event {
+        Event::Step(
+            Command::Define {
+                register,
+                system,
+                x,
+                y,
+                z,
+            },
+        ) => {
+            if *register >= 16 || !notes.painted[*register as usize] {
+                return false;
+            }
+            match notes.palette.get(*register as u8) {
+                Some(colour) => !is_colour_of(colour, *system, *x, *y, *z),
+                None => false,
+            }
+        }
+        _ => false,
+    }
+}
+
+/// The first broken rule of the ten that look at no pixel.
+pub(crate) fn broken_rule(notes: &Notes, has_box: bool, event: &Event) -> Option<Rule>
+    requires { IsBelow notes.now }
+    ensures { result ≡ noted.rule_in notes.now has_box event.now }
+{
+    if breaks_raster_first(has_box, event) {
+        Some(Rule::RasterFirst)
+    } else if breaks_raster_twice(has_box, event) {
+        Some(Rule::RasterTwice)
+    } else if breaks_ratio(event) {
+        Some(Rule::Ratio)
+    } else if breaks_box_size(event) {
+        Some(Rule::BoxSize)
+    } else if breaks_register(event) {
+        Some(Rule::Register)
+    } else if breaks_colour_value(event) {
+        Some(Rule::ColourValue)
+    } else if breaks_repeat_zero(event) {
+        Some(Rule::RepeatZero)
+    } else if breaks_unselected(notes, event) {
+        Some(Rule::Unselected)
+    } else if breaks_undefined(notes, event) {
+        Some(Rule::Undefined)
+    } else if breaks_redefined(notes, event) {
+        Some(Rule::Redefined)
+    } else {
+        None
+    }
+}

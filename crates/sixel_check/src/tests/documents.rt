@@ -1,0 +1,241 @@
+//! Worked documents, whole and in pieces.
+
+use crate::checking::{check, check_bytes};
+use crate::tests::{answer_on, bytes_of, in_words};
+use crate::verdict::Verdict;
+use sixel_grammar::{InputFault, SliceSource};
+use sixel_picture::{Colour, Picture};
+use std::process::Abort;
+use std::test::Fail;
+
+/// A document with `E` for ESC, and the answer.
+const DOCUMENTS: [(&str, &str); 58] = [
+    ("EPq\"1;1;1;1#0;2;0;0;0#0@E\\", "portable 1 1"),
+    ("EPq\"1;1;2;1#0;2;0;0;0#0@E\\", "broken Uncovered 24 1 0"),
+    ("EPq\"1;1;1;2#0;2;0;0;0#0@E\\", "broken Uncovered 24 0 1"),
+    ("EPq\"1;1;1;1#0;2;0;0;0@E\\", "broken Unselected 21"),
+    (
+        "EPq\"1;1;1;1#1;2;100;0;0#1#0;2;0;0;0@E\\",
+        "broken Unselected 35",
+    ),
+    ("EPq\"1;1;1;1#1#0;2;0;0;0#1;2;100;0;0@E\\", "portable 1 1"),
+    ("EPq\"1;1;1;1#0@E\\", "broken Undefined 13"),
+    (
+        "EPq\"1;1;1;1#0;2;0;0;0#0@#0;2;100;0;0E\\",
+        "broken Redefined 24",
+    ),
+    ("EPq\"1;1;1;1#0;2;0;0;0#0@#0;2;0;0;0E\\", "portable 1 1"),
+    (
+        "EPq\"1;1;2;1#0;2;0;0;0#1;2;100;0;0#0@#1@#0;2;1;0;0E\\",
+        "broken Redefined 39",
+    ),
+    ("EPq\"1;1;1;1#0;2;0;0;0#0AE\\", "broken Outside 23 0 1"),
+    ("EPq\"1;1;1;1#0;2;0;0;0#0@?E\\", "portable 1 1"),
+    ("EPq\"1;1;1;1#0;2;0;0;0#0!2@E\\", "broken Outside 23 1 0"),
+    ("EPq\"1;1;1;1#0;2;0;0;0#0@!65535?E\\", "portable 1 1"),
+    ("EPqE\\", "broken RasterFirst 3"),
+    ("EPq\"1;1;1;1#0;2;0;0;0#0!0@E\\", "broken RepeatZero 23"),
+    ("EPq\"1;1;1;1#0;2;0;0;0#0!1@E\\", "portable 1 1"),
+    ("EPq\"1;1;1;1#16;2;0;0;0#16@E\\", "broken Register 11"),
+    ("EPq\"1;1;1;1#0;3;0;0;0#0@E\\", "broken ColourValue 11"),
+    ("EPq\"1;1;1;1#0;2;101;0;0#0@E\\", "broken ColourValue 11"),
+    ("EPq\"2;1;0;1#0;2;0;0;0#0@E\\", "broken Ratio 3"),
+    ("EPq\"1;1;0;1#0;2;0;0;0#0@E\\", "broken BoxSize 3"),
+    ("EPq\"1;1;2049;1#0;2;0;0;0#0@E\\", "broken BoxSize 3"),
+    ("EPq\"1;1#0;2;0;0;0#0@E\\", "broken BoxSize 3"),
+    (
+        "EPq\"1;1;1;1\"1;1;1;1#0;2;0;0;0#0@E\\",
+        "broken RasterTwice 11",
+    ),
+    // a broken rule, and then a fault
+    ("EPq!0@!65536~E\\", "NumberTooLarge 11"),
+    ("EPq\n\"1;1;1;1\n#0;2;0;0;0\n#0\n@\nE\\\n", "portable 1 1"),
+    ("EPq\"1;1;1;1#0;2;0;0;0#0@------E\\", "portable 1 1"),
+    (
+        "EPq\"1;1;14;7#0;2;0;0;0#1;2;100;100;0#2;2;0;100;0#1~~@@vv@@~~@@~~$#2??}}GG}}??}}??-#1!14@E\\",
+        "portable 14 7",
+    ),
+    (
+        "EPq#0;2;0;0;0#1;2;100;100;0#2;2;0;100;0#1~~@@vv@@~~@@~~$#2??}}GG}}??}}??-#1!14@E\\",
+        "broken RasterFirst 41",
+    ),
+    ("EPq\"1;1;2048;1#0;2;0;0;0#0!2048@E\\", "portable 2048 1"),
+    ("EPq\"1;1;1;1#0;1;360;50;100#0@E\\", "portable 1 1"),
+    (
+        "EPq\"1;1;1;1#0;2;0;0;0#1;2;100;0;0@E\\",
+        "broken Unselected 33",
+    ),
+    // two rules at one event: the least number
+    ("EPq\"1;1;1;1AE\\", "broken Unselected 11"),
+    (
+        "EPq\"1;1;1;1#0;2;0;0;0#0@#16;3;0;0;0E\\",
+        "broken Register 24",
+    ),
+    // the same coordinates in the other system
+    (
+        "EPq\"1;1;1;1#0;2;0;0;0#0@#0;1;0;0;0E\\",
+        "broken Redefined 24",
+    ),
+    // the first pixel in row order
+    ("EPq\"1;1;1;1#0;2;0;0;0#0!2BE\\", "broken Outside 23 1 0"),
+    ("EPq\"1;1;1;1#0;2;0;0;0#0!2CE\\", "broken Outside 23 0 2"),
+    ("EPq@\"2;1;1;1E\\", "broken RasterFirst 3"),
+    (
+        "EPq\"1;1;1;1#0;2;0;0;0#0@\"1;1;1;1E\\",
+        "broken RasterTwice 24",
+    ),
+    // a repeat that is empty counts as a command before raster attributes
+    ("EPq!0?\"1;1;1;1E\\", "broken RasterFirst 3"),
+    ("EPq$\"1;1;1;1E\\", "broken RasterFirst 3"),
+    ("EPq-\"1;1;1;1E\\", "broken RasterFirst 3"),
+    // a later painting of a pixel replaces the earlier one, and needs no new definition
+    ("EPq\"1;1;1;1#0;2;0;0;0#1;2;1;1;1#0@$#1@E\\", "portable 1 1"),
+    // each side of the greatest box and the next
+    ("EPq\"1;1;1;2049#0;2;0;0;0#0@E\\", "broken BoxSize 3"),
+    ("EPq\"1;1;1;0#0;2;0;0;0#0@E\\", "broken BoxSize 3"),
+    ("EPq\"1;2;1;1#0;2;0;0;0#0@E\\", "broken Ratio 3"),
+    // each coordinate out of range
+    ("EPq\"1;1;1;1#0;2;0;101;0#0@E\\", "broken ColourValue 11"),
+    ("EPq\"1;1;1;1#0;2;0;0;101#0@E\\", "broken ColourValue 11"),
+    ("EPq\"1;1;1;1#0;1;361;0;0#0@E\\", "broken ColourValue 11"),
+    ("EPq\"1;1;1;1#0;1;0;101;0#0@E\\", "broken ColourValue 11"),
+    ("EPq\"1;1;1;1#0;1;0;0;101#0@E\\", "broken ColourValue 11"),
+    ("EPq\"1;1;1;1#0;0;0;0;0#0@E\\", "broken ColourValue 11"),
+    ("EPq\"1;1;1;1#15;2;0;0;0#15@E\\", "portable 1 1"),
+    // faults
+    ("", "Truncated 0"),
+    ("EPq\"1;1", "Truncated 7"),
+    ("EPq\"1;1;1;1#0;2;0;0;0#0@E\\x", "Trailing 26"),
+    ("x", "NotSixel 0"),
+];
+
+#[test]
+fn worked_documents(rt: HostRuntime) -> Result<(), Fail> {
+    for (text, expected) in DOCUMENTS {
+        assert_eq!(rt; answer_on(&rt, text)?.as_str(), expected, "{text}");
+    }
+    Ok(())
+}
+
+/// The document in pieces of 1 byte to its length.
+fn agree_in_pieces(
+    rt: &(impl AllocGlobal + Abort),
+    text: &str,
+    expected: &str,
+) -> Result<(), Fail> {
+    let bytes = bytes_of(rt, text)?;
+    for piece in 1..=bytes.len() {
+        let mut source = SliceSource::new(&bytes, piece, None);
+        let answer = check(rt.alloc(), &mut source);
+        assert_eq!(rt;
+            in_words(rt, &answer)?.as_str(),
+            expected,
+            "{text} in pieces of {piece}"
+        );
+    }
+    Ok(())
+}
+
+#[test]
+fn worked_documents_in_pieces(rt: HostRuntime) -> Result<(), Fail> {
+    for (text, expected) in DOCUMENTS {
+        agree_in_pieces(&rt, text, expected)?;
+    }
+    Ok(())
+}
+
+/// The smallest document with an introducer and a terminator of one byte each.
+#[test]
+fn eight_bits(rt: HostRuntime) -> Result<(), Fail> {
+    let answer = check_bytes(rt.alloc(), b"\x90q\"1;1;1;1#0;2;0;0;0#0@\x9c");
+    assert_eq!(rt; in_words(&rt, &answer)?.as_str(), "portable 1 1");
+    Ok(())
+}
+
+/// The picture of a portable document.
+fn picture_of(rt: &impl AllocGlobal, text: &str) -> Result<Picture, Fail> {
+    let bytes = bytes_of(rt, text)?;
+    match check_bytes(rt.alloc(), &bytes) {
+        Ok(Verdict::Portable(picture)) => Ok(picture),
+        _ => Err(Fail::from("no picture")),
+    }
+}
+
+/// The picture of one pixel has this register, and registers 0 and 1 have these colours and no other has one.
+fn agree_left(
+    rt: &(impl AllocGlobal + Abort),
+    text: &str,
+    register: u8,
+    first: Option<Colour>,
+    second: Option<Colour>,
+) -> Result<(), Fail> {
+    let picture = picture_of(rt, text)?;
+    assert_eq!(rt; (picture.width(), picture.height()), (1, 1), "{text}");
+    if picture.width() == 1 && picture.height() == 1 {
+        assert_eq!(rt; picture.register_at(0, 0), register, "{text}");
+    }
+    assert_eq!(rt; picture.palette().get(0), first, "{text}");
+    assert_eq!(rt; picture.palette().get(1), second, "{text}");
+    assert_eq!(rt; picture.palette().get(2), None, "{text}");
+    Ok(())
+}
+
+fn black() -> Option<Colour> {
+    Colour::rgb(0, 0, 0)
+}
+
+fn red() -> Option<Colour> {
+    Colour::rgb(100, 0, 0)
+}
+
+/// The picture has the last register over each pixel, and the registers that were defined, used or not.
+#[test]
+fn pictures_left(rt: HostRuntime) -> Result<(), Fail> {
+    agree_left(&rt, "EPq\"1;1;1;1#0;2;0;0;0#0@E\\", 0, black(), None)?;
+    agree_left(
+        &rt,
+        "EPq\"1;1;1;1#1#0;2;0;0;0#1;2;100;0;0@E\\",
+        1,
+        black(),
+        red(),
+    )?;
+    agree_left(
+        &rt,
+        "EPq\"1;1;1;1#0;2;0;0;0#1;2;100;0;0#0@$#1@E\\",
+        1,
+        black(),
+        red(),
+    )?;
+    agree_left(
+        &rt,
+        "EPq\"1;1;1;1#0;2;0;0;0#1;2;100;0;0#1@$#0@E\\",
+        0,
+        black(),
+        red(),
+    )?;
+    let hue = "EPq\"1;1;1;1#0;1;360;50;100#0@E\\";
+    agree_left(&rt, hue, 0, Colour::hls(360, 50, 100), None)?;
+    // an unused register has its last colour too
+    let unused = "EPq\"1;1;1;1#1;2;1;1;1#0;2;0;0;0#0@#1;2;100;0;0E\\";
+    agree_left(&rt, unused, 0, black(), red())
+}
+
+#[test]
+fn a_source_that_fails(rt: HostRuntime) -> Result<(), Fail> {
+    let bytes = bytes_of(&rt, "EPq\"1;1;1;1#0;2;0;0;0#0@E\\")?;
+    let mut source = SliceSource::new(&bytes, 5, Some(2));
+    let answer = check(rt.alloc(), &mut source);
+    assert_eq!(rt; in_words(&rt, &answer)?.as_str(), "read failed");
+    Ok(())
+}
+
+/// With ample memory this is portable. `rt try --test --fail-alloc N` refuses the N-th growth: then it is `OutOfMemory`.
+#[test]
+fn each_growth_is_refused_by_name(rt: HostRuntime) -> Result<(), Fail> {
+    match check_bytes(rt.alloc(), b"\x1bPq\"1;1;1;1#0;2;0;0;0#0@\x1b\\") {
+        Ok(Verdict::Portable(picture)) => assert_eq!(rt; picture.width(), 1),
+        Ok(Verdict::Broken(_)) => return Err(Fail::from("broken")),
+        Err(fault) => assert_eq!(rt; fault, InputFault::OutOfMemory),
+    }
+    Ok(())
+}

@@ -1,0 +1,215 @@
+//! What 32 terminals of the class show after portable documents, and after broken ones.
+
+use crate::checking::check_bytes;
+use crate::tests::bytes_of;
+use crate::verdict::Verdict;
+use sixel_grammar::{Placed, SliceSource, read_all};
+use sixel_picture::{Colour, Parts, Picture};
+use sixel_terminal::{Choices, Ground, Terminal};
+use std::alloc::Global;
+use std::test::Fail;
+
+const BLACK: Parts = Parts::Rgb(0, 0, 0);
+
+const RED: Parts = Parts::Rgb(100, 0, 0);
+
+/// The colour in which register 0 is defined after it was painted in.
+const LATE: Parts = Parts::Rgb(1, 0, 0);
+
+/// Portable documents, with `E` for ESC.
+const PORTABLE: [&str; 9] = [
+    "EPq\"1;1;1;1#0;2;0;0;0#0@E\\",
+    "EPq\"1;1;1;1#1#0;2;0;0;0#1;2;100;0;0@E\\",
+    "EPq\"1;1;1;1#0;2;0;0;0#0@#0;2;0;0;0E\\",
+    "EPq\"1;1;1;1#0;2;0;0;0#0@?E\\",
+    "EPq\"1;1;1;1#0;2;0;0;0#0@!65535?E\\",
+    "EPq\"1;1;1;1#0;2;0;0;0#0!1@E\\",
+    "EPq\n\"1;1;1;1\n#0;2;0;0;0\n#0\n@\nE\\\n",
+    "EPq\"1;1;1;1#0;2;0;0;0#0@------E\\",
+    "EPq\"1;1;14;7#0;2;0;0;0#1;2;100;100;0#2;2;0;100;0#1~~@@vv@@~~@@~~$#2??}}GG}}??}}??-#1!14@E\\",
+];
+
+/// A grey of this many percent.
+fn grey(percent: u8) -> Parts {
+    Parts::Rgb(percent, percent, percent)
+}
+
+/// The choices of a terminal from 0 to 31, with room for a box around which one pixel is left on each side.
+fn choices_of(number: u8, width: u32, height: u32) -> Choices {
+    Choices {
+        binds_at_showing: number & 1 != 0,
+        selects: number & 2 != 0,
+        ground: if number & 4 != 0 {
+            Ground::Filled(5)
+        } else {
+            Ground::Kept
+        },
+        selected: 7,
+        zero: if number & 8 != 0 { 1 } else { 0 },
+        clamps: number & 16 != 0,
+        tall: 3,
+        screen_width: width.saturating_add(2),
+        screen_height: height.saturating_add(2),
+        origin_x: 1,
+        origin_y: 1,
+    }
+}
+
+/// Sixteen colours: register n starts as 6n percent of red, green and blue.
+fn greys(alloc: Global) -> Result<Vec<Colour>, Fail> {
+    let mut colours = Vec::with_capacity(alloc, 16)?;
+    for register in 0..16u8 {
+        let percent = register.saturating_mul(6);
+        colours.push(Colour::rgb(percent, percent, percent).ok_or("a grey")?)?;
+    }
+    Ok(colours)
+}
+
+/// Sixteen registers that all start as 90 percent of red, green and blue.
+fn pale(alloc: Global) -> Result<Vec<Colour>, Fail> {
+    let colour = Colour::rgb(90, 90, 90).ok_or("a grey")?;
+    Ok(vec![in alloc; colour; 16]?)
+}
+
+/// The coordinates of what a terminal of these choices and starting colours, with a grey screen, shows.
+fn shown(
+    alloc: Global,
+    choices: Choices,
+    colours: Vec<Colour>,
+    events: &[Placed],
+) -> Result<Vec<Parts>, Fail> {
+    let pixels = (choices.screen_width as usize).saturating_mul(choices.screen_height as usize);
+    let colour = Colour::rgb(50, 50, 50).ok_or("a grey")?;
+    let screen = vec![in alloc; colour; pixels]?;
+    let terminal = Terminal::new(choices, colours, screen).or(Err("a terminal"))?;
+    let mut parts = Vec::with_capacity(alloc, pixels)?;
+    for colour in terminal.show(alloc, events)?.as_slice() {
+        parts.push(colour.parts())?;
+    }
+    Ok(parts)
+}
+
+/// A box of these colours, row by row, with one grey pixel around it.
+fn framed(alloc: Global, width: u32, height: u32, pixels: &[Parts]) -> Result<Vec<Parts>, Fail> {
+    let mut screen = Vec::new(alloc);
+    let mut inside = pixels.iter();
+    for y in 0..height.saturating_add(2) {
+        for x in 0..width.saturating_add(2) {
+            if x >= 1 && x <= width && y >= 1 && y <= height {
+                screen.push(*inside.next().ok_or("a pixel")?)?;
+            } else {
+                screen.push(grey(50))?;
+            }
+        }
+    }
+    Ok(screen)
+}
+
+/// The colours of a picture, row by row.
+fn colours_of(alloc: Global, picture: &Picture) -> Result<Vec<Parts>, Fail> {
+    let mut pixels = Vec::new(alloc);
+    for y in 0..picture.height() {
+        for x in 0..picture.width() {
+            let colour = picture
+                .palette()
+                .get(picture.register_at(x, y))
+                .ok_or("a colour")?;
+            pixels.push(colour.parts())?;
+        }
+    }
+    Ok(pixels)
+}
+
+/// The events of a document.
+fn events_of(alloc: Global, bytes: &[u8]) -> Result<Vec<Placed>, Fail> {
+    let mut source = SliceSource::new(bytes, 64, None);
+    Ok(read_all(alloc, &mut source).or(Err("a document"))?)
+}
+
+#[test]
+fn each_terminal_shows_what_is_portable(rt: HostRuntime) -> Result<(), Fail> {
+    let alloc = rt.alloc();
+    for text in PORTABLE {
+        let bytes = bytes_of(&rt, text)?;
+        let events = events_of(alloc, &bytes)?;
+        let picture = match check_bytes(alloc, &bytes) {
+            Ok(Verdict::Portable(picture)) => picture,
+            _ => return Err(Fail::from("portable")),
+        };
+        let width = picture.width();
+        let height = picture.height();
+        let pixels = colours_of(alloc, &picture)?;
+        let expected = framed(alloc, width, height, pixels.as_slice())?;
+        for number in 0..32u8 {
+            let choices = choices_of(number, width, height);
+            let colours = shown(alloc, choices, greys(alloc)?, events.as_slice())?;
+            assert_eq!(rt;
+                colours.as_slice(),
+                expected.as_slice(),
+                "{text:?} {number}"
+            );
+        }
+    }
+    Ok(())
+}
+
+/// A register is painted in that is not selected on each terminal.
+const UNSELECTED: &str = "EPq\"1;1;1;1#0;2;0;0;0@E\\";
+/// A register is painted in that is not defined.
+const UNDEFINED: &str = "EPq\"1;1;1;1#0@E\\";
+/// A register is defined anew after it was painted in.
+const REDEFINED: &str = "EPq\"1;1;2;1#0;2;0;0;0#1;2;100;0;0#0@#1@#0;2;1;0;0E\\";
+/// Raster attributes stand after data.
+const RASTER_TWICE: &str = "EPq\"1;1;1;1#0;2;0;0;0#0@\"1;1;1;1E\\";
+
+/// Whether a terminal of these choices and starting colours shows these pixels in a box of one row, and grey around it.
+fn shows(
+    rt: &impl AllocGlobal,
+    text: &str,
+    choices: Choices,
+    colours: Vec<Colour>,
+    pixels: &[Parts],
+) -> Result<bool, Fail> {
+    let alloc = rt.alloc();
+    let bytes = bytes_of(rt, text)?;
+    let events = events_of(alloc, &bytes)?;
+    let answer = shown(alloc, choices, colours, events.as_slice())?;
+    let expected = framed(alloc, choices.screen_width.saturating_sub(2), 1, pixels)?;
+    Ok(answer.as_slice() == expected.as_slice())
+}
+
+#[test]
+fn terminals_differ_on_what_is_broken(rt: HostRuntime) -> Result<(), Fail> {
+    let alloc = rt.alloc();
+    for number in 0..32u8 {
+        let one = choices_of(number, 1, 1);
+        let two = choices_of(number, 2, 1);
+        let unselected = if one.selects { BLACK } else { grey(42) };
+        assert!(rt;
+            shows(&rt, UNSELECTED, one, greys(alloc)?, &[unselected])?,
+            "{number}"
+        );
+        assert!(rt;
+            shows(&rt, UNDEFINED, one, greys(alloc)?, &[BLACK])?,
+            "{number}"
+        );
+        assert!(rt;
+            shows(&rt, UNDEFINED, one, pale(alloc)?, &[grey(90)])?,
+            "{number}"
+        );
+        let redefined = if one.binds_at_showing { LATE } else { BLACK };
+        assert!(rt;
+            shows(&rt, REDEFINED, two, greys(alloc)?, &[redefined, RED])?,
+            "{number}"
+        );
+        let filled = match one.ground {
+            Ground::Kept => BLACK,
+            Ground::Filled(_) => grey(30),
+        };
+        assert!(rt;
+            shows(&rt, RASTER_TWICE, one, greys(alloc)?, &[filled])?,
+            "{number}"
+        );
+    }
+    Ok(())
+}
