@@ -1,0 +1,170 @@
+-- The bits of a column, and the mask of a band's registers.
+use Rattle.std.proofs.Common.{◌≡◌, ℕ, zero, suc, List, [], ◌∷◌, map, ◌+◌, ◌*◌, ◌%◌, ◌^◌, ◌<◌, ◌≤◌, Bool, true, false}
+use Rattle.std.proofs.Common.{not, ◌&&◌, ◌||◌, cond, refl, sym, ap, ◌∙◌}
+use Rattle.std.proofs.Common.{add-one, arith, lit≤}
+use Rattle.std.specs.Prelude.{◌==◌, nat_le, bit_or, sum_by, if◌then◌else◌}
+use Rattle.std.specs.Int.{bit_at, w16}
+use Rattle.std.specs.List.{list_any}
+use Rattle.std.proofs.lemmas.Bool.{and_parts, eqb-true, eqb-false, eq-eqb, leb-true, or_right}
+use Rattle.std.proofs.Math.Nat.{two-pow-succ}
+use Rattle.std.proofs.lemmas.List.{map-append}
+use Rattle.std.proofs.lemmas.List.Folds.{list_any-append}
+use Rattle.std.proofs.lemmas.List.Sums.{sum_by_push}
+use Rattle.std.proofs.lemmas.Nat.Bits.{bit_at_set_same, bit_at_set_other}
+use Rattle.sixel_picture.specs.Pictures.{PictureValue}
+use Rattle.sixel_encode.specs.Canon.{below, column_bits, has_bits, has_pixel}
+use Rattle.sixel_encode.proofs.Ranges.{below_then}
+
+-- ---- facts of six Bools
+
+-- six bits as a number
+abbrev pub six : Bool → Bool → Bool → Bool → Bool → Bool → ℕ
+six a b c d e f = 0 + cond a 1 0 + cond b 2 0 + cond c 4 0 + cond d 8 0 + cond e 16 0 + cond f 32 0
+
+abbrev pub same : Bool → Bool → Bool
+same true b = b
+same false b = not b
+
+abbrev pub each_bool : (Bool → Bool) → Bool
+each_bool f = f true && f false
+
+-- whether a test of six bits always passes
+abbrev pub each_six : (Bool → Bool → Bool → Bool → Bool → Bool → Bool) → Bool
+each_six t = each_bool
+    (λ a. each_bool (λ b. each_bool (λ c. each_bool (λ d. each_bool (λ e. each_bool (λ f. t a b c d e f))))))
+
+each_bool_at : (f : Bool → Bool) → each_bool f ≡ true → (b : Bool) → f b ≡ true
+each_bool_at f h true = (and_parts (f true) (f false) h).0
+each_bool_at f h false = (and_parts (f true) (f false) h).1
+
+pub each_six_at : (t : Bool → Bool → Bool → Bool → Bool → Bool → Bool) → each_six t ≡ true
+    → (a b c d e f : Bool) → t a b c d e f ≡ true
+each_six_at t h a b c d e f =
+    each_bool_at (λ f. t a b c d e f) (each_bool_at (λ e. each_bool (λ f. t a b c d e f))
+    (each_bool_at (λ d. each_bool (λ e. each_bool (λ f. t a b c d e f)))
+    (each_bool_at (λ c. each_bool (λ d. each_bool (λ e. each_bool (λ f. t a b c d e f))))
+    (each_bool_at (λ b. each_bool (λ c. each_bool (λ d. each_bool (λ e. each_bool (λ f. t a b c d e f)))))
+    (each_bool_at (λ a. each_bool
+    (λ b. each_bool (λ c. each_bool (λ d. each_bool (λ e. each_bool (λ f. t a b c d e f))))))
+    h a) b) c) d) e) f
+
+pub from_same : (a b : Bool) → same a b ≡ true → b ≡ a
+from_same true b h = h
+from_same false true h = cc h
+from_same false false h = refl
+
+-- ---- a column
+
+pub bits_are : (p : PictureValue) (line register x : ℕ) → column_bits p line register x
+    ≡ six (has_pixel p line register x 0) (has_pixel p line register x 1) (has_pixel p line register x 2)
+    (has_pixel p line register x 3) (has_pixel p line register x 4) (has_pixel p line register x 5)
+unfolding column_bits
+bits_are p line register x = refl
+
+-- a column's bits are at most 63
+pub column_most : (p : PictureValue) (line register x : ℕ) → column_bits p line register x ≤ 63
+column_most p line register x =
+    rw (bits_are p line register x)
+    (leb-true _ 63 (each_six_at (λ a b c d e f. nat_le (six a b c d e f) 63) refl
+    (has_pixel p line register x 0) (has_pixel p line register x 1) (has_pixel p line register x 2)
+    (has_pixel p line register x 3) (has_pixel p line register x 4) (has_pixel p line register x 5)))
+
+-- a column has a bit where one of its pixels is of the register
+pub column_has : (p : PictureValue) (line register x : ℕ)
+    → list_any (has_pixel p line register x) (below 6) ≡ not (column_bits p line register x == 0)
+column_has p line register x =
+    rw (bits_are p line register x)
+    (sym (from_same _ _ (each_six_at (λ a b c d e f.
+    same (a || (b || (c || (d || (e || (f || false)))))) (not (six a b c d e f == 0))) refl
+    (has_pixel p line register x 0) (has_pixel p line register x 1) (has_pixel p line register x 2)
+    (has_pixel p line register x 3) (has_pixel p line register x 4) (has_pixel p line register x 5))))
+
+-- the bit of a row, in a byte
+pub weight_is : (k : ℕ) → k < 6 → 1 * 2 ^ k % 256 ≡ 2 ^ k
+weight_is zero h = refl
+weight_is (suc zero) h = refl
+weight_is (suc (suc zero)) h = refl
+weight_is (suc (suc (suc zero))) h = refl
+weight_is (suc (suc (suc (suc zero)))) h = refl
+weight_is (suc (suc (suc (suc (suc zero))))) h = refl
+weight_is (suc (suc (suc (suc (suc (suc k)))))) h = absurd (omega arith)
+
+pub weight_most : (k : ℕ) → k < 6 → 2 ^ k ≤ 32
+weight_most zero h = lit≤ tt
+weight_most (suc zero) h = lit≤ tt
+weight_most (suc (suc zero)) h = lit≤ tt
+weight_most (suc (suc (suc zero))) h = lit≤ tt
+weight_most (suc (suc (suc (suc zero)))) h = lit≤ tt
+weight_most (suc (suc (suc (suc (suc zero))))) h = lit≤ tt
+weight_most (suc (suc (suc (suc (suc (suc k)))))) h = absurd (omega arith)
+
+-- the bits of a register in the first rows of a column
+abbrev pub bits_above : PictureValue → ℕ → ℕ → ℕ → ℕ → ℕ
+bits_above p line register x row = sum_by (λ k. if has_pixel p line register x k then 2 ^ k else 0) (below row)
+
+above_then : (p : PictureValue) (line register x row : ℕ) → bits_above p line register x (row + 1)
+    ≡ bits_above p line register x row + (if has_pixel p line register x row then 2 ^ row else 0)
+above_then p line register x row =
+    ap (sum_by (λ k. if has_pixel p line register x k then 2 ^ k else 0)) (below_then row)
+    ∙ sum_by_push (λ k. if has_pixel p line register x k then 2 ^ k else 0) (below row) row
+
+twice : (row : ℕ) → 2 ^ (row + 1) ≡ 2 ^ row + 2 ^ row
+twice row = rw add-one (two-pow-succ row)
+
+-- a row with a pixel of the register adds its bit
+pub row_added : (p : PictureValue) (line register x row bits : ℕ) → row < 6 → has_pixel p line register x row ≡ true
+    → bits ≡ bits_above p line register x row → bits < 2 ^ row
+    → (bits + 1 * 2 ^ row % 256 ≡ bits_above p line register x (row + 1)) × (bits + 1 * 2 ^ row % 256 < 2 ^ (row + 1))
+row_added p line register x row bits small here is less =
+    let weight : 1 * 2 ^ row % 256 ≡ 2 ^ row = weight_is row small in
+    let longer : bits_above p line register x (row + 1) ≡ bits_above p line register x row + 2 ^ row =
+    above_then p line register x row
+    ∙ ap (λ (t : Bool). bits_above p line register x row + (if t then 2 ^ row else 0)) here in
+    let double : 2 ^ (row + 1) ≡ 2 ^ row + 2 ^ row = twice row in
+    (omega arith, omega arith)
+
+-- any other row adds none
+pub row_passed : (p : PictureValue) (line register x row bits : ℕ) → has_pixel p line register x row ≡ false
+    → bits ≡ bits_above p line register x row → bits < 2 ^ row
+    → (bits ≡ bits_above p line register x (row + 1)) × (bits < 2 ^ (row + 1))
+row_passed p line register x row bits gone is less =
+    let longer : bits_above p line register x (row + 1) ≡ bits_above p line register x row + 0 =
+    above_then p line register x row
+    ∙ ap (λ (t : Bool). bits_above p line register x row + (if t then 2 ^ row else 0)) gone in
+    let double : 2 ^ (row + 1) ≡ 2 ^ row + 2 ^ row = twice row in
+    (omega arith, omega arith)
+
+-- ---- a mask
+
+or_nothing : (b : Bool) → b ≡ (b || false)
+or_nothing true = refl
+or_nothing false = refl
+
+added_step : (m r i : ℕ) (t : Bool) → r < 16 → (t ≡ true → r ≡ i) → (t ≡ false → r ≡ i → ⊥)
+    → (bit_at (bit_or m (1 * 2 ^ r % 65536)) i == 1) ≡ ((bit_at m i == 1) || t)
+added_step m r i true small is not_is =
+    let here : bit_at (bit_or m (1 * 2 ^ r % 65536)) r ≡ 1 = bit_at_set_same w16 m r small in
+    rw (← is refl) (eq-eqb _ 1 here ∙ sym (or_right (bit_at m r == 1) true refl))
+added_step m r i false small is not_is =
+    let there : bit_at (bit_or m (1 * 2 ^ r % 65536)) i ≡ bit_at m i =
+    bit_at_set_other w16 m r small i (λ e. not_is refl (sym e)) in
+    ap (λ (n : ℕ). n == 1) there ∙ or_nothing (bit_at m i == 1)
+
+-- a register that joins a mask
+pub register_added : (m r i : ℕ) → r < 16
+    → (bit_at (bit_or m (1 * 2 ^ r % 65536)) i == 1) ≡ ((bit_at m i == 1) || (r == i))
+register_added m r i small = added_step m r i (r == i) small (eqb-true r i) (eqb-false r i)
+
+-- one more number that passes or not
+pub any_then : (f : ℕ → Bool) (n : ℕ) → list_any f (below (n + 1)) ≡ (list_any f (below n) || f n)
+any_then f n = ap (list_any f) (below_then n) ∙ list_any-append f (below n) (n ∷ [])
+    ∙ ap (λ (t : Bool). list_any f (below n) || t) (sym (or_nothing (f n)))
+
+-- one more column
+pub has_bits_then : (f : ℕ → ℕ) (n : ℕ)
+    → has_bits (map f (below (n + 1))) ≡ (has_bits (map f (below n)) || not (f n == 0))
+has_bits_then f n =
+    ap (λ (ks : List ℕ). has_bits (map f ks)) (below_then n)
+    ∙ ap has_bits (map-append f (below n) (n ∷ []))
+    ∙ list_any-append (λ bits. not (bits == 0)) (map f (below n)) (f n ∷ [])
+    ∙ ap (λ (t : Bool). has_bits (map f (below n)) || t) (sym (or_nothing (not (f n == 0))))

@@ -1,0 +1,331 @@
+-- How long a picture's text is at most.
+use Rattle.std.proofs.Common.{◌≡◌, ℕ, zero, suc, ◌+◌, ◌*◌, ◌<◌, ◌≤◌, Bool, true, false, cond, Option, Some, None}
+use Rattle.std.proofs.Common.{List, [], ◌∷◌, ◌++◌, length, replicate, decimal, refl, ap, ◌∙◌, arith, lit<, lit≤}
+use Rattle.std.proofs.Common.{le_trans}
+use Rattle.std.proofs.Common.{length-append, mul-le-mul_right, mul_assoc, mul-le-mul, suc-mul}
+use Rattle.std.specs.Fmt.{digits}
+use Rattle.std.specs.Prelude.{nat_lt, nat_le, flat_map, filter_map, if◌then◌else◌, IfSome, is_some}
+use Rattle.std.specs.Option.{option_map}
+use Rattle.std.specs.List.{join_by, range_with_len, cons_option, AllByRecursion}
+use Rattle.std.proofs.lemmas.Bool.{leb-true, ltb-false}
+use Rattle.std.proofs.lemmas.Fmt.{length-decimal-le}
+use Rattle.std.proofs.lemmas.List.{length-replicate}
+use Rattle.std.proofs.lemmas.List.Sums.{count_by-le-length}
+use Rattle.std.proofs.lemmas.List.FromFn.{length-map-range_with_len}
+use Rattle.sixel_grammar.specs.declared.command.Command.{Command}
+use Rattle.sixel_grammar.specs.declared.command.Command.TheVariants.{Sixel, Repeat, Raster, Select, Define}
+use Rattle.sixel_grammar.specs.declared.command.Command.TheVariants.{CarriageReturn, NextLine}
+use Rattle.sixel_grammar.specs.declared.command.Event.TheVariants.{Finish}
+use Rattle.sixel_grammar.specs.Lengths.{digit_count}
+use Rattle.sixel_grammar.specs.Spelling.{fixed_command, fixed_fields, fixed_spelling}
+use Rattle.sixel_grammar.proofs.Lengths.{decimal_within}
+use Rattle.sixel_picture.specs.declared.colour.Parts.{Parts}
+use Rattle.sixel_picture.specs.declared.colour.Parts.TheVariants.{Rgb, Hls}
+use Rattle.sixel_picture.specs.Colours.{palette_at, IsColour}
+use Rattle.sixel_picture.specs.Pictures.{PictureValue}
+use Rattle.sixel_encode.specs.Canon.{Run, all_columns, band_columns, band_commands, band_registers, bands, below}
+use Rattle.sixel_encode.specs.Canon.{canon_commands}
+use Rattle.sixel_encode.specs.Canon.{canon_start, canon_text, column_bits, commands_text, define_command}
+use Rattle.sixel_encode.specs.Canon.{define_commands, has_bits}
+use Rattle.sixel_encode.specs.Canon.{picture_commands, register_commands, run_commands, runs, without_blanks}
+use Rattle.sixel_encode.specs.Laws.{TextsAreShort, TextsHaveAtMost, entries_of, items_of}
+use Rattle.sixel_encode.proofs.Longest.{runs_joined}
+use Rattle.sixel_encode.proofs.Occurs.{band_length, band_some, band_used, entries, entries_are}
+use Rattle.sixel_encode.proofs.Parted.{IsUsed, Parted, parted}
+use Rattle.sixel_encode.proofs.Steps.{canon-parts}
+use Rattle.sixel_encode.proofs.Texts.{text-append, text-sixels}
+
+-- ---- numbers
+
+three_digits : (n : ℕ) → n < 1000 → length (decimal n) ≤ 3
+three_digits n h = length-decimal-le 3 n (lit< tt) h (omega arith)
+
+four_digits : (n : ℕ) → n < 10000 → length (decimal n) ≤ 4
+four_digits n h = length-decimal-le 4 n (lit< tt) h (omega arith)
+
+-- a repeat of 4 or more is no longer than its columns
+repeat_short : (n : ℕ) → 4 ≤ n → 2 + digit_count n ≤ n
+repeat_short n h =
+    step (nat_lt n 10) (nat_lt n 100) (nat_lt n 1000) (nat_lt n 10000) (ltb-false n 10) (ltb-false n 100)
+    (ltb-false n 1000)
+  where
+    step : (a b c d : Bool) → (a ≡ false → 10 ≤ n) → (b ≡ false → 100 ≤ n) → (c ≡ false → 1000 ≤ n)
+        → 2 + (if a then 1 else if b then 2 else if c then 3 else if d then 4 else 5) ≤ n
+    step true b c d e f g = omega arith
+    step false true c d e f g = let l : 10 ≤ n = e refl in omega arith
+    step false false true d e f g = let l : 100 ≤ n = f refl in omega arith
+    step false false false true e f g = let l : 1000 ≤ n = g refl in omega arith
+    step false false false false e f g = let l : 1000 ≤ n = g refl in omega arith
+
+-- ---- commands
+
+abbrev size : List Command → ℕ
+size cs = length (commands_text cs)
+
+size_append : (xs ys : List Command) → size (xs ++ ys) ≡ size xs + size ys
+size_append xs ys = ap length (text-append xs ys) ∙ length-append (commands_text xs) (commands_text ys)
+
+size_cons : (c : Command) (cs : List Command) → size (c ∷ cs) ≡ length (fixed_command c) + size cs
+unfolding commands_text
+size_cons c cs = length-append (fixed_command c) (commands_text cs)
+
+size_none : size [] ≡ 0
+unfolding commands_text
+size_none = refl
+
+sixels_size : (n b : ℕ) → size (replicate n (Sixel b)) ≡ n
+sixels_size n b = ap length (text-sixels n b) ∙ length-replicate n (63 + b)
+
+repeat_size : (n b : ℕ) → n ≤ 65535 → 4 ≤ n → size (Repeat n b ∷ []) ≤ n
+repeat_size n b h l =
+    omega (
+      arith,
+      size_cons (Repeat n b) [],
+      size_none,
+      decimal_within n h,
+      repeat_short n l,
+      length-append (decimal n) ((63 + b) ∷ []),
+    )
+
+run_step : (n b : ℕ) (t : Bool) → n ≤ 65535 → (t ≡ true → 4 ≤ n)
+    → size (if t then Repeat n b ∷ [] else replicate n (Sixel b)) ≤ n
+run_step n b true h l = repeat_size n b h (l refl)
+run_step n b false h l = omega (arith, sixels_size n b)
+
+run_size : (r : Run) → r.count ≤ 65535 → size (run_commands r) ≤ r.count
+run_size r h = run_step r.count r.item (nat_le 4 r.count) h (leb-true 4 r.count)
+
+runs_size : (rs : List Run) → length (items_of rs) ≤ 65535 → size (flat_map run_commands rs) ≤ length (items_of rs)
+runs_size [] h = omega (arith, size_none)
+runs_size (r ∷ rs) h =
+    let long : length (replicate r.count r.item ++ items_of rs) ≡ r.count + length (items_of rs) =
+    length-append (replicate r.count r.item) (items_of rs)
+    ∙ ap (λ n. n + length (items_of rs)) (length-replicate r.count r.item) in
+    let one : size (run_commands r) ≤ r.count = run_size r (omega arith) in
+    let rest : size (flat_map run_commands rs) ≤ length (items_of rs) = runs_size rs (omega arith) in
+    omega (arith, size_append (run_commands r) (flat_map run_commands rs))
+
+-- ---- a register
+
+without_step : (b : ℕ) (bs cs : List ℕ) (t : Bool) → length cs ≤ length bs
+    → length (if t then b ∷ cs else []) ≤ suc (length bs)
+without_step b bs cs true h = omega arith
+without_step b bs cs false h = omega arith
+
+without_length : (bs : List ℕ) → length (without_blanks bs) ≤ length bs
+without_length [] = lit≤ tt
+without_length (b ∷ bs) = without_step b bs (without_blanks bs) (has_bits (b ∷ bs)) (without_length bs)
+
+pub columns_length : (p : PictureValue) (line r : ℕ) → length (band_columns p line r) ≤ p.width
+unfolding band_columns
+columns_length p line r =
+    omega (arith, without_length (all_columns p line r), length-map-range_with_len (column_bits p line r) 0 p.width)
+
+register_size : (p : PictureValue) (line r : ℕ) → r < 1000 → p.width ≤ 2048
+    → size (register_commands p line r) ≤ p.width + 4
+unfolding register_commands
+register_size p line r h w =
+    let columns = band_columns p line r in
+    let short : length columns ≤ p.width = columns_length p line r in
+    let joined : length (items_of (runs columns)) ≡ length columns = ap length (runs_joined columns) in
+    let rest : size (flat_map run_commands (runs columns)) ≤ length (items_of (runs columns)) =
+    runs_size (runs columns) (omega arith) in
+    let select : length (decimal r) ≤ 3 = three_digits r h in
+    omega (arith, size_cons (Select r) (flat_map run_commands (runs columns)))
+
+return_size : (cs : List Command) → size (CarriageReturn ∷ cs) ≡ 1 + size cs
+return_size cs = size_cons CarriageReturn cs
+
+next_size : (cs : List Command) → size (NextLine ∷ cs) ≡ 1 + size cs
+next_size cs = size_cons NextLine cs
+
+others_size : (rs : List ℕ) (registers : ℕ) (p : PictureValue) (line : ℕ) → registers ≤ 1000 → p.width ≤ 2048
+    → AllByRecursion (IsUsed registers p) rs
+    → size (flat_map (λ r. CarriageReturn ∷ register_commands p line r) rs) ≤ length rs * (p.width + 5)
+others_size [] registers p line n w h = omega (arith, size_none)
+others_size (r ∷ rs) registers p line n w h =
+    let under : r < registers = (h.0).under in
+    let others = flat_map (λ r. CarriageReturn ∷ register_commands p line r) rs in
+    let one : size (register_commands p line r) ≤ p.width + 4 = register_size p line r (omega arith) w in
+    let rest : size others ≤ length rs * (p.width + 5) = others_size rs registers p line n w h.1 in
+    let both : size (CarriageReturn ∷ (register_commands p line r ++ others))
+    ≡ 1 + (size (register_commands p line r) + size others) =
+    return_size (register_commands p line r ++ others)
+    ∙ ap (λ m. 1 + m) (size_append (register_commands p line r) others) in
+    rw (suc-mul (length rs) (p.width + 5)) (omega arith)
+
+registers_size : (rs : List ℕ) (registers : ℕ) (p : PictureValue) (line : ℕ) → registers ≤ 1000 → p.width ≤ 2048
+    → AllByRecursion (IsUsed registers p) rs → 1 ≤ length rs
+    → size (join_by (register_commands p line) (CarriageReturn ∷ []) rs) + 1 ≤ length rs * (p.width + 5)
+registers_size [] registers p line n w h k = absurd (omega arith)
+registers_size (r ∷ rs) registers p line n w h k =
+    let under : r < registers = (h.0).under in
+    let others = flat_map (λ r. CarriageReturn ∷ register_commands p line r) rs in
+    let one : size (register_commands p line r) ≤ p.width + 4 = register_size p line r (omega arith) w in
+    let rest : size others ≤ length rs * (p.width + 5) = others_size rs registers p line n w h.1 in
+    let both : size (register_commands p line r ++ others) ≡ size (register_commands p line r) + size others =
+    size_append (register_commands p line r) others in
+    rw (suc-mul (length rs) (p.width + 5)) (omega arith)
+
+-- ---- bands
+
+band_size : (registers : ℕ) (p : PictureValue) (line : ℕ) → registers ≤ 1000 → Parted registers p → line < bands p
+    → size (band_commands p line) + 1 ≤ entries_of p * (p.width + 5)
+unfolding band_commands
+band_size registers p line n h l =
+    le_trans
+    (registers_size (band_registers p line) registers p line n h.most_width (band_used registers p line h)
+    (band_some registers p line h l))
+    (mul-le-mul_right (p.width + 5) (band_length registers p line h))
+
+nexts_size : (n a registers : ℕ) (p : PictureValue) → registers ≤ 1000 → Parted registers p → a + n ≤ bands p
+    → size (flat_map (λ l. NextLine ∷ band_commands p l) (range_with_len a n)) ≤ n * (entries_of p * (p.width + 5))
+nexts_size zero a registers p m h l = omega (arith, size_none)
+nexts_size (suc n) a registers p m h l =
+    let under : a < bands p = omega arith in
+    let others = flat_map (λ l. NextLine ∷ band_commands p l) (range_with_len (a + 1) n) in
+    let one : size (band_commands p a) + 1 ≤ entries_of p * (p.width + 5) = band_size registers p a m h under in
+    let rest : size others ≤ n * (entries_of p * (p.width + 5)) = nexts_size n (a + 1) registers p m h (omega arith) in
+    let both : size (NextLine ∷ (band_commands p a ++ others)) ≡ 1 + (size (band_commands p a) + size others) =
+    next_size (band_commands p a ++ others) ∙ ap (λ m. 1 + m) (size_append (band_commands p a) others) in
+    rw (suc-mul n (entries_of p * (p.width + 5))) (omega arith)
+
+bands_size : (n registers : ℕ) (p : PictureValue) → registers ≤ 1000 → Parted registers p → n ≤ bands p
+    → size (join_by (band_commands p) (NextLine ∷ []) (below n)) ≤ n * (entries_of p * (p.width + 5))
+bands_size zero registers p m h l = omega (arith, size_none)
+bands_size (suc n) registers p m h l =
+    let under : 0 < bands p = omega arith in
+    let others = flat_map (λ l. NextLine ∷ band_commands p l) (range_with_len (0 + 1) n) in
+    let one : size (band_commands p 0) + 1 ≤ entries_of p * (p.width + 5) = band_size registers p 0 m h under in
+    let rest : size others ≤ n * (entries_of p * (p.width + 5)) = nexts_size n (0 + 1) registers p m h (omega arith) in
+    let both : size (band_commands p 0 ++ others) ≡ size (band_commands p 0) + size others =
+    size_append (band_commands p 0) others in
+    rw (suc-mul n (entries_of p * (p.width + 5))) (omega arith)
+
+-- ---- definitions
+
+fields_more : (n m : ℕ) (ns : List ℕ)
+    → length (fixed_fields (n ∷ m ∷ ns)) ≡ length (decimal n) + 1 + length (fixed_fields (m ∷ ns))
+fields_more n m ns = omega (arith, length-append (decimal n) (59 ∷ fixed_fields (m ∷ ns)))
+
+fields_one : (n : ℕ) → length (fixed_fields (n ∷ [])) ≡ length (decimal n)
+fields_one n = refl
+
+define_size : (r s x y z : ℕ) → r < 1000 → s < 10 → x < 1000 → y < 1000 → z < 1000
+    → length (fixed_command (Define r s x y z)) ≤ 18
+define_size r s x y z a b c d e =
+    omega (
+      arith,
+      three_digits r a,
+      length-decimal-le 1 s (lit< tt) b (omega arith),
+      three_digits x c,
+      three_digits y d,
+      three_digits z e,
+      fields_more r s (x ∷ y ∷ z ∷ []),
+      fields_more s x (y ∷ z ∷ []),
+      fields_more x y (z ∷ []),
+      fields_more y z [],
+      fields_one z,
+    )
+
+colour_size : (r : ℕ) (c : Parts) → r < 1000 → IsColour c → length (fixed_command (define_command r c)) ≤ 18
+colour_size r (Rgb x y z) l h = define_size r 2 x y z l (lit< tt) (omega arith) (omega arith) (omega arith)
+colour_size r (Hls x y z) l h = define_size r 1 x y z l (lit< tt) (omega arith) (omega arith) (omega arith)
+
+entry_size : (r : ℕ) (o : Option Parts) (rest : List Command) (m : ℕ) → r < 1000 → IfSome o IsColour
+    → size rest ≤ 18 * m
+    → size (cons_option (option_map (define_command r) o) rest) ≤ 18 * cond (is_some o) (1 + m) m
+entry_size r None rest m l c h = h
+entry_size r (Some colour) rest m l c h =
+    omega (arith, colour_size r colour l c, size_cons (define_command r colour) rest)
+
+pub entry_colour : (xs : List (Option Parts)) (r : ℕ) → AllByRecursion (λ o. IfSome o IsColour) xs
+    → IfSome (palette_at xs r) IsColour
+entry_colour [] r h = tt
+entry_colour (x ∷ xs) zero h = h.0
+entry_colour (x ∷ xs) (suc r) h = entry_colour xs r h.1
+
+abbrev pub defines_from : List (Option Parts) → ℕ → ℕ → List Command
+defines_from palette a n = filter_map (λ r. option_map (define_command r) (palette_at palette r)) (range_with_len a n)
+
+defines_size : (n a registers : ℕ) (p : PictureValue) → registers ≤ 1000 → Parted registers p → a + n ≤ registers
+    → size (defines_from p.palette a n) ≤ 18 * entries (λ i. is_some (palette_at p.palette i)) a n
+defines_size zero a registers p m h l = omega (arith, size_none)
+defines_size (suc n) a registers p m h l =
+    entry_size a (palette_at p.palette a) (defines_from p.palette (a + 1) n)
+    (entries (λ i. is_some (palette_at p.palette i)) (a + 1) n) (omega arith) (entry_colour p.palette a h.in_range)
+    (defines_size n (a + 1) registers p m h (omega arith))
+
+entries_size : (registers : ℕ) (p : PictureValue) → registers ≤ 1000 → Parted registers p
+    → size (define_commands p.palette) ≤ 18 * entries_of p
+unfolding define_commands
+entries_size registers p n h =
+    let long : length p.palette ≡ registers = h.entries in
+    let counted : entries (λ i. is_some (palette_at p.palette i)) 0 (length p.palette) ≡ entries_of p =
+    entries_are p.palette in
+    omega (arith, defines_size (length p.palette) 0 registers p n h (omega arith))
+
+-- ---- the whole
+
+raster_size : (w h : ℕ) → w ≤ 2048 → h ≤ 2048 → length (fixed_command (Raster 1 1 w h)) ≤ 14
+raster_size w h l m =
+    let one : length (decimal 1) ≤ 1 = length-decimal-le 1 1 (lit< tt) (lit< tt) (lit< tt) in
+    omega (
+      arith,
+      four_digits w (omega arith),
+      four_digits h (omega arith),
+      fields_more 1 1 (w ∷ h ∷ []),
+      fields_more 1 w (h ∷ []),
+      fields_more w h [],
+      fields_one h,
+    )
+
+start_size : length (fixed_spelling canon_start) ≡ 6
+unfolding digits
+start_size = refl
+
+parts_size : (p : PictureValue) → length (canon_text p)
+    ≡ 6 + (length (fixed_command (Raster 1 1 p.width p.height)) +
+    (size (define_commands p.palette) + size (picture_commands p))) + 2
+unfolding canon_commands
+parts_size p =
+    let box = Raster 1 1 p.width p.height in
+    let commands : size (box ∷ (define_commands p.palette ++ picture_commands p))
+    ≡ length (fixed_command box) + (size (define_commands p.palette) + size (picture_commands p)) =
+    size_cons box (define_commands p.palette ++ picture_commands p)
+    ∙ ap (λ m. length (fixed_command box) + m) (size_append (define_commands p.palette) (picture_commands p)) in
+    ap length (canon-parts p)
+    ∙ length-append (fixed_spelling canon_start ++ commands_text (canon_commands p)) (fixed_spelling (Finish false))
+    ∙ ap (λ m. m + 2) (length-append (fixed_spelling canon_start) (commands_text (canon_commands p))
+    ∙ ap (λ m. m + size (canon_commands p)) start_size ∙ ap (λ m. 6 + m) commands)
+
+-- the text of a picture is no longer than the bound
+pub texts_are_short : (registers : ℕ) → registers ≤ 1000 → TextsAreShort registers
+unfolding picture_commands
+texts_are_short registers n p picture =
+    let h : Parted registers p = parted registers p picture in
+    let bytes : size (join_by (band_commands p) (NextLine ∷ []) (below (bands p)))
+    ≤ bands p * (entries_of p * (p.width + 5)) = bands_size (bands p) registers p n h (omega arith) in
+    let times : bands p * entries_of p * (p.width + 5) ≡ bands p * (entries_of p * (p.width + 5)) =
+    mul_assoc (bands p) (entries_of p) (p.width + 5) in
+    omega (arith, parts_size p, raster_size p.width p.height h.most_width h.most_height, entries_size registers p n h)
+
+-- a bound for any picture
+most_of : (bands k w registers : ℕ) → bands ≤ 342 → k ≤ registers → w ≤ 2048
+    → 22 + 18 * k + bands * k * (w + 5) ≤ 22 + 18 * registers + 342 * registers * 2053
+most_of bands k w registers a b c =
+    let d : bands * k ≤ 342 * registers = mul-le-mul a b in
+    let e : w + 5 ≤ 2053 = omega arith in
+    let f : bands * k * (w + 5) ≤ 342 * registers * 2053 = mul-le-mul d e in
+    omega arith
+
+pub texts_have_at_most : (most registers : ℕ) → registers ≤ 1000 → 22 + 18 * registers + 342 * registers * 2053 ≤ most
+    → TextsHaveAtMost most registers
+texts_have_at_most most registers n l p picture =
+    let h : Parted registers p = parted registers p picture in
+    let long : length p.palette ≡ registers = h.entries in
+    let k : entries_of p ≤ length p.palette = count_by-le-length is_some p.palette in
+    let high : p.height ≤ 2048 = h.most_height in
+    let b : bands p ≤ 342 = omega arith in
+    le_trans (le_trans (texts_are_short registers n p picture)
+    (most_of (bands p) (entries_of p) p.width registers b (omega arith) h.most_width)) l

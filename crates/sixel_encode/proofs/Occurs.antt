@@ -1,0 +1,124 @@
+-- Which registers occur in a band.
+use Rattle.std.proofs.Common.{◌≡◌, ℕ, zero, suc, ◌+◌, ◌*◌, ◌<◌, ◌≤◌, Bool, true, false, not, ◌&&◌, ◌||◌, cond, Option}
+use Rattle.std.proofs.Common.{List, [], ◌∷◌, map, length, refl, sym, ap, ◌∙◌, subst, arith, lit≤}
+use Rattle.std.specs.Prelude.{◌==◌, nat_lt, filter, is_some, count_by}
+use Rattle.std.specs.List.{list_any, range_with_len, AllByRecursion}
+use Rattle.std.proofs.lemmas.Bool.{and_from, and_parts, eqb-true, eq-eqb, lt-ltb, ltb-true}
+use Rattle.std.proofs.lemmas.List.Recursion.{is_count_by}
+use Rattle.sixel_picture.specs.declared.colour.Parts.{Parts}
+use Rattle.sixel_picture.specs.Colours.{palette_at}
+use Rattle.sixel_picture.specs.Pictures.{PictureValue, register_of}
+use Rattle.sixel_encode.specs.Canon.{band_registers, bands, below, column_bits, has_pixel, occurs}
+use Rattle.sixel_encode.specs.Laws.{entries_of}
+use Rattle.sixel_encode.proofs.Bits.{column_has}
+use Rattle.sixel_encode.proofs.Parted.{IsUsed, Parted, pixel_used}
+use Rattle.sixel_encode.proofs.Ranges.{InRange, any_filter, any_range, filter_range, range_any}
+
+any_map : (f : ℕ → ℕ) (q : ℕ → Bool) (xs : List ℕ) → list_any q (map f xs) ≡ list_any (λ x. q (f x)) xs
+any_map f q [] = refl
+any_map f q (x ∷ xs) = ap (λ (t : Bool). q (f x) || t) (any_map f q xs)
+
+pub occurs_is : (p : PictureValue) (line r : ℕ)
+    → occurs p line r ≡ list_any (λ x. not (column_bits p line r x == 0)) (below p.width)
+unfolding occurs
+occurs_is p line r = any_map (column_bits p line r) (λ bits. not (bits == 0)) (below p.width)
+
+-- a register that occurs in a band has a pixel there
+pub occurs_used : (registers : ℕ) (p : PictureValue) (line r : ℕ) → Parted registers p → occurs p line r ≡ true
+    → IsUsed registers p r
+occurs_used registers p line r h here =
+    let i : InRange 0 p.width (λ x. not (column_bits p line r x == 0)) =
+    range_any p.width 0 _ (sym (occurs_is p line r) ∙ here) in
+    let k : InRange 0 6 (has_pixel p line r i.number) =
+    range_any 6 0 _ (column_has p line r i.number ∙ i.passes) in
+    let parts = and_parts (nat_lt (6 * line + k.number) p.height) (register_of p i.number (6 * line + k.number) == r)
+    k.passes in
+    let under : i.number < 0 + p.width = i.under in
+    let within : i.number < p.width = omega arith in
+    subst (IsUsed registers p) (eqb-true (register_of p i.number (6 * line + k.number)) r parts.1)
+    (pixel_used registers p h i.number (6 * line + k.number) within (ltb-true (6 * line + k.number) p.height parts.0))
+
+pub band_used : (registers : ℕ) (p : PictureValue) (line : ℕ) → Parted registers p
+    → AllByRecursion (IsUsed registers p) (band_registers p line)
+unfolding band_registers
+band_used registers p line h =
+    filter_range (IsUsed registers p) (occurs p line) (length p.palette) 0 (length p.palette) (omega arith)
+    (λ r l here. occurs_used registers p line r h here)
+
+-- ---- at least one
+
+any_some : (q : ℕ → Bool) (rs : List ℕ) → list_any q rs ≡ true → 1 ≤ length rs
+any_some q [] h = cc h
+any_some q (r ∷ rs) h = omega arith
+
+-- the register of the first pixel of a band occurs there
+first_occurs : (p : PictureValue) (line r : ℕ) → 0 < p.width → has_pixel p line r 0 0 ≡ true → occurs p line r ≡ true
+first_occurs p line r some here =
+    occurs_is p line r
+    ∙ any_range p.width 0 0 (λ x. not (column_bits p line r x == 0)) (omega arith) (omega arith)
+    (sym (column_has p line r 0) ∙ any_range 6 0 0 (has_pixel p line r 0) (omega arith) (omega arith) here)
+
+-- a register occurs in each band
+pub band_some : (registers : ℕ) (p : PictureValue) (line : ℕ) → Parted registers p → line < bands p
+    → 1 ≤ length (band_registers p line)
+unfolding band_registers
+band_some registers p line h l =
+    let own = register_of p 0 (6 * line + 0) in
+    let some : 0 < p.width = omega (arith, h.some_width) in
+    let inside : 6 * line + 0 < p.height = omega arith in
+    let here : has_pixel p line own 0 0 ≡ true =
+    and_from _ _ (lt-ltb (6 * line + 0) p.height inside) (eq-eqb own own refl) in
+    let used : own < registers = (pixel_used registers p h 0 (6 * line + 0) some inside).under in
+    let entries : length p.palette ≡ registers = h.entries in
+    any_some (λ r. true) (filter (occurs p line) (below (length p.palette)))
+    (any_filter (occurs p line) (λ r. true) (below (length p.palette))
+    ∙ any_range (length p.palette) 0 own (λ r. occurs p line r && true) (omega arith) (omega arith)
+    (and_from _ _ (first_occurs p line own some here) refl))
+
+-- ---- no more than the palette has entries
+
+-- how many numbers from a on pass
+abbrev pub entries : (ℕ → Bool) → ℕ → ℕ → ℕ
+entries t a zero = 0
+entries t a (suc n) = cond (t a) (1 + entries t (a + 1) n) (entries t (a + 1) n)
+
+entries_shift : (n a : ℕ) (t : ℕ → Bool) → entries t (suc a) n ≡ entries (λ i. t (suc i)) a n
+entries_shift zero a t = refl
+entries_shift (suc n) a t =
+    let e : suc a + 1 ≡ suc (a + 1) = omega arith in
+    let rest : entries t (suc a + 1) n ≡ entries (λ i. t (suc i)) (a + 1) n =
+    ap (λ b. entries t b n) e ∙ entries_shift n (a + 1) t in
+    ap (λ m. cond (t (suc a)) (1 + m) m) rest
+
+pub entries_are : (xs : List (Option Parts))
+    → entries (λ i. is_some (palette_at xs i)) 0 (length xs) ≡ count_by is_some xs
+entries_are xs =
+    is_count_by (λ ys. entries (λ i. is_some (palette_at ys i)) 0 (length ys)) is_some refl
+    (λ x ys. ap (λ m. cond (is_some x) (1 + m) m)
+    (entries_shift (length ys) 0 (λ i. is_some (palette_at (x ∷ ys) i)))) xs
+
+kept_step : (r : ℕ) (rs : List ℕ) (m : ℕ) (q t : Bool) → (q ≡ true → t ≡ true) → length rs ≤ m
+    → length (cond q (r ∷ rs) rs) ≤ cond t (1 + m) m
+kept_step r rs m true true h l = omega arith
+kept_step r rs m true false h l = (let e : false ≡ true = h refl in cc e)
+kept_step r rs m false true h l = omega arith
+kept_step r rs m false false h l = l
+
+kept_length : (n a : ℕ) (q t : ℕ → Bool) → ((r : ℕ) → q r ≡ true → t r ≡ true)
+    → length (filter q (range_with_len a n)) ≤ entries t a n
+kept_length zero a q t h = lit≤ tt
+kept_length (suc n) a q t h =
+    kept_step a (filter q (range_with_len (a + 1) n)) (entries t (a + 1) n) (q a) (t a) (h a)
+    (kept_length n (a + 1) q t h)
+
+pub band_length : (registers : ℕ) (p : PictureValue) (line : ℕ) → Parted registers p
+    → length (band_registers p line) ≤ entries_of p
+unfolding band_registers
+band_length registers p line h =
+    let kept : length (filter (occurs p line) (range_with_len 0 (length p.palette)))
+    ≤ entries (λ i. is_some (palette_at p.palette i)) 0 (length p.palette) =
+    kept_length (length p.palette) 0 (occurs p line) (λ i. is_some (palette_at p.palette i))
+    (λ r here. (occurs_used registers p line r h here).coloured) in
+    let all : entries (λ i. is_some (palette_at p.palette i)) 0 (length p.palette) ≡ count_by is_some p.palette =
+    entries_are p.palette in
+    omega arith

@@ -1,0 +1,136 @@
+-- What stands before an event of a canonical list.
+use Rattle.std.proofs.Common.{◌≡◌, ℕ, ◌+◌, Bool, true, false, ◌||◌, cond, Option, Some, None, List, [], ◌∷◌, ◌++◌}
+use Rattle.std.proofs.Common.{refl, sym, ap, ◌∙◌}
+use Rattle.std.specs.Prelude.{◌==◌, if◌then◌else◌}
+use Rattle.std.specs.Option.{option_map}
+use Rattle.std.proofs.lemmas.Bool.{eq-eqb}
+use Rattle.sixel_grammar.specs.declared.command.Event.{Event}
+use Rattle.sixel_grammar.specs.declared.command.Event.TheVariants.{Step}
+use Rattle.sixel_grammar.specs.declared.command.Command.TheVariants.{Select}
+use Rattle.sixel_picture.specs.declared.colour.Parts.{Parts}
+use Rattle.sixel_picture.specs.declared.colour.Parts.TheVariants.{Rgb, Hls}
+use Rattle.sixel_picture.specs.Colours.{palette_at}
+use Rattle.sixel_picture.specs.Pictures.{PictureValue, register_of}
+use Rattle.sixel_picture.specs.Events.{Definition, Attributes, columns_of, bits_of, is_next_line, is_finish}
+use Rattle.sixel_picture.specs.Events.{raster_of, select_of, named_by, definition_where, is_in_box}
+use Rattle.sixel_picture.specs.Geometry.{band, column, touches, falls}
+use Rattle.sixel_picture.specs.Rules.{known, definition_of, raster_before, register_at, is_covered, BreaksOutside}
+use Rattle.sixel_picture.specs.Rules.{BreaksUncovered}
+use Rattle.sixel_picture.specs.Rules.{breaks_box_size, breaks_colour_value, breaks_ratio, breaks_raster_first}
+use Rattle.sixel_picture.specs.Rules.{breaks_raster_twice}
+use Rattle.sixel_picture.specs.Rules.{breaks_redefined, breaks_register, breaks_repeat_zero, breaks_undefined}
+use Rattle.sixel_picture.specs.Rules.{breaks_unselected}
+use Rattle.sixel_picture.proofs.PositionLemmas.{latest_push}
+use Rattle.sixel_picture.proofs.StepLemmas.{band_push, raster_push, definition_push, register_push, covered_push}
+use Rattle.sixel_picture.proofs.RuleLemmas.{Keeps}
+use Rattle.sixel_picture.proofs.CoverLemmas.{no_bits_cover}
+
+-- ---- the words
+
+-- what the definition of a colour says
+abbrev pub definition_by : Parts → Definition
+definition_by (Rgb r g b) = record { system = 2; x = r; y = g; z = b }
+definition_by (Hls h l s) = record { system = 1; x = h; y = l; z = s }
+
+-- the box of a picture
+abbrev pub box_of : PictureValue → Attributes
+box_of p = record { pan = 1; pad = 1; width = p.width; height = p.height }
+
+-- after so many next lines the picture's palette is defined, and of its pixels these are painted, each in its own register
+pub record Stands (p : PictureValue) (before : List Event) (line : ℕ) (done : ℕ → ℕ → Bool) : Type 0 where
+  pub at_line : band before ≡ line
+  pub has_box : raster_before before ≡ Some (box_of p)
+  pub defines : (r : ℕ) → definition_of before r ≡ option_map definition_by (palette_at p.palette r)
+  pub paints : (x y : ℕ) → register_at before x y ≡ (if done x y then Some (register_of p x y) else None)
+  pub covers_done : (x y : ℕ) → is_covered before x y ≡ done x y
+
+-- ---- one more event
+
+-- an event without bits paints nothing
+pub falls_quiet : (before : List Event) (e : Event) (x y : ℕ) → bits_of e ≡ 0 → falls before e x y ≡ false
+unfolding falls touches
+falls_quiet before e x y h = rw h (no_bits_cover (column 0 before) (columns_of 0 e) (band before) x y)
+
+paints_step : (b d : Bool) (k o : Option ℕ) (r : ℕ) → (b ≡ true → k ≡ Some r) → o ≡ (if d then Some r else None)
+    → (if b then k else o) ≡ (if b || d then Some r else None)
+paints_step true d k o r h e = rw (h refl) refl
+paints_step false d k o r h e = e
+
+-- an event that isn't raster attributes, nor a definition, and paints points in their own register
+pub stands_push : (p : PictureValue) (before : List Event) (e : Event) (line next : ℕ) (done f : ℕ → ℕ → Bool)
+    → Stands p before line done →
+    raster_of e ≡ None → ((r : ℕ) → definition_where (λ q. q == r) e ≡ None) → line + cond (is_next_line e) 1 0 ≡ next →
+    ((x y : ℕ) → falls before e x y ≡ f x y) → ((x y : ℕ) → f x y ≡ true → known before ≡ Some (register_of p x y)) →
+    Stands p (before ++ e ∷ []) next (λ x y. f x y || done x y)
+stands_push p before e line next done f s raster define move fall own = record {
+  at_line = band_push before e ∙ ap (λ n. n + cond (is_next_line e) 1 0) s.at_line ∙ move;
+  has_box = raster_push before e ∙ rw (s.has_box) refl;
+  defines = λ r. definition_push before e r ∙ rw (define r) (s.defines r);
+  paints = λ x y. register_push before e x y ∙ rw (fall x y)
+      (paints_step (f x y) (done x y) (known before) (register_at before x y) (register_of p x y) (own x y) (s.paints x y));
+  covers_done = λ x y. covered_push before e x y ∙ rw (fall x y) (ap (λ d. f x y || d) (s.covers_done x y));
+}
+
+-- the same, where it paints nothing
+pub stands_quiet : (p : PictureValue) (before : List Event) (e : Event) (line next : ℕ) (done : ℕ → ℕ → Bool)
+    → Stands p before line done →
+    bits_of e ≡ 0 → raster_of e ≡ None → ((r : ℕ) → definition_where (λ q. q == r) e ≡ None)
+    → line + cond (is_next_line e) 1 0 ≡ next →
+    Stands p (before ++ e ∷ []) next done
+stands_quiet p before e line next done s bits raster define move =
+    stands_push p before e line next done (λ x y. false) s raster define move (λ x y. falls_quiet before e x y bits)
+    (λ x y h. cc h)
+
+-- the points may be said in another way
+pub stands_same : (p : PictureValue) (before : List Event) (line : ℕ) (done also : ℕ → ℕ → Bool)
+    → Stands p before line done → ((x y : ℕ) → done x y ≡ also x y) → Stands p before line also
+stands_same p before line done also s h = record {
+  at_line = s.at_line;
+  has_box = s.has_box;
+  defines = s.defines;
+  paints = λ x y. rw (← h x y) (s.paints x y);
+  covers_done = λ x y. s.covers_done x y ∙ h x y;
+}
+
+-- ---- the known register
+
+pub known_same : (before : List Event) (e : Event) → select_of e ≡ None → named_by e ≡ None
+    → known (before ++ e ∷ []) ≡ known before
+unfolding known
+known_same before e s n = rw (latest_push select_of before e, latest_push named_by before e, s, n) refl
+
+pub known_select : (before : List Event) (r : ℕ) → known (before ++ Step (Select r) ∷ []) ≡ Some r
+unfolding known
+known_select before r =
+    rw (
+      latest_push select_of before (Step (Select r)),
+      latest_push named_by before
+          (Step (Select r)),
+      eq-eqb r r refl,
+    ) refl
+
+-- ---- the rules
+
+-- an event after raster attributes that keeps the other rules
+pub keeps_in_box : (registers : ℕ) (before : List Event) (e : Event) (a : Attributes) → raster_before before ≡ Some a
+    → raster_of e ≡ None → is_finish e ≡ false → breaks_register registers e ≡ false → breaks_colour_value e ≡ false
+    → breaks_repeat_zero e ≡ false → breaks_unselected before e ≡ false → breaks_undefined before e ≡ false
+    → breaks_redefined before e ≡ false
+    → ((x y : ℕ) → falls before e x y ≡ true → is_in_box a x y ≡ true) → Keeps registers before e
+unfolding breaks_raster_first breaks_raster_twice breaks_ratio breaks_box_size BreaksOutside BreaksUncovered
+keeps_in_box registers before e a box raster finish r5 r6 r7 r8 r9 r10 inside = record {
+  raster_first = rw box refl;
+  raster_twice = rw (box, raster) refl;
+  ratio = rw raster refl;
+  box_size = rw raster refl;
+  register = r5;
+  colour_value = r6;
+  repeat_zero = r7;
+  unselected = r8;
+  undefined = r9;
+  redefined = r10;
+  outside = λ h.
+      (let k = rw box at h in let t : is_in_box a k.0 k.1 ≡ true = inside k.0 k.1 (k.2).painted in
+      let f : is_in_box a k.0 k.1 ≡ false = (k.2).outside in cc (t, f));
+  uncovered = λ h. (let k : false ≡ true = sym finish ∙ h.0 in cc k);
+}

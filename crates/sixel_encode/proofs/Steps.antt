@@ -1,0 +1,222 @@
+-- The text of a picture's parts, one by one.
+use Rattle.std.proofs.Common.{◌≡◌, ℕ, zero, suc, ◌+◌, Bool, true, false, cond, Option, Some, None, List, [], ◌∷◌, ◌++◌}
+use Rattle.std.proofs.Common.{length, map, refl, sym, ap, ◌∙◌, append_assoc}
+use Rattle.std.specs.Prelude.{◌==◌, filter, flat_map, filter_map, if◌then◌else◌}
+use Rattle.std.specs.Option.{option_map, option_to_list}
+use Rattle.std.specs.List.{cons_option, join_by}
+use Rattle.std.proofs.lemmas.Bool.{ne_eqb}
+use Rattle.std.proofs.lemmas.Grind.{flat_map-append}
+use Rattle.std.proofs.lemmas.List.{append-nil}
+use Rattle.std.proofs.lemmas.List.Elements.{filter-append, filter_map-append}
+use Rattle.sixel_grammar.specs.declared.command.Command.{Command}
+use Rattle.sixel_grammar.specs.declared.command.Command.TheVariants.{Raster, Select, CarriageReturn, NextLine}
+use Rattle.sixel_grammar.specs.declared.command.Event.TheVariants.{Step, Finish}
+use Rattle.sixel_grammar.specs.Spelling.{fixed_spelling}
+use Rattle.sixel_grammar.specs.FixedText.{fixed_text}
+use Rattle.sixel_grammar.proofs.FixedText.{fixed_text-append}
+use Rattle.sixel_picture.specs.declared.colour.Parts.{Parts}
+use Rattle.sixel_picture.specs.Colours.{palette_at}
+use Rattle.sixel_picture.specs.Pictures.{PictureValue}
+use Rattle.sixel_encode.specs.Canon.{all_columns, band_columns, band_commands, band_registers, bands, below, canon}
+use Rattle.sixel_encode.specs.Canon.{canon_commands}
+use Rattle.sixel_encode.specs.Canon.{canon_start, canon_text, commands_text, define_command, define_commands, occurs}
+use Rattle.sixel_encode.specs.Canon.{picture_commands, register_commands, run_commands, runs}
+use Rattle.sixel_encode.proofs.Ranges.{below_then}
+use Rattle.sixel_encode.proofs.Texts.{columns_text, text-append}
+
+-- ---- registers and bands one by one
+
+abbrev pub is_nil : List ℕ → Bool
+is_nil [] = true
+is_nil (x ∷ xs) = false
+
+-- one more, behind what stands between
+join-then : (f : ℕ → List Command) (between : List Command) (xs : List ℕ) (x : ℕ)
+    → join_by f between (xs ++ x ∷ []) ≡ join_by f between xs ++ ((if is_nil xs then [] else between) ++ f x)
+join-then f between [] x = append-nil (f x)
+join-then f between (y ∷ ys) x =
+    ap (λ (t : List Command). f y ++ t)
+    (flat_map-append (λ z. between ++ f z) ys (x ∷ [])
+    ∙ ap (λ (t : List Command). flat_map (λ z. between ++ f z) ys ++ t)
+    (append-nil (between ++ f x)))
+    ∙ sym (append_assoc (f y) (flat_map (λ z. between ++ f z) ys) (between ++ f x))
+
+-- the text of the first bands
+abbrev pub bands_above : PictureValue → ℕ → List ℕ
+bands_above p line = commands_text (join_by (band_commands p) (NextLine ∷ []) (below line))
+
+-- and of the next one
+abbrev pub band_step : PictureValue → ℕ → List ℕ
+band_step p line = commands_text ((if line == 0 then [] else NextLine ∷ []) ++ band_commands p line)
+
+below_nil : (n : ℕ) → is_nil (below n) ≡ (n == 0)
+below_nil zero = refl
+below_nil (suc n) = sym (ne_eqb (suc n) 0 (λ e. cc e))
+
+pub bands-then : (p : PictureValue) (line : ℕ) → bands_above p (line + 1) ≡ bands_above p line ++ band_step p line
+bands-then p line =
+    ap (λ (ks : List ℕ). commands_text (join_by (band_commands p) (NextLine ∷ []) ks)) (below_then line)
+    ∙ ap commands_text (join-then (band_commands p) (NextLine ∷ []) (below line) line)
+    ∙ text-append (join_by (band_commands p) (NextLine ∷ []) (below line)) _
+    ∙ ap (λ (t : Bool). bands_above p line ++ commands_text ((if t then [] else NextLine ∷ []) ++ band_commands p line))
+    (below_nil line)
+
+-- the text of the first registers of a band
+abbrev pub registers_above : PictureValue → ℕ → ℕ → List ℕ
+registers_above p line register =
+    commands_text (join_by (register_commands p line) (CarriageReturn ∷ []) (filter (occurs p line) (below register)))
+
+-- no register occurs before this one
+abbrev pub is_first_of : PictureValue → ℕ → ℕ → Bool
+is_first_of p line register = is_nil (filter (occurs p line) (below register))
+
+-- the text of a register that occurs
+abbrev pub next_text : PictureValue → ℕ → ℕ → Bool → List ℕ
+next_text p line register is_first =
+    commands_text ((if is_first then [] else CarriageReturn ∷ []) ++ register_commands p line register)
+
+-- and of any other
+abbrev pub register_step : PictureValue → ℕ → ℕ → List ℕ
+register_step p line register =
+    if occurs p line register then next_text p line register (is_first_of p line register) else []
+
+registers_step : (p : PictureValue) (line register : ℕ) (t : Bool)
+    → commands_text (join_by (register_commands p line) (CarriageReturn ∷ [])
+    (filter (occurs p line) (below register) ++ cond t (register ∷ []) []))
+    ≡ registers_above p line register ++ (if t then next_text p line register (is_first_of p line register) else [])
+registers_step p line register true =
+    ap commands_text (join-then (register_commands p line) (CarriageReturn ∷ [])
+    (filter (occurs p line) (below register)) register)
+    ∙ text-append (join_by (register_commands p line) (CarriageReturn ∷ []) (filter (occurs p line) (below register))) _
+registers_step p line register false =
+    ap (λ (ks : List ℕ). commands_text (join_by (register_commands p line) (CarriageReturn ∷ []) ks))
+    (append-nil (filter (occurs p line) (below register)))
+    ∙ sym (append-nil (registers_above p line register))
+
+filter_then : (p : PictureValue) (line register : ℕ)
+    → filter (occurs p line) (below (register + 1))
+    ≡ filter (occurs p line) (below register) ++ cond (occurs p line register) (register ∷ []) []
+filter_then p line register =
+    ap (filter (occurs p line)) (below_then register) ∙ filter-append (occurs p line) (below register) (register ∷ [])
+
+pub registers-then : (p : PictureValue) (line register : ℕ)
+    → registers_above p line (register + 1) ≡ registers_above p line register ++ register_step p line register
+registers-then p line register =
+    ap (λ (ks : List ℕ). commands_text (join_by (register_commands p line) (CarriageReturn ∷ []) ks))
+    (filter_then p line register)
+    ∙ registers_step p line register (occurs p line register)
+
+first_step : (xs : List ℕ) (x : ℕ) → is_nil (xs ++ x ∷ []) ≡ false
+first_step [] x = refl
+first_step (y ∷ ys) x = refl
+
+-- a register that occurs is before the next one
+pub first-after : (p : PictureValue) (line register : ℕ) → occurs p line register ≡ true
+    → false ≡ is_first_of p line (register + 1)
+first-after p line register h =
+    sym (ap is_nil (filter_then p line register)
+    ∙ ap (λ (t : Bool). is_nil (filter (occurs p line) (below register) ++ cond t (register ∷ []) [])) h
+    ∙ first_step (filter (occurs p line) (below register)) register)
+
+-- any other changes nothing
+pub first-same : (p : PictureValue) (line register : ℕ) → occurs p line register ≡ false
+    → is_first_of p line register ≡ is_first_of p line (register + 1)
+first-same p line register h =
+    sym (ap is_nil (filter_then p line register)
+    ∙ ap (λ (t : Bool). is_nil (filter (occurs p line) (below register) ++ cond t (register ∷ []) [])) h
+    ∙ ap is_nil (append-nil (filter (occurs p line) (below register))))
+
+-- ---- definitions one by one
+
+-- the definition of an entry
+abbrev pub entry_step : List (Option Parts) → ℕ → List ℕ
+entry_step palette register =
+    commands_text (option_to_list (option_map (define_command register) (palette_at palette register)))
+
+abbrev pub entries_above : List (Option Parts) → ℕ → List ℕ
+entries_above palette register =
+    commands_text (filter_map (λ r. option_map (define_command r) (palette_at palette r)) (below register))
+
+one_option : {A : Type 0} (o : Option A) → cons_option o [] ≡ option_to_list o
+one_option None = refl
+one_option (Some x) = refl
+
+pub entries-then : (palette : List (Option Parts)) (register : ℕ)
+    → entries_above palette (register + 1) ≡ entries_above palette register ++ entry_step palette register
+entries-then palette register =
+    let f = λ (r : ℕ). option_map (define_command r) (palette_at palette r) in
+    ap (λ (ks : List ℕ). commands_text (filter_map f ks)) (below_then register)
+    ∙ ap commands_text (filter_map-append f (below register) (register ∷ []))
+    ∙ text-append (filter_map f (below register)) _
+    ∙ ap (λ (t : List Command). entries_above palette register ++ commands_text t) (one_option (f register))
+
+-- ---- all of them
+
+pub entries-all : (palette : List (Option Parts)) (n : ℕ) → length palette ≡ n
+    → commands_text (define_commands palette) ≡ entries_above palette n
+unfolding define_commands
+entries-all palette n e = ap (entries_above palette) e
+
+pub registers-all : (p : PictureValue) (line n : ℕ) → length p.palette ≡ n
+    → commands_text (band_commands p line) ≡ registers_above p line n
+unfolding band_commands band_registers
+registers-all p line n e = ap (registers_above p line) e
+
+pub bands-all : (p : PictureValue) → commands_text (picture_commands p) ≡ bands_above p (bands p)
+unfolding picture_commands
+bands-all p = refl
+
+-- a register's commands
+pub register-parts : (p : PictureValue) (line register : ℕ) → commands_text (register_commands p line register)
+    ≡ commands_text (Select register ∷ []) ++ columns_text (all_columns p line register)
+unfolding register_commands band_columns
+register-parts p line register =
+    text-append (Select register ∷ []) (flat_map run_commands (runs (band_columns p line register)))
+
+-- a register that occurs, and what stands before it
+pub next-parts : (p : PictureValue) (line register : ℕ) (is_first : Bool) → next_text p line register is_first
+    ≡ commands_text (if is_first then [] else CarriageReturn ∷ []) ++ commands_text (register_commands p line register)
+next-parts p line register is_first = text-append (if is_first then [] else CarriageReturn ∷ [])
+    (register_commands p line register)
+
+-- a band, and what stands before it
+pub band-parts : (p : PictureValue) (line : ℕ) → band_step p line
+    ≡ commands_text (if line == 0 then [] else NextLine ∷ []) ++ commands_text (band_commands p line)
+band-parts p line = text-append (if line == 0 then [] else NextLine ∷ []) (band_commands p line)
+
+-- the step of a register that occurs
+pub step-is : (p : PictureValue) (line register : ℕ) (is_first : Bool) → occurs p line register ≡ true
+    → is_first ≡ is_first_of p line register → next_text p line register is_first ≡ register_step p line register
+step-is p line register is_first h first =
+    ap (next_text p line register) first
+    ∙ ap (λ (t : Bool). if t then next_text p line register (is_first_of p line register) else []) (sym h)
+
+-- and of one that doesn't
+pub step-none : (p : PictureValue) (line register : ℕ) → occurs p line register ≡ false
+    → registers_above p line register ≡ registers_above p line (register + 1)
+step-none p line register h =
+    sym (registers-then p line register
+    ∙ ap (λ (t : Bool). registers_above p line register
+    ++ (if t then next_text p line register (is_first_of p line register) else [])) h
+    ∙ append-nil (registers_above p line register))
+
+-- ---- the whole text
+
+pub opening-parts : (p : PictureValue) → commands_text (Raster 1 1 p.width p.height ∷ define_commands p.palette)
+    ≡ commands_text (Raster 1 1 p.width p.height ∷ []) ++ commands_text (define_commands p.palette)
+opening-parts p = text-append (Raster 1 1 p.width p.height ∷ []) (define_commands p.palette)
+
+pub commands-parts : (p : PictureValue) → commands_text (canon_commands p)
+    ≡ commands_text (Raster 1 1 p.width p.height ∷ define_commands p.palette) ++ commands_text (picture_commands p)
+unfolding canon_commands
+commands-parts p = text-append (Raster 1 1 p.width p.height ∷ define_commands p.palette) (picture_commands p)
+
+-- the start, the commands, and the finish
+pub canon-parts : (p : PictureValue) → canon_text p
+    ≡ (fixed_spelling canon_start ++ commands_text (canon_commands p)) ++ fixed_spelling (Finish false)
+unfolding canon commands_text
+canon-parts p =
+    ap (λ (t : List ℕ). fixed_spelling canon_start ++ t)
+    (fixed_text-append (map Step (canon_commands p)) (Finish false ∷ []))
+    ∙ sym (append_assoc (fixed_spelling canon_start) (fixed_text (map Step (canon_commands p)))
+    (fixed_spelling (Finish false)))

@@ -1,0 +1,88 @@
+use Rattle.std.proofs.Common.{◌≡◌, true, false, take, refl, sym, ap, ◌∙◌, arith}
+use Rattle.std.proofs.lemmas.Result.{err_from_is_err_and}
+use Rattle.sixel_grammar.specs.Blocks.{in_all}
+use Rattle.sixel_grammar.proofs.Devices.{TakesMore-refl, TakesMore-then}
+use Rattle.sixel_grammar.proofs.Sinks.{Appends-none, put-as, steps-put, steps-stopped}
+use Rattle.sixel_encode.specs.Canon.{occurs}
+use Rattle.sixel_encode.proofs.Steps.{first-after, first-same, register_step, registers-all, registers-then}
+use Rattle.sixel_encode.proofs.Steps.{registers_above, step-is, step-none}
+use Rattle.sixel_encode.proofs.Texts.{text-none}
+use Rattle.sixel_encode.proofs.band.put_band.Goals as goal
+use Rattle.sixel_encode.proofs.band.put_band.Goals.{then-has+in_ok-put_next, else-has}
+
+pub loop-register-init : goal.loop-register-init
+loop-register-init g c = record {
+  bytes = rw text-none (Appends-none _);
+  first = refl;
+  taken = TakesMore-refl _;
+  unflushed = λ t. t;
+  failures = refl;
+}
+
+pub returns-in_err-put_next-clause-bytes : goal.returns-in_err-put_next-clause-bytes
+returns-in_err-put_next-clause-bytes g c =
+    let failed = err_from_is_err_and c.from_residual.result c.from_residual.ensures.1 in
+    let p = c.args.picture.now in
+    let register = c.loop-register.register in
+    let before = in_all (g.K.Sink.taken c.loop-register.out) c.loop-register.text in
+    let here : occurs p c.args.line register ≡ true =
+    sym (c.band_registers-registers.ensures.value register c.loop-register-test.true) ∙ sym c.if-has.ensures in
+    let front = c.in_err-put_next.ensures.bytes in
+    rw (failed.1, registers-all p c.args.line 16 c.band_registers-registers.ensures.picture.palette.entries)
+    (steps-stopped (registers_above p c.args.line) (register_step p c.args.line)
+    (registers-then p c.args.line) register 16
+    c.loop-register-test.true _ before _ c.loop-register.invariant.bytes (
+      front.0,
+      put-as before _ _ _ (ap (take front.0) (step-is p c.args.line register c.loop-register.is_first here
+          c.loop-register.invariant.first)) front.1,
+    ))
+
+pub returns-in_err-put_next-clause-taken : goal.returns-in_err-put_next-clause-taken
+returns-in_err-put_next-clause-taken g c =
+    TakesMore-then _ (g.K.Sink.taken c.loop-register.out) _ c.loop-register.invariant.taken c.put_next.ensures.taken
+
+pub loop-register-preserved : goal.loop-register-preserved
+loop-register-preserved g c = elim c.if-has.branch [
+  | then-has+in_ok-put_next w ↦
+      let p = c.args.picture.now in
+      let register = c.loop-register.register in
+      let before = in_all (g.K.Sink.taken c.loop-register.out) c.loop-register.text in
+      let after = in_all (g.K.Sink.taken w.put_next.new.out) w.put_next.new.text in
+      let here : occurs p c.args.line register ≡ true =
+      sym (c.band_registers-registers.ensures.value register c.loop-register-test.true) ∙ sym w.if-has.ensures in
+      rw (w.out-is, w.text-is, w.is_first-is)
+      (record {
+        bytes = steps-put (registers_above p c.args.line) (register_step p c.args.line)
+            (registers-then p c.args.line) register
+            _ before _ c.loop-register.invariant.bytes
+            (put-as before after _ _ (step-is p c.args.line register c.loop-register.is_first here
+            c.loop-register.invariant.first) w.in_ok-put_next.ensures.bytes);
+        first = first-after p c.args.line register here;
+        taken = TakesMore-then _
+            (g.K.Sink.taken c.loop-register.out) _ c.loop-register.invariant.taken w.put_next.ensures.taken;
+        unflushed = λ t. c.loop-register.invariant.unflushed (w.put_next.ensures.unflushed t);
+        failures = cc (w.in_ok-put_next.ensures.failures, c.loop-register.invariant.failures);
+      })
+  | else-has w ↦
+      let p = c.args.picture.now in
+      let register = c.loop-register.register in
+      let gone : occurs p c.args.line register ≡ false =
+      sym (c.band_registers-registers.ensures.value register c.loop-register-test.true) ∙ sym w.if-has.ensures in
+      rw (w.out-is, w.text-is, w.is_first-is)
+      (record {
+        bytes = put-as _ _ _ _ (step-none p c.args.line register gone) c.loop-register.invariant.bytes;
+        first = c.loop-register.invariant.first ∙ first-same p c.args.line register gone;
+        taken = c.loop-register.invariant.taken;
+        unflushed = c.loop-register.invariant.unflushed;
+        failures = c.loop-register.invariant.failures;
+      })
+]
+
+pub returns-clause-bytes : goal.returns-clause-bytes
+returns-clause-bytes g c =
+    let p = c.args.picture.now in
+    let done : c.loop-register.register ≡ 16 = omega arith in
+    put-as _ _ _ _
+    (ap (registers_above p c.args.line) done
+    ∙ sym (registers-all p c.args.line 16 c.band_registers-registers.ensures.picture.palette.entries))
+    c.loop-register.invariant.bytes

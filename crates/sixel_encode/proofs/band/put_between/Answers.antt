@@ -1,0 +1,6 @@
+use Rattle.sixel_grammar.proofs.Sinks.{Appends-none}
+use Rattle.sixel_encode.proofs.Texts.{text-none}
+use Rattle.sixel_encode.proofs.band.put_between.Goals as goal
+
+pub returns-then-is_first-clause-bytes : goal.returns-then-is_first-clause-bytes
+returns-then-is_first-clause-bytes g c = rw (c.if-is_first.true, text-none) (Appends-none _)

@@ -1,0 +1,21 @@
+use Rattle.std.proofs.Common.{[], ◌∷◌, ap}
+use Rattle.sixel_grammar.specs.declared.command.Command.{Command}
+use Rattle.sixel_grammar.specs.Blocks.{in_all}
+use Rattle.sixel_grammar.proofs.Devices.{TakesMore-then}
+use Rattle.sixel_grammar.proofs.Sinks.{put-as, puts-joined}
+use Rattle.sixel_encode.specs.Canon.{band_columns, commands_text}
+use Rattle.sixel_encode.proofs.Steps.{register-parts}
+use Rattle.sixel_encode.proofs.band.put_register.Goals as goal
+
+pub returns-clause-bytes : goal.returns-clause-bytes
+unfolding band_columns
+returns-clause-bytes g c =
+    let before = in_all (g.K.Sink.taken c.put_command.new.out) c.put_command.new.text in
+    puts-joined c.put_columns.result _ before _ _ _ _ (register-parts c.args.picture.now c.args.line c.args.register)
+    (put-as _ before _ _ (ap (λ (s : Command). commands_text (s ∷ [])) c.select.ensures)
+    c.in_ok-put_command.ensures.bytes)
+    c.put_columns.ensures.bytes
+
+pub returns-clause-taken : goal.returns-clause-taken
+returns-clause-taken g c = TakesMore-then _ (g.K.Sink.taken c.put_command.new.out) _ c.put_command.ensures.taken
+    c.put_columns.ensures.taken

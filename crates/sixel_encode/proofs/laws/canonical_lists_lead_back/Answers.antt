@@ -1,0 +1,5 @@
+use Rattle.sixel_encode.proofs.Whole
+use Rattle.sixel_encode.proofs.laws.canonical_lists_lead_back.Goals as goal
+
+pub returns : goal.returns
+returns c = record { unbroken = Whole.lists_break_no_rule 16; left = Whole.lists_leave_their_picture 16 }

@@ -1,0 +1,57 @@
+use Rattle.std.proofs.Common.{◌≡◌, refl, sym, ap, ◌∙◌, arith}
+use Rattle.std.proofs.lemmas.Result.{err_from_is_err_and}
+use Rattle.sixel_grammar.specs.Blocks.{in_all}
+use Rattle.sixel_grammar.proofs.Devices.{TakesMore-refl, TakesMore-then}
+use Rattle.sixel_grammar.proofs.Sinks.{Appends-none, put-as, puts-nothing, steps-put, steps-stopped}
+use Rattle.sixel_encode.proofs.Steps.{entries-all, entries-then, entries_above, entry_step}
+use Rattle.sixel_encode.proofs.Texts.{text-none}
+use Rattle.sixel_encode.proofs.writing.put_definitions.Goals as goal
+
+pub loop-register-init : goal.loop-register-init
+loop-register-init g c = record {
+  bytes = rw text-none (Appends-none _);
+  taken = TakesMore-refl _;
+  unflushed = λ t. t;
+  failures = refl;
+}
+
+pub returns-in_err-put_definition-clause-bytes : goal.returns-in_err-put_definition-clause-bytes
+returns-in_err-put_definition-clause-bytes g c =
+    let failed = err_from_is_err_and c.from_residual.result c.from_residual.ensures.1 in
+    let palette = c.palette-palette.result.now in
+    let before = in_all (g.K.Sink.taken c.loop-register.out) c.loop-register.text in
+    rw (
+      failed.1,
+      entries-all c.args.picture.now.palette 16 c.palette-palette.ensures.picture.palette.entries,
+      ← c.palette-palette.ensures.same,
+    )
+    (steps-stopped (entries_above palette) (entry_step palette) (entries-then palette) c.loop-register.register 16
+    c.loop-register-test.true _ before _ c.loop-register.invariant.bytes
+    (puts-nothing before _ _ c.in_err-put_definition.ensures.bytes))
+
+pub returns-in_err-put_definition-clause-taken : goal.returns-in_err-put_definition-clause-taken
+returns-in_err-put_definition-clause-taken g c =
+    TakesMore-then _ (g.K.Sink.taken c.loop-register.out) _ c.loop-register.invariant.taken
+    c.put_definition.ensures.taken
+
+pub loop-register-preserved : goal.loop-register-preserved
+loop-register-preserved g c =
+    let palette = c.palette-palette.result.now in
+    let before = in_all (g.K.Sink.taken c.loop-register.out) c.loop-register.text in
+    record {
+      bytes = steps-put (entries_above palette) (entry_step palette) (entries-then palette) c.loop-register.register
+          _ before _ c.loop-register.invariant.bytes c.in_ok-put_definition.ensures.bytes;
+      taken = TakesMore-then _ (g.K.Sink.taken c.loop-register.out) _ c.loop-register.invariant.taken
+          c.put_definition.ensures.taken;
+      unflushed = λ t. c.loop-register.invariant.unflushed (c.put_definition.ensures.unflushed t);
+      failures = cc (c.in_ok-put_definition.ensures.failures, c.loop-register.invariant.failures);
+    }
+
+pub returns-clause-bytes : goal.returns-clause-bytes
+returns-clause-bytes g c =
+    let palette = c.palette-palette.result.now in
+    let done : c.loop-register.register ≡ 16 = omega arith in
+    put-as _ _ _ _
+    (ap (entries_above palette) done ∙ ap (λ q. entries_above q 16) c.palette-palette.ensures.same
+    ∙ sym (entries-all c.args.picture.now.palette 16 c.palette-palette.ensures.picture.palette.entries))
+    c.loop-register.invariant.bytes

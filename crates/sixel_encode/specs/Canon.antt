@@ -1,0 +1,134 @@
+-- The canonical list of events of a picture.
+use Rattle.std.specs.Prelude.{◌==◌, ◌&&◌, ◌+◌, ◌*◌, ◌/◌, ◌^◌, ℕ, Bool, false, Option, List, [], ◌∷◌, ◌++◌, length}
+use Rattle.std.specs.Prelude.{map, replicate}
+use Rattle.std.specs.Prelude.{sum_by, filter, flat_map, filter_map, nat_lt, nat_le, not, if◌then◌else◌}
+use Rattle.std.specs.Option.{option_map}
+use Rattle.std.specs.List.{range_with_len, list_any, join_by}
+use Rattle.sixel_grammar.specs.declared.command.Command.{Command}
+use Rattle.sixel_grammar.specs.declared.command.Command.TheVariants.{Sixel, Repeat, Raster, Select, Define}
+use Rattle.sixel_grammar.specs.declared.command.Command.TheVariants.{CarriageReturn, NextLine}
+use Rattle.sixel_grammar.specs.declared.command.Event.{Event}
+use Rattle.sixel_grammar.specs.declared.command.Event.TheVariants.{Start, Step, Finish}
+use Rattle.sixel_grammar.specs.FixedText.{fixed_text}
+use Rattle.sixel_picture.specs.declared.colour.Parts.{Parts}
+use Rattle.sixel_picture.specs.declared.colour.Parts.TheVariants.{Rgb, Hls}
+use Rattle.sixel_picture.specs.Colours.{palette_at}
+use Rattle.sixel_picture.specs.Pictures.{PictureValue, register_of}
+
+-- the numbers below n, in increasing order
+abbrev pub below : ℕ → List ℕ
+below n = range_with_len 0 n
+
+-- ---- runs
+
+-- a run of equal items: how many, and which
+pub record Run : Type 0 where
+  pub count : ℕ
+  pub item : ℕ
+
+-- one more item in front, which lengthens the first run if it is equal
+abbrev pub onto_runs : ℕ → List Run → List Run
+onto_runs b [] = record { count = 1; item = b } ∷ []
+onto_runs b (r ∷ rs) =
+    if r.item == b then record { count = r.count + 1; item = b } ∷ rs
+    else record { count = 1; item = b } ∷ r ∷ rs
+
+-- the longest runs of equal items
+unfoldable pub runs : List ℕ → List Run
+runs [] = []
+runs (b ∷ bs) = onto_runs b (runs bs)
+
+-- a run of bits as data commands: four columns or more are one repeat
+abbrev pub run_commands : Run → List Command
+run_commands r = if nat_le 4 r.count then Repeat r.count r.item ∷ [] else replicate r.count (Sixel r.item)
+
+-- ---- columns
+
+-- the pixel of this column and this row of a band lies in the picture, and is of the register
+abbrev pub has_pixel : PictureValue → ℕ → ℕ → ℕ → ℕ → Bool
+has_pixel p line register x k = nat_lt (6 * line + k) p.height && (register_of p x (6 * line + k) == register)
+
+-- the bits of a register in a column of a band: bit k is row k of the band
+unfoldable pub column_bits : PictureValue → ℕ → ℕ → ℕ → ℕ
+column_bits p line register x = sum_by (λ k. if has_pixel p line register x k then 2 ^ k else 0) (below 6)
+
+-- some of the columns has a bit
+abbrev pub has_bits : List ℕ → Bool
+has_bits columns = list_any (λ bits. not (bits == 0)) columns
+
+-- the columns up to the last one that has a bit
+abbrev pub without_blanks : List ℕ → List ℕ
+without_blanks [] = []
+without_blanks (bits ∷ columns) = if has_bits (bits ∷ columns) then bits ∷ without_blanks columns else []
+
+-- all columns of a register in a band
+abbrev pub all_columns : PictureValue → ℕ → ℕ → List ℕ
+all_columns p line register = map (column_bits p line register) (below p.width)
+
+-- the columns of a register in a band, up to the last one that has a bit
+unfoldable pub band_columns : PictureValue → ℕ → ℕ → List ℕ
+band_columns p line register = without_blanks (all_columns p line register)
+
+-- ---- bands
+
+-- how many bands of six rows, the last of which may have fewer
+abbrev pub bands : PictureValue → ℕ
+bands p = (p.height + 5) / 6
+
+-- the register occurs in the band
+unfoldable pub occurs : PictureValue → ℕ → ℕ → Bool
+occurs p line register = has_bits (all_columns p line register)
+
+-- the registers that occur in a band, in increasing order
+unfoldable pub band_registers : PictureValue → ℕ → List ℕ
+band_registers p line = filter (occurs p line) (below (length p.palette))
+
+-- a select, and the columns of the register
+unfoldable pub register_commands : PictureValue → ℕ → ℕ → List Command
+register_commands p line register = Select register ∷ flat_map run_commands (runs (band_columns p line register))
+
+-- the registers of a band, with a carriage return between two
+unfoldable pub band_commands : PictureValue → ℕ → List Command
+band_commands p line = join_by (register_commands p line) (CarriageReturn ∷ []) (band_registers p line)
+
+-- ---- the list
+
+-- the definition of a colour: system 1 is hue, lightness and saturation, 2 is red, green and blue
+abbrev pub define_command : ℕ → Parts → Command
+define_command register (Rgb red green blue) = Define register 2 red green blue
+define_command register (Hls hue lightness saturation) = Define register 1 hue lightness saturation
+
+-- a definition for each entry of the palette, in increasing order
+unfoldable pub define_commands : List (Option Parts) → List Command
+define_commands palette =
+    filter_map (λ r. option_map (define_command r) (palette_at palette r)) (below (length palette))
+
+-- the raster attributes, and the definitions, of entries that no pixel uses too
+abbrev pub opening_commands : PictureValue → List Command
+opening_commands p = Raster 1 1 p.width p.height ∷ define_commands p.palette
+
+-- the bands, with a next line between two
+unfoldable pub picture_commands : PictureValue → List Command
+picture_commands p = join_by (band_commands p) (NextLine ∷ []) (below (bands p))
+
+-- what stands before the bands, and the bands
+unfoldable pub canon_commands : PictureValue → List Command
+canon_commands p = opening_commands p ++ picture_commands p
+
+-- parameters 0 and 1, and an introducer of 7 bits
+abbrev pub canon_start : Event
+canon_start = Start false (record { items = 0 ∷ 1 ∷ [] })
+
+-- the canonical events
+unfoldable pub canon : PictureValue → List Event
+canon p = canon_start ∷ (map Step (canon_commands p) ++ Finish false ∷ [])
+
+-- ---- texts
+
+-- the fixed spellings of commands, joined
+unfoldable pub commands_text : List Command → List ℕ
+commands_text commands = fixed_text (map Step commands)
+
+-- the canonical text of a picture
+abbrev pub canon_text : PictureValue → List ℕ
+canon_text p = fixed_text (canon p)

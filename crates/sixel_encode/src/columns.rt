@@ -1,0 +1,87 @@
+//! What a register has in a band: six rows of a picture, or fewer in the last one.
+
+ghost use Rattle.std.specs.Prelude.{◌≡◌, ◌==◌, ◌<◌, ◌≤◌, ◌||◌, ℕ, not};
+ghost use Rattle.std.specs.Int.{bit_at};
+ghost use Rattle.sixel_picture.specs.Pictures.{IsPicture};
+ghost use Rattle.sixel_encode.specs.Canon.{column_bits, has_pixel, occurs};
+
+use sixel_picture::Picture;
+
+/// The rows of a band. A picture has at most 2,048 rows, and so 342 bands.
+pub(crate) const ROWS: u32 = 6;
+
+/// Whether the pixel of this column and this row of a band lies in the picture, and is of the register.
+#[inline]
+fn has_pixel(picture: &Picture, line: u32, register: u8, x: u32, row: u32) -> bool
+    requires line { line < 342 }
+    requires x { x < picture.now.width }
+    requires row { row < 6 }
+    ensures { result ≡ has_pixel picture.now line register x row }
+{
+    let y = ROWS * line + row;
+    y < picture.height() && picture.register_at(x, y) == register
+}
+
+/// The bits of a register in a column of a band: bit 0 is the uppermost row. Rows past the picture have none.
+#[inline]
+#[tactic(auto, unfolding(crate::specs::Canon::column_bits))]
+pub(crate) fn column_bits(picture: &Picture, line: u32, register: u8, x: u32) -> u8
+    requires line { line < 342 }
+    requires x { x < picture.now.width }
+    ensures value { result ≡ column_bits picture.now line register x }
+    ensures small { result ≤ 63 }
+{
+    let mut bits = 0;
+    for row in 0..ROWS {
+        if has_pixel(picture, line, register, x, row) {
+            bits += 1 << row;
+        }
+    }
+    bits
+}
+
+/// The registers that occur in a band, as a mask: bit 0 is register 0.
+pub(crate) fn band_registers(picture: &Picture, line: u32) -> u16
+    requires { line < 342 }
+    ensures value { (register : ℕ) → register < 16 →
+        (bit_at result register == 1) ≡ occurs picture.now line register }
+    ensures picture { IsPicture 16 picture.now }
+{
+    let mut registers = 0;
+    for x in 0..picture.width() {
+        registers = with_column(registers, picture, line, x);
+    }
+    registers
+}
+
+/// The registers, and those of a column of a band.
+#[inline]
+fn with_column(registers: u16, picture: &Picture, line: u32, x: u32) -> u16
+    requires line { line < 342 }
+    requires x { x < picture.now.width }
+    ensures { (register : ℕ) → register < 16 → (bit_at result register == 1)
+        ≡ ((bit_at registers register == 1) || not (column_bits picture.now line register x == 0)) }
+{
+    let mut result = registers;
+    for row in 0..ROWS {
+        result = with_pixel(result, picture, line, x, row);
+    }
+    result
+}
+
+/// The registers, and that of a pixel if it lies in the picture.
+#[inline]
+fn with_pixel(registers: u16, picture: &Picture, line: u32, x: u32, row: u32) -> u16
+    requires line { line < 342 }
+    requires x { x < picture.now.width }
+    requires row { row < 6 }
+    ensures { (register : ℕ) → register < 16 → (bit_at result register == 1)
+        ≡ ((bit_at registers register == 1) || has_pixel picture.now line register x row) }
+{
+    let y = ROWS * line + row;
+    if y < picture.height() {
+        registers | 1 << picture.register_at(x, y)
+    } else {
+        registers
+    }
+}

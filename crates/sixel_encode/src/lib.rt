@@ -1,0 +1,12 @@
+//! Pictures as sixel text (DEC EK-VT3XX-GP, volume 2, the chapter on sixel graphics), one text for each picture.
+#![tactic(auto)]
+
+mod band;
+mod columns;
+pub mod laws;
+mod writing;
+
+pub use writing::{EncodeFault, encode};
+
+#[cfg(test)]
+mod tests;

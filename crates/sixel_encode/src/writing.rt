@@ -1,0 +1,197 @@
+//! Writes the canonical text of a picture.
+
+ghost use Rattle.std.specs.Prelude.{◌≡◌, ◌++◌, ◌∷◌, [], ◌==◌, ◌<◌, OnOk, false, length, if◌then◌else◌};
+ghost use Rattle.std.specs.Option.{option_map, option_to_list};
+ghost use Rattle.sixel_grammar.specs.Blocks.{PutsAllOrNone, TakesMore, in_all};
+ghost use Rattle.sixel_grammar.specs.Devices.{CountsFailure, NeverFlushes, Puts};
+ghost use Rattle.sixel_picture.specs.Colours.{palette_at};
+ghost use Rattle.sixel_encode.specs.Canon.{band_commands, canon_commands, canon_start, canon_text, commands_text};
+ghost use Rattle.sixel_encode.specs.Canon.{define_command, define_commands, opening_commands, picture_commands};
+
+use crate::band::{Text, put_band, put_between, put_command};
+use crate::columns::ROWS;
+use arrayvec::ArrayVec;
+use sixel_grammar::{Command, DeviceFault, Event, Sink};
+use sixel_picture::{Palette, Parts, Picture};
+
+/// Why a picture was not written to its end.
+#[derive(Clone, Copy, Debug, PartialEq, Eq)]
+pub enum EncodeFault {
+    /// The sink failed. It took a front of the text.
+    Write = 1,
+}
+
+/// Writes a picture as a sixel text: the same one for equal pictures, with all entries of its palette. Takes no memory
+/// and doesn't flush.
+///
+/// The text declares the size and the colours, and then paints each band of six rows register by register, in
+/// increasing order. Each pixel is painted once, in the register that it has.
+pub fn encode<K: Sink>(picture: &Picture, out: &mut K) -> Result<(), EncodeFault>
+    ensures bytes { Puts result (K.taken out.old) (K.taken out.new) (canon_text picture.now) }
+    ensures failures { CountsFailure result (K.failure_count out.old) (K.failure_count out.new) }
+    ensures unflushed { NeverFlushes (K.is_flushed out.old) (K.is_flushed out.new) }
+    ensures held { OnOk result (K.is_flushed out.new ≡ false) }
+{
+    write_picture(picture, out).map_err(|_| EncodeFault::Write)
+}
+
+fn write_picture<K: Sink>(picture: &Picture, out: &mut K) -> Result<(), DeviceFault>
+    ensures bytes { Puts result (K.taken out.old) (K.taken out.new) (canon_text picture.now) }
+    ensures failures { CountsFailure result (K.failure_count out.old) (K.failure_count out.new) }
+    ensures unflushed { NeverFlushes (K.is_flushed out.old) (K.is_flushed out.new) }
+    ensures held { OnOk result (K.is_flushed out.new ≡ false) }
+{
+    let mut text = Text::new();
+    put_text(&mut text, picture, out)?;
+    text.drain(out)
+}
+
+fn put_text<K: Sink>(text: &mut Text, picture: &Picture, out: &mut K) -> Result<(), DeviceFault>
+    ensures bytes { Puts result (in_all (K.taken out.old) text.old) (in_all (K.taken out.new) text.new)
+        (canon_text picture.now) }
+    ensures waits { OnOk result (0 < length text.new) }
+    ensures taken { TakesMore (K.taken out.old) (K.taken out.new) }
+    ensures unflushed { NeverFlushes (K.is_flushed out.old) (K.is_flushed out.new) }
+    ensures failures { CountsFailure result (K.failure_count out.old) (K.failure_count out.new) }
+{
+    text.put_event(&start(), out)?;
+    put_commands(text, picture, out)?;
+    text.put_event(&Event::Finish { eight: false }, out)
+}
+
+fn put_commands<K: Sink>(text: &mut Text, picture: &Picture, out: &mut K) -> Result<(), DeviceFault>
+    ensures bytes { Puts result (in_all (K.taken out.old) text.old) (in_all (K.taken out.new) text.new)
+        (commands_text (canon_commands picture.now)) }
+    ensures taken { TakesMore (K.taken out.old) (K.taken out.new) }
+    ensures unflushed { NeverFlushes (K.is_flushed out.old) (K.is_flushed out.new) }
+    ensures failures { CountsFailure result (K.failure_count out.old) (K.failure_count out.new) }
+{
+    put_opening(text, picture, out)?;
+    put_bands(text, picture, out)
+}
+
+/// Puts the raster attributes and the definitions.
+fn put_opening<K: Sink>(text: &mut Text, picture: &Picture, out: &mut K) -> Result<(), DeviceFault>
+    ensures bytes { Puts result (in_all (K.taken out.old) text.old) (in_all (K.taken out.new) text.new)
+        (commands_text (opening_commands picture.now)) }
+    ensures taken { TakesMore (K.taken out.old) (K.taken out.new) }
+    ensures unflushed { NeverFlushes (K.is_flushed out.old) (K.is_flushed out.new) }
+    ensures failures { CountsFailure result (K.failure_count out.old) (K.failure_count out.new) }
+{
+    put_command(text, raster(picture), out)?;
+    put_definitions(text, picture, out)
+}
+
+fn start() -> Event
+    ensures { result ≡ canon_start }
+{
+    let mut parameters = ArrayVec::new();
+    parameters.push(0);
+    parameters.push(1);
+    Event::Start {
+        eight: false,
+        parameters,
+    }
+}
+
+fn raster(picture: &Picture) -> Command
+    ensures { result ≡ Command.Raster 1 1 picture.now.width picture.now.height }
+{
+    Command::Raster {
+        pan: 1,
+        pad: 1,
+        width: picture.width() as u16,
+        height: picture.height() as u16,
+    }
+}
+
+/// Puts a definition for each entry of the palette.
+fn put_definitions<K: Sink>(
+    text: &mut Text,
+    picture: &Picture,
+    out: &mut K,
+) -> Result<(), DeviceFault>
+    ensures bytes { Puts result (in_all (K.taken out.old) text.old) (in_all (K.taken out.new) text.new)
+        (commands_text (define_commands picture.now.palette)) }
+    ensures taken { TakesMore (K.taken out.old) (K.taken out.new) }
+    ensures unflushed { NeverFlushes (K.is_flushed out.old) (K.is_flushed out.new) }
+    ensures failures { CountsFailure result (K.failure_count out.old) (K.failure_count out.new) }
+{
+    let palette = picture.palette();
+    for register in 0..16 {
+        put_definition(text, palette, register, out)?;
+    }
+    Ok(())
+}
+
+fn put_definition<K: Sink>(
+    text: &mut Text,
+    palette: &Palette,
+    register: u8,
+    out: &mut K,
+) -> Result<(), DeviceFault>
+    ensures bytes { PutsAllOrNone result (in_all (K.taken out.old) text.old) (in_all (K.taken out.new) text.new)
+        (commands_text (option_to_list (option_map (define_command register) (palette_at palette.now register)))) }
+    ensures taken { TakesMore (K.taken out.old) (K.taken out.new) }
+    ensures unflushed { NeverFlushes (K.is_flushed out.old) (K.is_flushed out.new) }
+    ensures failures { CountsFailure result (K.failure_count out.old) (K.failure_count out.new) }
+{
+    match palette.get(register) {
+        Some(colour) => put_command(text, define(register, colour.parts()), out),
+        None => Ok(()),
+    }
+}
+
+fn define(register: u8, parts: Parts) -> Command
+    ensures { result ≡ define_command register parts }
+{
+    let register = register.into();
+    match parts {
+        Parts::Rgb(red, green, blue) => Command::Define {
+            register,
+            system: 2,
+            x: red.into(),
+            y: green.into(),
+            z: blue.into(),
+        },
+        Parts::Hls(hue, lightness, saturation) => Command::Define {
+            register,
+            system: 1,
+            x: hue,
+            y: lightness.into(),
+            z: saturation.into(),
+        },
+    }
+}
+
+/// Puts the bands of a picture, and a next line between two.
+fn put_bands<K: Sink>(text: &mut Text, picture: &Picture, out: &mut K) -> Result<(), DeviceFault>
+    ensures bytes { Puts result (in_all (K.taken out.old) text.old) (in_all (K.taken out.new) text.new)
+        (commands_text (picture_commands picture.now)) }
+    ensures taken { TakesMore (K.taken out.old) (K.taken out.new) }
+    ensures unflushed { NeverFlushes (K.is_flushed out.old) (K.is_flushed out.new) }
+    ensures failures { CountsFailure result (K.failure_count out.old) (K.failure_count out.new) }
+{
+    for line in 0..picture.height().div_ceil(ROWS) {
+        put_next_band(text, picture, line, out)?;
+    }
+    Ok(())
+}
+
+/// Puts a band, after a next line if it isn't the first.
+fn put_next_band<K: Sink>(
+    text: &mut Text,
+    picture: &Picture,
+    line: u32,
+    out: &mut K,
+) -> Result<(), DeviceFault>
+    requires { line < 342 }
+    ensures bytes { Puts result (in_all (K.taken out.old) text.old) (in_all (K.taken out.new) text.new)
+        (commands_text ((if line == 0 then [] else Command.NextLine ∷ []) ++ band_commands picture.now line)) }
+    ensures taken { TakesMore (K.taken out.old) (K.taken out.new) }
+    ensures unflushed { NeverFlushes (K.is_flushed out.old) (K.is_flushed out.new) }
+    ensures failures { CountsFailure result (K.failure_count out.old) (K.failure_count out.new) }
+{
+    put_between(text, line == 0, Command::NextLine, out)?;
+    put_band(text, picture, line, out)
+}
