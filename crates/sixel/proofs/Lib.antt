@@ -1,6 +1,10 @@
 pub mod Puts
 pub mod Listing
 pub mod Outputs
+pub mod Checks
+pub mod Pictures
+pub mod Files
 pub mod Screens
 pub mod Runs
+pub mod RoundTrip
 pub mod Matches

@@ -9,10 +9,11 @@ use Rattle.sixel_grammar.specs.declared.reader.Reader.{Reader}
 use Rattle.sixel_grammar.specs.Blocks.{TakesMore, in_all}
 use Rattle.sixel_grammar.specs.Standing.{StandsAfter}
 use Rattle.sixel.specs.declared.fault.RunFault.{RunFault}
-use Rattle.sixel.specs.declared.fault.RunFault.TheVariants.{Grammar, NotRgb, OutOfMemory, Read, Write}
+use Rattle.sixel.specs.declared.fault.RunFault.TheVariants.{Grammar, Ppm, NotRgb, OutOfMemory, Read, Write}
 use Rattle.sixel.specs.Feeding.{Feeds, StopsIn}
 use Rattle.sixel.specs.Texts.{BeginsWith, event_line, list_text}
-use Rattle.sixel.proofs.Puts.{Appends-keeps, begins-then, cut, drained}
+use Rattle.sixel_grammar.proofs.Sinks.{Appends-keeps}
+use Rattle.sixel.proofs.Puts.{begins-then, cut, drained}
 
 pub list_text-append : (xs ys : List Placed) → list_text (xs ++ ys) ≡ list_text xs ++ list_text ys
 list_text-append xs ys = flat_map-append event_line xs ys
@@ -53,6 +54,7 @@ fed-drained (Err Write) reader piece had mid has ws w v events bytes e d kept fe
   lines = drained had mid has ws w v _ e d fed.lines kept;
 }
 fed-drained (Err Read) reader piece had mid has ws w v events bytes e d kept fed = fed
+fed-drained (Err (Ppm reason place)) reader piece had mid has ws w v events bytes e d kept fed = fed
 fed-drained (Err NotRgb) reader piece had mid has ws w v events bytes e d kept fed = fed
 fed-drained (Err OutOfMemory) reader piece had mid has ws w v events bytes e d kept fed = fed
 
@@ -92,5 +94,6 @@ fed-stopped (Err Write) reader piece had mid has ws w v events bytes e kept grow
     stopped fed.before piece fed.front fed.rest had mid has ws w v fed.part events fed.more bytes fed.piece_is
     fed.stands fed.begins e kept grows fed.lines
 fed-stopped (Err Read) reader piece had mid has ws w v events bytes e kept grows fed = absurd fed
+fed-stopped (Err (Ppm reason place)) reader piece had mid has ws w v events bytes e kept grows fed = absurd fed
 fed-stopped (Err NotRgb) reader piece had mid has ws w v events bytes e kept grows fed = absurd fed
 fed-stopped (Err OutOfMemory) reader piece had mid has ws w v events bytes e kept grows fed = absurd fed

@@ -1,5 +1,5 @@
 -- What an entry's getters read.
-use Rattle.std.proofs.Common.{◌||◌, ◌≡◌, ◌≤◌, ℕ, Bool, false, List, Option, Some, None, arith, codes, refl, slice_index, sym, ap, ap₂}
+use Rattle.std.proofs.Common.{◌||◌, ◌≡◌, ◌∙◌, ◌≤◌, ℕ, Bool, false, List, [], Option, Some, None, arith, codes, refl, slice_index, subst, sym, ap, ap₂}
 use Rattle.std.specs.Prelude.{option_map, Box, IfSome, Result, Ok, Err}
 use Rattle.std.specs.Box.{box_value}
 use Rattle.std.specs.Str.Parse.{ParsesUnsigned}
@@ -9,7 +9,7 @@ use Rattle.clap.specs.Walk.{Row, Text}
 use Rattle.clap.specs.declared.parser.matches.SubCommand.{SubCommand}
 use Rattle.clap.specs.declared.parser.matches.ArgMatches.TheViews.{out-SubCommand}
 use Rattle.sixel.specs.declared.task.Task.{Task}
-use Rattle.sixel.specs.declared.task.Task.TheVariants.{List as Listing, Show}
+use Rattle.sixel.specs.declared.task.Task.TheVariants.{List as Listing, Check, Render, Show, Encode}
 use Rattle.sixel.specs.Words.{HasSide, IsSideText, IsTask}
 
 pub both_parts : {X Y : Type 0} (o : Option (X × Y)) (x : X) (y : Y) → option_map (λ p. p.0) o ≡ Some x
@@ -62,12 +62,44 @@ number_refused o gives (Some k) parses value out n h =
 not_list : codes "show" ≡ codes "list" → ⊥
 not_list is = let first : 115 ≡ 108 = ap (λ (t : Text). slice_index t 0) is in omega (arith, first)
 
+not_check : codes "show" ≡ codes "check" → ⊥
+not_check is = let first : 115 ≡ 99 = ap (λ (t : Text). slice_index t 0) is in omega (arith, first)
+
+not_render : codes "show" ≡ codes "render" → ⊥
+not_render is = let first : 115 ≡ 114 = ap (λ (t : Text). slice_index t 0) is in omega (arith, first)
+
+not_encode : codes "show" ≡ codes "encode" → ⊥
+not_encode is = let first : 115 ≡ 101 = ap (λ (t : Text). slice_index t 0) is in omega (arith, first)
+
 pub without_width : (rows : List Row) (t : Task) → ((n : ℕ) → HasSide (codes "width") rows n → ⊥)
     → IsTask (codes "show") rows t → ⊥
 without_width rows Listing none is = not_list is
+without_width rows Check none is = not_check is
+without_width rows Render none is = not_render is
+without_width rows Encode none is = not_encode is
 without_width rows (Show showing fill selects width height) none is = none width is.4
 
 pub without_height : (rows : List Row) (t : Task) → ((n : ℕ) → HasSide (codes "height") rows n → ⊥)
     → IsTask (codes "show") rows t → ⊥
 without_height rows Listing none is = not_list is
+without_height rows Check none is = not_check is
+without_height rows Render none is = not_render is
+without_height rows Encode none is = not_encode is
 without_height rows (Show showing fill selects width height) none is = none height is.5
+
+name_in : Option (Text × List Row) → Text
+name_in None = []
+name_in (Some p) = p.0
+
+rows_in : Option (Text × List Row) → List Row
+rows_in None = []
+rows_in (Some p) = p.1
+
+-- the task of one name and its rows
+pub same_task : (o : Option (Text × List Row)) (n m : Text) (r s : List Row) (t : Task) → o ≡ Some (n, r)
+    → o ≡ Some (m, s) → IsTask n r t → IsTask m s t
+unfolding name_in rows_in
+same_task o n m r s t e f is =
+    let name : n ≡ m = sym (ap name_in e) ∙ ap name_in f in
+    let rows : r ≡ s = sym (ap rows_in e) ∙ ap rows_in f in
+    subst (λ (k : Text). IsTask k s t) name (subst (λ (k : List Row). IsTask n k t) rows is)

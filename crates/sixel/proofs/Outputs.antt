@@ -17,7 +17,7 @@ use Rattle.sixel_grammar.proofs.Stands.{read_complete, read_short}
 use Rattle.sixel_grammar.proofs.Total.{before_fault, place_past}
 use Rattle.sixel_grammar.proofs.Unique.{complete_stays, document_complete, fault_stays}
 use Rattle.sixel.specs.declared.fault.RunFault.{RunFault}
-use Rattle.sixel.specs.declared.fault.RunFault.TheVariants.{Grammar, NotRgb, OutOfMemory, Read, Write}
+use Rattle.sixel.specs.declared.fault.RunFault.TheVariants.{Grammar, Ppm, NotRgb, OutOfMemory, Read, Write}
 use Rattle.sixel.specs.declared.task.Status.{Status}
 use Rattle.sixel.specs.declared.task.Status.TheVariants.{Done}
 use Rattle.sixel.specs.declared.task.Task.TheVariants.{List as Listing}
@@ -40,6 +40,7 @@ gives-begins bytes read more events is c short text (Err (Grammar fault)) g =
     let next = before_fault bytes read more fault.place is past in
     let m = complete_stays read next.0 events g.1.0 c (subst (CompleteIn g.1.0) next.1 g.1.1) in
     (list_text m.0, g.1.2 ∙ ap list_text m.1 ∙ list_text-append events m.0)
+gives-begins bytes read more events is c short text (Err (Ppm reason place)) g = absurd g
 gives-begins bytes read more events is c short text (Err NotRgb) g = absurd g
 gives-begins bytes read more events is c short text (Err OutOfMemory) g = absurd g
 gives-begins bytes read more events is c short text (Err Read) g = absurd g
@@ -132,6 +133,7 @@ stopped-in bytes read piece rest left had mid has events r Write is put fed =
           ),
     )
 stopped-in bytes read piece rest left had mid has events r Read is put fed = absurd fed
+stopped-in bytes read piece rest left had mid has events r (Ppm reason place) is put fed = absurd fed
 stopped-in bytes read piece rest left had mid has events r NotRgb is put fed = absurd fed
 stopped-in bytes read piece rest left had mid has events r OutOfMemory is put fed = absurd fed
 
@@ -153,11 +155,13 @@ pub unrefused : (fault : RunFault) (r : Reader) (piece : List ℕ) (mid has : Op
 unrefused (Grammar f) r piece mid has events read fed = ((λ e. cc), (λ e. cc))
 unrefused Write r piece mid has events read fed = ((λ e. cc), (λ e. cc))
 unrefused Read r piece mid has events read fed = absurd fed
+unrefused (Ppm reason place) r piece mid has events read fed = absurd fed
 unrefused NotRgb r piece mid has events read fed = absurd fed
 unrefused OutOfMemory r piece mid has events read fed = absurd fed
 
 pub not-read : (fault : RunFault) (n : ℕ) → (fault ≡ Read → ⊥) → failures_by {A = Status} Read (Err fault) n ≡ n
 not-read (Grammar f) n other = refl
+not-read (Ppm reason place) n other = refl
 not-read NotRgb n other = refl
 not-read OutOfMemory n other = refl
 not-read Read n other = absurd (other refl)

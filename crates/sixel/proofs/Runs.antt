@@ -7,17 +7,20 @@ use Rattle.sixel_grammar.specs.declared.fault.Fault.{Fault}
 use Rattle.sixel_grammar.specs.Prefix.{CompleteIn}
 use Rattle.sixel_grammar.proofs.Unique.{complete_once, document_once, fault_no_document, fault_once}
 use Rattle.sixel.specs.declared.fault.RunFault.{RunFault}
-use Rattle.sixel.specs.declared.fault.RunFault.TheVariants.{Grammar, NotRgb, OutOfMemory, Read, Write}
+use Rattle.sixel.specs.declared.fault.RunFault.TheVariants.{Grammar, Ppm, NotRgb, OutOfMemory, Read, Write}
 use Rattle.sixel.specs.declared.task.Status.{Status}
 use Rattle.sixel.specs.declared.task.Status.TheVariants.{Done}
 use Rattle.sixel.specs.declared.task.Task.{Task}
-use Rattle.sixel.specs.declared.task.Task.TheVariants.{List as Listing, Show}
+use Rattle.sixel.specs.declared.task.Task.TheVariants.{List as Listing, Check, Render, Show, Encode}
 use Rattle.sixel.specs.Outputs.{Gives, ListGives, ListsUnread, Wrote, WroteUnread}
 use Rattle.sixel.specs.Screens.{show_choices, show_terminal}
 use Rattle.sixel.specs.Texts.{Text, BeginsWith, list_text}
 use Rattle.sixel.proofs.Outputs.{gives-begins}
-use Rattle.sixel.proofs.Puts.{Appends-keeps}
+use Rattle.sixel.proofs.Checks.{check-gives, check-once}
+use Rattle.sixel.proofs.Files.{encode-gives, encode-once}
+use Rattle.sixel.proofs.Pictures.{render-gives, render-once}
 use Rattle.sixel.proofs.Screens.{show-gives, show-once}
+use Rattle.sixel_grammar.proofs.Sinks.{Appends-keeps}
 use Rattle.sixel_grammar.proofs.Total.{judged, viable_before}
 
 -- ---- lists
@@ -38,14 +41,17 @@ list-once bytes first second (Err (Grammar f)) (Err (Grammar e)) g h =
           ∙ sym h.1.2,
       ap (λ (k : Fault). Err (Grammar k)) same,
     )
+list-once bytes first second (Err (Ppm reason place)) b g h = absurd g
 list-once bytes first second (Err NotRgb) b g h = absurd g
 list-once bytes first second (Err OutOfMemory) b g h = absurd g
 list-once bytes first second (Err Read) b g h = absurd g
 list-once bytes first second (Err Write) b g h = absurd g
+list-once bytes first second (Ok s) (Err (Ppm reason place)) g h = absurd h
 list-once bytes first second (Ok s) (Err NotRgb) g h = absurd h
 list-once bytes first second (Ok s) (Err OutOfMemory) g h = absurd h
 list-once bytes first second (Ok s) (Err Read) g h = absurd h
 list-once bytes first second (Ok s) (Err Write) g h = absurd h
+list-once bytes first second (Err (Grammar f)) (Err (Ppm reason place)) g h = absurd h
 list-once bytes first second (Err (Grammar f)) (Err NotRgb) g h = absurd h
 list-once bytes first second (Err (Grammar f)) (Err OutOfMemory) g h = absurd h
 list-once bytes first second (Err (Grammar f)) (Err Read) g h = absurd h
@@ -63,11 +69,17 @@ list-gives bytes =
 pub gives-once : (task : Task) (bytes : List ℕ) (first second : Text) (a b : Result Status RunFault)
     → Gives task bytes first a → Gives task bytes second b → (first ≡ second) × (a ≡ b)
 gives-once Listing bytes first second a b g h = list-once bytes first second a b g h
+gives-once Check bytes first second a b g h = check-once bytes first second a b g h
+gives-once Render bytes first second a b g h = render-once bytes first second a b g h
+gives-once Encode bytes first second a b g h = encode-once bytes first second a b g h
 gives-once (Show showing fill selects width height) bytes first second a b g h =
     show-once (show_terminal (show_choices showing fill selects width height)) bytes first second a b g h
 
 pub gives : (task : Task) (bytes : List ℕ) → (text : Text) × (answer : Result Status RunFault) × Gives task bytes text answer
 gives Listing bytes = list-gives bytes
+gives Check bytes = check-gives bytes
+gives Render bytes = render-gives bytes
+gives Encode bytes = encode-gives bytes
 gives (Show showing fill selects width height) bytes =
     show-gives (show_terminal (show_choices showing fill selects width height)) bytes
 
@@ -90,6 +102,12 @@ unflushed-list bytes (Some rest) had mid has w kept = (
 unflushed-unread : (task : Task) (bytes : List ℕ) (left had mid has : Option (List ℕ))
     → WroteUnread task bytes left had mid → Keeps mid has → Wrote task bytes left (Err Write) had has
 unflushed-unread Listing bytes left had mid has w kept = unflushed-list bytes left had mid has w kept
+unflushed-unread Check bytes left had mid has w kept =
+    ([], Appends-keeps had mid has [] w kept, λ text answer g. (text, refl))
+unflushed-unread Render bytes left had mid has w kept =
+    ([], Appends-keeps had mid has [] w kept, λ text answer g. (text, refl))
+unflushed-unread Encode bytes left had mid has w kept =
+    ([], Appends-keeps had mid has [] w kept, λ text answer g. (text, refl))
 unflushed-unread (Show showing fill selects width height) bytes left had mid has w kept =
     ([], Appends-keeps had mid has [] w kept, λ text answer g. (text, refl))
 
@@ -108,6 +126,8 @@ unflushed-run task bytes left had mid has (Ok status) w kept =
     unflushed-text task bytes left had mid has (Ok status) w.0 w.1 w.2 kept
 unflushed-run task bytes left had mid has (Err (Grammar fault)) w kept =
     unflushed-text task bytes left had mid has (Err (Grammar fault)) w.0 w.1 w.2 kept
+unflushed-run task bytes left had mid has (Err (Ppm reason place)) w kept =
+    unflushed-text task bytes left had mid has (Err (Ppm reason place)) w.0 w.1 w.2 kept
 unflushed-run task bytes left had mid has (Err NotRgb) w kept =
     unflushed-text task bytes left had mid has (Err NotRgb) w.0 w.1 w.2 kept
 unflushed-run task bytes left had mid has (Err OutOfMemory) w kept =
@@ -121,6 +141,9 @@ flushed-unread : (task : Task) (bytes : List ℕ) (left had mid has : Option (Li
     → WroteUnread task bytes left had mid → Keeps mid has → WroteUnread task bytes left had has
 flushed-unread Listing bytes left had mid has w kept =
     (w.0, w.1, w.2, w.3, Appends-keeps had mid has w.1 w.4 kept)
+flushed-unread Check bytes left had mid has w kept = Appends-keeps had mid has [] w kept
+flushed-unread Render bytes left had mid has w kept = Appends-keeps had mid has [] w kept
+flushed-unread Encode bytes left had mid has w kept = Appends-keeps had mid has [] w kept
 flushed-unread (Show showing fill selects width height) bytes left had mid has w kept =
     Appends-keeps had mid has [] w kept
 
@@ -128,6 +151,8 @@ flushed-run : (task : Task) (bytes : List ℕ) (left had mid has : Option (List 
     → Wrote task bytes left answer had mid → Keeps mid has → Wrote task bytes left answer had has
 flushed-run task bytes left had mid has (Ok status) w kept = (w.0, w.1, Appends-keeps had mid has w.0 w.2 kept)
 flushed-run task bytes left had mid has (Err (Grammar fault)) w kept =
+    (w.0, w.1, Appends-keeps had mid has w.0 w.2 kept)
+flushed-run task bytes left had mid has (Err (Ppm reason place)) w kept =
     (w.0, w.1, Appends-keeps had mid has w.0 w.2 kept)
 flushed-run task bytes left had mid has (Err NotRgb) w kept = (w.0, w.1, Appends-keeps had mid has w.0 w.2 kept)
 flushed-run task bytes left had mid has (Err OutOfMemory) w kept = Appends-keeps had mid has [] w kept

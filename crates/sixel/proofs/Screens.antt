@@ -20,14 +20,14 @@ use Rattle.sixel_terminal.specs.Displays.{Display}
 use Rattle.sixel_picture.proofs.SheetLemmas.{length_rows}
 use Rattle.sixel_terminal.specs.Drawing.{screen_on, shown_on}
 use Rattle.sixel.specs.declared.fault.RunFault.{RunFault}
-use Rattle.sixel.specs.declared.fault.RunFault.TheVariants.{Grammar, NotRgb, OutOfMemory, Read, Write}
+use Rattle.sixel.specs.declared.fault.RunFault.TheVariants.{Grammar, Ppm, NotRgb, OutOfMemory, Read, Write}
 use Rattle.sixel.specs.declared.task.Status.{Status}
 use Rattle.sixel.specs.declared.task.Status.TheVariants.{Done}
 use Rattle.sixel.specs.Conversions.{of_ppm}
 use Rattle.sixel.specs.Outputs.{ShowGives, WroteBy, WroteNothing}
 use Rattle.sixel.specs.Screens.{screen_text}
 use Rattle.sixel.specs.Texts.{Text, BeginsWith}
-use Rattle.sixel.proofs.Puts.{Appends-keeps, Appends-none}
+use Rattle.sixel_grammar.proofs.Sinks.{Appends-keeps, Appends-none}
 
 -- two readings of one document are shown in the same colours
 same-screen : (t : Display) (bytes : List ℕ) (d e : List Placed) → Document d bytes → Document e bytes
@@ -54,15 +54,19 @@ show-once t bytes first second (Err (Grammar f)) (Ok s) g h = absurd (fault_no_d
 show-once t bytes first second (Err (Grammar f)) (Err NotRgb) g h = absurd (fault_no_document bytes f g.1 (h.1.0, h.1.1))
 show-once t bytes first second (Err (Grammar f)) (Err (Grammar e)) g h =
     (g.0 ∙ sym h.0, ap (λ (k : Fault). Err (Grammar k)) (fault_once bytes f e g.1 h.1))
+show-once t bytes first second (Err (Ppm reason place)) b g h = absurd g
 show-once t bytes first second (Err OutOfMemory) b g h = absurd g
 show-once t bytes first second (Err Read) b g h = absurd g
 show-once t bytes first second (Err Write) b g h = absurd g
+show-once t bytes first second (Ok s) (Err (Ppm reason place)) g h = absurd h
 show-once t bytes first second (Ok s) (Err OutOfMemory) g h = absurd h
 show-once t bytes first second (Ok s) (Err Read) g h = absurd h
 show-once t bytes first second (Ok s) (Err Write) g h = absurd h
+show-once t bytes first second (Err NotRgb) (Err (Ppm reason place)) g h = absurd h
 show-once t bytes first second (Err NotRgb) (Err OutOfMemory) g h = absurd h
 show-once t bytes first second (Err NotRgb) (Err Read) g h = absurd h
 show-once t bytes first second (Err NotRgb) (Err Write) g h = absurd h
+show-once t bytes first second (Err (Grammar f)) (Err (Ppm reason place)) g h = absurd h
 show-once t bytes first second (Err (Grammar f)) (Err OutOfMemory) g h = absurd h
 show-once t bytes first second (Err (Grammar f)) (Err Read) g h = absurd h
 show-once t bytes first second (Err (Grammar f)) (Err Write) g h = absurd h
@@ -129,13 +133,11 @@ unwritten A t bytes d had has colours ppm.Write doc is put =
       subst (λ (cs : List Parts). Appends had has (take put.1 (ppm_text w h cs))) is put.2,
       written-begins t bytes d put.1 doc rgb,
     )
+unwritten A t bytes d had has colours (ppm.Format reason place) doc is put = absurd put
+unwritten A t bytes d had has colours ppm.OutOfMemory doc is put = absurd put
+unwritten A t bytes d had has colours ppm.Read doc is put = absurd put
 unwritten A t bytes d had has colours ppm.NotRgb doc is put = (
   [],
   (refl, (d, doc, subst (λ (cs : List Parts). IsFalse (are_rgb cs)) is put.0)),
   Appends-keeps had had has [] (Appends-none had) put.1,
 )
-
-pub in_document : (a : Option (List ℕ)) (d : List Placed) (P : List ℕ → Type 0) → IfSome a (Document d)
-    → ((bytes : List ℕ) → Document d bytes → P bytes) → IfSome a P
-in_document None d P doc h = tt
-in_document (Some bytes) d P doc h = h bytes doc

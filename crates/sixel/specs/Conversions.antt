@@ -4,7 +4,7 @@ use Rattle.sixel_grammar.specs.declared.fault.InputFault.TheVariants as input
 use Rattle.sixel_picture.specs.declared.ppm.PpmFault.{PpmFault}
 use Rattle.sixel_picture.specs.declared.ppm.PpmFault.TheVariants as ppm
 use Rattle.sixel.specs.declared.fault.RunFault.{RunFault}
-use Rattle.sixel.specs.declared.fault.RunFault.TheVariants.{Grammar, NotRgb, OutOfMemory, Read, Write}
+use Rattle.sixel.specs.declared.fault.RunFault.TheVariants.{Grammar, Ppm, NotRgb, OutOfMemory, Read, Write}
 
 abbrev pub of_input : InputFault → RunFault
 of_input (input.Grammar fault) = Grammar fault
@@ -12,5 +12,8 @@ of_input input.OutOfMemory = OutOfMemory
 of_input input.Read = Read
 
 abbrev pub of_ppm : PpmFault → RunFault
+of_ppm (ppm.Format reason place) = Ppm reason place
 of_ppm ppm.NotRgb = NotRgb
+of_ppm ppm.OutOfMemory = OutOfMemory
+of_ppm ppm.Read = Read
 of_ppm ppm.Write = Write

@@ -3,5 +3,6 @@ pub mod Conversions
 pub mod Screens
 pub mod Outputs
 pub mod Feeding
+pub mod Laws
 pub mod Words
 pub mod Exits

@@ -1,22 +1,31 @@
 -- What a run writes and answers.
-use Rattle.std.specs.Prelude.{◌≡◌, ◌⊎◌, ℕ, List, [], ◌≤◌, length, take, Option, Some, IsTrue, IsFalse, Result, Ok, Err}
+use Rattle.std.specs.Prelude.{◌≡◌, ◌⊎◌, ℕ, List, [], ◌≤◌, length, take, Option, Some, IsTrue, IsFalse, Result, Ok, Err, if◌then◌else◌}
 use Rattle.std.specs.Io.KnownBytes.{Appends, Consumes}
 use Rattle.sixel_grammar.specs.declared.command.Placed.{Placed}
 use Rattle.sixel_grammar.specs.Devices.{one_more}
 use Rattle.sixel_grammar.specs.Document.{Document, events_of, most_bytes}
 use Rattle.sixel_grammar.specs.Prefix.{CompleteIn}
 use Rattle.sixel_grammar.specs.Faults.{IsFaultOf}
-use Rattle.sixel_picture.specs.Ppm.{are_rgb, is_file_side}
+use Rattle.sixel_picture.specs.declared.ppm.PpmFault.{PpmFault}
+use Rattle.sixel_picture.specs.Pictures.{PictureValue}
+use Rattle.sixel_picture.specs.Ppm.{are_rgb, colours_of, is_file_side, ppm_text}
+use Rattle.sixel_picture.specs.PpmReading.{ppm_read}
 use Rattle.sixel_terminal.specs.Displays.{Display}
 use Rattle.sixel_terminal.specs.Drawing.{screen_on}
+use Rattle.sixel_check.specs.declared.verdict.Verdict.{Verdict}
+use Rattle.sixel_check.specs.declared.verdict.Verdict.TheVariants.{Portable, Broken}
+use Rattle.sixel_check.specs.Verdicts.{IsVerdict}
+use Rattle.sixel_encode.specs.Canon.{canon_text}
+use Rattle.sixel.specs.Conversions.{of_ppm}
 use Rattle.sixel.specs.declared.fault.RunFault.{RunFault}
-use Rattle.sixel.specs.declared.fault.RunFault.TheVariants.{Grammar, NotRgb, OutOfMemory, Read, Write}
+use Rattle.sixel.specs.declared.fault.RunFault.TheVariants.{Grammar, Ppm, NotRgb, OutOfMemory, Read, Write}
 use Rattle.sixel.specs.declared.task.Status.{Status}
+use Rattle.sixel.specs.declared.task.Status.TheVariants as status
 use Rattle.sixel.specs.declared.task.Status.TheVariants.{Done}
 use Rattle.sixel.specs.declared.task.Task.{Task}
-use Rattle.sixel.specs.declared.task.Task.TheVariants.{List as Listing, Show}
+use Rattle.sixel.specs.declared.task.Task.TheVariants.{List as Listing, Check, Render, Show, Encode}
 use Rattle.sixel.specs.Screens.{screen_text, show_choices, show_terminal}
-use Rattle.sixel.specs.Texts.{Text, BeginsWith, list_text}
+use Rattle.sixel.specs.Texts.{Text, BeginsWith, list_text, verdict_line}
 
 -- ---- lists
 
@@ -29,6 +38,7 @@ abbrev pub ListGives : List ℕ → Text → Result Status RunFault → Type 0
 ListGives bytes text (Ok status) = (status ≡ Done)
     × ((events : List Placed) × Document events bytes × (text ≡ list_text events))
 ListGives bytes text (Err (Grammar fault)) = IsFaultOf bytes fault × ListsFront (take fault.place bytes) text
+ListGives bytes text (Err (Ppm reason place)) = ⊥
 ListGives bytes text (Err NotRgb) = ⊥
 ListGives bytes text (Err OutOfMemory) = ⊥
 ListGives bytes text (Err Read) = ⊥
@@ -41,6 +51,54 @@ ListsUnread bytes left had has =
     (given : List ℕ) × (text : Text) × Consumes (Some bytes) left given
     × ((length given ≤ most_bytes) × ListsFront given text) × Appends had has text
 
+-- ---- verdicts
+
+-- what comes of a verdict
+abbrev pub status_of : Verdict → Status
+status_of (Portable picture) = Done
+status_of (Broken finding) = status.Broken finding
+
+-- the line of the verdict on a document; of other bytes their fault, and nothing is written
+abbrev pub CheckGives : List ℕ → Text → Result Status RunFault → Type 0
+CheckGives bytes text (Ok status) =
+    (events : List Placed) × Document events bytes
+    × ((verdict : Verdict) × IsVerdict 16 events verdict × (text ≡ verdict_line verdict) × (status ≡ status_of verdict))
+CheckGives bytes text (Err (Grammar fault)) = (text ≡ []) × IsFaultOf bytes fault
+CheckGives bytes text (Err (Ppm reason place)) = ⊥
+CheckGives bytes text (Err NotRgb) = ⊥
+CheckGives bytes text (Err OutOfMemory) = ⊥
+CheckGives bytes text (Err Read) = ⊥
+CheckGives bytes text (Err Write) = ⊥
+
+-- ---- pictures
+
+-- the picture file of a portable picture, if all its colours are of red, green and blue
+abbrev pub picture_output : PictureValue → Text × Result Status RunFault
+picture_output p =
+    if are_rgb (colours_of p) then (ppm_text p.width p.height (colours_of p), Ok Done) else ([], Err NotRgb)
+
+-- what is written of a verdict, and the answer; nothing is written of a broken rule
+abbrev pub render_output : Verdict → Text × Result Status RunFault
+render_output (Portable picture) = picture_output picture
+render_output (Broken finding) = ([], Ok (status.Broken finding))
+
+-- what is written of the verdict on a document; of other bytes their fault, and nothing is written
+abbrev pub RenderGives : List ℕ → Text → Result Status RunFault → Type 0
+RenderGives bytes text (Err (Grammar fault)) = (text ≡ []) × IsFaultOf bytes fault
+RenderGives bytes text answer =
+    (events : List Placed) × Document events bytes
+    × ((verdict : Verdict) × IsVerdict 16 events verdict × ((text, answer) ≡ render_output verdict))
+
+-- ---- picture files
+
+-- the canonical text of a picture that was read, or the fault of the bytes
+abbrev pub encode_output : Result PictureValue PpmFault → Text × Result Status RunFault
+encode_output (Ok picture) = (canon_text picture, Ok Done)
+encode_output (Err fault) = ([], Err (of_ppm fault))
+
+abbrev pub EncodeGives : List ℕ → Text → Result Status RunFault → Type 0
+EncodeGives bytes text answer = (text, answer) ≡ encode_output (ppm_read 16 bytes)
+
 -- ---- screens
 
 -- the picture file of what the terminal shows after a document, if all its colours are of red, green and blue
@@ -52,6 +110,7 @@ ShowGives t bytes text (Ok status) = (status ≡ Done)
 ShowGives t bytes text (Err NotRgb) = (text ≡ [])
     × ((events : List Placed) × Document events bytes × IsFalse (are_rgb (screen_on t (events_of events))))
 ShowGives t bytes text (Err (Grammar fault)) = (text ≡ []) × IsFaultOf bytes fault
+ShowGives t bytes text (Err (Ppm reason place)) = ⊥
 ShowGives t bytes text (Err OutOfMemory) = ⊥
 ShowGives t bytes text (Err Read) = ⊥
 ShowGives t bytes text (Err Write) = ⊥
@@ -61,11 +120,17 @@ ShowGives t bytes text (Err Write) = ⊥
 -- the sides of a screen to show are in range
 abbrev pub HasSides : Task → Type 0
 HasSides Listing = Unit {0}
+HasSides Check = Unit {0}
+HasSides Render = Unit {0}
+HasSides Encode = Unit {0}
 HasSides (Show showing fill selects width height) = IsTrue (is_file_side width) × IsTrue (is_file_side height)
 
 -- what a task writes for these bytes, and its answer, where memory is ample and no device fails
 abbrev pub Gives : Task → List ℕ → Text → Result Status RunFault → Type 0
 Gives Listing bytes text answer = ListGives bytes text answer
+Gives Check bytes text answer = CheckGives bytes text answer
+Gives Render bytes text answer = RenderGives bytes text answer
+Gives Encode bytes text answer = EncodeGives bytes text answer
 Gives (Show showing fill selects width height) bytes text answer =
     ShowGives (show_terminal (show_choices showing fill selects width height)) bytes text answer
 
@@ -76,11 +141,17 @@ WroteNothing had has = Appends had has []
 -- what a task has written to what the sink `had` when reading these bytes fails before `left`
 abbrev pub WroteUnread : Task → List ℕ → Option (List ℕ) → Option (List ℕ) → Option (List ℕ) → Type 0
 WroteUnread Listing bytes left had has = ListsUnread bytes left had has
+WroteUnread Check bytes left had has = WroteNothing had has
+WroteUnread Render bytes left had has = WroteNothing had has
+WroteUnread Encode bytes left had has = WroteNothing had has
 WroteUnread (Show showing fill selects width height) bytes left had has = WroteNothing had has
 
 -- the task may be refused for want of memory
 abbrev pub TakesMemory : Task → Type 0
 TakesMemory Listing = ⊥
+TakesMemory Check = Unit {0}
+TakesMemory Render = Unit {0}
+TakesMemory Encode = Unit {0}
 TakesMemory (Show showing fill selects width height) = Unit {0}
 
 -- a run that answered so appended to what the sink `had` the text that is given with the answer, or on `Write` a front of
@@ -90,6 +161,8 @@ abbrev pub WroteBy : (Text → Result Status RunFault → Type 0) → (Option (L
 WroteBy gives unread (Ok status) had has = (text : Text) × gives text (Ok status) × Appends had has text
 WroteBy gives unread (Err (Grammar fault)) had has =
     (text : Text) × gives text (Err (Grammar fault)) × Appends had has text
+WroteBy gives unread (Err (Ppm reason place)) had has =
+    (text : Text) × gives text (Err (Ppm reason place)) × Appends had has text
 WroteBy gives unread (Err NotRgb) had has = (text : Text) × gives text (Err NotRgb) × Appends had has text
 WroteBy gives unread (Err OutOfMemory) had has = WroteNothing had has
 WroteBy gives unread (Err Read) had has = unread had has

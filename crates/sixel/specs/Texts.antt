@@ -1,5 +1,6 @@
 -- The lines that the program writes.
-use Rattle.std.specs.Prelude.{◌≡◌, ℕ, Bool, List, [], ◌∷◌, ◌++◌, codes, decimal, flat_map, map, if◌then◌else◌}
+use Rattle.std.specs.Prelude.{◌≡◌, ℕ, Bool, List, [], ◌∷◌, ◌++◌, Option, Some, None, codes, decimal, flat_map, map}
+use Rattle.std.specs.Prelude.{if◌then◌else◌}
 use Rattle.sixel_grammar.specs.declared.command.Command.{Command}
 use Rattle.sixel_grammar.specs.declared.command.Command.TheVariants.{Sixel, Repeat, Raster, Select, Define, CarriageReturn, NextLine}
 use Rattle.sixel_grammar.specs.declared.command.Event.{Event}
@@ -7,8 +8,16 @@ use Rattle.sixel_grammar.specs.declared.command.Event.TheVariants.{Start, Step, 
 use Rattle.sixel_grammar.specs.declared.command.Placed.{Placed}
 use Rattle.sixel_grammar.specs.declared.fault.Reason.{Reason}
 use Rattle.sixel_grammar.specs.declared.fault.Reason.TheVariants.{NotSixel, BadByte, NumberTooLarge, FieldCount, BadRepeat, BadTerminator, Truncated, TooLong, Trailing}
+use Rattle.sixel_picture.specs.declared.ppm.PpmReason.{PpmReason}
+use Rattle.sixel_picture.specs.declared.ppm.PpmReason.TheVariants as ppm
+use Rattle.sixel_picture.specs.Pictures.{PictureValue}
+use Rattle.sixel_check.specs.declared.rule.Rule.{Rule}
+use Rattle.sixel_check.specs.declared.rule.Rule.TheVariants as rule
+use Rattle.sixel_check.specs.declared.verdict.Finding.{Finding}
+use Rattle.sixel_check.specs.declared.verdict.Verdict.{Verdict}
+use Rattle.sixel_check.specs.declared.verdict.Verdict.TheVariants.{Portable, Broken}
 use Rattle.sixel.specs.declared.fault.RunFault.{RunFault}
-use Rattle.sixel.specs.declared.fault.RunFault.TheVariants.{Grammar, NotRgb, OutOfMemory, Read, Write}
+use Rattle.sixel.specs.declared.fault.RunFault.TheVariants.{Grammar, Ppm, NotRgb, OutOfMemory, Read, Write}
 
 abbrev pub Text : Type 0
 Text = List ℕ
@@ -71,8 +80,18 @@ reason_name Truncated = codes "Truncated"
 reason_name TooLong = codes "TooLong"
 reason_name Trailing = codes "Trailing"
 
+abbrev pub ppm_reason_name : PpmReason → Text
+ppm_reason_name ppm.Header = codes "Header"
+ppm_reason_name ppm.Size = codes "Size"
+ppm_reason_name ppm.Maxval = codes "Maxval"
+ppm_reason_name ppm.Sample = codes "Sample"
+ppm_reason_name ppm.Short = codes "Short"
+ppm_reason_name ppm.Trailing = codes "Trailing"
+ppm_reason_name ppm.TooManyColours = codes "TooManyColours"
+
 abbrev pub fault_parts : RunFault → List Text
 fault_parts (Grammar fault) = reason_name fault.reason ∷ codes "at" ∷ decimal fault.place ∷ []
+fault_parts (Ppm reason place) = ppm_reason_name reason ∷ codes "at" ∷ decimal place ∷ []
 fault_parts NotRgb = codes "NotRgb" ∷ []
 fault_parts OutOfMemory = codes "out of memory" ∷ []
 fault_parts Read = codes "read failed" ∷ []
@@ -80,3 +99,36 @@ fault_parts Write = codes "write failed" ∷ []
 
 abbrev pub fault_line : RunFault → Text
 fault_line fault = line (codes "sixel:") (fault_parts fault)
+
+-- ---- verdicts
+
+abbrev pub rule_name : Rule → Text
+rule_name rule.RasterFirst = codes "RasterFirst"
+rule_name rule.RasterTwice = codes "RasterTwice"
+rule_name rule.Ratio = codes "Ratio"
+rule_name rule.BoxSize = codes "BoxSize"
+rule_name rule.Register = codes "Register"
+rule_name rule.ColourValue = codes "ColourValue"
+rule_name rule.RepeatZero = codes "RepeatZero"
+rule_name rule.Unselected = codes "Unselected"
+rule_name rule.Undefined = codes "Undefined"
+rule_name rule.Redefined = codes "Redefined"
+rule_name rule.Outside = codes "Outside"
+rule_name rule.Uncovered = codes "Uncovered"
+
+-- the column and the row, where there is a pixel
+abbrev pub pixel_parts : Option (ℕ × ℕ) → List Text
+pixel_parts None = []
+pixel_parts (Some pixel) = numbers (pixel.0 ∷ pixel.1 ∷ [])
+
+-- the rule, the place and the pixel
+abbrev pub finding_line : Finding → Text
+finding_line f = line (codes "broken") (rule_name f.rule ∷ decimal f.place ∷ pixel_parts f.pixel)
+
+-- the width and the height
+abbrev pub portable_line : PictureValue → Text
+portable_line p = line (codes "portable") (numbers (p.width ∷ p.height ∷ []))
+
+abbrev pub verdict_line : Verdict → Text
+verdict_line (Portable picture) = portable_line picture
+verdict_line (Broken finding) = finding_line finding

@@ -47,7 +47,9 @@ show_app =
 abbrev pub sixel_app : App
 sixel_app =
     with_subcommand
-    (with_plain (on_top (λ s. record s { subcommand_required = true }) (new_app (codes "sixel"))) (codes "list"))
+    (with_plain (with_plain (with_plain (with_plain
+    (on_top (λ s. record s { subcommand_required = true }) (new_app (codes "sixel")))
+    (codes "list")) (codes "check")) (codes "render")) (codes "encode"))
     show_app.top
 
 -- ---- the task
@@ -70,6 +72,9 @@ HasSide name rows n = (text : Text) × (one_of name rows ≡ Some text) × IsSid
 -- the task of a subcommand's name and of its options' entries
 abbrev pub IsTask : Text → List Row → Task → Type 0
 IsTask name rows task.List = name ≡ codes "list"
+IsTask name rows task.Check = name ≡ codes "check"
+IsTask name rows task.Render = name ≡ codes "render"
+IsTask name rows task.Encode = name ≡ codes "encode"
 IsTask name rows (task.Show showing fill selects width height) = (name ≡ codes "show")
     × (is_given (codes "showing") rows ≡ showing)
     × (is_given (codes "fill") rows ≡ fill)

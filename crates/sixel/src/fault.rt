@@ -1,7 +1,7 @@
 //! Why a run is refused.
 
 use sixel_grammar::{Fault, InputFault};
-use sixel_picture::PpmFault;
+use sixel_picture::{PpmFault, PpmReason};
 use std::alloc::AllocError;
 use thiserror::Error;
 
@@ -12,6 +12,9 @@ pub enum RunFault {
     /// The input is no document: why, and after how many bytes.
     #[error("Grammar")]
     Grammar(Fault),
+    /// The input is no picture file: why, and after how many bytes.
+    #[error("Ppm")]
+    Ppm { reason: PpmReason, place: u64 },
     /// A pixel's colour is one of hue, lightness and saturation, which a PPM has no place for. Nothing was written.
     #[error("NotRgb")]
     NotRgb,
@@ -48,7 +51,10 @@ impl From<PpmFault> for RunFault {
 
     fn from(fault: PpmFault) -> RunFault {
         match fault {
+            PpmFault::Format { reason, place } => RunFault::Ppm { reason, place },
             PpmFault::NotRgb => RunFault::NotRgb,
+            PpmFault::OutOfMemory => RunFault::OutOfMemory,
+            PpmFault::Read => RunFault::Read,
             PpmFault::Write => RunFault::Write,
         }
     }

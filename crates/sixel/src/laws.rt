@@ -6,6 +6,7 @@ ghost use Rattle.sixel.specs.declared.fault.RunFault.{RunFault};
 ghost use Rattle.sixel.specs.declared.task.Status.{Status};
 ghost use Rattle.sixel.specs.declared.task.Task.{Task};
 ghost use Rattle.sixel.specs.declared.task.Task.TheVariants.{List as Listing, Show};
+ghost use Rattle.sixel.specs.Laws.{EncodedChecks, EncodedIsPortable};
 ghost use Rattle.sixel.specs.Outputs.{Gives};
 ghost use Rattle.sixel.specs.Texts.{Text};
 ghost use Rattle.sixel.specs.Words.{IsTaskOf, sixel_app};
@@ -20,6 +21,13 @@ pub fn tasks_give_an_output()
 pub fn tasks_give_one_output()
     ensures { (task : Task) (bytes : List ℕ) (first second : Text) (a b : Result Status RunFault) →
         Gives task bytes first a → Gives task bytes second b → (first ≡ second) × (a ≡ b) }
+{}
+
+/// The text that `encode` writes of any picture is a document whose verdict is that picture, palette included, and which
+/// each terminal of the class with room shows; and a check of it says so.
+pub fn encoded_pictures_are_portable()
+    ensures portable { EncodedIsPortable 16 }
+    ensures checked { EncodedChecks }
 {}
 
 /// The one word `list` after the program's name is taken, and gives the list.

@@ -3,14 +3,17 @@
 ghost use Rattle.std.specs.Prelude.{◌≡◌, ◌+◌, ◌≤◌, ◌++◌, ◌∷◌, length, decimal};
 ghost use Rattle.arrayvec.specs.ArrayVec.{array_vec_len};
 ghost use Rattle.sixel_grammar.specs.Devices.{CountsFailure, NeverFlushes, Puts};
-ghost use Rattle.sixel.specs.Texts.{event_line, fault_line, kind_name, reason_name, spaced, event_parts};
+ghost use Rattle.sixel.specs.Texts.{event_line, event_parts, fault_line, finding_line, kind_name, portable_line, ppm_reason_name};
+ghost use Rattle.sixel.specs.Texts.{reason_name, rule_name, spaced, verdict_line};
 
 use crate::fault::RunFault;
 use arrayvec::ArrayVec;
 use itoa::Buffer;
+use sixel_check::{Finding, Rule, Verdict};
 use sixel_grammar::{Command, DeviceFault, Event, Placed, Reason, Sink, put_all};
+use sixel_picture::{Picture, PpmReason};
 
-/// A line, with its line feed: of an event at most 58 bytes, of a fault at most 46.
+/// A line, with its line feed: of an event at most 58 bytes, of a fault at most 46, of a verdict at most 82.
 pub type Line = ArrayVec<u8, 96>;
 
 fn push_all(line: &mut Line, text: &[u8])
@@ -143,6 +146,21 @@ fn reason_name(reason: Reason) -> &'static str
     }
 }
 
+fn ppm_reason_name(reason: PpmReason) -> &'static str
+    ensures text { result.now ≡ ppm_reason_name reason }
+    ensures short { length result.now ≤ 14 }
+{
+    match reason {
+        PpmReason::Header => "Header",
+        PpmReason::Size => "Size",
+        PpmReason::Maxval => "Maxval",
+        PpmReason::Sample => "Sample",
+        PpmReason::Short => "Short",
+        PpmReason::Trailing => "Trailing",
+        PpmReason::TooManyColours => "TooManyColours",
+    }
+}
+
 /// The line of a fault.
 fn fault_line(fault: &RunFault) -> Line
     ensures { result.items ≡ fault_line fault.now }
@@ -154,6 +172,11 @@ fn fault_line(fault: &RunFault) -> Line
             push_all(&mut line, reason_name(fault.reason).as_bytes());
             push_all(&mut line, b" at");
             push_number(&mut line, fault.place);
+        }
+        RunFault::Ppm { reason, place } => {
+            push_all(&mut line, ppm_reason_name(*reason).as_bytes());
+            push_all(&mut line, b" at");
+            push_number(&mut line, *place);
         }
         RunFault::NotRgb => push_all(&mut line, b"NotRgb"),
         RunFault::OutOfMemory => push_all(&mut line, b"out of memory"),
@@ -172,6 +195,75 @@ pub fn write_fault<K: Sink>(fault: &RunFault, out: &mut K) -> Result<(), DeviceF
 {
     let line = fault_line(fault);
     put_all(out, line.as_slice())
+}
+
+fn rule_name(rule: Rule) -> &'static str
+    ensures text { result.now ≡ rule_name rule }
+    ensures short { length result.now ≤ 11 }
+{
+    match rule {
+        Rule::RasterFirst => "RasterFirst",
+        Rule::RasterTwice => "RasterTwice",
+        Rule::Ratio => "Ratio",
+        Rule::BoxSize => "BoxSize",
+        Rule::Register => "Register",
+        Rule::ColourValue => "ColourValue",
+        Rule::RepeatZero => "RepeatZero",
+        Rule::Unselected => "Unselected",
+        Rule::Undefined => "Undefined",
+        Rule::Redefined => "Redefined",
+        Rule::Outside => "Outside",
+        Rule::Uncovered => "Uncovered",
+    }
+}
+
+/// The line of a finding.
+fn finding_line(finding: &Finding) -> Line
+    ensures { result.items ≡ finding_line finding.now }
+{
+    let mut line = ArrayVec::new();
+    push_all(&mut line, b"broken ");
+    push_all(&mut line, rule_name(finding.rule).as_bytes());
+    push_number(&mut line, finding.place);
+    if let Some((x, y)) = finding.pixel {
+        push_number(&mut line, x);
+        push_number(&mut line, y);
+    }
+    line.push(b'\n');
+    line
+}
+
+/// The line of a portable picture.
+fn portable_line(picture: &Picture) -> Line
+    ensures { result.items ≡ portable_line picture.now }
+{
+    let mut line = ArrayVec::new();
+    push_all(&mut line, b"portable");
+    push_number(&mut line, picture.width() as u64);
+    push_number(&mut line, picture.height() as u64);
+    line.push(b'\n');
+    line
+}
+
+/// Writes the line of a finding, or on an `Err` a front of it. It doesn't flush.
+pub fn write_finding<K: Sink>(finding: &Finding, out: &mut K) -> Result<(), DeviceFault>
+    ensures bytes { Puts result (K.taken out.old) (K.taken out.new) (finding_line finding.now) }
+    ensures unflushed { NeverFlushes (K.is_flushed out.old) (K.is_flushed out.new) }
+    ensures failures { CountsFailure result (K.failure_count out.old) (K.failure_count out.new) }
+{
+    put_all(out, finding_line(finding).as_slice())
+}
+
+/// Writes the line of a verdict, or on an `Err` a front of it. It doesn't flush.
+pub fn write_verdict<K: Sink>(verdict: &Verdict, out: &mut K) -> Result<(), DeviceFault>
+    ensures bytes { Puts result (K.taken out.old) (K.taken out.new) (verdict_line verdict.now) }
+    ensures unflushed { NeverFlushes (K.is_flushed out.old) (K.is_flushed out.new) }
+    ensures failures { CountsFailure result (K.failure_count out.old) (K.failure_count out.new) }
+{
+    match verdict {
+        Verdict::Portable(picture) => put_all(out, portable_line(picture).as_slice()),
+        Verdict::Broken(finding) => write_finding(finding, out),
+    }
 }
 
 #[cfg(test)]

@@ -2,6 +2,7 @@
 #![tactic(auto)]
 
 ghost use Rattle.std.specs.Prelude.{◌≡◌, ◌≢◌, IfErr, IfOk, IfSome, Ok};
+ghost use Rattle.sixel_check.specs.declared.verdict.Finding.{Finding as AFinding};
 ghost use Rattle.sixel.specs.Exits.{exit_for_answer, exit_for_words};
 ghost use Rattle.sixel.specs.Outputs.{Gives, HasSides};
 ghost use Rattle.sixel.specs.Texts.{Text};
@@ -18,7 +19,7 @@ mod words;
 
 use clap::Error;
 use fault::RunFault;
-use lines::write_fault;
+use lines::{write_fault, write_finding};
 use sixel_grammar::{FromRead, ToWrite, put_all};
 use std::alloc::Global;
 use std::env;
@@ -32,6 +33,7 @@ use words::{WordsFault, parse_words, usage};
 #[derive(Clone, Copy, Debug, PartialEq, Eq)]
 enum Exit {
     Done = 0,
+    Broken = 1,
     Refused = 2,
     Usage = 3,
 }
@@ -60,7 +62,7 @@ fn asked_task<R: Env + AllocGlobal>(rt: &R) -> Result<Task, WordsFault>
     }
 }
 
-/// Runs the task, and says on the third stream why it was refused.
+/// Runs the task, and says on the third stream why it was refused, or which rule kept a picture from being rendered.
 fn execute<R: Read + Drop, W: Write + Drop, E: Write + Drop>(
     alloc: Global,
     task: Task,
@@ -71,6 +73,8 @@ fn execute<R: Read + Drop, W: Write + Drop, E: Write + Drop>(
     requires { HasSides task }
     ensures done { result ≡ Exit.Done → IfSome (R.remaining input) (λ bytes.
         (text : Text) × Gives task bytes text (Ok Status.Done)) }
+    ensures broken { result ≡ Exit.Broken → IfSome (R.remaining input) (λ bytes.
+        (text : Text) × (finding : AFinding) × Gives task bytes text (Ok (Status.Broken finding))) }
     ensures no_usage { result ≢ Exit.Usage }
 {
     let answer = run::run(
@@ -79,9 +83,15 @@ fn execute<R: Read + Drop, W: Write + Drop, E: Write + Drop>(
         &mut FromRead::new(input),
         &mut ToWrite::new(output),
     );
-    if let Err(fault) = answer {
-        // If the line can't be written, the exit status stays.
-        let _ = write_fault(&fault, &mut ToWrite::new(errors));
+    // If a line can't be written, the exit status stays.
+    match answer {
+        Ok(Status::Broken(finding)) if task == Task::Render => {
+            let _ = write_finding(&finding, &mut ToWrite::new(errors));
+        }
+        Ok(_) => {}
+        Err(fault) => {
+            let _ = write_fault(&fault, &mut ToWrite::new(errors));
+        }
     }
     exit_of(answer)
 }
@@ -91,6 +101,7 @@ fn exit_of(answer: Result<Status, RunFault>) -> Exit
 {
     match answer {
         Ok(Status::Done) => Exit::Done,
+        Ok(Status::Broken(_)) => Exit::Broken,
         Err(_) => Exit::Refused,
     }
 }

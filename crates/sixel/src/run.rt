@@ -3,7 +3,10 @@
 ghost use Rattle.std.specs.Prelude.{◌≡◌, ◌≢◌, Err, IfSome, true};
 ghost use Rattle.sixel.specs.Outputs.{CountsReads, CountsWrites, HasSides, TakesMemory, Wrote, failures_by};
 
+mod check;
+mod encode;
 mod list;
+mod render;
 mod show;
 
 use crate::fault::RunFault;
@@ -56,6 +59,9 @@ fn perform<S: Source, K: Sink>(
 {
     match task {
         Task::List => list::list(input, output),
+        Task::Check => check::check(alloc, input, output),
+        Task::Render => render::render(alloc, input, output),
+        Task::Encode => encode::encode(alloc, input, output),
         Task::Show {
             showing,
             fill,

@@ -48,6 +48,20 @@ fn ends_by_what_came_of_the_task(rt: HostRuntime) -> Result<(), Fail> {
             "sixel: NumberTooLarge at 8\n"
         )?
     );
+    let blank = b"\x1bPq\"1;1;2;1#0;2;0;0;0#0@\x1b\\";
+    let line = "broken Uncovered 24 1 0\n";
+    assert!(rt; ends(&rt, Task::Check, blank, Exit::Broken, line, "")?);
+    assert!(rt; ends(&rt, Task::Render, blank, Exit::Broken, "", line)?);
+    assert!(rt;
+        ends(
+            &rt,
+            Task::Encode,
+            b"P6 1 1 256\n",
+            Exit::Refused,
+            "",
+            "sixel: Maxval at 7\n"
+        )?
+    );
     let pixel = Task::Show {
         showing: false,
         fill: false,

@@ -86,6 +86,24 @@ fn sixel_command<'a>(alloc: Global) -> Result<Command<'a>, AllocError>
         "list",
         "Lists what the picture says, a line for each command",
     )?;
+    command = with_plain_command(
+        alloc,
+        command,
+        "check",
+        "Says whether every terminal shows the same picture, or which rule is broken first",
+    )?;
+    command = with_plain_command(
+        alloc,
+        command,
+        "render",
+        "Writes a portable picture as a PPM",
+    )?;
+    command = with_plain_command(
+        alloc,
+        command,
+        "encode",
+        "Reads a PPM in place of a sixel picture, and writes it as a portable one",
+    )?;
     command.subcommand(show_command(alloc)?)
 }
 
@@ -170,6 +188,9 @@ fn task_of(name: &str, matches: &ArgMatches<'_>) -> Option<Task>
 {
     match name {
         "list" => Some(Task::List),
+        "check" => Some(Task::Check),
+        "render" => Some(Task::Render),
+        "encode" => Some(Task::Encode),
         "show" => show_task(matches),
         _ => None,
     }

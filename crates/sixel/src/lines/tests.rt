@@ -1,6 +1,8 @@
 use crate::fault::RunFault;
-use crate::lines::write_fault;
+use crate::lines::{write_fault, write_finding};
+use sixel_check::{Finding, Rule};
 use sixel_grammar::{DeviceFault, Fault, Reason, SliceSink};
+use sixel_picture::PpmReason;
 use std::test::Fail;
 
 const GRAMMAR: RunFault = RunFault::Grammar(Fault {
@@ -8,10 +10,16 @@ const GRAMMAR: RunFault = RunFault::Grammar(Fault {
     place: 268_435_456,
 });
 
+const PPM: RunFault = RunFault::Ppm {
+    reason: PpmReason::TooManyColours,
+    place: 60,
+};
+
 #[test]
 fn writes_the_line_of_each_fault(rt: HostRuntime) {
     let rows = [
         (GRAMMAR, "sixel: NumberTooLarge at 268435456\n"),
+        (PPM, "sixel: TooManyColours at 60\n"),
         (RunFault::NotRgb, "sixel: NotRgb\n"),
         (RunFault::OutOfMemory, "sixel: out of memory\n"),
         (RunFault::Read, "sixel: read failed\n"),
@@ -50,6 +58,56 @@ fn names_each_reason(rt: HostRuntime) {
 }
 
 #[test]
+fn names_each_reason_of_a_picture_file(rt: HostRuntime) {
+    let rows = [
+        (PpmReason::Header, "sixel: Header at 7\n"),
+        (PpmReason::Size, "sixel: Size at 7\n"),
+        (PpmReason::Maxval, "sixel: Maxval at 7\n"),
+        (PpmReason::Sample, "sixel: Sample at 7\n"),
+        (PpmReason::Short, "sixel: Short at 7\n"),
+        (PpmReason::Trailing, "sixel: Trailing at 7\n"),
+        (PpmReason::TooManyColours, "sixel: TooManyColours at 7\n"),
+    ];
+    for (reason, line) in rows {
+        let mut room = [0; 64];
+        let mut out = SliceSink::new(&mut room, 64, None);
+        assert_eq!(rt;
+            write_fault(&RunFault::Ppm { reason, place: 7 }, &mut out),
+            Ok(())
+        );
+        assert_eq!(rt; out.written(), line.as_bytes());
+    }
+}
+
+#[test]
+fn writes_the_line_of_a_finding(rt: HostRuntime) {
+    let rows = [
+        (Rule::Unselected, 21, None, "broken Unselected 21\n"),
+        (
+            Rule::Uncovered,
+            24,
+            Some((1, 0)),
+            "broken Uncovered 24 1 0\n",
+        ),
+        (
+            Rule::RasterFirst,
+            u64::MAX,
+            Some((u64::MAX, u64::MAX)),
+            "broken RasterFirst 18446744073709551615 18446744073709551615 18446744073709551615\n",
+        ),
+    ];
+    for (rule, place, pixel, line) in rows {
+        let mut room = [0; 96];
+        let mut out = SliceSink::new(&mut room, 96, None);
+        assert_eq!(rt;
+            write_finding(&Finding { rule, place, pixel }, &mut out),
+            Ok(())
+        );
+        assert_eq!(rt; out.written(), line.as_bytes());
+    }
+}
+
+#[test]
 fn writes_a_front_where_the_device_fails(rt: HostRuntime) {
     let mut room = [0; 64];
     let mut out = SliceSink::new(&mut room, 5, Some(2));
@@ -62,6 +120,7 @@ fn writes_a_front_where_the_device_fails(rt: HostRuntime) {
 fn derives_the_name_of_each_fault(rt: HostRuntime) -> Result<(), Fail> {
     let rows = [
         (GRAMMAR, "Grammar"),
+        (PPM, "Ppm"),
         (RunFault::NotRgb, "NotRgb"),
         (RunFault::OutOfMemory, "OutOfMemory"),
         (RunFault::Read, "Read"),

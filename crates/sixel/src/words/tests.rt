@@ -20,6 +20,9 @@ fn said(rt: &HostRuntime, line: &str) -> Result<String, Fail> {
 fn names_the_task(rt: HostRuntime) -> Result<(), Fail> {
     let rows = [
         ("sixel list", "List"),
+        ("sixel check", "Check"),
+        ("sixel render", "Render"),
+        ("sixel encode", "Encode"),
         (
             "sixel show --width 2 --height 1",
             "Show { showing: false, fill: false, selects: false, width: 2, height: 1 }",
@@ -57,11 +60,11 @@ fn refuses_other_words(rt: HostRuntime) -> Result<(), Fail> {
     let rows = [
         (
             "sixel",
-            "usage error: 'sixel' requires a subcommand but one was not provided\n  [subcommands: list, show, help]\n\nUsage: sixel <COMMAND>",
+            "usage error: 'sixel' requires a subcommand but one was not provided\n  [subcommands: list, check, render, encode, show, help]\n\nUsage: sixel <COMMAND>",
         ),
         (
-            "sixel check",
-            "usage error: unrecognized subcommand 'check'\n\nUsage: sixel <COMMAND>",
+            "sixel view",
+            "usage error: unrecognized subcommand 'view'\n\nUsage: sixel <COMMAND>",
         ),
         (
             "sixel list --wide",
@@ -94,7 +97,7 @@ fn refuses_other_words(rt: HostRuntime) -> Result<(), Fail> {
 #[test]
 fn shows_help(rt: HostRuntime) -> Result<(), Fail> {
     let whole =
-        "help Reads a sixel picture from standard input\n\nUsage: sixel <COMMAND>\n\nCommands:\n  list  Lists what the picture says, a line for each command\n  show  Draws the picture as one terminal would, and writes its screen as a PPM\n  help  Print this message or the help of the given subcommand(s)\n\nOptions:\n  -h, --help  Print help\n";
+        "help Reads a sixel picture from standard input\n\nUsage: sixel <COMMAND>\n\nCommands:\n  list    Lists what the picture says, a line for each command\n  check   Says whether every terminal shows the same picture, or which rule is broken first\n  render  Writes a portable picture as a PPM\n  encode  Reads a PPM in place of a sixel picture, and writes it as a portable one\n  show    Draws the picture as one terminal would, and writes its screen as a PPM\n  help    Print this message or the help of the given subcommand(s)\n\nOptions:\n  -h, --help  Print help\n";
     for line in ["sixel --help", "sixel -h", "sixel help"] {
         assert_eq!(rt; said(&rt, line)?.as_str(), whole, "{line}");
     }

@@ -1,11 +1,11 @@
-use Rattle.std.proofs.Common.{◌≡◌, ◌∙◌, ap, sym, map}
+use Rattle.std.proofs.Common.{◌≡◌, ◌∙◌, ap, refl, sym, map}
 use Rattle.std.specs.String.{string_bytes}
 use Rattle.clap.specs.Walk.{rows_of}
 use Rattle.clap.specs.Matches.{found_of}
 use Rattle.clap.specs.Takes.{takes}
 use Rattle.clap.specs.Simple.{App, app_of, is_simple, subcommand_of, subcommand_rows_of}
 use Rattle.sixel.specs.Words.{sixel_app}
-use Rattle.sixel.proofs.Matches.{both_parts, name_rows}
+use Rattle.sixel.proofs.Matches.{both_parts, name_rows, same_task}
 use Rattle.sixel.proofs.words.parse_words.Goals as goal
 
 pub returns-in-Some-task_of-clause-task : goal.returns-in-Some-task_of-clause-task
@@ -26,3 +26,16 @@ returns-in-Err-try_get_matches_from-clause-accepted c = λ taken t is.
     let same : takes (app_of c.in-Ok.command) words ≡ takes sixel_app words = ap (λ (a : App). takes a words)
     c.in-Ok.ensures in
     c.sorted_out.ensures.memory (c.in-Err-try_get_matches_from.ensures.passes (same ∙ taken))
+
+pub returns-in-Some-clause-accepted : goal.returns-in-Some-clause-accepted
+returns-in-Some-clause-accepted c = λ taken t is.
+    let words = map string_bytes c.args.words.now in
+    let m = c.in-Ok-try_get_matches_from.matches in
+    let h = c.in-Ok-try_get_matches_from.ensures.matches (ap is_simple c.in-Ok.ensures) in
+    let sub : subcommand_rows_of m ≡ subcommand_of sixel_app words = h.1 ∙ ap (λ (a : App). subcommand_of a words)
+    c.in-Ok.ensures in
+    let met = both_parts (subcommand_rows_of m) c.in-Some.name.now (rows_of (found_of c.in-Some.found.now))
+    (name_rows _ ∙ sym c.in-Some.ensures.name) (sym c.in-Some.ensures.rows) in
+    absurd (c.in-None-task_of.ensures.none refl t
+    (same_task (subcommand_of sixel_app words) is.0 c.in-Some.name.now is.1 (rows_of (found_of c.in-Some.found.now)) t
+    is.2 (sym sub ∙ met) is.3))

@@ -7,7 +7,7 @@ use Rattle.sixel_grammar.proofs.Devices.{Appends-then, TakesMore-refl, TakesMore
 use Rattle.sixel_grammar.proofs.Sources.{one_past, split_past, take_past}
 use Rattle.sixel.specs.Texts.{list_text}
 use Rattle.sixel.proofs.Listing.{list_text-append, stands-as}
-use Rattle.sixel.proofs.Puts.{Appends-none, puts-then}
+use Rattle.sixel_grammar.proofs.Sinks.{Appends-none, puts-then}
 use Rattle.sixel.proofs.run.list.feed_all.Goals as goal
 
 pub loop-byte-init : goal.loop-byte-init

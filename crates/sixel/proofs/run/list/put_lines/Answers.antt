@@ -1,7 +1,7 @@
 use Rattle.std.specs.Option.{option_to_list}
 use Rattle.sixel_grammar.proofs.Devices.{TakesMore-then}
 use Rattle.sixel.proofs.Listing.{list_text-append}
-use Rattle.sixel.proofs.Puts.{puts-longer, puts-then}
+use Rattle.sixel_grammar.proofs.Sinks.{puts-longer, puts-then}
 use Rattle.sixel.proofs.run.list.put_lines.Goals as goal
 
 pub returns-in-Ok-clause-bytes : goal.returns-in-Ok-clause-bytes

@@ -1,0 +1,13 @@
+use Rattle.sixel.proofs.Checks.{checked_unwritten, checked_written}
+use Rattle.sixel.proofs.run.check.check.Goals as goal
+
+pub returns-in-Ok-clause-wrote : goal.returns-in-Ok-clause-wrote
+returns-in-Ok-clause-wrote g c =
+    rw c.status_of.ensures
+    (checked_written (g.S.Source.remaining c.args.input.now) c.in_ok-verdict.verdict (g.K.Sink.taken c.args.output.now)
+    (g.K.Sink.taken c.write_verdict.new.out) c.in_ok-verdict.ensures.answer c.in-Ok.ensures.bytes)
+
+pub returns-clause-wrote : goal.returns-clause-wrote
+returns-clause-wrote g c =
+    checked_unwritten (g.S.Source.remaining c.args.input.now) c.in_ok-verdict.verdict (g.K.Sink.taken c.args.output.now)
+    (g.K.Sink.taken c.write_verdict.new.out) c.in_ok-verdict.ensures.answer c.in-Err.ensures.bytes

@@ -1,0 +1,43 @@
+//! Checks a sixel picture, and writes the verdict.
+
+ghost use Rattle.std.specs.Prelude.{◌≡◌, IfSome};
+ghost use Rattle.sixel.specs.declared.fault.RunFault.TheVariants.{Read};
+ghost use Rattle.sixel.specs.Outputs.{CheckGives, CountsWrites, WroteBy, WroteNothing, failures_by, status_of};
+
+use crate::fault::RunFault;
+use crate::lines::write_verdict;
+use crate::task::Status;
+use sixel_check::Verdict;
+use sixel_grammar::{Sink, Source};
+use std::alloc::Global;
+
+/// Reads the whole input, and writes the line of the verdict. It doesn't flush.
+pub fn check<S: Source, K: Sink>(
+    alloc: Global,
+    input: &mut S,
+    output: &mut K,
+) -> Result<Status, RunFault>
+    ensures wrote { IfSome (S.remaining input.old) (λ bytes.
+        WroteBy (CheckGives bytes) WroteNothing result (K.taken output.old) (K.taken output.new)) }
+    ensures reads { S.failure_count input.new ≡ failures_by Read result (S.failure_count input.old) }
+    ensures writes { CountsWrites result (K.failure_count output.old) (K.failure_count output.new) }
+{
+    let verdict = sixel_check::check(alloc, input)?;
+    match write_verdict(&verdict, output) {
+        Ok(()) => Ok(status_of(&verdict)),
+        Err(_) => Err(RunFault::Write),
+    }
+}
+
+/// What comes of a verdict.
+fn status_of(verdict: &Verdict) -> Status
+    ensures { result ≡ status_of verdict.now }
+{
+    match verdict {
+        Verdict::Portable(_) => Status::Done,
+        Verdict::Broken(finding) => Status::Broken(*finding),
+    }
+}
+
+#[cfg(test)]
+mod tests;

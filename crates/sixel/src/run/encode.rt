@@ -1,0 +1,32 @@
+//! Writes a picture from a PPM as sixel text.
+
+ghost use Rattle.std.specs.Prelude.{◌≡◌, IfSome};
+ghost use Rattle.sixel.specs.declared.fault.RunFault.TheVariants.{Read};
+ghost use Rattle.sixel.specs.Outputs.{CountsWrites, EncodeGives, WroteBy, WroteNothing, failures_by};
+
+use crate::fault::RunFault;
+use crate::task::Status;
+use sixel_grammar::{Sink, Source};
+use sixel_picture::read_ppm;
+use std::alloc::Global;
+
+/// Reads a whole picture file, and writes its picture's canonical text. It doesn't flush.
+pub fn encode<S: Source, K: Sink>(
+    alloc: Global,
+    input: &mut S,
+    output: &mut K,
+) -> Result<Status, RunFault>
+    ensures wrote { IfSome (S.remaining input.old) (λ bytes.
+        WroteBy (EncodeGives bytes) WroteNothing result (K.taken output.old) (K.taken output.new)) }
+    ensures reads { S.failure_count input.new ≡ failures_by Read result (S.failure_count input.old) }
+    ensures writes { CountsWrites result (K.failure_count output.old) (K.failure_count output.new) }
+{
+    let picture = read_ppm(alloc, input)?;
+    match sixel_encode::encode(&picture, output) {
+        Ok(()) => Ok(Status::Done),
+        Err(_) => Err(RunFault::Write),
+    }
+}
+
+#[cfg(test)]
+mod tests;

@@ -1,0 +1,35 @@
+//! Writes a portable sixel picture as a PPM.
+
+ghost use Rattle.std.specs.Prelude.{◌≡◌, IfSome};
+ghost use Rattle.sixel.specs.declared.fault.RunFault.TheVariants.{Read};
+ghost use Rattle.sixel.specs.Outputs.{CountsWrites, RenderGives, WroteBy, WroteNothing, failures_by};
+
+use crate::fault::RunFault;
+use crate::task::Status;
+use sixel_check::Verdict;
+use sixel_grammar::{Sink, Source};
+use sixel_picture::write_ppm;
+use std::alloc::Global;
+
+/// Reads the whole input, and writes the picture of a portable one; of a broken one it writes nothing. It doesn't flush.
+pub fn render<S: Source, K: Sink>(
+    alloc: Global,
+    input: &mut S,
+    output: &mut K,
+) -> Result<Status, RunFault>
+    ensures wrote { IfSome (S.remaining input.old) (λ bytes.
+        WroteBy (RenderGives bytes) WroteNothing result (K.taken output.old) (K.taken output.new)) }
+    ensures reads { S.failure_count input.new ≡ failures_by Read result (S.failure_count input.old) }
+    ensures writes { CountsWrites result (K.failure_count output.old) (K.failure_count output.new) }
+{
+    match sixel_check::check(alloc, input)? {
+        Verdict::Portable(picture) => match write_ppm(&picture, output) {
+            Ok(()) => Ok(Status::Done),
+            Err(fault) => Err(RunFault::from(fault)),
+        },
+        Verdict::Broken(finding) => Ok(Status::Broken(finding)),
+    }
+}
+
+#[cfg(test)]
+mod tests;
