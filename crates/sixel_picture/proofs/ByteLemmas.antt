@@ -57,7 +57,7 @@ pub first_blank_of_bytes : (w h : ℕ) (xs : List ℕ)
 unfolding first_blank
 first_blank_of_bytes w h xs = ap (option_map (λ i. (i % w, i / w))) (blank_position 0 xs)
 
-none_from_map : {A B : Type 0} (f : A → B) (o : Option A) → option_map f o ≡ None → o ≡ None
+pub none_from_map : {A B : Type 0} (f : A → B) (o : Option A) → option_map f o ≡ None → o ≡ None
 none_from_map f None e = refl
 none_from_map f (Some x) e = cc
 
@@ -123,7 +123,7 @@ same_row w row p q left count in_width fits from to =
     let place : p * w + q ≡ row * w + (p * w + q - row * w) = omega arith in
     (same_from_place p q row (p * w + q - row * w) w in_width short place).0
 
-in_row_at : (w row p q left count : ℕ) → q < w → left + count ≤ w
+pub in_row_at : (w row p q left count : ℕ) → q < w → left + count ≤ w
     → (nat_le (row * w + left) (p * w + q) && nat_lt (p * w + q) (row * w + left + count))
     ≡ ((nat_le left q && nat_lt q (left + count)) && (nat_le row p && nat_lt p (row + 1)))
 in_row_at w row p q left count in_width fits =

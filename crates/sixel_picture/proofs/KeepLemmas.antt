@@ -2,7 +2,7 @@
 use Rattle.std.proofs.Common.{◌≡◌, ℕ, zero, suc, List, [], ◌∷◌, ◌++◌, take, sym, append_assoc, append-nil, subst}
 use Rattle.std.specs.Prelude.{Some}
 use Rattle.sixel_grammar.specs.declared.command.Event.{Event}
-use Rattle.sixel_picture.specs.Positions.{HoldsAtPosition, HoldsNowhere}
+use Rattle.sixel_picture.specs.Positions.{HoldsAtPosition}
 use Rattle.sixel_picture.specs.Rules.{Breaks, BreaksNone}
 use Rattle.sixel_picture.proofs.RuleLemmas.{Keeps, keeps_none}
 

@@ -1,5 +1,8 @@
 pub mod SheetLemmas
+pub mod LaneLemmas
 pub mod ByteLemmas
+pub mod BandLemmas
+pub mod BandBlankLemmas
 pub mod PpmLemmas
 pub mod PositionLemmas
 pub mod StepLemmas

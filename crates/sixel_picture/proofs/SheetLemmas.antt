@@ -20,6 +20,13 @@ get_rows w h f x y d p q =
     (mul-add-lt y w x h q p) (omega arith)
     ∙ rw (mod-mul-add y w x p, div-mul-add y w x p) refl
 
+-- the pixel at an index of a list made row by row
+pub get_index : {A : Type 0} (w h : ℕ) (f : ℕ → ℕ → A) (i : ℕ) (d : A) → i < w * h
+    → get_or (row_by_row w h f) i d ≡ f (i % w) (i / w)
+unfolding row_by_row
+get_index w h f i d lt =
+    get_or-map-range_with_len (λ i. f (i % w) (i / w)) 0 (w * h) i i d lt (omega arith)
+
 -- the pixel at x y of a list made row by row
 pub at_rows : {A : Type 0} (w h : ℕ) (f : ℕ → ℕ → A) (x y : ℕ) → x < w → y < h
     → slice_get (row_by_row w h f) (y * w + x) ≡ Some (f x y)

@@ -5,6 +5,8 @@ pub mod Events
 pub mod Geometry
 pub mod Sheets
 pub mod BytePlanes
+pub mod BandPlanes
+pub mod Lanes
 pub mod Rules
 pub mod Ppm
 pub mod PpmReading

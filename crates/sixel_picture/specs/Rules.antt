@@ -80,7 +80,7 @@ breaks_raster_first before e = is_none (raster_before before) && (is_data_comman
 unfoldable pub breaks_raster_twice : List Event → Event → Bool
 breaks_raster_twice before e = is_some (raster_before before) && is_some (raster_of e)
 
--- raster attributes of a ratio other than 1 to 1
+-- raster attributes of which not both numbers of the ratio are 1
 unfoldable pub breaks_ratio : Event → Bool
 breaks_ratio e = option_map_or (λ a. not (is_square a)) (raster_of e) false
 

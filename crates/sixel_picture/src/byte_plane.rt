@@ -2,8 +2,8 @@
 
 ghost use Rattle.std.specs.Prelude.{◌≡◌, ◌==◌, ◌<◌, ◌≤◌, ◌+◌, ◌&&◌, nat_le, nat_lt};
 ghost use Rattle.std.specs.Prelude.{EachIndex, IfSome, length, position, slice_index, if◌then◌else◌};
-ghost use Rattle.std.specs.Int.{bit_at};
 
+use crate::bits::is_set;
 use crate::plane::Plane;
 use std::alloc::{AllocError, Global};
 use std::marker::Model;
@@ -88,13 +88,6 @@ fn blank_index(pixels: &[u8]) -> Option<usize>
     ensures within { IfSome result (λ i. i < length pixels.now) }
 {
     pixels.iter().position(|pixel| *pixel == BLANK)
-}
-
-fn is_set(bits: u8, bit: u32) -> bool
-    requires { bit < 6 }
-    ensures { result ≡ (bit_at bits bit == 1) }
-{
-    bits >> bit & 1 == 1
 }
 
 /// Gives so many pixels from `start` on a register.

@@ -1,14 +1,18 @@
 //! Colours, palettes, pictures, planes of pixels, and pictures as PPM files.
 #![tactic(auto)]
 
+mod band_plane;
+mod bits;
 mod byte_plane;
 mod colour;
+mod lanes;
 pub mod laws;
 mod palette;
 mod picture;
 mod plane;
 mod ppm;
 
+pub use band_plane::BandPlane;
 pub use byte_plane::BytePlane;
 pub use colour::{Colour, Parts};
 pub use palette::Palette;

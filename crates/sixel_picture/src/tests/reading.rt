@@ -427,3 +427,17 @@ fn a_wide_picture_is_read_or_refused_at_its_end(rt: HostRuntime) -> Result<(), F
     }
     Ok(())
 }
+
+/// `rt try --test --fail-alloc 1` refuses the only growth of a reading. A header that is at fault comes before it.
+#[test]
+fn a_refused_growth_is_out_of_memory(rt: HostRuntime) -> Result<(), Fail> {
+    assert_eq!(rt;
+        fault(rt.alloc(), b"P6 0 1 100\n", 65_536),
+        format(PpmReason::Size, 3)
+    );
+    match read(rt.alloc(), RED, 65_536) {
+        Ok(picture) => assert_eq!(rt; picture.registers(), [0, 0, 0, 0, 0].as_slice()),
+        Err(fault) => assert_eq!(rt; fault, PpmFault::OutOfMemory),
+    }
+    Ok(())
+}

@@ -1,0 +1,219 @@
+-- On registers and a byte of painted rows for each column and band, that stand for a sheet.
+use Rattle.std.proofs.Common.{◌≡◌, ◌==◌, ◌≢◌, ℕ, zero, suc, ◌+◌, ◌*◌, ◌/◌, ◌%◌, ◌<◌, ◌≤◌, Bool, true, false, ◌&&◌, ◌||◌, cond}
+use Rattle.std.proofs.Common.{Option, Some, None, List, length, get_or, replicate, nat_le, nat_lt}
+use Rattle.std.proofs.Common.{inl, inr, refl, sym, ap, ap₂, ◌∙◌, arith, max, mul_comm}
+use Rattle.std.specs.Int.{bit_at, div_ceil}
+use Rattle.std.specs.Int.Bits.{bit_or, or_zero_r}
+use Rattle.sixel_picture.specs.Positions.{any_below}
+use Rattle.std.specs.Option.{option_flatten}
+use Rattle.std.proofs.lemmas.Bool.{and_parts, and_from, leb-true, ltb-true, le-leb, lt-ltb, eqb-true, eq-eqb, cases_eq}
+use Rattle.std.proofs.lemmas.List.{get_or-replicate}
+use Rattle.std.proofs.lemmas.Nat.{div-add-mod', div_below, mod_below, div-mul-add, mod-mul-add, mul-add-lt, row_fits_turned}
+use Rattle.std.proofs.lemmas.Nat.Bits.{bit_at_or, bit_at-lt, bit_at-zero, same_from_bits_below}
+use Rattle.sixel_picture.specs.Geometry.{covers}
+use Rattle.sixel_picture.specs.Lanes.{AreChanged}
+use Rattle.sixel_picture.specs.Sheets.{blank_sheet, cell, painted_sheet, row_by_row}
+use Rattle.sixel_picture.specs.BandPlanes.{is_painted, cell_of_bands, sheet_of_bands}
+use Rattle.sixel_picture.proofs.SheetLemmas.{length_rows, get_index, at_rows, rows_from_index}
+use Rattle.sixel_picture.proofs.CoverLemmas.{lies_under, covers_under, PassesBelow, passes_below, any_below_at}
+use Rattle.sixel_picture.proofs.ByteLemmas.{IsPaintedBelow, in_row_at, same_test}
+
+-- ---- places
+
+-- a row's band is one of the bands of a plane
+pub band_below : (h y : ℕ) → y < h → y / 6 < div_ceil h 6
+band_below h y lt = omega arith
+
+-- the byte of a column and band is there
+pub band_fits : (w h x y : ℕ) → x < w → y < h → y / 6 * w + x < w * div_ceil h 6
+band_fits w h x y inside_x inside_y = mul-add-lt (y / 6) w x (div_ceil h 6) (band_below h y inside_y) inside_x
+
+pub row_below : (i w h : ℕ) → 0 < w → i < w * h → i / w < h
+row_below i w h some lt = div_below i w h some (omega (arith, mul_comm w h))
+
+pub place_fits : (w h x y : ℕ) → x < w → y < h → y * w + x < w * h
+place_fits w h x y inside_x inside_y = mul-add-lt y w x h inside_y inside_x
+
+-- two lists with the same pixels
+pub same_rows : {A : Type 0} (w h : ℕ) (f g : ℕ → ℕ → A) (d : A) → 0 < w
+    → ((x y : ℕ) → x < w → y < h → f x y ≡ g x y) → row_by_row w h f ≡ row_by_row w h g
+same_rows w h f g d some same =
+    rows_from_index w h g (row_by_row w h f) d (length_rows w h f)
+    (λ i lt. get_index w h f i d lt ∙ same (i % w) (i / w) (mod_below i w some) (row_below i w h some lt))
+
+-- the pixel of registers and bytes of bands
+pub cell_at_bands : (w h : ℕ) (registers coverage : List ℕ) (x y : ℕ) → x < w → y < h
+    → cell (sheet_of_bands w h registers coverage) x y ≡ cell_of_bands w registers coverage x y
+unfolding cell
+cell_at_bands w h registers coverage x y inside_x inside_y =
+    ap option_flatten (at_rows w h (cell_of_bands w registers coverage) x y inside_x inside_y)
+
+-- ---- a blank plane
+
+pub blank_bands : (w h : ℕ) (registers coverage : List ℕ) → 0 < w → coverage ≡ replicate (w * div_ceil h 6) 0
+    → sheet_of_bands w h registers coverage ≡ blank_sheet w h
+unfolding blank_sheet
+blank_bands w h registers coverage some blank =
+    ap (λ (cells : List (Option ℕ)). record { width = w; height = h; cells = cells })
+    (same_rows w h (cell_of_bands w registers coverage) (λ x y. None) None some
+    (λ x y inside_x inside_y.
+    let byte : get_or coverage (y / 6 * w + x) 0 ≡ 0 =
+    ap (λ (l : List ℕ). get_or l (y / 6 * w + x) 0) blank
+    ∙ get_or-replicate (w * div_ceil h 6) (y / 6 * w + x) 0 0 (band_fits w h x y inside_x inside_y) in
+    let clear : bit_at (get_or coverage (y / 6 * w + x) 0) (y % 6) ≡ 0 =
+    ap (λ b. bit_at b (y % 6)) byte ∙ bit_at-zero (y % 6) in
+    ap (λ n. cond (n == 1) (Some (get_or registers (y * w + x) 0)) None) clear))
+
+-- ---- painting
+
+-- a run covers the pixels of its columns, in the rows of its band whose bits are set
+pub covered_band : (left count band bits x y : ℕ) → covers left count band 1 bits x y
+    ≡ (((nat_le left x && nat_lt x (left + count)) && (nat_le band (y / 6) && nat_lt (y / 6) (band + 1)))
+    && (bit_at bits (y % 6) == 1))
+covered_band left count band bits x y =
+    same_test _ _
+    (λ t.
+    let under = lies_under left count band bits x y t in
+    let row : y ≡ band * 6 + under.bit = omega (arith, under.row) in
+    let line : y / 6 ≡ band = ap (λ n. n / 6) row ∙ div-mul-add band 6 under.bit under.below in
+    let bit : y % 6 ≡ under.bit = ap (λ n. n % 6) row ∙ mod-mul-add band 6 under.bit under.below in
+    and_from _ _
+    (and_from _ _ (and_from _ _ (le-leb left x under.from) (lt-ltb x (left + count) under.to))
+    (and_from _ _ (le-leb band (y / 6) (omega arith)) (lt-ltb (y / 6) (band + 1) (omega arith))))
+    (ap (λ n. bit_at bits n == 1) bit ∙ eq-eqb (bit_at bits under.bit) 1 under.set))
+    (λ t.
+    let parts =
+    and_parts ((nat_le left x && nat_lt x (left + count)) && (nat_le band (y / 6) && nat_lt (y / 6) (band + 1)))
+    (bit_at bits (y % 6) == 1) t in
+    let both = and_parts (nat_le left x && nat_lt x (left + count)) (nat_le band (y / 6) && nat_lt (y / 6) (band + 1)) parts.0 in
+    let columns = and_parts (nat_le left x) (nat_lt x (left + count)) both.0 in
+    let rows = and_parts (nat_le band (y / 6)) (nat_lt (y / 6) (band + 1)) both.1 in
+    let low = leb-true _ _ rows.0 in
+    let high = ltb-true _ _ rows.1 in
+    let line : y / 6 ≡ band = omega arith in
+    let place : y / 6 * 6 + y % 6 ≡ y = div-add-mod' y 6 in
+    covers_under left count band bits x y record {
+      bit = y % 6;
+      below = mod_below y 6 (omega arith);
+      set = eqb-true (bit_at bits (y % 6)) 1 parts.1;
+      row = omega arith;
+      from = leb-true _ _ columns.0;
+      to = ltb-true _ _ columns.1;
+    })
+
+greater : (a b : ℕ) → a < 2 → b < 2 → (max a b == 1) ≡ ((b == 1) || (a == 1))
+greater zero zero p q = refl
+greater zero (suc zero) p q = refl
+greater (suc zero) zero p q = refl
+greater (suc zero) (suc zero) p q = refl
+greater (suc (suc a)) b p q = absurd (omega arith)
+greater a (suc (suc b)) p q = absurd (omega arith)
+
+or_bit_of : (old bits k : ℕ) → (bit_at (bit_or old bits) k == 1) ≡ ((bit_at bits k == 1) || (bit_at old k == 1))
+or_bit_of old bits k =
+    ap (λ n. n == 1) (bit_at_or old bits k) ∙ greater (bit_at old k) (bit_at bits k) (bit_at-lt old k) (bit_at-lt bits k)
+
+-- after all six bits the pixels that the run covers have the register
+pub covered_rows : (w left count band bits register : ℕ) (old new : List ℕ)
+    → IsPaintedBelow 6 w left count band bits register old new → (i : ℕ) → i < length old
+    → get_or new i 0 ≡ cond (covers left count band 1 bits (i % w) (i / w)) register (get_or old i 0)
+unfolding covers
+covered_rows w left count band bits register old new painted = painted.pixels
+
+-- a bit of a byte to which bits may have been added
+or_bit : (t : Bool) (old bits k : ℕ)
+    → (bit_at (cond t (bit_or old bits) old) k == 1) ≡ ((t && (bit_at bits k == 1)) || (bit_at old k == 1))
+or_bit true old bits k = or_bit_of old bits k
+or_bit false old bits k = refl
+
+-- a painted pixel over what was there before
+over : (t b : Bool) (r o : ℕ)
+    → cond (t || b) (Some (cond t r o)) None ≡ cond t (Some r) (cond b (Some o) None)
+over true b r o = refl
+over false b r o = refl
+
+-- the bytes after a run say which pixels are painted
+painted_bit : (w left count band bits : ℕ) (old new : List ℕ) (x y : ℕ) → x < w → left + count ≤ w
+    → y / 6 * w + x < length old
+    → AreChanged (band * w + left) (band * w + left + count) (λ b. bit_or b bits) old new
+    → is_painted w new x y ≡ (covers left count band 1 bits x y || is_painted w old x y)
+painted_bit w left count band bits old new x y inside fits there changed =
+    let byte = changed.changed (y / 6 * w + x) there in
+    let place = in_row_at w band (y / 6) x left count inside fits in
+    let before : ℕ = get_or old (y / 6 * w + x) 0 in
+    ap (λ n. bit_at n (y % 6) == 1) (byte ∙ ap (λ (t : Bool). cond t (bit_or before bits) before) place)
+    ∙ or_bit _ before bits (y % 6)
+    ∙ ap (λ t. t || (bit_at before (y % 6) == 1)) (sym (covered_band left count band bits x y))
+
+-- the sheet after a run
+pub painted_bands : (w h left count band bits register : ℕ) (registers coverage registers_after coverage_after : List ℕ)
+    → 0 < w → left + count ≤ w → length registers ≡ w * h → length coverage ≡ w * div_ceil h 6
+    → AreChanged (band * w + left) (band * w + left + count) (λ b. bit_or b bits) coverage coverage_after
+    → ((i : ℕ) → i < length registers → get_or registers_after i 0
+    ≡ cond (covers left count band 1 bits (i % w) (i / w)) register (get_or registers i 0))
+    → sheet_of_bands w h registers_after coverage_after
+    ≡ painted_sheet (sheet_of_bands w h registers coverage) left band count bits register
+unfolding painted_sheet
+painted_bands w h left count band bits register registers coverage registers_after coverage_after
+    some fits whole bands changed written =
+    ap (λ (cells : List (Option ℕ)). record { width = w; height = h; cells = cells })
+    (same_rows w h (cell_of_bands w registers_after coverage_after)
+    (λ x y. cond (covers left count band 1 bits x y) (Some register) (cell (sheet_of_bands w h registers coverage) x y))
+    None some
+    (λ x y inside_x inside_y.
+    let there : y / 6 * w + x < length coverage = rw bands (band_fits w h x y inside_x inside_y) in
+    let pixel : y * w + x < length registers = rw whole (place_fits w h x y inside_x inside_y) in
+    let t : Bool = covers left count band 1 bits x y in
+    let register_now : get_or registers_after (y * w + x) 0 ≡ cond t register (get_or registers (y * w + x) 0) =
+    written (y * w + x) pixel
+    ∙ ap₂ (λ a b. cond (covers left count band 1 bits a b) register (get_or registers (y * w + x) 0))
+    (mod-mul-add y w x inside_x) (div-mul-add y w x inside_x) in
+    ap₂ (λ (b : Bool) n. cond b (Some n) None)
+    (painted_bit w left count band bits coverage coverage_after x y inside_x fits there changed) register_now
+    ∙ over t (is_painted w coverage x y) register (get_or registers (y * w + x) 0)
+    ∙ ap (λ (o : Option ℕ). cond t (Some register) o)
+    (sym (cell_at_bands w h registers coverage x y inside_x inside_y))))
+
+unchanged : (t : Bool) (bits o : ℕ) → bits ≡ 0 → o ≡ cond t (bit_or o bits) o
+unchanged true bits o none = sym (ap (bit_or o) none ∙ or_zero_r o)
+unchanged false bits o none = refl
+
+-- a run without bits changes no byte
+pub nothing_changed : (from to bits : ℕ) (bytes : List ℕ) → bits ≡ 0
+    → AreChanged from to (λ b. bit_or b bits) bytes bytes
+nothing_changed from to bits bytes none = record {
+  long = refl;
+  changed = λ i lt. unchanged _ bits (get_or bytes i 0) none;
+}
+
+no_bit_of : (bits k : ℕ) → k < 6 → any_below 6 (λ n. bit_at bits n == 1) ≡ false → bit_at bits k ≡ bit_at 0 k
+no_bit_of bits k small none = elim (cases_eq (bit_at bits k) 1) [
+  | inl set ↦
+      let some : any_below 6 (λ n. bit_at bits n == 1) ≡ true =
+      any_below_at 6 k (λ n. bit_at bits n == 1) small (eq-eqb (bit_at bits k) 1 set) in
+      cc
+  | inr clear ↦ omega (arith, bit_at-lt bits k, bit_at-zero k)
+]
+
+some_bit_of : (bits : ℕ) → bits ≤ 63 → bits ≢ 0 → (t : Bool) → any_below 6 (λ n. bit_at bits n == 1) ≡ t
+    → PassesBelow 6 (λ n. bit_at bits n == 1)
+some_bit_of bits small some true found = passes_below 6 (λ n. bit_at bits n == 1) found
+some_bit_of bits small some false none =
+    absurd (some (same_from_bits_below 6 bits 0 (omega arith) (omega arith) (λ k few. no_bit_of bits k few none)))
+
+-- a sixel other than 0 has a bit
+some_bit : (bits : ℕ) → bits ≤ 63 → bits ≢ 0 → PassesBelow 6 (λ n. bit_at bits n == 1)
+some_bit bits small some = some_bit_of bits small some _ refl
+
+-- a run with bits lies in one of the bands
+pub run_fits : (w h left count band bits : ℕ) → bits ≤ 63 → left + count ≤ w
+    → ((k : ℕ) → k < 6 → bit_at bits k ≡ 1 → 6 * band + k < h) → bits ≢ 0
+    → band * w + left + count ≤ w * div_ceil h 6
+run_fits w h left count band bits small fits rows some =
+    let found = some_bit bits small some in
+    let set : bit_at bits found.number ≡ 1 = eqb-true (bit_at bits found.number) 1 found.passes in
+    let row : 6 * band + found.number < h = rows found.number found.below set in
+    let few : found.number < 6 = found.below in
+    let line : band < div_ceil h 6 = omega arith in
+    let room : band * w + w ≤ w * div_ceil h 6 = row_fits_turned band w w (div_ceil h 6) line (omega arith) in
+    omega arith

@@ -1,0 +1,5 @@
+use Rattle.sixel_picture.specs.BandPlanes.{RowsArePainted}
+use Rattle.sixel_picture.proofs.band_plane.first_unpainted.Given as goal
+
+abbrev pub invariant-loop-row : goal.invariant-loop-row
+invariant-loop-row l = RowsArePainted l.width l.coverage l.row

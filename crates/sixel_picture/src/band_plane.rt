@@ -1,0 +1,149 @@
+//! A plane of one byte a pixel, and of one byte for each column and band that says which rows are painted.
+
+ghost use Rattle.std.specs.Prelude.{◌≡◌, ◌==◌, ◌<◌, ◌≤◌, ◌+◌, ◌*◌, ◌⊎◌, ℕ, EachIndex, bit_or, length, slice_index};
+ghost use Rattle.std.specs.Prelude.{if◌then◌else◌, ◌%◌, ◌/◌};
+ghost use Rattle.std.specs.Int.{bit_at, div_ceil};
+ghost use Rattle.sixel_picture.specs.BandPlanes.{FirstUnpainted};
+ghost use Rattle.sixel_picture.specs.Geometry.{covers};
+ghost use Rattle.sixel_picture.specs.Lanes.{AreChanged};
+
+use crate::bits::is_set;
+use crate::lanes::{fill, first_without, or_into};
+use crate::plane::Plane;
+use std::alloc::{AllocError, Global};
+use std::marker::Model;
+
+/// A plane that tells by one byte for each column and band which of the six rows are painted.
+///
+/// Runs are painted, and a blank pixel is looked for, many columns at a time. What the byte of a blank
+/// pixel's register is doesn't matter.
+#[derive(Debug, Drop)]
+pub struct BandPlane {
+    width: u32,
+    height: u32,
+    registers: Vec<u8>,
+    coverage: Vec<u8>,
+}
+
+impl Model for BandPlane {
+    ghost use Rattle.sixel_picture.specs.Sheets.{Sheet};
+
+    ghost Value = { Sheet };
+
+    ghost use Rattle.sixel_picture.specs.BandPlanes.{sheet_of_bands, AreBands};
+
+    ghost view = { λ p. sheet_of_bands p.width p.height p.registers.items p.coverage.items };
+
+    ghost invariant = { λ p. AreBands p.width p.height p.registers.items p.coverage.items };
+}
+
+impl Plane for BandPlane {
+    ghost sheet = { λ p. p };
+
+    fn blank(alloc: Global, width: u32, height: u32) -> Result<BandPlane, AllocError> {
+        let registers = vec![in alloc; 0; (width * height) as usize]?;
+        let coverage = vec![in alloc; 0; (width * height.div_ceil(6)) as usize]?;
+        Ok(BandPlane {
+            width,
+            height,
+            registers,
+            coverage,
+        })
+    }
+
+    fn width(&self) -> u32 {
+        self.width
+    }
+
+    fn height(&self) -> u32 {
+        self.height
+    }
+
+    fn paint_run(&mut self, column: u32, band: u32, count: u32, bits: u8, register: u8) {
+        let width = self.width as usize;
+        let start = band as usize * width + column as usize;
+        cover(&mut self.coverage, start, count as usize, bits);
+        fill_rows(
+            &mut self.registers,
+            width,
+            column,
+            band,
+            count,
+            bits,
+            register,
+        );
+    }
+
+    fn register_at(&self, x: u32, y: u32) -> Option<u8> {
+        let width = self.width as usize;
+        let column = x as usize;
+        if is_set(self.coverage[(y / 6) as usize * width + column], y % 6) {
+            Some(self.registers[y as usize * width + column])
+        } else {
+            None
+        }
+    }
+
+    fn first_blank(&self) -> Option<(u32, u32)> {
+        first_unpainted(&self.coverage, self.width, self.height)
+    }
+
+    fn into_registers(self) -> Vec<u8> {
+        let BandPlane {
+            width: _,
+            height: _,
+            registers,
+            coverage: _,
+        } = self;
+        registers
+    }
+}
+
+/// Says of so many columns from `start` on that the rows of the bits are painted.
+fn cover(coverage: &mut [u8], start: usize, count: usize, bits: u8)
+    requires { (bits ≡ 0) ⊎ (start + count ≤ length coverage.old) }
+    ensures { AreChanged start (start + count) (λ b. bit_or b bits) coverage.old coverage.new }
+{
+    if bits != 0 {
+        or_into(coverage, start, start + count, bits);
+    }
+}
+
+/// Gives the pixels of a run a register.
+fn fill_rows(
+    registers: &mut [u8],
+    width: usize,
+    column: u32,
+    band: u32,
+    count: u32,
+    bits: u8,
+    register: u8,
+)
+    requires some { 0 < width }
+    requires columns { column + count ≤ width }
+    requires rows { (k : ℕ) → k < 6 → bit_at bits k ≡ 1 → (6 * band + k) * width + width ≤ length registers.old }
+    ensures { EachIndex registers.old (λ i. slice_index registers.new i
+        ≡ (if covers column count band 1 bits (i % width) (i / width) then register else slice_index registers.old i)) }
+{
+    for bit in 0..6 {
+        if is_set(bits, bit) {
+            let start = (6 * band as usize + bit as usize) * width + column as usize;
+            fill(registers, start, start + count as usize, register);
+        }
+    }
+}
+
+/// The column and the row of the first pixel that isn't painted, in row order.
+fn first_unpainted(coverage: &[u8], width: u32, height: u32) -> Option<(u32, u32)>
+    requires { length coverage.now ≡ width * div_ceil height 6 }
+    ensures { FirstUnpainted width height coverage.now result }
+{
+    let columns = width as usize;
+    for row in 0..height {
+        let start = (row / 6) as usize * columns;
+        if let Some(index) = first_without(coverage, start, start + columns, row % 6) {
+            return Some(((index - start) as u32, row));
+        }
+    }
+    None
+}

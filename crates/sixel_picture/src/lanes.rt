@@ -1,0 +1,136 @@
+//! Work on bytes in a row, 32 lanes at a time.
+
+ghost use Rattle.std.specs.Prelude.{◌≡◌, ◌==◌, ◌+◌, ◌<◌, ◌≤◌, length, bit_or, drop, not, take};
+ghost use Rattle.std.specs.Int.{bit_at};
+ghost use Rattle.std.specs.List.{prefix_len};
+ghost use Rattle.sixel_picture.specs.Lanes.{AreChanged, IsFirst};
+
+use std::simd::prelude::*;
+
+/// How many bytes are taken at once.
+const LANES: usize = 32;
+
+/// Gives the bytes from `from` up to `to` a value.
+pub(crate) fn fill(bytes: &mut [u8], from: usize, to: usize, value: u8)
+    requires ordered { from ≤ to }
+    requires within { to ≤ length bytes.old }
+    ensures { AreChanged from to (λ b. value) bytes.old bytes.new }
+{
+    let rest = fill_groups(bytes, from, to, value);
+    for index in rest..to {
+        bytes[index] = value;
+    }
+}
+
+/// Gives as many bytes from `from` on a value as whole groups hold, and tells where the rest begins.
+fn fill_groups(bytes: &mut [u8], from: usize, to: usize, value: u8) -> usize
+    requires ordered { from ≤ to }
+    requires within { to ≤ length bytes.old }
+    ensures from { from ≤ result }
+    ensures to { result ≤ to }
+    ensures whole { to < result + LANES }
+    ensures changed { AreChanged from result (λ b. value) bytes.old bytes.new }
+{
+    let groups = (to - from) / LANES;
+    for group in 0..groups {
+        fill_group(bytes, from + group * LANES, value);
+    }
+    from + groups * LANES
+}
+
+fn fill_group(bytes: &mut [u8], at: usize, value: u8)
+    requires { at + LANES ≤ length bytes.old }
+    ensures { AreChanged at (at + LANES) (λ b. value) bytes.old bytes.new }
+{
+    u8x32::splat(value).copy_to_slice(&mut bytes[at..]);
+}
+
+/// Sets bits in the bytes from `from` up to `to`.
+pub(crate) fn or_into(bytes: &mut [u8], from: usize, to: usize, bits: u8)
+    requires ordered { from ≤ to }
+    requires within { to ≤ length bytes.old }
+    ensures { AreChanged from to (λ b. bit_or b bits) bytes.old bytes.new }
+{
+    let rest = or_into_groups(bytes, from, to, bits);
+    for index in rest..to {
+        bytes[index] |= bits;
+    }
+}
+
+/// Sets bits in as many bytes from `from` on as whole groups hold, and tells where the rest begins.
+fn or_into_groups(bytes: &mut [u8], from: usize, to: usize, bits: u8) -> usize
+    requires ordered { from ≤ to }
+    requires within { to ≤ length bytes.old }
+    ensures from { from ≤ result }
+    ensures to { result ≤ to }
+    ensures whole { to < result + LANES }
+    ensures changed { AreChanged from result (λ b. bit_or b bits) bytes.old bytes.new }
+{
+    let groups = (to - from) / LANES;
+    for group in 0..groups {
+        or_into_group(bytes, from + group * LANES, bits);
+    }
+    from + groups * LANES
+}
+
+fn or_into_group(bytes: &mut [u8], at: usize, bits: u8)
+    requires { at + LANES ≤ length bytes.old }
+    ensures { AreChanged at (at + LANES) (λ b. bit_or b bits) bytes.old bytes.new }
+{
+    let lanes = u8x32::from_slice(&bytes[at..]) | u8x32::splat(bits);
+    lanes.copy_to_slice(&mut bytes[at..]);
+}
+
+/// The index of the first byte without a bit, of those from `from` up to `to`.
+pub(crate) fn first_without(bytes: &[u8], from: usize, to: usize, bit: u32) -> Option<usize>
+    requires bit { bit < 8 }
+    requires ordered { from ≤ to }
+    requires within { to ≤ length bytes.now }
+    ensures { IsFirst (λ b. bit_at b bit == 0) from to bytes.now result }
+{
+    let groups = (to - from) / LANES;
+    for group in 0..groups {
+        if let Some(index) = first_in_group(bytes, from + group * LANES, bit) {
+            return Some(index);
+        }
+    }
+    first_in_rest(bytes, from + groups * LANES, to, bit)
+}
+
+fn first_in_group(bytes: &[u8], at: usize, bit: u32) -> Option<usize>
+    requires bit { bit < 8 }
+    requires within { at + LANES ≤ length bytes.now }
+    ensures { IsFirst (λ b. bit_at b bit == 0) at (at + LANES) bytes.now result }
+{
+    let run = run_with(bytes, at, bit);
+    if run < LANES { Some(at + run) } else { None }
+}
+
+/// How many bytes of the group from `at` on come before the first without a bit.
+fn run_with(bytes: &[u8], at: usize, bit: u32) -> usize
+    requires bit { bit < 8 }
+    requires within { at + LANES ≤ length bytes.now }
+    ensures { result ≡ prefix_len (λ b. not (bit_at b bit == 0)) (take LANES (drop at bytes.now)) }
+{
+    let lanes = u8x32::from_slice(&bytes[at..]) & u8x32::splat(1 << bit);
+    let without = lanes.simd_eq(u8x32::splat(0)).to_bitmask();
+    if without == 0 {
+        LANES
+    } else {
+        without.trailing_zeros() as usize
+    }
+}
+
+fn first_in_rest(bytes: &[u8], from: usize, to: usize, bit: u32) -> Option<usize>
+    requires bit { bit < 8 }
+    requires ordered { from ≤ to }
+    requires within { to ≤ length bytes.now }
+    ensures { IsFirst (λ b. bit_at b bit == 0) from to bytes.now result }
+{
+    for index in from..to {
+        if bytes[index] >> bit & 1 == 0 {
+            return Some(index);
+        }
+    }
+    None
+}

@@ -1,0 +1,185 @@
+//! Both planes are given the same runs, and show the same pixels.
+
+ghost use Rattle.std.specs.Prelude.{◌≡◌, ◌<◌, ◌≤◌, ◌+◌, ◌*◌, ℕ, IsTrue};
+ghost use Rattle.std.specs.Int.{bit_at};
+
+use crate::band_plane::BandPlane;
+use crate::bits::is_set;
+use crate::byte_plane::BytePlane;
+use crate::plane::Plane;
+use std::alloc::AllocError;
+use std::test::Fail;
+
+/// A run of columns in a band.
+#[derive(Clone, Copy)]
+struct Run {
+    column: u32,
+    band: u32,
+    count: u32,
+    bits: u8,
+    register: u8,
+}
+
+/// Whether the rows of the set bits lie above `height`.
+fn rows_fit(bits: u8, band: u32, height: u32) -> bool
+    requires { band < 1000 }
+    ensures { IsTrue result → (k : ℕ) → k < 6 → bit_at bits k ≡ 1 → 6 * band + k < height }
+{
+    for bit in 0..6 {
+        if is_set(bits, bit) && 6 * band + bit >= height {
+            return false;
+        }
+    }
+    true
+}
+
+/// Paints a run, or tells that it doesn't lie in the plane.
+fn paint<P: Plane>(plane: &mut P, run: Run) -> bool {
+    let Run {
+        column,
+        band,
+        count,
+        bits,
+        register,
+    } = run;
+    let width = plane.width();
+    let height = plane.height();
+    let in_columns = column <= width && count <= width - column;
+    if in_columns && bits <= 63 && register < 16 && band < 1000 && rows_fit(bits, band, height) {
+        plane.paint_run(column, band, count, bits, register);
+        return true;
+    }
+    false
+}
+
+/// Whether the planes show the same pixels in a row.
+fn is_same_row<P: Plane, Q: Plane>(one: &P, other: &Q, row: u32) -> bool {
+    let (width, height) = (one.width(), one.height());
+    if width != other.width() || height != other.height() || row >= height {
+        return false;
+    }
+    for column in 0..width {
+        if one.register_at(column, row) != other.register_at(column, row) {
+            return false;
+        }
+    }
+    true
+}
+
+/// Whether the planes show the same pixels.
+fn is_same<P: Plane, Q: Plane>(one: &P, other: &Q) -> bool {
+    for row in 0..one.height() {
+        if !is_same_row(one, other, row) {
+            return false;
+        }
+    }
+    one.first_blank() == other.first_blank()
+}
+
+/// Paints a run in both planes, and tells whether they took it and show the same.
+fn paint_both(bytes: &mut BytePlane, bands: &mut BandPlane, run: Run) -> bool {
+    paint(bytes, run) && paint(bands, run) && is_same(bytes, bands)
+}
+
+/// Nine runs that leave a plane of nine rows without a blank pixel. Some overlap, some have no bits or no columns.
+fn run_at(width: u32, index: u32) -> Run
+    requires { 0 < width }
+{
+    let last = width - 1;
+    let (column, band, count, bits, register) = match index {
+        0 => (0, 900, width, 0, 15),
+        1 => (width, 1, 0, 7, 15),
+        2 => (last, 1, 1, 1, 2),
+        3 => (0, 0, last, 63, 1),
+        4 => (width / 3, 0, width / 2, 21, 5),
+        5 => (last, 0, 1, 62, 3),
+        6 => (last, 0, 1, 1, 4),
+        7 => (0, 1, last, 3, 6),
+        _ => (0, 1, width, 6, 0),
+    };
+    Run {
+        column,
+        band,
+        count,
+        bits,
+        register,
+    }
+}
+
+#[test]
+fn both_planes_show_the_same(rt: HostRuntime) -> Result<(), Fail> {
+    for width in [1, 31, 32, 33, 64, 2048] {
+        assert!(rt; 0 < width && width <= 2048);
+        let mut bytes = BytePlane::blank(rt.alloc(), width, 9)?;
+        let mut bands = BandPlane::blank(rt.alloc(), width, 9)?;
+        assert!(rt; is_same(&bytes, &bands), "blank, {width} wide");
+        for index in 0..9 {
+            let run = run_at(width, index);
+            assert!(rt;
+                paint_both(&mut bytes, &mut bands, run),
+                "run {index}, {width} wide"
+            );
+        }
+        assert_eq!(rt; bands.first_blank(), None, "{width} wide");
+    }
+    Ok(())
+}
+
+#[test]
+fn the_columns_after_whole_groups_are_looked_at(rt: HostRuntime) -> Result<(), Fail> {
+    let mut plane = BandPlane::blank(rt.alloc(), 33, 6)?;
+    for (column, count, bits, register, expected) in [
+        (0, 32, 63, 1, Some((32, 0))),
+        (32, 1, 62, 2, Some((32, 0))),
+        (32, 1, 1, 2, None),
+    ] {
+        let run = Run {
+            column,
+            band: 0,
+            count,
+            bits,
+            register,
+        };
+        assert!(rt; paint(&mut plane, run));
+        assert_eq!(rt; plane.first_blank(), expected, "after column {column}");
+    }
+    Ok(())
+}
+
+/// `rt try --test --fail-alloc N` refuses the first and the second growth of a plane in turn.
+#[test]
+fn a_refused_growth_of_bands_is_answered(rt: HostRuntime) -> Result<(), Fail> {
+    match BandPlane::blank(rt.alloc(), 3, 2) {
+        Ok(plane) => assert_eq!(rt; plane.first_blank(), Some((0, 0))),
+        Err(refused) => assert_eq!(rt; refused, AllocError),
+    }
+    Ok(())
+}
+
+#[test]
+fn a_band_plane_hands_out_its_registers(rt: HostRuntime) -> Result<(), Fail> {
+    let mut plane = BandPlane::blank(rt.alloc(), 2, 7)?;
+    for (column, band, count, bits, register, expected) in [
+        (0, 0, 2, 63, 3, Some((0, 6))),
+        (0, 1, 1, 1, 4, Some((1, 6))),
+        (1, 1, 1, 1, 4, None),
+    ] {
+        let run = Run {
+            column,
+            band,
+            count,
+            bits,
+            register,
+        };
+        assert!(rt; paint(&mut plane, run));
+        assert_eq!(rt; plane.first_blank(), expected, "after register {register}");
+    }
+    let blank = plane.first_blank();
+    assert_eq!(rt; blank, None);
+    let registers = plane.into_registers();
+    assert_eq!(rt;
+        registers.as_slice(),
+        [3, 3, 3, 3, 3, 3, 3, 3, 3, 3, 3, 3, 4, 4].as_slice()
+    );
+    Ok(())
+}
