@@ -13,7 +13,7 @@ use Rattle.sixel_check.specs.declared.verdict.Verdict.{Verdict}
 use Rattle.sixel_check.specs.declared.verdict.Verdict.TheVariants.{Portable, Broken}
 use Rattle.sixel_check.specs.Laws.{VerdictIsLeft}
 use Rattle.sixel_check.specs.Portable.{IsShownEverywhere}
-use Rattle.sixel_check.specs.Standing.{StandsAfter, is_whole}
+use Rattle.sixel_check.specs.Standing.{CheckerValue, StandsAfter, is_whole}
 use Rattle.sixel_check.specs.Verdicts.{IsVerdict, number_of}
 use Rattle.sixel_check.proofs.ShownLemmas.{left_is_portable}
 use Rattle.sixel_check.proofs.StandLemmas.{stands_whole}
@@ -49,9 +49,8 @@ verdict_everywhere n placed (Portable p) whole k = rw k.1 (left_is_portable n (e
 verdict_everywhere n placed (Broken f) whole k = tt
 
 -- and so is each verdict on the events after which a checker stands
-pub stands_everywhere : (kept first seen : List Placed) (v : Verdict) → StandsAfter kept first → IsTrue (is_whole first)
-    → IsVerdict 16 kept v → StandsAfter kept seen → IsShownEverywhere 16 (events_of seen) v
-unfolding StandsAfter
-stands_everywhere kept first seen v f whole k s =
-    subst (λ (l : List Placed). IsShownEverywhere 16 (events_of l) v) s.0
-    (verdict_everywhere 16 kept v (stands_whole kept first f whole) k)
+pub stands_everywhere : (checker : CheckerValue) (first seen : List Placed) (v : Verdict) → StandsAfter checker first
+    → IsTrue (is_whole first) → StandsAfter checker seen → IsVerdict 16 seen v
+    → IsShownEverywhere 16 (events_of seen) v
+stands_everywhere checker first seen v f whole s k =
+    verdict_everywhere 16 seen v (stands_whole checker first seen f whole s) k

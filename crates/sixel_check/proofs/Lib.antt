@@ -12,6 +12,7 @@ pub mod VerdictLemmas
 pub mod SearchLemmas
 pub mod DecideLemmas
 pub mod StandLemmas
+pub mod GrowthLemmas
 pub mod ReadLemmas
 pub mod ColourLemmas
 pub mod SteadyLemmas

@@ -26,7 +26,7 @@ use Rattle.sixel_grammar.proofs.Total.{complete_front}
 use Rattle.sixel_grammar.proofs.Writable.{events_can}
 use Rattle.sixel_picture.specs.Events.{is_finish}
 use Rattle.sixel_check.specs.Reading.{AreAfter, MayCome, MayComplete}
-use Rattle.sixel_check.specs.Standing.{StandsAfter, expects, is_start, is_whole}
+use Rattle.sixel_check.specs.Standing.{CheckerValue, StandsAfter, expects, is_start, is_whole}
 use Rattle.sixel_check.proofs.StandLemmas.{begun_goes_on, steps_go_on, whole_events}
 
 -- ---- an event of a front may come next
@@ -126,7 +126,7 @@ read_may reader seen c bytes s =
     (events_can (seen ++ grammar.completions c) bytes complete)
 
 -- both stand after one byte more
-pub after_byte : (old new : Reader) (kept more : List Placed) (c : Completed) (front : List ℕ) (byte : ℕ)
+pub after_byte : (old new : Reader) (kept more : CheckerValue) (c : Completed) (front : List ℕ) (byte : ℕ)
     → grammar.Takes old new byte (grammar.completions c)
     → ((seen : List Placed) → StandsAfter kept seen → StandsAfter more (seen ++ grammar.completions c))
     → AreAfter old kept front → AreAfter new more (front ++ byte ∷ [])
@@ -137,7 +137,7 @@ after_byte old new kept more c front byte takes keeps a = record {
 }
 
 -- neither has read a byte
-pub after_none : (reader : Reader) (kept : List Placed) → grammar.StandsAfter reader [] [] → StandsAfter kept []
+pub after_none : (reader : Reader) (kept : CheckerValue) → grammar.StandsAfter reader [] [] → StandsAfter kept []
     → AreAfter reader kept []
 after_none reader kept read checked = record { events = []; read = read; checked = checked }
 

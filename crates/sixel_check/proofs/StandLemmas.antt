@@ -1,7 +1,7 @@
 -- On the events that a checker has seen.
-use Rattle.std.proofs.Common.{◌≡◌, ℕ, zero, suc, ◌<◌, ◌||◌, Bool, true, false, not, Some, IsTrue, ◌⊎◌, inl, inr}
+use Rattle.std.proofs.Common.{◌≡◌, ℕ, zero, suc, ◌<◌, ◌||◌, ◌&&◌, Bool, true, false, not, Some, IsTrue, ◌⊎◌, inl, inr}
 use Rattle.std.proofs.Common.{List, [], ◌∷◌, ◌++◌, length, sym, ◌∙◌, ap, subst, refl}
-use Rattle.std.specs.Prelude.{slice_get}
+use Rattle.std.specs.Prelude.{if◌then◌else◌}
 use Rattle.std.specs.List.{AllByRecursion, list_any}
 use Rattle.std.proofs.lemmas.Bool.{and_parts}
 use Rattle.sixel_grammar.specs.Document.{AreRest, AreWhole, events_of}
@@ -11,7 +11,11 @@ use Rattle.sixel_grammar.specs.declared.command.Event.{Event}
 use Rattle.sixel_grammar.specs.declared.command.Event.TheVariants.{Start, Step, Finish}
 use Rattle.sixel_grammar.specs.declared.command.Placed.{Placed}
 use Rattle.sixel_picture.specs.Events.{is_finish}
-use Rattle.sixel_check.specs.Standing.{StandsAfter, expects, is_start, is_whole}
+use Rattle.sixel_check.specs.declared.progress.Progress.{Progress}
+use Rattle.sixel_check.specs.declared.progress.Progress.TheVariants.{Fresh, Begun, Whole}
+use Rattle.sixel_check.specs.Judging.{JudgesAfter}
+use Rattle.sixel_check.specs.Standing.{CheckerValue, StandsAfter, expects, expects_from, is_start, is_whole}
+use Rattle.sixel_check.specs.Standing.{is_whole_at, progress_of, progress_with}
 use Rattle.sixel_check.proofs.JudgeLemmas.{events_push}
 
 -- ---- the shape of what was seen
@@ -95,14 +99,6 @@ front_first (Finish eight) h = cc
 
 -- ---- one event more
 
--- each of spellable events is spellable
-pub spellable_there : (seen : List Placed) (i : ℕ) (p : Placed) → AllByRecursion IsSpellable (events_of seen)
-    → slice_get seen i ≡ Some p → IsSpellable p.event
-spellable_there [] i p each e = cc
-spellable_there (q ∷ qs) zero p each e =
-    let same : q ≡ p = cc in subst (λ (r : Placed). IsSpellable r.event) same each.0
-spellable_there (q ∷ qs) (suc i) p each e = spellable_there qs i p each.1 e
-
 spellable_push : (events : List Event) (e : Event) → AllByRecursion IsSpellable events → IsSpellable e
     → AllByRecursion IsSpellable (events ++ e ∷ [])
 spellable_push [] e each h = (h, tt)
@@ -124,23 +120,88 @@ front_next (q ∷ qs) p front h =
     front_push (events_of (q ∷ qs)) p.event front (whole_events (q ∷ qs) ∙ is_not (is_whole (q ∷ qs)) parts.0)
     (is_not (is_start p.event) parts.1) (λ e. cc)
 
--- after one expected event more
-pub stands_push : (kept first seen : List Placed) (p : Placed) → StandsAfter kept first → IsTrue (expects first p.event)
-    → IsSpellable p.event → StandsAfter kept seen → StandsAfter (kept ++ p ∷ []) (seen ++ p ∷ [])
+-- ---- how far the events have come
+
+expects_two : (b : Bool) (e : Event) → expects_from (if b then Whole else Begun) e ≡ (not b && not (is_start e))
+expects_two true e = refl
+expects_two false e = refl
+
+expects_of : (seen : List Placed) (e : Event) → expects_from (progress_of seen) e ≡ expects seen e
+expects_of [] e = refl
+expects_of (q ∷ qs) e = expects_two (is_whole (q ∷ qs)) e
+
+whole_two : (b : Bool) → is_whole_at (if b then Whole else Begun) ≡ b
+whole_two true = refl
+whole_two false = refl
+
+whole_of : (seen : List Placed) → is_whole_at (progress_of seen) ≡ is_whole seen
+whole_of [] = refl
+whole_of (q ∷ qs) = whole_two (is_whole (q ∷ qs))
+
+or_none : (b : Bool) → (b || false) ≡ b
+or_none true = refl
+or_none false = refl
+
+whole_step : (a b c d : Bool) → (a || b) ≡ false → (b ≡ false → c ≡ d) → (a || c) ≡ d
+whole_step true b c d h k = cc
+whole_step false b c d h k = k h
+
+whole_push : (seen : List Placed) (p : Placed) → is_whole seen ≡ false → is_whole (seen ++ p ∷ []) ≡ is_finish p.event
+whole_push [] p h = or_none (is_finish p.event)
+whole_push (q ∷ qs) p h =
+    whole_step (is_finish q.event) (is_whole qs) (is_whole (qs ++ p ∷ [])) (is_finish p.event) h (whole_push qs p)
+
+progress_push : (seen : List Placed) (p : Placed) → IsTrue (expects seen p.event)
+    → progress_of (seen ++ p ∷ []) ≡ progress_with p.event
+progress_push [] p h = ap (λ (b : Bool). if b then Whole else Begun) (whole_push [] p refl)
+progress_push (q ∷ qs) p h =
+    let parts = and_parts (not (is_whole (q ∷ qs))) (not (is_start p.event)) h in
+    ap (λ (b : Bool). if b then Whole else Begun) (whole_push (q ∷ qs) p (is_not (is_whole (q ∷ qs)) parts.0))
+
+-- ---- where a checker stands
+
+pub stands_none : (checker : CheckerValue) → JudgesAfter checker.finding checker.notes checker.sheet []
+    → checker.progress ≡ Fresh → StandsAfter checker []
 unfolding StandsAfter
-stands_push kept first seen p f expected spellable s =
-    let same : first ≡ seen = sym f.0 ∙ s.0 in
-    let may : IsTrue (expects seen p.event) = subst (λ (l : List Placed). IsTrue (expects l p.event)) same expected in (
-      ap (λ (l : List Placed). l ++ p ∷ []) s.0,
-      subst AreFront (sym (events_push seen p)) (front_next seen p s.1 may),
+stands_none checker judges fresh = (judges, fresh, inl refl, tt)
+
+-- what its parts say
+pub judges_inside : (inside checker : CheckerValue) (seen : List Placed) → inside ≡ checker → StandsAfter checker seen
+    → JudgesAfter inside.finding inside.notes inside.sheet seen
+unfolding StandsAfter
+judges_inside inside checker seen is s =
+    subst (λ (v : CheckerValue). JudgesAfter v.finding v.notes v.sheet seen) (sym is) s.0
+
+pub stands_expects : (checker : CheckerValue) (seen : List Placed) (e : Event) → StandsAfter checker seen
+    → expects_from checker.progress e ≡ expects seen e
+unfolding StandsAfter
+stands_expects checker seen e s = ap (λ (g : Progress). expects_from g e) s.1 ∙ expects_of seen e
+
+pub stands_whole_at : (checker : CheckerValue) (seen : List Placed) → StandsAfter checker seen
+    → is_whole_at checker.progress ≡ is_whole seen
+unfolding StandsAfter
+stands_whole_at checker seen s = ap is_whole_at s.1 ∙ whole_of seen
+
+-- after one expected event more
+pub stands_push : (old new : CheckerValue) (first seen : List Placed) (p : Placed) → StandsAfter old first
+    → IsTrue (expects first p.event) → IsSpellable p.event → StandsAfter old seen
+    → JudgesAfter new.finding new.notes new.sheet (seen ++ p ∷ []) → new.progress ≡ progress_with p.event
+    → StandsAfter new (seen ++ p ∷ [])
+unfolding StandsAfter
+stands_push old new first seen p f expected spellable s judges far =
+    let may : IsTrue (expects seen p.event) =
+    sym (stands_expects old seen p.event s) ∙ stands_expects old first p.event f ∙ expected in (
+      judges,
+      far ∙ sym (progress_push seen p may),
+      subst AreFront (sym (events_push seen p)) (front_next seen p s.2 may),
       subst (AllByRecursion IsSpellable) (sym (events_push seen p))
-          (spellable_push (events_of seen) p.event s.2 spellable),
+          (spellable_push (events_of seen) p.event s.3 spellable),
     )
 
 -- where the end came, the events are whole
-pub stands_whole : (kept seen : List Placed) → StandsAfter kept seen → IsTrue (is_whole seen)
-    → AreWhole (events_of kept)
+pub stands_whole : (checker : CheckerValue) (first seen : List Placed) → StandsAfter checker first
+    → IsTrue (is_whole first) → StandsAfter checker seen → AreWhole (events_of seen)
 unfolding StandsAfter
-stands_whole kept seen s whole =
-    subst (λ (l : List Placed). AreWhole (events_of l)) (sym s.0)
-    (front_whole (events_of seen) s.1 (whole_events seen ∙ whole))
+stands_whole checker first seen f whole s =
+    front_whole (events_of seen) s.2
+    (whole_events seen ∙ sym (stands_whole_at checker seen s) ∙ stands_whole_at checker first f ∙ whole)

@@ -1,10 +1,11 @@
 -- What the laws say.
-use Rattle.std.specs.Prelude.{◌≡◌, ◌<◌, ◌≤◌, ℕ, false, Some, None, IsTrue, List, [], ◌∷◌, slice_get, take}
+use Rattle.std.specs.Prelude.{◌≡◌, ◌<◌, ◌≤◌, ◌++◌, ℕ, false, Some, None, IsTrue, List, [], ◌∷◌, slice_get, take}
 use Rattle.sixel_grammar.specs.declared.command.Command.TheVariants.{Sixel, Raster, Select, Define}
 use Rattle.sixel_grammar.specs.declared.command.Event.{Event}
 use Rattle.sixel_grammar.specs.declared.command.Event.TheVariants.{Start, Step, Finish}
 use Rattle.sixel_grammar.specs.declared.command.Placed.{Placed}
 use Rattle.sixel_grammar.specs.Document.{AreWhole, events_of}
+use Rattle.sixel_grammar.specs.Prefix.{CompleteIn}
 use Rattle.sixel_picture.specs.Colours.{palette_at}
 use Rattle.sixel_picture.specs.Events.{Attributes, is_data_command, is_in_box, is_painting, raster_of}
 use Rattle.sixel_picture.specs.Pictures.{PictureValue}
@@ -13,6 +14,7 @@ use Rattle.sixel_terminal.specs.Displays.{Display, registers_of}
 use Rattle.sixel_terminal.specs.Drawing.{IsPainted, map_on}
 use Rattle.sixel_check.specs.declared.verdict.Verdict.{Verdict}
 use Rattle.sixel_check.specs.declared.verdict.Verdict.TheVariants.{Portable}
+use Rattle.sixel_check.specs.Growth.{MayGrowAmong}
 use Rattle.sixel_check.specs.Portable.{IsInBoxOn, IsPortable}
 use Rattle.sixel_check.specs.Verdicts.{IsVerdict}
 
@@ -59,6 +61,21 @@ VerdictIsLeft registers =
     (placed : List Placed) (p : PictureValue) → BreaksNone registers 12 (events_of placed)
     → p ≡ picture_left registers (events_of placed)
     → IsVerdict registers placed (Portable p) × ((v : Verdict) → IsVerdict registers placed v → v ≡ Portable p)
+
+-- a list of events has some verdict
+abbrev pub SomeVerdict : ℕ → Type 0
+SomeVerdict registers = (placed : List Placed) → (v : Verdict) × IsVerdict registers placed v
+
+-- and one only
+abbrev pub OneVerdict : ℕ → Type 0
+OneVerdict registers =
+    (placed : List Placed) (v w : Verdict) → IsVerdict registers placed v → IsVerdict registers placed w → v ≡ w
+
+-- where memory may be taken at an event that is complete in a front of the bytes, it may be at one in each longer front
+abbrev pub GrowthStays : Type 0
+GrowthStays =
+    (front rest : List ℕ) (first second : List Placed) → CompleteIn first front → CompleteIn second (front ++ rest)
+    → MayGrowAmong first → MayGrowAmong second
 
 -- a box of one pixel, painted in a register that is defined and selected
 abbrev pub one_pixel : List Event

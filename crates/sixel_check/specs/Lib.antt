@@ -1,9 +1,10 @@
 pub mod Verdicts
-pub mod Standing
 pub mod Judging
+pub mod Standing
 pub mod Steps
 pub mod Breaches
 pub mod Outside
+pub mod Growth
 pub mod Reading
 pub mod Portable
 pub mod Laws

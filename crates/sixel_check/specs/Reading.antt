@@ -10,7 +10,7 @@ use Rattle.sixel_grammar.specs.declared.command.Placed.{Placed}
 use Rattle.sixel_grammar.specs.declared.fault.InputFault.{InputFault}
 use Rattle.sixel_grammar.specs.declared.reader.Reader.{Reader}
 use Rattle.sixel_check.specs.Portable.{IsShownEverywhere}
-use Rattle.sixel_check.specs.Standing.{StandsAfter, expects}
+use Rattle.sixel_check.specs.Standing.{CheckerValue, StandsAfter, expects}
 use Rattle.sixel_check.specs.Verdicts.{IsVerdict}
 use Rattle.sixel_check.specs.declared.verdict.Verdict.{Verdict}
 
@@ -23,10 +23,10 @@ Answers (Ok verdict) bytes =
 Answers (Err fault) bytes = Explains fault bytes
 
 -- the reader stands after these bytes, and the checker after the events that are complete in them
-pub record AreAfter (reader : Reader) (kept : List Placed) (bytes : List ℕ) : Type 0 where
+pub record AreAfter (reader : Reader) (checker : CheckerValue) (bytes : List ℕ) : Type 0 where
   pub events : List Placed
   pub read : grammar.StandsAfter reader events bytes
-  pub checked : StandsAfter kept events
+  pub checked : StandsAfter checker events
 
 -- the event may come next, and is spellable
 abbrev pub MayCome : List Placed → Option Placed → Type 0

@@ -1,5 +1,5 @@
 -- The events that a checker has seen.
-use Rattle.std.specs.Prelude.{◌≡◌, ◌&&◌, Bool, true, false, not, List, [], ◌∷◌}
+use Rattle.std.specs.Prelude.{◌≡◌, ◌&&◌, Bool, true, false, not, Option, List, [], ◌∷◌, if◌then◌else◌}
 use Rattle.std.specs.List.{AllByRecursion, list_any}
 use Rattle.sixel_grammar.specs.declared.command.Event.{Event}
 use Rattle.sixel_grammar.specs.declared.command.Event.TheVariants.{Start}
@@ -8,10 +8,12 @@ use Rattle.sixel_grammar.specs.Document.{events_of}
 use Rattle.sixel_grammar.specs.Faults.{AreFront}
 use Rattle.sixel_grammar.specs.Spelling.{IsSpellable}
 use Rattle.sixel_picture.specs.Events.{is_finish}
-
--- the checker has seen these events, in order: none, or a start and commands, or a start, commands and a finish
-unfoldable pub StandsAfter : List Placed → List Placed → Type 0
-StandsAfter kept seen = (kept ≡ seen) × AreFront (events_of seen) × AllByRecursion IsSpellable (events_of seen)
+use Rattle.sixel_picture.specs.Sheets.{Sheet}
+use Rattle.sixel_check.specs.declared.notes.Notes.{Notes}
+use Rattle.sixel_check.specs.declared.progress.Progress.{Progress}
+use Rattle.sixel_check.specs.declared.progress.Progress.TheVariants.{Fresh, Begun, Whole}
+use Rattle.sixel_check.specs.declared.verdict.Finding.{Finding}
+use Rattle.sixel_check.specs.Judging.{JudgesAfter}
 
 abbrev pub is_start : Event → Bool
 is_start (Start eight parameters) = true
@@ -25,3 +27,36 @@ is_whole seen = list_any (λ p. is_finish p.event) seen
 abbrev pub expects : List Placed → Event → Bool
 expects [] e = is_start e
 expects (p ∷ ps) e = not (is_whole (p ∷ ps)) && not (is_start e)
+
+-- how far the events have come
+abbrev pub progress_of : List Placed → Progress
+progress_of [] = Fresh
+progress_of (p ∷ ps) = if is_whole (p ∷ ps) then Whole else Begun
+
+-- what is expected, by how far they have come
+abbrev pub expects_from : Progress → Event → Bool
+expects_from Fresh e = is_start e
+expects_from Begun e = not (is_start e)
+expects_from Whole e = false
+
+abbrev pub is_whole_at : Progress → Bool
+is_whole_at Fresh = false
+is_whole_at Begun = false
+is_whole_at Whole = true
+
+-- how far they have come with an event that was expected
+abbrev pub progress_with : Event → Progress
+progress_with e = if is_finish e then Whole else Begun
+
+-- what a checker keeps: the first broken rule, else what the rules ask of the events; and how far they have come
+pub record CheckerValue : Type 0 where
+  pub finding : Option Finding
+  pub notes : Notes
+  pub sheet : Option Sheet
+  pub progress : Progress
+
+-- the checker has seen these events, in order: none, or a start and commands, or a start, commands and a finish
+unfoldable pub StandsAfter : CheckerValue → List Placed → Type 0
+StandsAfter checker seen =
+    JudgesAfter checker.finding checker.notes checker.sheet seen × (checker.progress ≡ progress_of seen)
+    × AreFront (events_of seen) × AllByRecursion IsSpellable (events_of seen)

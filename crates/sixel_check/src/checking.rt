@@ -1,17 +1,18 @@
 //! Checking the bytes of a document.
 
-ghost use Rattle.std.specs.Prelude.{◌≡◌, ◌++◌, ◌∷◌, [], ℕ, List, IfErr, IfSome, OnOk};
+ghost use Rattle.std.specs.Prelude.{◌≡◌, ◌≢◌, ◌++◌, ◌∷◌, [], ℕ, List, Err, IfErr, IfSome, OnErr, OnOk};
 ghost use Rattle.std.specs.Option.{option_to_list};
 ghost use Rattle.sixel_grammar.specs.Reading.{ExplainsAlways, failures_after};
 ghost use Rattle.sixel_grammar.specs.Standing.{completions};
 ghost use Rattle.sixel_grammar.specs.declared.command.Placed.{Placed as PlacedValue};
+ghost use Rattle.sixel_check.specs.Growth.{GrowsFor, MayGrowAmong, MayGrowIn};
 ghost use Rattle.sixel_check.specs.Reading.{Answers, AreAfter, MayCome, MayComplete};
 ghost use Rattle.sixel_check.specs.Standing.{StandsAfter};
 
 use crate::checker::Checker;
 use crate::verdict::Verdict;
 use sixel_grammar::{Completed, InputFault, Placed, Reader, Source};
-use sixel_picture::{BytePlane, Plane};
+use sixel_picture::{BandPlane, Plane};
 use std::alloc::Global;
 
 /// How many bytes are asked of a source at once.
@@ -23,6 +24,8 @@ fn keep_one<P: Plane>(checker: &mut Checker<P>, placed: Option<Placed>) -> Resul
     ensures kept { OnOk result ((seen : List PlacedValue) → StandsAfter checker.old seen
         → StandsAfter checker.new (seen ++ option_to_list placed)) }
     ensures refused { IfErr result (λ fault. fault ≡ InputFault.OutOfMemory) }
+    ensures grows { OnErr result ((seen : List PlacedValue) → StandsAfter checker.old seen
+        → MayGrowAmong (seen ++ option_to_list placed)) }
 {
     match placed {
         None => Ok(()),
@@ -39,6 +42,8 @@ fn keep<P: Plane>(checker: &mut Checker<P>, completed: Completed) -> Result<(), 
     ensures kept { OnOk result ((seen : List PlacedValue) → StandsAfter checker.old seen
         → StandsAfter checker.new (seen ++ completions completed)) }
     ensures refused { IfErr result (λ fault. fault ≡ InputFault.OutOfMemory) }
+    ensures grows { OnErr result ((seen : List PlacedValue) → StandsAfter checker.old seen
+        → MayGrowAmong (seen ++ completions completed)) }
 {
     let Completed { first, second } = completed;
     keep_one(checker, first)?;
@@ -56,6 +61,8 @@ fn read_byte<P: Plane>(
         → AreAfter reader.new checker.new (front ++ byte ∷ [])) }
     ensures refused { IfErr result (λ fault. (front : List ℕ) → AreAfter reader.old checker.old front
         → ExplainsAlways fault (front ++ byte ∷ [])) }
+    ensures memory { IfErr result (λ fault. (front : List ℕ) → AreAfter reader.old checker.old front
+        → GrowsFor fault (front ++ byte ∷ [])) }
 {
     match reader.feed(byte) {
         Ok(completed) => keep(checker, completed),
@@ -74,6 +81,8 @@ fn read_piece<P: Plane>(
         → AreAfter reader.new checker.new (front ++ piece.now)) }
     ensures refused { IfErr result (λ fault. (front : List ℕ) → AreAfter reader.old checker.old front
         → ExplainsAlways fault (front ++ piece.now)) }
+    ensures memory { IfErr result (λ fault. (front : List ℕ) → AreAfter reader.old checker.old front
+        → GrowsFor fault (front ++ piece.now)) }
 {
     for byte in piece {
         if let Err(fault) = read_byte(reader, checker, *byte) {
@@ -88,11 +97,12 @@ fn conclude<P: Plane>(reader: &Reader, checker: Checker<P>) -> Result<Verdict, I
     requires { (front : List ℕ) × AreAfter reader.now checker front }
     ensures answer { (front : List ℕ) → AreAfter reader.now checker front → Answers result front }
     ensures never_read { IfErr result (λ fault. fault ≡ InputFault.Read → ⊥) }
+    ensures memory { result ≢ Err InputFault.OutOfMemory }
 {
     match reader.finish() {
         Ok(()) => match checker.finish() {
             Ok(verdict) => Ok(verdict),
-            Err(_) => Err(InputFault::OutOfMemory),
+            Err(_) => unreachable!(),
         },
         Err(fault) => Err(InputFault::Grammar(fault)),
     }
@@ -102,6 +112,7 @@ fn conclude<P: Plane>(reader: &Reader, checker: Checker<P>) -> Result<Verdict, I
 fn check_on<P: Plane, S: Source>(alloc: Global, input: &mut S) -> Result<Verdict, InputFault>
     ensures answer { IfSome (S.remaining input.old) (Answers result) }
     ensures failures { S.failure_count input.new ≡ failures_after result (S.failure_count input.old) }
+    ensures memory { IfSome (S.remaining input.old) (λ bytes. result ≡ Err InputFault.OutOfMemory → MayGrowIn bytes) }
 {
     let mut reader = Reader::new();
     let mut checker: Checker<P> = Checker::new(alloc);
@@ -122,21 +133,26 @@ fn check_on<P: Plane, S: Source>(alloc: Global, input: &mut S) -> Result<Verdict
 /// The verdict on the document that the source gives.
 ///
 /// Whatever is met first in one pass over its bytes is answered: a fault of the grammar, a failure of the source, or a
-/// growth that was refused. Only a whole document has a verdict. The source isn't read after a fault, nor after its end.
+/// growth that was refused. Only a whole document has a verdict. The source isn't read after a fault or its end.
+///
+/// Nothing of the input is kept. Memory is taken once, for the pixels of the box, when its raster attributes are complete.
 pub fn check<S: Source>(alloc: Global, input: &mut S) -> Result<Verdict, InputFault>
     ensures answer { IfSome (S.remaining input.old) (Answers result) }
     ensures failures { S.failure_count input.new ≡ failures_after result (S.failure_count input.old) }
+    ensures memory { IfSome (S.remaining input.old) (λ bytes. result ≡ Err InputFault.OutOfMemory → MayGrowIn bytes) }
 {
-    check_on::<BytePlane, S>(alloc, input)
+    check_on::<BandPlane, S>(alloc, input)
 }
 
 /// The verdict on a document; else its fault, or `OutOfMemory` where a growth was refused before the fault was met.
+/// Memory is taken as by `check`.
 pub fn check_bytes(alloc: Global, bytes: &[u8]) -> Result<Verdict, InputFault>
     ensures answer { Answers result bytes.now }
     ensures never_read { IfErr result (λ fault. fault ≡ InputFault.Read → ⊥) }
+    ensures memory { result ≡ Err InputFault.OutOfMemory → MayGrowIn bytes.now }
 {
     let mut reader = Reader::new();
-    let mut checker: Checker<BytePlane> = Checker::new(alloc);
+    let mut checker: Checker<BandPlane> = Checker::new(alloc);
     match read_piece(&mut reader, &mut checker, bytes) {
         Ok(()) => conclude(&reader, checker),
         Err(fault) => Err(fault),

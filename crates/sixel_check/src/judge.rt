@@ -5,6 +5,7 @@ ghost use Rattle.std.specs.Option.{option_map};
 ghost use Rattle.sixel_grammar.specs.declared.command.Placed.{Placed as PlacedValue};
 ghost use Rattle.sixel_grammar.specs.Document.{AreWhole, events_of};
 ghost use Rattle.sixel_grammar.specs.Spelling.{IsSpellable};
+ghost use Rattle.sixel_check.specs.Growth.{MayGrow};
 ghost use Rattle.sixel_check.specs.Judging.{JudgesAfter};
 ghost use Rattle.sixel_check.specs.Verdicts.{IsVerdict};
 
@@ -43,8 +44,12 @@ impl<P: Plane> Judge<P> {
         requires spellable { IsSpellable placed.now.event }
         ensures ok { OnOk result ((seen : List PlacedValue)
             → JudgesAfter self.old.finding self.old.notes (option_map P.sheet self.old.plane) seen
-            → JudgesAfter self.new.finding self.new.notes (option_map P.sheet self.new.plane) (seen ++ placed.now ∷ [])) }
+            → JudgesAfter self.new.finding self.new.notes (option_map P.sheet self.new.plane)
+            (seen ++ placed.now ∷ [])) }
         ensures err { OnErr result (self.new ≡ self.old) }
+        ensures grows { OnErr result ((seen : List PlacedValue)
+            → JudgesAfter self.old.finding self.old.notes (option_map P.sheet self.old.plane) seen
+            → MayGrow (events_of seen) placed.now.event) }
     {
         if self.finding.is_some() {
             return Ok(());

@@ -1,7 +1,8 @@
 //! Laws about the definitions, for pictures of 16 registers. Each function's contract is the law.
 
-ghost use Rattle.sixel_check.specs.Laws.{AllCovered, FilledFirst, LeftIsPortable, NonePaintedOutside};
-ghost use Rattle.sixel_check.specs.Laws.{OnePixelBreaksNone, PaintedColourIsLeft, VerdictIsLeft};
+ghost use Rattle.sixel_check.specs.Laws.{AllCovered, FilledFirst, GrowthStays, LeftIsPortable, NonePaintedOutside};
+ghost use Rattle.sixel_check.specs.Laws.{OnePixelBreaksNone, OneVerdict, PaintedColourIsLeft, SomeVerdict};
+ghost use Rattle.sixel_check.specs.Laws.{VerdictIsLeft};
 
 /// Where no rule is broken, the register in which a command paints has the colour that is left, at the painting and
 /// at the end, on each terminal with 16 registers or more.
@@ -26,6 +27,18 @@ pub fn left_is_portable()
 /// Where no rule is broken, the verdict is the picture that is left, and no other.
 pub fn verdict_is_left()
     ensures { VerdictIsLeft 16 }
+{}
+
+/// A list of events has some verdict, and one only.
+pub fn lists_have_one_verdict()
+    ensures some { SomeVerdict 16 }
+    ensures once { OneVerdict 16 }
+{}
+
+/// Where memory may be taken at an event that is complete in a front of the bytes, it may be at one in each longer
+/// front, so in the longest with which some document begins.
+pub fn growth_stays()
+    ensures { GrowthStays }
 {}
 
 /// Some whole list breaks no rule: a box of one pixel, painted in a register that is defined and selected.

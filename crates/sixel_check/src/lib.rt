@@ -11,6 +11,7 @@ pub mod laws;
 mod notes;
 mod outside;
 mod pixels;
+mod progress;
 mod rule;
 mod rules;
 mod verdict;

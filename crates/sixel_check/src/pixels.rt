@@ -1,9 +1,10 @@
 //! The rules that look at pixels, and what is drawn.
 
-ghost use Rattle.std.specs.Prelude.{◌≡◌, ◌<◌, ◌++◌, ◌∷◌, [], ℕ, List, Some, None, IfSome, IsTrue, OnOk, OnErr, IfOk};
+ghost use Rattle.std.specs.Prelude.{◌≡◌, ◌<◌, ◌++◌, ◌∷◌, [], ℕ, List, Some, None, IfSome, IsSome, IsTrue, OnOk, OnErr, IfOk};
 ghost use Rattle.std.specs.Option.{option_map};
 ghost use Rattle.sixel_grammar.specs.declared.command.Event.{Event as EventValue};
 ghost use Rattle.sixel_grammar.specs.Spelling.{IsSpellable};
+ghost use Rattle.sixel_picture.specs.Events.{raster_of};
 ghost use Rattle.sixel_picture.specs.Rules.{FallsOutside, StaysBlank, picture_left};
 ghost use Rattle.sixel_picture.specs.Sheets.{IsFull};
 ghost use Rattle.sixel_check.specs.Breaches.{IsBreachOf, NoneBelow};
@@ -116,8 +117,9 @@ fn paint<P: Plane>(notes: &Notes, plane: &mut P, event: &Event)
 /// The plane that the first raster attributes make; another event makes none.
 fn first_plane<P: Plane>(alloc: Global, event: &Event) -> Result<Option<P>, AllocError>
     requires { (before : List EventValue) × NoneBelow 13 before event.now }
-    ensures { IfOk result (λ plane. (before : List EventValue) → IsUndrawn before → NoneBelow 13 before event.now
+    ensures ok { IfOk result (λ plane. (before : List EventValue) → IsUndrawn before → NoneBelow 13 before event.now
         → IsSheetAfter (option_map P.sheet plane) (before ++ event.now ∷ [])) }
+    ensures declares { OnErr result (IsSome (raster_of event.now)) }
 {
     match sides_of(event) {
         Some((width, height)) => Ok(Some(P::blank(alloc, width, height)?)),
@@ -132,12 +134,14 @@ pub(crate) fn draw<P: Plane>(
     plane: &mut Option<P>,
     event: &Event,
 ) -> Result<(), AllocError>
-    requires { (before : List EventValue) × AreNotesAfter notes.now before × IsSheetAfter (option_map P.sheet plane.old) before
-        × NoneBelow 13 before event.now × IsSpellable event.now }
+    requires { (before : List EventValue) × AreNotesAfter notes.now before
+        × IsSheetAfter (option_map P.sheet plane.old) before × NoneBelow 13 before event.now × IsSpellable event.now }
     ensures ok { OnOk result ((before : List EventValue) → AreNotesAfter notes.now before
         → IsSheetAfter (option_map P.sheet plane.old) before → NoneBelow 13 before event.now
         → IsSheetAfter (option_map P.sheet plane.new) (before ++ event.now ∷ [])) }
     ensures err { OnErr result (plane.new ≡ plane.old) }
+    ensures first { OnErr result (plane.old ≡ None) }
+    ensures declares { OnErr result (IsSome (raster_of event.now)) }
 {
     match plane {
         Some(plane) => {

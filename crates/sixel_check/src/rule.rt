@@ -2,15 +2,16 @@
 
 /// A rule of a portable picture, by what breaks it.
 ///
-/// The box is that of the first raster attributes. A command paints if it is a sixel or a repeat with a set bit. A register is
-/// known at a command if the last select before it is of that register, and so is the last select or definition before it.
+/// The box is that of the first raster attributes. A command paints if it is a sixel or a repeat with a set bit. A
+/// register is known at a command if the last select before it is of that register, and so is the last select or
+/// definition before it.
 #[derive(Clone, Copy, Debug, PartialEq, Eq, Drop)]
 pub enum Rule {
     /// A sixel, a repeat, a return or a next line before all raster attributes, or an end without any.
     RasterFirst = 1,
     /// Raster attributes after raster attributes.
     RasterTwice = 2,
-    /// Raster attributes with a pixel aspect ratio that isn't written 1 to 1.
+    /// Raster attributes in which not both numbers of the pixel aspect ratio are 1.
     Ratio = 3,
     /// Raster attributes with a width or a height outside 1 to 2,048 pixels.
     BoxSize = 4,

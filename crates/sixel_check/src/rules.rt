@@ -27,7 +27,7 @@ fn breaks_raster_twice(has_box: bool, event: &Event) -> bool
     has_box && is_raster(event)
 }
 
-/// A ratio other than 1 to 1.
+/// A ratio of which not both numbers are 1.
 #[tactic(auto, unfolding(sixel_picture::specs::Rules::breaks_ratio))]
 fn breaks_ratio(event: &Event) -> bool
     ensures { result ≡ of.breaks_ratio event.now }

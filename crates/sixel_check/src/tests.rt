@@ -1,7 +1,10 @@
 //! What no contract says: that the definitions are those of the worked documents.
 
 mod documents;
+mod growth;
+mod limits;
 mod pairs;
+mod plain;
 mod steps;
 mod terminals;
 

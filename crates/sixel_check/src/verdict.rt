@@ -9,9 +9,9 @@ pub struct Finding {
     pub rule: Rule,
     /// The place of the event: the offset of its first byte.
     pub place: u64,
-    /// The column and the row, in pixels from the top left of the box. For `Outside` it is the first pixel outside the box,
-    /// for `Uncovered` the first that isn't covered, in row order; for any other rule there is none. A coordinate above
-    /// `u64::MAX` is given as `u64::MAX`; no document is so long.
+    /// The column and the row, in pixels from the top left of the box. For `Outside` it is the first pixel outside the
+    /// box, for `Uncovered` the first that isn't covered, in row order; for any other rule there is none. A coordinate
+    /// above `u64::MAX` is given as `u64::MAX`; no document is so long.
     pub pixel: Option<(u64, u64)>,
 }
 

@@ -1,4 +1,4 @@
--- On lists without a repeat of 0 and without a ratio but 1 to 1.
+-- On lists without a repeat of 0, in which both numbers of each ratio are 1.
 use Rattle.std.proofs.Common.{◌≡◌, ℕ, Bool, true, false, cond, Option, Some, None, List, [], ◌∷◌, take, refl}
 use Rattle.std.specs.Prelude.{◌==◌, if◌then◌else◌, IfSome, IsFalse, IsSome, IsTrue}
 use Rattle.std.specs.List.{AllByRecursion}

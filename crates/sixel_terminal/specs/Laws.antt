@@ -22,7 +22,7 @@ TerminalsAreInClass =
     (registers : ℕ) (choices : Choices) (colours screen : List Parts) → terminal_fault choices colours screen ≡ None
     → registers ≤ length colours → IsInClass registers (display_of choices colours screen)
 
--- there is no repeat of 0, and no ratio but 1 to 1
+-- there is no repeat of 0, and both numbers of each ratio are 1
 pub record IsPlain (events : List Event) : Type 0 where
   pub no_repeat_of_zero : AllByRecursion (λ e. IsFalse (is_repeat_of_zero e)) events
   pub square : AllByRecursion (λ e. IfSome (raster_of e) (λ a. IsTrue (is_square a))) events

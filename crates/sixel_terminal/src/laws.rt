@@ -13,8 +13,8 @@ pub fn terminals_are_in_class()
     ensures { TerminalsAreInClass }
 {}
 
-/// Where no repeat of 0 and no ratio but 1 to 1 stands in a list, an event after raster attributes paints the same
-/// points on each terminal, with bits of one row.
+/// Where no repeat of 0 stands in a list and both numbers of each ratio are 1, an event after raster attributes paints
+/// the same points on each terminal, with bits of one row.
 pub fn same_points_on_each()
     ensures { SamePointsOnEach }
 {}

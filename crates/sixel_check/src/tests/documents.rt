@@ -9,7 +9,7 @@ use std::process::Abort;
 use std::test::Fail;
 
 /// A document with `E` for ESC, and the answer.
-const DOCUMENTS: [(&str, &str); 58] = [
+pub(super) const DOCUMENTS: [(&str, &str); 58] = [
     ("EPq\"1;1;1;1#0;2;0;0;0#0@E\\", "portable 1 1"),
     ("EPq\"1;1;2;1#0;2;0;0;0#0@E\\", "broken Uncovered 24 1 0"),
     ("EPq\"1;1;1;2#0;2;0;0;0#0@E\\", "broken Uncovered 24 0 1"),
@@ -147,8 +147,14 @@ fn worked_documents_in_pieces(rt: HostRuntime) -> Result<(), Fail> {
 /// The smallest document with an introducer and a terminator of one byte each.
 #[test]
 fn eight_bits(rt: HostRuntime) -> Result<(), Fail> {
-    let answer = check_bytes(rt.alloc(), b"\x90q\"1;1;1;1#0;2;0;0;0#0@\x9c");
+    let bytes = b"\x90q\"1;1;1;1#0;2;0;0;0#0@\x9c";
+    let answer = check_bytes(rt.alloc(), bytes);
     assert_eq!(rt; in_words(&rt, &answer)?.as_str(), "portable 1 1");
+    for piece in 1..=bytes.len() {
+        let mut source = SliceSource::new(bytes, piece, None);
+        let answer = check(rt.alloc(), &mut source);
+        assert_eq!(rt; in_words(&rt, &answer)?.as_str(), "portable 1 1", "{piece}");
+    }
     Ok(())
 }
 
@@ -220,6 +226,41 @@ fn pictures_left(rt: HostRuntime) -> Result<(), Fail> {
     agree_left(&rt, unused, 0, black(), red())
 }
 
+/// The rows of two letters in register 2 on a ground of register 1, by the register of each pixel. They are worked out
+/// from the bits: `~` is all six rows, `@` the first and `}` the others, `G` the fourth and `v` the others.
+const LETTERS: [&str; 7] = [
+    "11111111111111",
+    "11221122112211",
+    "11221122112211",
+    "11222222112211",
+    "11221122112211",
+    "11221122112211",
+    "11111111111111",
+];
+
+#[test]
+fn the_picture_of_two_letters(rt: HostRuntime) -> Result<(), Fail> {
+    let picture = picture_of(
+        &rt,
+        "EPq\"1;1;14;7#0;2;0;0;0#1;2;100;100;0#2;2;0;100;0#1~~@@vv@@~~@@~~$#2??}}GG}}??}}??-#1!14@E\\",
+    )?;
+    assert_eq!(rt; (picture.width(), picture.height()), (14, 7));
+    for (y, expected) in (0..7u32).zip(LETTERS) {
+        let mut row = Vec::new(rt.alloc());
+        if y < picture.height() {
+            for x in 0..picture.width() {
+                row.push(b'0'.saturating_add(picture.register_at(x, y)))?;
+            }
+        }
+        assert_eq!(rt; row.as_slice(), expected.as_bytes(), "row {y}");
+    }
+    assert_eq!(rt; picture.palette().get(0), black());
+    assert_eq!(rt; picture.palette().get(1), Colour::rgb(100, 100, 0));
+    assert_eq!(rt; picture.palette().get(2), Colour::rgb(0, 100, 0));
+    assert_eq!(rt; picture.palette().get(3), None);
+    Ok(())
+}
+
 #[test]
 fn a_source_that_fails(rt: HostRuntime) -> Result<(), Fail> {
     let bytes = bytes_of(&rt, "EPq\"1;1;1;1#0;2;0;0;0#0@E\\")?;
@@ -229,7 +270,8 @@ fn a_source_that_fails(rt: HostRuntime) -> Result<(), Fail> {
     Ok(())
 }
 
-/// With ample memory this is portable. `rt try --test --fail-alloc N` refuses the N-th growth: then it is `OutOfMemory`.
+/// With ample memory this is portable. `rt try --test --fail-alloc N` refuses the N-th growth: then it is
+/// `OutOfMemory`.
 #[test]
 fn each_growth_is_refused_by_name(rt: HostRuntime) -> Result<(), Fail> {
     match check_bytes(rt.alloc(), b"\x1bPq\"1;1;1;1#0;2;0;0;0#0@\x1b\\") {

@@ -1,50 +1,188 @@
-//! Every rule broken alone, and each two of them in both orders.
+//! Every rule broken alone, each two of them at one event, and each two of them in both orders.
+//!
+//! The answers are worked out from the rules, which `Rule` states. A place is an offset: ESC P `q` is 0 to 2, so the
+//! first command stands at 3, behind `"1;1;1;1` at 11, and behind `"1;1;1;1#0;2;0;0;0#0` at 23.
 
 use crate::tests::answer_on;
 use std::test::Fail;
 
-/// A picture of one pixel, without its end.
-const PICTURE: &str = "EPq\"1;1;1;1#0;2;0;0;0#0@";
-
-/// Commands that break one rule after the picture, the place of the event that does, and the rule.
-const BREAKERS: [(&str, u64, &str); 8] = [
-    ("\"1;1;1;1", 24, "RasterTwice"),
-    ("#16", 24, "Register"),
-    ("#1;3;0;0;0", 24, "ColourValue"),
-    ("!0@", 24, "RepeatZero"),
-    ("#1;2;0;0;0@", 34, "Unselected"),
-    ("#1@", 26, "Undefined"),
-    ("#0;2;1;0;0", 24, "Redefined"),
-    ("$A", 25, "Outside"),
+/// A document that breaks one rule alone and has the fewest commands that do, and the answer. The order is that of the
+/// rules.
+///
+/// The end breaks the rule of the first one and of the last one. Without raster attributes there is no box, so the end
+/// breaks one of the two at most. A ratio of 2 to 1 leaves the box as it is, and a box of 0 by 0 has no
+/// pixel to cover. A select of register 16 breaks the same rule as its definition. A definition in system 3 is still a
+/// definition. The repeat of 0 stands before all painting and has no bit. `B` has bits 0 and 1, so it covers the box,
+/// and (0, 1) below it.
+const ALONE: [(&str, &str); 12] = [
+    ("EPqE\\", "broken RasterFirst 3"),
+    (
+        "EPq\"1;1;1;1\"1;1;1;1#0;2;0;0;0#0@E\\",
+        "broken RasterTwice 11",
+    ),
+    ("EPq\"2;1;1;1#0;2;0;0;0#0@E\\", "broken Ratio 3"),
+    ("EPq\"1;1E\\", "broken BoxSize 3"),
+    ("EPq\"1;1;1;1#16;2;0;0;0#16@E\\", "broken Register 11"),
+    ("EPq\"1;1;1;1#0;3;0;0;0#0@E\\", "broken ColourValue 11"),
+    ("EPq\"1;1;1;1!0?#0;2;0;0;0#0@E\\", "broken RepeatZero 11"),
+    ("EPq\"1;1;1;1@E\\", "broken Unselected 11"),
+    ("EPq\"1;1;1;1#0@E\\", "broken Undefined 13"),
+    (
+        "EPq\"1;1;1;1#0;2;0;0;0#0@#0;2;1;0;0E\\",
+        "broken Redefined 24",
+    ),
+    ("EPq\"1;1;1;1#0;2;0;0;0#0BE\\", "broken Outside 23 0 1"),
+    ("EPq\"1;1;1;1E\\", "broken Uncovered 11 0 0"),
 ];
-
-fn expected_for(rt: &impl AllocGlobal, place: u64, rule: &str) -> Result<String, Fail> {
-    let alloc = rt.alloc();
-    let pixel = if rule == "Outside" { " 0 1" } else { "" };
-    Ok(format!(in alloc; "broken {rule} {place}{pixel}")?)
-}
 
 #[test]
 fn each_rule_alone(rt: HostRuntime) -> Result<(), Fail> {
-    for (commands, place, rule) in BREAKERS {
-        let expected = expected_for(&rt, place, rule)?;
-        let alloc = rt.alloc();
-        let text = format!(in alloc; "{PICTURE}{commands}E\\")?;
-        assert_eq!(rt; answer_on(&rt, text.as_str())?, expected, "{commands}");
+    for (text, expected) in ALONE {
+        assert_eq!(rt; answer_on(&rt, text)?.as_str(), expected, "{text}");
     }
     Ok(())
 }
 
-/// The rule of the first commands, whichever follow. A pixel of the box that stays blank is found last.
+/// A document in which one event breaks two rules, and the answer: the rule of the least number.
+///
+/// These are all the pairs that can be the first broken ones at one event. Any other two are broken at events of
+/// different kinds; or one asks for a known register and the other for none; or one for a box and the other for none. A
+/// repeat of 0 falls nowhere, so it is never `Outside`. `Register` and `Redefined` stand at one event only after a
+/// select of a register above 15, which broke `Register` before.
+const AT_ONE_EVENT: [(&str, &str); 14] = [
+    // before all raster attributes: a repeat of 0, no register known, a register that isn't defined
+    ("EPq!0?E\\", "broken RasterFirst 3"),
+    ("EPq@E\\", "broken RasterFirst 3"),
+    ("EPq#0@E\\", "broken RasterFirst 5"),
+    ("EPq!0@E\\", "broken RasterFirst 3"),
+    // raster attributes: again and with another ratio, again and without a size, and without either
+    ("EPq\"1;1;1;1\"2;1;1;1E\\", "broken RasterTwice 11"),
+    ("EPq\"1;1;1;1\"1;1E\\", "broken RasterTwice 11"),
+    ("EPq\"1;1;1;1\"E\\", "broken RasterTwice 11"),
+    ("EPq\"E\\", "broken Ratio 3"),
+    // definitions: of register 16 in system 3, of a painted register in system 3
+    ("EPq#16;3;0;0;0E\\", "broken Register 3"),
+    (
+        "EPq\"1;1;1;1#0;2;0;0;0#0@#0;3;0;0;0E\\",
+        "broken ColourValue 24",
+    ),
+    // a repeat of 0 with a bit, which paints: no register known, a register that isn't defined
+    ("EPq\"1;1;1;1!0@E\\", "broken RepeatZero 11"),
+    ("EPq\"1;1;1;1#0!0@E\\", "broken RepeatZero 13"),
+    // two columns in a box of one: no register known, a register that isn't defined
+    ("EPq\"1;1;1;1!2@E\\", "broken Unselected 11"),
+    ("EPq\"1;1;1;1#0!2@E\\", "broken Undefined 13"),
+];
+
+#[test]
+fn the_least_rule_at_one_event(rt: HostRuntime) -> Result<(), Fail> {
+    for (text, expected) in AT_ONE_EVENT {
+        assert_eq!(rt; answer_on(&rt, text)?.as_str(), expected, "{text}");
+    }
+    Ok(())
+}
+
+/// Commands of which one is the first that breaks a rule, and the answer, whatever follows. The box is two pixels wide
+/// or more, and no second pixel is painted. `Uncovered` is missing: only the end breaks it, and nothing follows the
+/// end.
+const FIRST: [(&str, &str); 11] = [
+    ("$\"1;1;2;1", "broken RasterFirst 3"),
+    ("\"1;1;2;1\"1;1;2;1", "broken RasterTwice 11"),
+    ("\"2;1;2;1", "broken Ratio 3"),
+    ("\"1;1;2049;1", "broken BoxSize 3"),
+    ("\"1;1;2;1#16;2;0;0;0", "broken Register 11"),
+    ("\"1;1;2;1#0;3;0;0;0", "broken ColourValue 11"),
+    ("\"1;1;2;1!0?", "broken RepeatZero 11"),
+    ("\"1;1;2;1@", "broken Unselected 11"),
+    ("\"1;1;2;1#0@", "broken Undefined 13"),
+    ("\"1;1;2;1#0;2;0;0;0#0@#0;2;1;0;0", "broken Redefined 24"),
+    ("\"1;1;2;1#0;2;0;0;0#0B", "broken Outside 23 0 1"),
+];
+
+/// Commands that break a rule after raster attributes, each with registers of its own, and the answer where nothing
+/// else is broken before. `RasterFirst` is missing: raster attributes stand before. Another ratio or size breaks
+/// `RasterTwice` too, at the same event. The last are no commands at all: then the end breaks `Uncovered`.
+const SECOND: [(&str, &str); 11] = [
+    ("\"1;1;2;1", "broken RasterTwice 11"),
+    ("\"2;1;2;1", "broken RasterTwice 11"),
+    ("\"1;1;0;1", "broken RasterTwice 11"),
+    ("#16", "broken Register 11"),
+    ("#2;3;0;0;0", "broken ColourValue 11"),
+    ("!0?", "broken RepeatZero 11"),
+    ("#3;2;0;0;0@", "broken Unselected 21"),
+    ("#4@", "broken Undefined 13"),
+    ("#5;2;0;0;0#5$@#5;2;1;0;0", "broken Redefined 25"),
+    ("#6;2;0;0;0#6$A", "broken Outside 24 0 1"),
+    ("", "broken Uncovered 11 0 0"),
+];
+
+/// Commands that break a rule before all raster attributes, and the answer, whatever follows. Their registers stand
+/// nowhere in `FROM_RASTER`. Of the other rules, five ask for raster attributes at the event or before it. A repeat of
+/// 0 and a command that paints break `RasterFirst` at that very event, and `Redefined` asks for a command that painted
+/// before.
+const BEFORE_RASTER: [(&str, &str); 3] = [
+    ("$", "broken RasterFirst 3"),
+    ("#17;2;0;0;0", "broken Register 3"),
+    ("#1;3;0;0;0", "broken ColourValue 3"),
+];
+
+/// The commands of the documents in `ALONE`: they start with raster attributes or are none, and break one rule.
+const FROM_RASTER: [&str; 12] = [
+    "",
+    "\"1;1;1;1\"1;1;1;1#0;2;0;0;0#0@",
+    "\"2;1;1;1#0;2;0;0;0#0@",
+    "\"1;1",
+    "\"1;1;1;1#16;2;0;0;0#16@",
+    "\"1;1;1;1#0;3;0;0;0#0@",
+    "\"1;1;1;1!0?#0;2;0;0;0#0@",
+    "\"1;1;1;1@",
+    "\"1;1;1;1#0@",
+    "\"1;1;1;1#0;2;0;0;0#0@#0;2;1;0;0",
+    "\"1;1;1;1#0;2;0;0;0#0B",
+    "\"1;1;1;1",
+];
+
+fn answer_on_two(rt: &impl AllocGlobal, first: &str, second: &str) -> Result<String, Fail> {
+    let alloc = rt.alloc();
+    let text = format!(in alloc; "EPq{first}{second}E\\")?;
+    answer_on(rt, text.as_str())
+}
+
+/// The second commands do break their rule.
+#[test]
+fn each_second_rule(rt: HostRuntime) -> Result<(), Fail> {
+    for (second, expected) in SECOND {
+        let answer = answer_on_two(&rt, "\"1;1;2;1", second)?;
+        assert_eq!(rt; answer.as_str(), expected, "{second}");
+    }
+    Ok(())
+}
+
+/// The rule of the first commands is answered, whichever follow. Here are both orders of each two rules but
+/// `RasterFirst` and `Uncovered`, and one order of each two with one of these.
 #[test]
 fn each_two_rules(rt: HostRuntime) -> Result<(), Fail> {
-    for (first, place, rule) in BREAKERS {
-        let expected = expected_for(&rt, place, rule)?;
-        for (second, _, _) in BREAKERS {
-            let alloc = rt.alloc();
-            let text = format!(in alloc; "{PICTURE}{first}{second}E\\")?;
-            assert_eq!(rt; answer_on(&rt, text.as_str())?, expected, "{first}{second}");
+    for (first, expected) in FIRST {
+        for (second, _) in SECOND {
+            let answer = answer_on_two(&rt, first, second)?;
+            assert_eq!(rt; answer.as_str(), expected, "{first}{second}");
         }
+    }
+    Ok(())
+}
+
+/// Here are the orders in which `RasterFirst` comes second, and those in which `Ratio` and `BoxSize` do by the first
+/// raster attributes. Two rules alone can come before `RasterFirst`. It comes second here by the end, where there are
+/// no raster attributes, and by a return.
+#[test]
+fn each_two_rules_before_raster_attributes(rt: HostRuntime) -> Result<(), Fail> {
+    for (first, expected) in BEFORE_RASTER {
+        for second in FROM_RASTER {
+            let answer = answer_on_two(&rt, first, second)?;
+            assert_eq!(rt; answer.as_str(), expected, "{first}{second}");
+        }
+        let answer = answer_on_two(&rt, first, "$\"1;1;1;1#0;2;0;0;0#0@")?;
+        assert_eq!(rt; answer.as_str(), expected, "{first}");
     }
     Ok(())
 }

@@ -5,7 +5,9 @@ ghost use Rattle.sixel_grammar.specs.declared.command.Placed.{Placed as PlacedVa
 ghost use Rattle.sixel_check.specs.Standing.{StandsAfter};
 
 use crate::checker::Checker;
+use crate::tests::documents::DOCUMENTS;
 use crate::tests::{bytes_of, in_words};
+use arrayvec::ArrayVec;
 use sixel_grammar::{Command, Event, Placed, SliceSource, read_all};
 use sixel_picture::BytePlane;
 use std::test::Fail;
@@ -48,5 +50,96 @@ fn events_are_expected_in_order(rt: HostRuntime) -> Result<(), Fail> {
     }
     let verdict = checker.finish()?;
     assert_eq!(rt; in_words(&rt, &Ok(verdict))?.as_str(), "portable 1 1");
+    Ok(())
+}
+
+/// The verdict on the events of a document, pushed one by one; none where the bytes are no document.
+pub(super) fn answer_by_events(
+    rt: &impl AllocGlobal,
+    bytes: &[u8],
+) -> Result<Option<String>, Fail> {
+    let mut source = SliceSource::new(bytes, 64, None);
+    let Ok(events) = read_all(rt.alloc(), &mut source) else {
+        return Ok(None);
+    };
+    let checker = pushed(rt, &events)?;
+    if !checker.is_whole() {
+        return Err(Fail::from("not whole"));
+    }
+    let verdict = checker.finish()?;
+    Ok(Some(in_words(rt, &Ok(verdict))?))
+}
+
+/// Pushed events have the verdict that the bytes have. Bytes with a fault have none.
+#[test]
+fn worked_documents_event_by_event(rt: HostRuntime) -> Result<(), Fail> {
+    for (text, expected) in DOCUMENTS {
+        let bytes = bytes_of(&rt, text)?;
+        match answer_by_events(&rt, &bytes)? {
+            Some(answer) => assert_eq!(rt; answer.as_str(), expected, "{text}"),
+            None => assert!(rt;
+                !expected.starts_with("portable") && !expected.starts_with("broken"),
+                "{text}"
+            ),
+        }
+    }
+    let eight_bits = b"\x90q\"1;1;1;1#0;2;0;0;0#0@\x9c";
+    let answer = answer_by_events(&rt, eight_bits)?.ok_or("no document")?;
+    assert_eq!(rt; answer.as_str(), "portable 1 1");
+    Ok(())
+}
+
+/// A command of each kind, also such as break a rule.
+const COMMANDS: [Command; 7] = [
+    Command::Sixel(63),
+    Command::Repeat { count: 0, bits: 1 },
+    Command::Raster {
+        pan: 1,
+        pad: 1,
+        width: 1,
+        height: 1,
+    },
+    Command::Select(16),
+    Command::Define {
+        register: 0,
+        system: 3,
+        x: 0,
+        y: 0,
+        z: 0,
+    },
+    Command::CarriageReturn,
+    Command::NextLine,
+];
+
+/// A start comes first and at no other time. Then commands of any kind come, and an end at any time; after it comes
+/// nothing.
+#[test]
+fn each_kind_of_event_is_expected_in_its_turn(rt: HostRuntime) -> Result<(), Fail> {
+    let bytes = bytes_of(&rt, "EPq\"1;1;1;1#0;2;0;0;0#0@E\\")?;
+    let mut source = SliceSource::new(&bytes, 64, None);
+    let Ok(events) = read_all(rt.alloc(), &mut source) else {
+        return Err(Fail::from("no document"));
+    };
+    for count in 0..=events.len() {
+        let checker = pushed(&rt, &events[..count])?;
+        let whole = count == 6;
+        let goes_on = count > 0 && !whole;
+        assert_eq!(rt; checker.is_whole(), whole, "{count}");
+        for eight in [false, true] {
+            let start = Event::Start {
+                eight,
+                parameters: ArrayVec::new(),
+            };
+            assert_eq!(rt; checker.expects(&start), count == 0, "{count}");
+            assert_eq!(rt;
+                checker.expects(&Event::Finish { eight }),
+                goes_on,
+                "{count}"
+            );
+        }
+        for command in COMMANDS {
+            assert_eq!(rt; checker.expects(&Event::Step(command)), goes_on, "{count}");
+        }
+    }
     Ok(())
 }

@@ -1,4 +1,6 @@
 use Rattle.std.proofs.Common.{[]}
+use Rattle.std.specs.Prelude.{Err}
+use Rattle.sixel_check.proofs.GrowthLemmas.{grows_if}
 use Rattle.sixel_check.proofs.ReadLemmas.{after_none, explains_now, never_read}
 use Rattle.sixel_check.proofs.checking.check_bytes.Goals as goal
 
@@ -20,3 +22,8 @@ pub returns-in-Err-clause-never_read : goal.returns-in-Err-clause-never_read
 returns-in-Err-clause-never_read c =
     never_read c.in-Err.fault c.args.bytes.now
     (c.in-Err.ensures.refused [] (after_none c.new-reader.result c.new-checker.result c.new-reader.ensures c.new-checker.ensures))
+
+pub returns-in-Err-clause-memory : goal.returns-in-Err-clause-memory
+returns-in-Err-clause-memory c =
+    grows_if (Err c.in-Err.fault) c.args.bytes.now
+    (c.in-Err.ensures.memory [] (after_none c.new-reader.result c.new-checker.result c.new-reader.ensures c.new-checker.ensures))

@@ -4,6 +4,7 @@ use Rattle.sixel_grammar.specs.Document.{most_bytes}
 use Rattle.sixel_grammar.specs.Standing.{left_of}
 use Rattle.sixel_grammar.proofs.Sources.{consumes-then, refused_early}
 use Rattle.sixel_check.specs.declared.verdict.Verdict.{Verdict}
+use Rattle.sixel_check.proofs.GrowthLemmas.{grows_told}
 use Rattle.sixel_check.proofs.ReadLemmas.{not_failed}
 use Rattle.sixel_check.proofs.checking.check_on.Goals as goal
 
@@ -20,6 +21,13 @@ returns-in-Err-read_piece-clause-failures g c =
     c.in-Ok.ensures.failures ∙ i.3
     ∙ not_failed Verdict c.in-Err-read_piece.fault (i.0 ++ take c.in-Ok.count c.fill.new.piece) _
     (c.in-Err-read_piece.ensures.refused i.0 i.1)
+
+pub returns-in-Err-read_piece-clause-memory : goal.returns-in-Err-read_piece-clause-memory
+returns-in-Err-read_piece-clause-memory g c =
+    let i = c.loop-checker.invariant in
+    grows_told _ _ c.in-Err-read_piece.fault (i.0 ++ take c.in-Ok.count c.fill.new.piece)
+    (consumes-then _ _ _ i.0 (take c.in-Ok.count c.fill.new.piece) i.2 c.in-Ok.ensures.bytes.0)
+    (c.in-Err-read_piece.ensures.memory i.0 i.1)
 
 pub loop-checker-smaller : goal.loop-checker-smaller
 loop-checker-smaller g c =

@@ -2,6 +2,7 @@ use Rattle.std.proofs.Common.{List, [], ◌∷◌, ◌++◌, arith}
 use Rattle.std.proofs.lemmas.List.{length-append}
 use Rattle.sixel_grammar.proofs.Sources.{on_ok}
 use Rattle.sixel_grammar.proofs.Unique.{fault_stays}
+use Rattle.sixel_check.proofs.GrowthLemmas.{grows_byte}
 use Rattle.sixel_check.proofs.ReadLemmas.{after_byte, read_may}
 use Rattle.sixel_check.proofs.checking.read_byte.Goals as goal
 
@@ -28,3 +29,8 @@ returns-in-Err-clause-refused g c = λ front a rest.
     let t = c.in-Err.ensures.refused a.events front a.read in
     fault_stays (front ++ c.args.byte ∷ []) rest c.in-Err.fault t.0
     (omega (arith, t.1, length-append front (c.args.byte ∷ [])))
+
+pub returns-in-Ok-clause-memory : goal.returns-in-Ok-clause-memory
+returns-in-Ok-clause-memory g c =
+    grows_byte c.keep.result c.args.reader.now c.feed.new.self c.args.checker.now c.in-Ok.completed c.args.byte
+    c.in-Ok.ensures.accepted c.keep.ensures.grows

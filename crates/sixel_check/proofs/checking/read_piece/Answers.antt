@@ -1,6 +1,7 @@
 use Rattle.std.proofs.Common.{ℕ, ◌+◌, List, ◌++◌, take, drop, subst, arith}
 use Rattle.sixel_check.specs.Reading.{AreAfter}
 use Rattle.sixel_grammar.proofs.Sources.{refuses-more, one_past, split_past, take_past}
+use Rattle.sixel_check.proofs.GrowthLemmas.{grows_for_on}
 use Rattle.sixel_check.proofs.checking.read_piece.Goals as goal
 
 pub read_byte-requires : goal.read_byte-requires
@@ -26,3 +27,10 @@ returns-clause-read g c = λ front a.
     let whole = take_past c.loop-byte.byte-index c.args.piece.now (omega arith) in
     subst (λ (t : List ℕ). AreAfter c.loop-byte.reader c.loop-byte.checker (front ++ t)) whole
     (c.loop-byte.invariant front a)
+
+pub returns-in-Err-clause-memory : goal.returns-in-Err-clause-memory
+returns-in-Err-clause-memory g c = λ front a.
+    let h =
+    c.in-Err.ensures.memory (front ++ take c.loop-byte.byte-index c.args.piece.now) (c.loop-byte.invariant front a) in
+    grows_for_on c.in-Err.fault _ (drop (c.loop-byte.byte-index + 1) c.args.piece.now) (front ++ c.args.piece.now)
+    (split_past front c.args.piece.now c.loop-byte.byte-index (omega arith)) h

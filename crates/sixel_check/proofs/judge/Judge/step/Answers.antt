@@ -1,7 +1,8 @@
-use Rattle.std.proofs.Common.{◌≡◌, false, [], ◌∷◌, ◌++◌, sym, ◌∙◌}
+use Rattle.std.proofs.Common.{◌≡◌, false, [], ◌∷◌, ◌++◌, ap, sym, ◌∙◌}
 use Rattle.std.specs.Prelude.{is_some}
 use Rattle.std.specs.Option.{option_map}
 use Rattle.sixel_grammar.specs.Document.{events_of}
+use Rattle.sixel_check.proofs.GrowthLemmas.{err_says, judge_grows}
 use Rattle.sixel_check.proofs.JudgeLemmas.{finding_stays, judge_finds, judge_goes_on, judges_of, unbroken_of}
 use Rattle.sixel_check.proofs.judge.Judge.step.Goals as goal
 
@@ -29,3 +30,15 @@ returns-in_ok-draw-in-None-clause-ok g c = λ seen j.
     (judge_goes_on c.args.self.now.notes c.take.new.self sheet drawn seen c.args.placed.now s keeps
     (c.take.ensures (events_of seen) s.notes_are keeps)
     (c.in_ok-draw-in-None.ensures.ok (events_of seen) s.notes_are s.sheet_is keeps))
+
+pub returns-in_err-draw-in-None-clause-grows : goal.returns-in_err-draw-in-None-clause-grows
+returns-in_err-draw-in-None-clause-grows g c =
+    let none : is_some c.args.self.now.finding ≡ false = sym c.is_some.ensures ∙ c.if-is_some.false in
+    let sheet = option_map g.P.Plane.sheet c.args.self.now.plane in
+    let refused = c.in_err-draw-in-None.ensures in
+    err_says _ c.from_residual.result
+    (λ seen j.
+    let s = unbroken_of c.args.self.now.finding c.args.self.now.notes sheet seen none j in
+    judge_grows c.args.self.now.notes sheet (events_of seen) c.args.placed.now.event
+    (ap (option_map g.P.Plane.sheet) refused.first) refused.declares s
+    (c.in-None.ensures (events_of seen) s.notes_are s.sheet_is))

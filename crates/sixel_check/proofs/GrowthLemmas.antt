@@ -1,0 +1,151 @@
+-- On raster attributes at which memory may be taken.
+use Rattle.std.proofs.Common.{◌≡◌, ℕ, Option, Some, None, List, [], ◌∷◌, ◌++◌, length, refl, sym, ◌∙◌, ap, subst}
+use Rattle.std.proofs.Common.{append_assoc}
+use Rattle.std.specs.Prelude.{Result, Ok, Err, IfErr, IfSome, IsSome, OnErr}
+use Rattle.std.specs.Io.KnownBytes.{Consumes}
+use Rattle.std.specs.Option.{option_map, option_to_list}
+use Rattle.std.proofs.lemmas.List.{append-nil}
+use Rattle.sixel_grammar.specs.Document.{events_of}
+use Rattle.sixel_grammar.specs.Prefix.{CompleteIn}
+use Rattle.sixel_grammar.specs.Standing as grammar
+use Rattle.sixel_grammar.specs.declared.command.Completed.{Completed}
+use Rattle.sixel_grammar.specs.declared.command.Event.{Event}
+use Rattle.sixel_grammar.specs.declared.command.Placed.{Placed}
+use Rattle.sixel_grammar.specs.declared.fault.InputFault.{InputFault}
+use Rattle.sixel_grammar.specs.declared.fault.InputFault.TheVariants.{Grammar, OutOfMemory, Read}
+use Rattle.sixel_grammar.specs.declared.reader.Reader.{Reader}
+use Rattle.sixel_grammar.proofs.Stands.{read_complete}
+use Rattle.sixel_grammar.proofs.Unique.{complete_stays}
+use Rattle.sixel_picture.specs.Events.{raster_of}
+use Rattle.sixel_picture.specs.Positions.{HoldsAtPosition}
+use Rattle.sixel_picture.specs.Sheets.{Sheet}
+use Rattle.sixel_picture.proofs.PositionLemmas.{holds_before, holds_end, holds_within}
+use Rattle.sixel_picture.proofs.RuleLemmas.{none_push}
+use Rattle.sixel_check.specs.declared.notes.Notes.{Notes}
+use Rattle.sixel_check.specs.declared.verdict.Verdict.{Verdict}
+use Rattle.sixel_check.specs.Breaches.{NoneBelow}
+use Rattle.sixel_check.specs.Growth.{GrowsFor, MayGrow, MayGrowAmong, MayGrowIn}
+use Rattle.sixel_check.specs.Judging.{IsSheetAfter, IsUndrawn, StandsUnbroken}
+use Rattle.sixel_check.specs.Reading.{AreAfter}
+use Rattle.sixel_check.specs.Standing.{CheckerValue, StandsAfter}
+use Rattle.sixel_check.proofs.JudgeLemmas.{events_push}
+use Rattle.sixel_check.proofs.NoteLemmas.{keeps}
+
+-- what a refusal says
+pub err_says : {A E : Type 0} (P : Type 0) (r : Result A E) → P → OnErr r P
+err_says P (Ok x) h = tt
+err_says P (Err e) h = h
+
+-- ---- events
+
+no_box : (o : Option Sheet) (before : List Event) → o ≡ None → IsSheetAfter o before → IsUndrawn before
+no_box None before e h = h
+no_box (Some s) before e h = cc
+
+-- raster attributes that break no rule, where there is no sheet yet
+pub judge_grows : (notes : Notes) (sheet : Option Sheet) (before : List Event) (e : Event) → sheet ≡ None
+    → IsSome (raster_of e) → StandsUnbroken notes sheet before → NoneBelow 13 before e → MayGrow before e
+judge_grows notes sheet before e is declares s none = record {
+  declares = declares;
+  first = (no_box sheet before is s.sheet_is).no_box;
+  unbroken = none_push 16 12 before e s.unbroken (keeps before e none);
+}
+
+-- where a map gives something, there is something
+pub some_of_map : {X A : Type 0} (f : X → A) (o : Option X) (a : A) → option_map f o ≡ Some a → IsSome o
+some_of_map f None a e = cc
+some_of_map f (Some x) a e = refl
+
+pub grows_end : (seen : List Placed) (p : Placed) → MayGrow (events_of seen) p.event → MayGrowAmong (seen ++ p ∷ [])
+grows_end seen p g = (
+  length (events_of seen),
+  subst (λ (es : List Event). HoldsAtPosition MayGrow es (length (events_of seen))) (sym (events_push seen p))
+      (holds_end MayGrow (events_of seen) p.event g),
+)
+
+grows_before : (seen : List Placed) (p : Placed) → MayGrowAmong seen → MayGrowAmong (seen ++ p ∷ [])
+grows_before seen p g =
+    let i : ℕ = g.0 in (
+      i,
+      subst (λ (es : List Event). HoldsAtPosition MayGrow es i) (sym (events_push seen p))
+          (holds_before MayGrow (events_of seen) p.event i (holds_within MayGrow (events_of seen) i g.1) g.1),
+    )
+
+-- the events may go on
+pub grows_among : (seen more : List Placed) → MayGrowAmong seen → MayGrowAmong (seen ++ more)
+grows_among seen [] g = subst MayGrowAmong (sym (append-nil seen)) g
+grows_among seen (p ∷ ps) g =
+    subst MayGrowAmong (append_assoc seen (p ∷ []) ps) (grows_among (seen ++ p ∷ []) ps (grows_before seen p g))
+
+pub grows_longer : (seen : List Placed) (o : Option Placed) → MayGrowAmong seen → MayGrowAmong (seen ++ option_to_list o)
+grows_longer seen None g = subst MayGrowAmong (sym (append-nil seen)) g
+grows_longer seen (Some p) g = grows_before seen p g
+
+-- ---- bytes
+
+-- an event that is complete in a front is so in a longer one
+pub growth_stays : (front rest : List ℕ) (first second : List Placed) → CompleteIn first front
+    → CompleteIn second (front ++ rest) → MayGrowAmong first → MayGrowAmong second
+growth_stays front rest first second c d g =
+    let stays : (more : List Placed) × (second ≡ first ++ more) = complete_stays front rest first second c d in
+    subst MayGrowAmong (sym stays.1) (grows_among first stays.0 g)
+
+grows_here : (bytes : List ℕ) (events : List Placed) → CompleteIn events bytes → MayGrowAmong events → MayGrowIn bytes
+grows_here bytes events c g = record {
+  front = bytes;
+  rest = [];
+  bytes_are = sym (append-nil bytes);
+  events = events;
+  complete = c;
+  grows = g;
+}
+
+grows_on : (bytes more all : List ℕ) → all ≡ bytes ++ more → MayGrowIn bytes → MayGrowIn all
+grows_on bytes more all is g = record {
+  front = g.front;
+  rest = g.rest ++ more;
+  bytes_are = is ∙ ap (λ (t : List ℕ). t ++ more) g.bytes_are ∙ append_assoc g.front g.rest more;
+  events = g.events;
+  complete = g.complete;
+  grows = g.grows;
+}
+
+grows_any : (fault : InputFault) (bytes : List ℕ) → MayGrowIn bytes → GrowsFor fault bytes
+grows_any (Grammar f) bytes g = tt
+grows_any OutOfMemory bytes g = g
+grows_any Read bytes g = tt
+
+-- the bytes may go on
+pub grows_for_on : (fault : InputFault) (bytes more all : List ℕ) → all ≡ bytes ++ more → GrowsFor fault bytes
+    → GrowsFor fault all
+grows_for_on (Grammar f) bytes more all is g = tt
+grows_for_on OutOfMemory bytes more all is g = grows_on bytes more all is g
+grows_for_on Read bytes more all is g = tt
+
+-- the byte that completes such raster attributes
+pub grows_byte : {A : Type 0} (r : Result A InputFault) (old new : Reader) (checker : CheckerValue) (c : Completed)
+    (byte : ℕ) → grammar.Takes old new byte (grammar.completions c)
+    → OnErr r ((seen : List Placed) → StandsAfter checker seen → MayGrowAmong (seen ++ grammar.completions c))
+    → IfErr r (λ fault. (front : List ℕ) → AreAfter old checker front → GrowsFor fault (front ++ byte ∷ []))
+grows_byte (Ok x) old new checker c byte takes g = tt
+grows_byte (Err fault) old new checker c byte takes g = λ front a.
+    grows_any fault (front ++ byte ∷ [])
+    (grows_here (front ++ byte ∷ []) (a.events ++ grammar.completions c)
+    (read_complete new (a.events ++ grammar.completions c) (front ++ byte ∷ []) (takes a.events front a.read))
+    (g a.events a.checked))
+
+-- ---- answers
+
+pub grows_if : (r : Result Verdict InputFault) (bytes : List ℕ) → IfErr r (λ fault. GrowsFor fault bytes)
+    → r ≡ Err OutOfMemory → MayGrowIn bytes
+grows_if (Ok v) bytes g e = cc
+grows_if (Err (Grammar f)) bytes g e = cc
+grows_if (Err OutOfMemory) bytes g e = g
+grows_if (Err Read) bytes g e = cc
+
+-- of the bytes that a source tells
+pub grows_told : (a b : Option (List ℕ)) (fault : InputFault) (xs : List ℕ) → Consumes a b xs → GrowsFor fault xs
+    → IfSome a (λ bytes. (let r : Result Verdict InputFault = Err fault in r) ≡ Err OutOfMemory → MayGrowIn bytes)
+grows_told None b fault xs c g = tt
+grows_told (Some a) None fault xs c g = absurd c
+grows_told (Some a) (Some b) fault xs c g = grows_if (Err fault) a (grows_for_on fault xs b a c g)

@@ -1,0 +1,10 @@
+use Rattle.std.proofs.Common.{ap, ◌∙◌}
+use Rattle.sixel_check.specs.Standing.{CheckerValue, expects_from}
+use Rattle.sixel_check.proofs.StandLemmas.{stands_expects}
+use Rattle.sixel_check.proofs.checker.Checker.expects.Goals as goal
+
+pub returns : goal.returns
+returns g c = λ seen s.
+    c.expects.ensures
+    ∙ ap (λ (v : CheckerValue). expects_from v.progress c.args.event.now) c.self.view_is
+    ∙ stands_expects c.args.self.now seen c.args.event.now s

@@ -1,0 +1,7 @@
+use Rattle.std.proofs.Common.{List}
+use Rattle.sixel_grammar.specs.declared.command.Placed.{Placed}
+use Rattle.sixel_check.specs.Standing.{StandsAfter}
+use Rattle.sixel_check.proofs.tests.growth.pushed_again.Given as goal
+
+abbrev pub invariant-loop-byte : goal.invariant-loop-byte
+invariant-loop-byte g l = (seen : List Placed) × StandsAfter l.checker seen

@@ -1,0 +1,36 @@
+-- Where a checker may take memory.
+use Rattle.std.specs.Prelude.{◌≡◌, ◌++◌, ◌∷◌, [], ℕ, None, IsSome, List}
+use Rattle.sixel_grammar.specs.declared.command.Event.{Event}
+use Rattle.sixel_grammar.specs.declared.command.Placed.{Placed}
+use Rattle.sixel_grammar.specs.declared.fault.InputFault.{InputFault}
+use Rattle.sixel_grammar.specs.declared.fault.InputFault.TheVariants.{Grammar, OutOfMemory, Read}
+use Rattle.sixel_grammar.specs.Document.{events_of}
+use Rattle.sixel_grammar.specs.Prefix.{CompleteIn}
+use Rattle.sixel_picture.specs.Events.{raster_of}
+use Rattle.sixel_picture.specs.Positions.{HoldsAtPosition}
+use Rattle.sixel_picture.specs.Rules.{BreaksNone, raster_before}
+
+-- the event is the first raster attributes, and no rule is broken before it or by it
+pub record MayGrow (before : List Event) (e : Event) : Type 0 where
+  pub declares : IsSome (raster_of e)
+  pub first : raster_before before ≡ None
+  pub unbroken : BreaksNone 16 12 (before ++ e ∷ [])
+
+-- such raster attributes are among the events
+abbrev pub MayGrowAmong : List Placed → Type 0
+MayGrowAmong placed = (i : ℕ) × HoldsAtPosition MayGrow (events_of placed) i
+
+-- such raster attributes are complete in a front of the bytes with which some document begins, its limit aside
+pub record MayGrowIn (bytes : List ℕ) : Type 0 where
+  pub front : List ℕ
+  pub rest : List ℕ
+  pub bytes_are : bytes ≡ front ++ rest
+  pub events : List Placed
+  pub complete : CompleteIn events front
+  pub grows : MayGrowAmong events
+
+-- want of memory is answered for such bytes alone
+abbrev pub GrowsFor : InputFault → List ℕ → Type 0
+GrowsFor (Grammar fault) bytes = Unit {0}
+GrowsFor OutOfMemory bytes = MayGrowIn bytes
+GrowsFor Read bytes = Unit {0}

@@ -1,0 +1,48 @@
+//! How far the events of a list have come.
+
+ghost use Rattle.std.specs.Prelude.{◌≡◌};
+ghost use Rattle.sixel_check.specs.Standing.{expects_from, is_whole_at, progress_with};
+
+use crate::events::{is_finish, is_start};
+use sixel_grammar::Event;
+
+/// How far they have come.
+#[derive(Clone, Copy, Debug)]
+pub(crate) enum Progress {
+    /// There is none yet.
+    Fresh,
+    /// A start came, and commands.
+    Begun,
+    /// The finish came.
+    Whole,
+}
+
+impl Progress {
+    /// Whether the event may come next.
+    pub(crate) fn expects(&self, event: &Event) -> bool
+        ensures { result ≡ expects_from self.now event.now }
+    {
+        match self {
+            Progress::Fresh => is_start(event),
+            Progress::Begun => !is_start(event),
+            Progress::Whole => false,
+        }
+    }
+
+    pub(crate) fn is_whole(&self) -> bool
+        ensures { result ≡ is_whole_at self.now }
+    {
+        matches!(self, Progress::Whole)
+    }
+
+    /// How far they have come with this event, which may come next.
+    pub(crate) fn with(event: &Event) -> Progress
+        ensures { result ≡ progress_with event.now }
+    {
+        if is_finish(event) {
+            Progress::Whole
+        } else {
+            Progress::Begun
+        }
+    }
+}

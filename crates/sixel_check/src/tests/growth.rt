@@ -1,0 +1,130 @@
+//! Where memory is taken. `rt try --test --fail-alloc N` refuses the N-th growth of each test; these take none of their own.
+
+ghost use Rattle.std.specs.Prelude.{◌++◌, ◌∷◌, [], List, IfOk, IsTrue, OnOk};
+ghost use Rattle.sixel_grammar.specs.Spelling.{IsSpellable};
+ghost use Rattle.sixel_grammar.specs.declared.command.Placed.{Placed as PlacedValue};
+ghost use Rattle.sixel_check.specs.Standing.{StandsAfter, expects};
+
+use crate::checker::Checker;
+use crate::checking::{check, check_bytes};
+use crate::rule::Rule;
+use crate::verdict::{Finding, Verdict};
+use sixel_grammar::{InputFault, Placed, Reader, SliceSource};
+use sixel_picture::BytePlane;
+use std::alloc::AllocError;
+use std::test::Fail;
+
+/// A picture of one pixel.
+const PICTURE: &[u8] = b"\x1bPq\"1;1;1;1#0;2;0;0;0#0@\x1b\\";
+
+/// Documents that make no box, their first broken rule and its place.
+const BOXLESS: [(&[u8], Rule, u64); 4] = [
+    (b"\x1bPq\x1b\\", Rule::RasterFirst, 3),
+    (
+        b"\x1bPq#0;2;0;0;0#1;2;100;100;0#2;2;0;100;0#1~~@@vv@@~~@@~~$#2??}}GG}}??}}??-#1!14@\x1b\\",
+        Rule::RasterFirst,
+        41,
+    ),
+    (b"\x1bPq\"2;1;0;1#0;2;0;0;0#0@\x1b\\", Rule::Ratio, 3),
+    (b"\x1bPq\"1;1;2049;1#0;2;0;0;0#0@\x1b\\", Rule::BoxSize, 3),
+];
+
+/// Portable with ample memory, and want of memory where a growth was refused.
+fn portable_or_refused(answer: &Result<Verdict, InputFault>) -> bool {
+    match answer {
+        Ok(Verdict::Portable(picture)) => picture.width() == 1 && picture.height() == 1,
+        Ok(Verdict::Broken(_)) => false,
+        Err(fault) => matches!(fault, InputFault::OutOfMemory),
+    }
+}
+
+#[test]
+fn a_refused_growth_is_named(rt: HostRuntime) -> Result<(), Fail> {
+    let mut source = SliceSource::new(PICTURE, 5, None);
+    let answer = check(rt.alloc(), &mut source);
+    assert!(rt; portable_or_refused(&answer));
+    let answer = check_bytes(rt.alloc(), PICTURE);
+    assert!(rt; portable_or_refused(&answer));
+    Ok(())
+}
+
+/// The verdict is the same whichever growth is refused.
+#[test]
+fn no_box_takes_no_memory(rt: HostRuntime) -> Result<(), Fail> {
+    for (bytes, rule, place) in BOXLESS {
+        match check_bytes(rt.alloc(), bytes) {
+            Ok(Verdict::Broken(finding)) => {
+                assert_eq!(rt;
+                    finding,
+                    Finding {
+                        rule,
+                        place,
+                        pixel: None
+                    }
+                );
+            }
+            _ => return Err(Fail::from("no finding")),
+        }
+    }
+    Ok(())
+}
+
+/// Pushes an event, and where it is refused, once more.
+fn push_again(checker: &mut Checker<BytePlane>, placed: &Placed) -> Result<(), AllocError>
+    requires expected { (seen : List PlacedValue) × StandsAfter checker.old seen × IsTrue (expects seen placed.now.event) }
+    requires spellable { IsSpellable placed.now.event }
+    ensures { OnOk result ((seen : List PlacedValue) → StandsAfter checker.old seen
+        → StandsAfter checker.new (seen ++ placed.now ∷ [])) }
+{
+    match checker.push(placed) {
+        Ok(()) => Ok(()),
+        Err(_) => checker.push(placed),
+    }
+}
+
+/// Pushes an event that may come.
+fn push_next(checker: &mut Checker<BytePlane>, placed: Option<Placed>) -> Result<(), Fail>
+    requires { (seen : List PlacedValue) × StandsAfter checker.old seen }
+    ensures { OnOk result ((seen : List PlacedValue) × StandsAfter checker.new seen) }
+{
+    match placed {
+        None => Ok(()),
+        Some(placed) => {
+            if !checker.expects(&placed.event) || !placed.event.is_spellable() {
+                return Err(Fail::from("an event that may not come"));
+            }
+            push_again(checker, &placed)?;
+            Ok(())
+        }
+    }
+}
+
+/// A checker that has seen the events of these bytes.
+fn pushed_again(rt: &impl AllocGlobal, bytes: &[u8]) -> Result<Checker<BytePlane>, Fail>
+    ensures { IfOk result (λ checker. (seen : List PlacedValue) × StandsAfter checker seen) }
+{
+    let mut reader = Reader::new();
+    let mut checker: Checker<BytePlane> = Checker::new(rt.alloc());
+    for byte in bytes {
+        match reader.feed(*byte) {
+            Ok(completed) => {
+                push_next(&mut checker, completed.first)?;
+                push_next(&mut checker, completed.second)?;
+            }
+            Err(_) => return Err(Fail::from("no document")),
+        }
+    }
+    Ok(checker)
+}
+
+/// The first growth refused, the push that asked for it is repeated, and the verdict is that of ample memory.
+#[test]
+fn a_refused_push_is_repeated(rt: HostRuntime) -> Result<(), Fail> {
+    let checker = pushed_again(&rt, PICTURE)?;
+    if !checker.is_whole() {
+        return Err(Fail::from("not whole"));
+    }
+    let verdict = checker.finish()?;
+    assert!(rt; matches!(&verdict, Verdict::Portable(picture) if picture.width() == 1));
+    Ok(())
+}

@@ -1,0 +1,84 @@
+//! Columns, rows and numbers far past any box.
+
+use crate::checking::check;
+use crate::tests::steps::answer_by_events;
+use crate::tests::{answer_on, bytes_of, in_words};
+use sixel_grammar::SliceSource;
+use std::process::Abort;
+use std::test::Fail;
+
+/// The smallest picture without its end, 24 bytes; 200 times one command; more commands; and the end.
+fn with_many(rt: &impl AllocGlobal, command: &str, more: &str) -> Result<String, Fail> {
+    let mut text = String::new(rt.alloc());
+    text.push_str("EPq\"1;1;1;1#0;2;0;0;0#0@")?;
+    for _ in 0..200 {
+        text.push_str(command)?;
+    }
+    text.push_str(more)?;
+    text.push_str("E\\")?;
+    Ok(text)
+}
+
+/// The answer is the same on the bytes, from a source, and on the events.
+fn agree(rt: &(impl AllocGlobal + Abort), text: &str, expected: &str) -> Result<(), Fail> {
+    assert_eq!(rt; answer_on(rt, text)?.as_str(), expected);
+    let bytes = bytes_of(rt, text)?;
+    for piece in [1, 7, 65_536] {
+        let mut source = SliceSource::new(&bytes, piece, None);
+        let answer = check(rt.alloc(), &mut source);
+        assert_eq!(rt; in_words(rt, &answer)?.as_str(), expected, "{piece}");
+    }
+    let answer = answer_by_events(rt, &bytes)?.ok_or("no document")?;
+    assert_eq!(rt; answer.as_str(), expected);
+    Ok(())
+}
+
+/// Blank columns past the box are no matter, however many. A pixel that follows is the first outside the box: its
+/// command stands at 24 + 200 * 7, and its column is 1 + 200 * 65535.
+#[test]
+fn many_columns(rt: HostRuntime) -> Result<(), Fail> {
+    let blank = with_many(&rt, "!65535?", "")?;
+    agree(&rt, blank.as_str(), "portable 1 1")?;
+    let painted = with_many(&rt, "!65535?", "@")?;
+    agree(&rt, painted.as_str(), "broken Outside 1424 13107001 0")
+}
+
+/// The pixel stands at 24 + 200, six times 200 rows down.
+#[test]
+fn many_bands(rt: HostRuntime) -> Result<(), Fail> {
+    let empty = with_many(&rt, "-", "")?;
+    agree(&rt, empty.as_str(), "portable 1 1")?;
+    let painted = with_many(&rt, "-", "@")?;
+    agree(&rt, painted.as_str(), "broken Outside 224 0 1200")
+}
+
+/// A return goes back to the first column, so no pixel is outside the box. Without it the column is that of
+/// `many_columns`.
+#[test]
+fn a_return_after_many_columns(rt: HostRuntime) -> Result<(), Fail> {
+    let text = with_many(&rt, "!65535?", "$@")?;
+    agree(&rt, text.as_str(), "portable 1 1")
+}
+
+/// Each number is the greatest that a document has: the ratio is the first rule that its first event with numbers
+/// breaks.
+#[test]
+fn the_greatest_numbers(rt: HostRuntime) -> Result<(), Fail> {
+    agree(
+        &rt,
+        "EP65535;65535;65535q\"65535;65535;65535;65535#65535;65535;65535;65535;65535!65535~E\\",
+        "broken Ratio 20",
+    )?;
+    agree(&rt, "EPq\"1;1;65535;65535E\\", "broken BoxSize 3")?;
+    agree(&rt, "EPq\"1;1;1;1#65535E\\", "broken Register 11")?;
+    agree(
+        &rt,
+        "EPq\"1;1;1;1#0;65535;0;0;0E\\",
+        "broken ColourValue 11",
+    )?;
+    agree(
+        &rt,
+        "EPq\"1;1;1;1#0;2;0;0;0#0!65535@E\\",
+        "broken Outside 23 1 0",
+    )
+}
