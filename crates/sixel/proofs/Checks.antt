@@ -5,10 +5,13 @@ use Rattle.std.specs.Io.KnownBytes.{Appends}
 use Rattle.std.proofs.lemmas.List.{take-append-drop}
 use Rattle.sixel_grammar.specs.declared.command.Placed.{Placed}
 use Rattle.sixel_grammar.specs.declared.fault.Fault.{Fault}
+use Rattle.sixel_grammar.specs.declared.fault.InputFault.{InputFault}
+use Rattle.sixel_grammar.specs.declared.fault.InputFault.TheVariants as input
 use Rattle.sixel_grammar.specs.Document.{Document}
 use Rattle.sixel_grammar.proofs.Total.{judged}
 use Rattle.sixel_grammar.proofs.Unique.{document_once, fault_no_document, fault_once}
 use Rattle.sixel_check.specs.declared.verdict.Verdict.{Verdict}
+use Rattle.sixel_check.specs.Growth.{MayGrowIn}
 use Rattle.sixel_check.specs.Reading.{Answers as CheckAnswers}
 use Rattle.sixel_check.specs.Verdicts.{IsVerdict}
 use Rattle.sixel_check.proofs.DecideLemmas.{verdict_exists}
@@ -16,6 +19,7 @@ use Rattle.sixel_check.proofs.VerdictLemmas.{verdict_once}
 use Rattle.sixel.specs.declared.fault.RunFault.{RunFault}
 use Rattle.sixel.specs.declared.fault.RunFault.TheVariants.{Grammar, Ppm, NotRgb, OutOfMemory, Read, Write}
 use Rattle.sixel.specs.declared.task.Status.{Status}
+use Rattle.sixel.specs.Conversions.{of_input}
 use Rattle.sixel.specs.Outputs.{CheckGives, WroteBy, WroteNothing, status_of}
 use Rattle.sixel.specs.Texts.{Text, BeginsWith, verdict_line}
 
@@ -91,3 +95,14 @@ pub checked_unwritten : (a : Option (List ℕ)) (v : Verdict) (had has : Option 
     → IfSome a (λ bytes. WroteBy (CheckGives bytes) WroteNothing (Err Write) had has)
 checked_unwritten None v had has given put = tt
 checked_unwritten (Some bytes) v had has given put = verdict_unwritten bytes v had has given put
+
+-- ---- memory
+
+-- a check that was refused for want of memory had a box to make
+pub grown : (told : Option (List ℕ)) (fault : InputFault) (y : RunFault) (r : Result Status RunFault)
+    → IfSome told (λ bytes. (let k : Result Verdict InputFault = Err fault in k) ≡ Err input.OutOfMemory → MayGrowIn bytes)
+    → r ≡ Err y → y ≡ of_input fault → r ≡ Err OutOfMemory → IfSome told MayGrowIn
+grown None fault y r h e f o = tt
+grown (Some bytes) (input.Grammar k) y r h e f o = cc
+grown (Some bytes) input.OutOfMemory y r h e f o = h refl
+grown (Some bytes) input.Read y r h e f o = cc

@@ -25,7 +25,8 @@ pub record RefusesAt (fault : Fault) (piece : List ℕ) (had has : Option (List 
   pub place : fault.place ≡ length (bytes ++ front)
   pub lines : Appends had has (list_text more)
 
--- a reader came as far as this front of the piece, and of the lines of the events that came by then a front was appended
+-- a reader came as far as this front of the piece, and of the lines of the events that came by then a front was
+-- appended
 pub record StopsIn (piece : List ℕ) (had has : Option (List ℕ))
     (events : List Placed) (bytes : List ℕ) : Type 0 where
   pub front : List ℕ

@@ -1,5 +1,5 @@
 -- What a run writes and answers.
-use Rattle.std.specs.Prelude.{◌≡◌, ◌⊎◌, ℕ, List, [], ◌≤◌, length, take, Option, Some, IsTrue, IsFalse, Result, Ok, Err, if◌then◌else◌}
+use Rattle.std.specs.Prelude.{◌≡◌, ◌⊎◌, ℕ, List, [], ◌≤◌, length, take, Option, Some, IfSome, IsTrue, IsFalse, Result, Ok, Err, if◌then◌else◌}
 use Rattle.std.specs.Io.KnownBytes.{Appends, Consumes}
 use Rattle.sixel_grammar.specs.declared.command.Placed.{Placed}
 use Rattle.sixel_grammar.specs.Devices.{one_more}
@@ -9,11 +9,12 @@ use Rattle.sixel_grammar.specs.Faults.{IsFaultOf}
 use Rattle.sixel_picture.specs.declared.ppm.PpmFault.{PpmFault}
 use Rattle.sixel_picture.specs.Pictures.{PictureValue}
 use Rattle.sixel_picture.specs.Ppm.{are_rgb, colours_of, is_file_side, ppm_text}
-use Rattle.sixel_picture.specs.PpmReading.{ppm_read}
+use Rattle.sixel_picture.specs.PpmReading.{HasWholeHeader, ppm_read}
 use Rattle.sixel_terminal.specs.Displays.{Display}
 use Rattle.sixel_terminal.specs.Drawing.{screen_on}
 use Rattle.sixel_check.specs.declared.verdict.Verdict.{Verdict}
 use Rattle.sixel_check.specs.declared.verdict.Verdict.TheVariants.{Portable, Broken}
+use Rattle.sixel_check.specs.Growth.{MayGrowIn}
 use Rattle.sixel_check.specs.Verdicts.{IsVerdict}
 use Rattle.sixel_encode.specs.Canon.{canon_text}
 use Rattle.sixel.specs.Conversions.{of_ppm}
@@ -44,8 +45,8 @@ ListGives bytes text (Err OutOfMemory) = ⊥
 ListGives bytes text (Err Read) = ⊥
 ListGives bytes text (Err Write) = ⊥
 
--- the lines of the events complete in the bytes that were given, which are those before `left` and in which no fault was
--- met
+-- the lines of the events complete in the bytes that were given, which are those before `left` and in which no fault
+-- was met
 abbrev pub ListsUnread : List ℕ → Option (List ℕ) → Option (List ℕ) → Option (List ℕ) → Type 0
 ListsUnread bytes left had has =
     (given : List ℕ) × (text : Text) × Consumes (Some bytes) left given
@@ -146,16 +147,17 @@ WroteUnread Render bytes left had has = WroteNothing had has
 WroteUnread Encode bytes left had has = WroteNothing had has
 WroteUnread (Show showing fill selects width height) bytes left had has = WroteNothing had has
 
--- the task may be refused for want of memory
-abbrev pub TakesMemory : Task → Type 0
-TakesMemory Listing = ⊥
-TakesMemory Check = Unit {0}
-TakesMemory Render = Unit {0}
-TakesMemory Encode = Unit {0}
-TakesMemory (Show showing fill selects width height) = Unit {0}
+-- a run of the task over these bytes, if they are known, may be refused for want of memory: a check and a picture only
+-- where raster attributes make a box in them, an encode only after a whole header
+abbrev pub TakesMemory : Task → Option (List ℕ) → Type 0
+TakesMemory Listing told = ⊥
+TakesMemory Check told = IfSome told MayGrowIn
+TakesMemory Render told = IfSome told MayGrowIn
+TakesMemory Encode told = IfSome told HasWholeHeader
+TakesMemory (Show showing fill selects width height) told = Unit {0}
 
--- a run that answered so appended to what the sink `had` the text that is given with the answer, or on `Write` a front of
--- what is given, or on `Read` what `unread` says, or for want of memory nothing
+-- a run that answered so appended to what the sink `had` the text that is given with the answer, or on `Write` a front
+-- of what is given, or on `Read` what `unread` says, or for want of memory nothing
 abbrev pub WroteBy : (Text → Result Status RunFault → Type 0) → (Option (List ℕ) → Option (List ℕ) → Type 0)
     → Result Status RunFault → Option (List ℕ) → Option (List ℕ) → Type 0
 WroteBy gives unread (Ok status) had has = (text : Text) × gives text (Ok status) × Appends had has text
@@ -170,8 +172,8 @@ WroteBy gives unread (Err Write) had has =
     (part : Text) × Appends had has part
     × ((text : Text) (answer : Result Status RunFault) → gives text answer → BeginsWith text part)
 
--- a run of the task over these bytes, of which `left` are left to give, appended this to what the sink `had` and answered
--- so
+-- a run of the task over these bytes, of which `left` are left to give, appended this to what the sink `had` and
+-- answered so
 abbrev pub Wrote : Task → List ℕ → Option (List ℕ)
     → Result Status RunFault → Option (List ℕ) → Option (List ℕ) → Type 0
 Wrote task bytes left answer had has = WroteBy (Gives task bytes) (WroteUnread task bytes left) answer had has

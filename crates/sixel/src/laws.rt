@@ -23,8 +23,8 @@ pub fn tasks_give_one_output()
         Gives task bytes first a → Gives task bytes second b → (first ≡ second) × (a ≡ b) }
 {}
 
-/// The text that `encode` writes of any picture is a document whose verdict is that picture, palette included, and which
-/// each terminal of the class with room shows; and a check of it says so.
+/// The text that `encode` writes of any picture is a document whose verdict is that picture, palette included, and
+/// which each terminal of the class with room shows; and a check of it says so.
 pub fn encoded_pictures_are_portable()
     ensures portable { EncodedIsPortable 16 }
     ensures checked { EncodedChecks }

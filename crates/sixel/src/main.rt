@@ -1,12 +1,14 @@
-//! The program `sixel`: reads a sixel picture from standard input and says what it is.
+//! The program `sixel`: checks, lists, draws and writes sixel pictures, from standard input to standard output.
 #![tactic(auto)]
 
-ghost use Rattle.std.specs.Prelude.{◌≡◌, ◌≢◌, IfErr, IfOk, IfSome, Ok};
+ghost use Rattle.std.specs.Prelude.{◌≡◌, ◌≢◌, IfErr, IfOk, IfSome, Ok, false, is_ok, map};
+ghost use Rattle.std.specs.String.{string_bytes};
+ghost use Rattle.std.specs.Vec.Iter.{into_iter_items};
 ghost use Rattle.sixel_check.specs.declared.verdict.Finding.{Finding as AFinding};
 ghost use Rattle.sixel.specs.Exits.{exit_for_answer, exit_for_words};
 ghost use Rattle.sixel.specs.Outputs.{Gives, HasSides};
 ghost use Rattle.sixel.specs.Texts.{Text};
-ghost use Rattle.sixel.specs.Words.{IsSortedOut};
+ghost use Rattle.sixel.specs.Words.{IsSortedOut, IsTaskOf};
 
 mod fault;
 mod laws;
@@ -22,10 +24,10 @@ use fault::RunFault;
 use lines::{write_fault, write_finding};
 use sixel_grammar::{FromRead, ToWrite, put_all};
 use std::alloc::Global;
-use std::env;
+use std::env::Args;
 use std::io::{ErrorKind, Read, Write};
 use std::process::ExitCode;
-use std::rt::Env;
+use std::{env, io};
 use task::{Status, Task};
 use words::{WordsFault, parse_words, usage};
 
@@ -39,25 +41,28 @@ enum Exit {
 }
 
 fn main(rt: HostRuntime) -> ExitCode {
-    let exit = match asked_task(&rt) {
+    let exit = match task_in(rt.alloc(), env::args(&rt)) {
         Ok(task) => execute(rt.alloc(), task, rt.stdin(), rt.stdout(), rt.stderr()),
         Err(fault) => explain(rt.alloc(), fault, rt.stdout(), rt.stderr()),
     };
     ExitCode::from(exit as u8)
 }
 
-/// The task that the program's arguments name.
-fn asked_task<R: Env + AllocGlobal>(rt: &R) -> Result<Task, WordsFault>
-    ensures fault { IfErr result IsSortedOut }
+/// The task that these arguments name, of which the first is the program's name; none where they couldn't be read.
+fn task_in(alloc: Global, arguments: io::Result<Args>) -> Result<Task, WordsFault>
+    ensures task { IfOk result (λ task. IfOk arguments (λ words.
+        IsTaskOf (map string_bytes (into_iter_items words)) task)) }
     ensures sides { IfOk result HasSides }
+    ensures unread { IfErr arguments (λ error. is_ok result ≡ false) }
+    ensures fault { IfErr result IsSortedOut }
 {
-    let arguments = match env::args(rt) {
+    let arguments = match arguments {
         Ok(arguments) => arguments,
         Err(error) if error.kind() == ErrorKind::OutOfMemory => return Err(WordsFault::OutOfMemory),
-        Err(_) => return Err(usage(rt.alloc(), "the arguments are not text")),
+        Err(_) => return Err(usage(alloc, "the arguments are not text")),
     };
-    match arguments.collect::<Vec<String>>(rt.alloc()) {
-        Ok(words) => parse_words(rt.alloc(), words.as_slice()),
+    match arguments.collect::<Vec<String>>(alloc) {
+        Ok(words) => parse_words(alloc, words.as_slice()),
         Err(_) => Err(WordsFault::OutOfMemory),
     }
 }

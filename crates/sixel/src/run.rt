@@ -17,8 +17,8 @@ use std::alloc::Global;
 /// Runs a task: reads the input as far as the task wants it, writes what it gives, and flushes once at the end.
 ///
 /// The output is written in blocks, and what a piece of input completed is written before the next is read. A device
-/// that failed isn't called again; where both failed, the answer is `Write`. The sides of a screen to show are from 1 to
-/// 4,096 pixels.
+/// that failed isn't called again; where both failed, the answer is `Write`. The sides of a screen to show are from 1
+/// to 4,096 pixels.
 pub fn run<S: Source, K: Sink>(
     alloc: Global,
     task: Task,
@@ -28,7 +28,7 @@ pub fn run<S: Source, K: Sink>(
     requires { HasSides task }
     ensures wrote { IfSome (S.remaining input.old) (λ bytes.
         Wrote task bytes (S.remaining input.new) result (K.taken output.old) (K.taken output.new)) }
-    ensures memory { result ≡ Err RunFault.OutOfMemory → TakesMemory task }
+    ensures memory { result ≡ Err RunFault.OutOfMemory → TakesMemory task (S.remaining input.old) }
     ensures reads { CountsReads result (S.failure_count input.old) (S.failure_count input.new) }
     ensures writes { CountsWrites result (K.failure_count output.old) (K.failure_count output.new) }
     ensures flushed { result ≢ Err RunFault.Write → K.is_flushed output.new ≡ true }
@@ -53,7 +53,7 @@ fn perform<S: Source, K: Sink>(
     requires { HasSides task }
     ensures wrote { IfSome (S.remaining input.old) (λ bytes.
         Wrote task bytes (S.remaining input.new) result (K.taken output.old) (K.taken output.new)) }
-    ensures memory { result ≡ Err RunFault.OutOfMemory → TakesMemory task }
+    ensures memory { result ≡ Err RunFault.OutOfMemory → TakesMemory task (S.remaining input.old) }
     ensures reads { S.failure_count input.new ≡ failures_by RunFault.Read result (S.failure_count input.old) }
     ensures writes { CountsWrites result (K.failure_count output.old) (K.failure_count output.new) }
 {

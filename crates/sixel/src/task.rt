@@ -5,15 +5,16 @@ use sixel_check::Finding;
 /// What is to be done with the input.
 #[derive(Clone, Copy, Debug, PartialEq, Eq)]
 pub enum Task {
-    /// A line for each event of a sixel picture (DEC EK-VT3XX-GP, volume 2, the chapter on sixel graphics): its place in
-    /// bytes, what it is, and its numbers.
+    /// A line for each event of a sixel picture (DEC EK-VT3XX-GP, volume 2, the chapter on sixel graphics): its place
+    /// in bytes, what it is, and its numbers.
     List,
-    /// A line with the verdict on a sixel picture: `portable` and its size, or `broken`, the first broken rule and its place.
+    /// A line with the verdict on a sixel picture: `portable` and its size, or `broken`, the first broken rule and its
+    /// place.
     Check,
     /// A portable sixel picture as a PPM of Netpbm, with a maximum of 100.
     Render,
-    /// The screen of one terminal of 16 registers after a sixel picture, written as a PPM of Netpbm. Register n starts as
-    /// the grey of 6n percent, the screen is white, and the picture begins at its top left.
+    /// The screen of one terminal of 16 registers after a sixel picture, written as a PPM of Netpbm. Register n starts
+    /// as the grey of 6n percent, the screen is white, and the picture begins at its top left.
     Show {
         /// A pixel shows the colour that its register has at the end of the string, not at its painting.
         showing: bool,

@@ -111,3 +111,5 @@ fn ends_by_what_is_wrong_with_the_words(rt: HostRuntime) -> Result<(), Fail> {
     );
     Ok(())
 }
+
+mod examples;

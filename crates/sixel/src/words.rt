@@ -73,12 +73,14 @@ fn usage_error(alloc: Global, reason: &str) -> Result<Error, AllocError>
     command.error(ErrorKind::ValueValidation, reason)
 }
 
-/// Each task is a subcommand; one with options has its own function, as this has.
+/// Each task is a subcommand. `show`, which has options, has a function of its own.
 fn sixel_command<'a>(alloc: Global) -> Result<Command<'a>, AllocError>
     ensures { IfOk result (λ c. app_of c ≡ sixel_app) }
 {
     let mut command = Command::new(alloc, "sixel")
-        .about("Reads a sixel picture from standard input")
+        .about(
+            "Checks, lists, draws and writes sixel pictures, from standard input to standard output",
+        )
         .subcommand_required(true);
     command = with_plain_command(
         alloc,
@@ -90,7 +92,7 @@ fn sixel_command<'a>(alloc: Global) -> Result<Command<'a>, AllocError>
         alloc,
         command,
         "check",
-        "Says whether every terminal shows the same picture, or which rule is broken first",
+        "Says whether the picture is portable, or which rule is broken first",
     )?;
     command = with_plain_command(
         alloc,

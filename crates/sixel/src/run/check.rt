@@ -1,6 +1,7 @@
 //! Checks a sixel picture, and writes the verdict.
 
-ghost use Rattle.std.specs.Prelude.{◌≡◌, IfSome};
+ghost use Rattle.std.specs.Prelude.{◌≡◌, Err, IfSome};
+ghost use Rattle.sixel_check.specs.Growth.{MayGrowIn};
 ghost use Rattle.sixel.specs.declared.fault.RunFault.TheVariants.{Read};
 ghost use Rattle.sixel.specs.Outputs.{CheckGives, CountsWrites, WroteBy, WroteNothing, failures_by, status_of};
 
@@ -19,6 +20,7 @@ pub fn check<S: Source, K: Sink>(
 ) -> Result<Status, RunFault>
     ensures wrote { IfSome (S.remaining input.old) (λ bytes.
         WroteBy (CheckGives bytes) WroteNothing result (K.taken output.old) (K.taken output.new)) }
+    ensures memory { result ≡ Err RunFault.OutOfMemory → IfSome (S.remaining input.old) MayGrowIn }
     ensures reads { S.failure_count input.new ≡ failures_by Read result (S.failure_count input.old) }
     ensures writes { CountsWrites result (K.failure_count output.old) (K.failure_count output.new) }
 {

@@ -1,6 +1,7 @@
 //! Writes a picture from a PPM as sixel text.
 
-ghost use Rattle.std.specs.Prelude.{◌≡◌, IfSome};
+ghost use Rattle.std.specs.Prelude.{◌≡◌, Err, IfSome};
+ghost use Rattle.sixel_picture.specs.PpmReading.{HasWholeHeader};
 ghost use Rattle.sixel.specs.declared.fault.RunFault.TheVariants.{Read};
 ghost use Rattle.sixel.specs.Outputs.{CountsWrites, EncodeGives, WroteBy, WroteNothing, failures_by};
 
@@ -18,6 +19,7 @@ pub fn encode<S: Source, K: Sink>(
 ) -> Result<Status, RunFault>
     ensures wrote { IfSome (S.remaining input.old) (λ bytes.
         WroteBy (EncodeGives bytes) WroteNothing result (K.taken output.old) (K.taken output.new)) }
+    ensures memory { result ≡ Err RunFault.OutOfMemory → IfSome (S.remaining input.old) HasWholeHeader }
     ensures reads { S.failure_count input.new ≡ failures_by Read result (S.failure_count input.old) }
     ensures writes { CountsWrites result (K.failure_count output.old) (K.failure_count output.new) }
 {

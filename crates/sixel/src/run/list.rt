@@ -23,6 +23,9 @@ const PIECE: usize = 65_536;
 type Lines = Block<786_432>;
 
 /// Writes a line for each event as it is complete, also before a fault. It takes no memory and doesn't flush.
+///
+/// It isn't inlined: else its block would stand on the stack of every task.
+#[inline(never)]
 pub fn list<S: Source, K: Sink>(input: &mut S, output: &mut K) -> Result<Status, RunFault>
     ensures wrote { IfSome (S.remaining input.old) (λ bytes.
         Wrote Listing bytes (S.remaining input.new) result (K.taken output.old) (K.taken output.new)) }

@@ -51,7 +51,8 @@ pub fn show<S: Source, K: Sink>(
 ) -> Result<Status, RunFault>
     requires { terminal_fault choices greys (white_screen choices) ≡ None }
     ensures wrote { IfSome (S.remaining input.old) (λ bytes.
-        WroteBy (ShowGives (show_terminal choices) bytes) WroteNothing result (K.taken output.old) (K.taken output.new)) }
+        WroteBy (ShowGives (show_terminal choices) bytes) WroteNothing result
+        (K.taken output.old) (K.taken output.new)) }
     ensures reads { S.failure_count input.new ≡ failures_by Read result (S.failure_count input.old) }
     ensures writes { CountsWrites result (K.failure_count output.old) (K.failure_count output.new) }
 {
@@ -71,7 +72,8 @@ fn write_screen<K: Sink>(
     requires whole { length shown.now ≡ choices.screen_width * choices.screen_height }
     ensures wrote { (events : List Place) (bytes : List ℕ) → Document events bytes →
         shown.now ≡ screen_on (show_terminal choices) (events_of events) →
-        WroteBy (ShowGives (show_terminal choices) bytes) WroteNothing result (K.taken output.old) (K.taken output.new) }
+        WroteBy (ShowGives (show_terminal choices) bytes) WroteNothing result
+        (K.taken output.old) (K.taken output.new) }
     ensures unread { result ≢ Err Read }
     ensures writes { CountsWrites result (K.failure_count output.old) (K.failure_count output.new) }
 {

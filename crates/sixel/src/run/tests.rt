@@ -1,3 +1,5 @@
+mod round_trip;
+
 use crate::fault::RunFault;
 use crate::run::run;
 use crate::task::{Status, Task};

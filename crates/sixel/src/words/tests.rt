@@ -97,7 +97,7 @@ fn refuses_other_words(rt: HostRuntime) -> Result<(), Fail> {
 #[test]
 fn shows_help(rt: HostRuntime) -> Result<(), Fail> {
     let whole =
-        "help Reads a sixel picture from standard input\n\nUsage: sixel <COMMAND>\n\nCommands:\n  list    Lists what the picture says, a line for each command\n  check   Says whether every terminal shows the same picture, or which rule is broken first\n  render  Writes a portable picture as a PPM\n  encode  Reads a PPM in place of a sixel picture, and writes it as a portable one\n  show    Draws the picture as one terminal would, and writes its screen as a PPM\n  help    Print this message or the help of the given subcommand(s)\n\nOptions:\n  -h, --help  Print help\n";
+        "help Checks, lists, draws and writes sixel pictures, from standard input to standard output\n\nUsage: sixel <COMMAND>\n\nCommands:\n  list    Lists what the picture says, a line for each command\n  check   Says whether the picture is portable, or which rule is broken first\n  render  Writes a portable picture as a PPM\n  encode  Reads a PPM in place of a sixel picture, and writes it as a portable one\n  show    Draws the picture as one terminal would, and writes its screen as a PPM\n  help    Print this message or the help of the given subcommand(s)\n\nOptions:\n  -h, --help  Print help\n";
     for line in ["sixel --help", "sixel -h", "sixel help"] {
         assert_eq!(rt; said(&rt, line)?.as_str(), whole, "{line}");
     }

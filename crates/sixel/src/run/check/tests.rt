@@ -75,6 +75,11 @@ fn answers_portable(rt: HostRuntime) {
     for (bytes, line) in rows {
         checks(&rt, bytes, line);
     }
+    checks(
+        &rt,
+        b"\x1bPq\"1;1;1;1#0;1;360;50;100#0@\x1b\\",
+        "portable 1 1\n",
+    );
     checks(&rt, b"\x90q\"1;1;1;1#0;2;0;0;0#0@\x9c", "portable 1 1\n");
 }
 
@@ -92,6 +97,10 @@ fn names_the_first_broken_rule(rt: HostRuntime) {
         (
             b"\x1bPq\"1;1;1;1#0;2;0;0;0@\x1b\\".as_slice(),
             "broken Unselected 21\n",
+        ),
+        (
+            b"\x1bPq\"1;1;1;1#0;2;0;0;0#1;2;100;0;0@\x1b\\".as_slice(),
+            "broken Unselected 33\n",
         ),
         (
             b"\x1bPq\"1;1;1;1#1;2;100;0;0#1#0;2;0;0;0@\x1b\\".as_slice(),
@@ -213,12 +222,16 @@ fn answers_a_later_fault(rt: HostRuntime) {
 #[test]
 fn answers_the_device_that_failed(rt: HostRuntime) {
     let bytes = b"\x1bPq\"1;1;1;1#0;2;0;0;0#0@\x1b\\";
-    let mut room = [0; 96];
-    let mut input = SliceSource::new(bytes, 5, Some(2));
-    let mut output = SliceSink::new(&mut room, 96, None);
-    let got = run(rt.alloc(), Task::Check, &mut input, &mut output);
-    assert_eq!(rt; got, Err(RunFault::Read));
-    assert_eq!(rt; output.written(), b"".as_slice());
+    for fill in 0..6 {
+        let mut room = [0; 96];
+        let mut input = Watched::new(SliceSource::new(bytes, 5, Some(fill)));
+        let mut output = Watched::new(SliceSink::new(&mut room, 96, None));
+        let got = run(rt.alloc(), Task::Check, &mut input, &mut output);
+        assert_eq!(rt; got, Err(RunFault::Read), "fill {fill}");
+        assert_eq!(rt; output.device.written(), b"".as_slice(), "fill {fill}");
+        assert_eq!(rt; output.calls.flushes, 1, "fill {fill}");
+        assert_eq!(rt; input.calls.after_fault, 0, "fill {fill}");
+    }
     for (take, written) in [(0, 0), (1, 5), (2, 10), (3, 13)] {
         let mut room = [0; 96];
         let mut input = SliceSource::new(bytes, 64, None);

@@ -1,6 +1,7 @@
 use crate::fault::RunFault;
 use crate::run::run;
 use crate::task::{Status, Task};
+use crate::watched::Watched;
 use sixel_grammar::{SliceSink, SliceSource};
 use sixel_picture::PpmReason;
 use std::process::Abort;
@@ -19,10 +20,11 @@ fn encodes<R: AllocGlobal + Abort>(
         assert!(rt; piece > 0);
         let mut room = [0; 96];
         let mut input = SliceSource::new(bytes, piece, None);
-        let mut output = SliceSink::new(&mut room, 96, None);
+        let mut output = Watched::new(SliceSink::new(&mut room, 96, None));
         let got = run(rt.alloc(), Task::Encode, &mut input, &mut output);
         assert_eq!(rt; got, answer, "in pieces of {piece}");
-        assert_eq!(rt; output.written(), text, "in pieces of {piece}");
+        assert_eq!(rt; output.device.written(), text, "in pieces of {piece}");
+        assert_eq!(rt; output.calls.flushes, 1, "in pieces of {piece}");
     }
 }
 
@@ -70,18 +72,31 @@ fn writes_nothing_of_what_is_no_picture_file(rt: HostRuntime) {
     }
 }
 
+/// The text has 33 bytes, each a take of its own. Each take fails in turn, and then the flush.
 #[test]
 fn answers_the_device_that_failed(rt: HostRuntime) {
-    let mut room = [0; 33];
-    let mut input = SliceSource::new(RED, 64, None);
-    let mut output = SliceSink::new(&mut room, 1, Some(15));
-    let got = run(rt.alloc(), Task::Encode, &mut input, &mut output);
-    assert_eq!(rt; got, Err(RunFault::Write));
-    assert_eq!(rt; output.written(), b"\x1bP0;1q\"1;1;5;1#".as_slice());
-    let mut room = [0; 33];
-    let mut input = SliceSource::new(RED, 5, Some(2));
-    let mut output = SliceSink::new(&mut room, 33, None);
-    let got = run(rt.alloc(), Task::Encode, &mut input, &mut output);
-    assert_eq!(rt; got, Err(RunFault::Read));
-    assert_eq!(rt; output.written(), b"".as_slice());
+    let text = b"\x1bP0;1q\"1;1;5;1#0;2;100;0;0#0!5@\x1b\\".as_slice();
+    for take in 0..34 {
+        let mut room = [0; 33];
+        let mut input = SliceSource::new(RED, 64, None);
+        let mut output = Watched::new(SliceSink::new(&mut room, 1, Some(take)));
+        let got = run(rt.alloc(), Task::Encode, &mut input, &mut output);
+        assert_eq!(rt; got, Err(RunFault::Write), "take {take}");
+        assert_eq!(rt;
+            Some(output.device.written()),
+            text.get(..take as usize),
+            "take {take}"
+        );
+        assert_eq!(rt; output.calls.after_fault, 0, "take {take}");
+    }
+    for fill in 0..6 {
+        let mut room = [0; 33];
+        let mut input = Watched::new(SliceSource::new(RED, 5, Some(fill)));
+        let mut output = Watched::new(SliceSink::new(&mut room, 33, None));
+        let got = run(rt.alloc(), Task::Encode, &mut input, &mut output);
+        assert_eq!(rt; got, Err(RunFault::Read), "fill {fill}");
+        assert_eq!(rt; output.device.written(), b"".as_slice(), "fill {fill}");
+        assert_eq!(rt; output.calls.flushes, 1, "fill {fill}");
+        assert_eq!(rt; input.calls.after_fault, 0, "fill {fill}");
+    }
 }

@@ -1,6 +1,7 @@
 use crate::fault::RunFault;
 use crate::run::run;
 use crate::task::{Status, Task};
+use crate::watched::Watched;
 use sixel_check::{Finding, Rule};
 use sixel_grammar::{Fault, Reason, SliceSink, SliceSource};
 use std::process::Abort;
@@ -16,10 +17,11 @@ fn renders<R: AllocGlobal + Abort>(
         assert!(rt; piece > 0);
         let mut room = [0; 96];
         let mut input = SliceSource::new(bytes, piece, None);
-        let mut output = SliceSink::new(&mut room, 96, None);
+        let mut output = Watched::new(SliceSink::new(&mut room, 96, None));
         let got = run(rt.alloc(), Task::Render, &mut input, &mut output);
         assert_eq!(rt; got, answer, "in pieces of {piece}");
-        assert_eq!(rt; output.written(), text, "in pieces of {piece}");
+        assert_eq!(rt; output.device.written(), text, "in pieces of {piece}");
+        assert_eq!(rt; output.calls.flushes, 1, "in pieces of {piece}");
     }
 }
 
@@ -63,4 +65,34 @@ fn writes_nothing_of_any_other(rt: HostRuntime) {
         place: 4,
     };
     renders(&rt, b"\x1bPq@", b"", Err(RunFault::Grammar(fault)));
+}
+
+/// The text has 14 bytes, which go in two takes. Each take fails in turn, and then the flush.
+#[test]
+fn answers_the_device_that_failed(rt: HostRuntime) {
+    let bytes = b"\x1bPq\"1;1;1;1#0;2;0;0;0#0@\x1b\\";
+    let text = b"P6\n1 1\n100\n\x00\x00\x00".as_slice();
+    for (take, written) in [(0, 0), (1, 7), (2, 14)] {
+        let mut room = [0; 64];
+        let mut input = SliceSource::new(bytes, 64, None);
+        let mut output = Watched::new(SliceSink::new(&mut room, 7, Some(take)));
+        let got = run(rt.alloc(), Task::Render, &mut input, &mut output);
+        assert_eq!(rt; got, Err(RunFault::Write), "take {take}");
+        assert_eq!(rt;
+            Some(output.device.written()),
+            text.get(..written),
+            "take {take}"
+        );
+        assert_eq!(rt; output.calls.after_fault, 0, "take {take}");
+    }
+    for fill in 0..6 {
+        let mut room = [0; 64];
+        let mut input = Watched::new(SliceSource::new(bytes, 5, Some(fill)));
+        let mut output = Watched::new(SliceSink::new(&mut room, 64, None));
+        let got = run(rt.alloc(), Task::Render, &mut input, &mut output);
+        assert_eq!(rt; got, Err(RunFault::Read), "fill {fill}");
+        assert_eq!(rt; output.device.written(), b"".as_slice(), "fill {fill}");
+        assert_eq!(rt; output.calls.flushes, 1, "fill {fill}");
+        assert_eq!(rt; input.calls.after_fault, 0, "fill {fill}");
+    }
 }

@@ -1,0 +1,17 @@
+use Rattle.std.proofs.Common.{◌≡◌, ◌∙◌, Ok, IfOk, map, refl, subst}
+use Rattle.std.specs.String.{string_bytes}
+use Rattle.std.specs.Vec.Iter.{into_iter_items}
+use Rattle.std.proofs.lemmas.Iterator.{items_from_collect}
+use Rattle.std.proofs.lemmas.Iterator.Adapters.{YieldsList-from_vec}
+use Rattle.sixel.specs.Words.{IsTaskOf}
+use Rattle.sixel.proofs.task_in.Goals as goal
+
+pub returns-in-Ok-collect-clause-task : goal.returns-in-Ok-collect-clause-task
+returns-in-Ok-collect-clause-task c =
+    let had = into_iter_items c.in-Ok.arguments in
+    let same : c.in-Ok-collect.words.items ≡ had =
+    items_from_collect {E = Unit {0}} (Ok c.in-Ok-collect.words) c.in-Ok-collect.ensures.ran
+    (YieldsList-from_vec had refl c.in-Ok.arguments.rest.ok.0) in
+    rw c.in-Ok.is
+    (subst (λ ws. IfOk c.parse_words.result (IsTaskOf (map string_bytes ws))) (c.as_slice.ensures.value ∙ same)
+    c.parse_words.ensures.task)

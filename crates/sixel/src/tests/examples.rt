@@ -1,0 +1,206 @@
+//! The strings of docs/RULES.md and of the small files of examples/. The script examples/run looks that each stands here.
+
+use crate::task::Task;
+use crate::{Exit, execute};
+use std::process::Abort;
+use std::test::Fail;
+
+/// Checks the bytes, and compares the exit status and the line: a verdict goes to standard output, a fault to standard error.
+fn checks<R: AllocGlobal + Abort>(
+    rt: &R,
+    bytes: &[u8],
+    exit: Exit,
+    line: &str,
+) -> Result<(), Fail> {
+    let mut output = Vec::new(rt.alloc());
+    let mut errors = Vec::new(rt.alloc());
+    let ended = execute(rt.alloc(), Task::Check, bytes, &mut output, &mut errors);
+    assert_eq!(rt; ended, exit, "{line}");
+    let (right, other) = if exit == Exit::Refused {
+        (errors, output)
+    } else {
+        (output, errors)
+    };
+    assert_eq!(rt; right.as_slice(), line.as_bytes(), "{line}");
+    assert_eq!(rt; other.as_slice(), b"".as_slice(), "{line}");
+    Ok(())
+}
+
+#[test]
+fn each_rule_is_named(rt: HostRuntime) -> Result<(), Fail> {
+    let rows = [
+        (b"\x1bPq\x1b\\".as_slice(), "broken RasterFirst 3\n"),
+        (
+            b"\x1bPq\"1;1;1;1\"1;1;1;1\x1b\\".as_slice(),
+            "broken RasterTwice 11\n",
+        ),
+        (b"\x1bPq\"2;1;1;1\x1b\\".as_slice(), "broken Ratio 3\n"),
+        (b"\x1bPq\"1;1\x1b\\".as_slice(), "broken BoxSize 3\n"),
+        (b"\x1bPq#16\x1b\\".as_slice(), "broken Register 3\n"),
+        (
+            b"\x1bPq#0;2;255;0;0\x1b\\".as_slice(),
+            "broken ColourValue 3\n",
+        ),
+        (
+            b"\x1bPq\"1;1;1;1!0@\x1b\\".as_slice(),
+            "broken RepeatZero 11\n",
+        ),
+        (
+            b"\x1bPq\"1;1;1;1@\x1b\\".as_slice(),
+            "broken Unselected 11\n",
+        ),
+        (
+            b"\x1bPq\"1;1;1;1#0;2;0;0;0#1;2;100;0;0@\x1b\\".as_slice(),
+            "broken Unselected 33\n",
+        ),
+        (
+            b"\x1bPq\"1;1;1;1#0@\x1b\\".as_slice(),
+            "broken Undefined 13\n",
+        ),
+        (
+            b"\x1bPq\"1;1;1;1#0;2;0;0;0#0@#0;2;100;0;0\x1b\\".as_slice(),
+            "broken Redefined 24\n",
+        ),
+        (
+            b"\x1bPq\"1;1;1;1#0;2;0;0;0#0~\x1b\\".as_slice(),
+            "broken Outside 23 0 1\n",
+        ),
+        (
+            b"\x1bPq\"1;1;1;1\x1b\\".as_slice(),
+            "broken Uncovered 11 0 0\n",
+        ),
+        (
+            b"\x1bPq\"1;1;2;1#0;2;0;0;0#0@\x1b\\".as_slice(),
+            "broken Uncovered 24 1 0\n",
+        ),
+    ];
+    for (bytes, line) in rows {
+        checks(&rt, bytes, Exit::Broken, line)?;
+    }
+    Ok(())
+}
+
+#[test]
+fn portable_strings_are_called_portable(rt: HostRuntime) -> Result<(), Fail> {
+    let rows = [
+        (
+            b"\x1bPq\"1;1;1;1#0;2;0;0;0#0@\x1b\\".as_slice(),
+            "portable 1 1\n",
+        ),
+        (
+            b"\x1bPq\"1;1;1;2#0;2;0;0;0#0B\x1b\\".as_slice(),
+            "portable 1 2\n",
+        ),
+        (
+            b"\x1bPq\"1;1;1;1#15;2;0;0;0#15@\x1b\\".as_slice(),
+            "portable 1 1\n",
+        ),
+        (
+            b"\x1bPq\"1;1;1;1#0;2;100;0;0#0@\x1b\\".as_slice(),
+            "portable 1 1\n",
+        ),
+        (
+            b"\x1bPq\"1;1;1;1#0;2;0;0;0#1;2;100;0;0#1@\x1b\\".as_slice(),
+            "portable 1 1\n",
+        ),
+        (
+            b"\x1bPq\"1;1;1;1#0;2;0;0;0#0@#1;2;100;0;0\x1b\\".as_slice(),
+            "portable 1 1\n",
+        ),
+        (
+            b"\x1bPq\"1;1;2;1#0;2;0;0;0#1;2;100;100;100#0@#1@\x1b\\".as_slice(),
+            "portable 2 1\n",
+        ),
+        (
+            b"\x1bPq\n\"1;1;6;6\n#1;2;0;0;100\n#2;2;100;100;100\n#3;2;100;0;0\n#1~~#2~~#3~~\n\x1b\\\n".as_slice(),
+            "portable 6 6\n",
+        ),
+        (
+            b"\x1bPq\"1;1;1;1#0;1;120;50;100#0@\x1b\\".as_slice(),
+            "portable 1 1\n",
+        ),
+        (
+            b"\x1bPq\"1;1;14;7#0;2;0;0;0#1;2;100;100;0#2;2;0;100;0#1~~@@vv@@~~@@~~$#2??}}GG}}??}}??-#1!14@\x1b\\".as_slice(),
+            "portable 14 7\n",
+        ),
+    ];
+    for (bytes, line) in rows {
+        checks(&rt, bytes, Exit::Done, line)?;
+    }
+    Ok(())
+}
+
+#[test]
+fn each_reason_is_named(rt: HostRuntime) -> Result<(), Fail> {
+    let rows = [
+        (b"\x1bPp\x1b\\".as_slice(), "sixel: NotSixel at 2\n"),
+        (b"\x1bPq=\x1b\\".as_slice(), "sixel: BadByte at 3\n"),
+        (
+            b"\x1bPq!65536~\x1b\\".as_slice(),
+            "sixel: NumberTooLarge at 8\n",
+        ),
+        (b"\x1bPq#1;2~\x1b\\".as_slice(), "sixel: FieldCount at 7\n"),
+        (b"\x1bPq!3 ~\x1b\\".as_slice(), "sixel: BadRepeat at 5\n"),
+        (b"\x1bPq$\x1b]".as_slice(), "sixel: BadTerminator at 5\n"),
+        (b"\x1bPq@".as_slice(), "sixel: Truncated at 4\n"),
+        (b"\x1bPq\x1b\\x".as_slice(), "sixel: Trailing at 5\n"),
+    ];
+    for (bytes, line) in rows {
+        checks(&rt, bytes, Exit::Refused, line)?;
+    }
+    Ok(())
+}
+
+/// On a screen of one pixel, its colour without the option and with it.
+#[test]
+fn terminals_differ(rt: HostRuntime) -> Result<(), Fail> {
+    let rows = [
+        (
+            b"\x1bPq\"1;1;1;1#0;2;0;0;0#1;2;100;0;0@\x1b\\".as_slice(),
+            (false, false, true),
+            b"P6\n1 1\n100\n\0\0\0".as_slice(),
+            b"P6\n1 1\n100\nd\0\0".as_slice(),
+        ),
+        (
+            b"\x1bPq\"1;1;1;1#0;2;0;0;0#0@#0;2;100;0;0\x1b\\".as_slice(),
+            (true, false, false),
+            b"P6\n1 1\n100\n\0\0\0".as_slice(),
+            b"P6\n1 1\n100\nd\0\0".as_slice(),
+        ),
+        (
+            b"\x1bPq\"1;1;1;1\x1b\\".as_slice(),
+            (false, true, false),
+            b"P6\n1 1\n100\nddd".as_slice(),
+            b"P6\n1 1\n100\n\0\0\0".as_slice(),
+        ),
+    ];
+    for (bytes, options, without, with) in rows {
+        shows(&rt, bytes, (false, false, false), without)?;
+        shows(&rt, bytes, options, with)?;
+    }
+    Ok(())
+}
+
+/// Shows the bytes on one pixel. The options are `--showing`, `--fill` and `--define-selects`.
+fn shows<R: AllocGlobal + Abort>(
+    rt: &R,
+    bytes: &[u8],
+    options: (bool, bool, bool),
+    file: &[u8],
+) -> Result<(), Fail> {
+    let (showing, fill, selects) = options;
+    let task = Task::Show {
+        showing,
+        fill,
+        selects,
+        width: 1,
+        height: 1,
+    };
+    let mut output = Vec::new(rt.alloc());
+    let mut errors = Vec::new(rt.alloc());
+    let ended = execute(rt.alloc(), task, bytes, &mut output, &mut errors);
+    assert_eq!(rt; ended, Exit::Done);
+    assert_eq!(rt; output.as_slice(), file);
+    assert_eq!(rt; errors.as_slice(), b"".as_slice());
+    Ok(())
+}
