@@ -3,64 +3,54 @@ ghost use Rattle.sixel.specs.Outputs.{HasSides};
 use crate::task::Task;
 use crate::words::{WordsFault, parse_words, usage};
 use crate::{Exit, execute, explain};
+use std::alloc::Global;
 use std::test::Fail;
 
-/// How a task on the bytes ends, and what it writes to standard output and to standard error.
-fn ends(
-    rt: &HostRuntime,
-    task: Task,
-    bytes: &[u8],
-    exit: Exit,
-    written: &str,
-    said: &str,
-) -> Result<bool, Fail>
+/// Whether a task on the bytes ends so, and writes this to standard output and this to standard error.
+fn ends(alloc: Global, task: Task, bytes: &[u8], exit: Exit, written: &[u8], said: &[u8]) -> bool
     requires { HasSides task }
 {
-    let mut output = Vec::new(rt.alloc());
-    let mut errors = Vec::new(rt.alloc());
-    let ended = execute(rt.alloc(), task, bytes, &mut output, &mut errors);
-    Ok(
-        ended == exit
-            && output.as_slice() == written.as_bytes()
-            && errors.as_slice() == said.as_bytes(),
-    )
+    let mut output = Vec::new(alloc);
+    let mut errors = Vec::new(alloc);
+    let ended = execute(alloc, task, bytes, &mut output, &mut errors);
+    ended == exit && output.as_slice() == written && errors.as_slice() == said
 }
 
 #[test]
 fn ends_by_what_came_of_the_task(rt: HostRuntime) -> Result<(), Fail> {
     assert!(rt;
         ends(
-            &rt,
+            rt.alloc(),
             Task::List,
             b"\x1bPq\x1b\\",
             Exit::Done,
-            "0 start 7bit 0\n3 end 7bit\n",
-            ""
-        )?
+            b"0 start 7bit 0\n3 end 7bit\n",
+            b""
+        )
     );
     assert!(rt;
         ends(
-            &rt,
+            rt.alloc(),
             Task::List,
             b"\x1bPq!65536~",
             Exit::Refused,
-            "0 start 7bit 0\n",
-            "sixel: NumberTooLarge at 8\n"
-        )?
+            b"0 start 7bit 0\n",
+            b"sixel: NumberTooLarge at 8\n"
+        )
     );
     let blank = b"\x1bPq\"1;1;2;1#0;2;0;0;0#0@\x1b\\";
-    let line = "broken Uncovered 24 1 0\n";
-    assert!(rt; ends(&rt, Task::Check, blank, Exit::Broken, line, "")?);
-    assert!(rt; ends(&rt, Task::Render, blank, Exit::Broken, "", line)?);
+    let line = b"broken Uncovered 24 1 0\n";
+    assert!(rt; ends(rt.alloc(), Task::Check, blank, Exit::Broken, line, b""));
+    assert!(rt; ends(rt.alloc(), Task::Render, blank, Exit::Broken, b"", line));
     assert!(rt;
         ends(
-            &rt,
+            rt.alloc(),
             Task::Encode,
             b"P6 1 1 256\n",
             Exit::Refused,
-            "",
-            "sixel: Maxval at 7\n"
-        )?
+            b"",
+            b"sixel: Maxval at 7\n"
+        )
     );
     let pixel = Task::Show {
         showing: false,
@@ -71,13 +61,13 @@ fn ends_by_what_came_of_the_task(rt: HostRuntime) -> Result<(), Fail> {
     };
     assert!(rt;
         ends(
-            &rt,
+            rt.alloc(),
             pixel,
             b"\x1bPq#0;1;360;50;100#0@\x1b\\",
             Exit::Refused,
-            "",
-            "sixel: NotRgb\n"
-        )?
+            b"",
+            b"sixel: NotRgb\n"
+        )
     );
     Ok(())
 }

@@ -50,8 +50,17 @@ fn in_words(rt: &impl AllocGlobal, answer: &Result<Verdict, InputFault>) -> Resu
     Ok(text)
 }
 
-/// The answer on a text in which `E` stands for ESC.
-fn answer_on(rt: &impl AllocGlobal, text: &str) -> Result<String, Fail> {
+/// Whether the answer is so in words.
+fn is_said(
+    rt: &impl AllocGlobal,
+    answer: &Result<Verdict, InputFault>,
+    expected: &str,
+) -> Result<bool, Fail> {
+    Ok(in_words(rt, answer)?.as_str() == expected)
+}
+
+/// Whether the answer on a text in which `E` stands for ESC is so.
+fn agrees(rt: &impl AllocGlobal, text: &str, expected: &str) -> Result<bool, Fail> {
     let bytes = bytes_of(rt, text)?;
-    in_words(rt, &check_bytes(rt.alloc(), &bytes))
+    is_said(rt, &check_bytes(rt.alloc(), &bytes), expected)
 }

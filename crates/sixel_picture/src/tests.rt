@@ -15,6 +15,13 @@ use std::test::Fail;
 mod planes;
 mod reading;
 
+fn parts_of(colour: Option<Colour>) -> Option<Parts> {
+    match colour {
+        Some(colour) => Some(colour.parts()),
+        None => None,
+    }
+}
+
 #[test]
 fn colours_are_in_range(rt: HostRuntime) -> Result<(), Fail> {
     for (colour, expected) in [
@@ -27,34 +34,62 @@ fn colours_are_in_range(rt: HostRuntime) -> Result<(), Fail> {
         (Colour::hls(0, 101, 0), None),
         (Colour::hls(0, 0, 101), None),
     ] {
-        assert_eq!(rt; colour.map(|c| c.parts()), expected);
+        assert_eq!(rt; parts_of(colour), expected);
     }
     Ok(())
 }
 
+/// Gives a register a colour, where there are both.
+fn set(palette: &mut Palette, register: u8, colour: Option<Colour>) {
+    if let Some(colour) = colour
+        && register < 16
+    {
+        palette.set(register, colour);
+    }
+}
+
 #[test]
 fn palettes_have_sixteen_registers(rt: HostRuntime) -> Result<(), Fail> {
-    let colour = Colour::rgb(20, 40, 60).ok_or("a colour")?;
+    let colour = Colour::rgb(20, 40, 60);
+    assert!(rt; colour.is_some());
     let mut palette = Palette::new();
     assert_eq!(rt; palette.get(15), None);
-    palette.set(15, colour);
-    for (register, expected) in [(15, Some(colour)), (14, None), (16, None), (255, None)] {
+    set(&mut palette, 15, colour);
+    for (register, expected) in [(15, colour), (14, None), (16, None), (255, None)] {
         assert_eq!(rt; palette.get(register), expected, "register {register}");
     }
     Ok(())
 }
 
 /// A palette in which registers 0 and 3 are red and blue.
-fn red_and_blue() -> Result<Palette, Fail> {
+fn red_and_blue() -> Palette {
     let mut palette = Palette::new();
-    palette.set(0, Colour::rgb(100, 0, 0).ok_or("red")?);
-    palette.set(3, Colour::rgb(0, 0, 100).ok_or("blue")?);
-    Ok(palette)
+    set(&mut palette, 0, Colour::rgb(100, 0, 0));
+    set(&mut palette, 3, Colour::rgb(0, 0, 100));
+    palette
+}
+
+/// Why parts in red and blue make no picture, if they come back as they were.
+fn reason_of(
+    alloc: Global,
+    width: u32,
+    height: u32,
+    registers: &[u8],
+) -> Result<Option<PictureReason>, AllocError> {
+    let palette = red_and_blue();
+    Ok(
+        match Picture::new(width, height, palette, registers.to_vec(alloc)?) {
+            Ok(_) => None,
+            Err(fault) => {
+                let is_same = fault.palette == palette && fault.registers.as_slice() == registers;
+                is_same.then_some(fault.reason)
+            }
+        },
+    )
 }
 
 #[test]
 fn pictures_name_the_first_reason(rt: HostRuntime) -> Result<(), Fail> {
-    let palette = red_and_blue()?;
     for (width, height, registers, expected) in [
         (0, 1, [].as_slice(), PictureReason::Size),
         (1, 0, [].as_slice(), PictureReason::Size),
@@ -68,22 +103,22 @@ fn pictures_name_the_first_reason(rt: HostRuntime) -> Result<(), Fail> {
         (1, 1, [1].as_slice(), PictureReason::NoColour),
         (2, 1, [3, 15].as_slice(), PictureReason::NoColour),
     ] {
-        match Picture::new(width, height, palette, registers.to_vec(rt.alloc())?) {
-            Ok(_) => assert!(rt; false, "a picture {width} by {height}"),
-            Err(fault) => {
-                assert_eq!(rt; fault.reason, expected, "{width} by {height}");
-                assert_eq!(rt; fault.palette, palette);
-                assert_eq!(rt; fault.registers.as_slice(), registers);
-            }
-        }
+        let reason = reason_of(rt.alloc(), width, height, registers)?;
+        assert_eq!(rt; reason, Some(expected), "{width} by {height}");
     }
     Ok(())
 }
 
-/// A picture of these registers in red and blue.
-fn picture_of(alloc: Global, width: u32, height: u32, registers: &[u8]) -> Result<Picture, Fail> {
+/// A picture of these registers in the palette.
+fn picture_of(
+    alloc: Global,
+    width: u32,
+    height: u32,
+    palette: Palette,
+    registers: &[u8],
+) -> Result<Picture, Fail> {
     let registers = registers.to_vec(alloc)?;
-    Ok(Picture::new(width, height, red_and_blue()?, registers).or(Err("a picture"))?)
+    Ok(Picture::new(width, height, palette, registers).or(Err("a picture"))?)
 }
 
 #[test]
@@ -95,41 +130,24 @@ fn a_picture_wants_a_colour_for_each_register(rt: HostRuntime) -> Result<(), Fai
     Ok(())
 }
 
-#[test]
-fn pictures_keep_their_parts(rt: HostRuntime) -> Result<(), Fail> {
-    let picture = picture_of(rt.alloc(), 2, 3, &[0, 3, 3, 0, 0, 0])?;
-    assert_eq!(rt; picture.width(), 2);
-    assert_eq!(rt; picture.height(), 3);
-    assert_eq!(rt; *picture.palette(), red_and_blue()?);
-    for (x, y, expected) in [(0, 0, 0), (1, 0, 3), (0, 1, 3), (1, 1, 0), (1, 2, 0)] {
-        assert!(rt; x < picture.width());
-        assert!(rt; y < picture.height());
-        assert_eq!(rt; picture.register_at(x, y), expected, "{x}, {y}");
+/// The register of a pixel, where it lies in the picture.
+fn register_of(picture: &Picture, x: u32, y: u32) -> Option<u8> {
+    if x < picture.width() && y < picture.height() {
+        Some(picture.register_at(x, y))
+    } else {
+        None
     }
-    Ok(())
 }
 
 #[test]
-#[tactic(auto, unfolding(crate::specs::Sheets::blank_sheet, crate::specs::Sheets::painted_sheet))]
-fn planes_are_painted_by_runs(rt: HostRuntime) -> Result<(), Fail> {
-    let mut plane = BytePlane::blank(rt.alloc(), 2, 7)?;
-    assert_eq!(rt; plane.width(), 2);
-    assert_eq!(rt; plane.height(), 7);
-    assert_eq!(rt; plane.first_blank(), Some((0, 0)));
-    plane.paint_run(0, 0, 2, 63, 3);
-    assert_eq!(rt; plane.first_blank(), Some((0, 6)));
-    assert_eq!(rt; plane.register_at(1, 5), Some(3));
-    assert_eq!(rt; plane.register_at(0, 6), None);
-    plane.paint_run(0, 1, 1, 1, 4);
-    assert_eq!(rt; plane.first_blank(), Some((1, 6)));
-    plane.paint_run(1, 1, 1, 1, 4);
-    let blank = plane.first_blank();
-    assert_eq!(rt; blank, None);
-    let registers = plane.into_registers();
-    assert_eq!(rt;
-        registers.as_slice(),
-        [3, 3, 3, 3, 3, 3, 3, 3, 3, 3, 3, 3, 4, 4].as_slice()
-    );
+fn pictures_keep_their_parts(rt: HostRuntime) -> Result<(), Fail> {
+    let palette = red_and_blue();
+    let picture = picture_of(rt.alloc(), 2, 3, palette, &[0, 3, 3, 0, 0, 0])?;
+    assert_eq!(rt; (picture.width(), picture.height()), (2, 3));
+    assert!(rt; *picture.palette() == palette);
+    for (x, y, expected) in [(0, 0, 0), (1, 0, 3), (0, 1, 3), (1, 1, 0), (1, 2, 0)] {
+        assert_eq!(rt; register_of(&picture, x, y), Some(expected), "{x}, {y}");
+    }
     Ok(())
 }
 
@@ -146,54 +164,67 @@ fn a_refused_growth_is_answered(rt: HostRuntime) -> Result<(), Fail> {
 /// The PPM of two pixels side by side, red and blue.
 const TWO_PIXELS: &[u8] = b"P6\n2 1\n100\n\x64\x00\x00\x00\x00\x64";
 
+/// The PPM of a black pixel.
+const BLACK: &[u8] = b"P6\n1 1\n100\n\x00\x00\x00";
+
+/// Whether the picture is written so: the answer, and what a sink has that takes so many bytes a call and fails at one.
+fn writes(
+    picture: &Picture,
+    room: &mut [u8],
+    most: usize,
+    fail_at: Option<u64>,
+    answer: Result<(), PpmFault>,
+    text: &[u8],
+) -> bool {
+    let mut sink = SliceSink::new(room, most.max(1), fail_at);
+    write_ppm(picture, &mut sink) == answer && sink.written() == text
+}
+
+/// Whether the picture is written so into a sink with room for it.
+fn is_written(picture: &Picture, answer: Result<(), PpmFault>, text: &[u8]) -> bool {
+    writes(picture, &mut [0; 32], 32, None, answer, text)
+}
+
 #[test]
 fn pictures_are_written_as_ppm(rt: HostRuntime) -> Result<(), Fail> {
-    let mut room = [0; 32];
-    let mut sink = SliceSink::new(&mut room, 32, None);
-    let picture = picture_of(rt.alloc(), 2, 1, &[0, 3])?;
-    assert_eq!(rt; write_ppm(&picture, &mut sink), Ok(()));
-    assert_eq!(rt; sink.written(), TWO_PIXELS);
+    let picture = picture_of(rt.alloc(), 2, 1, red_and_blue(), &[0, 3])?;
+    assert!(rt; is_written(&picture, Ok(()), TWO_PIXELS));
 
-    let mut room = [0; 32];
-    let mut sink = SliceSink::new(&mut room, 32, None);
     let mut palette = Palette::new();
-    palette.set(0, Colour::rgb(0, 0, 0).ok_or("black")?);
-    palette.set(1, Colour::hls(120, 50, 100).ok_or("a hue")?);
-    let black = Picture::new(1, 1, palette, [0].to_vec(rt.alloc())?).or(Err("a picture"))?;
-    assert_eq!(rt;
-        write_ppm(&black, &mut sink),
-        Ok(()),
+    set(&mut palette, 0, Colour::rgb(0, 0, 0));
+    set(&mut palette, 1, Colour::hls(120, 50, 100));
+    let black = picture_of(rt.alloc(), 1, 1, palette, &[0])?;
+    assert!(rt;
+        is_written(&black, Ok(()), BLACK),
         "a hue that no pixel has"
     );
-    assert_eq!(rt; sink.written(), b"P6\n1 1\n100\n\x00\x00\x00".as_slice());
-
-    let mut room = [0; 32];
-    let mut sink = SliceSink::new(&mut room, 32, None);
-    let hue = Picture::new(2, 1, palette, [0, 1].to_vec(rt.alloc())?).or(Err("a picture"))?;
-    assert_eq!(rt; write_ppm(&hue, &mut sink), Err(PpmFault::NotRgb));
-    assert_eq!(rt; sink.written(), [].as_slice());
+    let hue = picture_of(rt.alloc(), 2, 1, palette, &[0, 1])?;
+    assert!(rt; is_written(&hue, Err(PpmFault::NotRgb), b""));
     Ok(())
 }
 
 #[test]
 fn the_smallest_pictures_are_written_or_refused(rt: HostRuntime) -> Result<(), Fail> {
-    for (colour, result, text) in [
-        (
-            Colour::rgb(0, 0, 0),
-            Ok(()),
-            b"P6\n1 1\n100\n\x00\x00\x00".as_slice(),
-        ),
+    for (colour, answer, text) in [
+        (Colour::rgb(0, 0, 0), Ok(()), BLACK),
         (Colour::hls(0, 0, 0), Err(PpmFault::NotRgb), [].as_slice()),
     ] {
         let mut palette = Palette::new();
-        palette.set(0, colour.ok_or("a colour")?);
-        let picture = Picture::new(1, 1, palette, [0].to_vec(rt.alloc())?).or(Err("a picture"))?;
-        let mut room = [0; 32];
-        let mut sink = SliceSink::new(&mut room, 32, None);
-        assert_eq!(rt; write_ppm(&picture, &mut sink), result);
-        assert_eq!(rt; sink.written(), text);
+        set(&mut palette, 0, colour);
+        let picture = picture_of(rt.alloc(), 1, 1, palette, &[0])?;
+        assert!(rt; is_written(&picture, answer, text));
     }
     Ok(())
+}
+
+/// Whether the colours are written so, after what the sink has.
+fn writes_colours(
+    sink: &mut SliceSink<'_>,
+    colours: [Colour; 2],
+    answer: Result<(), PpmFault>,
+    text: &[u8],
+) -> bool {
+    write_ppm_colours(2, 1, &colours, sink) == answer && sink.written() == text
 }
 
 #[test]
@@ -203,37 +234,27 @@ fn colours_are_written_as_ppm(rt: HostRuntime) -> Result<(), Fail> {
     let hue = Colour::hls(360, 50, 100).ok_or("a hue")?;
     let mut room = [0; 32];
     let mut sink = SliceSink::new(&mut room, 32, None);
-    assert_eq!(rt;
-        write_ppm_colours(2, 1, &[red, hue], &mut sink),
-        Err(PpmFault::NotRgb)
-    );
-    assert_eq!(rt; sink.written(), [].as_slice());
-    assert_eq!(rt; write_ppm_colours(2, 1, &[red, blue], &mut sink), Ok(()));
-    assert_eq!(rt; sink.written(), TWO_PIXELS);
+    assert!(rt; writes_colours(&mut sink, [red, hue], Err(PpmFault::NotRgb), b""));
+    assert!(rt; writes_colours(&mut sink, [red, blue], Ok(()), TWO_PIXELS));
     Ok(())
 }
 
 #[test]
 fn failing_sinks_have_a_front_of_the_text(rt: HostRuntime) -> Result<(), Fail> {
-    let picture = picture_of(rt.alloc(), 2, 1, &[0, 3])?;
+    let picture = picture_of(rt.alloc(), 2, 1, red_and_blue(), &[0, 3])?;
     for count in 0..TWO_PIXELS.len() {
-        let mut room = [0; 32];
-        let mut sink = SliceSink::new(&mut room, 1, Some(count as u64));
-        assert_eq!(rt;
-            write_ppm(&picture, &mut sink),
-            Err(PpmFault::Write),
+        let front = &TWO_PIXELS[..count];
+        let failed = Err(PpmFault::Write);
+        let fail_at = Some(count as u64);
+        assert!(rt;
+            writes(&picture, &mut [0; 32], 1, fail_at, failed, front),
             "call {count}"
         );
-        assert_eq!(rt; sink.written(), &TWO_PIXELS[..count], "call {count}");
-
         let mut room = [0; 32];
-        let mut sink = SliceSink::new(&mut room[..count], 4, None);
-        assert_eq!(rt;
-            write_ppm(&picture, &mut sink),
-            Err(PpmFault::Write),
+        assert!(rt;
+            writes(&picture, &mut room[..count], 4, None, failed, front),
             "room {count}"
         );
-        assert_eq!(rt; sink.written(), &TWO_PIXELS[..count], "room {count}");
     }
     Ok(())
 }
@@ -268,30 +289,45 @@ impl Sink for CountingSink {
     }
 }
 
-/// The PPM of 300 by 200 blue pixels has 180,015 bytes. A block of 65,536 takes the header's 15 and 21,840 pixels'.
-#[test]
-fn large_pictures_leave_in_blocks(rt: HostRuntime) -> Result<(), Fail> {
-    let registers = vec![in rt.alloc(); 3; 300 * 200]?;
-    let picture = Picture::new(300, 200, red_and_blue()?, registers).or(Err("a picture"))?;
-    let mut text = Vec::from_slice(rt.alloc(), b"P6\n300 200\n100\n")?;
-    for _ in 0..300 * 200 {
-        text.extend_from_slice(&[0, 0, 100])?;
+/// The text of 300 by 200 blue pixels: 180,015 bytes.
+fn large_text(alloc: Global) -> Result<Vec<u8>, AllocError> {
+    let mut text = Vec::from_slice(alloc, b"P6\n300 200\n100\n")?;
+    for index in 0..3 * 300 * 200 {
+        text.push(if index % 3 == 2 { 100 } else { 0 })?;
     }
+    Ok(text)
+}
 
-    let mut room = vec![in rt.alloc(); 0; 200_000]?;
-    let mut sink = SliceSink::new(&mut room, 100_000, None);
-    assert_eq!(rt; write_ppm(&picture, &mut sink), Ok(()));
-    assert!(rt; sink.written() == text.as_slice(), "the whole text");
-
-    let mut sink = SliceSink::new(&mut room, 100_000, Some(1));
-    assert_eq!(rt; write_ppm(&picture, &mut sink), Err(PpmFault::Write));
-    assert_eq!(rt; sink.written().len(), 65_535, "the first block");
-
+/// How often a sink is called that takes all of the picture's text at once, where the picture is written.
+fn takes_of(picture: &Picture) -> Option<u32> {
     let mut sink = CountingSink {
         takes: 0,
         is_flushed: false,
     };
-    assert_eq!(rt; write_ppm(&picture, &mut sink), Ok(()));
-    assert_eq!(rt; sink.takes, 3);
+    match write_ppm(picture, &mut sink) {
+        Ok(()) => Some(sink.takes),
+        Err(_) => None,
+    }
+}
+
+/// A block of 65,536 bytes takes the header's 15 and 21,840 pixels'.
+#[test]
+fn large_pictures_leave_in_blocks(rt: HostRuntime) -> Result<(), Fail> {
+    let registers = vec![in rt.alloc(); 3; 300 * 200]?;
+    let picture = picture_of(rt.alloc(), 300, 200, red_and_blue(), registers.as_slice())?;
+    let text = large_text(rt.alloc())?;
+    let text = text.as_slice();
+    let mut room = vec![in rt.alloc(); 0; 200_000]?;
+    assert!(rt;
+        writes(&picture, &mut room, 100_000, None, Ok(()), text),
+        "the whole text"
+    );
+    let first = text.get(..65_535).ok_or("a block")?;
+    let failed = Err(PpmFault::Write);
+    assert!(rt;
+        writes(&picture, &mut room, 100_000, Some(1), failed, first),
+        "the first block"
+    );
+    assert_eq!(rt; takes_of(&picture), Some(3));
     Ok(())
 }

@@ -15,6 +15,20 @@ const PPM: RunFault = RunFault::Ppm {
     place: 60,
 };
 
+/// Whether this is the line of the fault.
+fn says(fault: RunFault, line: &str) -> bool {
+    let mut room = [0; 64];
+    let mut out = SliceSink::new(&mut room, 64, None);
+    write_fault(&fault, &mut out) == Ok(()) && out.written() == line.as_bytes()
+}
+
+/// Whether this is the line of the finding.
+fn finds(finding: &Finding, line: &str) -> bool {
+    let mut room = [0; 96];
+    let mut out = SliceSink::new(&mut room, 96, None);
+    write_finding(finding, &mut out) == Ok(()) && out.written() == line.as_bytes()
+}
+
 #[test]
 fn writes_the_line_of_each_fault(rt: HostRuntime) {
     let rows = [
@@ -26,10 +40,7 @@ fn writes_the_line_of_each_fault(rt: HostRuntime) {
         (RunFault::Write, "sixel: write failed\n"),
     ];
     for (fault, line) in rows {
-        let mut room = [0; 64];
-        let mut out = SliceSink::new(&mut room, 64, None);
-        assert_eq!(rt; write_fault(&fault, &mut out), Ok(()));
-        assert_eq!(rt; out.written(), line.as_bytes());
+        assert!(rt; says(fault, line), "{line}");
     }
 }
 
@@ -47,13 +58,10 @@ fn names_each_reason(rt: HostRuntime) {
         (Reason::Trailing, "sixel: Trailing at 7\n"),
     ];
     for (reason, line) in rows {
-        let mut room = [0; 64];
-        let mut out = SliceSink::new(&mut room, 64, None);
-        assert_eq!(rt;
-            write_fault(&RunFault::Grammar(Fault { reason, place: 7 }), &mut out),
-            Ok(())
+        assert!(rt;
+            says(RunFault::Grammar(Fault { reason, place: 7 }), line),
+            "{line}"
         );
-        assert_eq!(rt; out.written(), line.as_bytes());
     }
 }
 
@@ -69,13 +77,7 @@ fn names_each_reason_of_a_picture_file(rt: HostRuntime) {
         (PpmReason::TooManyColours, "sixel: TooManyColours at 7\n"),
     ];
     for (reason, line) in rows {
-        let mut room = [0; 64];
-        let mut out = SliceSink::new(&mut room, 64, None);
-        assert_eq!(rt;
-            write_fault(&RunFault::Ppm { reason, place: 7 }, &mut out),
-            Ok(())
-        );
-        assert_eq!(rt; out.written(), line.as_bytes());
+        assert!(rt; says(RunFault::Ppm { reason, place: 7 }, line), "{line}");
     }
 }
 
@@ -97,13 +99,7 @@ fn writes_the_line_of_a_finding(rt: HostRuntime) {
         ),
     ];
     for (rule, place, pixel, line) in rows {
-        let mut room = [0; 96];
-        let mut out = SliceSink::new(&mut room, 96, None);
-        assert_eq!(rt;
-            write_finding(&Finding { rule, place, pixel }, &mut out),
-            Ok(())
-        );
-        assert_eq!(rt; out.written(), line.as_bytes());
+        assert!(rt; finds(&Finding { rule, place, pixel }, line), "{line}");
     }
 }
 

@@ -1,11 +1,136 @@
 mod round_trip;
 
+ghost use Rattle.sixel.specs.Outputs.{HasSides};
+
 use crate::fault::RunFault;
 use crate::run::run;
 use crate::task::{Status, Task};
 use crate::watched::{Calls, Watched};
 use sixel_grammar::{Fault, Reason, SliceSink, SliceSource};
+use std::alloc::Global;
 use std::process::Abort;
+
+/// What a run over watched devices answered and wrote into the room, and the calls that they saw.
+#[derive(Drop)]
+pub struct Ran {
+    pub answer: Result<Status, RunFault>,
+    pub written: usize,
+    pub source: Calls,
+    pub sink: Calls,
+}
+
+/// How many bytes a call of each device moves at most, and which of their calls fails.
+#[derive(Clone, Copy)]
+pub struct Limits {
+    pub piece: usize,
+    pub fill_fails: Option<u64>,
+    pub most: usize,
+    pub take_fails: Option<u64>,
+}
+
+/// Runs the task on the bytes over devices with these limits.
+pub fn run_watched(alloc: Global, task: Task, bytes: &[u8], limits: Limits, room: &mut [u8]) -> Ran
+    requires { HasSides task }
+{
+    let piece = limits.piece.max(1);
+    let most = limits.most.max(1);
+    let mut input = Watched::new(SliceSource::new(bytes, piece, limits.fill_fails));
+    let mut output = Watched::new(SliceSink::new(room, most, limits.take_fails));
+    let answer = run(alloc, task, &mut input, &mut output);
+    let written = output.device.written().len();
+    Ran {
+        answer,
+        written,
+        source: input.calls,
+        sink: output.calls,
+    }
+}
+
+/// Whether the task on the bytes in pieces of a size answers so, writes this text and flushes once.
+pub fn agrees(
+    alloc: Global,
+    task: Task,
+    bytes: &[u8],
+    piece: usize,
+    text: &[u8],
+    answer: Result<Status, RunFault>,
+) -> bool
+    requires { HasSides task }
+{
+    let mut room = [0; 512];
+    let limits = Limits {
+        piece,
+        fill_fails: None,
+        most: 512,
+        take_fails: None,
+    };
+    let ran = run_watched(alloc, task, bytes, limits, &mut room);
+    ran.answer == answer && room.get(..ran.written) == Some(text) && ran.sink.flushes == 1
+}
+
+/// The same in pieces of three sizes.
+pub fn agrees_in_pieces(
+    alloc: Global,
+    task: Task,
+    bytes: &[u8],
+    text: &[u8],
+    answer: Result<Status, RunFault>,
+) -> bool
+    requires { HasSides task }
+{
+    agrees(alloc, task, bytes, 1, text, answer)
+        && agrees(alloc, task, bytes, 5, text, answer)
+        && agrees(alloc, task, bytes, 64, text, answer)
+}
+
+/// Whether `Read` is answered where this fill fails: nothing is written, it is flushed once, and the source isn't called
+/// again.
+pub fn stops_reading(
+    alloc: Global,
+    task: Task,
+    bytes: &[u8],
+    piece: usize,
+    fill: u64,
+    room: &mut [u8],
+) -> bool
+    requires { HasSides task }
+{
+    let limits = Limits {
+        piece,
+        fill_fails: Some(fill),
+        most: 96,
+        take_fails: None,
+    };
+    let ran = run_watched(alloc, task, bytes, limits, room);
+    ran.answer == Err(RunFault::Read)
+        && ran.written == 0
+        && ran.sink.flushes == 1
+        && ran.source.after_fault == 0
+}
+
+/// Whether `Write` is answered where this take or flush fails: this front is written, and the sink isn't called again.
+pub fn stops_writing(
+    alloc: Global,
+    task: Task,
+    bytes: &[u8],
+    most: usize,
+    take: u64,
+    front: Option<&[u8]>,
+    room: &mut [u8],
+) -> bool
+    requires { HasSides task }
+{
+    let limits = Limits {
+        piece: 64,
+        fill_fails: None,
+        most,
+        take_fails: Some(take),
+    };
+    let ran = run_watched(alloc, task, bytes, limits, room);
+    ran.answer == Err(RunFault::Write)
+        && room.get(..ran.written) == front
+        && ran.sink.after_fault == 0
+}
 
 /// The smallest portable picture: one black pixel.
 const PIXEL: &[u8] = b"\x1bPq\"1;1;1;1#0;2;0;0;0#0@\x1b\\";
@@ -29,19 +154,10 @@ fn lists<R: AllocGlobal + Abort>(
     text: &str,
     answer: Result<Status, RunFault>,
 ) {
-    for piece in [1, 5, 64] {
-        assert!(rt; piece > 0);
-        let mut room = [0; 512];
-        let mut input = SliceSource::new(bytes, piece, None);
-        let mut output = SliceSink::new(&mut room, 512, None);
-        let got = run(rt.alloc(), Task::List, &mut input, &mut output);
-        assert_eq!(rt;
-            output.written(),
-            text.as_bytes(),
-            "in pieces of {piece}: {text}"
-        );
-        assert_eq!(rt; got, answer, "in pieces of {piece}: {text}");
-    }
+    assert!(rt;
+        agrees_in_pieces(rt.alloc(), Task::List, bytes, text.as_bytes(), answer),
+        "{text}"
+    );
 }
 
 #[test]
@@ -172,127 +288,138 @@ fn lists_a_command_once_the_byte_after_it_came(rt: HostRuntime) {
     );
 }
 
-/// What a run over watched devices answered and wrote into the room, and the calls that they saw.
-#[derive(Drop)]
-struct Ran {
-    answer: Result<Status, RunFault>,
-    written: usize,
-    source: Calls,
-    sink: Calls,
-}
-
 /// Lists the bytes in pieces. Fill number `fill_fails` fails, and take or flush number `take_fails`.
-fn list_failing<R: AllocGlobal + Abort>(
-    rt: &R,
+fn list_failing(
+    alloc: Global,
     bytes: &[u8],
     piece: usize,
     fill_fails: Option<u64>,
     take_fails: Option<u64>,
     room: &mut [u8],
 ) -> Ran {
-    assert!(rt; piece > 0);
-    let mut input = Watched::new(SliceSource::new(bytes, piece, fill_fails));
-    let mut output = Watched::new(SliceSink::new(room, 7, take_fails));
-    let answer = run(rt.alloc(), Task::List, &mut input, &mut output);
-    let written = output.device.written().len();
-    Ran {
-        answer,
-        written,
-        source: input.calls,
-        sink: output.calls,
-    }
+    let limits = Limits {
+        piece,
+        fill_fails,
+        most: 7,
+        take_fails,
+    };
+    run_watched(alloc, Task::List, bytes, limits, room)
 }
 
-/// Each fill fails in turn: the lines of what was given are written, and the source isn't called again.
-fn list_with_failing_fills<R: AllocGlobal + Abort>(
-    rt: &R,
+/// Whether a list answers so and writes this text, where a fill or a take would fail that doesn't come.
+fn is_listed(
+    alloc: Global,
     bytes: &[u8],
-    text: &str,
+    piece: usize,
+    fails: (Option<u64>, Option<u64>),
+    text: &[u8],
     answer: Result<Status, RunFault>,
-) {
-    for piece in [1, 5, 64] {
-        let mut is_whole = false;
-        for fill in 0..1000 {
-            let mut room = [0; 512];
-            let ran = list_failing(rt, bytes, piece, Some(fill), None, &mut room);
-            assert_eq!(rt;
-                ran.source.after_fault,
-                0,
-                "fill {fill} in pieces of {piece}"
-            );
-            assert_eq!(rt; ran.sink.flushes, 1, "fill {fill} in pieces of {piece}");
-            if ran.answer != Err(RunFault::Read) {
-                assert_eq!(rt; ran.answer, answer);
-                assert_eq!(rt; room.get(..ran.written), Some(text.as_bytes()));
-                assert_eq!(rt; ran.source.fills, fill);
-                is_whole = true;
-                break;
-            }
-            let given = bytes
-                .get(..piece.saturating_mul(fill as usize))
-                .unwrap_or(bytes);
-            let mut same = [0; 512];
-            let whole = list_failing(rt, given, 64, None, None, &mut same);
-            assert_eq!(rt;
-                room.get(..ran.written),
-                same.get(..whole.written),
-                "fill {fill} in pieces of {piece}"
-            );
-        }
-        assert!(rt; is_whole);
-    }
+) -> bool {
+    let mut room = [0; 512];
+    let ran = list_failing(alloc, bytes, piece, fails.0, fails.1, &mut room);
+    ran.answer == answer && room.get(..ran.written) == Some(text) && ran.sink.flushes == 1
 }
 
-/// Each take and flush fails in turn: a front of the text is written, and the sink isn't called again.
-fn list_with_failing_takes<R: AllocGlobal + Abort>(
-    rt: &R,
+/// Whether a list stops where this fill fails: the lines of what was given are written, and the source isn't called
+/// again.
+fn stops_at_fill(alloc: Global, bytes: &[u8], piece: usize, fill: u64) -> bool {
+    let mut room = [0; 512];
+    let ran = list_failing(alloc, bytes, piece, Some(fill), None, &mut room);
+    let given = bytes
+        .get(..piece.saturating_mul(fill as usize))
+        .unwrap_or(bytes);
+    let mut same = [0; 512];
+    let whole = list_failing(alloc, given, 64, None, None, &mut same);
+    ran.answer == Err(RunFault::Read)
+        && ran.source.after_fault == 0
+        && ran.sink.flushes == 1
+        && room.get(..ran.written) == same.get(..whole.written)
+}
+
+/// Whether a list stops where this take or flush fails: a front of the text is written, and the sink isn't called
+/// again.
+fn stops_at_take(
+    alloc: Global,
     bytes: &[u8],
-    text: &str,
+    piece: usize,
+    take: u64,
+    flushes: u64,
+    text: &[u8],
+) -> bool {
+    let mut room = [0; 512];
+    let ran = list_failing(alloc, bytes, piece, None, Some(take), &mut room);
+    ran.answer == Err(RunFault::Write)
+        && ran.sink.after_fault == 0
+        && ran.sink.flushes == flushes
+        && room.get(..ran.written) == text.get(..ran.written)
+}
+
+/// How many fills and takes a list of the bytes in pieces of a size has.
+fn calls_of(alloc: Global, bytes: &[u8], piece: usize) -> (u64, u64) {
+    let ran = list_failing(alloc, bytes, piece, None, None, &mut [0; 512]);
+    (ran.source.fills, ran.sink.takes)
+}
+
+/// Each fill fails in turn.
+fn stops_at_fills(
+    alloc: Global,
+    bytes: &[u8],
+    piece: usize,
+    text: &[u8],
     answer: Result<Status, RunFault>,
-) {
-    for piece in [1, 5, 64] {
-        let mut has_flush_failed = false;
-        let mut is_whole = false;
-        for take in 0..1000 {
-            let mut room = [0; 512];
-            let ran = list_failing(rt, bytes, piece, None, Some(take), &mut room);
-            assert_eq!(rt; ran.sink.after_fault, 0, "take {take} in pieces of {piece}");
-            if ran.answer != Err(RunFault::Write) {
-                assert_eq!(rt; ran.answer, answer);
-                assert_eq!(rt; room.get(..ran.written), Some(text.as_bytes()));
-                assert_eq!(rt; ran.sink.flushes, 1);
-                assert_eq!(rt; ran.sink.takes.saturating_add(1), take);
-                is_whole = true;
-                break;
-            }
-            assert_eq!(rt;
-                room.get(..ran.written),
-                text.as_bytes().get(..ran.written),
-                "take {take} in pieces of {piece}"
-            );
-            has_flush_failed = ran.sink.flushes == 1;
+) -> bool {
+    let (fills, _) = calls_of(alloc, bytes, piece);
+    for fill in 0..fills {
+        if !stops_at_fill(alloc, bytes, piece, fill) {
+            return false;
         }
-        assert!(rt; is_whole);
-        assert!(rt; has_flush_failed);
     }
+    is_listed(alloc, bytes, piece, (Some(fills), None), text, answer)
+}
+
+/// Each take fails in turn, and then the flush.
+fn stops_at_takes(
+    alloc: Global,
+    bytes: &[u8],
+    piece: usize,
+    text: &[u8],
+    answer: Result<Status, RunFault>,
+) -> bool {
+    let (_, takes) = calls_of(alloc, bytes, piece);
+    for take in 0..takes {
+        if !stops_at_take(alloc, bytes, piece, take, 0, text) {
+            return false;
+        }
+    }
+    let never = takes.saturating_add(1);
+    stops_at_take(alloc, bytes, piece, takes, 1, text)
+        && is_listed(alloc, bytes, piece, (None, Some(never)), text, answer)
 }
 
 #[test]
 fn answers_read_where_a_fill_fails(rt: HostRuntime) {
-    list_with_failing_fills(&rt, PIXEL, PIXEL_LINES, Ok(Status::Done));
-    list_with_failing_fills(&rt, LARGE, LARGE_LINES, at(Reason::NumberTooLarge, 8));
+    let (text, front) = (PIXEL_LINES.as_bytes(), LARGE_LINES.as_bytes());
+    let fault = at(Reason::NumberTooLarge, 8);
+    for piece in [1, 5, 64] {
+        assert!(rt; stops_at_fills(rt.alloc(), PIXEL, piece, text, Ok(Status::Done)));
+        assert!(rt; stops_at_fills(rt.alloc(), LARGE, piece, front, fault));
+    }
 }
 
 #[test]
 fn answers_write_where_a_take_or_the_flush_fails(rt: HostRuntime) {
-    list_with_failing_takes(&rt, PIXEL, PIXEL_LINES, Ok(Status::Done));
-    list_with_failing_takes(&rt, LARGE, LARGE_LINES, at(Reason::NumberTooLarge, 8));
+    let (text, front) = (PIXEL_LINES.as_bytes(), LARGE_LINES.as_bytes());
+    let fault = at(Reason::NumberTooLarge, 8);
+    for piece in [1, 5, 64] {
+        assert!(rt; stops_at_takes(rt.alloc(), PIXEL, piece, text, Ok(Status::Done)));
+        assert!(rt; stops_at_takes(rt.alloc(), LARGE, piece, front, fault));
+    }
 }
 
 #[test]
 fn answers_write_where_both_devices_fail(rt: HostRuntime) {
     let mut room = [0; 512];
-    let ran = list_failing(&rt, PIXEL, 5, Some(0), Some(0), &mut room);
+    let ran = list_failing(rt.alloc(), PIXEL, 5, Some(0), Some(0), &mut room);
     assert_eq!(rt; ran.answer, Err(RunFault::Write));
     assert_eq!(rt; ran.source.after_fault, 0);
     assert_eq!(rt; ran.sink.after_fault, 0);
@@ -304,7 +431,7 @@ fn fills_a_sink_that_has_too_little_room(rt: HostRuntime) {
     for count in 0..text.len() {
         let mut whole = [0; 512];
         let (room, _) = whole.split_at_mut(count.min(512));
-        let ran = list_failing(&rt, PIXEL, 5, None, None, room);
+        let ran = list_failing(rt.alloc(), PIXEL, 5, None, None, room);
         assert_eq!(rt; ran.answer, Err(RunFault::Write));
         assert_eq!(rt; Some(&*room), text.get(..count));
     }
@@ -314,12 +441,14 @@ fn fills_a_sink_that_has_too_little_room(rt: HostRuntime) {
 #[test]
 fn writes_what_a_piece_completes_at_once(rt: HostRuntime) {
     for (piece, takes) in [(1, 5), (64, 1)] {
-        assert!(rt; piece > 0);
-        let mut room = [0; 512];
-        let mut input = SliceSource::new(PIXEL, piece, None);
-        let mut output = Watched::new(SliceSink::new(&mut room, 512, None));
-        let answer = run(rt.alloc(), Task::List, &mut input, &mut output);
-        assert_eq!(rt; answer, Ok(Status::Done));
-        assert_eq!(rt; output.calls.takes, takes, "in pieces of {piece}");
+        let limits = Limits {
+            piece,
+            fill_fails: None,
+            most: 512,
+            take_fails: None,
+        };
+        let ran = run_watched(rt.alloc(), Task::List, PIXEL, limits, &mut [0; 512]);
+        assert_eq!(rt; ran.answer, Ok(Status::Done));
+        assert_eq!(rt; ran.sink.takes, takes, "in pieces of {piece}");
     }
 }

@@ -1,33 +1,24 @@
 //! The strings of docs/RULES.md and of the small files of examples/. The script examples/run looks that each stands here.
 
+use super::ends;
+use crate::Exit;
 use crate::task::Task;
-use crate::{Exit, execute};
-use std::process::Abort;
-use std::test::Fail;
+use std::alloc::Global;
 
-/// Checks the bytes, and compares the exit status and the line: a verdict goes to standard output, a fault to standard error.
-fn checks<R: AllocGlobal + Abort>(
-    rt: &R,
-    bytes: &[u8],
-    exit: Exit,
-    line: &str,
-) -> Result<(), Fail> {
-    let mut output = Vec::new(rt.alloc());
-    let mut errors = Vec::new(rt.alloc());
-    let ended = execute(rt.alloc(), Task::Check, bytes, &mut output, &mut errors);
-    assert_eq!(rt; ended, exit, "{line}");
-    let (right, other) = if exit == Exit::Refused {
-        (errors, output)
+/// Whether a check of the bytes ends so, with this line: a verdict goes to standard output, a fault to standard error.
+fn checks(alloc: Global, bytes: &[u8], exit: Exit, line: &str) -> bool {
+    let line = line.as_bytes();
+    let is_fault = exit == Exit::Refused;
+    let (written, said) = if is_fault {
+        (b"".as_slice(), line)
     } else {
-        (output, errors)
+        (line, b"".as_slice())
     };
-    assert_eq!(rt; right.as_slice(), line.as_bytes(), "{line}");
-    assert_eq!(rt; other.as_slice(), b"".as_slice(), "{line}");
-    Ok(())
+    ends(alloc, Task::Check, bytes, exit, written, said)
 }
 
 #[test]
-fn each_rule_is_named(rt: HostRuntime) -> Result<(), Fail> {
+fn each_rule_is_named(rt: HostRuntime) {
     let rows = [
         (b"\x1bPq\x1b\\".as_slice(), "broken RasterFirst 3\n"),
         (
@@ -75,13 +66,12 @@ fn each_rule_is_named(rt: HostRuntime) -> Result<(), Fail> {
         ),
     ];
     for (bytes, line) in rows {
-        checks(&rt, bytes, Exit::Broken, line)?;
+        assert!(rt; checks(rt.alloc(), bytes, Exit::Broken, line), "{line}");
     }
-    Ok(())
 }
 
 #[test]
-fn portable_strings_are_called_portable(rt: HostRuntime) -> Result<(), Fail> {
+fn portable_strings_are_called_portable(rt: HostRuntime) {
     let rows = [
         (
             b"\x1bPq\"1;1;1;1#0;2;0;0;0#0@\x1b\\".as_slice(),
@@ -125,13 +115,12 @@ fn portable_strings_are_called_portable(rt: HostRuntime) -> Result<(), Fail> {
         ),
     ];
     for (bytes, line) in rows {
-        checks(&rt, bytes, Exit::Done, line)?;
+        assert!(rt; checks(rt.alloc(), bytes, Exit::Done, line), "{line}");
     }
-    Ok(())
 }
 
 #[test]
-fn each_reason_is_named(rt: HostRuntime) -> Result<(), Fail> {
+fn each_reason_is_named(rt: HostRuntime) {
     let rows = [
         (b"\x1bPp\x1b\\".as_slice(), "sixel: NotSixel at 2\n"),
         (b"\x1bPq=\x1b\\".as_slice(), "sixel: BadByte at 3\n"),
@@ -146,14 +135,13 @@ fn each_reason_is_named(rt: HostRuntime) -> Result<(), Fail> {
         (b"\x1bPq\x1b\\x".as_slice(), "sixel: Trailing at 5\n"),
     ];
     for (bytes, line) in rows {
-        checks(&rt, bytes, Exit::Refused, line)?;
+        assert!(rt; checks(rt.alloc(), bytes, Exit::Refused, line), "{line}");
     }
-    Ok(())
 }
 
 /// On a screen of one pixel, its colour without the option and with it.
 #[test]
-fn terminals_differ(rt: HostRuntime) -> Result<(), Fail> {
+fn terminals_differ(rt: HostRuntime) {
     let rows = [
         (
             b"\x1bPq\"1;1;1;1#0;2;0;0;0#1;2;100;0;0@\x1b\\".as_slice(),
@@ -175,19 +163,13 @@ fn terminals_differ(rt: HostRuntime) -> Result<(), Fail> {
         ),
     ];
     for (bytes, options, without, with) in rows {
-        shows(&rt, bytes, (false, false, false), without)?;
-        shows(&rt, bytes, options, with)?;
+        assert!(rt; shows(rt.alloc(), bytes, (false, false, false), without));
+        assert!(rt; shows(rt.alloc(), bytes, options, with));
     }
-    Ok(())
 }
 
-/// Shows the bytes on one pixel. The options are `--showing`, `--fill` and `--define-selects`.
-fn shows<R: AllocGlobal + Abort>(
-    rt: &R,
-    bytes: &[u8],
-    options: (bool, bool, bool),
-    file: &[u8],
-) -> Result<(), Fail> {
+/// Whether the bytes show this file on one pixel. The options are `--showing`, `--fill` and `--define-selects`.
+fn shows(alloc: Global, bytes: &[u8], options: (bool, bool, bool), file: &[u8]) -> bool {
     let (showing, fill, selects) = options;
     let task = Task::Show {
         showing,
@@ -196,11 +178,5 @@ fn shows<R: AllocGlobal + Abort>(
         width: 1,
         height: 1,
     };
-    let mut output = Vec::new(rt.alloc());
-    let mut errors = Vec::new(rt.alloc());
-    let ended = execute(rt.alloc(), task, bytes, &mut output, &mut errors);
-    assert_eq!(rt; ended, Exit::Done);
-    assert_eq!(rt; output.as_slice(), file);
-    assert_eq!(rt; errors.as_slice(), b"".as_slice());
-    Ok(())
+    ends(alloc, task, bytes, Exit::Done, file, b"")
 }

@@ -16,6 +16,18 @@ fn said(rt: &HostRuntime, line: &str) -> Result<String, Fail> {
     })
 }
 
+/// Whether the words come to this text.
+fn says(rt: &HostRuntime, line: &str, text: &str) -> Result<bool, Fail> {
+    Ok(said(rt, line)?.as_str() == text)
+}
+
+/// Whether the words are refused with this text and the sentence that follows each.
+fn refuses(rt: &HostRuntime, line: &str, text: &str) -> Result<bool, Fail> {
+    let more = "\n\nFor more information, try '--help'.\n";
+    let whole = format!(in rt.alloc(); "{text}{more}")?;
+    says(rt, line, whole.as_str())
+}
+
 #[test]
 fn names_the_task(rt: HostRuntime) -> Result<(), Fail> {
     let rows = [
@@ -49,14 +61,13 @@ fn names_the_task(rt: HostRuntime) -> Result<(), Fail> {
         ),
     ];
     for (line, task) in rows {
-        assert_eq!(rt; said(&rt, line)?.as_str(), task, "{line}");
+        assert!(rt; says(&rt, line, task)?, "{line}");
     }
     Ok(())
 }
 
 #[test]
 fn refuses_other_words(rt: HostRuntime) -> Result<(), Fail> {
-    let more = "\n\nFor more information, try '--help'.\n";
     let rows = [
         (
             "sixel",
@@ -88,8 +99,7 @@ fn refuses_other_words(rt: HostRuntime) -> Result<(), Fail> {
         ),
     ];
     for (line, text) in rows {
-        let whole = format!(in rt.alloc(); "{text}{more}")?;
-        assert_eq!(rt; said(&rt, line)?.as_str(), whole.as_str(), "{line}");
+        assert!(rt; refuses(&rt, line, text)?, "{line}");
     }
     Ok(())
 }
@@ -99,12 +109,12 @@ fn shows_help(rt: HostRuntime) -> Result<(), Fail> {
     let whole =
         "help Checks, lists, draws and writes sixel pictures, from standard input to standard output\n\nUsage: sixel <COMMAND>\n\nCommands:\n  list    Lists what the picture says, a line for each command\n  check   Says whether the picture is portable, or which rule is broken first\n  render  Writes a portable picture as a PPM\n  encode  Reads a PPM in place of a sixel picture, and writes it as a portable one\n  show    Draws the picture as one terminal would, and writes its screen as a PPM\n  help    Print this message or the help of the given subcommand(s)\n\nOptions:\n  -h, --help  Print help\n";
     for line in ["sixel --help", "sixel -h", "sixel help"] {
-        assert_eq!(rt; said(&rt, line)?.as_str(), whole, "{line}");
+        assert!(rt; says(&rt, line, whole)?, "{line}");
     }
     let list =
         "help Lists what the picture says, a line for each command\n\nUsage: sixel list\n\nOptions:\n  -h, --help  Print help\n";
     for line in ["sixel list --help", "sixel help list"] {
-        assert_eq!(rt; said(&rt, line)?.as_str(), list, "{line}");
+        assert!(rt; says(&rt, line, list)?, "{line}");
     }
     Ok(())
 }
@@ -124,7 +134,7 @@ Options:
   -h, --help            Print help
 ";
     for line in ["sixel show --help", "sixel help show"] {
-        assert_eq!(rt; said(&rt, line)?.as_str(), show, "{line}");
+        assert!(rt; says(&rt, line, show)?, "{line}");
     }
     Ok(())
 }

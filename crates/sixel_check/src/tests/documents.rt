@@ -1,15 +1,16 @@
 //! Worked documents, whole and in pieces.
 
 use crate::checking::{check, check_bytes};
-use crate::tests::{answer_on, bytes_of, in_words};
+use crate::tests::{agrees, bytes_of, is_said};
 use crate::verdict::Verdict;
 use sixel_grammar::{InputFault, SliceSource};
 use sixel_picture::{Colour, Picture};
+use std::alloc::{AllocError, Global};
 use std::process::Abort;
 use std::test::Fail;
 
 /// A document with `E` for ESC, and the answer.
-pub(super) const DOCUMENTS: [(&str, &str); 58] = [
+pub(super) const DOCUMENTS: &[(&str, &str)] = &[
     ("EPq\"1;1;1;1#0;2;0;0;0#0@E\\", "portable 1 1"),
     ("EPq\"1;1;2;1#0;2;0;0;0#0@E\\", "broken Uncovered 24 1 0"),
     ("EPq\"1;1;1;2#0;2;0;0;0#0@E\\", "broken Uncovered 24 0 1"),
@@ -112,34 +113,38 @@ pub(super) const DOCUMENTS: [(&str, &str); 58] = [
 #[test]
 fn worked_documents(rt: HostRuntime) -> Result<(), Fail> {
     for (text, expected) in DOCUMENTS {
-        assert_eq!(rt; answer_on(&rt, text)?.as_str(), expected, "{text}");
+        assert!(rt; agrees(&rt, text, expected)?, "{text}");
     }
     Ok(())
 }
 
-/// The document in pieces of 1 byte to its length.
-fn agree_in_pieces(
-    rt: &(impl AllocGlobal + Abort),
-    text: &str,
+/// Whether the answer on the bytes in pieces of a size is so.
+pub(super) fn agrees_in(
+    rt: &impl AllocGlobal,
+    bytes: &[u8],
+    piece: usize,
+    fail_at: Option<u64>,
     expected: &str,
-) -> Result<(), Fail> {
-    let bytes = bytes_of(rt, text)?;
+) -> Result<bool, Fail> {
+    let mut source = SliceSource::new(bytes, piece.max(1), fail_at);
+    is_said(rt, &check(rt.alloc(), &mut source), expected)
+}
+
+/// Whether it is, in pieces of 1 byte to their length.
+fn agrees_in_pieces(rt: &impl AllocGlobal, bytes: &[u8], expected: &str) -> Result<bool, Fail> {
     for piece in 1..=bytes.len() {
-        let mut source = SliceSource::new(&bytes, piece, None);
-        let answer = check(rt.alloc(), &mut source);
-        assert_eq!(rt;
-            in_words(rt, &answer)?.as_str(),
-            expected,
-            "{text} in pieces of {piece}"
-        );
+        if !agrees_in(rt, bytes, piece, None, expected)? {
+            return Ok(false);
+        }
     }
-    Ok(())
+    Ok(true)
 }
 
 #[test]
 fn worked_documents_in_pieces(rt: HostRuntime) -> Result<(), Fail> {
     for (text, expected) in DOCUMENTS {
-        agree_in_pieces(&rt, text, expected)?;
+        let bytes = bytes_of(&rt, text)?;
+        assert!(rt; agrees_in_pieces(&rt, &bytes, expected)?, "{text}");
     }
     Ok(())
 }
@@ -148,18 +153,13 @@ fn worked_documents_in_pieces(rt: HostRuntime) -> Result<(), Fail> {
 #[test]
 fn eight_bits(rt: HostRuntime) -> Result<(), Fail> {
     let bytes = b"\x90q\"1;1;1;1#0;2;0;0;0#0@\x9c";
-    let answer = check_bytes(rt.alloc(), bytes);
-    assert_eq!(rt; in_words(&rt, &answer)?.as_str(), "portable 1 1");
-    for piece in 1..=bytes.len() {
-        let mut source = SliceSource::new(bytes, piece, None);
-        let answer = check(rt.alloc(), &mut source);
-        assert_eq!(rt; in_words(&rt, &answer)?.as_str(), "portable 1 1", "{piece}");
-    }
+    assert!(rt; is_said(&rt, &check_bytes(rt.alloc(), bytes), "portable 1 1")?);
+    assert!(rt; agrees_in_pieces(&rt, bytes, "portable 1 1")?);
     Ok(())
 }
 
 /// The picture of a portable document.
-fn picture_of(rt: &impl AllocGlobal, text: &str) -> Result<Picture, Fail> {
+pub(super) fn picture_of(rt: &impl AllocGlobal, text: &str) -> Result<Picture, Fail> {
     let bytes = bytes_of(rt, text)?;
     match check_bytes(rt.alloc(), &bytes) {
         Ok(Verdict::Portable(picture)) => Ok(picture),
@@ -167,7 +167,18 @@ fn picture_of(rt: &impl AllocGlobal, text: &str) -> Result<Picture, Fail> {
     }
 }
 
-/// The picture of one pixel has this register, and registers 0 and 1 have these colours and no other has one.
+/// Whether the picture of one pixel has this register, and registers 0 and 1 have these colours and the next has none.
+fn is_left(picture: &Picture, register: u8, first: Option<Colour>, second: Option<Colour>) -> bool {
+    let palette = picture.palette();
+    picture.width() == 1
+        && picture.height() == 1
+        && picture.register_at(0, 0) == register
+        && palette.get(0) == first
+        && palette.get(1) == second
+        && palette.get(2).is_none()
+}
+
+/// The text leaves such a picture.
 fn agree_left(
     rt: &(impl AllocGlobal + Abort),
     text: &str,
@@ -176,13 +187,7 @@ fn agree_left(
     second: Option<Colour>,
 ) -> Result<(), Fail> {
     let picture = picture_of(rt, text)?;
-    assert_eq!(rt; (picture.width(), picture.height()), (1, 1), "{text}");
-    if picture.width() == 1 && picture.height() == 1 {
-        assert_eq!(rt; picture.register_at(0, 0), register, "{text}");
-    }
-    assert_eq!(rt; picture.palette().get(0), first, "{text}");
-    assert_eq!(rt; picture.palette().get(1), second, "{text}");
-    assert_eq!(rt; picture.palette().get(2), None, "{text}");
+    assert!(rt; is_left(&picture, register, first, second), "{text}");
     Ok(())
 }
 
@@ -238,35 +243,47 @@ const LETTERS: [&str; 7] = [
     "11111111111111",
 ];
 
+/// The registers of a row of the picture, as digits.
+fn row_of(alloc: Global, picture: &Picture, y: u32) -> Result<Vec<u8>, AllocError> {
+    let mut row = Vec::new(alloc);
+    if y < picture.height() {
+        for x in 0..picture.width() {
+            row.push(b'0'.saturating_add(picture.register_at(x, y)))?;
+        }
+    }
+    Ok(row)
+}
+
+/// Whether this is the row of the picture.
+fn is_row(alloc: Global, picture: &Picture, y: u32, expected: &str) -> Result<bool, AllocError> {
+    Ok(row_of(alloc, picture, y)?.as_slice() == expected.as_bytes())
+}
+
+/// Whether registers 0 to 2 have these colours, and register 3 has none.
+fn has_colours(picture: &Picture, colours: [Option<Colour>; 3]) -> bool {
+    let palette = picture.palette();
+    [palette.get(0), palette.get(1), palette.get(2)] == colours && palette.get(3).is_none()
+}
+
 #[test]
 fn the_picture_of_two_letters(rt: HostRuntime) -> Result<(), Fail> {
     let picture = picture_of(
         &rt,
         "EPq\"1;1;14;7#0;2;0;0;0#1;2;100;100;0#2;2;0;100;0#1~~@@vv@@~~@@~~$#2??}}GG}}??}}??-#1!14@E\\",
     )?;
-    assert_eq!(rt; (picture.width(), picture.height()), (14, 7));
+    assert!(rt; picture.width() == 14 && picture.height() == 7);
     for (y, expected) in (0..7u32).zip(LETTERS) {
-        let mut row = Vec::new(rt.alloc());
-        if y < picture.height() {
-            for x in 0..picture.width() {
-                row.push(b'0'.saturating_add(picture.register_at(x, y)))?;
-            }
-        }
-        assert_eq!(rt; row.as_slice(), expected.as_bytes(), "row {y}");
+        assert!(rt; is_row(rt.alloc(), &picture, y, expected)?, "row {y}");
     }
-    assert_eq!(rt; picture.palette().get(0), black());
-    assert_eq!(rt; picture.palette().get(1), Colour::rgb(100, 100, 0));
-    assert_eq!(rt; picture.palette().get(2), Colour::rgb(0, 100, 0));
-    assert_eq!(rt; picture.palette().get(3), None);
+    let colours = [black(), Colour::rgb(100, 100, 0), Colour::rgb(0, 100, 0)];
+    assert!(rt; has_colours(&picture, colours));
     Ok(())
 }
 
 #[test]
 fn a_source_that_fails(rt: HostRuntime) -> Result<(), Fail> {
     let bytes = bytes_of(&rt, "EPq\"1;1;1;1#0;2;0;0;0#0@E\\")?;
-    let mut source = SliceSource::new(&bytes, 5, Some(2));
-    let answer = check(rt.alloc(), &mut source);
-    assert_eq!(rt; in_words(&rt, &answer)?.as_str(), "read failed");
+    assert!(rt; agrees_in(&rt, &bytes, 5, Some(2), "read failed")?);
     Ok(())
 }
 

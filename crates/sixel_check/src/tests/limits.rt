@@ -1,9 +1,8 @@
 //! Columns, rows and numbers far past any box.
 
-use crate::checking::check;
+use crate::tests::documents::agrees_in;
 use crate::tests::steps::answer_by_events;
-use crate::tests::{answer_on, bytes_of, in_words};
-use sixel_grammar::SliceSource;
+use crate::tests::{agrees, bytes_of};
 use std::process::Abort;
 use std::test::Fail;
 
@@ -19,17 +18,30 @@ fn with_many(rt: &impl AllocGlobal, command: &str, more: &str) -> Result<String,
     Ok(text)
 }
 
+/// Whether the answer on the events is so.
+fn agrees_on_events(rt: &impl AllocGlobal, bytes: &[u8], expected: &str) -> Result<bool, Fail> {
+    match answer_by_events(rt, bytes)? {
+        Some(answer) => Ok(answer.as_str() == expected),
+        None => Ok(false),
+    }
+}
+
+/// Whether the answer from a source is so, in pieces of three sizes.
+fn agrees_in_three(rt: &impl AllocGlobal, bytes: &[u8], expected: &str) -> Result<bool, Fail> {
+    for piece in [1, 7, 65_536] {
+        if !agrees_in(rt, bytes, piece, None, expected)? {
+            return Ok(false);
+        }
+    }
+    Ok(true)
+}
+
 /// The answer is the same on the bytes, from a source, and on the events.
 fn agree(rt: &(impl AllocGlobal + Abort), text: &str, expected: &str) -> Result<(), Fail> {
-    assert_eq!(rt; answer_on(rt, text)?.as_str(), expected);
     let bytes = bytes_of(rt, text)?;
-    for piece in [1, 7, 65_536] {
-        let mut source = SliceSource::new(&bytes, piece, None);
-        let answer = check(rt.alloc(), &mut source);
-        assert_eq!(rt; in_words(rt, &answer)?.as_str(), expected, "{piece}");
-    }
-    let answer = answer_by_events(rt, &bytes)?.ok_or("no document")?;
-    assert_eq!(rt; answer.as_str(), expected);
+    assert!(rt; agrees(rt, text, expected)?, "{expected}");
+    assert!(rt; agrees_in_three(rt, &bytes, expected)?, "{expected}");
+    assert!(rt; agrees_on_events(rt, &bytes, expected)?, "{expected}");
     Ok(())
 }
 

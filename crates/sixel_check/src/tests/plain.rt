@@ -163,38 +163,48 @@ fn is_colour((system, x, y, z): (u16, u16, u16, u16)) -> bool {
     (system == 1 && x <= 360 || system == 2 && x <= 100) && y <= 100 && z <= 100
 }
 
-/// The least rule that the event breaks, of those that look at no pixel.
-fn plain_rule(before: &[Placed], event: &Event) -> Option<Rule> {
-    let boxed = box_of(before).is_some();
-    let used = if is_painting(event) {
-        known(before)
-    } else {
-        None
-    };
-    let named = named_by(event);
-    let given = named.and_then(|register| definition_by(event, register));
-    let old = named.and_then(|register| definition(before, register));
-    if !boxed && (is_data_command(event) || is_return(event) || is_finish(event)) {
-        Some(Rule::RasterFirst)
-    } else if boxed && is_raster(event) {
-        Some(Rule::RasterTwice)
-    } else if named.is_some_and(|register| register > 15) {
-        Some(Rule::Register)
-    } else if given.is_some_and(|given| !is_colour(given)) {
+/// The least rule that an event breaks that names the register.
+fn naming_rule(before: &[Placed], event: &Event, register: u16) -> Option<Rule> {
+    if register > 15 {
+        return Some(Rule::Register);
+    }
+    let given = definition_by(event, register)?;
+    if !is_colour(given) {
         Some(Rule::ColourValue)
-    } else if is_repeat_of_zero(event) {
-        Some(Rule::RepeatZero)
-    } else if is_painting(event) && used.is_none() {
-        Some(Rule::Unselected)
-    } else if used.is_some_and(|register| definition(before, register).is_none()) {
-        Some(Rule::Undefined)
-    } else if given.is_some()
-        && given != old
-        && named.is_some_and(|register| is_painted_in(before, register))
-    {
+    } else if Some(given) != definition(before, register) && is_painted_in(before, register) {
         Some(Rule::Redefined)
     } else {
         None
+    }
+}
+
+/// The least rule that an event breaks that names no register, of those that look at no pixel and at no box.
+fn data_rule(before: &[Placed], event: &Event) -> Option<Rule> {
+    if is_repeat_of_zero(event) {
+        return Some(Rule::RepeatZero);
+    }
+    if !is_painting(event) {
+        return None;
+    }
+    match known(before) {
+        None => Some(Rule::Unselected),
+        Some(register) if definition(before, register).is_none() => Some(Rule::Undefined),
+        Some(_) => None,
+    }
+}
+
+/// The least rule that the event breaks, of those that look at no pixel.
+fn plain_rule(before: &[Placed], event: &Event) -> Option<Rule> {
+    let boxed = box_of(before).is_some();
+    if !boxed && (is_data_command(event) || is_return(event) || is_finish(event)) {
+        return Some(Rule::RasterFirst);
+    }
+    if boxed && is_raster(event) {
+        return Some(Rule::RasterTwice);
+    }
+    match named_by(event) {
+        Some(register) => naming_rule(before, event, register),
+        None => data_rule(before, event),
     }
 }
 

@@ -1,8 +1,7 @@
 //! What 32 terminals of the class show after portable documents, and after broken ones.
 
-use crate::checking::check_bytes;
 use crate::tests::bytes_of;
-use crate::verdict::Verdict;
+use crate::tests::documents::picture_of;
 use sixel_grammar::{Placed, SliceSource, read_all};
 use sixel_picture::{Colour, Parts, Picture};
 use sixel_terminal::{Choices, Ground, Terminal};
@@ -126,29 +125,29 @@ fn events_of(alloc: Global, bytes: &[u8]) -> Result<Vec<Placed>, Fail> {
     Ok(read_all(alloc, &mut source).or(Err("a document"))?)
 }
 
+/// Whether terminals of all choices show the picture after these events, and grey around it.
+fn is_shown(alloc: Global, events: &[Placed], picture: &Picture) -> Result<bool, Fail> {
+    let (width, height) = (picture.width(), picture.height());
+    let pixels = colours_of(alloc, picture)?;
+    let expected = framed(alloc, width, height, pixels.as_slice())?;
+    for number in 0..32u8 {
+        let choices = choices_of(number, width, height);
+        let colours = shown(alloc, choices, greys(alloc)?, events)?;
+        if colours.as_slice() != expected.as_slice() {
+            return Ok(false);
+        }
+    }
+    Ok(true)
+}
+
 #[test]
 fn each_terminal_shows_what_is_portable(rt: HostRuntime) -> Result<(), Fail> {
-    let alloc = rt.alloc();
     for text in PORTABLE {
         let bytes = bytes_of(&rt, text)?;
-        let events = events_of(alloc, &bytes)?;
-        let picture = match check_bytes(alloc, &bytes) {
-            Ok(Verdict::Portable(picture)) => picture,
-            _ => return Err(Fail::from("portable")),
-        };
-        let width = picture.width();
-        let height = picture.height();
-        let pixels = colours_of(alloc, &picture)?;
-        let expected = framed(alloc, width, height, pixels.as_slice())?;
-        for number in 0..32u8 {
-            let choices = choices_of(number, width, height);
-            let colours = shown(alloc, choices, greys(alloc)?, events.as_slice())?;
-            assert_eq!(rt;
-                colours.as_slice(),
-                expected.as_slice(),
-                "{text:?} {number}"
-            );
-        }
+        let events = events_of(rt.alloc(), &bytes)?;
+        let picture = picture_of(&rt, text)?;
+        let shows = is_shown(rt.alloc(), events.as_slice(), &picture)?;
+        assert!(rt; shows, "{text:?}");
     }
     Ok(())
 }

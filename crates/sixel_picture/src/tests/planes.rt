@@ -52,14 +52,19 @@ fn paint<P: Plane>(plane: &mut P, run: Run) -> bool {
     false
 }
 
-/// Whether the planes show the same pixels in a row.
-fn is_same_row<P: Plane, Q: Plane>(one: &P, other: &Q, row: u32) -> bool {
-    let (width, height) = (one.width(), one.height());
-    if width != other.width() || height != other.height() || row >= height {
-        return false;
+/// The register of a pixel, where it lies in the plane and isn't blank.
+fn pixel<P: Plane>(plane: &P, x: u32, y: u32) -> Option<u8> {
+    if x < plane.width() && y < plane.height() {
+        plane.register_at(x, y)
+    } else {
+        None
     }
-    for column in 0..width {
-        if one.register_at(column, row) != other.register_at(column, row) {
+}
+
+/// Whether the planes show the same in these columns of a row.
+fn is_same_row<P: Plane, Q: Plane>(one: &P, other: &Q, columns: u32, row: u32) -> bool {
+    for column in 0..columns {
+        if pixel(one, column, row) != pixel(other, column, row) {
             return false;
         }
     }
@@ -68,12 +73,13 @@ fn is_same_row<P: Plane, Q: Plane>(one: &P, other: &Q, row: u32) -> bool {
 
 /// Whether the planes show the same pixels.
 fn is_same<P: Plane, Q: Plane>(one: &P, other: &Q) -> bool {
-    for row in 0..one.height() {
-        if !is_same_row(one, other, row) {
+    let (width, height) = (one.width(), one.height());
+    for row in 0..height {
+        if !is_same_row(one, other, width, row) {
             return false;
         }
     }
-    one.first_blank() == other.first_blank()
+    (width, height) == (other.width(), other.height()) && one.first_blank() == other.first_blank()
 }
 
 /// Paints a run in both planes, and tells whether they took it and show the same.
@@ -156,13 +162,27 @@ fn a_refused_growth_of_bands_is_answered(rt: HostRuntime) -> Result<(), Fail> {
     Ok(())
 }
 
-#[test]
-fn a_band_plane_hands_out_its_registers(rt: HostRuntime) -> Result<(), Fail> {
-    let mut plane = BandPlane::blank(rt.alloc(), 2, 7)?;
-    for (column, band, count, bits, register, expected) in [
-        (0, 0, 2, 63, 3, Some((0, 6))),
-        (0, 1, 1, 1, 4, Some((1, 6))),
-        (1, 1, 1, 1, 4, None),
+/// Whether the plane takes the run, and then has this first blank pixel, and shows these two pixels.
+fn paints<P: Plane>(
+    plane: &mut P,
+    run: Run,
+    blank: Option<(u32, u32)>,
+    shown: (Option<u8>, Option<u8>),
+) -> bool {
+    paint(plane, run)
+        && plane.first_blank() == blank
+        && (pixel(plane, 1, 5), pixel(plane, 0, 6)) == shown
+}
+
+/// Whether a plane of 2 by 7 pixels is painted as it should, until no pixel is blank.
+fn is_filled<P: Plane>(plane: &mut P) -> bool {
+    if (plane.width(), plane.height()) != (2, 7) || plane.first_blank() != Some((0, 0)) {
+        return false;
+    }
+    for (column, band, count, bits, register, blank, last) in [
+        (0, 0, 2, 63, 3, Some((0, 6)), None),
+        (0, 1, 1, 1, 4, Some((1, 6)), Some(4)),
+        (1, 1, 1, 1, 4, None, Some(4)),
     ] {
         let run = Run {
             column,
@@ -171,15 +191,32 @@ fn a_band_plane_hands_out_its_registers(rt: HostRuntime) -> Result<(), Fail> {
             bits,
             register,
         };
-        assert!(rt; paint(&mut plane, run));
-        assert_eq!(rt; plane.first_blank(), expected, "after register {register}");
+        if !paints(plane, run, blank, (Some(3), last)) {
+            return false;
+        }
     }
+    true
+}
+
+/// The registers of a plane that is filled so.
+const FILLED: [u8; 14] = [3, 3, 3, 3, 3, 3, 3, 3, 3, 3, 3, 3, 4, 4];
+
+#[test]
+fn a_byte_plane_is_painted_by_runs(rt: HostRuntime) -> Result<(), Fail> {
+    let mut plane = BytePlane::blank(rt.alloc(), 2, 7)?;
+    assert!(rt; is_filled(&mut plane));
     let blank = plane.first_blank();
     assert_eq!(rt; blank, None);
-    let registers = plane.into_registers();
-    assert_eq!(rt;
-        registers.as_slice(),
-        [3, 3, 3, 3, 3, 3, 3, 3, 3, 3, 3, 3, 4, 4].as_slice()
-    );
+    assert_eq!(rt; plane.into_registers().as_slice(), FILLED.as_slice());
+    Ok(())
+}
+
+#[test]
+fn a_band_plane_is_painted_by_runs(rt: HostRuntime) -> Result<(), Fail> {
+    let mut plane = BandPlane::blank(rt.alloc(), 2, 7)?;
+    assert!(rt; is_filled(&mut plane));
+    let blank = plane.first_blank();
+    assert_eq!(rt; blank, None);
+    assert_eq!(rt; plane.into_registers().as_slice(), FILLED.as_slice());
     Ok(())
 }

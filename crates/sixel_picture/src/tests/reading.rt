@@ -2,6 +2,7 @@
 
 ghost use Rattle.std.specs.Prelude.{◌<◌, None};
 
+use super::parts_of;
 use crate::colour::Parts;
 use crate::picture::Picture;
 use crate::ppm::{PpmFault, PpmReason, read_ppm};
@@ -30,6 +31,55 @@ fn fault(alloc: Global, bytes: &[u8], piece: usize) -> Option<PpmFault>
 
 fn format(reason: PpmReason, place: u64) -> Option<PpmFault> {
     Some(PpmFault::Format { reason, place })
+}
+
+/// Whether the bytes have this fault, or none, in pieces of up to so many bytes and in one piece.
+fn agrees(alloc: Global, bytes: &[u8], pieces: usize, expected: Option<PpmFault>) -> bool {
+    for more in 0..pieces.min(64) {
+        if fault(alloc, bytes, more + 1) != expected {
+            return false;
+        }
+    }
+    fault(alloc, bytes, 65_536) == expected
+}
+
+/// The colour of a register of the picture.
+fn colour(picture: &Picture, register: u8) -> Option<Parts> {
+    parts_of(picture.palette().get(register))
+}
+
+/// Whether the picture has this size, these registers and, from register 0 on, these colours.
+fn is_picture(
+    picture: &Picture,
+    (width, height): (u32, u32),
+    registers: &[u8],
+    colours: &[Option<Parts>],
+) -> bool {
+    let mut register = 0u8;
+    for expected in colours {
+        if colour(picture, register) != *expected {
+            return false;
+        }
+        register = register.saturating_add(1);
+    }
+    picture.width() == width && picture.height() == height && picture.registers() == registers
+}
+
+/// Whether the bytes, in pieces of a size, are this picture.
+fn reads(
+    alloc: Global,
+    bytes: &[u8],
+    piece: usize,
+    size: (u32, u32),
+    registers: &[u8],
+    colours: &[Option<Parts>],
+) -> bool
+    requires { 0 < piece }
+{
+    match read(alloc, bytes, piece) {
+        Ok(picture) => is_picture(&picture, size, registers, colours),
+        Err(_) => false,
+    }
 }
 
 #[test]
@@ -76,18 +126,8 @@ fn faults_have_reasons_and_places(rt: HostRuntime) -> Result<(), Fail> {
             14,
         ),
     ] {
-        for more in 0..12 {
-            assert_eq!(rt;
-                fault(rt.alloc(), bytes, more + 1),
-                format(reason, place),
-                "place {place}"
-            );
-        }
-        assert_eq!(rt;
-            fault(rt.alloc(), bytes, 65_536),
-            format(reason, place),
-            "place {place}"
-        );
+        let expected = format(reason, place);
+        assert!(rt; agrees(rt.alloc(), bytes, 12, expected), "place {place}");
     }
     Ok(())
 }
@@ -104,45 +144,28 @@ fn reds(alloc: Global, header: &[u8], count: u8) -> Result<Vec<u8>, AllocError> 
 #[test]
 fn a_seventeenth_colour_is_refused(rt: HostRuntime) -> Result<(), Fail> {
     let bytes = reds(rt.alloc(), b"P6 17 1 100\n", 17)?;
-    for more in 0..64 {
-        assert_eq!(rt;
-            fault(rt.alloc(), &bytes, more + 1),
-            format(PpmReason::TooManyColours, 60)
-        );
-    }
+    let expected = format(PpmReason::TooManyColours, 60);
+    assert!(rt; agrees(rt.alloc(), &bytes, 64, expected));
     let bytes = reds(rt.alloc(), b"P6 16 1 100\n", 16)?;
-    match read(rt.alloc(), &bytes, 65_536) {
-        Ok(picture) => {
-            let registers = picture.registers().iter().copied();
-            assert!(rt; registers.eq(0..16), "each has its own register");
-        }
-        Err(_) => return Err("a picture".into()),
-    }
+    let registers = [0, 1, 2, 3, 4, 5, 6, 7, 8, 9, 10, 11, 12, 13, 14, 15];
+    assert!(rt;
+        reads(rt.alloc(), &bytes, 65_536, (16, 1), &registers, &[]),
+        "each has its own register"
+    );
     // Another colour after the last one of 16: the samples are judged first.
     let mut bytes = reds(rt.alloc(), b"P6 17 1 100\n", 16)?;
     bytes.extend_from_slice(&[50, 0, 101])?;
-    assert_eq!(rt;
-        fault(rt.alloc(), &bytes, 65_536),
-        format(PpmReason::Sample, 62)
-    );
+    let expected = format(PpmReason::Sample, 62);
+    assert_eq!(rt; fault(rt.alloc(), &bytes, 65_536), expected);
     Ok(())
 }
 
 #[test]
 fn samples_become_percentages(rt: HostRuntime) -> Result<(), Fail> {
     let bytes = b"P6\n# x\n1 1\n255\n\x80\xff\x02".as_slice();
+    let colours = [Some(Parts::Rgb(50, 100, 1)), None];
     for more in 0..20 {
-        match read(rt.alloc(), bytes, more + 1) {
-            Ok(picture) => {
-                assert_eq!(rt; picture.width(), 1);
-                assert_eq!(rt; picture.height(), 1);
-                assert_eq!(rt; picture.registers(), [0].as_slice());
-                let colour = picture.palette().get(0).map(|c| c.parts());
-                assert_eq!(rt; colour, Some(Parts::Rgb(50, 100, 1)));
-                assert_eq!(rt; picture.palette().get(1), None);
-            }
-            Err(_) => return Err("a picture".into()),
-        }
+        assert!(rt; reads(rt.alloc(), bytes, more + 1, (1, 1), &[0], &colours));
     }
     Ok(())
 }
@@ -152,29 +175,26 @@ fn colours_are_numbered_as_they_are_first_seen(rt: HostRuntime) -> Result<(), Fa
     // 9 and 10 of 200 are 5 percent.
     let bytes =
         b"P6 3 2 200\n\x09\x09\x09\xc8\x00\x00\x0a\x0a\x09\xc8\x00\x00\x00\x00\x00\x09\x0a\x09";
-    match read(rt.alloc(), bytes, 65_536) {
-        Ok(picture) => {
-            assert_eq!(rt; picture.width(), 3);
-            assert_eq!(rt; picture.height(), 2);
-            assert_eq!(rt; picture.registers(), [0, 1, 0, 1, 2, 0].as_slice());
-            for (register, expected) in [
-                (0, Some(Parts::Rgb(5, 5, 5))),
-                (1, Some(Parts::Rgb(100, 0, 0))),
-                (2, Some(Parts::Rgb(0, 0, 0))),
-                (3, None),
-                (15, None),
-            ] {
-                let colour = picture.palette().get(register).map(|c| c.parts());
-                assert_eq!(rt; colour, expected, "register {register}");
-            }
-        }
-        Err(_) => return Err("a picture".into()),
-    }
+    let mut colours = [None; 16];
+    colours[0] = Some(Parts::Rgb(5, 5, 5));
+    colours[1] = Some(Parts::Rgb(100, 0, 0));
+    colours[2] = Some(Parts::Rgb(0, 0, 0));
+    assert!(rt;
+        reads(
+            rt.alloc(),
+            bytes,
+            65_536,
+            (3, 2),
+            &[0, 1, 0, 1, 2, 0],
+            &colours
+        )
+    );
     Ok(())
 }
 
 #[test]
 fn filler_stands_wherever_it_may(rt: HostRuntime) -> Result<(), Fail> {
+    let magenta = [Some(Parts::Rgb(100, 0, 100))];
     for bytes in [
         b"P6 1 1 1 \x01\x00\x01".as_slice(),
         b"P6\t1\r1\n1\t\x01\x00\x01".as_slice(),
@@ -182,42 +202,39 @@ fn filler_stands_wherever_it_may(rt: HostRuntime) -> Result<(), Fail> {
         b"P6# P6 #\n#\n 01\r\n#1\n\t001 \t\r\n0001\n\x01\x00\x01".as_slice(),
         b"P6 #\xff\x00\n1#1 1\n 1##\n#\n\n1\n\x01\x00\x01".as_slice(),
     ] {
-        for more in 0..24 {
-            assert_eq!(rt; fault(rt.alloc(), bytes, more + 1), None);
-        }
-        match read(rt.alloc(), bytes, 65_536) {
-            Ok(picture) => {
-                let colour = picture.palette().get(0).map(|c| c.parts());
-                assert_eq!(rt; colour, Some(Parts::Rgb(100, 0, 100)));
-            }
-            Err(_) => return Err("a picture".into()),
-        }
+        assert!(rt; agrees(rt.alloc(), bytes, 24, None));
+        assert!(rt; reads(rt.alloc(), bytes, 65_536, (1, 1), &[0], &magenta));
     }
     // One whitespace byte ends the header: the next one is a sample.
-    match read(rt.alloc(), b"P6 1 1 100\n \x00\x00", 65_536) {
-        Ok(picture) => {
-            let colour = picture.palette().get(0).map(|c| c.parts());
-            assert_eq!(rt; colour, Some(Parts::Rgb(32, 0, 0)));
-        }
-        Err(_) => return Err("a picture".into()),
-    }
+    let bytes = b"P6 1 1 100\n \x00\x00";
+    let dark = [Some(Parts::Rgb(32, 0, 0))];
+    assert!(rt; reads(rt.alloc(), bytes, 65_536, (1, 1), &[0], &dark));
     Ok(())
 }
 
 #[test]
 fn fronts_are_short(rt: HostRuntime) -> Result<(), Fail> {
     for count in 0..RED.len() {
-        for more in 0..30 {
-            let expected = format(PpmReason::Short, count as u64);
-            assert_eq!(rt;
-                fault(rt.alloc(), &RED[..count], more + 1),
-                expected,
-                "front {count}"
-            );
-        }
+        let expected = format(PpmReason::Short, count as u64);
+        assert!(rt;
+            agrees(rt.alloc(), &RED[..count], 30, expected),
+            "front {count}"
+        );
     }
     assert_eq!(rt; fault(rt.alloc(), RED, 1), None);
     Ok(())
+}
+
+/// How reading five red pixels ends where one call of the source fails, and how many calls failed.
+fn read_failing(alloc: Global, piece: usize, fail_at: u64) -> (Option<PpmFault>, u64)
+    requires { 0 < piece }
+{
+    let mut source = SliceSource::new(RED, piece, Some(fail_at));
+    let fault = match read_ppm(alloc, &mut source) {
+        Ok(_) => None,
+        Err(fault) => Some(fault),
+    };
+    (fault, source.failures())
 }
 
 #[test]
@@ -227,19 +244,11 @@ fn failing_sources_are_named(rt: HostRuntime) -> Result<(), Fail> {
         // The calls that give bytes, and one that gives none.
         let calls = RED.len().div_ceil(piece) as u64 + 1;
         for fail_at in 0..calls {
-            let mut source = SliceSource::new(RED, piece, Some(fail_at));
-            match read_ppm(rt.alloc(), &mut source) {
-                Ok(_) => return Err("a picture".into()),
-                Err(fault) => assert_eq!(rt; fault, PpmFault::Read, "call {fail_at}"),
-            }
-            assert_eq!(rt; source.failures(), 1);
+            let ended = read_failing(rt.alloc(), piece, fail_at);
+            assert_eq!(rt; ended, (Some(PpmFault::Read), 1), "call {fail_at}");
         }
-        let mut source = SliceSource::new(RED, piece, Some(calls));
-        assert!(rt;
-            read_ppm(rt.alloc(), &mut source).is_ok(),
-            "the call after the end"
-        );
-        assert_eq!(rt; source.failures(), 0);
+        let ended = read_failing(rt.alloc(), piece, calls);
+        assert_eq!(rt; ended, (None, 0), "the call after the end");
     }
     Ok(())
 }
@@ -276,114 +285,89 @@ fn a_failed_source_is_called_no_more(rt: HostRuntime) -> Result<(), Fail> {
     Ok(())
 }
 
-/// `P6`, so many bytes of filler, and the rest of a header.
-fn header(alloc: Global, filler: u8, count: usize, rest: &[u8]) -> Result<Vec<u8>, AllocError> {
-    let mut bytes = Vec::from_slice(alloc, b"P6")?;
-    for _ in 0..count {
-        bytes.push(filler)?;
-    }
+/// A front, so many bytes of filler, and the rest.
+fn filled(
+    alloc: Global,
+    front: &[u8],
+    filler: u8,
+    count: usize,
+    rest: &[u8],
+) -> Result<Vec<u8>, AllocError> {
+    let mut bytes = Vec::from_slice(alloc, front)?;
+    bytes.resize(front.len().saturating_add(count), filler)?;
     bytes.extend_from_slice(rest)?;
     Ok(bytes)
+}
+
+/// Whether `P6` with so many bytes of filler and the rest of a file has this fault, or none.
+fn header_agrees(
+    alloc: Global,
+    filler: u8,
+    count: usize,
+    rest: &[u8],
+    expected: Option<PpmFault>,
+) -> Result<bool, AllocError> {
+    let bytes = filled(alloc, b"P6", filler, count, rest)?;
+    Ok(fault(alloc, &bytes, 4_096) == expected && agrees(alloc, &bytes, 1, expected))
 }
 
 #[test]
 fn headers_have_a_limit(rt: HostRuntime) -> Result<(), Fail> {
     let limit = format(PpmReason::Header, 65_536);
+    let short = format(PpmReason::Short, 65_536);
+    let size = format(PpmReason::Size, 65_534);
+    let maxval = format(PpmReason::Maxval, 65_534);
     for (filler, count, rest, expected) in [
         (b' ', 65_526, b"1 1 100\n\x00\x00\x00".as_slice(), None),
         (b' ', 65_527, b"1 1 100\n\x00\x00\x00".as_slice(), limit),
         (b' ', 65_527, b"1 1 256\n\x00\x00\x00".as_slice(), limit),
-        (
-            b' ',
-            65_534,
-            b"".as_slice(),
-            format(PpmReason::Short, 65_536),
-        ),
+        (b' ', 65_534, b"".as_slice(), short),
         (b' ', 65_535, b"".as_slice(), limit),
-        (
-            b'#',
-            65_534,
-            b"".as_slice(),
-            format(PpmReason::Short, 65_536),
-        ),
+        (b'#', 65_534, b"".as_slice(), short),
         (b'#', 65_534, b"\n1 1 100\n".as_slice(), limit),
-        (
-            b' ',
-            65_532,
-            b"0 1 100\n".as_slice(),
-            format(PpmReason::Size, 65_534),
-        ),
-        (
-            b' ',
-            65_530,
-            b"1 0 1".as_slice(),
-            format(PpmReason::Size, 65_534),
-        ),
-        (
-            b' ',
-            65_528,
-            b"1 1 0\n".as_slice(),
-            format(PpmReason::Maxval, 65_534),
-        ),
+        (b' ', 65_532, b"0 1 100\n".as_slice(), size),
+        (b' ', 65_530, b"1 0 1".as_slice(), size),
+        (b' ', 65_528, b"1 1 0\n".as_slice(), maxval),
         (b' ', 65_529, b"1 1 0\n".as_slice(), limit),
     ] {
-        let bytes = header(rt.alloc(), filler, count, rest)?;
-        assert_eq!(rt;
-            fault(rt.alloc(), &bytes, 65_536),
-            expected,
-            "filler {count}"
-        );
-        assert_eq!(rt;
-            fault(rt.alloc(), &bytes, 4_096),
-            expected,
-            "filler {count}"
-        );
-        assert_eq!(rt; fault(rt.alloc(), &bytes, 1), expected, "filler {count}");
+        let agrees = header_agrees(rt.alloc(), filler, count, rest, expected)?;
+        assert!(rt; agrees, "filler {count}");
     }
     Ok(())
 }
 
+/// Whether `P6 ` with so many digits and the rest of a file has this fault, or none.
+fn number_agrees(
+    alloc: Global,
+    digit: u8,
+    count: usize,
+    rest: &[u8],
+    expected: Option<PpmFault>,
+) -> Result<bool, AllocError> {
+    let bytes = filled(alloc, b"P6 ", digit, count, rest)?;
+    Ok(fault(alloc, &bytes, 65_536) == expected)
+}
+
 #[test]
 fn long_numbers_do_not_wrap(rt: HostRuntime) -> Result<(), Fail> {
+    let size = format(PpmReason::Size, 3);
+    let header = format(PpmReason::Header, 60_003);
     for (digit, count, rest, expected) in [
-        (
-            b'9',
-            1_000,
-            b" 1 100\n".as_slice(),
-            format(PpmReason::Size, 3),
-        ),
-        (
-            b'9',
-            60_000,
-            b" 1 100\n".as_slice(),
-            format(PpmReason::Size, 3),
-        ),
-        (
-            b'9',
-            60_000,
-            b"x".as_slice(),
-            format(PpmReason::Header, 60_003),
-        ),
+        (b'9', 1_000, b" 1 100\n".as_slice(), size),
+        (b'9', 60_000, b" 1 100\n".as_slice(), size),
+        (b'9', 60_000, b"x".as_slice(), header),
         (b'0', 60_000, b"1 1 1\n\x00\x00\x00".as_slice(), None),
-        (
-            b'0',
-            60_000,
-            b" 1 1\n\x00\x00\x00".as_slice(),
-            format(PpmReason::Size, 3),
-        ),
+        (b'0', 60_000, b" 1 1\n\x00\x00\x00".as_slice(), size),
     ] {
-        let mut bytes = Vec::from_slice(rt.alloc(), b"P6 ")?;
-        for _ in 0..count {
-            bytes.push(digit)?;
-        }
-        bytes.extend_from_slice(rest)?;
-        assert_eq!(rt;
-            fault(rt.alloc(), &bytes, 65_536),
-            expected,
-            "{count} digits"
-        );
+        let agrees = number_agrees(rt.alloc(), digit, count, rest, expected)?;
+        assert!(rt; agrees, "{count} digits");
     }
-    // 2^32 + 1 and 2^64 + 1 are not 1.
+    Ok(())
+}
+
+/// 2^32 + 1 and 2^64 + 1 are not 1.
+#[test]
+fn numbers_of_many_bits_do_not_wrap(rt: HostRuntime) -> Result<(), Fail> {
     for bytes in [
         b"P6 4294967297 1 100\n".as_slice(),
         b"P6 18446744073709551617 1 100\n".as_slice(),
@@ -398,7 +382,7 @@ fn long_numbers_do_not_wrap(rt: HostRuntime) -> Result<(), Fail> {
 
 /// The longest header and 2,048 pixels by 16 without the last one: 163,837 bytes. They have 16 colours.
 fn wide(alloc: Global) -> Result<Vec<u8>, AllocError> {
-    let mut bytes = header(alloc, b' ', 65_524, b"2048 16 2\n")?;
+    let mut bytes = filled(alloc, b"P6", b' ', 65_524, b"2048 16 2\n")?;
     for colour in 0u8..16 {
         bytes.extend_from_slice(&[colour / 9, colour / 3 % 3, colour % 3])?;
     }

@@ -1,31 +1,36 @@
 use crate::fault::RunFault;
-use crate::run::run;
+use crate::run::tests::{Limits, agrees, run_watched, stops_reading, stops_writing};
 use crate::task::{Status, Task};
-use crate::watched::Watched;
-use sixel_grammar::{Fault, Reason, SliceSink, SliceSource};
-use std::process::Abort;
+use sixel_grammar::{Fault, Reason};
+use std::alloc::Global;
 
-/// Checks the bytes in pieces of each size, and compares the line and whether a rule is broken.
-fn checks<R: AllocGlobal + Abort>(rt: &R, bytes: &[u8], line: &str) {
+/// Whether the bytes, in pieces of a size, have this line, and a status that goes with it.
+fn checks_in_pieces(alloc: Global, bytes: &[u8], piece: usize, line: &str) -> bool {
+    let mut room = [0; 96];
+    let limits = Limits {
+        piece,
+        fill_fails: None,
+        most: 96,
+        take_fails: None,
+    };
+    let ran = run_watched(alloc, Task::Check, bytes, limits, &mut room);
+    let is_broken = line.starts_with("broken");
+    let is_right = match ran.answer {
+        Ok(Status::Done) => !is_broken,
+        Ok(Status::Broken(_)) => is_broken,
+        Err(_) => false,
+    };
+    is_right && room.get(..ran.written) == Some(line.as_bytes()) && ran.sink.flushes == 1
+}
+
+/// Whether the bytes have this line, in pieces of each size.
+fn checks(alloc: Global, bytes: &[u8], line: &str) -> bool {
     for piece in 1..=bytes.len() {
-        let mut room = [0; 96];
-        let mut input = SliceSource::new(bytes, piece, None);
-        let mut output = Watched::new(SliceSink::new(&mut room, 96, None));
-        let got = run(rt.alloc(), Task::Check, &mut input, &mut output);
-        assert_eq!(rt;
-            output.device.written(),
-            line.as_bytes(),
-            "in pieces of {piece}: {line}"
-        );
-        assert_eq!(rt; output.calls.flushes, 1, "in pieces of {piece}: {line}");
-        let is_broken = line.starts_with("broken");
-        let is_right = match got {
-            Ok(Status::Done) => !is_broken,
-            Ok(Status::Broken(_)) => is_broken,
-            Err(_) => false,
-        };
-        assert!(rt; is_right, "in pieces of {piece}: {line}");
+        if !checks_in_pieces(alloc, bytes, piece, line) {
+            return false;
+        }
     }
+    true
 }
 
 #[test]
@@ -73,18 +78,16 @@ fn answers_portable(rt: HostRuntime) {
         ),
     ];
     for (bytes, line) in rows {
-        checks(&rt, bytes, line);
+        assert!(rt; checks(rt.alloc(), bytes, line), "{line}");
     }
-    checks(
-        &rt,
-        b"\x1bPq\"1;1;1;1#0;1;360;50;100#0@\x1b\\",
-        "portable 1 1\n",
-    );
-    checks(&rt, b"\x90q\"1;1;1;1#0;2;0;0;0#0@\x9c", "portable 1 1\n");
+    let hue = b"\x1bPq\"1;1;1;1#0;1;360;50;100#0@\x1b\\";
+    assert!(rt; checks(rt.alloc(), hue, "portable 1 1\n"));
+    let eight = b"\x90q\"1;1;1;1#0;2;0;0;0#0@\x9c";
+    assert!(rt; checks(rt.alloc(), eight, "portable 1 1\n"));
 }
 
 #[test]
-fn names_the_first_broken_rule(rt: HostRuntime) {
+fn names_broken_rules_of_painting(rt: HostRuntime) {
     let rows = [
         (
             b"\x1bPq\"1;1;2;1#0;2;0;0;0#0@\x1b\\".as_slice(),
@@ -134,6 +137,15 @@ fn names_the_first_broken_rule(rt: HostRuntime) {
             b"\x1bPq\"1;1;1;1#0;2;0;0;0#0!2C\x1b\\".as_slice(),
             "broken Outside 23 0 2\n",
         ),
+    ];
+    for (bytes, line) in rows {
+        assert!(rt; checks(rt.alloc(), bytes, line), "{line}");
+    }
+}
+
+#[test]
+fn names_broken_rules_of_commands(rt: HostRuntime) {
+    let rows = [
         (b"\x1bPq\x1b\\".as_slice(), "broken RasterFirst 3\n"),
         (
             b"\x1bPq@\"2;1;1;1\x1b\\".as_slice(),
@@ -197,7 +209,7 @@ fn names_the_first_broken_rule(rt: HostRuntime) {
         ),
     ];
     for (bytes, line) in rows {
-        checks(&rt, bytes, line);
+        assert!(rt; checks(rt.alloc(), bytes, line), "{line}");
     }
 }
 
@@ -205,17 +217,12 @@ fn names_the_first_broken_rule(rt: HostRuntime) {
 #[test]
 fn answers_a_later_fault(rt: HostRuntime) {
     let bytes = b"\x1bPq!0@!65536~\x1b\\";
+    let fault = RunFault::Grammar(Fault {
+        reason: Reason::NumberTooLarge,
+        place: 11,
+    });
     for piece in 1..=bytes.len() {
-        let mut room = [0; 96];
-        let mut input = SliceSource::new(bytes, piece, None);
-        let mut output = SliceSink::new(&mut room, 96, None);
-        let got = run(rt.alloc(), Task::Check, &mut input, &mut output);
-        let fault = Fault {
-            reason: Reason::NumberTooLarge,
-            place: 11,
-        };
-        assert_eq!(rt; got, Err(RunFault::Grammar(fault)));
-        assert_eq!(rt; output.written(), b"".as_slice());
+        assert!(rt; agrees(rt.alloc(), Task::Check, bytes, piece, b"", Err(fault)));
     }
 }
 
@@ -223,26 +230,12 @@ fn answers_a_later_fault(rt: HostRuntime) {
 fn answers_the_device_that_failed(rt: HostRuntime) {
     let bytes = b"\x1bPq\"1;1;1;1#0;2;0;0;0#0@\x1b\\";
     for fill in 0..6 {
-        let mut room = [0; 96];
-        let mut input = Watched::new(SliceSource::new(bytes, 5, Some(fill)));
-        let mut output = Watched::new(SliceSink::new(&mut room, 96, None));
-        let got = run(rt.alloc(), Task::Check, &mut input, &mut output);
-        assert_eq!(rt; got, Err(RunFault::Read), "fill {fill}");
-        assert_eq!(rt; output.device.written(), b"".as_slice(), "fill {fill}");
-        assert_eq!(rt; output.calls.flushes, 1, "fill {fill}");
-        assert_eq!(rt; input.calls.after_fault, 0, "fill {fill}");
+        let stops = stops_reading(rt.alloc(), Task::Check, bytes, 5, fill, &mut [0; 96]);
+        assert!(rt; stops, "fill {fill}");
     }
     for (take, written) in [(0, 0), (1, 5), (2, 10), (3, 13)] {
-        let mut room = [0; 96];
-        let mut input = SliceSource::new(bytes, 64, None);
-        let mut output = Watched::new(SliceSink::new(&mut room, 5, Some(take)));
-        let got = run(rt.alloc(), Task::Check, &mut input, &mut output);
-        assert_eq!(rt; got, Err(RunFault::Write), "take {take}");
-        assert_eq!(rt;
-            Some(output.device.written()),
-            b"portable 1 1\n".get(..written),
-            "take {take}"
-        );
-        assert_eq!(rt; output.calls.after_fault, 0, "take {take}");
+        let front = b"portable 1 1\n".get(..written);
+        let stops = stops_writing(rt.alloc(), Task::Check, bytes, 5, take, front, &mut [0; 96]);
+        assert!(rt; stops, "take {take}");
     }
 }

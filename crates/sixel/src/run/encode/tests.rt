@@ -1,8 +1,6 @@
 use crate::fault::RunFault;
-use crate::run::run;
+use crate::run::tests::{agrees_in_pieces, stops_reading, stops_writing};
 use crate::task::{Status, Task};
-use crate::watched::Watched;
-use sixel_grammar::{SliceSink, SliceSource};
 use sixel_picture::PpmReason;
 use std::process::Abort;
 
@@ -16,16 +14,7 @@ fn encodes<R: AllocGlobal + Abort>(
     text: &[u8],
     answer: Result<Status, RunFault>,
 ) {
-    for piece in [1, 5, 64] {
-        assert!(rt; piece > 0);
-        let mut room = [0; 96];
-        let mut input = SliceSource::new(bytes, piece, None);
-        let mut output = Watched::new(SliceSink::new(&mut room, 96, None));
-        let got = run(rt.alloc(), Task::Encode, &mut input, &mut output);
-        assert_eq!(rt; got, answer, "in pieces of {piece}");
-        assert_eq!(rt; output.device.written(), text, "in pieces of {piece}");
-        assert_eq!(rt; output.calls.flushes, 1, "in pieces of {piece}");
-    }
+    assert!(rt; agrees_in_pieces(rt.alloc(), Task::Encode, bytes, text, answer));
 }
 
 #[test]
@@ -77,26 +66,12 @@ fn writes_nothing_of_what_is_no_picture_file(rt: HostRuntime) {
 fn answers_the_device_that_failed(rt: HostRuntime) {
     let text = b"\x1bP0;1q\"1;1;5;1#0;2;100;0;0#0!5@\x1b\\".as_slice();
     for take in 0..34 {
-        let mut room = [0; 33];
-        let mut input = SliceSource::new(RED, 64, None);
-        let mut output = Watched::new(SliceSink::new(&mut room, 1, Some(take)));
-        let got = run(rt.alloc(), Task::Encode, &mut input, &mut output);
-        assert_eq!(rt; got, Err(RunFault::Write), "take {take}");
-        assert_eq!(rt;
-            Some(output.device.written()),
-            text.get(..take as usize),
-            "take {take}"
-        );
-        assert_eq!(rt; output.calls.after_fault, 0, "take {take}");
+        let front = text.get(..take as usize);
+        let stops = stops_writing(rt.alloc(), Task::Encode, RED, 1, take, front, &mut [0; 33]);
+        assert!(rt; stops, "take {take}");
     }
     for fill in 0..6 {
-        let mut room = [0; 33];
-        let mut input = Watched::new(SliceSource::new(RED, 5, Some(fill)));
-        let mut output = Watched::new(SliceSink::new(&mut room, 33, None));
-        let got = run(rt.alloc(), Task::Encode, &mut input, &mut output);
-        assert_eq!(rt; got, Err(RunFault::Read), "fill {fill}");
-        assert_eq!(rt; output.device.written(), b"".as_slice(), "fill {fill}");
-        assert_eq!(rt; output.calls.flushes, 1, "fill {fill}");
-        assert_eq!(rt; input.calls.after_fault, 0, "fill {fill}");
+        let stops = stops_reading(rt.alloc(), Task::Encode, RED, 5, fill, &mut [0; 33]);
+        assert!(rt; stops, "fill {fill}");
     }
 }

@@ -1,9 +1,8 @@
 use crate::fault::RunFault;
-use crate::run::run;
+use crate::run::tests::{agrees_in_pieces, stops_reading, stops_writing};
 use crate::task::{Status, Task};
-use crate::watched::Watched;
 use sixel_check::{Finding, Rule};
-use sixel_grammar::{Fault, Reason, SliceSink, SliceSource};
+use sixel_grammar::{Fault, Reason};
 use std::process::Abort;
 
 /// Renders the bytes in pieces, and compares the answer and all that was written.
@@ -13,16 +12,7 @@ fn renders<R: AllocGlobal + Abort>(
     text: &[u8],
     answer: Result<Status, RunFault>,
 ) {
-    for piece in [1, 5, 64] {
-        assert!(rt; piece > 0);
-        let mut room = [0; 96];
-        let mut input = SliceSource::new(bytes, piece, None);
-        let mut output = Watched::new(SliceSink::new(&mut room, 96, None));
-        let got = run(rt.alloc(), Task::Render, &mut input, &mut output);
-        assert_eq!(rt; got, answer, "in pieces of {piece}");
-        assert_eq!(rt; output.device.written(), text, "in pieces of {piece}");
-        assert_eq!(rt; output.calls.flushes, 1, "in pieces of {piece}");
-    }
+    assert!(rt; agrees_in_pieces(rt.alloc(), Task::Render, bytes, text, answer));
 }
 
 #[test]
@@ -73,26 +63,20 @@ fn answers_the_device_that_failed(rt: HostRuntime) {
     let bytes = b"\x1bPq\"1;1;1;1#0;2;0;0;0#0@\x1b\\";
     let text = b"P6\n1 1\n100\n\x00\x00\x00".as_slice();
     for (take, written) in [(0, 0), (1, 7), (2, 14)] {
-        let mut room = [0; 64];
-        let mut input = SliceSource::new(bytes, 64, None);
-        let mut output = Watched::new(SliceSink::new(&mut room, 7, Some(take)));
-        let got = run(rt.alloc(), Task::Render, &mut input, &mut output);
-        assert_eq!(rt; got, Err(RunFault::Write), "take {take}");
-        assert_eq!(rt;
-            Some(output.device.written()),
-            text.get(..written),
-            "take {take}"
+        let front = text.get(..written);
+        let stops = stops_writing(
+            rt.alloc(),
+            Task::Render,
+            bytes,
+            7,
+            take,
+            front,
+            &mut [0; 64],
         );
-        assert_eq!(rt; output.calls.after_fault, 0, "take {take}");
+        assert!(rt; stops, "take {take}");
     }
     for fill in 0..6 {
-        let mut room = [0; 64];
-        let mut input = Watched::new(SliceSource::new(bytes, 5, Some(fill)));
-        let mut output = Watched::new(SliceSink::new(&mut room, 64, None));
-        let got = run(rt.alloc(), Task::Render, &mut input, &mut output);
-        assert_eq!(rt; got, Err(RunFault::Read), "fill {fill}");
-        assert_eq!(rt; output.device.written(), b"".as_slice(), "fill {fill}");
-        assert_eq!(rt; output.calls.flushes, 1, "fill {fill}");
-        assert_eq!(rt; input.calls.after_fault, 0, "fill {fill}");
+        let stops = stops_reading(rt.alloc(), Task::Render, bytes, 5, fill, &mut [0; 64]);
+        assert!(rt; stops, "fill {fill}");
     }
 }

@@ -3,10 +3,9 @@ ghost use Rattle.sixel_picture.specs.Ppm.{is_file_side};
 ghost use Rattle.sixel.specs.Outputs.{HasSides};
 
 use crate::fault::RunFault;
-use crate::run::run;
+use crate::run::tests::{agrees_in_pieces, stops_reading, stops_writing};
 use crate::task::{Status, Task};
-use crate::watched::Watched;
-use sixel_grammar::{Fault, Reason, SliceSink, SliceSource};
+use sixel_grammar::{Fault, Reason};
 use std::process::Abort;
 
 /// A screen on which no option is asked for.
@@ -46,20 +45,7 @@ fn shows<R: AllocGlobal + Abort>(
 )
     requires { HasSides task }
 {
-    for piece in [1, 5, 64] {
-        assert!(rt; piece > 0);
-        let mut room = [0; 64];
-        let mut input = SliceSource::new(bytes, piece, None);
-        let mut output = Watched::new(SliceSink::new(&mut room, 64, None));
-        let got = run(rt.alloc(), task, &mut input, &mut output);
-        assert_eq!(rt; got, answer, "in pieces of {piece}: {task:?}");
-        assert_eq!(rt;
-            output.device.written(),
-            text,
-            "in pieces of {piece}: {task:?}"
-        );
-        assert_eq!(rt; output.calls.flushes, 1, "in pieces of {piece}: {task:?}");
-    }
+    assert!(rt; agrees_in_pieces(rt.alloc(), task, bytes, text, answer));
 }
 
 #[test]
@@ -183,15 +169,10 @@ fn asks_only_for_the_colours_that_are_seen(rt: HostRuntime) {
 /// Each fill fails in turn: nothing is written, and the source isn't called again.
 #[test]
 fn answers_read_where_a_fill_fails(rt: HostRuntime) {
+    let task = plain(1, 1);
     for fill in 0..7 {
-        let mut room = [0; 64];
-        let mut input = Watched::new(SliceSource::new(REDEFINED, 7, Some(fill)));
-        let mut output = Watched::new(SliceSink::new(&mut room, 64, None));
-        let got = run(rt.alloc(), plain(1, 1), &mut input, &mut output);
-        assert_eq!(rt; got, Err(RunFault::Read), "fill {fill}");
-        assert_eq!(rt; output.device.written(), b"".as_slice(), "fill {fill}");
-        assert_eq!(rt; output.calls.flushes, 1, "fill {fill}");
-        assert_eq!(rt; input.calls.after_fault, 0, "fill {fill}");
+        let stops = stops_reading(rt.alloc(), task, REDEFINED, 7, fill, &mut [0; 64]);
+        assert!(rt; stops, "fill {fill}");
     }
 }
 
@@ -199,17 +180,10 @@ fn answers_read_where_a_fill_fails(rt: HostRuntime) {
 #[test]
 fn answers_write_where_a_take_or_the_flush_fails(rt: HostRuntime) {
     let text = b"P6\n1 1\n100\n\x00\x00\x00".as_slice();
+    let task = plain(1, 1);
     for (take, written) in [(0, 0), (1, 7), (2, 14)] {
-        let mut room = [0; 64];
-        let mut input = SliceSource::new(REDEFINED, 64, None);
-        let mut output = Watched::new(SliceSink::new(&mut room, 7, Some(take)));
-        let got = run(rt.alloc(), plain(1, 1), &mut input, &mut output);
-        assert_eq!(rt; got, Err(RunFault::Write), "take {take}");
-        assert_eq!(rt;
-            Some(output.device.written()),
-            text.get(..written),
-            "take {take}"
-        );
-        assert_eq!(rt; output.calls.after_fault, 0, "take {take}");
+        let front = text.get(..written);
+        let stops = stops_writing(rt.alloc(), task, REDEFINED, 7, take, front, &mut [0; 64]);
+        assert!(rt; stops, "take {take}");
     }
 }
