@@ -2,6 +2,7 @@
 
 ghost use Rattle.std.specs.Prelude.{◌≡◌, ◌↔◌, IsTrue, Some, None};
 ghost use Rattle.sixel_grammar.specs.Spelling.{IsSpellable};
+ghost use Rattle.sixel_grammar.specs.Plain.{plain_of};
 
 use arrayvec::ArrayVec;
 
@@ -68,6 +69,14 @@ pub struct Completed {
     pub second: Option<Placed>,
 }
 
+/// What one byte completed that completed no more than a command.
+#[derive(Clone, Copy, Debug, PartialEq, Eq)]
+pub enum Plain {
+    Nothing,
+    /// A command, and the offset of its first byte, from 0.
+    Command { place: u64, command: Command },
+}
+
 impl Completed {
     #[inline]
     pub(crate) fn of_none() -> Completed
@@ -86,6 +95,16 @@ impl Completed {
         Completed {
             first: Some(Placed { place, event }),
             second: None,
+        }
+    }
+
+    #[inline]
+    pub(crate) fn of_plain(plain: Plain) -> Completed
+        ensures { result ≡ plain_of plain }
+    {
+        match plain {
+            Plain::Nothing => Completed::of_none(),
+            Plain::Command { place, command } => Completed::of_one(place, Event::Step(command)),
         }
     }
 

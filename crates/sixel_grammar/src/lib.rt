@@ -17,7 +17,7 @@ mod to_write;
 mod writing;
 
 pub use block::Block;
-pub use command::{Command, Completed, Event, Placed};
+pub use command::{Command, Completed, Event, Placed, Plain};
 pub use device::{DeviceFault, Sink, Source, put_all};
 pub use fault::{Fault, InputFault, Reason};
 pub use from_read::FromRead;

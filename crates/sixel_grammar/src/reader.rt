@@ -7,8 +7,10 @@ ghost use Rattle.sixel_grammar.specs.Document.{Document};
 ghost use Rattle.sixel_grammar.specs.Faults.{IsFaultOf, NoCommand as NoCommandForm};
 ghost use Rattle.sixel_grammar.specs.Next.{begin as begin_of, settled as settled_of, within as within_of, only_grown};
 ghost use Rattle.sixel_grammar.specs.Pending.{form_of};
+ghost use Rattle.sixel_grammar.specs.Plain.{plain_of};
+ghost use Rattle.sixel_grammar.specs.declared.command.Plain.TheVariants.{Command as plain_command};
 
-use crate::command::{Command, Completed, Event, Placed};
+use crate::command::{Command, Completed, Event, Placed, Plain};
 use crate::fault::{Fault, Reason};
 use crate::pending::{Pending, is_digit};
 
@@ -50,15 +52,15 @@ impl Reader {
     }
 
     /// Reads one byte. After an `Err` the reader answers that fault ever after.
-    #[inline]
+    #[inline(always)]
     pub fn feed(&mut self, byte: u8) -> Result<Completed, Fault>
         ensures kept { IfSome (fault_of self.old) (λ fault. (result ≡ Err fault) × (self.new ≡ self.old)) }
         ensures accepted { IfOk result (λ c. Takes self.old self.new byte (completions c)) }
         ensures refused { IfErr result (Refuses self.old self.new byte) }
         ensures in_order { IfOk result (λ c. IsNone c.first → IsNone c.second) }
     {
-        if let Some(completed) = self.feed_quickly(byte) {
-            return Ok(completed);
+        if let Some(plain) = self.feed_quickly(byte) {
+            return Ok(Completed::of_plain(plain));
         }
         if self.has_grown(byte) {
             return Ok(Completed::of_none());
@@ -66,13 +68,31 @@ impl Reader {
         self.feed_slowly(byte)
     }
 
-    /// The ways of nearly all bytes: a sixel by itself, a digit, a separator of colour fields, the data byte that ends a repeat.
-    #[inline]
-    fn feed_quickly(&mut self, byte: u8) -> Option<Completed>
-        ensures accepted { IfSome result (λ c. Takes self.old self.new byte (completions c)) }
+    /// Reads one byte as `feed` does, where it completes nothing, is a sixel by itself, or ends a repeat.
+    ///
+    /// `None`: it was not read, and nothing has changed. This way is the quicker one, and `feed` takes every byte.
+    #[inline(always)]
+    pub fn feed_plain(&mut self, byte: u8) -> Option<Plain>
+        ensures accepted { IfSome result (λ p. Takes self.old self.new byte (completions (plain_of p))) }
         ensures kept { IsNone result → self.new ≡ self.old }
         ensures stopped { IsSome (fault_of self.old) → IsNone result }
-        ensures in_order { IfSome result (λ c. IsNone c.first → IsNone c.second) }
+    {
+        if let Some(plain) = self.feed_quickly(byte) {
+            return Some(plain);
+        }
+        if self.has_grown(byte) {
+            Some(Plain::Nothing)
+        } else {
+            None
+        }
+    }
+
+    /// The ways of nearly all bytes: a sixel by itself, a digit, a separator of colour fields, the data byte that ends a repeat.
+    #[inline(always)]
+    fn feed_quickly(&mut self, byte: u8) -> Option<Plain>
+        ensures accepted { IfSome result (λ p. Takes self.old self.new byte (completions (plain_of p))) }
+        ensures kept { IsNone result → self.new ≡ self.old }
+        ensures stopped { IsSome (fault_of self.old) → IsNone result }
     {
         if self.is_sixel(byte) {
             return Some(self.take_sixel(byte));
@@ -80,14 +100,14 @@ impl Reader {
         if is_digit(byte) {
             if self.left > 0 && self.pending.has_taken_digit(byte) {
                 self.left -= 1;
-                return Some(Completed::of_none());
+                return Some(Plain::Nothing);
             }
             return None;
         }
         if byte == b';' {
             if self.left > 0 && self.pending.has_taken_separator() {
                 self.left -= 1;
-                return Some(Completed::of_none());
+                return Some(Plain::Nothing);
             }
             return None;
         }
@@ -98,7 +118,10 @@ impl Reader {
             Some(repeat) => {
                 self.left -= 1;
                 self.sixels = ready_for(self.left, &self.pending);
-                Some(Completed::of_one(self.opened, Event::Step(repeat)))
+                Some(Plain::Command {
+                    place: self.opened,
+                    command: repeat,
+                })
             }
             None => None,
         }
@@ -113,10 +136,10 @@ impl Reader {
     }
 
     #[inline]
-    fn take_sixel(&mut self, byte: u8) -> Completed
+    fn take_sixel(&mut self, byte: u8) -> Plain
         requires data { IsTrue (data_test byte) }
         requires left { 0 < self.old.left }
-        ensures completed { result ≡ record { first = Some (record { place = 268435456 - self.old.left; event = Event.Step (Command.Sixel (byte - 63)) }); second = None } }
+        ensures completed { result ≡ plain_command (268435456 - self.old.left) (Command.Sixel (byte - 63)) }
         ensures pending { self.new.pending ≡ self.old.pending }
         ensures fault { self.new.fault ≡ self.old.fault }
         ensures left { self.new.left ≡ self.old.left - 1 }
@@ -126,7 +149,8 @@ impl Reader {
         if self.left == 0 {
             self.sixels = 0;
         }
-        Completed::of_one(place, Event::Step(Command::Sixel(byte - b'?')))
+        let command = Command::Sixel(byte - b'?');
+        Plain::Command { place, command }
     }
 
     /// Whether the byte goes on with what is open, and completes nothing.

@@ -1,7 +1,8 @@
 //! Documents and what they say, byte by byte and in pieces.
 
 use crate::{
-    Command, Completed, Event, Fault, InputFault, Placed, Reader, Reason, SliceSource, read_all,
+    Command, Completed, Event, Fault, InputFault, Placed, Plain, Reader, Reason, SliceSource,
+    read_all,
 };
 use std::process::Abort;
 use std::test::Fail;
@@ -248,6 +249,32 @@ fn one_byte_completes_two_events(rt: HostRuntime) {
         second: Some(sixel),
     };
     assert_eq!(rt; reader.feed(b'~'), Ok(completed));
+}
+
+#[test]
+fn plain_bytes_are_read_quickly(rt: HostRuntime) -> Result<(), Fail> {
+    let mut reader = Reader::new();
+    let mut read = String::new(rt.alloc());
+    for byte in b"\x1bPq!3~?#1;2;0;0;0#1$-\x1b\\" {
+        match reader.feed_plain(*byte) {
+            Some(Plain::Nothing) => read.push('.')?,
+            Some(Plain::Command { place, command }) => {
+                let event = Event::Step(command);
+                read.push_str(in_words(&rt, &Placed { place, event })?.as_str())?;
+            }
+            None => {
+                assert!(rt; reader.feed(*byte).is_ok());
+                read.push('x')?;
+            }
+        }
+    }
+    // Left to `feed` are the byte that ends the introducer, those that end a definition and a select, a next line, and the end.
+    assert_eq!(rt;
+        read.as_str(),
+        "..x..3 repeat 3 636 sixel 0..........x.xx.x"
+    );
+    assert!(rt; reader.finish().is_ok());
+    Ok(())
 }
 
 #[test]

@@ -5,6 +5,11 @@ use Rattle.sixel_grammar.specs.declared.reader.Reader.{Reader}
 use Rattle.sixel_grammar.specs.Standing.{Refuses, StandsAfter, Takes, completions}
 use Rattle.sixel_grammar.proofs.reader.Reader.feed.Goals as goal
 
+pub returns-in-Some-clause-accepted : goal.returns-in-Some-clause-accepted
+returns-in-Some-clause-accepted c = λ events bytes s.
+    subst (λ (d : Completed). StandsAfter c.feed_quickly.new.self (events ++ completions d) (bytes ++ c.args.byte ∷ []))
+    (sym c.of_plain.ensures) (c.in-Some.ensures.accepted events bytes s)
+
 pub returns-then-has_grown-clause-accepted : goal.returns-then-has_grown-clause-accepted
 returns-then-has_grown-clause-accepted c = λ events bytes s.
     let same : c.feed_quickly.new.self ≡ c.args.self.now = c.in_default.ensures.kept refl in
