@@ -203,6 +203,15 @@ painted_same k w left count band bits register old new clear before = record {
   pixels = λ i lt. rw (add-one, no_row_covers band bits (i / w) k clear) (before.pixels i lt);
 }
 
+pub painted_kept : (k w left count band bits register : ℕ) (old mid new : List ℕ)
+    → IsPaintedBelow k w left count band bits register old mid → length new ≡ length mid
+    → ((i : ℕ) → i < length mid → get_or new i 0 ≡ get_or mid i 0)
+    → IsPaintedBelow k w left count band bits register old new
+painted_kept k w left count band bits register old mid new before long same = record {
+  long = long ∙ before.long;
+  pixels = λ i lt. same i (omega (arith, before.long)) ∙ before.pixels i lt;
+}
+
 byte_or : (t : Bool) (r b : ℕ) → register_of_byte r ≡ Some r
     → register_of_byte (cond t r b) ≡ cond t (Some r) (register_of_byte b)
 byte_or true r b e = e

@@ -1,4 +1,5 @@
 pub mod SheetLemmas
+pub mod PictureLemmas
 pub mod LaneLemmas
 pub mod ByteLemmas
 pub mod BandLemmas

@@ -63,9 +63,10 @@ impl Plane for BandPlane {
         let width = self.width as usize;
         let start = band as usize * width + column as usize;
         cover(&mut self.coverage, start, count as usize, bits);
-        fill_rows(
+        fill_run(
             &mut self.registers,
             width,
+            self.height,
             column,
             band,
             count,
@@ -104,12 +105,43 @@ fn cover(coverage: &mut [u8], start: usize, count: usize, bits: u8)
     requires { (bits ≡ 0) ⊎ (start + count ≤ length coverage.old) }
     ensures { AreChanged start (start + count) (λ b. bit_or b bits) coverage.old coverage.new }
 {
-    if bits != 0 {
+    if bits == 0 {
+        return;
+    }
+    if count == 1 {
+        coverage[start] |= bits;
+    } else {
         or_into(coverage, start, start + count, bits);
     }
 }
 
+/// Gives the pixels of a run a register, in the way that is the quicker one for it.
+fn fill_run(
+    registers: &mut [u8],
+    width: usize,
+    height: u32,
+    column: u32,
+    band: u32,
+    count: u32,
+    bits: u8,
+    register: u8,
+)
+    requires some { 0 < width }
+    requires columns { column + count ≤ width }
+    requires rows { (k : ℕ) → k < 6 → bit_at bits k ≡ 1 → (6 * band + k) * width + width ≤ length registers.old }
+    requires pixels { length registers.old ≡ width * height }
+    ensures { EachIndex registers.old (λ i. slice_index registers.new i
+        ≡ (if covers column count band 1 bits (i % width) (i / width) then register else slice_index registers.old i)) }
+{
+    if count == 1 && band < height / 6 {
+        fill_column(registers, width, column, band, bits, register);
+    } else {
+        fill_rows(registers, width, column, band, count, bits, register);
+    }
+}
+
 /// Gives the pixels of a run a register.
+#[inline(never)]
 fn fill_rows(
     registers: &mut [u8],
     width: usize,
@@ -130,6 +162,30 @@ fn fill_rows(
             let start = (6 * band as usize + bit as usize) * width + column as usize;
             fill(registers, start, start + count as usize, register);
         }
+    }
+}
+
+/// As `fill_rows` for one column, where the plane has all six rows of the band.
+fn fill_column(registers: &mut [u8], width: usize, column: u32, band: u32, bits: u8, register: u8)
+    requires some { 0 < width }
+    requires columns { column + 1 ≤ width }
+    requires rows { (6 * band + 5) * width + width ≤ length registers.old }
+    ensures { EachIndex registers.old (λ i. slice_index registers.new i
+        ≡ (if covers column 1 band 1 bits (i % width) (i / width) then register else slice_index registers.old i)) }
+{
+    for bit in 0..6 {
+        let index = (6 * band as usize + bit as usize) * width + column as usize;
+        put(registers, index, is_set(bits, bit), register);
+    }
+}
+
+/// Gives a pixel a register, if it is painted.
+fn put(registers: &mut [u8], index: usize, is_painted: bool, register: u8)
+    requires { index < length registers.old }
+    ensures { AreChanged index (index + 1) (λ r. if is_painted then register else r) registers.old registers.new }
+{
+    if is_painted {
+        registers[index] = register;
     }
 }
 

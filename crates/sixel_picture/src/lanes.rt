@@ -46,6 +46,7 @@ fn fill_group(bytes: &mut [u8], at: usize, value: u8)
 }
 
 /// Sets bits in the bytes from `from` up to `to`.
+#[inline(never)]
 pub(crate) fn or_into(bytes: &mut [u8], from: usize, to: usize, bits: u8)
     requires ordered { from ≤ to }
     requires within { to ≤ length bytes.old }

@@ -4,7 +4,7 @@ ghost use Rattle.std.specs.Prelude.{◌≡◌, ◌<◌, None, Some, MatchResult,
 ghost use Rattle.std.specs.List.{list_all};
 ghost use Rattle.sixel_picture.specs.Pictures.{IsPicture, picture_fault, picture_of_parts, register_of};
 
-use crate::palette::Palette;
+use crate::palette::{Palette, greatest};
 use std::marker::Model;
 
 /// A picture of 1 to 2,048 by 1 to 2,048 pixels, each in a register that has a colour.
@@ -54,7 +54,7 @@ pub struct PictureFault {
 fn all_below(registers: &[u8]) -> bool
     ensures { result ≡ list_all (λ r. nat_lt r 16) registers.now }
 {
-    registers.iter().all(|register| *register < 16)
+    greatest(registers) < 16
 }
 
 impl Picture {

@@ -20,8 +20,8 @@ cover-requires c = elim (cases_eq c.args.bits 0) [
       inr (omega (arith, room, stored, c.self.invariant.each_band))
 ]
 
-pub fill_rows-requires-clause-rows : goal.fill_rows-requires-clause-rows
-fill_rows-requires-clause-rows c = λ k small set.
+pub fill_run-requires-clause-rows : goal.fill_run-requires-clause-rows
+fill_run-requires-clause-rows c = λ k small set.
     let inside = c.self.inside in
     let high : inside.height ≡ c.args.self.now.height = ap (λ (s : Sheet). s.height) c.self.view_is in
     let row = c.requires.rows k small set in
@@ -36,13 +36,13 @@ returns c =
     let wide : inside.width ≡ c.args.self.now.width = ap (λ (s : Sheet). s.width) c.self.view_is in
     let some : 0 < inside.width = search rules in
     let fits : c.args.column + c.args.count ≤ inside.width = omega (arith, c.requires.columns, wide) in
-    let registers : length c.fill_rows.new.registers ≡ inside.registers.len = omega arith in
+    let registers : length c.fill_run.new.registers ≡ inside.registers.len = omega arith in
     let coverage : length c.cover.new.coverage ≡ inside.coverage.len = omega arith in
-    ap₂ (sheet_of_bands inside.width inside.height) (take_at c.fill_rows.new.registers _ _ registers)
+    ap₂ (sheet_of_bands inside.width inside.height) (take_at c.fill_run.new.registers _ _ registers)
     (take_at c.cover.new.coverage _ _ coverage)
     ∙ painted_bands inside.width inside.height c.args.column c.args.count c.args.band c.args.bits c.args.register
-    inside.registers.items inside.coverage.items c.fill_rows.new.registers c.cover.new.coverage some fits
+    inside.registers.items inside.coverage.items c.fill_run.new.registers c.cover.new.coverage some fits
     c.self.invariant.each_pixel c.self.invariant.each_band (rw c.deref_mut.ensures.value at c.cover.ensures)
-    (rw c.deref_mut-2.ensures.value at c.fill_rows.ensures)
+    (rw c.deref_mut-2.ensures.value at c.fill_run.ensures)
     ∙ ap (λ (s : Sheet). painted_sheet s c.args.column c.args.band c.args.count c.args.bits c.args.register)
     c.self.view_is
