@@ -110,11 +110,6 @@ grows_on bytes more all is g = record {
   grows = g.grows;
 }
 
-grows_any : (fault : InputFault) (bytes : List ℕ) → MayGrowIn bytes → GrowsFor fault bytes
-grows_any (Grammar f) bytes g = tt
-grows_any OutOfMemory bytes g = g
-grows_any Read bytes g = tt
-
 -- the bytes may go on
 pub grows_for_on : (fault : InputFault) (bytes more all : List ℕ) → all ≡ bytes ++ more → GrowsFor fault bytes
     → GrowsFor fault all
@@ -123,16 +118,14 @@ grows_for_on OutOfMemory bytes more all is g = grows_on bytes more all is g
 grows_for_on Read bytes more all is g = tt
 
 -- the byte that completes such raster attributes
-pub grows_byte : {A : Type 0} (r : Result A InputFault) (old new : Reader) (checker : CheckerValue) (c : Completed)
-    (byte : ℕ) → grammar.Takes old new byte (grammar.completions c)
-    → OnErr r ((seen : List Placed) → StandsAfter checker seen → MayGrowAmong (seen ++ grammar.completions c))
-    → IfErr r (λ fault. (front : List ℕ) → AreAfter old checker front → GrowsFor fault (front ++ byte ∷ []))
-grows_byte (Ok x) old new checker c byte takes g = tt
-grows_byte (Err fault) old new checker c byte takes g = λ front a.
-    grows_any fault (front ++ byte ∷ [])
-    (grows_here (front ++ byte ∷ []) (a.events ++ grammar.completions c)
+pub grows_byte : (old new : Reader) (checker : CheckerValue) (c : Completed) (byte : ℕ) (front : List ℕ)
+    → grammar.Takes old new byte (grammar.completions c)
+    → ((seen : List Placed) → StandsAfter checker seen → MayGrowAmong (seen ++ grammar.completions c))
+    → AreAfter old checker front → MayGrowIn (front ++ byte ∷ [])
+grows_byte old new checker c byte front takes g a =
+    grows_here (front ++ byte ∷ []) (a.events ++ grammar.completions c)
     (read_complete new (a.events ++ grammar.completions c) (front ++ byte ∷ []) (takes a.events front a.read))
-    (g a.events a.checked))
+    (g a.events a.checked)
 
 -- ---- answers
 

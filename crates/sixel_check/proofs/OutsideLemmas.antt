@@ -1,9 +1,10 @@
 -- On the first point that a run paints outside a box.
 use Rattle.std.proofs.Common.{◌≡◌, ℕ, ◌+◌, ◌*◌, ◌^◌, ◌<◌, ◌≤◌, Bool, true, false, ◌&&◌, ◌==◌, min, max}
-use Rattle.std.proofs.Common.{Some, None, nat_le, nat_lt, refl, ap₂, arith, inl, inr, ◌⊎◌}
+use Rattle.std.proofs.Common.{Some, None, nat_le, nat_lt, refl, ap, ap₂, arith, inl, inr, ◌⊎◌, ◌∙◌}
 use Rattle.std.specs.Prelude.{if◌then◌else◌}
 use Rattle.std.specs.Int.{bit_at}
 use Rattle.std.proofs.lemmas.Bool.{and_from, and_left, and_parts, and_right, eqb-true, or_cases}
+use Rattle.std.proofs.lemmas.Nat.Bits.{bit_at-zero}
 use Rattle.std.proofs.lemmas.Bool.{le-ltb, leb-false, leb-true, lt-ltb, ltb-false, ltb-true}
 use Rattle.sixel_picture.specs.Rules.{IsFirstPoint}
 use Rattle.sixel_picture.proofs.CoverLemmas.{covers_under, lies_under}
@@ -79,6 +80,26 @@ all_fit n column band left line width height count bits c h = record {
   fits = λ j lt set.
       let none = no_column column count (capped (6 * band + j)) width height (h j lt set) in
       fits_row column band left line width height count j c none.0 none.1;
+}
+
+-- a run that lies in the box in all six rows of its band paints inside it alone
+pub inside_fits : (column band left line width height count bits : ℕ) → IsCapped column band left line width height
+    → column + count ≤ width → 6 * band + 6 ≤ height → AllFit 6 left count line bits width height
+inside_fits column band left line width height count bits c across down = record {
+  fits = λ j lt set.
+      let column_is : column ≡ min left 18446744073709551615 = c.column_is in
+      let band_is : band ≡ min line 18446744073709551615 = c.band_is in
+      let narrow : width < 4294967296 = c.narrow in
+      let low : height < 4294967296 = c.low in
+      record { within = omega arith; above = omega arith };
+}
+
+-- where no bit is set
+pub no_bits_fit : (left count line bits width height : ℕ) → bits ≡ 0 → AllFit 6 left count line bits width height
+no_bits_fit left count line bits width height none = record {
+  fits = λ j lt set.
+      let clear : bit_at bits j ≡ 0 = ap (λ b. bit_at b j) none ∙ bit_at-zero j in
+      cc;
 }
 
 -- a point that lies under a bit whose row fits isn't outside

@@ -68,6 +68,7 @@ impl<P: Plane> Checker<P> {
     }
 
     /// Takes the next event. `AllocError` is answered only where a growth was refused, and then nothing has changed.
+    #[inline(always)]
     pub fn push(&mut self, placed: &Placed) -> Result<(), AllocError>
         requires expected { (seen : List PlacedValue) × StandsAfter self.old seen
             × IsTrue (expects seen placed.now.event) }

@@ -1,6 +1,7 @@
 //! Checking the bytes of a document.
 
-ghost use Rattle.std.specs.Prelude.{◌≡◌, ◌≢◌, ◌++◌, ◌∷◌, [], ℕ, List, Err, IfErr, IfSome, OnErr, OnOk};
+ghost use Rattle.std.specs.Prelude.{◌≡◌, ◌≢◌, ◌++◌, ◌∷◌, [], ℕ, List, Err, IfErr, IfSome, OnErr, OnOk, Some};
+ghost use Rattle.sixel_grammar.specs.declared.command.Event.TheVariants.{Step};
 ghost use Rattle.std.specs.Option.{option_to_list};
 ghost use Rattle.sixel_grammar.specs.Reading.{ExplainsAlways, failures_after};
 ghost use Rattle.sixel_grammar.specs.Standing.{completions};
@@ -11,37 +12,32 @@ ghost use Rattle.sixel_check.specs.Standing.{StandsAfter};
 
 use crate::checker::Checker;
 use crate::verdict::Verdict;
-use sixel_grammar::{Completed, InputFault, Placed, Reader, Source};
+use sixel_grammar::{Command, Completed, Event, InputFault, Placed, Plain, Reader, Source};
 use sixel_picture::{BandPlane, Plane};
-use std::alloc::Global;
+use std::alloc::{AllocError, Global};
 
 /// How many bytes are asked of a source at once.
 const PIECE: usize = 65_536;
 
 /// Pushes an event, if there is one.
-fn keep_one<P: Plane>(checker: &mut Checker<P>, placed: Option<Placed>) -> Result<(), InputFault>
+fn keep_one<P: Plane>(checker: &mut Checker<P>, placed: Option<Placed>) -> Result<(), AllocError>
     requires { (seen : List PlacedValue) × StandsAfter checker.old seen × MayCome seen placed }
     ensures kept { OnOk result ((seen : List PlacedValue) → StandsAfter checker.old seen
         → StandsAfter checker.new (seen ++ option_to_list placed)) }
-    ensures refused { IfErr result (λ fault. fault ≡ InputFault.OutOfMemory) }
     ensures grows { OnErr result ((seen : List PlacedValue) → StandsAfter checker.old seen
         → MayGrowAmong (seen ++ option_to_list placed)) }
 {
     match placed {
         None => Ok(()),
-        Some(placed) => match checker.push(&placed) {
-            Ok(()) => Ok(()),
-            Err(_) => Err(InputFault::OutOfMemory),
-        },
+        Some(placed) => checker.push(&placed),
     }
 }
 
 /// Pushes the events that a byte completed.
-fn keep<P: Plane>(checker: &mut Checker<P>, completed: Completed) -> Result<(), InputFault>
+fn keep<P: Plane>(checker: &mut Checker<P>, completed: Completed) -> Result<(), AllocError>
     requires { (seen : List PlacedValue) × StandsAfter checker.old seen × MayComplete seen completed }
     ensures kept { OnOk result ((seen : List PlacedValue) → StandsAfter checker.old seen
         → StandsAfter checker.new (seen ++ completions completed)) }
-    ensures refused { IfErr result (λ fault. fault ≡ InputFault.OutOfMemory) }
     ensures grows { OnErr result ((seen : List PlacedValue) → StandsAfter checker.old seen
         → MayGrowAmong (seen ++ completions completed)) }
 {
@@ -50,7 +46,55 @@ fn keep<P: Plane>(checker: &mut Checker<P>, completed: Completed) -> Result<(), 
     keep_one(checker, second)
 }
 
+/// Pushes a command of a kind that may be known.
+#[inline(always)]
+fn push_command<P: Plane>(
+    checker: &mut Checker<P>,
+    place: u64,
+    command: Command,
+) -> Result<(), AllocError>
+    requires { (seen : List PlacedValue) × StandsAfter checker.old seen
+        × MayCome seen (Some (record { place = place; event = Step command })) }
+    ensures kept { OnOk result ((seen : List PlacedValue) → StandsAfter checker.old seen
+        → StandsAfter checker.new (seen ++ record { place = place; event = Step command } ∷ [])) }
+    ensures grows { OnErr result ((seen : List PlacedValue) → StandsAfter checker.old seen
+        → MayGrowAmong (seen ++ record { place = place; event = Step command } ∷ [])) }
+{
+    let event = Event::Step(command);
+    checker.push(&Placed { place, event })
+}
+
+/// Pushes a command. Nearly all are data, and where their kind is known, the compiler leaves out what others need.
+#[inline(always)]
+fn keep_command<P: Plane>(
+    checker: &mut Checker<P>,
+    place: u64,
+    command: Command,
+) -> Result<(), AllocError>
+    requires { (seen : List PlacedValue) × StandsAfter checker.old seen
+        × MayCome seen (Some (record { place = place; event = Step command })) }
+    ensures kept { OnOk result ((seen : List PlacedValue) → StandsAfter checker.old seen
+        → StandsAfter checker.new (seen ++ record { place = place; event = Step command } ∷ [])) }
+    ensures grows { OnErr result ((seen : List PlacedValue) → StandsAfter checker.old seen
+        → MayGrowAmong (seen ++ record { place = place; event = Step command } ∷ [])) }
+{
+    match command {
+        Command::Sixel(bits) => push_command(checker, place, Command::Sixel(bits)),
+        Command::Repeat { count, bits } => {
+            push_command(checker, place, Command::Repeat { count, bits })
+        }
+        _ => keep_one(
+            checker,
+            Some(Placed {
+                place,
+                event: Event::Step(command),
+            }),
+        ),
+    }
+}
+
 /// Reads one byte, and pushes the events that it completes.
+#[inline(always)]
 fn read_byte<P: Plane>(
     reader: &mut Reader,
     checker: &mut Checker<P>,
@@ -64,8 +108,36 @@ fn read_byte<P: Plane>(
     ensures memory { IfErr result (λ fault. (front : List ℕ) → AreAfter reader.old checker.old front
         → GrowsFor fault (front ++ byte ∷ [])) }
 {
+    match reader.feed_plain(byte) {
+        Some(Plain::Nothing) => Ok(()),
+        Some(Plain::Command { place, command }) => match keep_command(checker, place, command) {
+            Ok(()) => Ok(()),
+            Err(_) => Err(InputFault::OutOfMemory),
+        },
+        None => read_slowly(reader, checker, byte),
+    }
+}
+
+/// Reads a byte of any kind.
+#[inline(never)]
+fn read_slowly<P: Plane>(
+    reader: &mut Reader,
+    checker: &mut Checker<P>,
+    byte: u8,
+) -> Result<(), InputFault>
+    requires { (front : List ℕ) × AreAfter reader.old checker.old front }
+    ensures read { OnOk result ((front : List ℕ) → AreAfter reader.old checker.old front
+        → AreAfter reader.new checker.new (front ++ byte ∷ [])) }
+    ensures refused { IfErr result (λ fault. (front : List ℕ) → AreAfter reader.old checker.old front
+        → ExplainsAlways fault (front ++ byte ∷ [])) }
+    ensures memory { IfErr result (λ fault. (front : List ℕ) → AreAfter reader.old checker.old front
+        → GrowsFor fault (front ++ byte ∷ [])) }
+{
     match reader.feed(byte) {
-        Ok(completed) => keep(checker, completed),
+        Ok(completed) => match keep(checker, completed) {
+            Ok(()) => Ok(()),
+            Err(_) => Err(InputFault::OutOfMemory),
+        },
         Err(fault) => Err(InputFault::Grammar(fault)),
     }
 }

@@ -38,6 +38,9 @@ impl<P: Plane> Judge<P> {
     }
 
     /// Judges one event more. Memory is taken for the plane alone; refused, all is as it was.
+    ///
+    /// What it calls is inlined with it, so that where the kind of the event is known nothing is left of the other kinds.
+    #[inline(always)]
     pub(crate) fn step(&mut self, alloc: Global, placed: &Placed) -> Result<(), AllocError>
         requires stands { (seen : List PlacedValue)
             × JudgesAfter self.old.finding self.old.notes (option_map P.sheet self.old.plane) seen }

@@ -46,6 +46,7 @@ impl Notes {
     }
 
     /// The register that was selected last, if it was named last too.
+    #[inline(always)]
     pub(crate) fn known(&self) -> Option<u8>
         requires { IsBelow self.now }
         ensures value { result ≡ known_in self.now }
@@ -57,6 +58,7 @@ impl Notes {
         }
     }
 
+    #[inline(always)]
     fn move_on(&mut self, event: &Event)
         ensures { self.new ≡ record {
           column = next_column self.old event.now;
@@ -77,6 +79,7 @@ impl Notes {
         }
     }
 
+    #[inline(always)]
     fn name(&mut self, event: &Event)
         ensures { self.new ≡ record {
           column = self.old.column;
@@ -91,6 +94,7 @@ impl Notes {
         self.named = named_by(event).or(self.named);
     }
 
+    #[inline(always)]
     fn define(&mut self, event: &Event)
         ensures { self.new ≡ record {
           column = self.old.column;
@@ -117,6 +121,7 @@ impl Notes {
         }
     }
 
+    #[inline(always)]
     fn mark(&mut self, event: &Event)
         requires { IsBelow self.old }
         ensures { self.new ≡ record {
@@ -136,6 +141,7 @@ impl Notes {
     }
 
     /// Takes an event that breaks no rule.
+    #[inline(always)]
     pub(crate) fn take(&mut self, event: &Event)
         requires { IsBelow self.old }
         ensures { (before : List EventValue) → AreNotesAfter self.old before → NoneBelow 13 before event.now

@@ -1,6 +1,6 @@
 //! Where a run of columns paints outside the box.
 
-ghost use Rattle.std.specs.Prelude.{◌≡◌, ◌==◌, ◌<◌, ◌+◌, ◌*◌, ℕ};
+ghost use Rattle.std.specs.Prelude.{◌≡◌, ◌==◌, ◌<◌, ◌≤◌, ◌+◌, ◌*◌, ℕ, true};
 ghost use Rattle.std.specs.Int.{bit_at};
 ghost use Rattle.sixel_check.specs.Outside.{IsFirstIfAny, PaintsOutside, first_column};
 ghost use Rattle.sixel_check.specs.Verdicts.{capped};
@@ -36,7 +36,36 @@ fn outside_column(column: u64, count: u16, row: u64, width: u32, height: u32) ->
 ///
 /// The run has `count` columns from `column` on, in the rows of the set bits of its band of six. A column or a band
 /// of `u64::MAX` stands for each greater one too, and so does a coordinate of the result.
+#[inline(always)]
 pub(crate) fn outside_pixel(
+    column: u64,
+    band: u64,
+    count: u16,
+    bits: u8,
+    width: u32,
+    height: u32,
+) -> Option<(u64, u64)>
+    ensures { (left line : ℕ) → column ≡ capped left → band ≡ capped line
+        → IsFirstIfAny (PaintsOutside left count line bits width height) result }
+{
+    if bits == 0 || is_inside(column, band, count, width, height) {
+        None
+    } else {
+        first_outside(column, band, count, bits, width, height)
+    }
+}
+
+/// Whether the columns lie inside the box in all six rows of the band.
+#[inline(always)]
+fn is_inside(column: u64, band: u64, count: u16, width: u32, height: u32) -> bool
+    ensures { result ≡ true → (column + count ≤ width) × (6 * band + 6 ≤ height) }
+{
+    column <= width as u64 && count as u64 <= width as u64 - column && band < height as u64 / 6
+}
+
+/// As `outside_pixel`, row by row.
+#[inline(never)]
+fn first_outside(
     column: u64,
     band: u64,
     count: u16,

@@ -23,6 +23,7 @@ use sixel_picture::{Picture, Plane};
 use std::alloc::{AllocError, Global};
 
 /// The first pixel outside the box that the event paints.
+#[inline(always)]
 fn pixel_outside<P: Plane>(notes: &Notes, plane: &P, event: &Event) -> Option<(u64, u64)>
     ensures { (before : List EventValue) → AreNotesAfter notes.now before
         → IsFirstIfAny (FallsOutside before event.now (box_of (P.sheet plane.now))) result }
@@ -66,6 +67,7 @@ fn breach_of_end<P: Plane>(plane: &P, event: &Event) -> Option<Breach>
 }
 
 /// The breach of one of the rules that look at pixels.
+#[inline(always)]
 fn breach_of_pixels<P: Plane>(notes: &Notes, plane: &P, event: &Event) -> Option<Breach>
     ensures { (before : List EventValue) → AreNotesAfter notes.now before → IsDrawn (P.sheet plane.now) before
         → NoneBelow 11 before event.now → IsBreachOf before event.now result }
@@ -80,6 +82,7 @@ fn breach_of_pixels<P: Plane>(notes: &Notes, plane: &P, event: &Event) -> Option
 }
 
 /// The breach of the least rule that the event breaks.
+#[inline(always)]
 pub(crate) fn breach_of<P: Plane>(notes: &Notes, plane: &Option<P>, event: &Event) -> Option<Breach>
     requires { IsBelow notes.now }
     ensures { (before : List EventValue) → AreNotesAfter notes.now before
@@ -93,6 +96,7 @@ pub(crate) fn breach_of<P: Plane>(notes: &Notes, plane: &Option<P>, event: &Even
 }
 
 /// Paints the pixels of a data command.
+#[inline(always)]
 fn paint<P: Plane>(notes: &Notes, plane: &mut P, event: &Event)
     requires { (before : List EventValue) × AreNotesAfter notes.now before × IsDrawn (P.sheet plane.old) before
         × NoneBelow 13 before event.now × IsSpellable event.now }
@@ -128,6 +132,7 @@ fn first_plane<P: Plane>(alloc: Global, event: &Event) -> Result<Option<P>, Allo
 }
 
 /// Makes the plane at the first raster attributes, and paints on it from then on.
+#[inline(always)]
 pub(crate) fn draw<P: Plane>(
     alloc: Global,
     notes: &Notes,

@@ -102,6 +102,7 @@ fn breaks_repeat_zero(event: &Event) -> bool
 }
 
 /// A painting command where no register is known.
+#[inline(always)]
 fn breaks_unselected(notes: &Notes, event: &Event) -> bool
     requires { IsBelow notes.now }
     ensures { result ≡ noted.unselected_in notes.now event.now }
@@ -110,6 +111,7 @@ fn breaks_unselected(notes: &Notes, event: &Event) -> bool
 }
 
 /// A painting command whose known register has no colour.
+#[inline(always)]
 fn breaks_undefined(notes: &Notes, event: &Event) -> bool
     requires { IsBelow notes.now }
     ensures { result ≡ noted.undefined_in notes.now event.now }
@@ -124,6 +126,7 @@ fn breaks_undefined(notes: &Notes, event: &Event) -> bool
 }
 
 /// A definition of a register in which was painted, in another colour than it has.
+#[inline(always)]
 fn breaks_redefined(notes: &Notes, event: &Event) -> bool
     ensures { result ≡ noted.redefined_in notes.now event.now }
 {
@@ -150,6 +153,7 @@ fn breaks_redefined(notes: &Notes, event: &Event) -> bool
 }
 
 /// The first broken rule of the ten that look at no pixel.
+#[inline(always)]
 pub(crate) fn broken_rule(notes: &Notes, has_box: bool, event: &Event) -> Option<Rule>
     requires { IsBelow notes.now }
     ensures { result ≡ noted.rule_in notes.now has_box event.now }

@@ -1,11 +1,15 @@
-use Rattle.std.proofs.Common.{Option, ◌++◌, subst, sym}
+use Rattle.std.proofs.Common.{◌++◌, Option, subst, sym}
+use Rattle.std.proofs.lemmas.Result.{on_err_weaker}
 use Rattle.std.specs.Option.{option_to_list}
 use Rattle.sixel_grammar.specs.declared.command.Placed.{Placed}
 use Rattle.sixel_check.specs.Growth.{MayGrowAmong}
 use Rattle.sixel_check.proofs.GrowthLemmas.{grows_end}
 use Rattle.sixel_check.proofs.checking.keep_one.Goals as goal
 
-pub returns-in-Err-clause-grows : goal.returns-in-Err-clause-grows
-returns-in-Err-clause-grows g c = λ seen s.
+pub returns-in-Some-clause-grows : goal.returns-in-Some-clause-grows
+returns-in-Some-clause-grows g c =
+    on_err_weaker c.push.result
+    (λ grows seen s.
     subst (λ (o : Option Placed). MayGrowAmong (seen ++ option_to_list o)) (sym c.in-Some.is)
-    (grows_end seen c.in-Some.placed (c.in-Err.ensures.grows seen s))
+    (grows_end seen c.in-Some.placed (grows seen s)))
+    c.push.ensures.grows

@@ -1,36 +1,43 @@
-use Rattle.std.proofs.Common.{List, [], ◌∷◌, ◌++◌, arith}
-use Rattle.std.proofs.lemmas.List.{length-append}
-use Rattle.sixel_grammar.proofs.Sources.{on_ok}
-use Rattle.sixel_grammar.proofs.Unique.{fault_stays}
+use Rattle.std.proofs.Common.{◌++◌, ◌∷◌, [], subst, sym}
+use Rattle.std.proofs.lemmas.List.{append-nil}
+use Rattle.sixel_grammar.specs.declared.command.Plain.{Plain}
+use Rattle.sixel_grammar.specs.declared.command.Plain.TheVariants.{Nothing, Command}
+use Rattle.sixel_grammar.specs.Plain.{plain_of}
+use Rattle.sixel_grammar.specs.Standing.{Takes, completions}
+use Rattle.sixel_check.specs.Standing.{StandsAfter}
 use Rattle.sixel_check.proofs.GrowthLemmas.{grows_byte}
 use Rattle.sixel_check.proofs.ReadLemmas.{after_byte, read_may}
 use Rattle.sixel_check.proofs.checking.read_byte.Goals as goal
 
-pub keep-requires : goal.keep-requires
-keep-requires g c =
-    let a = c.requires.1 in (
-      a.events,
-      a.checked,
-      read_may c.feed.new.self a.events c.in-Ok.completed (c.requires.0 ++ c.args.byte ∷ [])
-          (c.in-Ok.ensures.accepted a.events c.requires.0 a.read),
-    )
+pub keep_command-requires : goal.keep_command-requires
+keep_command-requires g c =
+    let a = c.requires.1 in
+    let plain = Command c.in-Some-Command.place c.in-Some-Command.command in
+    let takes = λ (p : Plain). Takes c.args.reader.now c.feed_plain.new.self c.args.byte (completions (plain_of p)) in
+    let accepted : takes plain = subst takes c.in-Some-Command.field-0-is c.in-Some-Command.ensures.accepted in
+    let may = read_may c.feed_plain.new.self a.events (plain_of plain) (c.requires.0 ++ c.args.byte ∷ [])
+    (accepted a.events c.requires.0 a.read) in
+    (a.events, a.checked, may.0)
+
+pub returns-in-Some-Nothing-clause-read : goal.returns-in-Some-Nothing-clause-read
+returns-in-Some-Nothing-clause-read g c = λ front a.
+    let takes = λ (p : Plain). Takes c.args.reader.now c.feed_plain.new.self c.args.byte (completions (plain_of p)) in
+    let accepted : takes Nothing = subst takes c.in-Some-Nothing.field-0-is c.in-Some-Nothing.ensures.accepted in
+    after_byte c.args.reader.now c.feed_plain.new.self c.args.checker.now c.args.checker.now (plain_of Nothing) front
+    c.args.byte accepted (λ seen s. subst (StandsAfter c.args.checker.now) (sym (append-nil seen)) s) a
 
 pub returns-in-Ok-clause-read : goal.returns-in-Ok-clause-read
-returns-in-Ok-clause-read g c =
-    on_ok c.keep.result _ _
-    (λ keeps front a.
-    after_byte c.args.reader.now c.feed.new.self c.args.checker.now c.keep.new.checker c.in-Ok.completed front
-    c.args.byte
-    c.in-Ok.ensures.accepted keeps a)
-    c.keep.ensures.kept
+returns-in-Ok-clause-read g c = λ front a.
+    let plain = Command c.in-Some-Command.place c.in-Some-Command.command in
+    let takes = λ (p : Plain). Takes c.args.reader.now c.feed_plain.new.self c.args.byte (completions (plain_of p)) in
+    let accepted : takes plain = subst takes c.in-Some-Command.field-0-is c.in-Some-Command.ensures.accepted in
+    after_byte c.args.reader.now c.feed_plain.new.self c.args.checker.now c.keep_command.new.checker (plain_of plain) front
+    c.args.byte accepted c.in-Ok.ensures.kept a
 
-pub returns-in-Err-clause-refused : goal.returns-in-Err-clause-refused
-returns-in-Err-clause-refused g c = λ front a rest.
-    let t = c.in-Err.ensures.refused a.events front a.read in
-    fault_stays (front ++ c.args.byte ∷ []) rest c.in-Err.fault t.0
-    (omega (arith, t.1, length-append front (c.args.byte ∷ [])))
-
-pub returns-in-Ok-clause-memory : goal.returns-in-Ok-clause-memory
-returns-in-Ok-clause-memory g c =
-    grows_byte c.keep.result c.args.reader.now c.feed.new.self c.args.checker.now c.in-Ok.completed c.args.byte
-    c.in-Ok.ensures.accepted c.keep.ensures.grows
+pub returns-in-Err-clause-memory : goal.returns-in-Err-clause-memory
+returns-in-Err-clause-memory g c = λ front a.
+    let plain = Command c.in-Some-Command.place c.in-Some-Command.command in
+    let takes = λ (p : Plain). Takes c.args.reader.now c.feed_plain.new.self c.args.byte (completions (plain_of p)) in
+    let accepted : takes plain = subst takes c.in-Some-Command.field-0-is c.in-Some-Command.ensures.accepted in
+    grows_byte c.args.reader.now c.feed_plain.new.self c.args.checker.now (plain_of plain) c.args.byte front accepted
+    c.in-Err.ensures.grows a

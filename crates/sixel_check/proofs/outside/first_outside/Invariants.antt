@@ -2,7 +2,7 @@ use Rattle.std.proofs.Common.{◌≡◌, ℕ, ◌+◌, ◌*◌, ◌<◌, None}
 use Rattle.std.specs.Int.{bit_at}
 use Rattle.sixel_check.specs.Outside.{first_column}
 use Rattle.sixel_check.specs.Verdicts.{capped}
-use Rattle.sixel_check.proofs.outside.outside_pixel.Given as goal
+use Rattle.sixel_check.proofs.outside.first_outside.Given as goal
 
 abbrev pub invariant-loop-bit : goal.invariant-loop-bit
 invariant-loop-bit l = (j : ℕ) → j < l.bit → bit_at l.bits j ≡ 1

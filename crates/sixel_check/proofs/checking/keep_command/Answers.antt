@@ -1,0 +1,22 @@
+use Rattle.std.proofs.Common.{◌++◌, ◌∷◌, [], List, subst, sym}
+use Rattle.std.specs.Prelude.{OnErr}
+use Rattle.sixel_grammar.specs.declared.command.Command.{Command}
+use Rattle.sixel_grammar.specs.declared.command.Event.TheVariants.{Step}
+use Rattle.sixel_grammar.specs.declared.command.Placed.{Placed}
+use Rattle.sixel_check.specs.Growth.{MayGrowAmong}
+use Rattle.sixel_check.specs.Standing.{StandsAfter}
+use Rattle.sixel_check.proofs.checking.keep_command.Goals as goal
+
+pub returns-in-Sixel-clause-grows : goal.returns-in-Sixel-clause-grows
+returns-in-Sixel-clause-grows g c =
+    subst
+    (λ (k : Command). OnErr c.push_command.result ((seen : List Placed) → StandsAfter c.args.checker.now seen
+    → MayGrowAmong (seen ++ record { place = c.args.place; event = Step k } ∷ [])))
+    (sym c.in-Sixel.is) c.push_command.ensures.grows
+
+pub returns-in-Repeat-clause-grows : goal.returns-in-Repeat-clause-grows
+returns-in-Repeat-clause-grows g c =
+    subst
+    (λ (k : Command). OnErr c.push_command-in-Repeat.result ((seen : List Placed) → StandsAfter c.args.checker.now seen
+    → MayGrowAmong (seen ++ record { place = c.args.place; event = Step k } ∷ [])))
+    (sym c.in-Repeat.is) c.push_command-in-Repeat.ensures.grows
