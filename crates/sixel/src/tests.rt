@@ -1,5 +1,8 @@
 ghost use Rattle.sixel.specs.Outputs.{HasSides};
 
+mod examples;
+mod streams;
+
 use crate::task::Task;
 use crate::words::{WordsFault, parse_words, usage};
 use crate::{Exit, execute, explain};
@@ -72,34 +75,50 @@ fn ends_by_what_came_of_the_task(rt: HostRuntime) -> Result<(), Fail> {
     Ok(())
 }
 
-/// How the program ends where the words give no task, and whether it wrote to standard output and to standard error.
-fn explains(rt: &HostRuntime, fault: WordsFault) -> (Exit, bool, bool) {
+/// How the program ends where the words give no task, and what it writes to standard output and to standard error.
+fn explains(rt: &HostRuntime, fault: WordsFault, exit: Exit, written: &str, said: &str) -> bool {
     let mut output = Vec::new(rt.alloc());
     let mut errors = Vec::new(rt.alloc());
-    let exit = explain(rt.alloc(), fault, &mut output, &mut errors);
-    (exit, !output.is_empty(), !errors.is_empty())
+    let ended = explain(rt.alloc(), fault, &mut output, &mut errors);
+    ended == exit && output.as_slice() == written.as_bytes() && errors.as_slice() == said.as_bytes()
 }
+
+const HELP: &str = "Writes a portable picture as a PPM
+
+Usage: sixel render
+
+Options:
+  -h, --help  Print help
+";
+
+const USAGE: &str = "error: not text
+
+Usage: sixel <COMMAND>
+
+For more information, try '--help'.
+";
 
 #[test]
 fn ends_by_what_is_wrong_with_the_words(rt: HostRuntime) -> Result<(), Fail> {
     let alloc = rt.alloc();
     let mut words = Vec::new(alloc);
-    for word in ["sixel", "--help"] {
+    for word in ["sixel", "render", "--help"] {
         words.push(String::from_str(alloc, word)?)?;
     }
     match parse_words(alloc, words.as_slice()) {
         Ok(_) => assert!(rt; false),
-        Err(fault) => assert_eq!(rt; explains(&rt, fault), (Exit::Done, true, false)),
+        Err(fault) => assert!(rt; explains(&rt, fault, Exit::Done, HELP, "")),
     }
-    assert_eq!(rt;
-        explains(&rt, usage(alloc, "not text")),
-        (Exit::Usage, false, true)
-    );
-    assert_eq!(rt;
-        explains(&rt, WordsFault::OutOfMemory),
-        (Exit::Refused, false, true)
+    let fault = usage(alloc, "not text");
+    assert!(rt; explains(&rt, fault, Exit::Usage, "", USAGE));
+    assert!(rt;
+        explains(
+            &rt,
+            WordsFault::OutOfMemory,
+            Exit::Refused,
+            "",
+            "sixel: out of memory\n"
+        )
     );
     Ok(())
 }
-
-mod examples;

@@ -1,6 +1,9 @@
 //! What no contract says: that the definitions are those of the worked documents.
 
+mod corners;
 mod documents;
+mod faults;
+mod fills;
 mod growth;
 mod limits;
 mod pairs;

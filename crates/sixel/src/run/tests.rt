@@ -1,4 +1,7 @@
+mod at_limits;
+mod in_turn;
 mod round_trip;
+mod screens;
 
 ghost use Rattle.sixel.specs.Outputs.{HasSides};
 

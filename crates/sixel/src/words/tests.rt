@@ -1,3 +1,5 @@
+mod refused;
+
 use crate::words::{WordsFault, parse_words};
 use std::test::Fail;
 
@@ -66,13 +68,15 @@ fn names_the_task(rt: HostRuntime) -> Result<(), Fail> {
     Ok(())
 }
 
+const NO_COMMAND: &str = "usage error: 'sixel' requires a subcommand but one was not provided
+  [subcommands: list, check, render, encode, show, help]
+
+Usage: sixel <COMMAND>";
+
 #[test]
 fn refuses_other_words(rt: HostRuntime) -> Result<(), Fail> {
     let rows = [
-        (
-            "sixel",
-            "usage error: 'sixel' requires a subcommand but one was not provided\n  [subcommands: list, check, render, encode, show, help]\n\nUsage: sixel <COMMAND>",
-        ),
+        ("sixel", NO_COMMAND),
         (
             "sixel view",
             "usage error: unrecognized subcommand 'view'\n\nUsage: sixel <COMMAND>",
@@ -107,12 +111,31 @@ fn refuses_other_words(rt: HostRuntime) -> Result<(), Fail> {
 #[test]
 fn shows_help(rt: HostRuntime) -> Result<(), Fail> {
     let whole =
-        "help Checks, lists, draws and writes sixel pictures, from standard input to standard output\n\nUsage: sixel <COMMAND>\n\nCommands:\n  list    Lists what the picture says, a line for each command\n  check   Says whether the picture is portable, or which rule is broken first\n  render  Writes a portable picture as a PPM\n  encode  Reads a PPM in place of a sixel picture, and writes it as a portable one\n  show    Draws the picture as one terminal would, and writes its screen as a PPM\n  help    Print this message or the help of the given subcommand(s)\n\nOptions:\n  -h, --help  Print help\n";
+        "help Checks, lists, draws and writes sixel pictures, from standard input to standard output
+
+Usage: sixel <COMMAND>
+
+Commands:
+  list    Lists what the picture says, a line for each command
+  check   Says whether the picture is portable, or which rule is broken first
+  render  Writes a portable picture as a PPM
+  encode  Reads a PPM in place of a sixel picture, and writes it as a portable one
+  show    Draws the picture as one terminal would, and writes its screen as a PPM
+  help    Print this message or the help of the given subcommand(s)
+
+Options:
+  -h, --help  Print help
+";
     for line in ["sixel --help", "sixel -h", "sixel help"] {
         assert!(rt; says(&rt, line, whole)?, "{line}");
     }
-    let list =
-        "help Lists what the picture says, a line for each command\n\nUsage: sixel list\n\nOptions:\n  -h, --help  Print help\n";
+    let list = "help Lists what the picture says, a line for each command
+
+Usage: sixel list
+
+Options:
+  -h, --help  Print help
+";
     for line in ["sixel list --help", "sixel help list"] {
         assert!(rt; says(&rt, line, list)?, "{line}");
     }

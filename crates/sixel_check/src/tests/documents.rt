@@ -130,6 +130,20 @@ pub(super) fn agrees_in(
     is_said(rt, &check(rt.alloc(), &mut source), expected)
 }
 
+/// Whether it is, in pieces of one byte, of a few, and of them all.
+pub(super) fn agrees_in_three(
+    rt: &impl AllocGlobal,
+    bytes: &[u8],
+    expected: &str,
+) -> Result<bool, Fail> {
+    for piece in [1, 7, 65_536] {
+        if !agrees_in(rt, bytes, piece, None, expected)? {
+            return Ok(false);
+        }
+    }
+    Ok(true)
+}
+
 /// Whether it is, in pieces of 1 byte to their length.
 fn agrees_in_pieces(rt: &impl AllocGlobal, bytes: &[u8], expected: &str) -> Result<bool, Fail> {
     for piece in 1..=bytes.len() {

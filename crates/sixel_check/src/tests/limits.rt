@@ -1,6 +1,6 @@
 //! Columns, rows and numbers far past any box.
 
-use crate::tests::documents::agrees_in;
+use crate::tests::documents::agrees_in_three;
 use crate::tests::steps::answer_by_events;
 use crate::tests::{agrees, bytes_of};
 use std::process::Abort;
@@ -24,16 +24,6 @@ fn agrees_on_events(rt: &impl AllocGlobal, bytes: &[u8], expected: &str) -> Resu
         Some(answer) => Ok(answer.as_str() == expected),
         None => Ok(false),
     }
-}
-
-/// Whether the answer from a source is so, in pieces of three sizes.
-fn agrees_in_three(rt: &impl AllocGlobal, bytes: &[u8], expected: &str) -> Result<bool, Fail> {
-    for piece in [1, 7, 65_536] {
-        if !agrees_in(rt, bytes, piece, None, expected)? {
-            return Ok(false);
-        }
-    }
-    Ok(true)
 }
 
 /// The answer is the same on the bytes, from a source, and on the events.

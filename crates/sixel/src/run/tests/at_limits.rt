@@ -1,0 +1,174 @@
+//! Runs on long inputs, and on numbers and places at their limits.
+
+use crate::fault::RunFault;
+use crate::run::tests::agrees;
+use crate::task::{Status, Task};
+use sixel_check::{Finding, Rule};
+use sixel_picture::PpmReason;
+use std::alloc::Global;
+use std::test::Fail;
+
+/// Some bytes, one of them so many times, and some more.
+fn with_many(
+    rt: &impl AllocGlobal,
+    front: &[u8],
+    count: usize,
+    byte: u8,
+    rest: &[u8],
+) -> Result<Vec<u8>, Fail> {
+    let mut bytes = Vec::new(rt.alloc());
+    bytes.extend_from_slice(front)?;
+    for _ in 0..count {
+        bytes.push(byte)?;
+    }
+    bytes.extend_from_slice(rest)?;
+    Ok(bytes)
+}
+
+/// The smallest portable picture without its end, 24 bytes, so many times one command, one more, and the end.
+fn with_commands(
+    rt: &impl AllocGlobal,
+    command: &[u8],
+    count: usize,
+    more: &[u8],
+) -> Result<Vec<u8>, Fail> {
+    let mut bytes = Vec::new(rt.alloc());
+    bytes.extend_from_slice(b"\x1bPq\"1;1;1;1#0;2;0;0;0#0@")?;
+    for _ in 0..count {
+        bytes.extend_from_slice(command)?;
+    }
+    bytes.extend_from_slice(more)?;
+    bytes.extend_from_slice(b"\x1b\\")?;
+    Ok(bytes)
+}
+
+/// Whether a check of the bytes writes this line, and answers this.
+fn checks(alloc: Global, bytes: &[u8], line: &str, answer: Result<Status, RunFault>) -> bool {
+    agrees(alloc, Task::Check, bytes, 1000, line.as_bytes(), answer)
+}
+
+/// An outside pixel.
+fn outside(place: u64, x: u64, y: u64) -> Result<Status, RunFault> {
+    Ok(Status::Broken(Finding {
+        rule: Rule::Outside,
+        place,
+        pixel: Some((x, y)),
+    }))
+}
+
+/// A column is 1 + 200 * 65535 and a row 6 * 200. The commands stand at 24 + 200 * 7 and 24 + 200.
+#[test]
+fn pixels_far_outside_are_named(rt: HostRuntime) -> Result<(), Fail> {
+    let bytes = with_commands(&rt, b"!65535?", 200, b"")?;
+    let whole = checks(rt.alloc(), &bytes, "portable 1 1\n", Ok(Status::Done));
+    assert!(rt; whole);
+    let bytes = with_commands(&rt, b"!65535?", 200, b"@")?;
+    let (line, answer) = (
+        "broken Outside 1424 13107001 0\n",
+        outside(1424, 13_107_001, 0),
+    );
+    assert!(rt; checks(rt.alloc(), &bytes, line, answer));
+    let bytes = with_commands(&rt, b"-", 200, b"@")?;
+    let (line, answer) = ("broken Outside 224 0 1200\n", outside(224, 0, 1200));
+    assert!(rt; checks(rt.alloc(), &bytes, line, answer));
+    Ok(())
+}
+
+#[test]
+fn the_greatest_numbers_are_checked(rt: HostRuntime) {
+    let bytes =
+        b"\x1bP65535;65535;65535q\"65535;65535;65535;65535#65535;65535;65535;65535;65535!65535~\x1b\\";
+    let answer = Ok(Status::Broken(Finding {
+        rule: Rule::Ratio,
+        place: 20,
+        pixel: None,
+    }));
+    assert!(rt; checks(rt.alloc(), bytes, "broken Ratio 20\n", answer));
+}
+
+/// The `!` stands at 3, 100,000 zeros from 4 on, the 3 at 100,004, and the end at 100,006.
+#[test]
+fn a_number_with_many_zeros_is_listed(rt: HostRuntime) -> Result<(), Fail> {
+    let bytes = with_many(&rt, b"\x1bPq!", 100_000, b'0', b"3~\x1b\\")?;
+    let lines = b"0 start 7bit 0\n3 repeat 3 63\n100006 end 7bit\n";
+    assert!(rt;
+        agrees(
+            rt.alloc(),
+            Task::List,
+            &bytes,
+            65_536,
+            lines,
+            Ok(Status::Done)
+        )
+    );
+    Ok(())
+}
+
+/// Whether an encode of the bytes writes this text, and answers this.
+fn encodes(alloc: Global, bytes: &[u8], text: &[u8], answer: Result<Status, RunFault>) -> bool {
+    agrees(alloc, Task::Encode, bytes, 1000, text, answer)
+}
+
+fn refused(reason: PpmReason, place: u64) -> Result<Status, RunFault> {
+    Err(RunFault::Ppm { reason, place })
+}
+
+/// A header ends before 65,536 bytes: here it has 2 + 65,526 + 8, and one more.
+#[test]
+fn the_longest_header_is_encoded(rt: HostRuntime) -> Result<(), Fail> {
+    let bytes = with_many(&rt, b"P6", 65_526, b' ', b"1 1 100\n\0\0\0")?;
+    assert!(rt;
+        encodes(
+            rt.alloc(),
+            &bytes,
+            b"\x1bP0;1q\"1;1;1;1#0;2;0;0;0#0@\x1b\\",
+            Ok(Status::Done),
+        )
+    );
+    let bytes = with_many(&rt, b"P6", 65_527, b' ', b"1 1 100\n\0\0\0")?;
+    assert!(rt; encodes(rt.alloc(), &bytes, b"", refused(PpmReason::Header, 65_536),));
+    let bytes = with_many(&rt, b"P6", 65_534, b' ', b"")?;
+    assert!(rt; encodes(rt.alloc(), &bytes, b"", refused(PpmReason::Short, 65_536),));
+    Ok(())
+}
+
+#[test]
+fn a_size_of_many_digits_is_refused(rt: HostRuntime) -> Result<(), Fail> {
+    let bytes = with_many(&rt, b"P6 ", 1000, b'9', b" 1 100\n")?;
+    assert!(rt; encodes(rt.alloc(), &bytes, b"", refused(PpmReason::Size, 3)));
+    Ok(())
+}
+
+/// A comment is filler. A sample becomes the nearest percentage: of 128, 255 and 2 in 255 these are 50, 100 and 1.
+#[test]
+fn samples_are_encoded_in_percent(rt: HostRuntime) {
+    assert!(rt;
+        encodes(
+            rt.alloc(),
+            b"P6\n# x\n1 1\n255\n\x80\xff\x02",
+            b"\x1bP0;1q\"1;1;1;1#0;2;50;100;1#0@\x1b\\",
+            Ok(Status::Done),
+        )
+    );
+}
+
+/// The header has 12 bytes, and the 17th colour comes after 16 pixels of three.
+#[test]
+fn a_seventeenth_colour_is_not_encoded(rt: HostRuntime) -> Result<(), Fail> {
+    let mut bytes = Vec::new(rt.alloc());
+    bytes.extend_from_slice(b"P6 17 1 100\n")?;
+    for red in 0..17u8 {
+        bytes.push(red)?;
+        bytes.push(0)?;
+        bytes.push(0)?;
+    }
+    assert!(rt;
+        encodes(
+            rt.alloc(),
+            &bytes,
+            b"",
+            refused(PpmReason::TooManyColours, 60),
+        )
+    );
+    Ok(())
+}

@@ -1,0 +1,281 @@
+//! Documents at the corners of a rule, worked out by hand.
+//!
+//! Offsets: `"1;1;1;1` is 3 to 10, so a first definition stands at 11, and what follows `#0;2;0;0;0` at 21.
+
+use crate::tests::agrees;
+use crate::tests::documents::picture_of;
+use sixel_picture::Colour;
+use std::process::Abort;
+use std::test::Fail;
+
+/// Each text, in which `E` stands for ESC, has its answer.
+fn agree(rt: &(impl AllocGlobal + Abort), rows: &[(&str, &str)]) -> Result<(), Fail> {
+    for (text, expected) in rows {
+        assert!(rt; agrees(rt, text, expected)?, "{text}");
+    }
+    Ok(())
+}
+
+/// The text is portable, and register 0 is left with this colour.
+fn agree_left(
+    rt: &(impl AllocGlobal + Abort),
+    text: &str,
+    colour: Option<Colour>,
+) -> Result<(), Fail> {
+    let picture = picture_of(rt, text)?;
+    assert!(rt;
+        colour.is_some() && picture.palette().get(0) == colour,
+        "{text}"
+    );
+    Ok(())
+}
+
+/// A register may be defined as often as one likes, as long as nothing was painted in it. It keeps the last colour.
+#[test]
+fn definitions_before_all_painting(rt: HostRuntime) -> Result<(), Fail> {
+    // as A, B, A
+    agree_left(
+        &rt,
+        "EPq\"1;1;1;1#0;2;0;0;0#0;2;1;0;0#0;2;0;0;0#0@E\\",
+        Colour::rgb(0, 0, 0),
+    )?;
+    // as A, B
+    agree_left(
+        &rt,
+        "EPq\"1;1;1;1#0;2;0;0;0#0;2;1;0;0#0@E\\",
+        Colour::rgb(1, 0, 0),
+    )?;
+    // as A, and as B after data without a bit
+    agree_left(
+        &rt,
+        "EPq\"1;1;1;1#0;2;0;0;0#0?!9?$#0;2;1;0;0#0@E\\",
+        Colour::rgb(1, 0, 0),
+    )?;
+    // as A, B, and as B again once it was painted in
+    agree_left(
+        &rt,
+        "EPq\"1;1;1;1#0;2;0;0;0#0;2;1;0;0#0@#0;2;1;0;0E\\",
+        Colour::rgb(1, 0, 0),
+    )?;
+    // as A, B, and as A in the other system
+    agree_left(
+        &rt,
+        "EPq\"1;1;1;1#0;2;0;0;0#0;2;1;0;0#0;1;0;0;0#0@E\\",
+        Colour::hls(0, 0, 0),
+    )
+}
+
+/// Once a register was painted in, its latest colour alone may be repeated.
+#[test]
+fn definitions_after_painting(rt: HostRuntime) -> Result<(), Fail> {
+    agree(
+        &rt,
+        &[
+            // as A, painted, B, A
+            (
+                "EPq\"1;1;1;1#0;2;0;0;0#0@#0;2;1;0;0#0;2;0;0;0E\\",
+                "broken Redefined 24",
+            ),
+            // as A, painted, A, B
+            (
+                "EPq\"1;1;1;1#0;2;0;0;0#0@#0;2;0;0;0#0;2;1;0;0E\\",
+                "broken Redefined 34",
+            ),
+            // as A, B, painted, A: the first colour is another than the latest
+            (
+                "EPq\"1;1;1;1#0;2;0;0;0#0;2;1;0;0#0@#0;2;0;0;0E\\",
+                "broken Redefined 34",
+            ),
+            // painted by a repeat, and painted over in another register
+            (
+                "EPq\"1;1;1;1#0;2;0;0;0#1;2;0;0;0#0!1@$#1@#0;2;1;0;0E\\",
+                "broken Redefined 40",
+            ),
+            // the colour of another register, and another register in that colour
+            (
+                "EPq\"1;1;1;1#0;2;0;0;0#1;2;1;0;0#0@#0;2;1;0;0E\\",
+                "broken Redefined 34",
+            ),
+            (
+                "EPq\"1;1;1;1#0;2;0;0;0#1;2;1;0;0#0@#1;2;0;0;0E\\",
+                "portable 1 1",
+            ),
+        ],
+    )
+}
+
+/// The uppermost row is named first, and in it the column farthest left. A pixel under a clear bit isn't covered.
+#[test]
+fn uncovered_pixels_in_row_order(rt: HostRuntime) -> Result<(), Fail> {
+    agree(
+        &rt,
+        &[
+            // (1, 0) and (0, 1)
+            ("EPq\"1;1;2;2#0;2;0;0;0#0@AE\\", "broken Uncovered 25 1 0"),
+            // (0, 0) and (1, 1)
+            ("EPq\"1;1;2;2#0;2;0;0;0#0A@E\\", "broken Uncovered 25 0 0"),
+            // (1, 5) and, in the band below, (0, 6)
+            (
+                "EPq\"1;1;2;7#0;2;0;0;0#0~^-?@E\\",
+                "broken Uncovered 28 1 5",
+            ),
+            // (0, 6) alone
+            (
+                "EPq\"1;1;2;7#0;2;0;0;0#0~~-?@E\\",
+                "broken Uncovered 28 0 6",
+            ),
+            // (1, 6) alone: the band was left too early
+            ("EPq\"1;1;2;7#0;2;0;0;0#0~~-@E\\", "broken Uncovered 27 1 6"),
+            // the end comes before the second band
+            ("EPq\"1;1;2;7#0;2;0;0;0#0~~E\\", "broken Uncovered 25 0 6"),
+            // covered from the right to the left, by two registers
+            (
+                "EPq\"1;1;2;2#0;2;0;0;0#1;2;1;1;1#0?B$#1BE\\",
+                "portable 2 2",
+            ),
+        ],
+    )
+}
+
+/// The rows of the second band are 6 to 11, of which a box of seven rows has the first.
+#[test]
+fn outside_pixels_of_a_later_band(rt: HostRuntime) -> Result<(), Fail> {
+    agree(
+        &rt,
+        &[
+            ("EPq\"1;1;1;7#0;2;0;0;0#0~-@E\\", "portable 1 7"),
+            ("EPq\"1;1;1;7#0;2;0;0;0#0~-AE\\", "broken Outside 25 0 7"),
+            // the last row of the band
+            ("EPq\"1;1;1;7#0;2;0;0;0#0~-_E\\", "broken Outside 25 0 11"),
+            // a column too many
+            ("EPq\"1;1;2;7#0;2;0;0;0#0~~-@@@E\\", "broken Outside 28 2 6"),
+            // rows 6 and 7 of two columns, and of three
+            ("EPq\"1;1;2;7#0;2;0;0;0#0~~-!2BE\\", "broken Outside 26 0 7"),
+            ("EPq\"1;1;2;7#0;2;0;0;0#0~~-!3BE\\", "broken Outside 26 2 6"),
+            // a band below the box: a bit, and none
+            ("EPq\"1;1;1;7#0;2;0;0;0#0~-@-@E\\", "broken Outside 27 0 12"),
+            ("EPq\"1;1;1;7#0;2;0;0;0#0~-@-?E\\", "portable 1 7"),
+            // a return goes back in its band
+            ("EPq\"1;1;1;7#0;2;0;0;0#0~-@$AE\\", "broken Outside 27 0 7"),
+        ],
+    )
+}
+
+/// 341 bands of six rows in this data, and one band in other data.
+fn with_bands(rt: &impl AllocGlobal, raster: &str, band: &str, last: &str) -> Result<String, Fail> {
+    let mut text = String::new(rt.alloc());
+    text.push_str("EPq")?;
+    text.push_str(raster)?;
+    text.push_str("#0;2;0;0;0#0")?;
+    for _ in 0..341 {
+        text.push_str(band)?;
+        text.push_str("-")?;
+    }
+    text.push_str(last)?;
+    text.push_str("E\\")?;
+    Ok(text)
+}
+
+/// 2,048 rows are 341 bands and two rows more. Before the bands stand 26 bytes, and before the last 26 + 341 * 2.
+#[test]
+fn the_tallest_box(rt: HostRuntime) -> Result<(), Fail> {
+    for (last, expected) in [
+        ("B", "portable 1 2048"),
+        ("@", "broken Uncovered 709 0 2047"),
+        ("A", "broken Uncovered 709 0 2046"),
+        ("F", "broken Outside 708 0 2048"),
+    ] {
+        let text = with_bands(&rt, "\"1;1;1;2048", "~", last)?;
+        assert!(rt; agrees(&rt, text.as_str(), expected)?, "{last}");
+    }
+    Ok(())
+}
+
+/// The largest box. Before the bands stand 29 bytes, and before the last 29 + 341 * 7.
+#[test]
+fn the_largest_box(rt: HostRuntime) -> Result<(), Fail> {
+    for (last, expected) in [
+        ("!2048B", "portable 2048 2048"),
+        ("!2047B", "broken Uncovered 2422 2047 2046"),
+        ("!2049B", "broken Outside 2416 2048 2046"),
+    ] {
+        let text = with_bands(&rt, "\"1;1;2048;2048", "!2048~", last)?;
+        assert!(rt; agrees(&rt, text.as_str(), expected)?, "{last}");
+    }
+    Ok(())
+}
+
+/// A hue is at most 360, lightness and saturation at most 100; so is each of red, green and blue.
+#[test]
+fn colours_at_their_edges(rt: HostRuntime) -> Result<(), Fail> {
+    let hue = "EPq\"1;1;1;1#0;1;360;100;100#0@E\\";
+    agree_left(&rt, hue, Colour::hls(360, 100, 100))?;
+    let least = "EPq\"1;1;1;1#0;1;0;0;0#0@E\\";
+    agree_left(&rt, least, Colour::hls(0, 0, 0))?;
+    let hundred_and_one = "EPq\"1;1;1;1#0;1;101;100;100#0@E\\";
+    agree_left(&rt, hundred_and_one, Colour::hls(101, 100, 100))?;
+    let white = "EPq\"1;1;1;1#0;2;100;100;100#0@E\\";
+    agree_left(&rt, white, Colour::rgb(100, 100, 100))?;
+    agree(
+        &rt,
+        &[
+            (
+                "EPq\"1;1;1;1#0;1;361;100;100#0@E\\",
+                "broken ColourValue 11",
+            ),
+            (
+                "EPq\"1;1;1;1#0;1;360;101;100#0@E\\",
+                "broken ColourValue 11",
+            ),
+            (
+                "EPq\"1;1;1;1#0;1;360;100;101#0@E\\",
+                "broken ColourValue 11",
+            ),
+            (
+                "EPq\"1;1;1;1#0;2;360;100;100#0@E\\",
+                "broken ColourValue 11",
+            ),
+            (
+                "EPq\"1;1;1;1#0;2;100;101;100#0@E\\",
+                "broken ColourValue 11",
+            ),
+        ],
+    )
+}
+
+/// Colours are compared by their system and coordinates: a hue of 360 is another than a hue of 0, and white of one system
+/// another than white of the other.
+#[test]
+fn colours_that_look_alike(rt: HostRuntime) -> Result<(), Fail> {
+    agree(
+        &rt,
+        &[
+            (
+                "EPq\"1;1;1;1#0;1;360;100;100#0@#0;1;360;100;100E\\",
+                "portable 1 1",
+            ),
+            (
+                "EPq\"1;1;1;1#0;1;360;100;100#0@#0;1;0;100;100E\\",
+                "broken Redefined 30",
+            ),
+            (
+                "EPq\"1;1;1;1#0;1;0;100;0#0@#0;2;100;100;100E\\",
+                "broken Redefined 26",
+            ),
+        ],
+    )
+}
+
+/// 2 to 2 and 0 to 0 are no other ratio, but neither number is 1. A missing number is 0.
+#[test]
+fn ratios_of_equal_numbers(rt: HostRuntime) -> Result<(), Fail> {
+    agree(
+        &rt,
+        &[
+            ("EPq\"2;2;1;1#0;2;0;0;0#0@E\\", "broken Ratio 3"),
+            ("EPq\"0;0;1;1#0;2;0;0;0#0@E\\", "broken Ratio 3"),
+            ("EPq\";;1;1#0;2;0;0;0#0@E\\", "broken Ratio 3"),
+            ("EPq\"01;001;1;1#0;2;0;0;0#0@E\\", "portable 1 1"),
+        ],
+    )
+}

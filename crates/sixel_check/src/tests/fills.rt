@@ -1,0 +1,113 @@
+//! How often a check fills from its source.
+
+use crate::checking::check;
+use crate::tests::is_said;
+use sixel_grammar::{DeviceFault, SliceSource, Source};
+use std::test::Fail;
+
+/// A source, and how often it was filled from.
+#[derive(Drop)]
+struct Counted<S> {
+    source: S,
+    fills: u64,
+}
+
+impl<S: Source> Source for Counted<S> {
+    ghost remaining = { λ c. S.remaining c.source };
+
+    ghost failure_count = { λ c. S.failure_count c.source };
+
+    fn fill(&mut self, piece: &mut [u8]) -> Result<usize, DeviceFault> {
+        self.fills = self.fills.saturating_add(1);
+        self.source.fill(piece)
+    }
+
+    fn failures(&self) -> u64 {
+        self.source.failures()
+    }
+}
+
+/// Whether the check of the bytes in pieces, with a fill that fails or none, has this answer after so many fills.
+fn agrees_after(
+    rt: &impl AllocGlobal,
+    bytes: &[u8],
+    piece: usize,
+    fail_at: Option<u64>,
+    expected: &str,
+    fills: u64,
+) -> Result<bool, Fail> {
+    let mut counted = Counted {
+        source: SliceSource::new(bytes, piece.max(1), fail_at),
+        fills: 0,
+    };
+    let answer = check(rt.alloc(), &mut counted);
+    Ok(is_said(rt, &answer, expected)? && counted.fills == fills)
+}
+
+/// The smallest portable picture, 26 bytes.
+const PICTURE: &[u8] = b"\x1bPq\"1;1;1;1#0;2;0;0;0#0@\x1b\\";
+
+/// A return before raster attributes, 27 bytes.
+const BROKEN: &[u8] = b"\x1bPq$\"1;1;1;1#0;2;0;0;0#0@\x1b\\";
+
+/// CAN at 12, in the middle of 26 bytes.
+const FAULTY: &[u8] = b"\x1bPq\"1;1;1;1#\x18;2;0;0;0#0@\x1b\\";
+
+/// So many fills give all bytes, and one more finds the end.
+#[test]
+fn one_fill_finds_the_end(rt: HostRuntime) -> Result<(), Fail> {
+    for (piece, fills) in [(1, 27), (2, 14), (5, 7), (13, 3), (25, 3), (26, 2), (64, 2)] {
+        assert!(rt;
+            agrees_after(&rt, PICTURE, piece, None, "portable 1 1", fills)?,
+            "in pieces of {piece}"
+        );
+    }
+    assert!(rt; agrees_after(&rt, &[], 5, None, "Truncated 0", 1)?);
+    for (piece, fills) in [(1, 26), (5, 6), (24, 3), (25, 2), (64, 2)] {
+        assert!(rt;
+            agrees_after(&rt, &PICTURE[..25], piece, None, "Truncated 25", fills)?,
+            "in pieces of {piece}"
+        );
+    }
+    Ok(())
+}
+
+/// The bytes after a broken rule are read, since only a whole document has a verdict.
+#[test]
+fn a_broken_document_is_read_to_its_end(rt: HostRuntime) -> Result<(), Fail> {
+    for (piece, fills) in [(1, 28), (2, 15), (9, 4), (26, 3), (27, 2), (64, 2)] {
+        assert!(rt;
+            agrees_after(&rt, BROKEN, piece, None, "broken RasterFirst 3", fills)?,
+            "in pieces of {piece}"
+        );
+    }
+    Ok(())
+}
+
+/// The piece that holds the fault is the last one.
+#[test]
+fn a_source_is_left_alone_after_a_fault(rt: HostRuntime) -> Result<(), Fail> {
+    for (piece, fills) in [(1, 13), (2, 7), (5, 3), (12, 2), (13, 1), (64, 1)] {
+        assert!(rt;
+            agrees_after(&rt, FAULTY, piece, None, "BadByte 12", fills)?,
+            "in pieces of {piece}"
+        );
+    }
+    // the fill that would fail is the next
+    assert!(rt; agrees_after(&rt, FAULTY, 5, Some(3), "BadByte 12", 3)?);
+    Ok(())
+}
+
+/// Six fills of five bytes give the picture, and the seventh finds its end.
+#[test]
+fn a_source_is_left_alone_after_its_failure(rt: HostRuntime) -> Result<(), Fail> {
+    for fill in 0..7u64 {
+        let fills = fill.saturating_add(1);
+        assert!(rt;
+            agrees_after(&rt, PICTURE, 5, Some(fill), "read failed", fills)?,
+            "fill {fill}"
+        );
+    }
+    assert!(rt; agrees_after(&rt, PICTURE, 5, Some(7), "portable 1 1", 7)?);
+    Ok(())
+}
