@@ -26,9 +26,14 @@ pub goes-on : (f g : Form) (b : ℕ) (d : Option Event) → within f b ≡ Some 
 goes-on f g b d h = ap (λ (v : Option (Form × Option Event)). chosen v (settled f) (begin b)) h
 
 -- a byte that neither goes on with what is open nor ends it
-pub stops : (f : Form) (b : ℕ) → only_grown (within f b) ≡ None → only_whole (within f b) ≡ None → OnSome (settled f) (only_grown (begin b) ≡ None) → OnSome (settled f) (only_whole (begin b) ≡ None) → next_of f b ≡ None
+pub stops : (f : Form) (b : ℕ) → only_grown (within f b) ≡ None → only_whole (within f b) ≡ None
+    → OnSome (settled f) (only_grown (begin b) ≡ None) → OnSome (settled f) (only_whole (begin b) ≡ None)
+    → next_of f b ≡ None
 stops f b h k grown whole = by_settled (settled f) grown whole
   where
-    by_settled : (s : Option Event) → OnSome s (only_grown (begin b) ≡ None) → OnSome s (only_whole (begin b) ≡ None) → chosen (within f b) s (begin b) ≡ None
+    by_settled : (s : Option Event) → OnSome s (only_grown (begin b) ≡ None)
+        → OnSome s (only_whole (begin b) ≡ None) → chosen (within f b) s (begin b) ≡ None
     by_settled None g w = ap (λ (v : Option (Form × Option Event)). chosen v None (begin b)) (neither-is (within f b) h k)
-    by_settled (Some e) g w = ap (λ (v : Option (Form × Option Event)). chosen v (Some e) (begin b)) (neither-is (within f b) h k) ∙ ap (λ (v : Option (Form × Option Event)). chosen None (Some e) v) (neither-is (begin b) g w)
+    by_settled (Some e) g w = ap (λ (v : Option (Form × Option Event)). chosen v (Some e) (begin b))
+        (neither-is (within f b) h k)
+        ∙ ap (λ (v : Option (Form × Option Event)). chosen None (Some e) v) (neither-is (begin b) g w)

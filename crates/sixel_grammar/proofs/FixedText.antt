@@ -33,9 +33,13 @@ each_is (e ∷ es) h = (record { filler_is = tt; spells = fixed_spells e h.0.is_
 
 places_are : (n : ℕ) (es : List Event) → fixed_places n es ≡ placed_from n (fixed_pieces es)
 places_are n [] = refl
-places_are n (e ∷ es) = let z : n ≡ n + 0 = omega arith in ap (λ (k : ℕ). record { place = k; event = e } ∷ fixed_places (n + length (fixed_spelling e)) es) z ∙ ap (λ (t : List Placed). record { place = n + 0; event = e } ∷ t) (places_are (n + length (fixed_spelling e)) es)
+places_are n (e ∷ es) =
+    let z : n ≡ n + 0 = omega arith in
+    ap (λ (k : ℕ). record { place = k; event = e } ∷ fixed_places (n + length (fixed_spelling e)) es) z
+    ∙ ap (λ (t : List Placed). record { place = n + 0; event = e } ∷ t) (places_are (n + length (fixed_spelling e)) es)
 
-pub fixed_document : (es : List Event) → AllByRecursion CanWrite es → AreWhole es → length (fixed_text es) ≤ most_bytes → Document (fixed_places 0 es) (fixed_text es)
+pub fixed_document : (es : List Event) → AllByRecursion CanWrite es → AreWhole es
+    → length (fixed_text es) ≤ most_bytes → Document (fixed_places 0 es) (fixed_text es)
 fixed_document es can whole short = record {
   pieces = fixed_pieces es;
   parses = record {

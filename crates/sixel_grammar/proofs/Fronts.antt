@@ -16,19 +16,42 @@ use Rattle.sixel_grammar.proofs.Whole.{start, document_walk}
 abbrev pub Ends : List ℕ → Type 0
 Ends bytes = (g : Form) × (events : List Placed) × (opened : ℕ) × EndsIn g events opened bytes
 
-pub leads : (more : List ℕ) (f : Form) (events : List Placed) (opened : ℕ) (bytes : List ℕ) → EndsIn f events opened bytes → Ends (bytes ++ more) ⊎ ((n o : ℕ) (s : List Stamp) → walk n (Some (state f o s)) more ≡ None)
+pub leads : (more : List ℕ) (f : Form) (events : List Placed) (opened : ℕ) (bytes : List ℕ)
+    → EndsIn f events opened bytes
+    → Ends (bytes ++ more) ⊎ ((n o : ℕ) (s : List Stamp) → walk n (Some (state f o s)) more ≡ None)
 leads [] f events opened bytes e = inl (subst Ends (sym (append-nil bytes)) (f, events, opened, e))
 leads (b ∷ more) f events opened bytes e =
-    elim (next_of f b) as (λ x. next_of f b ≡ x → GoesTo events opened bytes b x → Ends (bytes ++ b ∷ more) ⊎ ((n o : ℕ) (s : List Stamp) → walk n (Some (state f o s)) (b ∷ more) ≡ None)) [
-      | None ↦ λ is g. inr (λ n o s. ap (λ (t : Option (Option Event × Form × Option Event)). walk (n + 1) (after n o s t) more) is ∙ walk-none (n + 1) more)
+    elim (next_of f b) as
+    (λ x.
+    next_of f b ≡ x → GoesTo events opened bytes b x
+    → Ends (bytes ++ b ∷ more) ⊎ ((n o : ℕ) (s : List Stamp) → walk n (Some (state f o s)) (b ∷ more) ≡ None)) [
+      | None ↦
+          λ is g.
+          inr (λ n o s.
+          ap (λ (t : Option (Option Event × Form × Option Event)). walk (n + 1) (after n o s t) more) is
+          ∙ walk-none (n + 1) more)
       | Some x ↦ λ is g. elim (leads more x.1 _ _ (bytes ++ b ∷ []) g) [
         | inl r ↦ inl (subst Ends (append_assoc bytes (b ∷ []) more) r)
-        | inr w ↦ inr (λ n o s. ap (λ (t : Option (Option Event × Form × Option Event)). walk (n + 1) (after n o s t) more) is ∙ w (n + 1) _ _)
+        | inr w ↦
+            inr (λ n o s.
+            ap (λ (t : Option (Option Event × Form × Option Event)). walk (n + 1) (after n o s t) more) is ∙ w (n + 1) _ _)
       ]
     ] refl (advances f e b)
 
 pub nothing : EndsIn NothingYet [] 0 []
-nothing = record { pieces = []; filler = []; open_bytes = []; bytes_are = refl; each = tt; filler_is = tt; opens = refl; before = refl; closed = tt; events_are = refl; opened_is = refl }
+nothing = record {
+  pieces = [];
+  filler = [];
+  open_bytes = [];
+  bytes_are = refl;
+  each = tt;
+  filler_is = tt;
+  opens = refl;
+  before = refl;
+  closed = tt;
+  events_are = refl;
+  opened_is = refl;
+}
 
 -- a front of a document ends in some form
 pub front_ends : (front rest : List ℕ) → IsViable (front ++ rest) → Ends front

@@ -44,9 +44,16 @@ terminator_within false = lit≤ tt
 
 pub spelling_within : (event : Event) → IsEvent event → length (fixed_spelling event) ≤ most_length event
 spelling_within (Start eight parameters) is =
-    omega (arith, introducer_within eight, fields_within parameters.items is.1, length-append (introducer eight ++ fixed_fields parameters.items) (113 ∷ []), length-append (introducer eight) (fixed_fields parameters.items))
+    omega (
+      arith,
+      introducer_within eight,
+      fields_within parameters.items is.1,
+      length-append (introducer eight ++ fixed_fields parameters.items) (113 ∷ []),
+      length-append (introducer eight) (fixed_fields parameters.items),
+    )
 spelling_within (Step (Sixel bits)) is = lit≤ tt
-spelling_within (Step (Repeat count bits)) is = omega (arith, decimal_within count is.0, length-append (decimal count) ((63 + bits) ∷ []))
+spelling_within (Step (Repeat count bits)) is =
+    omega (arith, decimal_within count is.0, length-append (decimal count) ((63 + bits) ∷ []))
 spelling_within (Step (Raster pan pad width height)) is = omega (arith, fields_within (pan ∷ pad ∷ width ∷ height ∷ []) is)
 spelling_within (Step (Select register)) is = omega (arith, decimal_within register is)
 spelling_within (Step (Define register system x y z)) is = omega (arith, fields_within (register ∷ system ∷ x ∷ y ∷ z ∷ []) is)

@@ -13,6 +13,7 @@ pub mod Choices
 pub mod Stands
 pub mod Fronts
 pub mod Unique
+pub mod NotPlain
 pub mod Sources
 pub mod Writable
 pub mod Total

@@ -1,4 +1,5 @@
--- Pieces with one more at the end, and what a prefix that ends in a form is after one byte more. Nothing here knows which bytes spell which event.
+-- Pieces with one more at the end, and what a prefix that ends in a form is after one byte more. Nothing here knows
+-- which bytes spell which event.
 use Rattle.std.proofs.Common.{◌≡◌, ℕ, ◌+◌, ◌<◌, ◌≤◌, Bool, false, List, [], ◌∷◌, ◌++◌, length, refl, sym, ap, ◌∙◌, append_assoc, arith, length-append}
 use Rattle.std.specs.Prelude.{IsTrue}
 use Rattle.std.specs.List.{AllByRecursion}
@@ -14,26 +15,39 @@ use Rattle.sixel_grammar.specs.Faults.{Form, NoCommand, Opens, Precede, AreSteps
 
 pub joined-more : (ps : List Piece) (p : Piece) → joined (ps ++ p ∷ []) ≡ joined ps ++ bytes_of p
 joined-more [] p = append-nil (bytes_of p)
-joined-more (q ∷ ps) p = ap (λ (t : List ℕ). bytes_of q ++ t) (joined-more ps p) ∙ sym (append_assoc (bytes_of q) (joined ps) (bytes_of p))
+joined-more (q ∷ ps) p =
+    ap (λ (t : List ℕ). bytes_of q ++ t) (joined-more ps p) ∙ sym (append_assoc (bytes_of q) (joined ps) (bytes_of p))
 
 pub joined-append : (ps qs : List Piece) → joined (ps ++ qs) ≡ joined ps ++ joined qs
 joined-append [] qs = refl
-joined-append (q ∷ ps) qs = ap (λ (t : List ℕ). bytes_of q ++ t) (joined-append ps qs) ∙ sym (append_assoc (bytes_of q) (joined ps) (joined qs))
+joined-append (q ∷ ps) qs =
+    ap (λ (t : List ℕ). bytes_of q ++ t) (joined-append ps qs) ∙ sym (append_assoc (bytes_of q) (joined ps) (joined qs))
 
 pub said-append : (ps qs : List Piece) → events_in (ps ++ qs) ≡ events_in ps ++ events_in qs
 said-append [] qs = refl
 said-append (q ∷ ps) qs = ap (λ (t : List Event). q.event ∷ t) (said-append ps qs)
 
-pub all-append : {A : Type 0} (P : A → Type 0) (xs ys : List A) → AllByRecursion P xs → AllByRecursion P ys → AllByRecursion P (xs ++ ys)
+pub all-append : {A : Type 0} (P : A → Type 0) (xs ys : List A) → AllByRecursion P xs → AllByRecursion P ys
+    → AllByRecursion P (xs ++ ys)
 all-append P [] ys h k = k
 all-append P (x ∷ xs) ys h k = (h.0, all-append P xs ys h.1 k)
 
-pub placed-more : (n : ℕ) (ps : List Piece) (p : Piece) → placed_from n (ps ++ p ∷ []) ≡ placed_from n ps ++ record { place = n + length (joined ps) + length p.filler; event = p.event } ∷ []
-placed-more n [] p = let e : n + length p.filler ≡ n + 0 + length p.filler = omega arith in ap (λ (k : ℕ). record { place = k; event = p.event } ∷ []) e
+pub placed-more : (n : ℕ) (ps : List Piece) (p : Piece)
+    → placed_from n (ps ++ p ∷ [])
+    ≡ placed_from n ps ++ record { place = n + length (joined ps) + length p.filler; event = p.event } ∷ []
+placed-more n [] p =
+    let e : n + length p.filler ≡ n + 0 + length p.filler = omega arith in
+    ap (λ (k : ℕ). record { place = k; event = p.event } ∷ []) e
 placed-more n (q ∷ ps) p =
-    let e : n + length (bytes_of q) + length (joined ps) + length p.filler ≡ n + length (bytes_of q ++ joined ps) + length p.filler = omega (arith, length-append (bytes_of q) (joined ps)) in
+    let e : n + length (bytes_of q) + length (joined ps) + length p.filler
+    ≡ n + length (bytes_of q ++ joined ps) + length p.filler =
+    omega (arith, length-append (bytes_of q) (joined ps)) in
     ap (λ (es : List Placed). record { place = n + length q.filler; event = q.event } ∷ es)
-    (placed-more (n + length (bytes_of q)) ps p ∙ ap (λ (k : ℕ). placed_from (n + length (bytes_of q)) ps ++ record { place = k; event = p.event } ∷ []) e)
+    (placed-more (n + length (bytes_of q)) ps p
+    ∙ ap (λ (k : ℕ). placed_from (n + length (bytes_of q)) ps ++ record { place = k; event = p.event } ∷ []) e)
+
+abbrev pub start_of : Bool → List ℕ → Event
+start_of eight ns = Start eight (record { items = ns })
 
 pub steps-step : (es : List Event) (c : Command) → AreSteps es → AreSteps (es ++ Step c ∷ [])
 steps-step [] c h = tt
@@ -87,11 +101,26 @@ pub record Loose (form : Form) (events : List Placed) (opened : ℕ) (bytes : Li
   pub events_are : events ≡ placed_from 0 pieces
   pub opened_is : opened ≡ length (joined pieces) + length filler
 
-pub loosen : {f : Form} {events : List Placed} {opened : ℕ} {bytes : List ℕ} → EndsIn f events opened bytes → Loose f events opened bytes
-loosen e = record { pieces = e.pieces; filler = e.filler; open_bytes = e.open_bytes; bytes_are = e.bytes_are; each = e.each; filler_is = e.filler_is; opens = e.opens; before = e.before; events_are = e.events_are; opened_is = e.opened_is }
+pub loosen : {f : Form} {events : List Placed} {opened : ℕ} {bytes : List ℕ} → EndsIn f events opened bytes
+    → Loose f events opened bytes
+loosen e =
+    record {
+      pieces = e.pieces;
+      filler = e.filler;
+      open_bytes = e.open_bytes;
+      bytes_are = e.bytes_are;
+      each = e.each;
+      filler_is = e.filler_is;
+      opens = e.opens;
+      before = e.before;
+      events_are = e.events_are;
+      opened_is = e.opened_is;
+    }
 
 -- the open piece grows by a byte
-pub grow : {f : Form} {events : List Placed} {opened : ℕ} {bytes : List ℕ} (e : Loose f events opened bytes) (b : ℕ) (g : Form) → Opens g (e.open_bytes ++ b ∷ []) → Precede g (events_in e.pieces) → EndsIn g events opened (bytes ++ b ∷ [])
+pub grow : {f : Form} {events : List Placed} {opened : ℕ} {bytes : List ℕ} (e : Loose f events opened bytes)
+    (b : ℕ) (g : Form)
+    → Opens g (e.open_bytes ++ b ∷ []) → Precede g (events_in e.pieces) → EndsIn g events opened (bytes ++ b ∷ [])
 grow e b g opens before = record {
   pieces = e.pieces;
   filler = e.filler;
@@ -101,20 +130,29 @@ grow e b g opens before = record {
   filler_is = e.filler_is;
   opens = opens;
   before = before;
-  closed = closed-some e.pieces (length e.filler + length (e.open_bytes ++ b ∷ [])) (omega (arith, length-append e.open_bytes (b ∷ [])));
+  closed = closed-some e.pieces (length e.filler + length (e.open_bytes ++ b ∷ []))
+      (omega (arith, length-append e.open_bytes (b ∷ [])));
   events_are = e.events_are;
   opened_is = e.opened_is;
 }
 
 -- filler grows by a byte
-pub fill : {f : Form} {events : List Placed} {opened : ℕ} {bytes : List ℕ} (e : Loose f events opened bytes) (b : ℕ) (g : Form) → e.open_bytes ≡ [] → IsTrue (is_filler b) → Opens g [] → Precede g (events_in e.pieces) → EndsIn g events (length bytes + 1) (bytes ++ b ∷ [])
+pub fill : {f : Form} {events : List Placed} {opened : ℕ} {bytes : List ℕ} (e : Loose f events opened bytes)
+    (b : ℕ) (g : Form)
+    → e.open_bytes ≡ [] → IsTrue (is_filler b) → Opens g [] → Precede g (events_in e.pieces)
+    → EndsIn g events (length bytes + 1) (bytes ++ b ∷ [])
 fill {bytes} e b g none is opens before =
-    let whole : bytes ≡ joined e.pieces ++ e.filler = e.bytes_are ∙ ap (λ (t : List ℕ). joined e.pieces ++ e.filler ++ t) none ∙ append-nil (joined e.pieces ++ e.filler) in
+    let whole : bytes ≡ joined e.pieces ++ e.filler =
+    e.bytes_are
+    ∙ ap (λ (t : List ℕ). joined e.pieces ++ e.filler ++ t) none
+    ∙ append-nil (joined e.pieces ++ e.filler) in
     record {
       pieces = e.pieces;
       filler = e.filler ++ b ∷ [];
       open_bytes = [];
-      bytes_are = ap (λ (t : List ℕ). t ++ b ∷ []) whole ∙ append_assoc (joined e.pieces) e.filler (b ∷ []) ∙ sym (append-nil (joined e.pieces ++ (e.filler ++ b ∷ [])));
+      bytes_are = ap (λ (t : List ℕ). t ++ b ∷ []) whole
+          ∙ append_assoc (joined e.pieces) e.filler (b ∷ [])
+          ∙ sym (append-nil (joined e.pieces ++ (e.filler ++ b ∷ [])));
       each = e.each;
       filler_is = all-append (λ (x : ℕ). IsTrue (is_filler x)) e.filler (b ∷ []) e.filler_is (is, tt);
       opens = opens;
@@ -125,11 +163,16 @@ fill {bytes} e b g none is opens before =
     }
 
 -- the open piece is whole with the byte
-pub close : {f : Form} {events : List Placed} {opened : ℕ} {bytes : List ℕ} (e : Loose f events opened bytes) (b : ℕ) (event : Event) (g : Form) → Spells event (e.open_bytes ++ b ∷ []) → is_open_ended event ≡ false → Opens g [] → Precede g (events_in e.pieces ++ event ∷ []) → EndsIn g (events ++ record { place = opened; event = event } ∷ []) (length bytes + 1) (bytes ++ b ∷ [])
+pub close : {f : Form} {events : List Placed} {opened : ℕ} {bytes : List ℕ} (e : Loose f events opened bytes)
+    (b : ℕ) (event : Event) (g : Form)
+    → Spells event (e.open_bytes ++ b ∷ []) → is_open_ended event ≡ false → Opens g []
+    → Precede g (events_in e.pieces ++ event ∷ [])
+    → EndsIn g (events ++ record { place = opened; event = event } ∷ []) (length bytes + 1) (bytes ++ b ∷ [])
 close {events = events} {opened = opened} {bytes = bytes} e b event g spells shut opens before =
     let p : Piece = record { filler = e.filler; text = e.open_bytes ++ b ∷ []; event = event } in
     let j : joined (e.pieces ++ p ∷ []) ≡ joined e.pieces ++ (e.filler ++ (e.open_bytes ++ b ∷ [])) = joined-more e.pieces p in
-    let whole : bytes ++ b ∷ [] ≡ joined (e.pieces ++ p ∷ []) = ap (λ (t : List ℕ). t ++ b ∷ []) e.bytes_are ∙ simp append_assoc (sym j) in
+    let whole : bytes ++ b ∷ [] ≡ joined (e.pieces ++ p ∷ []) =
+    ap (λ (t : List ℕ). t ++ b ∷ []) e.bytes_are ∙ simp append_assoc (sym j) in
     record {
       pieces = e.pieces ++ p ∷ [];
       filler = [];
@@ -147,11 +190,15 @@ close {events = events} {opened = opened} {bytes = bytes} e b event g spells shu
     }
 
 -- the open piece is whole as it stands
-pub settle : {f : Form} {events : List Placed} {opened : ℕ} {bytes : List ℕ} (e : Loose f events opened bytes) (event : Event) → Spells event e.open_bytes → AreBegun (events_in e.pieces ++ event ∷ []) → Loose NoCommand (events ++ record { place = opened; event = event } ∷ []) (length bytes) bytes
+pub settle : {f : Form} {events : List Placed} {opened : ℕ} {bytes : List ℕ} (e : Loose f events opened bytes)
+    (event : Event)
+    → Spells event e.open_bytes → AreBegun (events_in e.pieces ++ event ∷ [])
+    → Loose NoCommand (events ++ record { place = opened; event = event } ∷ []) (length bytes) bytes
 settle {events = events} {opened = opened} {bytes = bytes} e event spells before =
     let p : Piece = record { filler = e.filler; text = e.open_bytes; event = event } in
     let j : joined (e.pieces ++ p ∷ []) ≡ joined e.pieces ++ (e.filler ++ e.open_bytes) = joined-more e.pieces p in
-    let whole : bytes ≡ joined (e.pieces ++ p ∷ []) = e.bytes_are ∙ append_assoc (joined e.pieces) e.filler e.open_bytes ∙ sym j in
+    let whole : bytes ≡ joined (e.pieces ++ p ∷ []) =
+    e.bytes_are ∙ append_assoc (joined e.pieces) e.filler e.open_bytes ∙ sym j in
     record {
       pieces = e.pieces ++ p ∷ [];
       filler = [];

@@ -1,6 +1,6 @@
 -- Reading a source to its end.
 use Rattle.std.proofs.Common.{◌≡◌, ℕ, zero, suc, get_or, ◌+◌, ◌<◌, ◌≤◌, List, [], ◌∷◌, ◌++◌, length, take, drop, Option, Some, None, refl, sym, ap, subst, ◌∙◌, append_assoc, arith}
-use Rattle.std.specs.Prelude.{Result, Ok, Err, OnOk, IfSome}
+use Rattle.std.specs.Prelude.{IfSome}
 use Rattle.std.specs.Io.KnownBytes.{Consumes, IsAtEnd}
 use Rattle.std.proofs.lemmas.List.{append-nil, take_more, take-append-drop}
 use Rattle.sixel_grammar.specs.declared.fault.InputFault.{InputFault}
@@ -8,12 +8,12 @@ use Rattle.sixel_grammar.specs.declared.fault.InputFault.TheVariants.{Grammar, O
 use Rattle.sixel_grammar.specs.Faults.{IsFaultOf}
 use Rattle.sixel_grammar.specs.Reading.{Explains, ExplainsAlways}
 
-pub on_ok : {A E : Type 0} (r : Result A E) (P Q : Type 0) → (P → Q) → OnOk r P → OnOk r Q
-on_ok (Ok x) P Q f h = f h
-on_ok (Err e) P Q f h = tt
-
-pub refuses-more : (fault : InputFault) (bytes rest whole : List ℕ) → whole ≡ bytes ++ rest → ExplainsAlways fault bytes → ExplainsAlways fault whole
-refuses-more (Grammar f) bytes rest whole e h = λ more. subst (λ (t : List ℕ). IsFaultOf t f) (sym (ap (λ (t : List ℕ). t ++ more) e ∙ append_assoc bytes rest more)) (h (rest ++ more))
+pub refuses-more : (fault : InputFault) (bytes rest whole : List ℕ) → whole ≡ bytes ++ rest
+    → ExplainsAlways fault bytes → ExplainsAlways fault whole
+refuses-more (Grammar f) bytes rest whole e h =
+    λ more.
+    subst (λ (t : List ℕ). IsFaultOf t f) (sym (ap (λ (t : List ℕ). t ++ more) e ∙ append_assoc bytes rest more))
+    (h (rest ++ more))
 refuses-more OutOfMemory bytes rest whole e h = tt
 refuses-more Read bytes rest whole e h = h
 
@@ -30,7 +30,8 @@ all_read (Some a) None xs P c end h = absurd c
 all_read (Some a) (Some b) xs P c end h = subst P (sym (c ∙ ap (λ (t : List ℕ). xs ++ t) end ∙ append-nil xs)) h
 
 -- a refusal within what was read is that of the whole
-pub refused_early : (a b : Option (List ℕ)) (fault : InputFault) (xs : List ℕ) → Consumes a b xs → ExplainsAlways fault xs → IfSome a (Explains fault)
+pub refused_early : (a b : Option (List ℕ)) (fault : InputFault) (xs : List ℕ) → Consumes a b xs
+    → ExplainsAlways fault xs → IfSome a (Explains fault)
 refused_early None b fault xs c h = tt
 refused_early (Some a) None fault xs c h = absurd c
 refused_early (Some a) (Some b) (Grammar f) xs c h = subst (λ (t : List ℕ). IsFaultOf t f) (sym c) (h b)
@@ -41,12 +42,17 @@ pub take_none : (n : ℕ) (xs : List ℕ) → n ≡ 0 → take n xs ≡ []
 take_none n [] e = rw e refl
 take_none n (x ∷ xs) e = rw e refl
 
-pub one_past : (front xs : List ℕ) (k : ℕ) → k < length xs → (front ++ take k xs) ++ get_or xs k 0 ∷ [] ≡ front ++ take (k + 1) xs
-one_past front xs k lt = append_assoc front (take k xs) (get_or xs k 0 ∷ []) ∙ ap (λ (t : List ℕ). front ++ t) (sym (take_more xs k 0 lt))
+pub one_past : (front xs : List ℕ) (k : ℕ) → k < length xs
+    → (front ++ take k xs) ++ get_or xs k 0 ∷ [] ≡ front ++ take (k + 1) xs
+one_past front xs k lt =
+    append_assoc front (take k xs) (get_or xs k 0 ∷ []) ∙ ap (λ (t : List ℕ). front ++ t) (sym (take_more xs k 0 lt))
 
-pub split_past : (front xs : List ℕ) (k : ℕ) → k < length xs → front ++ xs ≡ ((front ++ take k xs) ++ get_or xs k 0 ∷ []) ++ drop (k + 1) xs
+pub split_past : (front xs : List ℕ) (k : ℕ) → k < length xs
+    → front ++ xs ≡ ((front ++ take k xs) ++ get_or xs k 0 ∷ []) ++ drop (k + 1) xs
 split_past front xs k lt =
-    ap (λ (t : List ℕ). front ++ t) (sym (take-append-drop (k + 1) xs)) ∙ sym (append_assoc front (take (k + 1) xs) (drop (k + 1) xs)) ∙ ap (λ (t : List ℕ). t ++ drop (k + 1) xs) (sym (one_past front xs k lt))
+    ap (λ (t : List ℕ). front ++ t) (sym (take-append-drop (k + 1) xs))
+    ∙ sym (append_assoc front (take (k + 1) xs) (drop (k + 1) xs))
+    ∙ ap (λ (t : List ℕ). t ++ drop (k + 1) xs) (sym (one_past front xs k lt))
 
 pub take_past : (n : ℕ) (xs : List ℕ) → length xs ≤ n → take n xs ≡ xs
 take_past zero [] le = refl

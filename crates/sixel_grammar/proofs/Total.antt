@@ -41,7 +41,9 @@ precede_front Ended events h = inr (inr h)
 
 pub complete_front : (events : List Placed) (bytes : List ℕ) → CompleteIn events bytes → AreFront (events_of events)
 complete_front events bytes c =
-    let v = front_ends bytes [] (subst (λ (t : List ℕ). (es : List Placed) × CompleteIn es t) (sym (append-nil bytes)) (events, c)) in
+    let v =
+    front_ends bytes []
+    (subst (λ (t : List ℕ). (es : List Placed) × CompleteIn es t) (sym (append-nil bytes)) (events, c)) in
     let e = v.3 in
     let same : events ≡ placed_from 0 e.pieces = complete_once bytes events v.1 c (complete v.0 e) ∙ e.events_are in
     subst AreFront (sym (ap events_of same ∙ placed-events 0 e.pieces)) (precede_front v.0 (events_in e.pieces) e.before)
@@ -51,7 +53,8 @@ complete_front events bytes c =
 abbrev Judged : List ℕ → Type 0
 Judged bytes = IsDocument bytes ⊎ ((fault : Fault) × IsFaultOf bytes fault)
 
-ended_document : {events : List Placed} {opened : ℕ} {bytes : List ℕ} (e : EndsIn Ended events opened bytes) → length bytes ≤ 268435456 → IsDocument bytes
+ended_document : {events : List Placed} {opened : ℕ} {bytes : List ℕ} (e : EndsIn Ended events opened bytes)
+    → length bytes ≤ 268435456 → IsDocument bytes
 ended_document {events = events} {bytes = bytes} e short = (
   events,
   record {
@@ -80,7 +83,8 @@ is_ended (ColourFields ns n) = inr (λ e. cc)
 is_ended Terminating = inr (λ e. cc)
 is_ended Ended = inl refl
 
-at_end : (f : Form) (events : List Placed) (opened : ℕ) (bytes : List ℕ) → EndsIn f events opened bytes → length bytes ≤ 268435456 → Judged bytes
+at_end : (f : Form) (events : List Placed) (opened : ℕ) (bytes : List ℕ) → EndsIn f events opened bytes
+    → length bytes ≤ 268435456 → Judged bytes
 at_end f events opened bytes e short =
     elim (is_ended f) [
       | inl same ↦ inl (ended_document (subst (λ (g : Form). EndsIn g events opened bytes) same e) short)
@@ -88,11 +92,17 @@ at_end f events opened bytes e short =
     ]
 
 -- a fault at the byte after these stays
-then_fault : (bytes more : List ℕ) (b : ℕ) (fault : Fault) → IsFaultOf (bytes ++ b ∷ []) fault → fault.place ≡ length bytes → Judged (bytes ++ b ∷ more)
+then_fault : (bytes more : List ℕ) (b : ℕ) (fault : Fault) → IsFaultOf (bytes ++ b ∷ []) fault
+    → fault.place ≡ length bytes → Judged (bytes ++ b ∷ more)
 then_fault bytes more b fault h at =
-    inr (fault, subst (λ (t : List ℕ). IsFaultOf t fault) (append_assoc bytes (b ∷ []) more) (fault_stays (bytes ++ b ∷ []) more fault h (omega (arith, at, length-append bytes (b ∷ [])))))
+    inr (
+      fault,
+      subst (λ (t : List ℕ). IsFaultOf t fault) (append_assoc bytes (b ∷ []) more)
+          (fault_stays (bytes ++ b ∷ []) more fault h (omega (arith, at, length-append bytes (b ∷ [])))),
+    )
 
-from_here : (more : List ℕ) (f : Form) (events : List Placed) (opened : ℕ) (bytes : List ℕ) → EndsIn f events opened bytes → length bytes ≤ 268435456 → Judged (bytes ++ more)
+from_here : (more : List ℕ) (f : Form) (events : List Placed) (opened : ℕ) (bytes : List ℕ)
+    → EndsIn f events opened bytes → length bytes ≤ 268435456 → Judged (bytes ++ more)
 from_here [] f events opened bytes e short = subst Judged (sym (append-nil bytes)) (at_end f events opened bytes e short)
 from_here (b ∷ more) f events opened bytes e short =
     elim (cases_lt (length bytes) 268435456) [
@@ -102,7 +112,10 @@ from_here (b ∷ more) f events opened bytes e short =
       | inl lt ↦
           elim (next_of f b) as (λ x. next_of f b ≡ x → GoesTo events opened bytes b x → Judged (bytes ++ b ∷ more)) [
             | None ↦ λ is g. then_fault bytes more b (fault_at (refusal f b) (length bytes)) (refused f e b lt is) refl
-            | Some x ↦ λ is g. subst Judged (append_assoc bytes (b ∷ []) more) (from_here more x.1 _ _ (bytes ++ b ∷ []) g (omega (arith, length-append bytes (b ∷ []))))
+            | Some x ↦
+                λ is g.
+                subst Judged (append_assoc bytes (b ∷ []) more)
+                (from_here more x.1 _ _ (bytes ++ b ∷ []) g (omega (arith, length-append bytes (b ∷ []))))
           ] refl (advances f e b)
     ]
 

@@ -1,8 +1,10 @@
 -- What is said of bytes is said in one way alone: events, complete events, faults.
-use Rattle.std.proofs.Common.{◌≡◌, ℕ, zero, suc, ◌+◌, ◌<◌, ◌≤◌, Bool, true, false, cond, leb, List, [], ◌∷◌, ◌++◌, length, take, Option, Some, None, refl, sym, ap, subst, ◌∙◌, append_assoc, arith, length-append, inl, inr}
+use Rattle.std.proofs.Common.{◌≡◌, ℕ, zero, suc, ◌+◌, ◌-◌, ◌<◌, ◌≤◌, Bool, true, false, cond, leb, List, [], ◌∷◌, ◌++◌, length, take, drop, Option, Some, None, refl, sym, ap, subst, ◌∙◌, append_assoc, arith, length-append, inl, inr}
 use Rattle.std.specs.Prelude.{IsTrue, slice_get}
 use Rattle.std.specs.List.{AllByRecursion}
 use Rattle.std.proofs.lemmas.List.{append-nil, take-append-le}
+use Rattle.std.proofs.lemmas.Option.{slice_get_past}
+use Rattle.std.proofs.Math.Seq.{take-add, take-length}
 use Rattle.std.proofs.lemmas.Bool.{cond-true, cond-false, le-leb, lt-leb, cases_lt}
 use Rattle.sixel_grammar.specs.declared.command.Event.{Event}
 use Rattle.sixel_grammar.specs.declared.command.Placed.{Placed}
@@ -16,7 +18,7 @@ use Rattle.sixel_grammar.specs.Faults.{Form, NothingYet, Ended, EndsIn, IsClosed
 use Rattle.sixel_grammar.specs.Next.{next_of}
 use Rattle.sixel_grammar.proofs.Walk.{Stamp, stamp, State, state, with_stamp, moved, after, walk, walk-none, walk-append, walk-then}
 use Rattle.sixel_grammar.proofs.Whole.{start, stamped_from, document_walk, ends_walk}
-use Rattle.sixel_grammar.proofs.Stands.{fault_at}
+use Rattle.sixel_grammar.proofs.Stands.{fault_at, form_at}
 use Rattle.sixel_grammar.proofs.Viable.{complete}
 use Rattle.sixel_grammar.proofs.Fronts.{fronts}
 
@@ -30,14 +32,20 @@ placed-append (x ∷ xs) ys = ap (λ (t : List Placed). x.placed ∷ t) (placed-
 
 placed-stamped : (n : ℕ) (ps : List Piece) → placed_of (stamped_from n ps) ≡ placed_from n ps
 placed-stamped n [] = refl
-placed-stamped n (p ∷ ps) = ap (λ (t : List Placed). record { place = n + length p.filler; event = p.event } ∷ t) (placed-stamped (n + length (bytes_of p)) ps)
+placed-stamped n (p ∷ ps) =
+    ap (λ (t : List Placed). record { place = n + length p.filler; event = p.event } ∷ t)
+    (placed-stamped (n + length (bytes_of p)) ps)
 
 abbrev so_far_at : Option State → List Stamp
 so_far_at None = []
 so_far_at (Some s) = s.so_far
 
-events_walk : (events : List Placed) (bytes : List ℕ) → Document events bytes → events ≡ placed_of (so_far_at (walk 0 start bytes))
-events_walk events bytes d = d.events_are ∙ sym (placed-stamped 0 d.pieces) ∙ ap (λ (s : Option State). placed_of (so_far_at s)) (sym (document_walk d.pieces bytes d.parses))
+events_walk : (events : List Placed) (bytes : List ℕ) → Document events bytes
+    → events ≡ placed_of (so_far_at (walk 0 start bytes))
+events_walk events bytes d =
+    d.events_are
+    ∙ sym (placed-stamped 0 d.pieces)
+    ∙ ap (λ (s : Option State). placed_of (so_far_at s)) (sym (document_walk d.pieces bytes d.parses))
 
 pub document_once : (bytes : List ℕ) (first second : List Placed) → Document first bytes → Document second bytes → first ≡ second
 document_once bytes first second a b = events_walk first bytes a ∙ sym (events_walk second bytes b)
@@ -52,11 +60,17 @@ came-append n m k [] [] l g h i = tt
 came-append n m k [] (y ∷ ys) l g h i = ((omega arith, omega arith), came-append n m k [] ys l g tt i.1)
 came-append n m k (x ∷ xs) ys l g h i = ((omega arith, omega arith), came-append n m k xs ys l g h.1 i)
 
-adds : (n o k : ℕ) (s : List Stamp) (ended done : Option Event) → (later : List Stamp) × (with_stamp (with_stamp s (n + 1) o ended) (n + 1) k done ≡ s ++ later) × CameIn n (n + 1) later
+adds : (n o k : ℕ) (s : List Stamp) (ended done : Option Event)
+    → (later : List Stamp) × (with_stamp (with_stamp s (n + 1) o ended) (n + 1) k done ≡ s ++ later)
+    × CameIn n (n + 1) later
 adds n o k s None None = ([], sym (append-nil s), tt)
 adds n o k s None (Some e) = (stamp (n + 1) k e ∷ [], refl, ((omega arith, omega arith), tt))
 adds n o k s (Some e) None = (stamp (n + 1) o e ∷ [], refl, ((omega arith, omega arith), tt))
-adds n o k s (Some e) (Some d) = (stamp (n + 1) o e ∷ stamp (n + 1) k d ∷ [], append_assoc s (stamp (n + 1) o e ∷ []) (stamp (n + 1) k d ∷ []), ((omega arith, omega arith), ((omega arith, omega arith), tt)))
+adds n o k s (Some e) (Some d) = (
+  stamp (n + 1) o e ∷ stamp (n + 1) k d ∷ [],
+  append_assoc s (stamp (n + 1) o e ∷ []) (stamp (n + 1) k d ∷ []),
+  ((omega arith, omega arith), ((omega arith, omega arith), tt)),
+)
 
 abbrev Grows : ℕ → ℕ → List Stamp → List Stamp → Type 0
 Grows n m old new = (later : List Stamp) × (new ≡ old ++ later) × CameIn n m later
@@ -65,7 +79,9 @@ grows : (more : List ℕ) (n : ℕ) (s u : State) → walk n (Some s) more ≡ S
 grows [] n s u h = ([], ap so_far_at (sym h) ∙ sym (append-nil s.so_far), tt)
 grows (b ∷ more) n s u h = by_next (λ v k. grows more (n + 1) v u k) (next_of s.form b) h
   where
-    by_next : ((v : State) → walk (n + 1) (Some v) more ≡ Some u → Grows (n + 1) (n + 1 + length more) v.so_far u.so_far) → (x : Option (Option Event × Form × Option Event)) → walk (n + 1) (after n s.opened s.so_far x) more ≡ Some u → Grows n (n + length (b ∷ more)) s.so_far u.so_far
+    by_next : ((v : State) → walk (n + 1) (Some v) more ≡ Some u → Grows (n + 1) (n + 1 + length more) v.so_far u.so_far)
+        → (x : Option (Option Event × Form × Option Event)) → walk (n + 1) (after n s.opened s.so_far x) more ≡ Some u
+        → Grows n (n + length (b ∷ more)) s.so_far u.so_far
     by_next go None k = absurd (let none = walk-none (n + 1) more in cc)
     by_next go (Some x) k =
         let a = adds n s.opened (moved s.opened n x.0) s.so_far x.0 x.2 in
@@ -73,7 +89,8 @@ grows (b ∷ more) n s u h = by_next (λ v k. grows more (n + 1) v u k) (next_of
         let e : n + 1 + length more ≡ n + length (b ∷ more) = omega arith in (
           a.0 ++ g.0,
           g.1 ∙ ap (λ (t : List Stamp). t ++ g.0) a.1 ∙ append_assoc s.so_far a.0 g.0,
-          subst (λ (m : ℕ). CameIn n m (a.0 ++ g.0)) e (came-append n (n + 1) (n + 1 + length more) a.0 g.0 (omega arith) (omega arith) a.2 g.2),
+          subst (λ (m : ℕ). CameIn n m (a.0 ++ g.0)) e
+              (came-append n (n + 1) (n + 1 + length more) a.0 g.0 (omega arith) (omega arith) a.2 g.2),
         )
 
 -- those that came up to a byte
@@ -81,18 +98,23 @@ abbrev early_of : ℕ → List Stamp → List Stamp
 early_of held [] = []
 early_of held (t ∷ ts) = cond (leb t.completed held) (t ∷ early_of held ts) []
 
-cond-placed : (b : Bool) (t : Stamp) (xs : List Placed) (ts : List Stamp) → xs ≡ placed_of ts → cond b (t.placed ∷ xs) [] ≡ placed_of (cond b (t ∷ ts) [])
+cond-placed : (b : Bool) (t : Stamp) (xs : List Placed) (ts : List Stamp) → xs ≡ placed_of ts
+    → cond b (t.placed ∷ xs) [] ≡ placed_of (cond b (t ∷ ts) [])
 cond-placed true t xs ts h = ap (λ (k : List Placed). t.placed ∷ k) h
 cond-placed false t xs ts h = refl
 
 complete-early : (held n : ℕ) (ps : List Piece) → complete_from held n ps ≡ placed_of (early_of held (stamped_from n ps))
 complete-early held n [] = refl
-complete-early held n (p ∷ ps) = cond-placed (leb (completed_at n p) held) (stamp (completed_at n p) (n + length p.filler) p.event) _ _ (complete-early held (n + length (bytes_of p)) ps)
+complete-early held n (p ∷ ps) =
+    cond-placed (leb (completed_at n p) held) (stamp (completed_at n p) (n + length p.filler) p.event) _ _
+    (complete-early held (n + length (bytes_of p)) ps)
 
 early-split : (n held m : ℕ) (xs ys : List Stamp) → CameIn n held xs → CameIn held m ys → early_of held (xs ++ ys) ≡ xs
 early-split n held m [] [] h k = refl
 early-split n held m [] (y ∷ ys) h k = cond-false (leb y.completed held) _ _ (lt-leb y.completed held k.0.0)
-early-split n held m (x ∷ xs) ys h k = cond-true (leb x.completed held) _ _ (le-leb x.completed held h.0.1) ∙ ap (λ (t : List Stamp). x ∷ t) (early-split n held m xs ys h.1 k)
+early-split n held m (x ∷ xs) ys h k =
+    cond-true (leb x.completed held) _ _ (le-leb x.completed held h.0.1)
+    ∙ ap (λ (t : List Stamp). x ∷ t) (early-split n held m xs ys h.1 k)
 
 -- a viable front is walked, and the events so far are those that are complete
 abbrev Walks : List Placed → List ℕ → Type 0
@@ -104,76 +126,74 @@ viable_walks events front c = by_state (walk 0 start front) refl
     by_state : (w : Option State) → walk 0 start front ≡ w → Walks events front
     by_state None h =
         absurd (let d = document_walk c.pieces (front ++ c.tail) c.parses in
-        let n : walk 0 start (front ++ c.tail) ≡ None = walk-then 0 (0 + length front) start None None front c.tail refl h (walk-none (0 + length front) c.tail) in cc)
+        let n : walk 0 start (front ++ c.tail) ≡ None =
+        walk-then 0 (0 + length front) start None None front c.tail refl h (walk-none (0 + length front) c.tail) in
+        cc)
     by_state (Some u) h =
         let z : 0 + length front ≡ length front = omega arith in
         let d = document_walk c.pieces (front ++ c.tail) c.parses in
         let g1 = grows front 0 (state NothingYet 0 []) u h in
         let w2 : walk (length front) (Some u) c.tail ≡ Some (state _ (length (front ++ c.tail)) (stamped_from 0 c.pieces)) =
-        ap (λ (s : Option State). walk (length front) s c.tail) (sym h) ∙ sym (walk-append 0 (length front) start front c.tail (sym z)) ∙ d in
+        ap (λ (s : Option State). walk (length front) s c.tail) (sym h)
+        ∙ sym (walk-append 0 (length front) start front c.tail (sym z))
+        ∙ d in
         let g2 = grows c.tail (length front) u (state _ (length (front ++ c.tail)) (stamped_from 0 c.pieces)) w2 in
-        let came : CameIn 0 (length front) u.so_far = subst (λ (k : ℕ). CameIn 0 k u.so_far) z (subst (CameIn 0 (0 + length front)) (sym g1.1) g1.2) in (
+        let came : CameIn 0 (length front) u.so_far =
+        subst (λ (k : ℕ). CameIn 0 k u.so_far) z (subst (CameIn 0 (0 + length front)) (sym g1.1) g1.2) in (
           u,
           h,
-          c.complete ∙ complete-early (length front) 0 c.pieces ∙ ap (λ (t : List Stamp). placed_of (early_of (length front) t)) g2.1
+          c.complete
+              ∙ complete-early (length front) 0 c.pieces
+              ∙ ap (λ (t : List Stamp). placed_of (early_of (length front) t)) g2.1
               ∙ ap placed_of (early-split 0 (length front) (length front + length c.tail) u.so_far g2.0 came g2.2),
         )
 
-abbrev state_or : State → Option State → State
-state_or s None = s
-state_or s (Some u) = u
-
-pub complete_once : (front : List ℕ) (first second : List Placed) → CompleteIn first front → CompleteIn second front → first ≡ second
+pub complete_once : (front : List ℕ) (first second : List Placed) → CompleteIn first front
+    → CompleteIn second front → first ≡ second
 complete_once front first second a b =
     let x = viable_walks first front a in
     let y = viable_walks second front b in
     x.2 ∙ ap (λ (s : Option State). placed_of (so_far_at s)) (sym x.1 ∙ y.1) ∙ sym y.2
 
-pub complete_stays : (front rest : List ℕ) (first second : List Placed) → CompleteIn first front → CompleteIn second (front ++ rest) → (more : List Placed) × (second ≡ first ++ more)
+pub complete_stays : (front rest : List ℕ) (first second : List Placed) → CompleteIn first front
+    → CompleteIn second (front ++ rest) → (more : List Placed) × (second ≡ first ++ more)
 complete_stays front rest first second a b =
     let x = viable_walks first front a in
     let y = viable_walks second (front ++ rest) b in
-    let w : walk (0 + length front) (Some x.0) rest ≡ Some y.0 = ap (λ (s : Option State). walk (0 + length front) s rest) (sym x.1) ∙ sym (walk-append 0 (0 + length front) start front rest refl) ∙ y.1 in
-    let g = grows rest (0 + length front) x.0 y.0 w in
-    (placed_of g.0, y.2 ∙ ap placed_of g.1 ∙ placed-append x.0.so_far g.0 ∙ ap (λ (t : List Placed). t ++ placed_of g.0) (sym x.2))
+    let w : walk (0 + length front) (Some x.0) rest ≡ Some y.0 =
+    ap (λ (s : Option State). walk (0 + length front) s rest) (sym x.1)
+    ∙ sym (walk-append 0 (0 + length front) start front rest refl)
+    ∙ y.1 in
+    let g = grows rest (0 + length front) x.0 y.0 w in (
+      placed_of g.0,
+      y.2 ∙ ap placed_of g.1 ∙ placed-append x.0.so_far g.0 ∙ ap (λ (t : List Placed). t ++ placed_of g.0) (sym x.2),
+    )
 
 -- ---- faults
 
 front_of : (m n : ℕ) (xs : List ℕ) → m ≤ n → (r : List ℕ) × (take n xs ≡ take m xs ++ r)
-front_of zero n [] le = (take n [], refl)
-front_of zero n (x ∷ xs) le = (take n (x ∷ xs), refl)
-front_of (suc m) zero xs le = absurd (omega arith)
-front_of (suc m) (suc n) [] le = ([], refl)
-front_of (suc m) (suc n) (x ∷ xs) le = let r = front_of m n xs (omega arith) in (r.0, ap (λ (t : List ℕ). x ∷ t) r.1)
+front_of m n xs le =
+    let e : n ≡ m + (n - m) = omega arith in
+    (take (n - m) (drop m xs), ap (λ (k : ℕ). take k xs) e ∙ take-add m (n - m) xs)
 
 get-front : (xs ys : List ℕ) (n : ℕ) → n < length xs → slice_get (xs ++ ys) n ≡ slice_get xs n
 get-front [] ys n h = absurd (omega arith)
 get-front (x ∷ xs) ys zero h = refl
 get-front (x ∷ xs) ys (suc n) h = get-front xs ys n (omega arith)
 
-get-past : (xs : List ℕ) → slice_get xs (length xs) ≡ None
-get-past [] = refl
-get-past (x ∷ xs) = get-past xs
-
-take-whole : (xs : List ℕ) → take (length xs) xs ≡ xs
-take-whole [] = refl
-take-whole (x ∷ xs) = ap (λ (t : List ℕ). x ∷ t) (take-whole xs)
-
-take_front : (n : ℕ) (xs ys : List ℕ) → n ≤ length xs → take n (xs ++ ys) ≡ take n xs
-take_front n xs ys le = rw take-append-le refl
-
-pub fault_stays : (bytes more : List ℕ) (fault : Fault) → IsFaultOf bytes fault → fault.place < length bytes → IsFaultOf (bytes ++ more) fault
+pub fault_stays : (bytes more : List ℕ) (fault : Fault) → IsFaultOf bytes fault → fault.place < length bytes
+    → IsFaultOf (bytes ++ more) fault
 fault_stays bytes more fault h lt =
     let len = length-append bytes more in
     elim h [
       | inl t ↦ let long = t.long in let le : 268435456 ≤ length bytes = omega arith in inl (record {
         long = omega arith;
-        viable = subst IsViable (sym (take_front 268435456 bytes more le)) t.viable;
+        viable = subst IsViable (sym (take-append-le 268435456 bytes more le)) t.viable;
         fault_is = t.fault_is;
       })
       | inr r ↦
-          let same = take_front fault.place bytes more (omega arith) in
-          let next = take_front (fault.place + 1) bytes more (omega arith) in
+          let same = take-append-le fault.place bytes more (omega arith) in
+          let next = take-append-le (fault.place + 1) bytes more (omega arith) in
           inr (record {
             longest = record {
               within = omega arith;
@@ -188,7 +208,8 @@ fault_stays bytes more fault h lt =
               ];
             };
             within = let w = r.within in omega arith;
-            refuses = subst (λ (o : Option ℕ). Stops (take fault.place (bytes ++ more)) o fault.reason) (sym (get-front bytes more fault.place lt))
+            refuses = subst (λ (o : Option ℕ). Stops (take fault.place (bytes ++ more)) o fault.reason)
+                (sym (get-front bytes more fault.place lt))
                 (subst (λ (f : List ℕ). Stops f (slice_get bytes fault.place) fault.reason) (sym same) r.refuses);
           })
     ]
@@ -210,18 +231,19 @@ fault_no_document bytes fault h d =
     elim h [
       | inl t ↦ let long = t.long in let short = d.1.short in omega arith
       | inr r ↦
-          let le = r.longest.longest (length bytes) (omega arith) (subst IsViable (sym (take-whole bytes)) (document_viable bytes d)) in
+          let le =
+          r.longest.longest (length bytes) (omega arith)
+          (subst IsViable (sym (take-length bytes)) (document_viable bytes d)) in
           let k : fault.place ≡ length bytes = let w = r.longest.within in omega arith in
           let f = subst (λ (n : ℕ). Stops (take n bytes) (slice_get bytes n) fault.reason) k r.refuses in
-          let g = subst (λ (o : Option ℕ). Stops (take (length bytes) bytes) o fault.reason) (get-past bytes) f in
-          g.0 (subst IsDocument (sym (take-whole bytes)) d)
+          let g =
+          subst (λ (o : Option ℕ). Stops (take (length bytes) bytes) o fault.reason)
+          (slice_get_past bytes (length bytes) (omega arith)) f in
+          g.0 (subst IsDocument (sym (take-length bytes)) d)
     ]
 
-abbrev form_at : Option State → Form
-form_at None = NothingYet
-form_at (Some s) = s.form
-
-pub form_once : (bytes : List ℕ) (f g : Form) {events more : List Placed} {o p : ℕ} → EndsIn f events o bytes → EndsIn g more p bytes → f ≡ g
+pub form_once : (bytes : List ℕ) (f g : Form) {events more : List Placed} {o p : ℕ} → EndsIn f events o bytes
+    → EndsIn g more p bytes → f ≡ g
 form_once bytes f g a b = ap form_at (sym (ends_walk f a) ∙ ends_walk g b)
 
 reason_once : (front : List ℕ) (next : Option ℕ) (r s : Reason) → Stops front next r → Stops front next s → r ≡ s
@@ -239,8 +261,11 @@ fault_once bytes f g a b =
         | inl t ↦ absurd (apart t r)
         | inr q ↦
             let k : f.place ≡ g.place =
-            (let x = q.longest.longest f.place r.longest.within r.longest.viable in let y = r.longest.longest g.place q.longest.within q.longest.viable in omega arith) in
-            let same = reason_once (take g.place bytes) (slice_get bytes g.place) f.reason g.reason (subst (λ (n : ℕ). Stops (take n bytes) (slice_get bytes n) f.reason) k r.refuses) q.refuses in
+            (let x = q.longest.longest f.place r.longest.within r.longest.viable in
+            let y = r.longest.longest g.place q.longest.within q.longest.viable in omega arith) in
+            let same =
+            reason_once (take g.place bytes) (slice_get bytes g.place) f.reason g.reason
+            (subst (λ (n : ℕ). Stops (take n bytes) (slice_get bytes n) f.reason) k r.refuses) q.refuses in
             ap (λ (v : Reason). fault_at v f.place) same ∙ ap (fault_at g.reason) k
       ]
     ]
@@ -280,7 +305,8 @@ closed_whole (p ∷ []) n h = absurd (rest_of p.event [] h)
 closed_whole (p ∷ q ∷ ps) n h = closed_rest (q ∷ ps) n (rest_of p.event (events_in (q ∷ ps)) h)
 
 -- a document ends where its string has ended
-pub document_ends : (events : List Placed) (bytes : List ℕ) → Document events bytes → (opened : ℕ) × EndsIn Ended events opened bytes
+pub document_ends : (events : List Placed) (bytes : List ℕ) → Document events bytes
+    → (opened : ℕ) × EndsIn Ended events opened bytes
 document_ends events bytes d = (
   length (joined d.pieces) + length d.parses.after,
   record {

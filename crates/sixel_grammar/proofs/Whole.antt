@@ -17,7 +17,8 @@ use Rattle.sixel_grammar.specs.Document.{AreFiller, Piece, IsPiece, bytes_of, jo
 use Rattle.sixel_grammar.specs.Prefix.{completed_at, IsViable}
 use Rattle.sixel_grammar.specs.Faults.{Form, NothingYet, Introducing, Parameters, LastSeparator, NoCommand, RepeatNumber, RasterFields, ColourFields, Terminating, Ended, EndsIn, AreSteps, AreBegun, IsClosed}
 use Rattle.sixel_grammar.specs.Next.{begin, within, next_of}
-use Rattle.sixel_grammar.proofs.Walk.{Stamp, stamp, State, state, after, walk, walk-none, walk-then, idle, within-some, number_walk, fields_walk, repeat-digits, raster-digits, raster-separators, colour-digits, colour-separators, parameters-digits, parameters-separators, Ready, Rests, command-reaches}
+use Rattle.sixel_grammar.proofs.Walk.{Stamp, stamp, State, state, after, walk, walk-none, walk-then, idle, within-some, number_walk, fields_walk, repeat-digits, raster-digits, raster-separators, colour-digits, colour-separators, parameters-digits, parameters-separators, is_data-bits, Ready, Rests, command-reaches}
+use Rattle.sixel_grammar.proofs.Parts.{start_of}
 
 -- the events of pieces that stand from n on, each with the number of bytes with which it is complete
 abbrev pub stamped_from : ℕ → List Piece → List Stamp
@@ -39,19 +40,29 @@ idle-filler : (n : ℕ) (s : List Stamp) (xs : List ℕ) → AreFiller xs → wa
 idle-filler n s [] k = let z : n ≡ n + 0 = omega arith in ap (λ (j : ℕ). idle j s) z
 idle-filler n s (x ∷ xs) k =
     let z : n + 1 + length xs ≡ n + length (x ∷ xs) = omega arith in
-    ap (λ (w : Option State). walk (n + 1) w xs) (within-some n n s NoCommand NoCommand x None (begin-filler x k.0)) ∙ idle-filler (n + 1) s xs k.1 ∙ ap (λ (j : ℕ). idle j s) z
+    ap (λ (w : Option State). walk (n + 1) w xs) (within-some n n s NoCommand NoCommand x None (begin-filler x k.0))
+    ∙ idle-filler (n + 1) s xs k.1
+    ∙ ap (λ (j : ℕ). idle j s) z
 
-outside-filler : (n : ℕ) (xs : List ℕ) → AreFiller xs → walk n (Some (state NothingYet n [])) xs ≡ Some (state NothingYet (n + length xs) [])
+outside-filler : (n : ℕ) (xs : List ℕ) → AreFiller xs
+    → walk n (Some (state NothingYet n [])) xs ≡ Some (state NothingYet (n + length xs) [])
 outside-filler n [] k = let z : n ≡ n + 0 = omega arith in ap (λ (j : ℕ). Some (state NothingYet j [])) z
 outside-filler n (x ∷ xs) k =
     let z : n + 1 + length xs ≡ n + length (x ∷ xs) = omega arith in
-    ap (λ (w : Option State). walk (n + 1) w xs) (within-some n n [] NothingYet NothingYet x None (cond-true (is_filler x) _ _ k.0)) ∙ outside-filler (n + 1) xs k.1 ∙ ap (λ (j : ℕ). Some (state NothingYet j [])) z
+    ap (λ (w : Option State). walk (n + 1) w xs)
+    (within-some n n [] NothingYet NothingYet x None (cond-true (is_filler x) _ _ k.0))
+    ∙ outside-filler (n + 1) xs k.1
+    ∙ ap (λ (j : ℕ). Some (state NothingYet j [])) z
 
-ended-filler : (n : ℕ) (s : List Stamp) (xs : List ℕ) → AreFiller xs → walk n (Some (state Ended n s)) xs ≡ Some (state Ended (n + length xs) s)
+ended-filler : (n : ℕ) (s : List Stamp) (xs : List ℕ) → AreFiller xs
+    → walk n (Some (state Ended n s)) xs ≡ Some (state Ended (n + length xs) s)
 ended-filler n s [] k = let z : n ≡ n + 0 = omega arith in ap (λ (j : ℕ). Some (state Ended j s)) z
 ended-filler n s (x ∷ xs) k =
     let z : n + 1 + length xs ≡ n + length (x ∷ xs) = omega arith in
-    ap (λ (w : Option State). walk (n + 1) w xs) (within-some n n s Ended Ended x None (cond-true (is_filler x) _ _ k.0)) ∙ ended-filler (n + 1) s xs k.1 ∙ ap (λ (j : ℕ). Some (state Ended j s)) z
+    ap (λ (w : Option State). walk (n + 1) w xs)
+    (within-some n n s Ended Ended x None (cond-true (is_filler x) _ _ k.0))
+    ∙ ended-filler (n + 1) s xs k.1
+    ∙ ap (λ (j : ℕ). Some (state Ended j s)) z
 
 -- ---- from a ready state
 
@@ -64,18 +75,21 @@ filler-begins : (xs ys : List ℕ) → AreFiller xs → (0 < length xs) ⊎ Begi
 filler-begins [] ys k h = elim h [ inl t ↦ absurd (omega arith) | inr t ↦ t ]
 filler-begins (x ∷ xs) ys k h = ((NoCommand, None), begin-filler x k.0)
 
-ready-walk : (n : ℕ) (st : State) (s : List Stamp) (text : List ℕ) → Ready n st s → Begins text → walk n (Some st) text ≡ walk n (idle n s) text
+ready-walk : (n : ℕ) (st : State) (s : List Stamp) (text : List ℕ) → Ready n st s → Begins text
+    → walk n (Some st) text ≡ walk n (idle n s) text
 ready-walk n st s [] r h = absurd h
 ready-walk n st s (b ∷ bs) r h = ap (λ (w : Option State). walk (n + 1) w bs) (r b h.0 h.1)
 
 -- filler and then a text, from a ready state
-ready-then : (n m : ℕ) (st : State) (s : List Stamp) (filler text : List ℕ) (u : Option State) → Ready n st s → AreFiller filler → (0 < length filler) ⊎ Begins text → m ≡ n + length filler → walk m (idle m s) text ≡ u → walk n (Some st) (filler ++ text) ≡ u
+ready-then : (n m : ℕ) (st : State) (s : List Stamp) (filler text : List ℕ) (u : Option State) → Ready n st s
+    → AreFiller filler → (0 < length filler) ⊎ Begins text → m ≡ n + length filler → walk m (idle m s) text ≡ u
+    → walk n (Some st) (filler ++ text) ≡ u
 ready-then n m st s filler text u r k h e w =
     ready-walk n st s (filler ++ text) r (filler-begins filler text k h)
     ∙ walk-then n m (idle n s) (idle m s) u filler text e (idle-filler n s filler k ∙ ap (λ (j : ℕ). idle j s) (sym e)) w
 
 data-begins : (bits : ℕ) → bits ≤ 63 → Begins ((63 + bits) ∷ [])
-data-begins bits h = let t : is_data (63 + bits) ≡ true = grind (arith, nat_tests) in (_, cond-true (is_data (63 + bits)) _ _ t)
+data-begins bits h = (_, cond-true (is_data (63 + bits)) _ _ (is_data-bits bits h))
 
 command-begins : (c : Command) (text : List ℕ) → SpellsCommand c text → Begins text
 command-begins (Sixel bits) text h = subst Begins (sym h.1) (data-begins bits h.0)
@@ -89,9 +103,13 @@ command-begins NextLine text h = subst Begins (sym h) (_, refl)
 -- ---- pieces
 
 abbrev pub PieceReaches : ℕ → State → List Stamp → Piece → Type 0
-PieceReaches n st s p = (u : State) × (walk n (Some st) (bytes_of p) ≡ Some u) × Rests (n + length (bytes_of p)) (n + length p.filler) s p.event u
+PieceReaches n st s p =
+    (u : State) × (walk n (Some st) (bytes_of p) ≡ Some u)
+    × Rests (n + length (bytes_of p)) (n + length p.filler) s p.event u
 
-step_piece : (n : ℕ) (st : State) (s : List Stamp) (filler text : List ℕ) (event : Event) → Ready n st s → AreFiller filler → Spells event text → (more : List Event) → AreSteps (event ∷ more) → PieceReaches n st s (record { filler = filler; text = text; event = event }) × AreSteps more
+step_piece : (n : ℕ) (st : State) (s : List Stamp) (filler text : List ℕ) (event : Event) → Ready n st s
+    → AreFiller filler → Spells event text → (more : List Event) → AreSteps (event ∷ more)
+    → PieceReaches n st s (record { filler = filler; text = text; event = event }) × AreSteps more
 step_piece n st s filler text (Start eight ps) r k spells more h = absurd h
 step_piece n st s filler text (Step c) r k spells more h =
     let m : ℕ = n + length filler in
@@ -111,32 +129,47 @@ abbrev pub Settles : List Piece → ℕ → List Stamp → State → Type 0
 Settles ps n s u = Ready n u s × ((Some u ≡ idle n s) ⊎ ((j : ℕ) → IsClosed ps j → 0 < j))
 
 abbrev pub Leads : List Piece → ℕ → List Stamp → Option State → List Piece → Type 0
-Leads all n s w ps = (u : State) × (walk n w (joined ps) ≡ Some u) × Settles all (n + length (joined ps)) (s ++ stamped_from n ps) u
+Leads all n s w ps =
+    (u : State) × (walk n w (joined ps) ≡ Some u) × Settles all (n + length (joined ps)) (s ++ stamped_from n ps) u
 
 -- one piece, and then the others
-leads-more : (all ps : List Piece) (p : Piece) (n : ℕ) (s : List Stamp) (w : Option State) (v : State) → walk n w (bytes_of p) ≡ Some v
-    → Leads all (n + length (bytes_of p)) (s ++ stamp (completed_at n p) (n + length p.filler) p.event ∷ []) (Some v) ps → Leads all n s w (p ∷ ps)
+leads-more : (all ps : List Piece) (p : Piece) (n : ℕ) (s : List Stamp) (w : Option State) (v : State)
+    → walk n w (bytes_of p) ≡ Some v
+    → Leads all (n + length (bytes_of p)) (s ++ stamp (completed_at n p) (n + length p.filler) p.event ∷ []) (Some v) ps
+    → Leads all n s w (p ∷ ps)
 leads-more all ps p n s w v h l =
-    let e : n + length (bytes_of p) + length (joined ps) ≡ n + length (bytes_of p ++ joined ps) = omega (arith, length-append (bytes_of p) (joined ps)) in (
+    let e : n + length (bytes_of p) + length (joined ps) ≡ n + length (bytes_of p ++ joined ps) =
+    omega (arith, length-append (bytes_of p) (joined ps)) in (
       l.0,
       walk-then n (n + length (bytes_of p)) w (Some v) (Some l.0) (bytes_of p) (joined ps) refl h l.1,
       subst (λ (j : ℕ). Settles all j (s ++ stamped_from n (p ∷ ps)) l.0) e
-          (subst (λ (t : List Stamp). Settles all (n + length (bytes_of p) + length (joined ps)) t l.0) (append_assoc s (stamp (completed_at n p) (n + length p.filler) p.event ∷ []) (stamped_from (n + length (bytes_of p)) ps)) l.2),
+          (subst (λ (t : List Stamp). Settles all (n + length (bytes_of p) + length (joined ps)) t l.0)
+          (append_assoc s (stamp (completed_at n p) (n + length p.filler) p.event ∷ [])
+          (stamped_from (n + length (bytes_of p)) ps)) l.2),
     )
 
-pub steps_walk : (ps : List Piece) (p : Piece) (n : ℕ) (st : State) (s : List Stamp) → Ready n st s → ((Some st ≡ idle n s) ⊎ IsTrue (is_open_ended p.event)) → AllByRecursion IsPiece ps → AreSteps (events_in ps) → Leads (p ∷ ps) n s (Some st) ps
+pub steps_walk : (ps : List Piece) (p : Piece) (n : ℕ) (st : State) (s : List Stamp) → Ready n st s
+    → ((Some st ≡ idle n s) ⊎ IsTrue (is_open_ended p.event)) → AllByRecursion IsPiece ps → AreSteps (events_in ps)
+    → Leads (p ∷ ps) n s (Some st) ps
 steps_walk [] p n st s r shut each h =
     let z : n ≡ n + 0 = omega arith in
-    let last : (Some st ≡ idle n s) ⊎ ((j : ℕ) → IsClosed (p ∷ []) j → 0 < j) = elim shut [ inl t ↦ inl t | inr t ↦ inr (λ j c. c t) ] in
-    (st, refl, subst (λ (j : ℕ). Settles (p ∷ []) j (s ++ []) st) z (subst (λ (t : List Stamp). Settles (p ∷ []) n t st) (sym (append-nil s)) (r, last)))
+    let last : (Some st ≡ idle n s) ⊎ ((j : ℕ) → IsClosed (p ∷ []) j → 0 < j) =
+    elim shut [ inl t ↦ inl t | inr t ↦ inr (λ j c. c t) ] in (
+      st,
+      refl,
+      subst (λ (j : ℕ). Settles (p ∷ []) j (s ++ []) st) z
+          (subst (λ (t : List Stamp). Settles (p ∷ []) n t st) (sym (append-nil s)) (r, last)),
+    )
 steps_walk (q ∷ ps) p n st s r shut each h =
     let g = step_piece n st s q.filler q.text q.event r each.0.filler_is each.0.spells (events_in ps) h in
-    leads-more (p ∷ q ∷ ps) ps q n s (Some st) g.0.0 g.0.1 (steps_walk ps q (n + length (bytes_of q)) g.0.0 _ g.0.2.0 g.0.2.1 each.1 g.1)
+    leads-more (p ∷ q ∷ ps) ps q n s (Some st) g.0.0 g.0.1
+    (steps_walk ps q (n + length (bytes_of q)) g.0.0 _ g.0.2.0 g.0.2.1 each.1 g.1)
 
 abbrev pub finished : ℕ → List Stamp → List Piece → Option State
 finished n s ps = Some (state Ended (n + length (joined ps)) (s ++ stamped_from n ps))
 
-finish_walk : (m : ℕ) (s : List Stamp) (eight : Bool) (text : List ℕ) → Spells (Finish eight) text → walk m (idle m s) text ≡ Some (state Ended (m + length text) (s ++ stamp (m + length text) m (Finish eight) ∷ []))
+finish_walk : (m : ℕ) (s : List Stamp) (eight : Bool) (text : List ℕ) → Spells (Finish eight) text
+    → walk m (idle m s) text ≡ Some (state Ended (m + length text) (s ++ stamp (m + length text) m (Finish eight) ∷ []))
 finish_walk m s false text h =
     let e : m + 1 + 1 ≡ m + length text = rw h (omega arith) in
     ap (walk m (idle m s)) h ∙ ap (λ (j : ℕ). Some (state Ended j (s ++ stamp j m (Finish false) ∷ []))) e
@@ -152,7 +185,8 @@ none_said : (ps : List Piece) → events_in ps ≡ [] → ps ≡ []
 none_said [] h = refl
 none_said (p ∷ ps) h = absurd cc
 
-finish_piece : (n : ℕ) (st : State) (s : List Stamp) (p : Piece) (eight : Bool) → p.event ≡ Finish eight → Ready n st s → IsPiece p → walk n (Some st) (joined (p ∷ [])) ≡ finished n s (p ∷ [])
+finish_piece : (n : ℕ) (st : State) (s : List Stamp) (p : Piece) (eight : Bool) → p.event ≡ Finish eight
+    → Ready n st s → IsPiece p → walk n (Some st) (joined (p ∷ [])) ≡ finished n s (p ∷ [])
 finish_piece n st s p eight is r h =
     let spells : Spells (Finish eight) p.text = subst (λ (e : Event). Spells e p.text) is h.spells in
     let m : ℕ = n + length p.filler in
@@ -161,61 +195,86 @@ finish_piece n st s p eight is r h =
     let d : n + length p.filler + length p.text ≡ completed_at n p = rw is (omega (arith, length-append p.filler p.text)) in
     ap (walk n (Some st)) (append-nil (bytes_of p))
     ∙ ready-then n (n + length p.filler) st s p.filler p.text _ r h.filler_is (inr (finish-begins eight p.text spells)) refl w
-    ∙ ap (λ (j : ℕ). Some (state Ended (n + length p.filler + length p.text) (s ++ stamp j (n + length p.filler) (Finish eight) ∷ []))) d
-    ∙ ap (λ (j : ℕ). Some (state Ended j (s ++ stamp (completed_at n p) (n + length p.filler) (Finish eight) ∷ []))) (e ∙ ap (λ (t : List ℕ). n + length t) (sym (append-nil (bytes_of p))))
-    ∙ ap (λ (v : Event). Some (state Ended (n + length (joined (p ∷ []))) (s ++ stamp (completed_at n p) (n + length p.filler) v ∷ []))) (sym is)
+    ∙ ap (λ (j : ℕ).
+    Some (state Ended (n + length p.filler + length p.text) (s ++ stamp j (n + length p.filler) (Finish eight) ∷ []))) d
+    ∙ ap (λ (j : ℕ). Some (state Ended j (s ++ stamp (completed_at n p) (n + length p.filler) (Finish eight) ∷ [])))
+    (e ∙ ap (λ (t : List ℕ). n + length t) (sym (append-nil (bytes_of p))))
+    ∙ ap (λ (v : Event).
+    Some (state Ended (n + length (joined (p ∷ []))) (s ++ stamp (completed_at n p) (n + length p.filler) v ∷ [])))
+    (sym is)
 
 -- a piece of the rest of a document is a step or the finish, and then no more follow
-rest_piece : (n : ℕ) (st : State) (s : List Stamp) (p : Piece) (event : Event) → p.event ≡ event → Ready n st s → IsPiece p → (more : List Event) → AreRest (event ∷ more)
+rest_piece : (n : ℕ) (st : State) (s : List Stamp) (p : Piece) (event : Event) → p.event ≡ event → Ready n st s
+    → IsPiece p → (more : List Event) → AreRest (event ∷ more)
     → (PieceReaches n st s p × AreRest more) ⊎ ((walk n (Some st) (joined (p ∷ [])) ≡ finished n s (p ∷ [])) × (more ≡ []))
 rest_piece n st s p (Start eight ps) is r k more h = absurd h
 rest_piece n st s p (Step c) is r k more h =
-    inl ((step_piece n st s p.filler p.text p.event r k.filler_is k.spells [] (subst (λ (e : Event). AreSteps (e ∷ [])) (sym is) tt)).0, h)
+    inl (
+      (step_piece n st s p.filler p.text p.event r k.filler_is k.spells []
+          (subst (λ (e : Event). AreSteps (e ∷ [])) (sym is) tt)).0,
+      h,
+    )
 rest_piece n st s p (Finish eight) is r k more h = inr (finish_piece n st s p eight is r k, h)
 
-finished-more : (ps : List Piece) (p : Piece) (n : ℕ) (s : List Stamp) (w : Option State) (v : State) → walk n w (bytes_of p) ≡ Some v
-    → walk (n + length (bytes_of p)) (Some v) (joined ps) ≡ finished (n + length (bytes_of p)) (s ++ stamp (completed_at n p) (n + length p.filler) p.event ∷ []) ps → walk n w (joined (p ∷ ps)) ≡ finished n s (p ∷ ps)
+finished-more : (ps : List Piece) (p : Piece) (n : ℕ) (s : List Stamp) (w : Option State) (v : State)
+    → walk n w (bytes_of p) ≡ Some v
+    → walk (n + length (bytes_of p)) (Some v) (joined ps)
+    ≡ finished (n + length (bytes_of p)) (s ++ stamp (completed_at n p) (n + length p.filler) p.event ∷ []) ps
+    → walk n w (joined (p ∷ ps)) ≡ finished n s (p ∷ ps)
 finished-more ps p n s w v h l =
-    let e : n + length (bytes_of p) + length (joined ps) ≡ n + length (bytes_of p ++ joined ps) = omega (arith, length-append (bytes_of p) (joined ps)) in
+    let e : n + length (bytes_of p) + length (joined ps) ≡ n + length (bytes_of p ++ joined ps) =
+    omega (arith, length-append (bytes_of p) (joined ps)) in
     walk-then n (n + length (bytes_of p)) w (Some v) _ (bytes_of p) (joined ps) refl h l
-    ∙ ap (λ (t : List Stamp). Some (state Ended (n + length (bytes_of p) + length (joined ps)) t)) (append_assoc s (stamp (completed_at n p) (n + length p.filler) p.event ∷ []) (stamped_from (n + length (bytes_of p)) ps))
+    ∙ ap (λ (t : List Stamp). Some (state Ended (n + length (bytes_of p) + length (joined ps)) t))
+    (append_assoc s (stamp (completed_at n p) (n + length p.filler) p.event ∷ [])
+    (stamped_from (n + length (bytes_of p)) ps))
     ∙ ap (λ (j : ℕ). Some (state Ended j (s ++ stamped_from n (p ∷ ps)))) e
 
-pub rest_walk : (ps : List Piece) (n : ℕ) (st : State) (s : List Stamp) → Ready n st s → AllByRecursion IsPiece ps → AreRest (events_in ps) → walk n (Some st) (joined ps) ≡ finished n s ps
+pub rest_walk : (ps : List Piece) (n : ℕ) (st : State) (s : List Stamp) → Ready n st s
+    → AllByRecursion IsPiece ps → AreRest (events_in ps) → walk n (Some st) (joined ps) ≡ finished n s ps
 rest_walk [] n st s r each h = absurd h
 rest_walk (p ∷ ps) n st s r each h =
     elim (rest_piece n st s p p.event refl r each.0 (events_in ps) h) [
       | inl g ↦ finished-more ps p n s (Some st) g.0.0 g.0.1 (rest_walk ps (n + length (bytes_of p)) g.0.0 _ g.0.2.0 each.1 g.1)
-      | inr g ↦ subst (λ (qs : List Piece). walk n (Some st) (joined (p ∷ qs)) ≡ finished n s (p ∷ qs)) (sym (none_said ps g.1)) g.0
+      | inr g ↦
+          subst (λ (qs : List Piece). walk n (Some st) (joined (p ∷ qs)) ≡ finished n s (p ∷ qs)) (sym (none_said ps g.1)) g.0
     ]
 
 -- ---- the start
 
-introduced : (n m : ℕ) (eight : Bool) → walk n (Some (state NothingYet m [])) (introducer eight) ≡ Some (state (Parameters eight [] 0) m [])
+introduced : (n m : ℕ) (eight : Bool)
+    → walk n (Some (state NothingYet m [])) (introducer eight) ≡ Some (state (Parameters eight [] 0) m [])
 introduced n m false = refl
 introduced n m true = refl
 
-parameters_walk : (n m : ℕ) (eight : Bool) (ns : List ℕ) (k : ℕ) (fields : List ℕ) → Fields (ns ++ k ∷ []) fields → length ns ≤ 2 → walk n (Some (state NothingYet m [])) (introducer eight ++ fields) ≡ Some (state (Parameters eight ns k) m [])
+parameters_walk : (n m : ℕ) (eight : Bool) (ns : List ℕ) (k : ℕ) (fields : List ℕ)
+    → Fields (ns ++ k ∷ []) fields → length ns ≤ 2
+    → walk n (Some (state NothingYet m [])) (introducer eight ++ fields) ≡ Some (state (Parameters eight ns k) m [])
 parameters_walk n m eight ns k fields f le =
-    walk-then n (n + length (introducer eight)) _ _ _ (introducer eight) fields refl (introduced n m eight) (fields_walk (Parameters eight) 2 (parameters-digits eight) (parameters-separators eight) (n + length (introducer eight)) m [] ns k [] fields f (omega arith))
-
-abbrev pub start_of : Bool → List ℕ → Event
-start_of eight ns = Start eight (record { items = ns })
+    walk-then n (n + length (introducer eight)) _ _ _ (introducer eight) fields refl (introduced n m eight)
+    (fields_walk (Parameters eight) 2 (parameters-digits eight) (parameters-separators eight)
+    (n + length (introducer eight)) m [] ns k [] fields f (omega arith))
 
 -- from parameters on: `q`, or after three of them `;q`
-last_walk : (n m : ℕ) (eight : Bool) (ns : List ℕ) (k : ℕ) (last : List ℕ) → length ns ≤ 2 → ((last ≡ 113 ∷ []) ⊎ ((last ≡ 59 ∷ 113 ∷ []) × (length (ns ++ k ∷ []) ≡ 3)))
-    → walk n (Some (state (Parameters eight ns k) m [])) last ≡ idle (n + length last) (stamp (n + length last) m (start_of eight (ns ++ k ∷ [])) ∷ [])
+last_walk : (n m : ℕ) (eight : Bool) (ns : List ℕ) (k : ℕ) (last : List ℕ) → length ns ≤ 2
+    → ((last ≡ 113 ∷ []) ⊎ ((last ≡ 59 ∷ 113 ∷ []) × (length (ns ++ k ∷ []) ≡ 3)))
+    → walk n (Some (state (Parameters eight ns k) m [])) last
+    ≡ idle (n + length last) (stamp (n + length last) m (start_of eight (ns ++ k ∷ [])) ∷ [])
 last_walk n m eight ns k last le h =
     elim h [
       | inl e ↦
-          let w : within (Parameters eight ns k) 113 ≡ Some (NoCommand, Some (start_of eight (ns ++ k ∷ []))) = cond-true (ltb (length ns) 3) _ _ (lt-ltb (length ns) 3 (omega arith)) in
-          ap (walk n (Some (state (Parameters eight ns k) m []))) e ∙ within-some n m [] (Parameters eight ns k) NoCommand 113 (Some (start_of eight (ns ++ k ∷ []))) w ∙ ap (λ (t : List ℕ). idle (n + length t) (stamp (n + length t) m (start_of eight (ns ++ k ∷ [])) ∷ [])) (sym e)
+          let w : within (Parameters eight ns k) 113 ≡ Some (NoCommand, Some (start_of eight (ns ++ k ∷ []))) =
+          cond-true (ltb (length ns) 3) _ _ (lt-ltb (length ns) 3 (omega arith)) in
+          ap (walk n (Some (state (Parameters eight ns k) m []))) e
+          ∙ within-some n m [] (Parameters eight ns k) NoCommand 113 (Some (start_of eight (ns ++ k ∷ []))) w
+          ∙ ap (λ (t : List ℕ). idle (n + length t) (stamp (n + length t) m (start_of eight (ns ++ k ∷ [])) ∷ [])) (sym e)
       | inr e ↦
           let ge : (length ns ≡ 2) = omega (arith, e.1, length-append ns (k ∷ [])) in
           let w : within (Parameters eight ns k) 59 ≡ Some (LastSeparator eight (ns ++ k ∷ []), None) = rw ge refl in
           let z : n + 1 + 1 ≡ n + 2 = omega arith in
           ap (walk n (Some (state (Parameters eight ns k) m []))) e.0
-          ∙ ap (λ (t : Option State). walk (n + 1) t (113 ∷ [])) (within-some n m [] (Parameters eight ns k) (LastSeparator eight (ns ++ k ∷ [])) 59 None w)
+          ∙ ap (λ (t : Option State). walk (n + 1) t (113 ∷ []))
+          (within-some n m [] (Parameters eight ns k) (LastSeparator eight (ns ++ k ∷ [])) 59 None w)
           ∙ ap (λ (j : ℕ). idle j (stamp j m (start_of eight (ns ++ k ∷ [])) ∷ [])) z
           ∙ ap (λ (t : List ℕ). idle (n + length t) (stamp (n + length t) m (start_of eight (ns ++ k ∷ [])) ∷ [])) (sym e.0)
     ]
@@ -223,40 +282,55 @@ last_walk n m eight ns k last le h =
 abbrev pub begun : ℕ → ℕ → Event → Option State
 begun k m event = idle k (stamp k m event ∷ [])
 
-one_start : (m : ℕ) (eight : Bool) (ns : List ℕ) (k : ℕ) (text fields last : List ℕ) → Fields (ns ++ k ∷ []) fields → length ns ≤ 2 → ((last ≡ 113 ∷ []) ⊎ ((last ≡ 59 ∷ 113 ∷ []) × (length (ns ++ k ∷ []) ≡ 3)))
-    → text ≡ introducer eight ++ fields ++ last → walk m (Some (state NothingYet m [])) text ≡ begun (m + length text) m (start_of eight (ns ++ k ∷ []))
+one_start : (m : ℕ) (eight : Bool) (ns : List ℕ) (k : ℕ) (text fields last : List ℕ)
+    → Fields (ns ++ k ∷ []) fields → length ns ≤ 2
+    → ((last ≡ 113 ∷ []) ⊎ ((last ≡ 59 ∷ 113 ∷ []) × (length (ns ++ k ∷ []) ≡ 3)))
+    → text ≡ introducer eight ++ fields ++ last
+    → walk m (Some (state NothingYet m [])) text ≡ begun (m + length text) m (start_of eight (ns ++ k ∷ []))
 one_start m eight ns k text fields last f le l e =
-    let z : m + length (introducer eight ++ fields) + length last ≡ m + length text = omega (arith, ap length e, length-append (introducer eight ++ fields) last) in
+    let z : m + length (introducer eight ++ fields) + length last ≡ m + length text =
+    omega (arith, ap length e, length-append (introducer eight ++ fields) last) in
     ap (walk m (Some (state NothingYet m []))) e
-    ∙ walk-then m (m + length (introducer eight ++ fields)) _ _ _ (introducer eight ++ fields) last refl (parameters_walk m m eight ns k fields f le) (last_walk (m + length (introducer eight ++ fields)) m eight ns k last le l)
+    ∙ walk-then m (m + length (introducer eight ++ fields)) _ _ _ (introducer eight ++ fields) last refl
+    (parameters_walk m m eight ns k fields f le)
+    (last_walk (m + length (introducer eight ++ fields)) m eight ns k last le l)
     ∙ ap (λ (j : ℕ). begun j m (start_of eight (ns ++ k ∷ []))) z
 
-start_text : (m : ℕ) (eight : Bool) (ns : List ℕ) (text fields last : List ℕ) → Fields ns fields → length ns ≤ 3 → ((last ≡ 113 ∷ []) ⊎ ((last ≡ 59 ∷ 113 ∷ []) × (length ns ≡ 3)))
-    → text ≡ introducer eight ++ fields ++ last → walk m (Some (state NothingYet m [])) text ≡ begun (m + length text) m (start_of eight ns)
+start_text : (m : ℕ) (eight : Bool) (ns : List ℕ) (text fields last : List ℕ) → Fields ns fields → length ns ≤ 3
+    → ((last ≡ 113 ∷ []) ⊎ ((last ≡ 59 ∷ 113 ∷ []) × (length ns ≡ 3)))
+    → text ≡ introducer eight ++ fields ++ last
+    → walk m (Some (state NothingYet m [])) text ≡ begun (m + length text) m (start_of eight ns)
 start_text m eight [] text fields last f le l e = absurd f
 start_text m eight (a ∷ []) text fields last f le l e = one_start m eight [] a text fields last f (omega arith) l e
 start_text m eight (a ∷ b ∷ []) text fields last f le l e = one_start m eight (a ∷ []) b text fields last f (omega arith) l e
-start_text m eight (a ∷ b ∷ c ∷ []) text fields last f le l e = one_start m eight (a ∷ b ∷ []) c text fields last f (omega arith) l e
+start_text m eight (a ∷ b ∷ c ∷ []) text fields last f le l e =
+    one_start m eight (a ∷ b ∷ []) c text fields last f (omega arith) l e
 start_text m eight (a ∷ b ∷ c ∷ d ∷ ns) text fields last f le l e = absurd (omega arith)
 
 -- the first piece: the state after it
-first_piece : (p : Piece) (eight : Bool) (ns : List ℕ) → p.event ≡ start_of eight ns → IsPiece p → walk 0 start (bytes_of p) ≡ idle (0 + length (bytes_of p)) (stamp (completed_at 0 p) (0 + length p.filler) p.event ∷ [])
+first_piece : (p : Piece) (eight : Bool) (ns : List ℕ) → p.event ≡ start_of eight ns → IsPiece p
+    → walk 0 start (bytes_of p)
+    ≡ idle (0 + length (bytes_of p)) (stamp (completed_at 0 p) (0 + length p.filler) p.event ∷ [])
 first_piece p eight ns is h =
     let spells : Spells (start_of eight ns) p.text = subst (λ (e : Event). Spells e p.text) is h.spells in
     let w = start_text (0 + length p.filler) eight ns p.text spells.0 spells.1 spells.2 spells.3 spells.4 spells.5 in
     let e : 0 + length p.filler + length p.text ≡ 0 + length (bytes_of p) = omega (arith, length-append p.filler p.text) in
     let d : 0 + length (bytes_of p) ≡ completed_at 0 p = rw is (omega arith) in
-    walk-then 0 (0 + length p.filler) start (Some (state NothingYet (0 + length p.filler) [])) _ p.filler p.text refl (outside-filler 0 p.filler h.filler_is) w
+    walk-then 0 (0 + length p.filler) start
+    (Some (state NothingYet (0 + length p.filler) [])) _ p.filler p.text refl
+    (outside-filler 0 p.filler h.filler_is) w
     ∙ ap (λ (j : ℕ). begun j (0 + length p.filler) (start_of eight ns)) e
     ∙ ap (λ (j : ℕ). idle (0 + length (bytes_of p)) (stamp j (0 + length p.filler) (start_of eight ns) ∷ [])) d
     ∙ ap (λ (v : Event). idle (0 + length (bytes_of p)) (stamp (completed_at 0 p) (0 + length p.filler) v ∷ [])) (sym is)
 
-begun_piece : (event : Event) (more : List Event) → AreBegun (event ∷ more) → (eight : Bool) × (ns : List ℕ) × (event ≡ start_of eight ns) × AreSteps more × (is_open_ended event ≡ false)
+begun_piece : (event : Event) (more : List Event) → AreBegun (event ∷ more)
+    → (eight : Bool) × (ns : List ℕ) × (event ≡ start_of eight ns) × AreSteps more × (is_open_ended event ≡ false)
 begun_piece (Start eight ps) more h = (eight, ps.items, refl, h, refl)
 begun_piece (Step c) more h = absurd h
 begun_piece (Finish eight) more h = absurd h
 
-whole_piece : (event : Event) (more : List Event) → AreWhole (event ∷ more) → (eight : Bool) × (ns : List ℕ) × (event ≡ start_of eight ns) × AreRest more
+whole_piece : (event : Event) (more : List Event) → AreWhole (event ∷ more)
+    → (eight : Bool) × (ns : List ℕ) × (event ≡ start_of eight ns) × AreRest more
 whole_piece (Start eight ps) more h = (eight, ps.items, refl, h)
 whole_piece (Step c) more h = absurd h
 whole_piece (Finish eight) more h = absurd h
@@ -265,19 +339,25 @@ pub begun_walk : (ps : List Piece) → AllByRecursion IsPiece ps → AreBegun (e
 begun_walk [] each h = absurd h
 begun_walk (p ∷ ps) each h =
     let g = begun_piece p.event (events_in ps) h in
-    leads-more (p ∷ ps) ps p 0 [] start _ (first_piece p g.0 g.1 g.2 each.0) (steps_walk ps p (0 + length (bytes_of p)) _ _ (λ b x k. refl) (inl refl) each.1 g.3)
+    leads-more (p ∷ ps) ps p 0 [] start _ (first_piece p g.0 g.1 g.2 each.0)
+    (steps_walk ps p (0 + length (bytes_of p)) _ _ (λ b x k. refl) (inl refl) each.1 g.3)
 
-pub whole_walk : (ps : List Piece) → AllByRecursion IsPiece ps → AreWhole (events_in ps) → walk 0 start (joined ps) ≡ finished 0 [] ps
+pub whole_walk : (ps : List Piece) → AllByRecursion IsPiece ps → AreWhole (events_in ps)
+    → walk 0 start (joined ps) ≡ finished 0 [] ps
 whole_walk [] each h = absurd h
 whole_walk (p ∷ ps) each h =
     let g = whole_piece p.event (events_in ps) h in
-    finished-more ps p 0 [] start _ (first_piece p g.0 g.1 g.2 each.0) (rest_walk ps (0 + length (bytes_of p)) _ _ (λ b x k. refl) each.1 g.3)
+    finished-more ps p 0 [] start _ (first_piece p g.0 g.1 g.2 each.0)
+    (rest_walk ps (0 + length (bytes_of p)) _ _ (λ b x k. refl) each.1 g.3)
 
-pub document_walk : (ps : List Piece) (bytes : List ℕ) → Parses ps bytes → walk 0 start bytes ≡ Some (state Ended (length bytes) (stamped_from 0 ps))
+pub document_walk : (ps : List Piece) (bytes : List ℕ) → Parses ps bytes
+    → walk 0 start bytes ≡ Some (state Ended (length bytes) (stamped_from 0 ps))
 document_walk ps bytes d =
-    let e : 0 + length (joined ps) + length d.after ≡ length bytes = omega (arith, ap length d.bytes_are, length-append (joined ps) d.after) in
+    let e : 0 + length (joined ps) + length d.after ≡ length bytes =
+    omega (arith, ap length d.bytes_are, length-append (joined ps) d.after) in
     ap (walk 0 start) d.bytes_are
-    ∙ walk-then 0 (0 + length (joined ps)) start (finished 0 [] ps) _ (joined ps) d.after refl (whole_walk ps d.each d.whole) (ended-filler (0 + length (joined ps)) (stamped_from 0 ps) d.after d.after_is)
+    ∙ walk-then 0 (0 + length (joined ps)) start (finished 0 [] ps) _ (joined ps) d.after refl
+    (whole_walk ps d.each d.whole) (ended-filler (0 + length (joined ps)) (stamped_from 0 ps) d.after d.after_is)
     ∙ ap (λ (j : ℕ). Some (state Ended j (stamped_from 0 ps))) e
 
 -- ---- what ends in a form
@@ -286,24 +366,30 @@ abbrev Walked : Form → ℕ → List ℕ → List Piece → Type 0
 Walked f opened bytes ps = walk 0 start bytes ≡ Some (state f opened (stamped_from 0 ps))
 
 -- before the start
-early : (f : Form) {events : List Placed} {opened : ℕ} {bytes : List ℕ} (e : EndsIn f events opened bytes) → events_in e.pieces ≡ [] → ((n m : ℕ) → walk n (Some (state NothingYet m [])) e.open_bytes ≡ Some (state f m [])) → Walked f opened bytes e.pieces
+early : (f : Form) {events : List Placed} {opened : ℕ} {bytes : List ℕ} (e : EndsIn f events opened bytes)
+    → events_in e.pieces ≡ []
+    → ((n m : ℕ) → walk n (Some (state NothingYet m [])) e.open_bytes ≡ Some (state f m []))
+    → Walked f opened bytes e.pieces
 early f {opened = opened} e none w =
     let ps : e.pieces ≡ [] = none_said e.pieces none in
     let z : 0 + length e.filler ≡ opened = omega (arith, e.opened_is, ap (λ (t : List Piece). length (joined t)) ps) in
     ap (walk 0 start) (e.bytes_are ∙ ap (λ (t : List Piece). joined t ++ e.filler ++ e.open_bytes) ps)
-    ∙ walk-then 0 (0 + length e.filler) start (Some (state NothingYet (0 + length e.filler) [])) _ e.filler e.open_bytes refl (outside-filler 0 e.filler e.filler_is) (w (0 + length e.filler) (0 + length e.filler))
+    ∙ walk-then 0 (0 + length e.filler) start
+    (Some (state NothingYet (0 + length e.filler) [])) _ e.filler e.open_bytes refl
+    (outside-filler 0 e.filler e.filler_is) (w (0 + length e.filler) (0 + length e.filler))
     ∙ ap (λ (j : ℕ). Some (state f j [])) z
     ∙ ap (λ (t : List Piece). Some (state f opened (stamped_from 0 t))) (sym ps)
 
-some_or_none : (xs : List ℕ) → (xs ≡ []) ⊎ (0 < length xs)
-some_or_none [] = inl refl
-some_or_none (x ∷ xs) = inr (omega arith)
-
 -- filler and what is open, after pieces
-settles-then : (n m : ℕ) (u : State) (s : List Stamp) (ps : List Piece) (filler text : List ℕ) (v : Option State) → Settles ps n s u → AreFiller filler → (text ≡ []) ⊎ Begins text → IsClosed ps (length filler + length text) → m ≡ n + length filler → walk m (idle m s) text ≡ v → walk n (Some u) (filler ++ text) ≡ v
+settles-then : (n m : ℕ) (u : State) (s : List Stamp) (ps : List Piece) (filler text : List ℕ) (v : Option State)
+    → Settles ps n s u → AreFiller filler → (text ≡ []) ⊎ Begins text → IsClosed ps (length filler + length text)
+    → m ≡ n + length filler → walk m (idle m s) text ≡ v → walk n (Some u) (filler ++ text) ≡ v
 settles-then n m u s ps filler text v l k h closed e w =
     elim l.1 [
-      | inl same ↦ ap (λ (t : Option State). walk n t (filler ++ text)) same ∙ walk-then n m (idle n s) (idle m s) v filler text e (idle-filler n s filler k ∙ ap (λ (j : ℕ). idle j s) (sym e)) w
+      | inl same ↦
+          ap (λ (t : Option State). walk n t (filler ++ text)) same
+          ∙ walk-then n m (idle n s) (idle m s) v filler text e
+          (idle-filler n s filler k ∙ ap (λ (j : ℕ). idle j s) (sym e)) w
       | inr f ↦
           let some = f (length filler + length text) closed in
           let b : (0 < length filler) ⊎ Begins text = elim h [ inl none ↦ inl (omega (arith, ap length none)) | inr t ↦ inr t ] in
@@ -311,47 +397,84 @@ settles-then n m u s ps filler text v l k h closed e w =
     ]
 
 -- after the start
-late : (f : Form) {events : List Placed} {opened : ℕ} {bytes : List ℕ} (e : EndsIn f events opened bytes) → AreBegun (events_in e.pieces) → (e.open_bytes ≡ []) ⊎ Begins e.open_bytes → ((m : ℕ) (s : List Stamp) → walk m (idle m s) e.open_bytes ≡ Some (state f m s)) → Walked f opened bytes e.pieces
+late : (f : Form) {events : List Placed} {opened : ℕ} {bytes : List ℕ} (e : EndsIn f events opened bytes)
+    → AreBegun (events_in e.pieces) → (e.open_bytes ≡ []) ⊎ Begins e.open_bytes
+    → ((m : ℕ) (s : List Stamp) → walk m (idle m s) e.open_bytes ≡ Some (state f m s))
+    → Walked f opened bytes e.pieces
 late f {opened = opened} e before h w =
     let l = begun_walk e.pieces e.each before in
     let z : opened ≡ 0 + length (joined e.pieces) + length e.filler = omega (arith, e.opened_is) in
     ap (walk 0 start) (e.bytes_are ∙ append_assoc (joined e.pieces) e.filler e.open_bytes)
     ∙ walk-then 0 (0 + length (joined e.pieces)) start (Some l.0) _ (joined e.pieces) (e.filler ++ e.open_bytes) refl l.1
-    (settles-then (0 + length (joined e.pieces)) opened l.0 (stamped_from 0 e.pieces) e.pieces e.filler e.open_bytes _ l.2 e.filler_is h e.closed z (w opened (stamped_from 0 e.pieces)))
+    (settles-then (0 + length (joined e.pieces)) opened l.0
+    (stamped_from 0 e.pieces) e.pieces e.filler e.open_bytes _ l.2 e.filler_is h e.closed z
+    (w opened (stamped_from 0 e.pieces)))
 
-last_parameters : (n m : ℕ) (eight : Bool) (ns fields : List ℕ) → Fields ns fields → length ns ≡ 3 → walk n (Some (state NothingYet m [])) (introducer eight ++ fields ++ 59 ∷ []) ≡ Some (state (LastSeparator eight ns) m [])
+last_parameters : (n m : ℕ) (eight : Bool) (ns fields : List ℕ) → Fields ns fields → length ns ≡ 3
+    → walk n (Some (state NothingYet m [])) (introducer eight ++ fields ++ 59 ∷ [])
+    ≡ Some (state (LastSeparator eight ns) m [])
 last_parameters n m eight [] fields f e = absurd (omega arith)
 last_parameters n m eight (a ∷ []) fields f e = absurd (omega arith)
 last_parameters n m eight (a ∷ b ∷ []) fields f e = absurd (omega arith)
 last_parameters n m eight (a ∷ b ∷ c ∷ []) fields f e =
-    walk-then n (n + length (introducer eight ++ fields)) _ _ _ (introducer eight ++ fields) (59 ∷ []) refl (parameters_walk n m eight (a ∷ b ∷ []) c fields f (omega arith)) refl
+    walk-then n (n + length (introducer eight ++ fields)) _ _ _ (introducer eight ++ fields) (59 ∷ []) refl
+    (parameters_walk n m eight (a ∷ b ∷ []) c fields f (omega arith)) refl
 last_parameters n m eight (a ∷ b ∷ c ∷ d ∷ ns) fields f e = absurd (omega arith)
 
 -- what ends in a form is walked to it
-pub ends_walk : (f : Form) {events : List Placed} {opened : ℕ} {bytes : List ℕ} (e : EndsIn f events opened bytes) → walk 0 start bytes ≡ Some (state f opened (stamped_from 0 e.pieces))
+pub ends_walk : (f : Form) {events : List Placed} {opened : ℕ} {bytes : List ℕ} (e : EndsIn f events opened bytes)
+    → walk 0 start bytes ≡ Some (state f opened (stamped_from 0 e.pieces))
 ends_walk NothingYet e = early NothingYet e e.before (λ n m. ap (walk n (Some (state NothingYet m []))) e.opens)
 ends_walk Introducing e = early Introducing e e.before (λ n m. ap (walk n (Some (state NothingYet m []))) e.opens)
-ends_walk (Parameters eight ns k) e = let o = e.opens in early (Parameters eight ns k) e e.before (λ n m. ap (walk n (Some (state NothingYet m []))) o.3 ∙ parameters_walk n m eight ns k o.0 o.1 o.2)
-ends_walk (LastSeparator eight ns) e = let o = e.opens in early (LastSeparator eight ns) e e.before (λ n m. ap (walk n (Some (state NothingYet m []))) o.3 ∙ last_parameters n m eight ns o.0 o.1 o.2)
+ends_walk (Parameters eight ns k) e =
+    let o = e.opens in
+    early (Parameters eight ns k) e e.before
+    (λ n m. ap (walk n (Some (state NothingYet m []))) o.3 ∙ parameters_walk n m eight ns k o.0 o.1 o.2)
+ends_walk (LastSeparator eight ns) e =
+    let o = e.opens in
+    early (LastSeparator eight ns) e e.before
+    (λ n m. ap (walk n (Some (state NothingYet m []))) o.3 ∙ last_parameters n m eight ns o.0 o.1 o.2)
 ends_walk NoCommand e = late NoCommand e e.before (inl e.opens) (λ m s. ap (walk m (idle m s)) e.opens)
-ends_walk (RepeatNumber k) e = let o = e.opens in late (RepeatNumber k) e e.before (inr (subst Begins (sym o.2) (_, refl))) (λ m s. ap (walk m (idle m s)) o.2 ∙ number_walk RepeatNumber repeat-digits (m + 1) m s k o.0 o.1)
-ends_walk (RasterFields ns k) e = let o = e.opens in late (RasterFields ns k) e e.before (inr (subst Begins (sym o.3) (_, refl))) (λ m s. ap (walk m (idle m s)) o.3 ∙ fields_walk RasterFields 3 raster-digits raster-separators (m + 1) m s ns k [] o.0 o.1 (omega (arith, o.2)))
-ends_walk (ColourFields ns k) e = let o = e.opens in late (ColourFields ns k) e e.before (inr (subst Begins (sym o.3) (_, refl))) (λ m s. ap (walk m (idle m s)) o.3 ∙ fields_walk ColourFields 4 colour-digits colour-separators (m + 1) m s ns k [] o.0 o.1 (omega (arith, o.2)))
-ends_walk Terminating e = late Terminating e e.before (inr (subst Begins (sym e.opens) (_, refl))) (λ m s. ap (walk m (idle m s)) e.opens)
+ends_walk (RepeatNumber k) e =
+    let o = e.opens in
+    late (RepeatNumber k) e e.before (inr (subst Begins (sym o.2) (_, refl)))
+    (λ m s. ap (walk m (idle m s)) o.2 ∙ number_walk RepeatNumber repeat-digits (m + 1) m s k o.0 o.1)
+ends_walk (RasterFields ns k) e =
+    let o = e.opens in
+    late (RasterFields ns k) e e.before (inr (subst Begins (sym o.3) (_, refl)))
+    (λ m s.
+    ap (walk m (idle m s)) o.3
+    ∙ fields_walk RasterFields 3 raster-digits raster-separators (m + 1) m s ns k [] o.0 o.1 (omega (arith, o.2)))
+ends_walk (ColourFields ns k) e =
+    let o = e.opens in
+    late (ColourFields ns k) e e.before (inr (subst Begins (sym o.3) (_, refl)))
+    (λ m s.
+    ap (walk m (idle m s)) o.3
+    ∙ fields_walk ColourFields 4 colour-digits colour-separators (m + 1) m s ns k [] o.0 o.1 (omega (arith, o.2)))
+ends_walk Terminating e =
+    late Terminating e e.before (inr (subst Begins (sym e.opens) (_, refl))) (λ m s. ap (walk m (idle m s)) e.opens)
 ends_walk Ended {events} {opened} {bytes} e =
     let none : e.open_bytes ≡ [] = e.opens in
     let z : 0 + length (joined e.pieces) + length e.filler ≡ opened = omega (arith, e.opened_is) in
-    ap (walk 0 start) (e.bytes_are ∙ ap (λ (t : List ℕ). joined e.pieces ++ e.filler ++ t) none ∙ append-nil (joined e.pieces ++ e.filler))
-    ∙ walk-then 0 (0 + length (joined e.pieces)) start (finished 0 [] e.pieces) _ (joined e.pieces) e.filler refl (whole_walk e.pieces e.each e.before) (ended-filler (0 + length (joined e.pieces)) (stamped_from 0 e.pieces) e.filler e.filler_is)
+    ap (walk 0 start)
+    (e.bytes_are ∙ ap (λ (t : List ℕ). joined e.pieces ++ e.filler ++ t) none ∙ append-nil (joined e.pieces ++ e.filler))
+    ∙ walk-then 0 (0 + length (joined e.pieces)) start (finished 0 [] e.pieces) _ (joined e.pieces) e.filler refl
+    (whole_walk e.pieces e.each e.before)
+    (ended-filler (0 + length (joined e.pieces)) (stamped_from 0 e.pieces) e.filler e.filler_is)
     ∙ ap (λ (j : ℕ). Some (state Ended j (stamped_from 0 e.pieces))) z
 
 -- no document goes on with a byte that is not accepted
-pub not_viable : (f : Form) {events : List Placed} {opened : ℕ} {bytes : List ℕ} (e : EndsIn f events opened bytes) (b : ℕ) (more : List ℕ) → next_of f b ≡ None → IsViable (bytes ++ b ∷ more) → ⊥
+pub not_viable : (f : Form) {events : List Placed} {opened : ℕ} {bytes : List ℕ}
+    (e : EndsIn f events opened bytes) (b : ℕ) (more : List ℕ)
+    → next_of f b ≡ None → IsViable (bytes ++ b ∷ more) → ⊥
 not_viable f {opened = opened} {bytes = bytes} e b more refused v =
     let d = document_walk v.1.pieces ((bytes ++ b ∷ more) ++ v.1.tail) v.1.parses in
     let n : walk 0 start ((bytes ++ b ∷ more) ++ v.1.tail) ≡ None =
     walk-then 0 (0 + length (bytes ++ b ∷ more)) start None None (bytes ++ b ∷ more) v.1.tail refl
-    (walk-then 0 (0 + length bytes) start (Some (state f opened (stamped_from 0 e.pieces))) None bytes (b ∷ more) refl (ends_walk f e)
-    (ap (λ (t : Option (Option Event × Form × Option Event)). walk (0 + length bytes + 1) (after (0 + length bytes) opened (stamped_from 0 e.pieces) t) more) refused ∙ walk-none (0 + length bytes + 1) more))
+    (walk-then 0 (0 + length bytes) start (Some (state f opened (stamped_from 0 e.pieces))) None bytes (b ∷ more) refl
+    (ends_walk f e)
+    (ap (λ (t : Option (Option Event × Form × Option Event)).
+    walk (0 + length bytes + 1) (after (0 + length bytes) opened (stamped_from 0 e.pieces) t) more) refused
+    ∙ walk-none (0 + length bytes + 1) more))
     (walk-none (0 + length (bytes ++ b ∷ more)) v.1.tail) in
     cc

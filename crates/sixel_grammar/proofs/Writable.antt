@@ -32,12 +32,17 @@ abbrev can : (e : Event) → IsEvent e → IsSpellable e → CanWrite e
 can e is spellable = record { is_event = is; spellable = spellable }
 
 pub spelled_can : (e : Event) (text : List ℕ) → Spells e text → CanWrite e
-spelled_can (Start eight parameters) text h = can (Start eight parameters) (h.3, fields_numbers parameters.items h.0 h.2) (fields_some parameters.items h.0 h.2)
+spelled_can (Start eight parameters) text h =
+    can (Start eight parameters) (h.3, fields_numbers parameters.items h.0 h.2) (fields_some parameters.items h.0 h.2)
 spelled_can (Step (Sixel bits)) text h = can (Step (Sixel bits)) (let le : bits ≤ 63 = h.0 in omega arith) h.0
-spelled_can (Step (Repeat count bits)) text h = can (Step (Repeat count bits)) (h.1.small, let le : bits ≤ 63 = h.2 in omega arith) h.2
-spelled_can (Step (Raster pan pad width height)) text h = can (Step (Raster pan pad width height)) (subst AreNumbers h.4 (four_numbers h.0 (fields_numbers h.0 h.1 h.2) h.3)) tt
+spelled_can (Step (Repeat count bits)) text h =
+    can (Step (Repeat count bits)) (h.1.small, let le : bits ≤ 63 = h.2 in omega arith) h.2
+spelled_can (Step (Raster pan pad width height)) text h =
+    can (Step (Raster pan pad width height))
+    (subst AreNumbers h.4 (four_numbers h.0 (fields_numbers h.0 h.1 h.2) h.3)) tt
 spelled_can (Step (Select register)) text h = can (Step (Select register)) (h.1.small) tt
-spelled_can (Step (Define register system x y z)) text h = can (Step (Define register system x y z)) (fields_numbers (register ∷ system ∷ x ∷ y ∷ z ∷ []) h.0 h.1) tt
+spelled_can (Step (Define register system x y z)) text h =
+    can (Step (Define register system x y z)) (fields_numbers (register ∷ system ∷ x ∷ y ∷ z ∷ []) h.0 h.1) tt
 spelled_can (Step CarriageReturn) text h = can (Step CarriageReturn) tt tt
 spelled_can (Step NextLine) text h = can (Step NextLine) tt tt
 spelled_can (Finish eight) text h = can (Finish eight) tt tt
@@ -49,7 +54,9 @@ first_can false p ps h k = tt
 complete_can : (held n : ℕ) (ps : List Piece) → AllByRecursion IsPiece ps → CanWriteAll (complete_from held n ps)
 complete_can held n [] each = tt
 complete_can held n (p ∷ ps) each =
-    first_can (leb (completed_at n p) held) (record { place = n + length p.filler; event = p.event }) (complete_from held (n + length (bytes_of p)) ps) (spelled_can p.event p.text each.0.spells) (complete_can held (n + length (bytes_of p)) ps each.1)
+    first_can (leb (completed_at n p) held) (record { place = n + length p.filler; event = p.event })
+    (complete_from held (n + length (bytes_of p)) ps) (spelled_can p.event p.text each.0.spells)
+    (complete_can held (n + length (bytes_of p)) ps each.1)
 
 -- so can be all events that are complete in some bytes
 pub events_can : (events : List Placed) (bytes : List ℕ) → CompleteIn events bytes → CanWriteAll events

@@ -31,7 +31,9 @@ begin b =
 -- what `;` and `q` do after a parameter
 abbrev pub parameter_end : Bool → List ℕ → ℕ → ℕ → Option (Form × Option Event)
 parameter_end eight ns n b =
-    if b == 59 then (if nat_lt (length ns) 2 then Some (Parameters eight (ns ++ n ∷ []) 0, None) else Some (LastSeparator eight (ns ++ n ∷ []), None))
+    if b == 59 then (if nat_lt (length ns) 2
+    then Some (Parameters eight (ns ++ n ∷ []) 0, None)
+    else Some (LastSeparator eight (ns ++ n ∷ []), None))
     else (if b == 113 then Some (NoCommand, Some (Start eight (record { items = ns ++ n ∷ [] }))) else None)
 
 -- how a byte goes on with what is open, and the event that is whole with it
@@ -80,8 +82,19 @@ settled (ColourFields [] a) = Some (Step (Select a))
 settled (ColourFields (a ∷ b ∷ c ∷ d ∷ []) e) = Some (Step (Define a b c d e))
 settled _ = None
 
+-- whether the byte ends a repeat
+abbrev pub ends_repeat : Form → ℕ → Bool
+ends_repeat (RepeatNumber n) b = is_data b
+ends_repeat _ b = false
+
+-- whether the byte is a sixel by itself, or ends a repeat
+abbrev pub makes_columns : Form → ℕ → Bool
+makes_columns NoCommand b = is_data b
+makes_columns f b = ends_repeat f b
+
 -- the event that the byte ends, what is open after it, and the event that is whole with it
-abbrev pub chosen : Option (Form × Option Event) → Option Event → Option (Form × Option Event) → Option (Option Event × Form × Option Event)
+abbrev pub chosen : Option (Form × Option Event) → Option Event → Option (Form × Option Event)
+    → Option (Option Event × Form × Option Event)
 chosen (Some x) ended y = Some (None, x.0, x.1)
 chosen None (Some e) (Some y) = Some (Some e, y.0, y.1)
 chosen None (Some e) None = None

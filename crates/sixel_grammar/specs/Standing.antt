@@ -1,6 +1,9 @@
 -- What a reader has read. Other crates take `StandsAfter` as it is, and never look into it or into a reader's fields.
-use Rattle.std.specs.Prelude.{◌≡◌, ℕ, ◌+◌, List, [], ◌∷◌, ◌++◌, length, Option, Some, None, if◌then◌else◌}
+use Rattle.std.specs.Prelude.{◌≡◌, ℕ, ◌+◌, List, [], ◌∷◌, ◌++◌, length, Option, Some, None, Bool, true, false, if◌then◌else◌}
 use Rattle.std.specs.Option.{option_to_list}
+use Rattle.sixel_grammar.specs.declared.command.Command.TheVariants.{Sixel, Repeat}
+use Rattle.sixel_grammar.specs.declared.command.Event.{Event}
+use Rattle.sixel_grammar.specs.declared.command.Event.TheVariants.{Step}
 use Rattle.sixel_grammar.specs.declared.command.Placed.{Placed}
 use Rattle.sixel_grammar.specs.declared.command.Completed.{Completed}
 use Rattle.sixel_grammar.specs.declared.fault.Fault.{Fault}
@@ -35,6 +38,23 @@ abbrev pub Takes : Reader → Reader → ℕ → List Placed → Type 0
 Takes old new byte done =
     (events : List Placed) (bytes : List ℕ) → StandsAfter old events bytes →
     StandsAfter new (events ++ done) (bytes ++ byte ∷ [])
+
+abbrev pub is_columns : Event → Bool
+is_columns (Step (Sixel bits)) = true
+is_columns (Step (Repeat count bits)) = true
+is_columns _ = false
+
+-- nothing, or a sixel or a repeat alone
+abbrev pub are_plain : List Placed → Bool
+are_plain [] = true
+are_plain (p ∷ []) = is_columns p.event
+are_plain _ = false
+
+-- wherever the reader stood, no reader stands after one byte more that completes nothing, or a sixel or a repeat alone
+abbrev pub IsNotPlain : Reader → ℕ → Type 0
+IsNotPlain old byte =
+    (after : Reader) (events done : List Placed) (bytes : List ℕ) → StandsAfter old events bytes →
+    are_plain done ≡ true → StandsAfter after (events ++ done) (bytes ++ byte ∷ []) → ⊥
 
 -- wherever the reader stood, this is the fault of the bytes with that byte
 -- it stands at that byte, and the reader has it

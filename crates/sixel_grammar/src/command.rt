@@ -110,7 +110,10 @@ impl Completed {
 
     #[inline]
     pub(crate) fn of_two(place: u64, event: Event, next_place: u64, next: Event) -> Completed
-        ensures { result ≡ record { first = Some (record { place = place; event = event }); second = Some (record { place = next_place; event = next }) } }
+        ensures { result ≡ record {
+          first = Some (record { place = place; event = event });
+          second = Some (record { place = next_place; event = next });
+        } }
     {
         Completed {
             first: Some(Placed { place, event }),

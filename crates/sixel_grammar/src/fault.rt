@@ -1,5 +1,8 @@
 //! Why bytes are no document.
 
+use crate::device::DeviceFault;
+use std::alloc::AllocError;
+
 /// What is wrong at the first byte with which no document goes on.
 #[derive(Clone, Copy, Debug, PartialEq, Eq)]
 pub enum Reason {
@@ -36,8 +39,42 @@ pub struct Fault {
 pub enum InputFault {
     /// The bytes are no document.
     Grammar(Fault),
-    /// No memory was left for the events.
+    /// No memory was left for the events, or in a check for the pixels.
     OutOfMemory,
     /// The source failed.
     Read,
+}
+
+impl From<Fault> for InputFault {
+    ghost use Rattle.std.specs.Prelude.{◌≡◌};
+    ghost use Rattle.sixel_grammar.specs.declared.fault.InputFault.TheVariants.{Grammar};
+
+    ghost from_gives = { λ fault result. result ≡ Grammar fault };
+
+    fn from(fault: Fault) -> InputFault {
+        InputFault::Grammar(fault)
+    }
+}
+
+impl From<AllocError> for InputFault {
+    ghost use Rattle.std.specs.Prelude.{◌≡◌};
+    ghost use Rattle.sixel_grammar.specs.declared.fault.InputFault.TheVariants.{OutOfMemory};
+
+    ghost from_gives = { λ fault result. result ≡ OutOfMemory };
+
+    fn from(_: AllocError) -> InputFault {
+        InputFault::OutOfMemory
+    }
+}
+
+/// A device that gives an input is read.
+impl From<DeviceFault> for InputFault {
+    ghost use Rattle.std.specs.Prelude.{◌≡◌};
+    ghost use Rattle.sixel_grammar.specs.declared.fault.InputFault.TheVariants.{Read};
+
+    ghost from_gives = { λ fault result. result ≡ Read };
+
+    fn from(_: DeviceFault) -> InputFault {
+        InputFault::Read
+    }
 }

@@ -5,7 +5,7 @@ ghost use Rattle.std.specs.Option.{option_map};
 ghost use Rattle.sixel_grammar.specs.declared.command.Event.TheVariants.{Step as step_of};
 ghost use Rattle.sixel_grammar.specs.Bytes.{is_filler as filler_test, is_digit as digit_test, is_data as data_test, is_body as body_test};
 ghost use Rattle.sixel_grammar.specs.Faults.{NothingYet as NothingForm, NoCommand as NoCommandForm, RepeatNumber as RepeatForm, RasterFields as RasterForm, ColourFields as ColourForm, Ended as EndedForm, refusal, is_idle};
-ghost use Rattle.sixel_grammar.specs.Next.{begin as begin_of, within as within_of, only_grown, only_whole, settled as settled_of, next_of, with_digit};
+ghost use Rattle.sixel_grammar.specs.Next.{begin as begin_of, within as within_of, only_grown, only_whole, settled as settled_of, next_of, with_digit, ends_repeat};
 ghost use Rattle.sixel_grammar.specs.Pending.{Grows, MakesWhole, event_of, form_of, takes_digits};
 
 use crate::command::{Command, Event};
@@ -59,13 +59,6 @@ fn is_filler(byte: u8) -> bool
     ensures { result ≡ filler_test byte }
 {
     matches!(byte, b'\t' | b'\n' | b'\r' | b' ')
-}
-
-#[inline]
-pub(crate) fn is_digit(byte: u8) -> bool
-    ensures { result ≡ digit_test byte }
-{
-    b'0' <= byte && byte <= b'9'
 }
 
 #[inline]
@@ -159,12 +152,13 @@ impl Pending {
     /// The command that the byte ends, where it begins another or is filler, and makes nothing whole itself.
     pub(crate) fn ended_by(&mut self, byte: u8) -> Option<Command>
         requires { only_grown (within_of (form_of self.old) byte) ≡ None }
-        ensures ended { IfSome result (λ command. next_of (form_of self.old) byte ≡ Some (Some (step_of command), form_of self.new, None)) }
+        ensures ended { IfSome result (λ command.
+            next_of (form_of self.old) byte ≡ Some (Some (step_of command), form_of self.new, None)) }
         ensures not_ended { IsNone result → OnSome (settled_of (form_of self.old)) (only_grown (begin_of byte) ≡ None) }
         ensures refused { IsNone result → self.new ≡ self.old }
     {
         match self.settled() {
-            Some(command) if self.has_begun(byte) => Some(command),
+            Some(command) if self.try_begin(byte) => Some(command),
             _ => None,
         }
     }
@@ -172,7 +166,8 @@ impl Pending {
     /// The command that the byte ends, and the event that it makes whole itself.
     pub(crate) fn ends_whole(&mut self, byte: u8) -> Option<Both>
         requires { only_grown (within_of (form_of self.old) byte) ≡ None }
-        ensures ended { IfSome result (λ both. next_of (form_of self.old) byte ≡ Some (Some (step_of both.ended), form_of self.new, Some (event_of both.whole self.new))) }
+        ensures ended { IfSome result (λ both. next_of (form_of self.old) byte ≡
+            Some (Some (step_of both.ended), form_of self.new, Some (event_of both.whole self.new))) }
         ensures not_ended { IsNone result → OnSome (settled_of (form_of self.old)) (only_whole (begin_of byte) ≡ None) }
         ensures refused { IsNone result → self.new ≡ self.old }
     {
@@ -185,8 +180,8 @@ impl Pending {
         }
     }
 
-    /// Whether the byte begins a command, or is filler, where no command is open.
-    fn has_begun(&mut self, byte: u8) -> bool
+    /// Goes on from where no command is open, with filler or the first byte of a command; whether it did.
+    fn try_begin(&mut self, byte: u8) -> bool
         ensures grown { Grows result self.new (begin_of byte) }
         ensures refused { result ≡ false → self.new ≡ self.old }
     {
@@ -227,26 +222,26 @@ impl Pending {
         }
     }
 
-    /// Whether the byte goes on with what is open, and makes nothing whole.
-    pub(crate) fn has_grown(&mut self, byte: u8) -> bool
+    /// Goes on with what is open, where the byte makes nothing whole; whether it did.
+    pub(crate) fn try_grow(&mut self, byte: u8) -> bool
         ensures grown { Grows result self.new (within_of (form_of self.old) byte) }
         ensures refused { result ≡ false → self.new ≡ self.old }
     {
         match self.form {
-            Open::NothingYet => self.has_opened(byte),
-            Open::Introducing => self.has_introduced(byte),
-            Open::Parameters => self.has_more_parameters(byte),
-            Open::RepeatNumber => self.has_more_repeat(byte),
-            Open::RasterFields => self.has_more_raster(byte),
-            Open::ColourFields => self.has_more_colour(byte),
+            Open::NothingYet => self.try_open(byte),
+            Open::Introducing => self.try_introduce(byte),
+            Open::Parameters => self.try_grow_parameters(byte),
+            Open::RepeatNumber => self.try_grow_repeat(byte),
+            Open::RasterFields => self.try_grow_raster(byte),
+            Open::ColourFields => self.try_grow_colour(byte),
             Open::LastSeparator => false,
-            Open::NoCommand => self.has_begun(byte),
+            Open::NoCommand => self.try_begin(byte),
             Open::Terminating => false,
             Open::Ended => is_filler(byte),
         }
     }
 
-    fn has_opened(&mut self, byte: u8) -> bool
+    fn try_open(&mut self, byte: u8) -> bool
         requires { self.old.form ≡ Open.NothingYet }
         ensures grown { Grows result self.new (within_of (form_of self.old) byte) }
         ensures refused { result ≡ false → self.new ≡ self.old }
@@ -264,7 +259,7 @@ impl Pending {
         }
     }
 
-    fn has_introduced(&mut self, byte: u8) -> bool
+    fn try_introduce(&mut self, byte: u8) -> bool
         requires { self.old.form ≡ Open.Introducing }
         ensures grown { Grows result self.new (within_of (form_of self.old) byte) }
         ensures refused { result ≡ false → self.new ≡ self.old }
@@ -277,13 +272,13 @@ impl Pending {
         }
     }
 
-    fn has_more_parameters(&mut self, byte: u8) -> bool
+    fn try_grow_parameters(&mut self, byte: u8) -> bool
         requires { self.old.form ≡ Open.Parameters }
         ensures grown { Grows result self.new (within_of (form_of self.old) byte) }
         ensures refused { result ≡ false → self.new ≡ self.old }
     {
-        if is_digit(byte) {
-            self.has_added(byte)
+        if byte.is_ascii_digit() {
+            self.try_add_digit(byte)
         } else if byte == b';' && !self.parameters.is_full() {
             let is_last = self.parameters.len() >= 2;
             self.add_parameter();
@@ -296,21 +291,21 @@ impl Pending {
         }
     }
 
-    fn has_more_repeat(&mut self, byte: u8) -> bool
+    fn try_grow_repeat(&mut self, byte: u8) -> bool
         requires { self.old.form ≡ Open.RepeatNumber }
         ensures grown { Grows result self.new (within_of (form_of self.old) byte) }
         ensures refused { result ≡ false → self.new ≡ self.old }
     {
-        is_digit(byte) && self.has_added(byte)
+        byte.is_ascii_digit() && self.try_add_digit(byte)
     }
 
-    fn has_more_raster(&mut self, byte: u8) -> bool
+    fn try_grow_raster(&mut self, byte: u8) -> bool
         requires { self.old.form ≡ Open.RasterFields }
         ensures grown { Grows result self.new (within_of (form_of self.old) byte) }
         ensures refused { result ≡ false → self.new ≡ self.old }
     {
-        if is_digit(byte) {
-            self.has_added(byte)
+        if byte.is_ascii_digit() {
+            self.try_add_digit(byte)
         } else if byte == b';' && self.fields.len() < 3 {
             self.add_field();
             true
@@ -319,13 +314,13 @@ impl Pending {
         }
     }
 
-    fn has_more_colour(&mut self, byte: u8) -> bool
+    fn try_grow_colour(&mut self, byte: u8) -> bool
         requires { self.old.form ≡ Open.ColourFields }
         ensures grown { Grows result self.new (within_of (form_of self.old) byte) }
         ensures refused { result ≡ false → self.new ≡ self.old }
     {
-        if is_digit(byte) {
-            self.has_added(byte)
+        if byte.is_ascii_digit() {
+            self.try_add_digit(byte)
         } else if byte == b';' && self.fields.len() < 4 {
             self.add_field();
             true
@@ -342,7 +337,7 @@ impl Pending {
         match self.form {
             Open::Parameters => self.starts(byte),
             Open::LastSeparator => self.starts_last(byte),
-            Open::RepeatNumber => self.repeats(byte),
+            Open::RepeatNumber => self.ended_repeat(byte).map(Whole::Step),
             Open::NoCommand => self.begins_whole(byte),
             Open::Terminating => self.finishes(byte),
             _ => None,
@@ -371,23 +366,6 @@ impl Pending {
         if byte == b'q' {
             self.set(Open::NoCommand);
             Some(Whole::Start)
-        } else {
-            None
-        }
-    }
-
-    fn repeats(&mut self, byte: u8) -> Option<Whole>
-        requires { self.old.form ≡ Open.RepeatNumber }
-        ensures whole { MakesWhole result self.new (within_of (form_of self.old) byte) }
-        ensures refused { IsNone result → self.new ≡ self.old }
-    {
-        if is_data(byte) {
-            let count = self.number;
-            self.set(Open::NoCommand);
-            Some(Whole::Step(Command::Repeat {
-                count,
-                bits: byte - b'?',
-            }))
         } else {
             None
         }
@@ -431,7 +409,12 @@ impl Pending {
 
     /// Begins the parameters.
     fn introduce(&mut self, eight: bool)
-        ensures { self.new ≡ record self.old { form = Open.Parameters; eight = eight; parameters = record { items = [] }; number = 0 } }
+        ensures { self.new ≡ record self.old {
+          form = Open.Parameters;
+          eight = eight;
+          parameters = record { items = [] };
+          number = 0;
+        } }
     {
         self.set(Open::Parameters);
         self.eight = eight;
@@ -441,7 +424,10 @@ impl Pending {
 
     fn add_field(&mut self)
         requires { length self.old.fields.items < 4 }
-        ensures { self.new ≡ record self.old { fields = record { items = self.old.fields.items ++ self.old.number ∷ [] }; number = 0 } }
+        ensures { self.new ≡ record self.old {
+          number = 0;
+          fields = record { items = self.old.fields.items ++ self.old.number ∷ [] };
+        } }
     {
         self.fields.push(self.number);
         self.number = 0;
@@ -449,15 +435,18 @@ impl Pending {
 
     fn add_parameter(&mut self)
         requires { length self.old.parameters.items < 3 }
-        ensures { self.new ≡ record self.old { parameters = record { items = self.old.parameters.items ++ self.old.number ∷ [] }; number = 0 } }
+        ensures { self.new ≡ record self.old {
+          number = 0;
+          parameters = record { items = self.old.parameters.items ++ self.old.number ∷ [] };
+        } }
     {
         self.parameters.push(self.number);
         self.number = 0;
     }
 
-    /// Whether the number that is open isn't too large with the digit; it has it then.
+    /// Adds the digit to the number that is open, where it isn't too large then; whether it did.
     #[inline]
-    fn has_added(&mut self, byte: u8) -> bool
+    fn try_add_digit(&mut self, byte: u8) -> bool
         requires { IsTrue (digit_test byte) }
         ensures answer { result ≡ nat_le (with_digit self.old.number byte) 65535 }
         ensures after { self.new ≡ (if result then record self.old { number = with_digit self.old.number byte } else self.old) }
@@ -482,22 +471,24 @@ impl Pending {
         )
     }
 
-    /// Whether a number is open, and isn't too large with the digit; it has it then.
+    /// Goes on with the number that is open, where there is one and it isn't too large then; whether it did.
     #[inline]
-    pub(crate) fn has_taken_digit(&mut self, byte: u8) -> bool
+    pub(crate) fn try_take_digit(&mut self, byte: u8) -> bool
         requires { IsTrue (digit_test byte) }
         ensures taken { result ≡ true → within_of (form_of self.old) byte ≡ Some (form_of self.new, None) }
         ensures unfinished { result ≡ true → is_idle (form_of self.old) ≡ false }
+        ensures open { result ≡ true → is_idle (form_of self.new) ≡ false }
         ensures refused { result ≡ false → self.new ≡ self.old }
     {
-        self.has_number() && self.has_added(byte)
+        self.has_number() && self.try_add_digit(byte)
     }
 
-    /// Whether the fields of a colour command are open, and may be one more; that one is open then.
+    /// Opens the next field, where a colour command is open and may have one more; whether it did.
     #[inline]
-    pub(crate) fn has_taken_separator(&mut self) -> bool
+    pub(crate) fn try_take_separator(&mut self) -> bool
         ensures taken { result ≡ true → within_of (form_of self.old) 59 ≡ Some (form_of self.new, None) }
         ensures unfinished { result ≡ true → is_idle (form_of self.old) ≡ false }
+        ensures open { result ≡ true → is_idle (form_of self.new) ≡ false }
         ensures refused { result ≡ false → self.new ≡ self.old }
     {
         match self.form {
@@ -509,12 +500,32 @@ impl Pending {
         }
     }
 
-    /// Whether the byte ends a repeat; the answer is that repeat.
+    /// Begins a repeat, where no command is open; whether it did.
+    #[inline]
+    pub(crate) fn try_begin_repeat(&mut self) -> bool
+        ensures taken { result ≡ true → within_of (form_of self.old) 33 ≡ Some (form_of self.new, None) }
+        ensures idle { result ≡ true → is_idle (form_of self.old) ≡ true }
+        ensures refused { result ≡ false → self.new ≡ self.old }
+    {
+        match self.form {
+            Open::NoCommand => {
+                self.begin_repeat();
+                true
+            }
+            _ => false,
+        }
+    }
+
+    /// The repeat that is open, where the byte ends it.
     #[inline]
     pub(crate) fn ended_repeat(&mut self, byte: u8) -> Option<Command>
-        ensures ended { IfSome result (λ command. within_of (form_of self.old) byte ≡ Some (NoCommandForm, Some (step_of command))) }
+        ensures ended { IfSome result (λ command.
+            within_of (form_of self.old) byte ≡ Some (NoCommandForm, Some (step_of command))) }
         ensures after { IsSome result → form_of self.new ≡ NoCommandForm }
         ensures unfinished { IsSome result → is_idle (form_of self.old) ≡ false }
+        ensures not_whole { IsNone result → self.old.form ≡ Open.RepeatNumber →
+            only_whole (within_of (form_of self.old) byte) ≡ None }
+        ensures not_ended { IsNone result → ends_repeat (form_of self.old) byte ≡ false }
         ensures refused { IsNone result → self.new ≡ self.old }
     {
         match self.form {
@@ -587,47 +598,16 @@ impl Pending {
         ensures { result ≡ refusal (form_of self.now) byte }
     {
         match self.form {
-            Open::NothingYet | Open::Introducing => Reason::NotSixel,
-            Open::Parameters => {
-                if is_digit(byte) {
-                    Reason::NumberTooLarge
-                } else {
-                    Reason::NotSixel
-                }
-            }
-            Open::LastSeparator => {
-                if is_digit(byte) || byte == b';' {
-                    Reason::FieldCount
-                } else {
-                    Reason::NotSixel
-                }
-            }
-            Open::NoCommand => Reason::BadByte,
-            Open::RepeatNumber => {
-                if is_digit(byte) {
-                    Reason::NumberTooLarge
-                } else {
-                    Reason::BadRepeat
-                }
-            }
-            Open::RasterFields => {
-                if is_digit(byte) {
-                    Reason::NumberTooLarge
-                } else if byte == b';' {
-                    Reason::FieldCount
-                } else {
-                    Reason::BadByte
-                }
-            }
-            Open::ColourFields => {
-                if is_digit(byte) {
-                    Reason::NumberTooLarge
-                } else if byte == b';' || is_body(byte) {
-                    Reason::FieldCount
-                } else {
-                    Reason::BadByte
-                }
-            }
+            Open::Parameters | Open::RepeatNumber | Open::RasterFields | Open::ColourFields
+                if byte.is_ascii_digit() => Reason::NumberTooLarge,
+            Open::LastSeparator if byte.is_ascii_digit() => Reason::FieldCount,
+            Open::LastSeparator | Open::RasterFields | Open::ColourFields if byte == b';' =>
+                Reason::FieldCount,
+            Open::ColourFields if is_body(byte) => Reason::FieldCount,
+            Open::NothingYet | Open::Introducing | Open::Parameters | Open::LastSeparator =>
+                Reason::NotSixel,
+            Open::NoCommand | Open::RasterFields | Open::ColourFields => Reason::BadByte,
+            Open::RepeatNumber => Reason::BadRepeat,
             Open::Terminating => Reason::BadTerminator,
             Open::Ended => Reason::Trailing,
         }

@@ -1,18 +1,18 @@
 //! Reads a document byte by byte.
 
-ghost use Rattle.std.specs.Prelude.{◌≡◌, ◌<◌, ◌≤◌, ◌+◌, ◌-◌, IsTrue, true, false, length, List, [], ◌∷◌, ◌++◌, ℕ, Option, Some, None, IfSome, IfOk, IfErr, MatchResult, IsNone, IsSome, OnSome, Err};
+ghost use Rattle.std.specs.Prelude.{◌≡◌, ◌↔◌, ◌<◌, ◌≤◌, ◌+◌, ◌-◌, IsTrue, true, false, length, List, [], ◌∷◌, ◌++◌, ℕ, Option, Some, None, IfSome, IfOk, IfErr, MatchResult, IsNone, IsSome, OnSome, Err};
 ghost use Rattle.sixel_grammar.specs.declared.command.Placed.{Placed as PlacedEvent};
-ghost use Rattle.sixel_grammar.specs.Bytes.{is_data as data_test};
+ghost use Rattle.sixel_grammar.specs.Bytes.{is_data as data_test, is_digit as digit_test};
 ghost use Rattle.sixel_grammar.specs.Document.{Document};
 ghost use Rattle.sixel_grammar.specs.Faults.{IsFaultOf, NoCommand as NoCommandForm};
-ghost use Rattle.sixel_grammar.specs.Next.{begin as begin_of, settled as settled_of, within as within_of, only_grown};
+ghost use Rattle.sixel_grammar.specs.Next.{begin as begin_of, settled as settled_of, within as within_of, only_grown, ends_repeat, makes_columns};
 ghost use Rattle.sixel_grammar.specs.Pending.{form_of};
 ghost use Rattle.sixel_grammar.specs.Plain.{plain_of};
 ghost use Rattle.sixel_grammar.specs.declared.command.Plain.TheVariants.{Command as plain_command};
 
 use crate::command::{Command, Completed, Event, Placed, Plain};
 use crate::fault::{Fault, Reason};
-use crate::pending::{Pending, is_digit};
+use crate::pending::Pending;
 
 /// The greatest length of a document.
 const MOST_BYTES: u64 = 268_435_456;
@@ -33,10 +33,11 @@ pub struct Reader {
     ghost within: { left ≤ 268435456 },
     ghost stopped: { IsSome fault → left ≡ 0 },
     ghost ready: { 0 < sixels → (sixels ≡ 64) × (0 < left) × (form_of pending ≡ NoCommandForm) },
+    ghost open: { 0 < left → form_of pending ≡ NoCommandForm → sixels ≡ 64 },
 }
 
 impl Reader {
-    ghost use Rattle.sixel_grammar.specs.Standing.{Refuses, StandsAfter, Takes, completions, fault_of, opened_after};
+    ghost use Rattle.sixel_grammar.specs.Standing.{IsNotPlain, Refuses, StandsAfter, Takes, completions, fault_of, opened_after};
 
     /// A reader that has read nothing.
     pub fn new() -> Reader
@@ -62,7 +63,7 @@ impl Reader {
         if let Some(plain) = self.feed_quickly(byte) {
             return Ok(Completed::of_plain(plain));
         }
-        if self.has_grown(byte) {
+        if self.try_grow(byte) {
             return Ok(Completed::of_none());
         }
         self.feed_slowly(byte)
@@ -70,67 +71,117 @@ impl Reader {
 
     /// Reads one byte as `feed` does, where it completes nothing, is a sixel by itself, or ends a repeat.
     ///
-    /// `None`: it was not read, and nothing has changed. This way is the quicker one, and `feed` takes every byte.
+    /// `None`: it is none of these or refused, it was not read, and nothing has changed. This way is the quicker one, and
+    /// `feed` takes every byte.
     #[inline(always)]
     pub fn feed_plain(&mut self, byte: u8) -> Option<Plain>
         ensures accepted { IfSome result (λ p. Takes self.old self.new byte (completions (plain_of p))) }
         ensures kept { IsNone result → self.new ≡ self.old }
         ensures stopped { IsSome (fault_of self.old) → IsNone result }
+        ensures refused { IsNone result → IsNotPlain self.old byte }
     {
         if let Some(plain) = self.feed_quickly(byte) {
             return Some(plain);
         }
-        if self.has_grown(byte) {
+        if self.try_grow(byte) {
             Some(Plain::Nothing)
         } else {
             None
         }
     }
 
-    /// The ways of nearly all bytes: a sixel by itself, a digit, a separator of colour fields, the data byte that ends a repeat.
+    /// The ways of nearly all bytes: a sixel by itself, a digit, a separator of colour fields, a repeat from its introducer to
+    /// the data byte that ends it.
     #[inline(always)]
     fn feed_quickly(&mut self, byte: u8) -> Option<Plain>
         ensures accepted { IfSome result (λ p. Takes self.old self.new byte (completions (plain_of p))) }
         ensures kept { IsNone result → self.new ≡ self.old }
         ensures stopped { IsSome (fault_of self.old) → IsNone result }
+        ensures refused { IsNone result → 0 < self.old.left → makes_columns (form_of self.old.pending) byte ≡ false }
     {
         if self.is_sixel(byte) {
-            return Some(self.take_sixel(byte));
+            Some(self.take_sixel(byte))
+        } else if byte.is_ascii_digit() {
+            self.take_digit(byte)
+        } else if byte == b';' {
+            self.take_separator()
+        } else if byte == b'!' {
+            self.begin_repeat()
+        } else {
+            self.end_repeat(byte)
         }
-        if is_digit(byte) {
-            if self.left > 0 && self.pending.has_taken_digit(byte) {
-                self.left -= 1;
-                return Some(Plain::Nothing);
-            }
-            return None;
+    }
+
+    /// Goes on with the number that is open.
+    #[inline(always)]
+    fn take_digit(&mut self, byte: u8) -> Option<Plain>
+        requires { IsTrue (digit_test byte) }
+        ensures accepted { IfSome result (λ p. Takes self.old self.new byte (completions (plain_of p))) }
+        ensures kept { IsNone result → self.new ≡ self.old }
+        ensures stopped { IsSome (fault_of self.old) → IsNone result }
+    {
+        if self.left > 0 && self.pending.try_take_digit(byte) {
+            self.left -= 1;
+            Some(Plain::Nothing)
+        } else {
+            None
         }
-        if byte == b';' {
-            if self.left > 0 && self.pending.has_taken_separator() {
-                self.left -= 1;
-                return Some(Plain::Nothing);
-            }
-            return None;
+    }
+
+    /// Goes on with the next field of a colour.
+    #[inline(always)]
+    fn take_separator(&mut self) -> Option<Plain>
+        ensures accepted { IfSome result (λ p. Takes self.old self.new 59 (completions (plain_of p))) }
+        ensures kept { IsNone result → self.new ≡ self.old }
+        ensures stopped { IsSome (fault_of self.old) → IsNone result }
+    {
+        if self.left > 0 && self.pending.try_take_separator() {
+            self.left -= 1;
+            Some(Plain::Nothing)
+        } else {
+            None
         }
+    }
+
+    /// Opens a repeat, where no command is open.
+    #[inline(always)]
+    fn begin_repeat(&mut self) -> Option<Plain>
+        ensures accepted { IfSome result (λ p. Takes self.old self.new 33 (completions (plain_of p))) }
+        ensures kept { IsNone result → self.new ≡ self.old }
+        ensures stopped { IsSome (fault_of self.old) → IsNone result }
+    {
+        if self.left > 0 && self.pending.try_begin_repeat() {
+            self.opened = MOST_BYTES - self.left;
+            self.left -= 1;
+            self.sixels = 0;
+            Some(Plain::Nothing)
+        } else {
+            None
+        }
+    }
+
+    /// Hands out the repeat that is open, where the byte ends it.
+    #[inline(always)]
+    fn end_repeat(&mut self, byte: u8) -> Option<Plain>
+        ensures accepted { IfSome result (λ p. Takes self.old self.new byte (completions (plain_of p))) }
+        ensures kept { IsNone result → self.new ≡ self.old }
+        ensures stopped { IsSome (fault_of self.old) → IsNone result }
+        ensures refused { IsNone result → 0 < self.old.left → ends_repeat (form_of self.old.pending) byte ≡ false }
+    {
         if self.left == 0 {
             return None;
         }
-        match self.pending.ended_repeat(byte) {
-            Some(repeat) => {
-                self.left -= 1;
-                self.sixels = ready_for(self.left, &self.pending);
-                Some(Plain::Command {
-                    place: self.opened,
-                    command: repeat,
-                })
-            }
-            None => None,
-        }
+        let command = self.pending.ended_repeat(byte)?;
+        self.left -= 1;
+        self.sixels = ready_for(self.left, &self.pending);
+        let place = self.opened;
+        Some(Plain::Command { place, command })
     }
 
     /// Whether the byte is a sixel by itself.
     #[inline]
     fn is_sixel(&self, byte: u8) -> bool
-        ensures { IsTrue result → IsTrue (data_test byte) × (0 < self.now.left) × (form_of self.now.pending ≡ NoCommandForm) }
+        ensures { IsTrue result ↔ IsTrue (data_test byte) × (0 < self.now.left) × (form_of self.now.pending ≡ NoCommandForm) }
     {
         byte.wrapping_sub(b'?') < self.sixels
     }
@@ -153,9 +204,9 @@ impl Reader {
         Plain::Command { place, command }
     }
 
-    /// Whether the byte goes on with what is open, and completes nothing.
+    /// Goes on with what is open, where the byte completes nothing; whether it did.
     #[inline(never)]
-    fn has_grown(&mut self, byte: u8) -> bool
+    fn try_grow(&mut self, byte: u8) -> bool
         ensures accepted { result ≡ true → Takes self.old self.new byte [] }
         ensures kept { result ≡ false → self.new ≡ self.old }
         ensures stopped { IsSome (fault_of self.old) → result ≡ false }
@@ -165,7 +216,7 @@ impl Reader {
             return false;
         }
         let opened = self.opened_at(MOST_BYTES - self.left);
-        if !self.pending.has_grown(byte) {
+        if !self.pending.try_grow(byte) {
             return false;
         }
         self.opened = opened;
@@ -181,7 +232,8 @@ impl Reader {
         ensures accepted { IfSome result (λ ended. Takes self.old self.new byte (ended ∷ [])) }
         ensures kept { IsNone result → self.new ≡ self.old }
         ensures stopped { IsSome (fault_of self.old) → IsNone result }
-        ensures refused { IsNone result → 0 < self.old.left → OnSome (settled_of (form_of self.old.pending)) (only_grown (begin_of byte) ≡ None) }
+        ensures refused { IsNone result → 0 < self.old.left →
+            OnSome (settled_of (form_of self.old.pending)) (only_grown (begin_of byte) ≡ None) }
     {
         if self.left == 0 {
             return None;
@@ -223,7 +275,8 @@ impl Reader {
     #[inline(never)]
     fn feed_any(&mut self, byte: u8) -> Result<Completed, Fault>
         requires not_grown { 0 < self.old.left → only_grown (within_of (form_of self.old.pending) byte) ≡ None }
-        requires not_ended { 0 < self.old.left → OnSome (settled_of (form_of self.old.pending)) (only_grown (begin_of byte) ≡ None) }
+        requires not_ended { 0 < self.old.left →
+            OnSome (settled_of (form_of self.old.pending)) (only_grown (begin_of byte) ≡ None) }
         ensures kept { IfSome (fault_of self.old) (λ fault. (result ≡ Err fault) × (self.new ≡ self.old)) }
         ensures accepted { IfOk result (λ c. Takes self.old self.new byte (completions c)) }
         ensures refused { IfErr result (Refuses self.old self.new byte) }
@@ -307,7 +360,8 @@ impl Reader {
 /// How many byte values, from `?` on, are a sixel by themselves, where so many bytes may come.
 #[inline]
 fn ready_for(left: u64, pending: &Pending) -> u8
-    ensures { 0 < result → (result ≡ 64) × (0 < left) × (form_of pending.now ≡ NoCommandForm) }
+    ensures ready { 0 < result → (result ≡ 64) × (0 < left) × (form_of pending.now ≡ NoCommandForm) }
+    ensures open { 0 < left → form_of pending.now ≡ NoCommandForm → result ≡ 64 }
 {
     if left > 0 && pending.is_between_commands() {
         64

@@ -9,9 +9,9 @@ ghost use Rattle.sixel_grammar.specs.Standing.{StandsAfter, completions};
 
 use crate::command::{Completed, Placed};
 use crate::device::Source;
-use crate::fault::{Fault, InputFault};
+use crate::fault::InputFault;
 use crate::reader::Reader;
-use std::alloc::Global;
+use std::alloc::{AllocError, Global};
 
 /// How many bytes are asked of a source at once.
 const PIECE: usize = 65_536;
@@ -26,20 +26,12 @@ pub fn read_all<S: Source>(alloc: Global, input: &mut S) -> Result<Vec<Placed>, 
     let mut reader = Reader::new();
     let mut piece = [0u8; PIECE];
     loop {
-        match input.fill(&mut piece) {
-            Err(_) => return Err(InputFault::Read),
-            Ok(0) => {
-                return match reader.finish() {
-                    Ok(()) => Ok(events),
-                    Err(fault) => Err(InputFault::Grammar(fault)),
-                };
-            }
-            Ok(count) => {
-                if let Err(fault) = read_piece(&mut reader, &mut events, &piece[..count]) {
-                    return Err(fault);
-                }
-            }
+        let count = input.fill(&mut piece)?;
+        if count == 0 {
+            reader.finish()?;
+            return Ok(events);
         }
+        read_piece(&mut reader, &mut events, &piece[..count])?;
     }
 }
 
@@ -51,9 +43,7 @@ fn read_piece(reader: &mut Reader, events: &mut Vec<Placed>, piece: &[u8]) -> Re
         ExplainsAlways fault (front ++ piece.now)) }
 {
     for byte in piece {
-        if let Err(fault) = read_byte(reader, events, *byte) {
-            return Err(fault);
-        }
+        read_byte(reader, events, *byte)?;
     }
     Ok(())
 }
@@ -65,30 +55,23 @@ fn read_byte(reader: &mut Reader, events: &mut Vec<Placed>, byte: u8) -> Result<
     ensures refused { IfErr result (λ fault. (front : List ℕ) → StandsAfter reader.old events.old.items front →
         ExplainsAlways fault (front ++ byte ∷ [])) }
 {
-    match reader.feed(byte) {
-        Ok(completed) => keep(events, completed),
-        Err(fault) => Err(InputFault::Grammar(fault)),
-    }
+    let completed = reader.feed(byte)?;
+    Ok(keep(events, completed)?)
 }
 
-fn keep(events: &mut Vec<Placed>, completed: Completed) -> Result<(), InputFault>
-    ensures kept { OnOk result (events.new.items ≡ events.old.items ++ completions completed) }
-    ensures refused { IfErr result (λ fault. fault ≡ InputFault.OutOfMemory) }
+fn keep(events: &mut Vec<Placed>, completed: Completed) -> Result<(), AllocError>
+    ensures { OnOk result (events.new.items ≡ events.old.items ++ completions completed) }
 {
     let Completed { first, second } = completed;
     keep_one(events, first)?;
     keep_one(events, second)
 }
 
-fn keep_one(events: &mut Vec<Placed>, placed: Option<Placed>) -> Result<(), InputFault>
-    ensures kept { OnOk result (events.new.items ≡ events.old.items ++ option_to_list placed) }
-    ensures refused { IfErr result (λ fault. fault ≡ InputFault.OutOfMemory) }
+fn keep_one(events: &mut Vec<Placed>, placed: Option<Placed>) -> Result<(), AllocError>
+    ensures { OnOk result (events.new.items ≡ events.old.items ++ option_to_list placed) }
 {
-    match placed {
-        None => Ok(()),
-        Some(placed) => match events.push(placed) {
-            Ok(()) => Ok(()),
-            Err(_) => Err(InputFault::OutOfMemory),
-        },
+    if let Some(placed) = placed {
+        events.push(placed)?;
     }
+    Ok(())
 }

@@ -27,7 +27,15 @@ impl<'a> Model for SliceSink<'a> {
 
     ghost Value = { SinkState };
 
-    ghost view = { λ s. record { written = take s.at s.room.now; room = length s.room.now; piece = s.piece; fail_at = s.fail_at; calls = s.calls; failures = s.failures; flushed = s.flushed } };
+    ghost view = { λ s. record {
+      written = take s.at s.room.now;
+      room = length s.room.now;
+      piece = s.piece;
+      fail_at = s.fail_at;
+      calls = s.calls;
+      failures = s.failures;
+      flushed = s.flushed;
+    } };
 
     ghost invariant = { λ s. (0 < s.piece) × (s.at ≤ length s.room.now) };
 }

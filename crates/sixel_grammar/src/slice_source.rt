@@ -34,7 +34,13 @@ impl<'a> Model for SliceSource<'a> {
 
     ghost Value = { SourceState };
 
-    ghost view = { λ s. record { rest = s.rest.now; piece = s.piece; fail_at = s.fail_at; calls = s.calls; failures = s.failures } };
+    ghost view = { λ s. record {
+      rest = s.rest.now;
+      piece = s.piece;
+      fail_at = s.fail_at;
+      calls = s.calls;
+      failures = s.failures;
+    } };
 
     ghost invariant = { λ s. 0 < s.piece };
 }

@@ -1,6 +1,7 @@
 use Rattle.std.proofs.Common.{◌+◌, ◌-◌, length, take, drop, arith}
-use Rattle.std.proofs.lemmas.List.{length-drop, length-take}
-use Rattle.sixel_grammar.proofs.Devices.{Appends-then, take-plus, take-rest}
+use Rattle.std.proofs.lemmas.List.{length-drop, length-take, take_rest}
+use Rattle.std.proofs.Math.Seq.{take-add}
+use Rattle.sixel_grammar.proofs.Devices.{Appends-then}
 use Rattle.sixel_grammar.proofs.device.put_all.Goals as goal
 
 pub loop-at-preserved : goal.loop-at-preserved
@@ -12,7 +13,11 @@ loop-at-preserved g c =
     let l2 = length-drop c.loop-at.at c.args.bytes.now in
     record {
       in_range = omega arith;
-      appended = Appends-then (g.K.Sink.taken c.args.out.now) (g.K.Sink.taken c.loop-at.out) (g.K.Sink.taken c.take.new.self) (take c.loop-at.at c.args.bytes.now) (take c.in_ok-at.field-0 (drop c.loop-at.at c.args.bytes.now)) (take (c.loop-at.at + c.in_ok-at.field-0) c.args.bytes.now) c.loop-at.invariant.appended (rw take-rest at c.in_ok-at.ensures.bytes) (take-plus c.loop-at.at c.in_ok-at.field-0 c.args.bytes.now in_range);
+      appended = Appends-then (g.K.Sink.taken c.args.out.now) (g.K.Sink.taken c.loop-at.out)
+          (g.K.Sink.taken c.take.new.self) (take c.loop-at.at c.args.bytes.now)
+          (take c.in_ok-at.field-0 (drop c.loop-at.at c.args.bytes.now))
+          (take (c.loop-at.at + c.in_ok-at.field-0) c.args.bytes.now) c.loop-at.invariant.appended
+          (rw take_rest at c.in_ok-at.ensures.bytes) (take-add c.loop-at.at c.in_ok-at.field-0 c.args.bytes.now);
       unflushed = λ t. cc (c.in_ok-at.ensures.flushed, t);
       held = λ t. c.in_ok-at.ensures.flushed;
       failures = cc (c.in_ok-at.ensures.failures, c.loop-at.invariant.failures);

@@ -1,6 +1,6 @@
-use Rattle.std.proofs.Common.{◌≡◌, ◌∙◌, ◌≤◌, length, drop, refl, ap, arith}
-use Rattle.std.proofs.lemmas.List.{length-drop}
-use Rattle.sixel_grammar.proofs.Devices.{takes-further, nothing-taken, drop-plus}
+use Rattle.std.proofs.Common.{◌≡◌, ◌∙◌, ◌≤◌, length, drop, refl, sym, ap, arith}
+use Rattle.std.proofs.lemmas.List.{drop-drop, length-drop}
+use Rattle.sixel_grammar.proofs.Devices.{takes-further, nothing-taken}
 use Rattle.sixel_grammar.proofs.block.Block.drain.Goals as goal
 
 pub loop-self-init : goal.loop-self-init
@@ -23,7 +23,9 @@ loop-self-preserved g c =
     let bound : c.in_ok-count.count ≤ length c.rest.result.now = c.in_ok-count.ensures.bound.1 in
     record {
       in_range = omega (arith, length-drop start text);
-      front = takes-further _ (g.K.Sink.taken c.loop-self.out) _ c.args.self.now (drop start text) _ c.in_ok-count.count c.loop-self.invariant.front (rw rest at c.in_ok-count.ensures.bytes) (drop-plus start c.in_ok-count.count text);
+      front = takes-further _ (g.K.Sink.taken c.loop-self.out) _ c.args.self.now
+          (drop start text) _ c.in_ok-count.count c.loop-self.invariant.front (rw rest at c.in_ok-count.ensures.bytes)
+          (sym (drop-drop c.in_ok-count.count start text));
       unflushed = λ t. cc (c.in_ok-count.ensures.flushed, t);
       held = λ less. c.in_ok-count.ensures.flushed;
       failures = cc (c.in_ok-count.ensures.failures, c.loop-self.invariant.failures);

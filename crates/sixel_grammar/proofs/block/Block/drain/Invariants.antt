@@ -6,7 +6,8 @@ use Rattle.sixel_grammar.proofs.block.Block.drain.Given as goal
 abbrev pub invariant-loop-self : goal.invariant-loop-self
 invariant-loop-self g l = record {
   in_range : l.self-inside.start ≤ length l.self-inside.text.items;
-  front : (n : ℕ) × Appends (g.K.Sink.taken l.fn.out) (g.K.Sink.taken l.out) (take n l.fn.self) × (drop l.self-inside.start l.self-inside.text.items ≡ drop n l.fn.self);
+  front : (n : ℕ) × Appends (g.K.Sink.taken l.fn.out) (g.K.Sink.taken l.out) (take n l.fn.self)
+      × (drop l.self-inside.start l.self-inside.text.items ≡ drop n l.fn.self);
   unflushed : NeverFlushes (g.K.Sink.is_flushed l.fn.out) (g.K.Sink.is_flushed l.out);
   held : length (drop l.self-inside.start l.self-inside.text.items) < length l.fn.self → g.K.Sink.is_flushed l.out ≡ false;
   failures : g.K.Sink.failure_count l.out ≡ g.K.Sink.failure_count l.fn.out;

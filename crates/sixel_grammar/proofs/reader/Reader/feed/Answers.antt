@@ -10,20 +10,25 @@ returns-in-Some-clause-accepted c = λ events bytes s.
     subst (λ (d : Completed). StandsAfter c.feed_quickly.new.self (events ++ completions d) (bytes ++ c.args.byte ∷ []))
     (sym c.of_plain.ensures) (c.in-Some.ensures.accepted events bytes s)
 
-pub returns-then-has_grown-clause-accepted : goal.returns-then-has_grown-clause-accepted
-returns-then-has_grown-clause-accepted c = λ events bytes s.
+pub returns-then-try_grow-clause-accepted : goal.returns-then-try_grow-clause-accepted
+returns-then-try_grow-clause-accepted c = λ events bytes s.
     let same : c.feed_quickly.new.self ≡ c.args.self.now = c.in_default.ensures.kept refl in
-    let stands = c.if-has_grown.ensures.accepted refl events bytes (subst (λ (r : Reader). StandsAfter r events bytes) (sym same) s) in
-    subst (λ (d : Completed). StandsAfter c.has_grown.new.self (events ++ completions d) (bytes ++ c.args.byte ∷ [])) (sym c.of_none.ensures) stands
+    let stands =
+    c.if-try_grow.ensures.accepted refl events bytes
+    (subst (λ (r : Reader). StandsAfter r events bytes) (sym same) s) in
+    subst (λ (d : Completed). StandsAfter c.try_grow.new.self (events ++ completions d) (bytes ++ c.args.byte ∷ []))
+    (sym c.of_none.ensures) stands
 
 pub returns-clause-accepted : goal.returns-clause-accepted
 returns-clause-accepted c =
-    let same : c.has_grown.new.self ≡ c.args.self.now = c.if-has_grown.ensures.kept refl ∙ c.in_default.ensures.kept refl in
-    let from = λ (r : Reader). IfOk c.feed_slowly.result (λ (done : Completed). Takes r c.feed_slowly.new.self c.args.byte (completions done)) in
+    let same : c.try_grow.new.self ≡ c.args.self.now = c.if-try_grow.ensures.kept refl ∙ c.in_default.ensures.kept refl in
+    let from =
+    λ (r : Reader).
+    IfOk c.feed_slowly.result (λ (done : Completed). Takes r c.feed_slowly.new.self c.args.byte (completions done)) in
     subst from same c.feed_slowly.ensures.accepted
 
 pub returns-clause-refused : goal.returns-clause-refused
 returns-clause-refused c =
-    let same : c.has_grown.new.self ≡ c.args.self.now = c.if-has_grown.ensures.kept refl ∙ c.in_default.ensures.kept refl in
+    let same : c.try_grow.new.self ≡ c.args.self.now = c.if-try_grow.ensures.kept refl ∙ c.in_default.ensures.kept refl in
     let from = λ (r : Reader). IfErr c.feed_slowly.result (Refuses r c.feed_slowly.new.self c.args.byte) in
     subst from same c.feed_slowly.ensures.refused

@@ -8,7 +8,9 @@ use Rattle.sixel_grammar.proofs.reader.Reader.feed_slowly.Goals as goal
 pub returns-clause-accepted : goal.returns-clause-accepted
 returns-clause-accepted c =
     let same : c.ended_by.new.self ≡ c.args.self.now = c.in_default.ensures.kept refl in
-    let from = λ (r : Reader). IfOk c.feed_any.result (λ (done : Completed). Takes r c.feed_any.new.self c.args.byte (completions done)) in
+    let from =
+    λ (r : Reader).
+    IfOk c.feed_any.result (λ (done : Completed). Takes r c.feed_any.new.self c.args.byte (completions done)) in
     subst from same c.feed_any.ensures.accepted
 
 pub returns-clause-refused : goal.returns-clause-refused

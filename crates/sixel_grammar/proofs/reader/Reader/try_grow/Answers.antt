@@ -2,12 +2,12 @@ use Rattle.std.proofs.Common.{None, [], ◌∷◌, ◌++◌, ◌≡◌, ◌∙�
 use Rattle.sixel_grammar.specs.Standing.{opened_after}
 use Rattle.sixel_grammar.proofs.Choices.{grown-is}
 use Rattle.sixel_grammar.proofs.Stands.{grown, quiet}
-use Rattle.sixel_grammar.proofs.reader.Reader.has_grown.Goals as goal
+use Rattle.sixel_grammar.proofs.reader.Reader.try_grow.Goals as goal
 
 pub returns-clause-accepted : goal.returns-clause-accepted
 returns-clause-accepted c = λ t events bytes s.
     let place : 268435456 - c.args.self.now.left ≡ length bytes = omega (arith, s.left) in
     quiet _ events (bytes ++ c.args.byte ∷ []) (record { first = None; second = None }) refl
     (grown c.args.self.now _ events bytes c.args.byte c.opened_at-opened.result s (omega (arith, c.if-self-eq0.false))
-    (grown-is _ _ (sym (c.if-not-has_grown.ensures.grown)))
+    (grown-is _ _ (sym (c.if-not-try_grow.ensures.grown)))
     (c.opened_at-opened.ensures ∙ ap (λ (n : ℕ). opened_after n c.args.self.now) place) refl refl refl)
