@@ -1,10 +1,10 @@
 -- the words on positions over a list in two parts
-use Rattle.std.proofs.Common.{◌≡◌, ℕ, zero, suc, ◌+◌, Bool, true, false, ◌||◌, Option, List, [], ◌∷◌, ◌++◌, length}
-use Rattle.std.proofs.Common.{refl, sym, ap, ◌∙◌, arith}
+use Rattle.std.proofs.Common.{◌≡◌, ℕ, zero, suc, ◌+◌, Option, List, [], ◌∷◌, ◌++◌, length}
+use Rattle.std.proofs.Common.{sym, ap, ◌∙◌, arith}
 use Rattle.std.specs.Option.{option_or}
-use Rattle.sixel_picture.specs.Positions.{any_below, last_below, at_position, passes_at, last_at, any_at}
+use Rattle.sixel_picture.specs.Positions.{last_below, at_position, last_at}
 use Rattle.sixel_picture.specs.Positions.{HoldsAtPosition}
-use Rattle.sixel_picture.proofs.PositionLemmas.{option_or_assoc, option_or_none, or_false}
+use Rattle.sixel_picture.proofs.PositionLemmas.{option_or_assoc, option_or_none}
 
 last_below_shift : {A : Type 0} (n : ℕ) (f : ℕ → Option A)
     → last_below (suc n) f ≡ option_or (last_below n (λ i. f (suc i))) (f 0)
@@ -31,21 +31,6 @@ last_at_append f (x ∷ xs) ys =
     ∙ option_or_assoc (last_at (λ before e. f (x ∷ (xs ++ before)) e) ys) (last_at (λ before e. f (x ∷ before) e) xs)
     (f [] x)
     ∙ ap (option_or (last_at (λ before e. f (x ∷ (xs ++ before)) e) ys)) (sym (last_at_cons f x xs))
-
-or_assoc : (a b c : Bool) → ((a || b) || c) ≡ (a || (b || c))
-or_assoc true b c = refl
-or_assoc false b c = refl
-
-any_below_shift : (n : ℕ) (p : ℕ → Bool) → any_below (suc n) p ≡ (any_below n (λ i. p (suc i)) || p 0)
-unfolding any_below
-any_below_shift zero p = or_false (p 0)
-any_below_shift (suc n) p =
-    ap (λ b. p (suc n) || b) (any_below_shift n p) ∙ sym (or_assoc (p (suc n)) (any_below n (λ i. p (suc i))) (p 0))
-
-pub any_at_cons : {X : Type 0} (p : List X → X → Bool) (x : X) (xs : List X)
-    → any_at p (x ∷ xs) ≡ (any_at (λ before e. p (x ∷ before) e) xs || p [] x)
-unfolding any_at passes_at
-any_at_cons p x xs = any_below_shift (length xs) (passes_at p (x ∷ xs))
 
 -- the item at a position of two lists joined stands in the first or in the second
 pub holds_in_second : {X : Type 0} (P : List X → X → Type 0) (xs ys : List X) (i j : ℕ) → j ≡ length xs + i

@@ -15,6 +15,7 @@ use Rattle.sixel_picture.specs.Geometry.{covers}
 use Rattle.sixel_picture.specs.Positions.{any_below}
 use Rattle.sixel_picture.specs.Sheets.{IsFull, blank_sheet, cell, first_blank, painted_sheet}
 use Rattle.sixel_picture.specs.BytePlanes.{register_of_byte, sheet_of_bytes}
+use Rattle.sixel_picture.proofs.PositionLemmas.{and_false}
 use Rattle.sixel_picture.proofs.SheetLemmas.{rows_from_index}
 
 -- a register's byte is no blank
@@ -95,10 +96,6 @@ pub record IsPaintedBelow (n w left count band bits register : ℕ) (old new : L
   pub long : length new ≡ length old
   pub pixels : (i : ℕ) → i < length old
       → get_or new i 0 ≡ cond (covered_below n left count band bits (i % w) (i / w)) register (get_or old i 0)
-
-and_false : (t : Bool) → (t && false) ≡ false
-and_false true = refl
-and_false false = refl
 
 pub painted_none : (w left count band bits register : ℕ) (xs : List ℕ)
     → IsPaintedBelow 0 w left count band bits register xs xs

@@ -22,3 +22,6 @@ pub mod PpmHeaderLemmas
 pub mod PpmColourLemmas
 pub mod PpmSampleLemmas
 pub mod PpmReadLemmas
+pub mod PpmFileLemmas
+pub mod PpmPartLemmas
+pub mod PpmFoundLemmas

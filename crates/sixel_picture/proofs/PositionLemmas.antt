@@ -1,5 +1,5 @@
 -- What one more item at the end of a list does to the words on positions.
-use Rattle.std.proofs.Common.{◌≡◌, ℕ, zero, suc, ◌<◌, ◌≤◌, Bool, true, false, ◌||◌, cond, Option, Some, None}
+use Rattle.std.proofs.Common.{◌≡◌, ℕ, zero, suc, ◌<◌, ◌≤◌, Bool, true, false, ◌&&◌, ◌||◌, cond, Option, Some, None}
 use Rattle.std.proofs.Common.{List, [], ◌∷◌, ◌++◌, length, take, ◌⊎◌, inl, inr, refl, sym, ap, subst, ◌∙◌, arith}
 use Rattle.std.specs.Prelude.{slice_get}
 use Rattle.std.specs.Option.{option_or}
@@ -38,6 +38,10 @@ earliest_push f (y ∷ ys) x =
 pub or_false : (a : Bool) → (a || false) ≡ a
 or_false true = refl
 or_false false = refl
+
+pub and_false : (a : Bool) → (a && false) ≡ false
+and_false true = refl
+and_false false = refl
 
 since_step : {X : Type 0} (x y : X) (ys s t : List X) (a b c : Bool) → t ≡ cond a [] (s ++ x ∷ []) →
     cond (b || a) t (cond c (ys ++ x ∷ []) (y ∷ (ys ++ x ∷ []))) ≡ cond a [] (cond b s (cond c ys (y ∷ ys)) ++ x ∷ [])

@@ -2,7 +2,7 @@
 use Rattle.std.proofs.Common.{◌≡◌, ◌+◌, ◌-◌, ◌<◌, ◌≤◌, ℕ, Bool, true, ◌&&◌, Option, Some, None, Result, Ok, Err, List}
 use Rattle.std.proofs.Common.{[], ◌∷◌, ◌++◌, length, take, drop, get_or, refl, sym, ap, ap₂, subst, ◌∙◌, append_assoc}
 use Rattle.std.proofs.Common.{arith, length-take-le}
-use Rattle.std.specs.Prelude.{IfErr, IfOk, IfSome, IsOk}
+use Rattle.std.specs.Prelude.{IfErr, IfOk, IfSome, IsErrAnd, IsOk, MatchResult}
 use Rattle.std.proofs.lemmas.Bool.Decides.{nat_tests}
 use Rattle.std.specs.Io.KnownBytes.{Consumes, IsAtEnd}
 use Rattle.std.proofs.lemmas.List.{append-nil, drop-take, take_more, take-append-drop}
@@ -96,6 +96,14 @@ fed_all old now piece k fed e = record {
   within = fed.within;
 }
 
+-- ---- a piece
+
+-- a call that is refused under another name has answered what is told where it isn't
+pub answered : {E F : Type 0} (r : Result ℕ E) (told : Result ℕ F) (count : ℕ) (R : E → F → Type 0) → told ≡ Ok count
+    → MatchResult r (λ n. told ≡ Ok n) (λ e. IsErrAnd told (R e)) → r ≡ Ok count
+answered (Ok n) told count R is same = cc (is, same)
+answered (Err e) told count R is named = absurd (subst (λ t. IsErrAnd t (R e)) is named)
+
 -- ---- the header, piece by piece
 
 pub header_goes_on : (old mid new : Option (List ℕ)) (progress next : Progress) (taken : List ℕ)
@@ -155,7 +163,7 @@ refuses_rest : (fault : PpmFault) (result : Result PictureValue PpmFault) → Re
     → ReadsRest (Err fault) result
 refuses_rest (Format reason place) result h = h
 refuses_rest NotRgb result h = h
-refuses_rest OutOfMemory result h = tt
+refuses_rest OutOfMemory result h = h
 refuses_rest Read result h = tt
 refuses_rest Write result h = h
 
@@ -181,7 +189,7 @@ pub samples_fault_counts : (A : Type 0) (s : Samples) (fault : PpmFault) (taken 
     → FailsOn s fault taken → b ≡ a → CountsReadFault {A = A} (Err fault) a b
 samples_fault_counts A s (Format reason place) taken a b held f e = e
 samples_fault_counts A s NotRgb taken a b held f e = f held.0 held.1 []
-samples_fault_counts A s OutOfMemory taken a b held f e = e
+samples_fault_counts A s OutOfMemory taken a b held f e = absurd (f held.0 held.1 [])
 samples_fault_counts A s Read taken a b held f e = absurd (f held.0 held.1 [])
 samples_fault_counts A s Write taken a b held f e = f held.0 held.1 []
 
@@ -259,7 +267,7 @@ rest_reads : (result : Result PictureValue PpmFault) (bytes : List ℕ) (r : Res
     → HasWholeHeader bytes → ReadsRest result r → ReadsPpm result bytes
 rest_reads (Ok p) bytes r e whole h = e ∙ h
 rest_reads (Err (Format reason place)) bytes r e whole h = e ∙ h
-rest_reads (Err OutOfMemory) bytes r e whole h = whole
+rest_reads (Err OutOfMemory) bytes r e whole h = absurd h
 rest_reads (Err Read) bytes r e whole h = tt
 rest_reads (Err NotRgb) bytes r e whole h = h
 rest_reads (Err Write) bytes r e whole h = h

@@ -2,7 +2,7 @@
 use Rattle.std.proofs.Common.{◌≡◌, ◌==◌, ◌+◌, ◌*◌, ◌<◌, ◌≤◌, ℕ, zero, suc, Bool, true, false, ◌&&◌, nat_le, nat_lt}
 use Rattle.std.proofs.Common.{Option, None, Result, Ok, Err, List, [], ◌∷◌, ◌++◌, length, map, refl, sym, ap, ap₂}
 use Rattle.std.proofs.Common.{subst, ◌∙◌, append_assoc, arith, eq-eqb, length-append}
-use Rattle.std.specs.Prelude.{◌-◌, IfErr, OnOk, drop, is_some, slice_index, take, unwrap_or}
+use Rattle.std.specs.Prelude.{◌-◌, IfErr, drop, is_some, slice_index, take, unwrap_or}
 use Rattle.std.specs.List.{list_all, list_any}
 use Rattle.std.proofs.lemmas.Bool.Decides.{nat_tests}
 use Rattle.std.proofs.lemmas.List.{length-map}
@@ -161,10 +161,6 @@ pixel_led maxval (suc n) m at next r g b width height colours rest less e red gr
     ∙ ap₂ (λ (k : ℕ) (place : ℕ). pixels 16 maxval k (colours ++ colour_of maxval r g b ∷ []) place rest) same (sym e))
 
 -- ---- by the states
-
-pub on_ok : {A E : Type 0} (r : Result A E) (P Q : Type 0) → (P → Q) → OnOk r P → OnOk r Q
-on_ok (Ok x) P Q f h = f h
-on_ok (Err e) P Q f h = tt
 
 pub on_err : {A E : Type 0} (r : Result A E) (P Q : E → Type 0) → ((e : E) → P e → Q e) → IfErr r P → IfErr r Q
 on_err (Ok x) P Q f h = tt

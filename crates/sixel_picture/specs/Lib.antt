@@ -15,4 +15,5 @@ pub mod PpmColours
 pub mod PpmHeld
 pub mod PpmSamples
 pub mod PpmFeeding
+pub mod PpmFiles
 pub mod Laws

@@ -63,7 +63,7 @@ pub record HasStarted (old new : Option (List ℕ)) (piece : List ℕ) (s : Star
 abbrev pub ReadsRest : Result PictureValue PpmFault → Result PictureValue PpmFault → Type 0
 ReadsRest (Ok picture) result = result ≡ Ok picture
 ReadsRest (Err (Format reason place)) result = result ≡ at_fault reason place
-ReadsRest (Err OutOfMemory) result = Unit {0}
+ReadsRest (Err OutOfMemory) result = ⊥
 ReadsRest (Err Read) result = Unit {0}
 ReadsRest (Err NotRgb) result = ⊥
 ReadsRest (Err Write) result = ⊥

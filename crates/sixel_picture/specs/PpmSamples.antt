@@ -104,10 +104,10 @@ pixels_on s colours rest = do
 abbrev pub samples_on : Samples → List Parts → List ℕ → Result PictureValue PpmFault
 samples_on s colours rest = pixels_on s colours (held_samples s.held ++ rest)
 
--- a fault is that of a reading; memory may be wanting at any time, and no device is met
+-- a fault is that of a reading; memory was taken before the samples, and no device is met
 abbrev pub Refuses : PpmFault → Result PictureValue PpmFault → Type 0
 Refuses (Format reason place) result = result ≡ at_fault reason place
-Refuses OutOfMemory result = Unit {0}
+Refuses OutOfMemory result = ⊥
 Refuses NotRgb result = ⊥
 Refuses Read result = ⊥
 Refuses Write result = ⊥

@@ -66,6 +66,7 @@ impl Colour {
         }
     }
 
+    /// The coordinates, in the system in which they were given.
     pub fn parts(&self) -> Parts
         ensures same { result ≡ self.now }
         ensures in_range { IsColour self.now }

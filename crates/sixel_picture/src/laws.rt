@@ -1,6 +1,7 @@
 //! Laws about the definitions. Each function's contract is the law.
 
-ghost use Rattle.sixel_picture.specs.Laws.{BlankSheetsAreBlank, PixelsHaveColours, RunsPaintTheirPixels};
+ghost use Rattle.sixel_picture.specs.Laws.{BlankSheetsAreBlank, PictureFilesAreRead, PixelsHaveColours};
+ghost use Rattle.sixel_picture.specs.Laws.{RunsPaintTheirPixels};
 
 /// Each pixel of a picture has a colour, so that the text of its PPM leaves no pixel out.
 pub fn pixels_have_colours()
@@ -15,4 +16,10 @@ pub fn blank_sheets_are_blank()
 /// A run gives its pixels the register, and leaves each other pixel as it was.
 pub fn runs_paint_their_pixels()
     ensures { RunsPaintTheirPixels }
+{}
+
+/// The reading of a PPM agrees with the grammar of picture files: each file of a picture is read as that picture, and
+/// what is read is a file of it.
+pub fn picture_files_are_read()
+    ensures { PictureFilesAreRead 16 }
 {}

@@ -57,6 +57,23 @@ fn all_below(registers: &[u8]) -> bool
     greatest(registers) < 16
 }
 
+/// The first reason why these parts make no picture.
+fn reason_of(width: u32, height: u32, palette: &Palette, registers: &[u8]) -> Option<PictureReason>
+    ensures { result ≡ picture_fault 16 width height palette.now registers.now }
+{
+    if width < 1 || width > 2048 || height < 1 || height > 2048 {
+        Some(PictureReason::Size)
+    } else if registers.len() != (width * height) as usize {
+        Some(PictureReason::Count)
+    } else if !all_below(registers) {
+        Some(PictureReason::Register)
+    } else if !palette.has_all(registers) {
+        Some(PictureReason::NoColour)
+    } else {
+        None
+    }
+}
+
 impl Picture {
     /// The picture of these parts, or the first reason why they make none. Takes no memory.
     pub fn new(
@@ -72,30 +89,9 @@ impl Picture {
             (λ p. p ≡ picture_of_parts width height palette registers.items)
             (λ f. (f.palette ≡ palette) × (f.registers ≡ registers)) }
     {
-        if width < 1 || width > 2048 || height < 1 || height > 2048 {
+        if let Some(reason) = reason_of(width, height, &palette, &registers) {
             return Err(PictureFault {
-                reason: PictureReason::Size,
-                palette,
-                registers,
-            });
-        }
-        if registers.len() != (width * height) as usize {
-            return Err(PictureFault {
-                reason: PictureReason::Count,
-                palette,
-                registers,
-            });
-        }
-        if !all_below(&registers) {
-            return Err(PictureFault {
-                reason: PictureReason::Register,
-                palette,
-                registers,
-            });
-        }
-        if !palette.has_all(&registers) {
-            return Err(PictureFault {
-                reason: PictureReason::NoColour,
+                reason,
                 palette,
                 registers,
             });
@@ -139,6 +135,7 @@ impl Picture {
         self.height
     }
 
+    /// The colours of the registers.
     pub fn palette(&self) -> &Palette
         ensures same { result.now ≡ self.now.palette }
         ensures picture { IsPicture 16 self.now }

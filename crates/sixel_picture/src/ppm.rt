@@ -7,6 +7,7 @@ mod samples;
 mod write;
 
 pub use read::read_ppm;
+use std::alloc::AllocError;
 pub use write::{write_ppm, write_ppm_colours};
 
 /// What is wrong at the first byte that no picture file of this profile goes on with.
@@ -48,4 +49,15 @@ pub enum PpmFault {
     Read,
     /// The sink failed.
     Write,
+}
+
+impl From<AllocError> for PpmFault {
+    ghost use Rattle.std.specs.Prelude.{◌≡◌};
+    ghost use Rattle.sixel_picture.specs.declared.ppm.PpmFault.TheVariants.{OutOfMemory};
+
+    ghost from_gives = { λ fault result. result ≡ OutOfMemory };
+
+    fn from(_: AllocError) -> PpmFault {
+        PpmFault::OutOfMemory
+    }
 }

@@ -65,65 +65,163 @@ pub(crate) enum Next {
     Refused { reason: PpmReason, place: u64 },
 }
 
-/// A header of which no byte has come.
-pub(crate) fn begun() -> Progress
-    ensures { result ≡ begun }
-{
-    Progress {
-        part: Part::Letter,
-        place: 0,
-        width: 0,
-        height: 0,
-        value: 0,
-        first: 0,
+impl Progress {
+    /// A header of which no byte has come.
+    pub(crate) fn new() -> Progress
+        ensures { result ≡ begun }
+    {
+        Progress {
+            part: Part::Letter,
+            place: 0,
+            width: 0,
+            height: 0,
+            value: 0,
+            first: 0,
+        }
     }
-}
 
-/// What the next byte makes of the header.
-pub(crate) fn step(progress: Progress, byte: u8) -> Next
-    ensures { result ≡ step progress byte }
-{
-    if progress.place >= MOST_BYTES {
-        return refused(progress);
+    /// What the next byte makes of the header.
+    pub(crate) fn step(self, byte: u8) -> Next
+        ensures { result ≡ step self byte }
+    {
+        if self.place >= MOST_BYTES {
+            return self.refused();
+        }
+        match self.part {
+            Part::Letter => self.wanted_byte(byte == b'P', Part::Version),
+            Part::Version => self.wanted_byte(byte == b'6', Part::AfterVersion),
+            Part::AfterVersion => self.in_filler(Field::Width, byte),
+            Part::Filler(field) => self.filled(field, byte),
+            Part::Comment(field) => self.in_comment(field, byte),
+            Part::Digits(field) => self.in_digits(field, byte),
+        }
     }
-    match progress.part {
-        Part::Letter => wanted_byte(progress, byte == b'P', Part::Version),
-        Part::Version => wanted_byte(progress, byte == b'6', Part::AfterVersion),
-        Part::AfterVersion => in_filler(progress, Field::Width, byte),
-        Part::Filler(field) => filled(progress, field, byte),
-        Part::Comment(field) => in_comment(progress, field, byte),
-        Part::Digits(field) => in_digits(progress, field, byte),
+
+    /// The next byte may not stand where it does.
+    fn refused(self) -> Next
+        ensures { result ≡ refused self }
+    {
+        Next::Refused {
+            reason: PpmReason::Header,
+            place: self.place,
+        }
     }
-}
 
-fn refused(progress: Progress) -> Next
-    ensures { result ≡ refused progress }
-{
-    Next::Refused {
-        reason: PpmReason::Header,
-        place: progress.place,
+    fn advanced(self, part: Part) -> Next
+        requires { self.place < 65536 }
+        ensures { result ≡ advanced self part }
+    {
+        Next::More(Progress {
+            part,
+            place: self.place + 1,
+            ..self
+        })
     }
-}
 
-fn advanced(progress: Progress, part: Part) -> Next
-    requires { progress.place < 65536 }
-    ensures { result ≡ advanced progress part }
-{
-    Next::More(Progress {
-        part,
-        place: progress.place + 1,
-        ..progress
-    })
-}
+    fn wanted_byte(self, passes: bool, part: Part) -> Next
+        requires { self.place < 65536 }
+        ensures { result ≡ wanted_byte self passes part }
+    {
+        if passes {
+            self.advanced(part)
+        } else {
+            self.refused()
+        }
+    }
 
-fn wanted_byte(progress: Progress, passes: bool, part: Part) -> Next
-    requires { progress.place < 65536 }
-    ensures { result ≡ wanted_byte progress passes part }
-{
-    if passes {
-        advanced(progress, part)
-    } else {
-        refused(progress)
+    fn in_filler(self, field: Field, byte: u8) -> Next
+        requires { self.place < 65536 }
+        ensures { result ≡ in_filler self field byte }
+    {
+        if is_space(byte) {
+            self.advanced(Part::Filler(field))
+        } else if byte == b'#' {
+            self.advanced(Part::Comment(field))
+        } else {
+            self.refused()
+        }
+    }
+
+    fn in_comment(self, field: Field, byte: u8) -> Next
+        requires { self.place < 65536 }
+        ensures { result ≡ in_comment self field byte }
+    {
+        if byte == b'\n' {
+            self.advanced(Part::Filler(field))
+        } else {
+            self.advanced(Part::Comment(field))
+        }
+    }
+
+    /// Filler, or the first digit of the number after it.
+    fn filled(self, field: Field, byte: u8) -> Next
+        requires { self.place < 65536 }
+        ensures { result ≡ filled self field byte }
+    {
+        if is_digit(byte) {
+            Next::More(Progress {
+                part: Part::Digits(field),
+                place: self.place + 1,
+                value: grown(0, byte),
+                first: self.place,
+                ..self
+            })
+        } else {
+            self.in_filler(field, byte)
+        }
+    }
+
+    /// A digit, or the byte after the last one.
+    fn in_digits(self, field: Field, byte: u8) -> Next
+        requires { self.place < 65536 }
+        ensures { result ≡ in_digits self field byte }
+    {
+        if is_digit(byte) {
+            Next::More(Progress {
+                part: Part::Digits(field),
+                place: self.place + 1,
+                value: grown(self.value, byte),
+                ..self
+            })
+        } else if ends(field, byte) {
+            self.ended(field, byte)
+        } else {
+            self.refused()
+        }
+    }
+
+    /// The number is whole, and the byte after it is good.
+    fn ended(self, field: Field, byte: u8) -> Next
+        requires { self.place < 65536 }
+        ensures { result ≡ ended self field byte }
+    {
+        let value = self.value;
+        match field {
+            Field::Width if is_within(value, 2048) => Progress {
+                width: value,
+                ..self
+            }
+            .in_filler(Field::Height, byte),
+            Field::Height if is_within(value, 2048) => Progress {
+                height: value,
+                ..self
+            }
+            .in_filler(Field::Maxval, byte),
+            Field::Maxval if is_within(value, 255) => Next::Whole(Frame {
+                width: self.width,
+                height: self.height,
+                maxval: value as u8,
+                place: self.place + 1,
+            }),
+            Field::Maxval => Next::Refused {
+                reason: PpmReason::Maxval,
+                place: self.first,
+            },
+            _ => Next::Refused {
+                reason: PpmReason::Size,
+                place: self.first,
+            },
+        }
     }
 }
 
@@ -131,30 +229,6 @@ fn is_space(byte: u8) -> bool
     ensures { result ≡ is_space byte }
 {
     byte == b' ' || byte == b'\t' || byte == b'\r' || byte == b'\n'
-}
-
-fn in_filler(progress: Progress, field: Field, byte: u8) -> Next
-    requires { progress.place < 65536 }
-    ensures { result ≡ in_filler progress field byte }
-{
-    if is_space(byte) {
-        advanced(progress, Part::Filler(field))
-    } else if byte == b'#' {
-        advanced(progress, Part::Comment(field))
-    } else {
-        refused(progress)
-    }
-}
-
-fn in_comment(progress: Progress, field: Field, byte: u8) -> Next
-    requires { progress.place < 65536 }
-    ensures { result ≡ in_comment progress field byte }
-{
-    if byte == b'\n' {
-        advanced(progress, Part::Filler(field))
-    } else {
-        advanced(progress, Part::Comment(field))
-    }
 }
 
 fn is_digit(byte: u8) -> bool
@@ -175,43 +249,6 @@ fn grown(value: u32, digit: u8) -> u32
     }
 }
 
-/// Filler, or the first digit of the number after it.
-fn filled(progress: Progress, field: Field, byte: u8) -> Next
-    requires { progress.place < 65536 }
-    ensures { result ≡ filled progress field byte }
-{
-    if is_digit(byte) {
-        Next::More(Progress {
-            part: Part::Digits(field),
-            place: progress.place + 1,
-            value: grown(0, byte),
-            first: progress.place,
-            ..progress
-        })
-    } else {
-        in_filler(progress, field, byte)
-    }
-}
-
-/// A digit, or the byte after the last one.
-fn in_digits(progress: Progress, field: Field, byte: u8) -> Next
-    requires { progress.place < 65536 }
-    ensures { result ≡ in_digits progress field byte }
-{
-    if is_digit(byte) {
-        Next::More(Progress {
-            part: Part::Digits(field),
-            place: progress.place + 1,
-            value: grown(progress.value, byte),
-            ..progress
-        })
-    } else if ends(field, byte) {
-        ended(progress, field, byte)
-    } else {
-        refused(progress)
-    }
-}
-
 /// Whether a byte may follow the last digit: a comment may not follow that of the maximum.
 fn ends(field: Field, byte: u8) -> bool
     ensures { result ≡ ends field byte }
@@ -219,46 +256,6 @@ fn ends(field: Field, byte: u8) -> bool
     match field {
         Field::Maxval => is_space(byte),
         _ => is_space(byte) || byte == b'#',
-    }
-}
-
-/// The number is whole, and the byte after it is good.
-fn ended(progress: Progress, field: Field, byte: u8) -> Next
-    requires { progress.place < 65536 }
-    ensures { result ≡ ended progress field byte }
-{
-    let value = progress.value;
-    match field {
-        Field::Width if is_within(value, 2048) => in_filler(
-            Progress {
-                width: value,
-                ..progress
-            },
-            Field::Height,
-            byte,
-        ),
-        Field::Height if is_within(value, 2048) => in_filler(
-            Progress {
-                height: value,
-                ..progress
-            },
-            Field::Maxval,
-            byte,
-        ),
-        Field::Maxval if is_within(value, 255) => Next::Whole(Frame {
-            width: progress.width,
-            height: progress.height,
-            maxval: value as u8,
-            place: progress.place + 1,
-        }),
-        Field::Maxval => Next::Refused {
-            reason: PpmReason::Maxval,
-            place: progress.first,
-        },
-        _ => Next::Refused {
-            reason: PpmReason::Size,
-            place: progress.first,
-        },
     }
 }
 

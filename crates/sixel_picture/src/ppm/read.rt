@@ -7,7 +7,7 @@ ghost use Rattle.sixel_picture.specs.PpmSamples.{Holds, samples_on};
 ghost use Rattle.sixel_picture.specs.declared.colour.Parts.{Parts};
 
 use crate::picture::Picture;
-use crate::ppm::header::{Frame, Next, Progress, begun, step};
+use crate::ppm::header::{Frame, Next, Progress};
 use crate::ppm::samples::Samples;
 use crate::ppm::{PpmFault, PpmReason};
 use sixel_grammar::Source;
@@ -43,17 +43,9 @@ pub fn read_ppm<S: Source>(alloc: Global, input: &mut S) -> Result<Picture, PpmF
     ensures failures { CountsReadFault result (S.failure_count input.old) (S.failure_count input.new) }
 {
     let mut piece = [0u8; PIECE];
-    let started = match read_header(input, &mut piece) {
-        Ok(started) => started,
-        Err(fault) => return Err(fault),
-    };
-    let mut samples = match Samples::new(alloc, started.frame) {
-        Ok(samples) => samples,
-        Err(fault) => return Err(fault),
-    };
-    if let Err(fault) = samples.feed(&piece[started.start..started.end]) {
-        return Err(fault);
-    }
+    let started = read_header(input, &mut piece)?;
+    let mut samples = Samples::new(alloc, started.frame)?;
+    samples.feed(&piece[started.start..started.end])?;
     read_samples(samples, input, &mut piece)
 }
 
@@ -63,7 +55,7 @@ fn feed_header(begun: Progress, piece: &[u8]) -> Fed
 {
     let mut progress = begun;
     for (index, byte) in piece.iter().enumerate() {
-        match step(progress, *byte) {
+        match progress.step(*byte) {
             Next::More(next) => progress = next,
             Next::Whole(frame) => return Fed::Whole(frame, index + 1),
             Next::Refused { reason, place } => {
@@ -80,27 +72,25 @@ fn read_header<S: Source>(input: &mut S, piece: &mut [u8; PIECE]) -> Result<Star
     ensures failed { IfErr result (λ fault. IfSome (S.remaining input.old) (ReadsHeader fault)) }
     ensures failures { CountsReadFault result (S.failure_count input.old) (S.failure_count input.new) }
 {
-    let mut progress = begun();
+    let mut progress = Progress::new();
     loop {
-        match input.fill(piece) {
-            Err(_) => return Err(PpmFault::Read),
-            Ok(0) => {
-                return Err(PpmFault::Format {
-                    reason: PpmReason::Short,
-                    place: progress.place,
+        let count = input.fill(piece).map_err(|_| PpmFault::Read)?;
+        if count == 0 {
+            return Err(PpmFault::Format {
+                reason: PpmReason::Short,
+                place: progress.place,
+            });
+        }
+        match feed_header(progress, &piece[..count]) {
+            Fed::More(next) => progress = next,
+            Fed::Whole(frame, start) => {
+                return Ok(Started {
+                    frame,
+                    start,
+                    end: count,
                 });
             }
-            Ok(count) => match feed_header(progress, &piece[..count]) {
-                Fed::More(next) => progress = next,
-                Fed::Whole(frame, start) => {
-                    return Ok(Started {
-                        frame,
-                        start,
-                        end: count,
-                    });
-                }
-                Fed::Refused(fault) => return Err(fault),
-            },
+            Fed::Refused(fault) => return Err(fault),
         }
     }
 }
@@ -118,14 +108,10 @@ fn read_samples<S: Source>(
 {
     let mut samples = begun;
     loop {
-        match input.fill(piece) {
-            Err(_) => return Err(PpmFault::Read),
-            Ok(0) => return samples.finish(),
-            Ok(count) => {
-                if let Err(fault) = samples.feed(&piece[..count]) {
-                    return Err(fault);
-                }
-            }
+        let count = input.fill(piece).map_err(|_| PpmFault::Read)?;
+        if count == 0 {
+            return samples.finish();
         }
+        samples.feed(&piece[..count])?;
     }
 }

@@ -1,7 +1,7 @@
 //! The samples of a picture file, in pieces of any size.
 
 ghost use Rattle.std.specs.Prelude.{◌≡◌, ◌≤◌, ◌<◌, ◌+◌, ◌*◌, ◌^◌, ◌∷◌, [], length, ◌&&◌, List, IsTrue, IfErr, IfNone};
-ghost use Rattle.std.specs.Prelude.{IfOk, IfSome, Ok, OnOk};
+ghost use Rattle.std.specs.Prelude.{IfOk, IfSome, Ok, OnOk, vec_capacity, vec_len};
 ghost use Rattle.sixel_picture.specs.Pictures.{is_side};
 ghost use Rattle.sixel_picture.specs.PpmHeld.{held_samples, is_good};
 ghost use Rattle.sixel_picture.specs.PpmReading.{colour_of, percent};
@@ -11,7 +11,7 @@ use crate::picture::Picture;
 use crate::ppm::colours::Colours;
 use crate::ppm::header::Frame;
 use crate::ppm::{PpmFault, PpmReason};
-use std::alloc::Global;
+use std::alloc::{AllocError, Global};
 
 /// The samples of a pixel, and its register.
 #[derive(Clone, Copy, Debug, PartialEq, Eq)]
@@ -49,6 +49,7 @@ pub(crate) struct Samples {
     ghost bounded: { place + 3 * left ≤ 2 ^ 63 },
     ghost held_is_good: { IsTrue (is_good held maxval left) },
     ghost sides: { IsTrue (is_side width && is_side height) },
+    ghost room: { vec_len registers + left ≤ vec_capacity registers },
 }
 
 /// The percentage of a sample, to the nearest whole number.
@@ -92,28 +93,25 @@ impl Samples {
     ghost use Rattle.sixel_picture.specs.declared.colour.Parts.{Parts};
 
     /// No sample has come. This is the one growth of a reading.
-    pub(crate) fn new(alloc: Global, frame: Frame) -> Result<Samples, PpmFault>
+    pub(crate) fn new(alloc: Global, frame: Frame) -> Result<Samples, AllocError>
         requires sides { IsTrue (is_side frame.width && is_side frame.height) }
         requires scaled { 0 < frame.maxval }
         requires place { frame.place ≤ 65536 }
-        ensures begun { IfOk result (λ s. Begins frame s) }
-        ensures failed { IfErr result (λ fault. fault ≡ PpmFault.OutOfMemory) }
+        ensures { IfOk result (λ s. Begins frame s) }
     {
         let pixels = frame.width * frame.height;
-        match Vec::with_capacity(alloc, pixels as usize) {
-            Err(_) => Err(PpmFault::OutOfMemory),
-            Ok(registers) => Ok(Samples {
-                width: frame.width,
-                height: frame.height,
-                maxval: frame.maxval,
-                left: pixels,
-                place: frame.place,
-                held: Held::Nothing,
-                last: None,
-                colours: Colours::new(),
-                registers,
-            }),
-        }
+        let registers = Vec::with_capacity(alloc, pixels as usize)?;
+        Ok(Samples {
+            width: frame.width,
+            height: frame.height,
+            maxval: frame.maxval,
+            left: pixels,
+            place: frame.place,
+            held: Held::Nothing,
+            last: None,
+            colours: Colours::new(),
+            registers,
+        })
     }
 
     /// The fault of the first of a pixel's samples that is above the maximum.
@@ -185,19 +183,15 @@ impl Samples {
         self.number(red, green, blue)
     }
 
-    /// Puts a pixel into the list of those that are whole.
-    fn put(&mut self, register: u8) -> Result<(), PpmFault>
+    /// Puts a pixel into the list of those that are whole, where `new` has left room for it.
+    fn put(&mut self, register: u8)
         requires some { 0 < self.old.left }
         requires whole { self.old.held ≡ Held.Nothing }
-        ensures put { OnOk result (PutsPixel self.old self.new register) }
-        ensures failed { IfErr result (λ fault. fault ≡ PpmFault.OutOfMemory) }
+        ensures { PutsPixel self.old self.new register }
     {
-        if self.registers.push(register).is_err() {
-            return Err(PpmFault::OutOfMemory);
-        }
+        self.registers.push_reserved(register);
         self.left -= 1;
         self.place += 3;
-        Ok(())
     }
 
     /// Reads the three samples of a pixel.
@@ -212,7 +206,8 @@ impl Samples {
             return Err(fault(PpmReason::Trailing, self.place));
         }
         let register = self.register_of(red, green, blue)?;
-        self.put(register)
+        self.put(register);
+        Ok(())
     }
 
     /// Keeps the first or the second sample of a pixel.
@@ -278,10 +273,7 @@ impl Samples {
     {
         let mut rest = piece;
         while !rest.is_empty() {
-            match self.front(rest) {
-                Ok(tail) => rest = tail,
-                Err(fault) => return Err(fault),
-            }
+            rest = self.front(rest)?;
         }
         Ok(())
     }

@@ -9,5 +9,5 @@ returns-then-has_up_to-clause-value c =
     let n : ℕ = c.greatest.result + 1 in
     c.if-has_up_to.true
     ∙ sym (all_weaker (λ r. nat_lt r n) (λ r. is_some (palette_at c.args.self.now r)) c.args.registers.now
-    (λ r below. c.if-has_up_to.ensures refl r (omega (arith, ltb-true r n below)))
+    (λ r below. c.if-has_up_to.ensures.0 refl r (omega (arith, ltb-true r n below)))
     (c.greatest.ensures n (omega arith) ∙ lt-ltb c.greatest.result n (omega arith)))
