@@ -22,6 +22,7 @@ use Rattle.sixel_picture.specs.Rules.{breaks_redefined}
 use Rattle.sixel_picture.specs.Rules.{colour_by, colour_of, definition_of, gives_colour, is_painted_in, known, known_by}
 use Rattle.sixel_picture.specs.Rules.{palette_left, raster_before}
 use Rattle.sixel_picture.proofs.LeftLemmas.{left_at, length_left}
+use Rattle.sixel_picture.proofs.PositionLemmas.{and_false}
 use Rattle.sixel_check.specs.declared.notes.Notes.{Notes}
 use Rattle.sixel_check.specs.declared.rule.Rule.{Rule}
 use Rattle.sixel_check.specs.declared.rule.Rule.TheVariants.{RasterFirst, RasterTwice, Ratio, BoxSize, Register}
@@ -31,7 +32,7 @@ use Rattle.sixel_check.specs.declared.rule.Rule.TheVariants.{Uncovered}
 use Rattle.sixel_check.specs.Breaches.{NoneBelow, is_colour_of, raster_first_in, raster_twice_in, redefined_in, rule_in}
 use Rattle.sixel_check.specs.Breaches.{undefined_in, unselected_in}
 use Rattle.sixel_check.specs.Judging.{AreNotesAfter, IsGood}
-use Rattle.sixel_check.specs.Steps.{known_in}
+use Rattle.sixel_check.specs.Notes.{known_in}
 use Rattle.sixel_check.specs.Verdicts.{IsPixel, number_of}
 use Rattle.sixel_check.proofs.NoteLemmas.{known_below, known_is}
 
@@ -78,10 +79,6 @@ none_below_one before e zero lt h = h
 none_below_one before e (suc m) lt h = absurd (omega arith)
 
 -- ---- each rule, as it is noted
-
-and_false : (b : Bool) → (b && false) ≡ false
-and_false true = refl
-and_false false = refl
 
 unselected_is : (n : Notes) (before : List Event) (e : Event) → AreNotesAfter n before
     → unselected_in n e ≡ breaks_unselected before e

@@ -1,10 +1,10 @@
 -- On the colours that definitions give on terminals, where no rule is broken.
-use Rattle.std.proofs.Common.{◌≡◌, ◌<◌, ◌≤◌, ℕ, Bool, true, false, cond, not, Option, Some, None, List, [], ◌∷◌, take}
+use Rattle.std.proofs.Common.{◌≡◌, ◌<◌, ◌≤◌, ℕ, Bool, true, false, cond, Option, Some, None, List, [], ◌∷◌, take}
 use Rattle.std.proofs.Common.{refl, arith}
 use Rattle.std.specs.Prelude.{◌==◌, nat_le, unwrap_or, IfSome, IsFalse, IsSome}
 use Rattle.std.specs.List.{AllByRecursion}
 use Rattle.std.specs.Option.{option_and_then, option_map_or}
-use Rattle.std.proofs.lemmas.Bool.{leb-false}
+use Rattle.std.proofs.lemmas.Bool.{leb-false, not-false}
 use Rattle.std.proofs.Math.Nat.{mod-eq_of_lt}
 use Rattle.sixel_grammar.specs.declared.command.Command.TheVariants.{Sixel, Repeat, Raster, Select, Define}
 use Rattle.sixel_grammar.specs.declared.command.Command.TheVariants.{CarriageReturn, NextLine}
@@ -22,10 +22,6 @@ use Rattle.sixel_picture.proofs.LatestLemmas.{Gives, each_from_positions, latest
 use Rattle.sixel_picture.proofs.RuleLemmas.{Keeps, keeps_at}
 use Rattle.sixel_terminal.specs.Displays.{Display, registers_of}
 use Rattle.sixel_terminal.specs.Drawing.{defined_on, given_on, map_on, taken_on}
-
-pub from_not : (b : Bool) → not b ≡ false → b ≡ true
-from_not true h = refl
-from_not false h = cc
 
 -- the register that the event names is below n, and its definition gives a colour in range
 pub record IsSound (n : ℕ) (e : Event) : Type 0 where
@@ -85,7 +81,7 @@ unfolding breaks_colour_value
 define_same t n r enough (Step (Define q s x y z)) sound =
     let below : q < n = below_count n (Step (Define q s x y z)) sound.register in
     let small : q < registers_of t = omega arith in
-    rw (mod-eq_of_lt small) (define_if t (made s x y z) (q == r) (from_not _ sound.colour))
+    rw (mod-eq_of_lt small) (define_if t (made s x y z) (q == r) (not-false _ sound.colour))
 define_same t n r enough (Start eight parameters) sound = refl
 define_same t n r enough (Step (Sixel bits)) sound = refl
 define_same t n r enough (Step (Repeat count bits)) sound = refl
@@ -104,7 +100,7 @@ some_if d false h = tt
 define_some : (n r : ℕ) (e : Event) → IsSound n e
     → IfSome (definition_where (λ q. q == r) e) (λ d. IsSome (colour_by d))
 unfolding breaks_colour_value
-define_some n r (Step (Define q s x y z)) sound = some_if (made s x y z) (q == r) (from_not _ sound.colour)
+define_some n r (Step (Define q s x y z)) sound = some_if (made s x y z) (q == r) (not-false _ sound.colour)
 define_some n r (Start eight parameters) sound = tt
 define_some n r (Step (Sixel bits)) sound = tt
 define_some n r (Step (Repeat count bits)) sound = tt

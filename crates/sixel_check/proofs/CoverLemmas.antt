@@ -13,11 +13,11 @@ use Rattle.sixel_picture.specs.Geometry.{falls}
 use Rattle.sixel_picture.specs.Rules.{BreaksNone, BreaksUncovered, breaks_raster_first, breaks_raster_twice, is_covered}
 use Rattle.sixel_picture.specs.Rules.{raster_before}
 use Rattle.sixel_picture.proofs.FirstLemmas.{earliest_later}
-use Rattle.sixel_picture.proofs.PositionLemmas.{get_end, option_or_none}
+use Rattle.sixel_picture.proofs.PositionLemmas.{get_end}
 use Rattle.sixel_picture.proofs.RuleLemmas.{Keeps, keeps_at}
-use Rattle.sixel_picture.proofs.StepLemmas.{covered_push, raster_push}
+use Rattle.sixel_picture.proofs.StepLemmas.{covered_push}
 use Rattle.sixel_check.specs.Laws.{AllCovered, FilledFirst}
-use Rattle.sixel_check.proofs.WholeLemmas.{EndsIn, whole_ends}
+use Rattle.sixel_check.proofs.WholeLemmas.{EndsIn, box_before, whole_ends}
 
 pub some_value : {A : Type 0} (o : Option A) → IsSome o → (a : A) × (o ≡ Some a)
 some_value None h = cc
@@ -69,9 +69,6 @@ keeps_end n before eight none =
     let k : Keeps n (take (length before) (before ++ Finish eight ∷ [])) (Finish eight)
     = keeps_at n (before ++ Finish eight ∷ []) none (length before) (Finish eight) (get_end before (Finish eight)) in
     rw take-append_seam at k
-
-box_before : (before : List Event) (eight : Bool) → raster_before (before ++ Finish eight ∷ []) ≡ raster_before before
-box_before before eight = raster_push before (Finish eight) ∙ option_or_none (raster_before before)
 
 covered_at_end : (n : ℕ) (before : List Event) (eight : Bool) (a : Attributes) (x y : ℕ) → Keeps n before (Finish eight)
     → raster_before before ≡ Some a → is_in_box a x y ≡ true → is_covered before x y ≡ true

@@ -4,7 +4,7 @@ use Rattle.std.proofs.Common.{Option, Some, None, List, [], ◌∷◌, length, t
 use Rattle.std.specs.Prelude.{IsSomeAnd, IsTrue, IsFalse, slice_get}
 use Rattle.std.specs.Bool.{MatchBool}
 use Rattle.std.specs.Option.{option_map}
-use Rattle.std.proofs.lemmas.Bool.{and_parts, eqb-false, eqb-true, lt-ltb, ltb-true, or_cases}
+use Rattle.std.proofs.lemmas.Bool.{and_parts, both_ways, eqb-false, eqb-true, lt-ltb, ltb-true, or_cases}
 use Rattle.std.proofs.lemmas.List.{length-map}
 use Rattle.sixel_grammar.specs.declared.command.Event.{Event}
 use Rattle.sixel_grammar.specs.declared.command.Placed.{Placed}
@@ -45,14 +45,11 @@ searchable_in P (Some a) s = record {
   above = (s a).above;
 }
 
-differ : (b : Bool) → b ≡ true → b ≡ false → ⊥
-differ b p q = let bad : true ≡ false = sym p ∙ q in cc
-
 falls_decided : (before : List Event) (e : Event) (a : Attributes) (x y : ℕ) (b c : Bool) → falls before e x y ≡ b
     → is_in_box a x y ≡ c → Decided (FallsOutside before e a x y)
 falls_decided before e a x y true false p q = inl (record { painted = p; outside = q })
-falls_decided before e a x y true true p q = inr (λ f. differ (is_in_box a x y) q f.outside)
-falls_decided before e a x y false c p q = inr (λ f. differ (falls before e x y) f.painted p)
+falls_decided before e a x y true true p q = inr (λ f. both_ways (is_in_box a x y) f.outside q)
+falls_decided before e a x y false c p q = inr (λ f. both_ways (falls before e x y) p f.painted)
 
 falls_left : (before : List Event) (e : Event) (x y : ℕ) → falls before e x y ≡ true
     → (x < column 0 before + columns_of 0 e) × (y < 6 * band before + 6)
@@ -75,8 +72,8 @@ falls_searchable before e a = record {
 blank_decided : (before : List Event) (a : Attributes) (x y : ℕ) (b c : Bool) → is_in_box a x y ≡ b
     → is_covered before x y ≡ c → Decided (StaysBlank before a x y)
 blank_decided before a x y true false p q = inl (record { inside = p; blank = q })
-blank_decided before a x y true true p q = inr (λ f. differ (is_covered before x y) q f.blank)
-blank_decided before a x y false c p q = inr (λ f. differ (is_in_box a x y) f.inside p)
+blank_decided before a x y true true p q = inr (λ f. both_ways (is_covered before x y) f.blank q)
+blank_decided before a x y false c p q = inr (λ f. both_ways (is_in_box a x y) p f.inside)
 
 blank_searchable : (before : List Event) (a : Attributes) → Searchable (StaysBlank before a)
 blank_searchable before a = record {

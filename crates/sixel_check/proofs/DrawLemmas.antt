@@ -4,7 +4,7 @@ use Rattle.std.proofs.Common.{None, IsTrue, IsFalse}
 use Rattle.std.proofs.Common.{List, [], ◌∷◌, ◌++◌, arith, sym, ◌∙◌, ap, ap₂, subst, refl, ◌||◌}
 use Rattle.std.specs.Prelude.{IfSome, IsSome, is_none, is_some, nat_le, if◌then◌else◌}
 use Rattle.std.specs.Option.{option_map, option_map_or, option_or}
-use Rattle.std.proofs.lemmas.Bool.{and_parts, eqb-true, eqb-false, leb-true, ne_eqb}
+use Rattle.std.proofs.lemmas.Bool.{and_parts, eqb-true, eqb-false, leb-true, ne_eqb, not-false}
 use Rattle.sixel_grammar.specs.Spelling.{IsSpellable}
 use Rattle.sixel_grammar.specs.declared.command.Command.TheVariants.{Sixel, Repeat, Raster, Select, Define}
 use Rattle.sixel_grammar.specs.declared.command.Command.TheVariants.{CarriageReturn, NextLine}
@@ -24,7 +24,7 @@ use Rattle.sixel_check.specs.declared.notes.Notes.{Notes}
 use Rattle.sixel_check.specs.Breaches.{NoneBelow}
 use Rattle.sixel_check.specs.Judging.{AreColoured, AreNotesAfter, IsDrawn, IsUndrawn}
 use Rattle.sixel_check.specs.Outside.{PaintsOutside}
-use Rattle.sixel_check.specs.Steps.{known_in}
+use Rattle.sixel_check.specs.Notes.{known_in}
 use Rattle.sixel_check.specs.Verdicts.{capped}
 use Rattle.sixel_check.proofs.BlankLemmas.{small}
 use Rattle.sixel_check.proofs.DrawnLemmas.{drawn_first, drawn_idle, idle_falls, undrawn_push}
@@ -145,24 +145,20 @@ square_is a h =
     let pad : a.pad ≡ 1 = eqb-true a.pad 1 parts.1 in
     ap₂ (λ (p q : ℕ). Some (record { pan = p; pad = q; width = a.width; height = a.height })) pan pad
 
-not_false : (b : Bool) → not b ≡ false → b ≡ true
-not_false true h = refl
-not_false false h = cc
-
 -- raster attributes that break no rule
 pub good_sides : (before : List Event) (e : Event) (a : Attributes) → NoneBelow 13 before e → raster_of e ≡ Some a
     → IsTrue (is_side a.width) × IsTrue (is_side a.height)
 unfolding breaks_box_size
 good_sides before e a none is =
     let k = keeps before e none in
-    and_parts (is_side a.width) (is_side a.height) (not_false (has_sides a) (rw is at k.box_size))
+    and_parts (is_side a.width) (is_side a.height) (not-false (has_sides a) (rw is at k.box_size))
 
 pub good_ratio : (before : List Event) (e : Event) (a : Attributes) → NoneBelow 13 before e → raster_of e ≡ Some a
     → raster_of e ≡ Some (record { pan = 1; pad = 1; width = a.width; height = a.height })
 unfolding breaks_ratio
 good_ratio before e a none is =
     let k = keeps before e none in
-    is ∙ square_is a (not_false (is_square a) (rw is at k.ratio))
+    is ∙ square_is a (not-false (is_square a) (rw is at k.ratio))
 
 abbrev pub sides : Option Attributes → Option (ℕ × ℕ)
 sides o = option_map (λ (a : Attributes). (a.width, a.height)) o

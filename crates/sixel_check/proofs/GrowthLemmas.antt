@@ -26,7 +26,7 @@ use Rattle.sixel_check.specs.declared.verdict.Verdict.{Verdict}
 use Rattle.sixel_check.specs.Breaches.{NoneBelow}
 use Rattle.sixel_check.specs.Growth.{GrowsFor, MayGrow, MayGrowAmong, MayGrowIn}
 use Rattle.sixel_check.specs.Judging.{IsSheetAfter, IsUndrawn, StandsUnbroken}
-use Rattle.sixel_check.specs.Reading.{AreAfter}
+use Rattle.sixel_check.specs.Checking.{AreAfter}
 use Rattle.sixel_check.specs.Standing.{CheckerValue, StandsAfter}
 use Rattle.sixel_check.proofs.JudgeLemmas.{events_push}
 use Rattle.sixel_check.proofs.NoteLemmas.{keeps}

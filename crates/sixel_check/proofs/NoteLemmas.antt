@@ -2,10 +2,10 @@
 use Rattle.std.proofs.Common.{◌≡◌, ℕ, ◌+◌, ◌<◌, ◌≤◌, ◌==◌, ◌&&◌, ◌||◌, Bool, true, false, cond, min, Option, Some, None}
 use Rattle.std.proofs.Common.{IsTrue, IsFalse}
 use Rattle.std.proofs.Common.{List, [], ◌∷◌, ◌++◌, length, get_or, set, refl, sym, ap, ◌∙◌, subst, arith, replicate}
-use Rattle.std.specs.Prelude.{IfSome, nat_lt, nat_le, not, if◌then◌else◌}
+use Rattle.std.specs.Prelude.{IfSome, nat_lt, nat_le, if◌then◌else◌}
 use Rattle.std.specs.Bool.{then_some}
 use Rattle.std.specs.Option.{option_and_then, option_map_or, option_or}
-use Rattle.std.proofs.lemmas.Bool.{eqb-true, eqb-false, leb-false, lt-ltb}
+use Rattle.std.proofs.lemmas.Bool.{eqb-true, eqb-false, leb-false, lt-ltb, not-false}
 use Rattle.std.proofs.lemmas.List.{get_or-replicate, get_or-set_same, get_or-set_other, length-set}
 use Rattle.sixel_grammar.specs.declared.command.Command.TheVariants.{Sixel, Repeat, Raster, Select, Define}
 use Rattle.sixel_grammar.specs.declared.command.Command.TheVariants.{CarriageReturn, NextLine}
@@ -26,8 +26,8 @@ use Rattle.sixel_picture.proofs.StepLemmas.{band_push, column_push, definition_p
 use Rattle.sixel_check.specs.declared.notes.Notes.{Notes}
 use Rattle.sixel_check.specs.Breaches.{NoneBelow}
 use Rattle.sixel_check.specs.Judging.{AreNotesAfter, IsGood}
-use Rattle.sixel_check.specs.Steps.{IsBelow, colour_within, known_in, next_band, next_column, next_named, next_painted}
-use Rattle.sixel_check.specs.Steps.{next_palette, next_selected}
+use Rattle.sixel_check.specs.Notes.{IsBelow, colour_within, known_in, next_band, next_column, next_named, next_painted}
+use Rattle.sixel_check.specs.Notes.{next_palette, next_selected}
 use Rattle.sixel_check.specs.Verdicts.{capped}
 
 -- an event that breaks none of the rules keeps each
@@ -61,10 +61,6 @@ or_each P (Some x) p h k = h
 
 -- ---- definitions
 
-not_false : (b : Bool) → not b ≡ false → b ≡ true
-not_false true h = refl
-not_false false h = cc
-
 where_good : (b : Bool) (q r : ℕ) (d : Definition) → (q == r) ≡ b → q < 16 → IsTrue (gives_colour d)
     → IfSome (if b then Some d else None) (IsGood r)
 where_good true q r d e lt h = let same : q ≡ r = eqb-true q r e in (omega (arith, lt, same), h)
@@ -79,7 +75,7 @@ defined_good (Step (Repeat count bits)) r h k = tt
 defined_good (Step (Raster pan pad width height)) r h k = tt
 defined_good (Step (Select register)) r h k = tt
 defined_good (Step (Define register system x y z)) r h k =
-    where_good (register == r) register r _ refl (leb-false 16 register h) (not_false _ k)
+    where_good (register == r) register r _ refl (leb-false 16 register h) (not-false _ k)
 defined_good (Step CarriageReturn) r h k = tt
 defined_good (Step NextLine) r h k = tt
 defined_good (Finish eight) r h k = tt
@@ -103,7 +99,7 @@ palette_push n before (Step (Raster pan pad width height)) s h k =
 palette_push n before (Step (Select register)) s h k = s ∙ left_idle 16 before (Step (Select register)) (λ r. refl)
 palette_push n before (Step (Define register system x y z)) s h k =
     let lt : register < 16 = leb-false 16 register h in
-    let found = within (colour_in system x y z) (not_false _ k) in
+    let found = within (colour_in system x y z) (not-false _ k) in
     let is_low : nat_lt register 16 ≡ true = lt-ltb register 16 lt in
     rw (is_low, found.2)
     (ap (λ (p : List (Option Parts)). set p register (Some found.0)) s

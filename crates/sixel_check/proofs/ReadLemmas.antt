@@ -25,7 +25,7 @@ use Rattle.sixel_grammar.proofs.Stands.{read_complete}
 use Rattle.sixel_grammar.proofs.Total.{complete_front}
 use Rattle.sixel_grammar.proofs.Writable.{events_can}
 use Rattle.sixel_picture.specs.Events.{is_finish}
-use Rattle.sixel_check.specs.Reading.{AreAfter, MayCome, MayComplete}
+use Rattle.sixel_check.specs.Checking.{AreAfter, MayCome, MayComplete}
 use Rattle.sixel_check.specs.Standing.{CheckerValue, StandsAfter, expects, is_start, is_whole}
 use Rattle.sixel_check.proofs.StandLemmas.{begun_goes_on, steps_go_on, whole_events}
 

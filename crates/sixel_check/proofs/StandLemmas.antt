@@ -3,7 +3,7 @@ use Rattle.std.proofs.Common.{◌≡◌, ℕ, zero, suc, ◌<◌, ◌||◌, ◌&
 use Rattle.std.proofs.Common.{List, [], ◌∷◌, ◌++◌, length, sym, ◌∙◌, ap, subst, refl}
 use Rattle.std.specs.Prelude.{if◌then◌else◌}
 use Rattle.std.specs.List.{AllByRecursion, list_any}
-use Rattle.std.proofs.lemmas.Bool.{and_parts}
+use Rattle.std.proofs.lemmas.Bool.{and_parts, both_ways}
 use Rattle.sixel_grammar.specs.Document.{AreRest, AreWhole, events_of}
 use Rattle.sixel_grammar.specs.Faults.{AreBegun, AreFront, AreSteps}
 use Rattle.sixel_grammar.specs.Spelling.{IsSpellable}
@@ -49,17 +49,13 @@ none_ended : (events : List Event) → events ≡ [] → list_any is_finish even
 none_ended [] e = refl
 none_ended (d ∷ ds) e = cc
 
-both_ways : (b : Bool) → b ≡ true → b ≡ false → ⊥
-both_ways true t f = cc
-both_ways false t f = cc
-
 -- a front in which the end came is whole
 pub front_whole : (events : List Event) → AreFront events → list_any is_finish events ≡ true → AreWhole events
 front_whole events m h =
     elim m [
-      | inl none ↦ absurd (both_ways (list_any is_finish events) h (none_ended events none))
+      | inl none ↦ absurd (both_ways (list_any is_finish events) (none_ended events none) h)
       | inr some ↦ elim some [
-        | inl begun ↦ absurd (both_ways (list_any is_finish events) h (begun_goes_on events begun))
+        | inl begun ↦ absurd (both_ways (list_any is_finish events) (begun_goes_on events begun) h)
         | inr whole ↦ whole
       ]
     ]
@@ -88,7 +84,7 @@ front_push events e m h s some =
       | inl none ↦ absurd (some none)
       | inr rest ↦ elim rest [
         | inl begun ↦ inr (begun_push events e begun s)
-        | inr whole ↦ absurd (both_ways (list_any is_finish events) (whole_ended events whole) h)
+        | inr whole ↦ absurd (both_ways (list_any is_finish events) h (whole_ended events whole))
       ]
     ]
 

@@ -5,7 +5,7 @@ use Rattle.std.proofs.Common.{List, [], ◌∷◌, ◌++◌, length, take, refl,
 use Rattle.std.specs.Prelude.{◌==◌, is_none, slice_get, IsFalse}
 use Rattle.std.specs.List.{AllByRecursion}
 use Rattle.std.specs.Option.{option_or}
-use Rattle.std.proofs.lemmas.Bool.{and_parts, eq-eqb, eqb-true, or_right}
+use Rattle.std.proofs.lemmas.Bool.{and_parts, eq-eqb, eqb-true, not-false, or_right}
 use Rattle.std.proofs.lemmas.Option.{slice_get_within}
 use Rattle.std.proofs.Math.Seq.{take-length}
 use Rattle.sixel_grammar.specs.declared.command.Command.TheVariants.{Sixel, Repeat, Raster, Select, Define}
@@ -25,7 +25,7 @@ use Rattle.sixel_picture.proofs.RuleLemmas.{Keeps, keeps_at}
 use Rattle.sixel_picture.proofs.StepLemmas.{definition_push, painted_in_push}
 use Rattle.sixel_terminal.specs.Drawing.{map_on}
 use Rattle.sixel_check.specs.Laws.{PaintedColourIsLeft}
-use Rattle.sixel_check.proofs.ColourLemmas.{IsSound, each_sound, from_not, known_in_range, made, map_defined}
+use Rattle.sixel_check.proofs.ColourLemmas.{IsSound, each_sound, known_in_range, made, map_defined}
 
 -- ---- a definition of a register in which was painted
 
@@ -52,7 +52,7 @@ redefine_step before q r s x y z d true same kept defined painted =
     let at_q : definition_of before q ≡ Some d = rw e defined in
     let painted_q : is_painted_in before q ≡ true = rw e painted in
     let alike : not (is_same_definition d (made s x y z)) ≡ false = rw (painted_q, at_q) at kept in
-    ap Some (same_definition d (made s x y z) (from_not _ alike))
+    ap Some (same_definition d (made s x y z) (not-false _ alike))
 
 -- one event more leaves the definition of a register in which was painted
 steady_step : (n r : ℕ) (before : List Event) (x : Event) (d : Definition) → Keeps n before x

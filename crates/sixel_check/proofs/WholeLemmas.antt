@@ -4,7 +4,7 @@ use Rattle.std.proofs.Common.{Option, Some, None, IsTrue}
 use Rattle.std.proofs.Common.{List, [], ◌∷◌, ◌++◌, length, get_or, map, arith, sym, ◌∙◌, ap, subst, refl}
 use Rattle.std.specs.Prelude.{IfSome, IsSome, is_some, nat_lt, if◌then◌else◌}
 use Rattle.std.specs.List.{list_all, list_any}
-use Rattle.std.specs.Option.{option_or, option_map, option_map_or, option_and_then}
+use Rattle.std.specs.Option.{option_map, option_map_or, option_and_then}
 use Rattle.std.proofs.lemmas.Bool.{and_from, and_parts, lt-ltb, eq-eqb}
 use Rattle.std.proofs.lemmas.List.{get_or-map, length-map}
 use Rattle.std.proofs.lemmas.Nat.{div-add-mod', div_below, mod_below}
@@ -21,7 +21,7 @@ use Rattle.sixel_picture.specs.Rules.{Breaks, BreaksNone, BreaksUncovered, Stays
 use Rattle.sixel_picture.specs.Rules.{colour_of, definition_of, is_covered, palette_left, raster_before, register_at}
 use Rattle.sixel_picture.specs.Sheets.{IsFull, Sheet, cell, first_blank}
 use Rattle.sixel_picture.proofs.LeftLemmas.{left_at}
-use Rattle.sixel_picture.proofs.PositionLemmas.{holds_end}
+use Rattle.sixel_picture.proofs.PositionLemmas.{holds_end, option_or_none}
 use Rattle.sixel_picture.proofs.RuleLemmas.{nowhere}
 use Rattle.sixel_picture.proofs.StepLemmas.{raster_push}
 use Rattle.sixel_check.specs.Judging.{AreColoured, AreNotesAfter, IsDrawn, IsGood, IsUndrawn, StandsUnbroken, box_of}
@@ -62,12 +62,10 @@ whole_ends (Finish eight ∷ more) h = absurd h
 
 -- ---- there is a box
 
-no_raster : (front : List Event) (eight : Bool) → raster_before (front ++ Finish eight ∷ []) ≡ raster_before front
-no_raster front eight = raster_push front (Finish eight) ∙ or_none (raster_before front)
-  where
-    or_none : (o : Option Attributes) → option_or o None ≡ o
-    or_none None = refl
-    or_none (Some a) = refl
+-- an end has no raster attributes
+pub box_before : (before : List Event) (eight : Bool)
+    → raster_before (before ++ Finish eight ∷ []) ≡ raster_before before
+box_before before eight = raster_push before (Finish eight) ∙ option_or_none (raster_before before)
 
 no_box_at_end : (front : List Event) (eight : Bool) → raster_before front ≡ None → Breaks 16 1 front (Finish eight)
 unfolding Breaks breaks_raster_first
@@ -78,7 +76,7 @@ box_at_end : (front : List Event) (eight : Bool) → BreaksNone 16 12 (front ++ 
     → raster_before (front ++ Finish eight ∷ []) ≡ None → ⊥
 box_at_end front eight none bare =
     nowhere 16 1 (length front) (front ++ Finish eight ∷ []) none
-    (holds_end (Breaks 16 1) front (Finish eight) (no_box_at_end front eight (sym (no_raster front eight) ∙ bare)))
+    (holds_end (Breaks 16 1) front (Finish eight) (no_box_at_end front eight (sym (box_before front eight) ∙ bare)))
 
 pub has_box : (events : List Event) → AreWhole events → BreaksNone 16 12 events → raster_before events ≡ None → ⊥
 has_box events whole none bare =
@@ -107,7 +105,7 @@ full_at_end s front eight (Some pixel) none box first =
     } in
     absurd (nowhere 16 12 (length front) (front ++ Finish eight ∷ []) none
     (holds_end (Breaks 16 12) front (Finish eight)
-    (blank_at_end front eight (box_of s) first.0 first.1 (sym (no_raster front eight) ∙ box) blank)))
+    (blank_at_end front eight (box_of s) first.0 first.1 (sym (box_before front eight) ∙ box) blank)))
 
 pub full_sheet : (s : Sheet) (events : List Event) → AreWhole events → BreaksNone 16 12 events → IsDrawn s events
     → IsFull s

@@ -4,7 +4,7 @@ use Rattle.std.proofs.Common.{refl, sym, ap, ◌∙◌, arith}
 use Rattle.std.specs.Prelude.{nat_le, nat_lt, slice_get, IfSome, IsFalse, IsSome, IsTrue}
 use Rattle.std.specs.Bool.{then_some}
 use Rattle.std.specs.Option.{option_and_then, option_map_or}
-use Rattle.std.proofs.lemmas.Bool.{and_parts, leb-true, ltb-true, true_from_ne_false}
+use Rattle.std.proofs.lemmas.Bool.{and_parts, leb-true, ltb-true, not-false, true_from_ne_false}
 use Rattle.sixel_grammar.specs.declared.command.Event.{Event}
 use Rattle.sixel_picture.specs.Events.{Attributes, columns_of, is_data_command, is_in_box, is_repeat_of_zero}
 use Rattle.sixel_picture.specs.Events.{is_square, raster_of}
@@ -21,7 +21,6 @@ use Rattle.sixel_terminal.specs.Drawing.{IsPainted, filled_on, paint_at, paints_
 use Rattle.sixel_terminal.specs.Laws.{IsPlain}
 use Rattle.sixel_terminal.proofs.PlainLemmas.{same_points_on_each}
 use Rattle.sixel_check.specs.Laws.{NonePaintedOutside}
-use Rattle.sixel_check.proofs.ColourLemmas.{from_not}
 use Rattle.sixel_check.proofs.CoverLemmas.{box_at_data, none_from, one_box, some_value}
 use Rattle.sixel_check.proofs.DrawnLemmas.{no_data_bits}
 
@@ -45,7 +44,7 @@ touches_data z rows before e x y h =
 square_if : (o : Option Attributes) → option_map_or (λ a. not (is_square a)) o false ≡ false
     → IfSome o (λ a. IsTrue (is_square a))
 square_if None h = tt
-square_if (Some a) h = from_not _ h
+square_if (Some a) h = not-false _ h
 
 good_ratio : (e : Event) → IsFalse (breaks_ratio e) → IfSome (raster_of e) (λ a. IsTrue (is_square a))
 unfolding breaks_ratio

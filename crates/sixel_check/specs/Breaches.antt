@@ -17,7 +17,7 @@ use Rattle.sixel_check.specs.declared.rule.Rule.{Rule}
 use Rattle.sixel_check.specs.declared.rule.Rule.TheVariants.{RasterFirst, RasterTwice, Ratio, BoxSize, Register}
 use Rattle.sixel_check.specs.declared.rule.Rule.TheVariants.{ColourValue}
 use Rattle.sixel_check.specs.declared.rule.Rule.TheVariants.{RepeatZero, Unselected, Undefined, Redefined}
-use Rattle.sixel_check.specs.Steps.{known_in}
+use Rattle.sixel_check.specs.Notes.{known_in}
 use Rattle.sixel_check.specs.Verdicts.{IsPixel, number_of}
 
 -- ---- the rules, by what is noted of the events before

@@ -1,10 +1,10 @@
 pub mod Verdicts
 pub mod Judging
 pub mod Standing
-pub mod Steps
+pub mod Notes
 pub mod Breaches
 pub mod Outside
 pub mod Growth
-pub mod Reading
+pub mod Checking
 pub mod Portable
 pub mod Laws

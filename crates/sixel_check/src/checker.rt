@@ -67,7 +67,9 @@ impl<P: Plane> Checker<P> {
         self.progress.is_whole()
     }
 
-    /// Takes the next event. `AllocError` is answered only where a growth was refused, and then nothing has changed.
+    /// Takes the next event: one that `expects` allows, and that can be spelled.
+    ///
+    /// `AllocError` is answered only where a growth was refused, and then nothing has changed.
     #[inline(always)]
     pub fn push(&mut self, placed: &Placed) -> Result<(), AllocError>
         requires expected { (seen : List PlacedValue) × StandsAfter self.old seen

@@ -7,7 +7,7 @@ ghost use Rattle.sixel_grammar.specs.Reading.{ExplainsAlways, failures_after};
 ghost use Rattle.sixel_grammar.specs.Standing.{completions};
 ghost use Rattle.sixel_grammar.specs.declared.command.Placed.{Placed as PlacedValue};
 ghost use Rattle.sixel_check.specs.Growth.{GrowsFor, MayGrowAmong, MayGrowIn};
-ghost use Rattle.sixel_check.specs.Reading.{Answers, AreAfter, MayCome, MayComplete};
+ghost use Rattle.sixel_check.specs.Checking.{Answers, AreAfter, MayCome, MayComplete};
 ghost use Rattle.sixel_check.specs.Standing.{StandsAfter};
 
 use crate::checker::Checker;
@@ -110,10 +110,7 @@ fn read_byte<P: Plane>(
 {
     match reader.feed_plain(byte) {
         Some(Plain::Nothing) => Ok(()),
-        Some(Plain::Command { place, command }) => match keep_command(checker, place, command) {
-            Ok(()) => Ok(()),
-            Err(_) => Err(InputFault::OutOfMemory),
-        },
+        Some(Plain::Command { place, command }) => Ok(keep_command(checker, place, command)?),
         None => read_slowly(reader, checker, byte),
     }
 }
@@ -133,13 +130,8 @@ fn read_slowly<P: Plane>(
     ensures memory { IfErr result (λ fault. (front : List ℕ) → AreAfter reader.old checker.old front
         → GrowsFor fault (front ++ byte ∷ [])) }
 {
-    match reader.feed(byte) {
-        Ok(completed) => match keep(checker, completed) {
-            Ok(()) => Ok(()),
-            Err(_) => Err(InputFault::OutOfMemory),
-        },
-        Err(fault) => Err(InputFault::Grammar(fault)),
-    }
+    let completed = reader.feed(byte)?;
+    Ok(keep(checker, completed)?)
 }
 
 /// Reads the bytes of a piece.
@@ -157,9 +149,7 @@ fn read_piece<P: Plane>(
         → GrowsFor fault (front ++ piece.now)) }
 {
     for byte in piece {
-        if let Err(fault) = read_byte(reader, checker, *byte) {
-            return Err(fault);
-        }
+        read_byte(reader, checker, *byte)?;
     }
     Ok(())
 }
@@ -171,35 +161,8 @@ fn conclude<P: Plane>(reader: &Reader, checker: Checker<P>) -> Result<Verdict, I
     ensures never_read { IfErr result (λ fault. fault ≡ InputFault.Read → ⊥) }
     ensures memory { result ≢ Err InputFault.OutOfMemory }
 {
-    match reader.finish() {
-        Ok(()) => match checker.finish() {
-            Ok(verdict) => Ok(verdict),
-            Err(_) => unreachable!(),
-        },
-        Err(fault) => Err(InputFault::Grammar(fault)),
-    }
-}
-
-/// Checks the bytes that a source gives, over a kind of plane.
-fn check_on<P: Plane, S: Source>(alloc: Global, input: &mut S) -> Result<Verdict, InputFault>
-    ensures answer { IfSome (S.remaining input.old) (Answers result) }
-    ensures failures { S.failure_count input.new ≡ failures_after result (S.failure_count input.old) }
-    ensures memory { IfSome (S.remaining input.old) (λ bytes. result ≡ Err InputFault.OutOfMemory → MayGrowIn bytes) }
-{
-    let mut reader = Reader::new();
-    let mut checker: Checker<P> = Checker::new(alloc);
-    let mut piece = [0u8; PIECE];
-    loop {
-        match input.fill(&mut piece) {
-            Err(_) => return Err(InputFault::Read),
-            Ok(0) => return conclude(&reader, checker),
-            Ok(count) => {
-                if let Err(fault) = read_piece(&mut reader, &mut checker, &piece[..count]) {
-                    return Err(fault);
-                }
-            }
-        }
-    }
+    reader.finish()?;
+    Ok(checker.finish()?)
 }
 
 /// The verdict on the document that the source gives.
@@ -213,7 +176,16 @@ pub fn check<S: Source>(alloc: Global, input: &mut S) -> Result<Verdict, InputFa
     ensures failures { S.failure_count input.new ≡ failures_after result (S.failure_count input.old) }
     ensures memory { IfSome (S.remaining input.old) (λ bytes. result ≡ Err InputFault.OutOfMemory → MayGrowIn bytes) }
 {
-    check_on::<BandPlane, S>(alloc, input)
+    let mut reader = Reader::new();
+    let mut checker: Checker<BandPlane> = Checker::new(alloc);
+    let mut piece = [0u8; PIECE];
+    loop {
+        let count = input.fill(&mut piece)?;
+        if count == 0 {
+            return conclude(&reader, checker);
+        }
+        read_piece(&mut reader, &mut checker, &piece[..count])?;
+    }
 }
 
 /// The verdict on a document; else its fault, or `OutOfMemory` where a growth was refused before the fault was met.
@@ -225,8 +197,6 @@ pub fn check_bytes(alloc: Global, bytes: &[u8]) -> Result<Verdict, InputFault>
 {
     let mut reader = Reader::new();
     let mut checker: Checker<BandPlane> = Checker::new(alloc);
-    match read_piece(&mut reader, &mut checker, bytes) {
-        Ok(()) => conclude(&reader, checker),
-        Err(fault) => Err(fault),
-    }
+    read_piece(&mut reader, &mut checker, bytes)?;
+    conclude(&reader, checker)
 }

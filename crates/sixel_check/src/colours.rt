@@ -2,7 +2,7 @@
 
 ghost use Rattle.std.specs.Prelude.{◌≡◌};
 ghost use Rattle.sixel_check.specs.Breaches.{is_colour_of as same_colour};
-ghost use Rattle.sixel_check.specs.Steps.{colour_within};
+ghost use Rattle.sixel_check.specs.Notes.{colour_within};
 
 use sixel_picture::{Colour, Parts};
 

@@ -15,7 +15,7 @@ pub(crate) fn bits_of(event: &Event) -> u8
 {
     match event {
         Event::Step(Command::Sixel(bits)) => *bits,
-        Event::Step(Command::Repeat { count: _, bits }) => *bits,
+        Event::Step(Command::Repeat { bits, .. }) => *bits,
         _ => 0,
     }
 }
@@ -26,7 +26,7 @@ pub(crate) fn columns_of(event: &Event) -> u16
 {
     match event {
         Event::Step(Command::Sixel(_)) => 1,
-        Event::Step(Command::Repeat { count, bits: _ }) => *count,
+        Event::Step(Command::Repeat { count, .. }) => *count,
         _ => 0,
     }
 }
@@ -40,18 +40,17 @@ pub(crate) fn is_painting(event: &Event) -> bool
 pub(crate) fn is_data_command(event: &Event) -> bool
     ensures { result ≡ said.is_data_command event.now }
 {
-    match event {
-        Event::Step(Command::Sixel(_)) => true,
-        Event::Step(Command::Repeat { count: _, bits: _ }) => true,
-        _ => false,
-    }
+    matches!(
+        event,
+        Event::Step(Command::Sixel(_) | Command::Repeat { .. })
+    )
 }
 
 pub(crate) fn is_repeat_of_zero(event: &Event) -> bool
     ensures { result ≡ said.is_repeat_of_zero event.now }
 {
     match event {
-        Event::Step(Command::Repeat { count, bits: _ }) => *count == 0,
+        Event::Step(Command::Repeat { count, .. }) => *count == 0,
         _ => false,
     }
 }
@@ -59,30 +58,23 @@ pub(crate) fn is_repeat_of_zero(event: &Event) -> bool
 pub(crate) fn is_next_line(event: &Event) -> bool
     ensures { result ≡ said.is_next_line event.now }
 {
-    match event {
-        Event::Step(Command::NextLine) => true,
-        _ => false,
-    }
+    matches!(event, Event::Step(Command::NextLine))
 }
 
 /// Whether it goes to the left margin.
 pub(crate) fn is_return(event: &Event) -> bool
     ensures { result ≡ said.is_return event.now }
 {
-    match event {
-        Event::Step(Command::CarriageReturn) => true,
-        Event::Step(Command::NextLine) => true,
-        _ => false,
-    }
+    matches!(
+        event,
+        Event::Step(Command::CarriageReturn | Command::NextLine)
+    )
 }
 
 pub(crate) fn is_finish(event: &Event) -> bool
     ensures { result ≡ said.is_finish event.now }
 {
-    match event {
-        Event::Finish { eight: _ } => true,
-        _ => false,
-    }
+    matches!(event, Event::Finish { .. })
 }
 
 /// The register that a select names.
@@ -101,15 +93,7 @@ pub(crate) fn named_by(event: &Event) -> Option<u16>
 {
     match event {
         Event::Step(Command::Select(register)) => Some(*register),
-        Event::Step(
-            Command::Define {
-                register,
-                system: _,
-                x: _,
-                y: _,
-                z: _,
-            },
-        ) => Some(*register),
+        Event::Step(Command::Define { register, .. }) => Some(*register),
         _ => None,
     }
 }
@@ -117,17 +101,7 @@ pub(crate) fn named_by(event: &Event) -> Option<u16>
 pub(crate) fn is_raster(event: &Event) -> bool
     ensures { result ≡ is_some (said.raster_of event.now) }
 {
-    match event {
-        Event::Step(
-            Command::Raster {
-                pan: _,
-                pad: _,
-                width: _,
-                height: _,
-            },
-        ) => true,
-        _ => false,
-    }
+    matches!(event, Event::Step(Command::Raster { .. }))
 }
 
 /// The width and the height of the box that raster attributes declare.
@@ -135,14 +109,7 @@ pub(crate) fn sides_of(event: &Event) -> Option<(u32, u32)>
     ensures { result ≡ option_map (λ a. (a.width, a.height)) (said.raster_of event.now) }
 {
     match event {
-        Event::Step(
-            Command::Raster {
-                pan: _,
-                pad: _,
-                width,
-                height,
-            },
-        ) => Some((*width as u32, *height as u32)),
+        Event::Step(Command::Raster { width, height, .. }) => Some((*width as u32, *height as u32)),
         _ => None,
     }
 }
@@ -150,11 +117,5 @@ pub(crate) fn sides_of(event: &Event) -> Option<(u32, u32)>
 pub(crate) fn is_start(event: &Event) -> bool
     ensures { result ≡ start_test event.now }
 {
-    match event {
-        Event::Start {
-            eight: _,
-            parameters: _,
-        } => true,
-        _ => false,
-    }
+    matches!(event, Event::Start { .. })
 }

@@ -1,4 +1,6 @@
 //! The rules of a portable picture, and verdicts on documents.
+//!
+//! The rules are this project's own, over the commands of DEC EK-VT3XX-GP, volume 2, the chapter on sixel graphics.
 #![tactic(auto)]
 
 mod breach;

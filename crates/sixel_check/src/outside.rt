@@ -1,16 +1,10 @@
 //! Where a run of columns paints outside the box.
 
-ghost use Rattle.std.specs.Prelude.{◌≡◌, ◌==◌, ◌<◌, ◌≤◌, ◌+◌, ◌*◌, ℕ, true};
-ghost use Rattle.std.specs.Int.{bit_at};
+ghost use Rattle.std.specs.Prelude.{◌≡◌, ◌≤◌, ◌+◌, ◌*◌, ◌↔◌, ℕ, IsTrue};
 ghost use Rattle.sixel_check.specs.Outside.{IsFirstIfAny, PaintsOutside, first_column};
 ghost use Rattle.sixel_check.specs.Verdicts.{capped};
 
-fn is_set(bits: u8, bit: u32) -> bool
-    requires { bit < 6 }
-    ensures { result ≡ (bit_at bits bit == 1) }
-{
-    bits >> bit & 1 == 1
-}
+use sixel_picture::is_set;
 
 /// The row of a bit of a band. It stops at `u64::MAX`.
 fn row_of(band: u64, bit: u32) -> u64
@@ -58,7 +52,7 @@ pub(crate) fn outside_pixel(
 /// Whether the columns lie inside the box in all six rows of the band.
 #[inline(always)]
 fn is_inside(column: u64, band: u64, count: u16, width: u32, height: u32) -> bool
-    ensures { result ≡ true → (column + count ≤ width) × (6 * band + 6 ≤ height) }
+    ensures { IsTrue result ↔ (column + count ≤ width) × (6 * band + 6 ≤ height) }
 {
     column <= width as u64 && count as u64 <= width as u64 - column && band < height as u64 / 6
 }

@@ -10,7 +10,7 @@ ghost use Rattle.sixel_picture.specs.Sheets.{IsFull};
 ghost use Rattle.sixel_check.specs.Breaches.{IsBreachOf, NoneBelow};
 ghost use Rattle.sixel_check.specs.Judging.{AreNotesAfter, IsDrawn, IsSheetAfter, IsUndrawn, StandsUnbroken, box_of};
 ghost use Rattle.sixel_check.specs.Outside.{IsFirstIfAny};
-ghost use Rattle.sixel_check.specs.Steps.{IsBelow};
+ghost use Rattle.sixel_check.specs.Notes.{IsBelow};
 
 use crate::breach::Breach;
 use crate::events::{bits_of, columns_of, is_finish, is_painting, sides_of};

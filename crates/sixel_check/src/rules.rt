@@ -3,7 +3,7 @@
 ghost use Rattle.std.specs.Prelude.{◌≡◌};
 ghost use Rattle.sixel_picture.specs.Rules as of;
 ghost use Rattle.sixel_check.specs.Breaches as noted;
-ghost use Rattle.sixel_check.specs.Steps.{IsBelow};
+ghost use Rattle.sixel_check.specs.Notes.{IsBelow};
 
 use crate::colours::{colour_in, is_colour_of};
 use crate::events::{
@@ -33,14 +33,7 @@ fn breaks_ratio(event: &Event) -> bool
     ensures { result ≡ of.breaks_ratio event.now }
 {
     match event {
-        Event::Step(
-            Command::Raster {
-                pan,
-                pad,
-                width: _,
-                height: _,
-            },
-        ) => !(*pan == 1 && *pad == 1),
+        Event::Step(Command::Raster { pan, pad, .. }) => !(*pan == 1 && *pad == 1),
         _ => false,
     }
 }
@@ -51,14 +44,9 @@ fn breaks_box_size(event: &Event) -> bool
     ensures { result ≡ of.breaks_box_size event.now }
 {
     match event {
-        Event::Step(
-            Command::Raster {
-                pan: _,
-                pad: _,
-                width,
-                height,
-            },
-        ) => !(*width >= 1 && *width <= 2048 && (*height >= 1 && *height <= 2048)),
+        Event::Step(Command::Raster { width, height, .. }) => {
+            !(*width >= 1 && *width <= 2048 && (*height >= 1 && *height <= 2048))
+        }
         _ => false,
     }
 }
@@ -82,11 +70,11 @@ fn breaks_colour_value(event: &Event) -> bool
     match event {
         Event::Step(
             Command::Define {
-                register: _,
                 system,
                 x,
                 y,
                 z,
+                ..
             },
         ) => colour_in(*system, *x, *y, *z).is_none(),
         _ => false,

@@ -12,8 +12,11 @@ mod steps;
 mod terminals;
 
 use crate::checking::check_bytes;
-use crate::verdict::Verdict;
-use sixel_grammar::InputFault;
+use crate::verdict::{Finding, Verdict};
+use sixel_grammar::{Fault, InputFault};
+use sixel_picture::Picture;
+use std::alloc::AllocError;
+use std::process::Abort;
 use std::test::Fail;
 
 /// The bytes of a text in which `E` stands for ESC.
@@ -25,32 +28,36 @@ fn bytes_of(rt: &impl AllocGlobal, text: &str) -> Result<Vec<u8>, Fail> {
     Ok(bytes)
 }
 
+fn picture_in_words(rt: &impl AllocGlobal, picture: &Picture) -> Result<String, AllocError> {
+    let (width, height) = (picture.width(), picture.height());
+    format!(in rt.alloc(); "portable {width} {height}")
+}
+
+fn finding_in_words(rt: &impl AllocGlobal, finding: &Finding) -> Result<String, AllocError> {
+    let Finding { rule, place, pixel } = *finding;
+    match pixel {
+        Some((x, y)) => format!(in rt.alloc(); "broken {rule:?} {place} {x} {y}"),
+        None => format!(in rt.alloc(); "broken {rule:?} {place}"),
+    }
+}
+
+fn fault_in_words(rt: &impl AllocGlobal, fault: &InputFault) -> Result<String, AllocError> {
+    match fault {
+        InputFault::Grammar(Fault { reason, place }) => {
+            format!(in rt.alloc(); "{reason:?} {place}")
+        }
+        InputFault::OutOfMemory => "out of memory".to_string(rt.alloc()),
+        InputFault::Read => "read failed".to_string(rt.alloc()),
+    }
+}
+
 /// An answer in words.
 fn in_words(rt: &impl AllocGlobal, answer: &Result<Verdict, InputFault>) -> Result<String, Fail> {
-    let alloc = rt.alloc();
-    let text = match answer {
-        Ok(Verdict::Portable(picture)) => {
-            let width = picture.width();
-            let height = picture.height();
-            format!(in alloc; "portable {width} {height}")?
-        }
-        Ok(Verdict::Broken(finding)) => {
-            let rule = finding.rule;
-            let place = finding.place;
-            match finding.pixel {
-                Some((x, y)) => format!(in alloc; "broken {rule:?} {place} {x} {y}")?,
-                None => format!(in alloc; "broken {rule:?} {place}")?,
-            }
-        }
-        Err(InputFault::Grammar(fault)) => {
-            let reason = fault.reason;
-            let place = fault.place;
-            format!(in alloc; "{reason:?} {place}")?
-        }
-        Err(InputFault::OutOfMemory) => format!(in alloc; "out of memory")?,
-        Err(InputFault::Read) => format!(in alloc; "read failed")?,
-    };
-    Ok(text)
+    Ok(match answer {
+        Ok(Verdict::Portable(picture)) => picture_in_words(rt, picture)?,
+        Ok(Verdict::Broken(finding)) => finding_in_words(rt, finding)?,
+        Err(fault) => fault_in_words(rt, fault)?,
+    })
 }
 
 /// Whether the answer is so in words.
@@ -66,4 +73,12 @@ fn is_said(
 fn agrees(rt: &impl AllocGlobal, text: &str, expected: &str) -> Result<bool, Fail> {
     let bytes = bytes_of(rt, text)?;
     is_said(rt, &check_bytes(rt.alloc(), &bytes), expected)
+}
+
+/// Each text, in which `E` stands for ESC, has its answer.
+fn agree(rt: &(impl AllocGlobal + Abort), rows: &[(&str, &str)]) -> Result<(), Fail> {
+    for (text, expected) in rows {
+        assert!(rt; agrees(rt, text, expected)?, "{text}");
+    }
+    Ok(())
 }

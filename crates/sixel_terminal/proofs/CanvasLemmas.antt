@@ -4,6 +4,7 @@ use Rattle.std.proofs.Common.{List, length, get_or, nat_le, nat_lt, refl, sym, a
 use Rattle.std.proofs.lemmas.Bool.{and_parts, leb-true, ltb-true}
 use Rattle.std.proofs.lemmas.Bool.Decides.{nat_tests}
 use Rattle.sixel_picture.proofs.ByteLemmas.{in_row, same_test}
+use Rattle.sixel_picture.proofs.PositionLemmas.{and_false}
 use Rattle.sixel_terminal.specs.declared.canvas.Ink.{Ink}
 use Rattle.sixel_terminal.specs.declared.canvas.Span.{Span}
 use Rattle.sixel_terminal.specs.Canvases.{black, is_in_span}
@@ -14,10 +15,6 @@ pub record IsFilledBelow (n w : ℕ) (columns rows : Span) (ink : Ink) (old new 
   pub pixels : (i : ℕ) → i < length old
       → get_or new i black
       ≡ cond (is_in_span columns (i % w) && (nat_le rows.start (i / w) && nat_lt (i / w) n)) ink (get_or old i black)
-
-and_false : (t : Bool) → (t && false) ≡ false
-and_false true = refl
-and_false false = refl
 
 -- no number is from n on and below n
 none_between : (n y : ℕ) → (nat_le n y && nat_lt y n) ≡ false

@@ -6,6 +6,7 @@ use Rattle.std.proofs.lemmas.Bool.Decides.{nat_tests}
 use Rattle.std.proofs.lemmas.Nat.{div_below, mod_below}
 use Rattle.sixel_picture.specs.Geometry.{covers}
 use Rattle.sixel_picture.specs.Positions.{any_below}
+use Rattle.sixel_picture.proofs.PositionLemmas.{and_false}
 use Rattle.std.specs.Prelude.{None, unwrap_or, if◌then◌else◌}
 use Rattle.std.specs.Bool.{then_some}
 use Rattle.std.specs.Option.{option_map}
@@ -96,10 +97,6 @@ pub record IsPaintedBelow (n : ℕ) (t : Display) (p : Pen) (count bits : ℕ) (
       → get_or new i black
       ≡ cond (painted_below n t p count bits (i % t.choices.screen_width) (i / t.choices.screen_width)) ink
       (get_or old i black)
-
-and_false : (t : Bool) → (t && false) ≡ false
-and_false true = refl
-and_false false = refl
 
 pub painted_none : (t : Display) (p : Pen) (count bits : ℕ) (ink : Ink) (xs : List Ink)
     → IsPaintedBelow 0 t p count bits ink xs xs

@@ -19,6 +19,7 @@ pub struct Choices {
     pub binds_at_showing: bool,
     /// A definition of a register also selects it, even where it gives no colour.
     pub selects: bool,
+    /// What raster attributes do to the declared box.
     pub ground: Ground,
     /// The register that is selected at the start.
     pub selected: u16,

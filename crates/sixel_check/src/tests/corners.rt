@@ -2,19 +2,11 @@
 //!
 //! Offsets: `"1;1;1;1` is 3 to 10, so a first definition stands at 11, and what follows `#0;2;0;0;0` at 21.
 
-use crate::tests::agrees;
 use crate::tests::documents::picture_of;
+use crate::tests::{agree, agrees};
 use sixel_picture::Colour;
 use std::process::Abort;
 use std::test::Fail;
-
-/// Each text, in which `E` stands for ESC, has its answer.
-fn agree(rt: &(impl AllocGlobal + Abort), rows: &[(&str, &str)]) -> Result<(), Fail> {
-    for (text, expected) in rows {
-        assert!(rt; agrees(rt, text, expected)?, "{text}");
-    }
-    Ok(())
-}
 
 /// The text is portable, and register 0 is left with this colour.
 fn agree_left(

@@ -1,9 +1,9 @@
 //! Worked documents, whole and in pieces.
 
 use crate::checking::{check, check_bytes};
-use crate::tests::{agrees, bytes_of, is_said};
+use crate::tests::{agree, bytes_of, is_said};
 use crate::verdict::Verdict;
-use sixel_grammar::{InputFault, SliceSource};
+use sixel_grammar::SliceSource;
 use sixel_picture::{Colour, Picture};
 use std::alloc::{AllocError, Global};
 use std::process::Abort;
@@ -112,10 +112,7 @@ pub(super) const DOCUMENTS: &[(&str, &str)] = &[
 
 #[test]
 fn worked_documents(rt: HostRuntime) -> Result<(), Fail> {
-    for (text, expected) in DOCUMENTS {
-        assert!(rt; agrees(&rt, text, expected)?, "{text}");
-    }
-    Ok(())
+    agree(&rt, DOCUMENTS)
 }
 
 /// Whether the answer on the bytes in pieces of a size is so.
@@ -298,17 +295,5 @@ fn the_picture_of_two_letters(rt: HostRuntime) -> Result<(), Fail> {
 fn a_source_that_fails(rt: HostRuntime) -> Result<(), Fail> {
     let bytes = bytes_of(&rt, "EPq\"1;1;1;1#0;2;0;0;0#0@E\\")?;
     assert!(rt; agrees_in(&rt, &bytes, 5, Some(2), "read failed")?);
-    Ok(())
-}
-
-/// With ample memory this is portable. `rt try --test --fail-alloc N` refuses the N-th growth: then it is
-/// `OutOfMemory`.
-#[test]
-fn each_growth_is_refused_by_name(rt: HostRuntime) -> Result<(), Fail> {
-    match check_bytes(rt.alloc(), b"\x1bPq\"1;1;1;1#0;2;0;0;0#0@\x1b\\") {
-        Ok(Verdict::Portable(picture)) => assert_eq!(rt; picture.width(), 1),
-        Ok(Verdict::Broken(_)) => return Err(Fail::from("broken")),
-        Err(fault) => assert_eq!(rt; fault, InputFault::OutOfMemory),
-    }
     Ok(())
 }

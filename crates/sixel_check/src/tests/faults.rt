@@ -11,12 +11,13 @@
 
 use crate::tests::bytes_of;
 use crate::tests::documents::{DOCUMENTS, agrees_in_three};
+use std::process::Abort;
 use std::test::Fail;
 
 const PICTURE: &[u8] = b"\x1bPq\"1;1;1;1#0;2;0;0;0#0@\x1b\\";
 
 /// CAN may stand nowhere in a document.
-const CAN: [&str; 26] = [
+const CAN: &[&str] = &[
     "NotSixel 0",
     "NotSixel 1",
     "NotSixel 2",
@@ -48,7 +49,7 @@ const CAN: [&str; 26] = [
 /// A data byte, of bits 0, 3, 4 and 5. It ends an open command, and then a digit or a `;` follows where no command is
 /// open. A colour command with two to four fields can't end. At 10 the height is missing, and at 20 the last
 /// coordinate. At 22 the number of the register is missing: it is 0. At 24 the `\` is a data byte too.
-const LETTER: [&str; 26] = [
+const LETTER: &[&str] = &[
     "NotSixel 0",
     "NotSixel 1",
     "NotSixel 2",
@@ -79,7 +80,7 @@ const LETTER: [&str; 26] = [
 
 /// In place of a `;` it joins two numbers, and a field is missing: the ratio is 171 to 1 or 1 to 171, or the box 171 by
 /// 0; a definition of four fields ends at the `#` after it. At 11 a fourth `;` follows in the raster attributes.
-const DIGIT: [&str; 26] = [
+const DIGIT: &[&str] = &[
     "NotSixel 0",
     "NotSixel 1",
     "NotSixel 3",
@@ -110,7 +111,7 @@ const DIGIT: [&str; 26] = [
 
 /// A `;` more is the fourth of the raster attributes or the fifth of the definition, or the first of a select, which then
 /// has two fields. At six of the places it stood before.
-const SEPARATOR: [&str; 26] = [
+const SEPARATOR: &[&str] = &[
     "NotSixel 0",
     "NotSixel 1",
     "NotSixel 3",
@@ -140,7 +141,7 @@ const SEPARATOR: [&str; 26] = [
 ];
 
 /// After a `!` and its number only a data byte may stand. Where one does, the number is 0 or missing. At 24 it is the `\`.
-const REPEAT: [&str; 26] = [
+const REPEAT: &[&str] = &[
     "NotSixel 0",
     "NotSixel 1",
     "NotSixel 2",
@@ -171,7 +172,7 @@ const REPEAT: [&str; 26] = [
 
 /// Filler stands before the string, and ends a command as a data byte does. At 20 the last coordinate is missing, and at 22
 /// the number of the register: both are 0.
-const LINE_FEED: [&str; 26] = [
+const LINE_FEED: &[&str] = &[
     "NotSixel 1",
     "NotSixel 1",
     "NotSixel 2",
@@ -201,7 +202,7 @@ const LINE_FEED: [&str; 26] = [
 ];
 
 /// ESC ends an open command, and `\` doesn't follow. At 0 and at 24 it stood before.
-const ESCAPE: [&str; 26] = [
+const ESCAPE: &[&str] = &[
     "portable 1 1",
     "NotSixel 1",
     "NotSixel 2",
@@ -231,7 +232,7 @@ const ESCAPE: [&str; 26] = [
 ];
 
 /// A byte in place of each of the picture's bytes in turn, and the answers.
-const REPLACED: [(u8, [&str; 26]); 7] = [
+const REPLACED: &[(u8, &[&str])] = &[
     (0x18, CAN),
     (b'x', LETTER),
     (b'7', DIGIT),
@@ -258,19 +259,30 @@ fn fronts_agree(rt: &impl AllocGlobal, bytes: &[u8]) -> Result<bool, Fail> {
     Ok(true)
 }
 
-/// The smallest portable picture with this byte at this place.
-fn with_byte(rt: &impl AllocGlobal, place: usize, byte: u8) -> Result<Vec<u8>, Fail> {
+/// The document with this byte at this place.
+fn with_byte(
+    rt: &impl AllocGlobal,
+    document: &[u8],
+    place: usize,
+    byte: u8,
+) -> Result<Vec<u8>, Fail> {
     let mut bytes = Vec::new(rt.alloc());
-    for (at, old) in PICTURE.iter().enumerate() {
-        bytes.push(if at == place { byte } else { *old })?;
+    bytes.extend_from_slice(document)?;
+    if place < bytes.len() {
+        bytes[place] = byte;
     }
     Ok(bytes)
 }
 
-/// Whether the picture with this byte at each place in turn has these answers.
-fn replaced_agree(rt: &impl AllocGlobal, byte: u8, answers: &[&str]) -> Result<bool, Fail> {
+/// Whether the document with this byte at each place in turn has these answers.
+fn replaced_agree(
+    rt: &impl AllocGlobal,
+    document: &[u8],
+    byte: u8,
+    answers: &[&str],
+) -> Result<bool, Fail> {
     for (place, expected) in answers.iter().enumerate() {
-        let bytes = with_byte(rt, place, byte)?;
+        let bytes = with_byte(rt, document, place, byte)?;
         if !agrees_in_three(rt, bytes.as_slice(), expected)? {
             return Ok(false);
         }
@@ -278,12 +290,21 @@ fn replaced_agree(rt: &impl AllocGlobal, byte: u8, answers: &[&str]) -> Result<b
     Ok(true)
 }
 
-#[test]
-fn each_byte_replaced(rt: HostRuntime) -> Result<(), Fail> {
-    for (byte, answers) in REPLACED {
-        assert!(rt; replaced_agree(&rt, byte, answers.as_slice())?, "{byte}");
+/// The document with each byte in turn has its answers.
+fn each_agrees(
+    rt: &(impl AllocGlobal + Abort),
+    document: &[u8],
+    rows: &[(u8, &[&str])],
+) -> Result<(), Fail> {
+    for (byte, answers) in rows {
+        assert!(rt; replaced_agree(rt, document, *byte, answers)?, "{byte}");
     }
     Ok(())
+}
+
+#[test]
+fn each_byte_replaced(rt: HostRuntime) -> Result<(), Fail> {
+    each_agrees(&rt, PICTURE, REPLACED)
 }
 
 /// Documents that end at the last byte of their terminator. The last is the smallest with controls of one byte.

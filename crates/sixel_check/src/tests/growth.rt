@@ -8,7 +8,7 @@ ghost use Rattle.sixel_check.specs.Standing.{StandsAfter, expects};
 use crate::checker::Checker;
 use crate::checking::{check, check_bytes};
 use crate::rule::Rule;
-use crate::verdict::{Finding, Verdict};
+use crate::verdict::Verdict;
 use sixel_grammar::{InputFault, Placed, Reader, SliceSource};
 use sixel_picture::BytePlane;
 use std::alloc::AllocError;
@@ -18,7 +18,7 @@ use std::test::Fail;
 const PICTURE: &[u8] = b"\x1bPq\"1;1;1;1#0;2;0;0;0#0@\x1b\\";
 
 /// Documents that make no box, their first broken rule and its place.
-const BOXLESS: [(&[u8], Rule, u64); 4] = [
+const BOXLESS: &[(&[u8], Rule, u64)] = &[
     (b"\x1bPq\x1b\\", Rule::RasterFirst, 3),
     (
         b"\x1bPq#0;2;0;0;0#1;2;100;100;0#2;2;0;100;0#1~~@@vv@@~~@@~~$#2??}}GG}}??}}??-#1!14@\x1b\\",
@@ -48,23 +48,28 @@ fn a_refused_growth_is_named(rt: HostRuntime) -> Result<(), Fail> {
     Ok(())
 }
 
+/// Whether this rule is the first broken one, at this place.
+fn is_broken(answer: &Result<Verdict, InputFault>, rule: Rule, place: u64) -> bool {
+    match answer {
+        Ok(Verdict::Broken(finding)) => {
+            finding.rule == rule && finding.place == place && finding.pixel.is_none()
+        }
+        _ => false,
+    }
+}
+
+/// Whether the document has this verdict, from a slice and from a source.
+fn breaks(rt: &impl AllocGlobal, bytes: &[u8], rule: Rule, place: u64) -> bool {
+    let mut source = SliceSource::new(bytes, 5, None);
+    is_broken(&check_bytes(rt.alloc(), bytes), rule, place)
+        && is_broken(&check(rt.alloc(), &mut source), rule, place)
+}
+
 /// The verdict is the same whichever growth is refused.
 #[test]
 fn no_box_takes_no_memory(rt: HostRuntime) -> Result<(), Fail> {
     for (bytes, rule, place) in BOXLESS {
-        match check_bytes(rt.alloc(), bytes) {
-            Ok(Verdict::Broken(finding)) => {
-                assert_eq!(rt;
-                    finding,
-                    Finding {
-                        rule,
-                        place,
-                        pixel: None
-                    }
-                );
-            }
-            _ => return Err(Fail::from("no finding")),
-        }
+        assert!(rt; breaks(&rt, bytes, *rule, *place), "{place}");
     }
     Ok(())
 }

@@ -1,7 +1,7 @@
 //! Columns, rows and numbers far past any box.
 
 use crate::tests::documents::agrees_in_three;
-use crate::tests::steps::answer_by_events;
+use crate::tests::steps::agrees_on_events;
 use crate::tests::{agrees, bytes_of};
 use std::process::Abort;
 use std::test::Fail;
@@ -16,14 +16,6 @@ fn with_many(rt: &impl AllocGlobal, command: &str, more: &str) -> Result<String,
     text.push_str(more)?;
     text.push_str("E\\")?;
     Ok(text)
-}
-
-/// Whether the answer on the events is so.
-fn agrees_on_events(rt: &impl AllocGlobal, bytes: &[u8], expected: &str) -> Result<bool, Fail> {
-    match answer_by_events(rt, bytes)? {
-        Some(answer) => Ok(answer.as_str() == expected),
-        None => Ok(false),
-    }
 }
 
 /// The answer is the same on the bytes, from a source, and on the events.

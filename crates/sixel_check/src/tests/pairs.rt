@@ -3,7 +3,8 @@
 //! The answers are worked out from the rules, which `Rule` states. A place is an offset: ESC P `q` is 0 to 2, so the
 //! first command stands at 3, behind `"1;1;1;1` at 11, and behind `"1;1;1;1#0;2;0;0;0#0` at 23.
 
-use crate::tests::agrees;
+use crate::tests::{agree, agrees};
+use std::process::Abort;
 use std::test::Fail;
 
 /// A document that breaks one rule alone and has the fewest commands that do, and the answer. The order is that of the
@@ -14,7 +15,7 @@ use std::test::Fail;
 /// pixel to cover. A select of register 16 breaks the same rule as its definition. A definition in system 3 is still a
 /// definition. The repeat of 0 stands before all painting and has no bit. `B` has bits 0 and 1, so it covers the box,
 /// and (0, 1) below it.
-const ALONE: [(&str, &str); 12] = [
+const ALONE: &[(&str, &str)] = &[
     ("EPqE\\", "broken RasterFirst 3"),
     (
         "EPq\"1;1;1;1\"1;1;1;1#0;2;0;0;0#0@E\\",
@@ -37,10 +38,7 @@ const ALONE: [(&str, &str); 12] = [
 
 #[test]
 fn each_rule_alone(rt: HostRuntime) -> Result<(), Fail> {
-    for (text, expected) in ALONE {
-        assert!(rt; agrees(&rt, text, expected)?, "{text}");
-    }
-    Ok(())
+    agree(&rt, ALONE)
 }
 
 /// A document in which one event breaks two rules, and the answer: the rule of the least number.
@@ -49,7 +47,7 @@ fn each_rule_alone(rt: HostRuntime) -> Result<(), Fail> {
 /// different kinds; or one asks for a known register and the other for none; or one for a box and the other for none. A
 /// repeat of 0 falls nowhere, so it is never `Outside`. `Register` and `Redefined` stand at one event only after a
 /// select of a register above 15, which broke `Register` before.
-const AT_ONE_EVENT: [(&str, &str); 14] = [
+const AT_ONE_EVENT: &[(&str, &str)] = &[
     // before all raster attributes: a repeat of 0, no register known, a register that isn't defined
     ("EPq!0?E\\", "broken RasterFirst 3"),
     ("EPq@E\\", "broken RasterFirst 3"),
@@ -76,16 +74,13 @@ const AT_ONE_EVENT: [(&str, &str); 14] = [
 
 #[test]
 fn the_least_rule_at_one_event(rt: HostRuntime) -> Result<(), Fail> {
-    for (text, expected) in AT_ONE_EVENT {
-        assert!(rt; agrees(&rt, text, expected)?, "{text}");
-    }
-    Ok(())
+    agree(&rt, AT_ONE_EVENT)
 }
 
 /// Commands of which one is the first that breaks a rule, and the answer, whatever follows. The box is two pixels wide
 /// or more, and no second pixel is painted. `Uncovered` is missing: only the end breaks it, and nothing follows the
 /// end.
-const FIRST: [(&str, &str); 11] = [
+const FIRST: &[(&str, &str)] = &[
     ("$\"1;1;2;1", "broken RasterFirst 3"),
     ("\"1;1;2;1\"1;1;2;1", "broken RasterTwice 11"),
     ("\"2;1;2;1", "broken Ratio 3"),
@@ -102,7 +97,7 @@ const FIRST: [(&str, &str); 11] = [
 /// Commands that break a rule after raster attributes, each with registers of its own, and the answer where nothing
 /// else is broken before. `RasterFirst` is missing: raster attributes stand before. Another ratio or size breaks
 /// `RasterTwice` too, at the same event. The last are no commands at all: then the end breaks `Uncovered`.
-const SECOND: [(&str, &str); 11] = [
+const SECOND: &[(&str, &str)] = &[
     ("\"1;1;2;1", "broken RasterTwice 11"),
     ("\"2;1;2;1", "broken RasterTwice 11"),
     ("\"1;1;0;1", "broken RasterTwice 11"),
@@ -120,14 +115,14 @@ const SECOND: [(&str, &str); 11] = [
 /// nowhere in `FROM_RASTER`. Of the other rules, five ask for raster attributes at the event or before it. A repeat of
 /// 0 and a command that paints break `RasterFirst` at that very event, and `Redefined` asks for a command that painted
 /// before.
-const BEFORE_RASTER: [(&str, &str); 3] = [
+const BEFORE_RASTER: &[(&str, &str)] = &[
     ("$", "broken RasterFirst 3"),
     ("#17;2;0;0;0", "broken Register 3"),
     ("#1;3;0;0;0", "broken ColourValue 3"),
 ];
 
 /// The commands of the documents in `ALONE`: they start with raster attributes or are none, and break one rule.
-const FROM_RASTER: [&str; 12] = [
+const FROM_RASTER: &[&str] = &[
     "",
     "\"1;1;1;1\"1;1;1;1#0;2;0;0;0#0@",
     "\"2;1;1;1#0;2;0;0;0#0@",
@@ -154,6 +149,31 @@ fn agree_two(
     agrees(rt, text.as_str(), expected)
 }
 
+/// The answer on the first commands is so, whichever of the second follow.
+fn agree_before(
+    rt: &(impl AllocGlobal + Abort),
+    first: &str,
+    seconds: &[(&str, &str)],
+    expected: &str,
+) -> Result<(), Fail> {
+    for (second, _) in seconds {
+        assert!(rt; agree_two(rt, first, second, expected)?, "{first}{second}");
+    }
+    Ok(())
+}
+
+/// Each of the first commands has its answer, whichever of the second follow.
+fn each_agrees_before(
+    rt: &(impl AllocGlobal + Abort),
+    firsts: &[(&str, &str)],
+    seconds: &[(&str, &str)],
+) -> Result<(), Fail> {
+    for (first, expected) in firsts {
+        agree_before(rt, first, seconds, expected)?;
+    }
+    Ok(())
+}
+
 /// The second commands do break their rule.
 #[test]
 fn each_second_rule(rt: HostRuntime) -> Result<(), Fail> {
@@ -168,13 +188,7 @@ fn each_second_rule(rt: HostRuntime) -> Result<(), Fail> {
 /// `RasterFirst` and `Uncovered`, and one order of each two with one of these.
 #[test]
 fn each_two_rules(rt: HostRuntime) -> Result<(), Fail> {
-    for (first, expected) in FIRST {
-        for (second, _) in SECOND {
-            let agree = agree_two(&rt, first, second, expected)?;
-            assert!(rt; agree, "{first}{second}");
-        }
-    }
-    Ok(())
+    each_agrees_before(&rt, FIRST, SECOND)
 }
 
 /// Here are the orders in which `RasterFirst` comes second, and those in which `Ratio` and `BoxSize` do by the first

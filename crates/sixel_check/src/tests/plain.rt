@@ -9,10 +9,11 @@ use crate::rule::Rule;
 use crate::verdict::{Finding, Verdict};
 use sixel_grammar::{Command, Event, Placed, SliceSource, read_all};
 use sixel_picture::Picture;
+use std::alloc::AllocError;
 use std::test::Fail;
 
 /// What the documents are made of, with most that keeps them portable.
-const PARTS: [&[u8]; 20] = [
+const PARTS: &[&[u8]] = &[
     b"#0",
     b"#1",
     b"#0",
@@ -242,18 +243,35 @@ fn plain_finding(events: &[Placed]) -> Option<Finding> {
     None
 }
 
+/// The next state of a generator of numbers.
+fn next(state: u64) -> u64 {
+    state
+        .wrapping_mul(6_364_136_223_846_793_005)
+        .wrapping_add(1_442_695_040_888_963_407)
+}
+
+/// One of the parts, by the generator's state.
+fn chosen<'a>(parts: &[&'a [u8]], state: u64) -> &'a [u8] {
+    parts
+        .get((state >> 40) as usize % 20)
+        .copied()
+        .unwrap_or(&[])
+}
+
+/// Five of these parts, at the end of the bytes.
+fn push_parts(bytes: &mut Vec<u8>, parts: &[&[u8]], state: &mut u64) -> Result<(), AllocError> {
+    for _ in 0..5u32 {
+        *state = next(*state);
+        bytes.extend_from_slice(chosen(parts, *state))?;
+    }
+    Ok(())
+}
+
 /// A document of five parts after a box of 2 by 6 pixels, two definitions and a select.
 fn document_of(rt: &impl AllocGlobal, state: &mut u64) -> Result<Vec<u8>, Fail> {
     let mut bytes = Vec::new(rt.alloc());
     bytes.extend_from_slice(b"\x1bPq\"1;1;2;6#0;2;0;0;0#1;1;360;50;100#1")?;
-    for _ in 0..5u32 {
-        *state = state
-            .wrapping_mul(6_364_136_223_846_793_005)
-            .wrapping_add(1_442_695_040_888_963_407);
-        if let Some(part) = PARTS.get((*state >> 40) as usize % 20) {
-            bytes.extend_from_slice(part)?;
-        }
-    }
+    push_parts(&mut bytes, PARTS, state)?;
     bytes.extend_from_slice(b"\x1b\\")?;
     Ok(bytes)
 }

@@ -1,6 +1,6 @@
 //! A checker, event by event.
 
-ghost use Rattle.std.specs.Prelude.{List, IfOk};
+ghost use Rattle.std.specs.Prelude.{List, IfOk, OnOk};
 ghost use Rattle.sixel_grammar.specs.declared.command.Placed.{Placed as PlacedValue};
 ghost use Rattle.sixel_check.specs.Standing.{StandsAfter};
 
@@ -10,7 +10,20 @@ use crate::tests::{bytes_of, in_words};
 use arrayvec::ArrayVec;
 use sixel_grammar::{Command, Event, Placed, SliceSource, read_all};
 use sixel_picture::BytePlane;
+use std::process::Abort;
 use std::test::Fail;
+
+/// Pushes an event that may come.
+fn push_next(checker: &mut Checker<BytePlane>, placed: &Placed) -> Result<(), Fail>
+    requires { (seen : List PlacedValue) × StandsAfter checker.old seen }
+    ensures { OnOk result ((seen : List PlacedValue) × StandsAfter checker.new seen) }
+{
+    if !checker.expects(&placed.event) || !placed.event.is_spellable() {
+        return Err(Fail::from("an event that may not come"));
+    }
+    checker.push(placed)?;
+    Ok(())
+}
 
 /// A checker that has seen these events.
 fn pushed(rt: &impl AllocGlobal, events: &[Placed]) -> Result<Checker<BytePlane>, Fail>
@@ -18,56 +31,95 @@ fn pushed(rt: &impl AllocGlobal, events: &[Placed]) -> Result<Checker<BytePlane>
 {
     let mut checker: Checker<BytePlane> = Checker::new(rt.alloc());
     for placed in events {
-        if !checker.expects(&placed.event) || !placed.event.is_spellable() {
-            return Err(Fail::from("an event that may not come"));
-        }
-        checker.push(placed)?;
+        push_next(&mut checker, placed)?;
     }
     Ok(checker)
 }
 
-#[test]
-fn events_are_expected_in_order(rt: HostRuntime) -> Result<(), Fail> {
-    let bytes = bytes_of(&rt, "EPq\"1;1;1;1#0;2;0;0;0#0@E\\")?;
-    let mut source = SliceSource::new(&bytes, 64, None);
-    let Ok(events) = read_all(rt.alloc(), &mut source) else {
-        return Err(Fail::from("no document"));
-    };
-    let fresh: Checker<BytePlane> = Checker::new(rt.alloc());
-    assert!(rt; !fresh.is_whole());
-    for placed in &events {
-        let starts = matches!(&placed.event, Event::Start { .. });
-        assert_eq!(rt; fresh.expects(&placed.event), starts);
-    }
-    assert!(rt; !fresh.expects(&Event::Step(Command::NextLine)));
-    let checker = pushed(&rt, &events)?;
-    assert!(rt; checker.is_whole());
-    for placed in &events {
-        assert!(rt; !checker.expects(&placed.event));
-    }
+/// The verdict of a checker that has seen a whole list.
+fn verdict_of(rt: &impl AllocGlobal, checker: Checker<BytePlane>) -> Result<String, Fail>
+    requires { (seen : List PlacedValue) × StandsAfter checker seen }
+{
     if !checker.is_whole() {
         return Err(Fail::from("not whole"));
     }
     let verdict = checker.finish()?;
-    assert_eq!(rt; in_words(&rt, &Ok(verdict))?.as_str(), "portable 1 1");
+    in_words(rt, &Ok(verdict))
+}
+
+/// The events of the bytes; none where they are no document.
+fn events_of(rt: &impl AllocGlobal, bytes: &[u8]) -> Option<Vec<Placed>> {
+    let mut source = SliceSource::new(bytes, 64, None);
+    read_all(rt.alloc(), &mut source).ok()
+}
+
+/// The events of the smallest portable picture.
+fn smallest(rt: &impl AllocGlobal) -> Result<Vec<Placed>, Fail> {
+    let picture = b"\x1bPq\"1;1;1;1#0;2;0;0;0#0@\x1b\\";
+    Ok(events_of(rt, picture).ok_or("no document")?)
+}
+
+/// Whether the checker expects a start among these events, and no other.
+fn expects_starts(checker: &Checker<BytePlane>, events: &[Placed]) -> bool {
+    for placed in events {
+        if checker.expects(&placed.event) != matches!(&placed.event, Event::Start { .. }) {
+            return false;
+        }
+    }
+    true
+}
+
+/// Whether the checker expects one of these events.
+fn expects_any(checker: &Checker<BytePlane>, events: &[Placed]) -> bool {
+    for placed in events {
+        if checker.expects(&placed.event) {
+            return true;
+        }
+    }
+    false
+}
+
+#[test]
+fn a_start_is_expected_first(rt: HostRuntime) -> Result<(), Fail> {
+    let events = smallest(&rt)?;
+    let fresh: Checker<BytePlane> = Checker::new(rt.alloc());
+    assert!(rt; !fresh.is_whole());
+    assert!(rt; expects_starts(&fresh, events.as_slice()));
+    assert!(rt; !fresh.expects(&Event::Step(Command::NextLine)));
+    Ok(())
+}
+
+#[test]
+fn nothing_is_expected_after_the_end(rt: HostRuntime) -> Result<(), Fail> {
+    let events = smallest(&rt)?;
+    let checker = pushed(&rt, events.as_slice())?;
+    assert!(rt; checker.is_whole());
+    assert!(rt; !expects_any(&checker, events.as_slice()));
+    assert!(rt; verdict_of(&rt, checker)?.as_str() == "portable 1 1");
     Ok(())
 }
 
 /// The verdict on the events of a document, pushed one by one; none where the bytes are no document.
-pub(super) fn answer_by_events(
+fn answer_by_events(rt: &impl AllocGlobal, bytes: &[u8]) -> Result<Option<String>, Fail> {
+    match events_of(rt, bytes) {
+        Some(events) => {
+            let checker = pushed(rt, events.as_slice())?;
+            Ok(Some(verdict_of(rt, checker)?))
+        }
+        None => Ok(None),
+    }
+}
+
+/// Whether it is so.
+pub(super) fn agrees_on_events(
     rt: &impl AllocGlobal,
     bytes: &[u8],
-) -> Result<Option<String>, Fail> {
-    let mut source = SliceSource::new(bytes, 64, None);
-    let Ok(events) = read_all(rt.alloc(), &mut source) else {
-        return Ok(None);
-    };
-    let checker = pushed(rt, &events)?;
-    if !checker.is_whole() {
-        return Err(Fail::from("not whole"));
+    expected: &str,
+) -> Result<bool, Fail> {
+    match answer_by_events(rt, bytes)? {
+        Some(answer) => Ok(answer.as_str() == expected),
+        None => Ok(false),
     }
-    let verdict = checker.finish()?;
-    Ok(Some(in_words(rt, &Ok(verdict))?))
 }
 
 /// Whether pushed events have the verdict that the bytes have. Bytes with a fault have none.
@@ -79,14 +131,19 @@ fn agrees_by_events(rt: &impl AllocGlobal, text: &str, expected: &str) -> Result
     })
 }
 
+/// Each document has its answer.
+fn each_agrees(rt: &(impl AllocGlobal + Abort), rows: &[(&str, &str)]) -> Result<(), Fail> {
+    for (text, expected) in rows {
+        assert!(rt; agrees_by_events(rt, text, expected)?, "{text}");
+    }
+    Ok(())
+}
+
 #[test]
 fn worked_documents_event_by_event(rt: HostRuntime) -> Result<(), Fail> {
-    for (text, expected) in DOCUMENTS {
-        assert!(rt; agrees_by_events(&rt, text, expected)?, "{text}");
-    }
+    each_agrees(&rt, DOCUMENTS)?;
     let eight_bits = b"\x90q\"1;1;1;1#0;2;0;0;0#0@\x9c";
-    let answer = answer_by_events(&rt, eight_bits)?.ok_or("no document")?;
-    assert_eq!(rt; answer.as_str(), "portable 1 1");
+    assert!(rt; agrees_on_events(&rt, eight_bits, "portable 1 1")?);
     Ok(())
 }
 
@@ -135,11 +192,7 @@ fn expects_so(checker: &Checker<BytePlane>, start: bool, more: bool) -> bool {
 /// nothing.
 #[test]
 fn each_kind_of_event_is_expected_in_its_turn(rt: HostRuntime) -> Result<(), Fail> {
-    let bytes = bytes_of(&rt, "EPq\"1;1;1;1#0;2;0;0;0#0@E\\")?;
-    let mut source = SliceSource::new(&bytes, 64, None);
-    let Ok(events) = read_all(rt.alloc(), &mut source) else {
-        return Err(Fail::from("no document"));
-    };
+    let events = smallest(&rt)?;
     for count in 0..=events.len() {
         let checker = pushed(&rt, &events[..count])?;
         let whole = count == 6;

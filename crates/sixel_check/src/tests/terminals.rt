@@ -177,38 +177,47 @@ fn shows(
     Ok(answer.as_slice() == expected.as_slice())
 }
 
+/// Whether a definition selects its register on some.
+fn shows_unselected(rt: &impl AllocGlobal, choices: Choices) -> Result<bool, Fail> {
+    let pixel = if choices.selects { BLACK } else { grey(42) };
+    shows(rt, UNSELECTED, choices, greys(rt.alloc())?, &[pixel])
+}
+
+/// Whether they show the colour in which register 0 starts.
+fn shows_undefined(rt: &impl AllocGlobal, choices: Choices) -> Result<bool, Fail> {
+    Ok(
+        shows(rt, UNDEFINED, choices, greys(rt.alloc())?, &[BLACK])?
+            && shows(rt, UNDEFINED, choices, pale(rt.alloc())?, &[grey(90)])?,
+    )
+}
+
+/// Whether the last definition counts on some, and on others the one at the painting.
+fn shows_redefined(rt: &impl AllocGlobal, choices: Choices) -> Result<bool, Fail> {
+    let pixel = if choices.binds_at_showing {
+        LATE
+    } else {
+        BLACK
+    };
+    shows(rt, REDEFINED, choices, greys(rt.alloc())?, &[pixel, RED])
+}
+
+/// Whether raster attributes fill the box on some.
+fn shows_filled(rt: &impl AllocGlobal, choices: Choices) -> Result<bool, Fail> {
+    let pixel = match choices.ground {
+        Ground::Kept => BLACK,
+        Ground::Filled(_) => grey(30),
+    };
+    shows(rt, RASTER_TWICE, choices, greys(rt.alloc())?, &[pixel])
+}
+
 #[test]
 fn terminals_differ_on_what_is_broken(rt: HostRuntime) -> Result<(), Fail> {
-    let alloc = rt.alloc();
     for number in 0..32u8 {
-        let one = choices_of(number, 1, 1);
-        let two = choices_of(number, 2, 1);
-        let unselected = if one.selects { BLACK } else { grey(42) };
-        assert!(rt;
-            shows(&rt, UNSELECTED, one, greys(alloc)?, &[unselected])?,
-            "{number}"
-        );
-        assert!(rt;
-            shows(&rt, UNDEFINED, one, greys(alloc)?, &[BLACK])?,
-            "{number}"
-        );
-        assert!(rt;
-            shows(&rt, UNDEFINED, one, pale(alloc)?, &[grey(90)])?,
-            "{number}"
-        );
-        let redefined = if one.binds_at_showing { LATE } else { BLACK };
-        assert!(rt;
-            shows(&rt, REDEFINED, two, greys(alloc)?, &[redefined, RED])?,
-            "{number}"
-        );
-        let filled = match one.ground {
-            Ground::Kept => BLACK,
-            Ground::Filled(_) => grey(30),
-        };
-        assert!(rt;
-            shows(&rt, RASTER_TWICE, one, greys(alloc)?, &[filled])?,
-            "{number}"
-        );
+        let choices = choices_of(number, 1, 1);
+        assert!(rt; shows_unselected(&rt, choices)?, "{number}");
+        assert!(rt; shows_undefined(&rt, choices)?, "{number}");
+        assert!(rt; shows_redefined(&rt, choices_of(number, 2, 1))?, "{number}");
+        assert!(rt; shows_filled(&rt, choices)?, "{number}");
     }
     Ok(())
 }

@@ -1,21 +1,14 @@
 //! Painting on a screen.
 
-ghost use Rattle.std.specs.Prelude.{◌≡◌, ◌==◌, ◌<◌, ◌+◌, ◌*◌, ◌/◌, ◌%◌};
+ghost use Rattle.std.specs.Prelude.{◌≡◌, ◌<◌, ◌+◌, ◌*◌, ◌/◌, ◌%◌};
 ghost use Rattle.std.specs.Prelude.{EachIndex, length, slice_index_or, if◌then◌else◌};
-ghost use Rattle.std.specs.Int.{bit_at};
 ghost use Rattle.sixel_terminal.specs.Canvases.{black, span_of};
 ghost use Rattle.sixel_terminal.specs.Steps.{box_covers, pen_covers};
 
 use crate::canvas::{Ink, Span, fill};
 use crate::pen::Pen;
 use crate::terminal::Terminal;
-
-fn is_set(bits: u8, bit: u32) -> bool
-    requires { bit < 6 }
-    ensures { result ≡ (bit_at bits bit == 1) }
-{
-    bits >> bit & 1 == 1
-}
+use sixel_picture::is_set;
 
 impl Terminal {
     /// The rows of the screen in which a bit of the pen's band lies.

@@ -101,13 +101,8 @@ impl Terminal {
     {
         match command {
             Command::Sixel(_) => pen.moved(1),
-            Command::Repeat { count, bits: _ } => pen.moved(self.columns_of(count)),
-            Command::Raster {
-                pan,
-                pad,
-                width: _,
-                height: _,
-            } => pen.with_height(if pan == 1 && pad == 1 {
+            Command::Repeat { count, .. } => pen.moved(self.columns_of(count)),
+            Command::Raster { pan, pad, .. } => pen.with_height(if pan == 1 && pad == 1 {
                 1
             } else {
                 self.choices.tall
@@ -177,12 +172,7 @@ impl Terminal {
                 let columns = self.columns_of(count);
                 self.paint_columns(pen, columns, bits, &self.ink(colours, pen.selected), inks);
             }
-            Command::Raster {
-                pan: _,
-                pad: _,
-                width,
-                height,
-            } => {
+            Command::Raster { width, height, .. } => {
                 if let Ground::Filled(register) = self.choices.ground {
                     self.paint_box(width, height, &self.ink(colours, register), inks);
                 }
@@ -198,13 +188,7 @@ fn selected_by(selects: bool, command: Command) -> Option<u16>
 {
     match command {
         Command::Select(register) => Some(register),
-        Command::Define {
-            register,
-            system: _,
-            x: _,
-            y: _,
-            z: _,
-        } => selects.then_some(register),
+        Command::Define { register, .. } => selects.then_some(register),
         _ => None,
     }
 }

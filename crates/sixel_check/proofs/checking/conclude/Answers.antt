@@ -1,13 +1,14 @@
 use Rattle.std.proofs.Common.{sym, ◌∙◌}
+use Rattle.std.proofs.lemmas.Result.{err_from_is_err_and}
 use Rattle.sixel_grammar.specs.Document.{events_of}
 use Rattle.sixel_grammar.proofs.Total.{document_whole}
 use Rattle.sixel_check.proofs.StandLemmas.{whole_ended, whole_events}
 use Rattle.sixel_check.proofs.checking.conclude.Goals as goal
 
-pub finish-requires-in-Ok : goal.finish-requires-in-Ok
-finish-requires-in-Ok g c =
+pub finish-requires-2 : goal.finish-requires-2
+finish-requires-2 g c =
     let a = c.requires.1 in
-    let document = c.in-Ok.ensures.answer a.events c.requires.0 a.read in
+    let document = c.in_ok-finish.ensures.answer a.events c.requires.0 a.read in
     record {
       whole = (
         a.events,
@@ -16,13 +17,15 @@ finish-requires-in-Ok g c =
       );
     }
 
-pub returns-in-Ok-finish-clause-answer : goal.returns-in-Ok-finish-clause-answer
-returns-in-Ok-finish-clause-answer g c = λ front a. (
+pub returns-clause-answer : goal.returns-clause-answer
+returns-clause-answer g c = λ front a. (
   a.events,
-  c.in-Ok.ensures.answer a.events front a.read,
-  c.in-Ok-finish.ensures.verdict a.events a.checked,
-  c.in-Ok-finish.ensures.everywhere a.events a.checked,
+  c.in_ok-finish.ensures.answer a.events front a.read,
+  c.in_ok-finish-2.ensures.verdict a.events a.checked,
+  c.in_ok-finish-2.ensures.everywhere a.events a.checked,
 )
 
-pub returns-in-Err-clause-answer : goal.returns-in-Err-clause-answer
-returns-in-Err-clause-answer g c = λ front a. (c.in-Err.ensures.answer a.events front a.read).0
+pub returns-in_err-finish-clause-answer : goal.returns-in_err-finish-clause-answer
+returns-in_err-finish-clause-answer g c =
+    let failed = err_from_is_err_and c.from_residual.result c.from_residual.ensures.1 in
+    rw (failed.1, failed.2) (λ front a. (c.in_err-finish.ensures.answer a.events front a.read).0)

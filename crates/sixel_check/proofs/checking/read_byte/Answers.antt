@@ -1,5 +1,6 @@
 use Rattle.std.proofs.Common.{◌++◌, ◌∷◌, [], subst, sym}
 use Rattle.std.proofs.lemmas.List.{append-nil}
+use Rattle.std.proofs.lemmas.Result.{err_from_is_err_and}
 use Rattle.sixel_grammar.specs.declared.command.Plain.{Plain}
 use Rattle.sixel_grammar.specs.declared.command.Plain.TheVariants.{Nothing, Command}
 use Rattle.sixel_grammar.specs.Plain.{plain_of}
@@ -26,18 +27,21 @@ returns-in-Some-Nothing-clause-read g c = λ front a.
     after_byte c.args.reader.now c.feed_plain.new.self c.args.checker.now c.args.checker.now (plain_of Nothing) front
     c.args.byte accepted (λ seen s. subst (StandsAfter c.args.checker.now) (sym (append-nil seen)) s) a
 
-pub returns-in-Ok-clause-read : goal.returns-in-Ok-clause-read
-returns-in-Ok-clause-read g c = λ front a.
+pub returns-in_ok-keep_command-in-Some-Command-clause-read : goal.returns-in_ok-keep_command-in-Some-Command-clause-read
+returns-in_ok-keep_command-in-Some-Command-clause-read g c = λ front a.
     let plain = Command c.in-Some-Command.place c.in-Some-Command.command in
     let takes = λ (p : Plain). Takes c.args.reader.now c.feed_plain.new.self c.args.byte (completions (plain_of p)) in
     let accepted : takes plain = subst takes c.in-Some-Command.field-0-is c.in-Some-Command.ensures.accepted in
     after_byte c.args.reader.now c.feed_plain.new.self c.args.checker.now c.keep_command.new.checker (plain_of plain) front
-    c.args.byte accepted c.in-Ok.ensures.kept a
+    c.args.byte accepted c.in_ok-keep_command-in-Some-Command.ensures.kept a
 
-pub returns-in-Err-clause-memory : goal.returns-in-Err-clause-memory
-returns-in-Err-clause-memory g c = λ front a.
+pub returns-in_err-keep_command-in-Some-Command-clause-memory : goal.returns-in_err-keep_command-in-Some-Command-clause-memory
+returns-in_err-keep_command-in-Some-Command-clause-memory g c =
+    let failed = err_from_is_err_and c.from_residual.result c.from_residual.ensures.1 in
+    rw (failed.1, failed.2)
+    (λ front a.
     let plain = Command c.in-Some-Command.place c.in-Some-Command.command in
     let takes = λ (p : Plain). Takes c.args.reader.now c.feed_plain.new.self c.args.byte (completions (plain_of p)) in
     let accepted : takes plain = subst takes c.in-Some-Command.field-0-is c.in-Some-Command.ensures.accepted in
     grows_byte c.args.reader.now c.feed_plain.new.self c.args.checker.now (plain_of plain) c.args.byte front accepted
-    c.in-Err.ensures.grows a
+    c.in_err-keep_command-in-Some-Command.ensures.grows a)

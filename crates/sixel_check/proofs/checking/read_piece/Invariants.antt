@@ -1,5 +1,5 @@
 use Rattle.std.proofs.Common.{ℕ, List, ◌++◌, take}
-use Rattle.sixel_check.specs.Reading.{AreAfter}
+use Rattle.sixel_check.specs.Checking.{AreAfter}
 use Rattle.sixel_check.proofs.checking.read_piece.Given as goal
 
 abbrev pub invariant-loop-byte : goal.invariant-loop-byte

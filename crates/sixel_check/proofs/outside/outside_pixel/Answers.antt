@@ -12,6 +12,6 @@ returns-then-is_inside c = λ left line column_is band_is.
       | then-bits-eq0 w0 ↦ no_bits_fit left c.args.count line c.args.bits c.args.width c.args.height w0.if-bits-eq0.true
       | else-bits-eq0 w0 ↦
           inside_fits c.args.column c.args.band left line c.args.width c.args.height c.args.count c.args.bits w
-          (w0.is_inside.ensures (sym w0.value-is ∙ c.if-is_inside.true)).0
-          (w0.is_inside.ensures (sym w0.value-is ∙ c.if-is_inside.true)).1
+          (w0.is_inside.ensures.0 (sym w0.value-is ∙ c.if-is_inside.true)).0
+          (w0.is_inside.ensures.0 (sym w0.value-is ∙ c.if-is_inside.true)).1
     ])

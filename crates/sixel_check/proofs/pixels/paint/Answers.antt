@@ -1,6 +1,6 @@
 use Rattle.std.proofs.Common.{◌≡◌, ◌<◌, ◌+◌, ◌≤◌, ℕ, Some, true, false, sym, ◌∙◌, arith, rules}
 use Rattle.sixel_picture.specs.Events.{is_painting}
-use Rattle.sixel_check.specs.Steps.{known_in}
+use Rattle.sixel_check.specs.Notes.{known_in}
 use Rattle.sixel_check.proofs.BlankLemmas.{small}
 use Rattle.sixel_check.proofs.DrawLemmas.{drawn_paint, drawn_still, few_bits, knows, narrow, run_fits_in}
 use Rattle.sixel_check.proofs.pixels.paint.Goals as goal

@@ -1,8 +1,8 @@
 use Rattle.std.proofs.Common.{◌≡◌, ℕ, List}
 use Rattle.std.specs.Io.KnownBytes.{Consumes}
 use Rattle.sixel_grammar.specs.Standing.{left_of}
-use Rattle.sixel_check.specs.Reading.{AreAfter}
-use Rattle.sixel_check.proofs.checking.check_on.Given as goal
+use Rattle.sixel_check.specs.Checking.{AreAfter}
+use Rattle.sixel_check.proofs.checking.check.Given as goal
 
 abbrev pub invariant-loop-checker : goal.invariant-loop-checker
 invariant-loop-checker g l = (front : List ℕ) × AreAfter l.reader l.checker front
