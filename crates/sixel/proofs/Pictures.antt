@@ -17,8 +17,7 @@ use Rattle.sixel_picture.specs.Ppm.{WritesPpm, are_rgb, colours_of, ppm_text}
 use Rattle.sixel_check.specs.declared.verdict.Finding.{Finding}
 use Rattle.sixel_check.specs.declared.verdict.Verdict.{Verdict}
 use Rattle.sixel_check.specs.declared.verdict.Verdict.TheVariants.{Portable, Broken}
-use Rattle.sixel_check.specs.Growth.{MayGrowIn}
-use Rattle.sixel_check.specs.Reading.{Answers as CheckAnswers}
+use Rattle.sixel_check.specs.Checking.{Answers as CheckAnswers}
 use Rattle.sixel_check.specs.Verdicts.{IsVerdict}
 use Rattle.sixel_check.proofs.DecideLemmas.{verdict_exists}
 use Rattle.sixel.specs.declared.fault.RunFault.{RunFault}
@@ -161,13 +160,3 @@ pub broken_rendered : (a : Option (List ℕ)) (f : Finding) (had : Option (List 
 broken_rendered None f had given = tt
 broken_rendered (Some bytes) f had given =
     ([], (given.0, given.1, (Broken f, given.2, refl)), Appends-none had)
-
--- writing a picture takes no memory
-pub unwanted : (a : Option (List ℕ)) (fault : PpmFault) (had has : Option (List ℕ)) (width height : ℕ)
-    (colours : List Parts) → WritesPpm {A = Unit {0}} (Err fault) had has width height colours
-    → of_ppm fault ≡ OutOfMemory → IfSome a MayGrowIn
-unwanted a ppm.Write had has width height colours put e = cc
-unwanted a ppm.NotRgb had has width height colours put e = cc
-unwanted a (ppm.Format reason place) had has width height colours put e = absurd put
-unwanted a ppm.OutOfMemory had has width height colours put e = absurd put
-unwanted a ppm.Read had has width height colours put e = absurd put

@@ -1,9 +1,9 @@
 //! The lines that the program writes.
 
-ghost use Rattle.std.specs.Prelude.{◌≡◌, ◌+◌, ◌≤◌, ◌++◌, ◌∷◌, length, decimal};
+ghost use Rattle.std.specs.Prelude.{◌≡◌, ◌+◌, ◌*◌, ◌≤◌, ◌++◌, ◌∷◌, length, decimal};
 ghost use Rattle.arrayvec.specs.ArrayVec.{array_vec_len};
 ghost use Rattle.sixel_grammar.specs.Devices.{CountsFailure, NeverFlushes, Puts};
-ghost use Rattle.sixel.specs.Texts.{event_line, event_parts, fault_line, finding_line, kind_name, portable_line};
+ghost use Rattle.sixel.specs.Texts.{event_line, event_parts, fault_line, finding_line, kind_name, numbers, portable_line};
 ghost use Rattle.sixel.specs.Texts.{ppm_reason_name, reason_name, rule_name, spaced, verdict_line};
 
 use crate::fault::RunFault;
@@ -46,6 +46,27 @@ fn push_small(line: &mut Line, number: u16)
     push_all(line, buffer.format(number).as_bytes());
 }
 
+/// Numbers of a document, each after a space.
+fn push_numbers(line: &mut Line, given: &[u16])
+    requires { array_vec_len line.old + 6 * length given.now ≤ 96 }
+    ensures items { line.new.items ≡ line.old.items ++ spaced (numbers given.now) }
+    ensures len { array_vec_len line.new ≤ array_vec_len line.old + 6 * length given.now }
+{
+    for number in given {
+        push_small(line, *number);
+    }
+}
+
+/// A name with the space before it, and numbers.
+fn push_part(line: &mut Line, name: &[u8], given: &[u16])
+    requires { array_vec_len line.old + length name.now + 6 * length given.now ≤ 96 }
+    ensures items { line.new.items ≡ line.old.items ++ (name.now ++ spaced (numbers given.now)) }
+    ensures len { array_vec_len line.new ≤ array_vec_len line.old + length name.now + 6 * length given.now }
+{
+    push_all(line, name);
+    push_numbers(line, given);
+}
+
 fn push_kind(line: &mut Line, eight: bool)
     requires { array_vec_len line.old + 5 ≤ 96 }
     ensures items { line.new.items ≡ line.old.items ++ 32 ∷ kind_name eight }
@@ -60,45 +81,24 @@ fn push_command(line: &mut Line, command: &Command)
     ensures len { array_vec_len line.new ≤ 60 }
 {
     match command {
-        Command::Sixel(bits) => {
-            push_all(line, b" sixel");
-            push_small(line, u16::from(*bits));
-        }
+        Command::Sixel(bits) => push_part(line, b" sixel", &[u16::from(*bits)]),
         Command::Repeat { count, bits } => {
-            push_all(line, b" repeat");
-            push_small(line, *count);
-            push_small(line, u16::from(*bits));
+            push_part(line, b" repeat", &[*count, u16::from(*bits)])
         }
         Command::Raster {
             pan,
             pad,
             width,
             height,
-        } => {
-            push_all(line, b" raster");
-            push_small(line, *pan);
-            push_small(line, *pad);
-            push_small(line, *width);
-            push_small(line, *height);
-        }
-        Command::Select(register) => {
-            push_all(line, b" select");
-            push_small(line, *register);
-        }
+        } => push_part(line, b" raster", &[*pan, *pad, *width, *height]),
+        Command::Select(register) => push_part(line, b" select", &[*register]),
         Command::Define {
             register,
             system,
             x,
             y,
             z,
-        } => {
-            push_all(line, b" define");
-            push_small(line, *register);
-            push_small(line, *system);
-            push_small(line, *x);
-            push_small(line, *y);
-            push_small(line, *z);
-        }
+        } => push_part(line, b" define", &[*register, *system, *x, *y, *z]),
         Command::CarriageReturn => push_all(line, b" return"),
         Command::NextLine => push_all(line, b" newline"),
     }
@@ -115,9 +115,7 @@ pub fn event_line(placed: &Placed) -> Line
         Event::Start { eight, parameters } => {
             push_all(&mut line, b" start");
             push_kind(&mut line, *eight);
-            for parameter in parameters.as_slice() {
-                push_small(&mut line, *parameter);
-            }
+            push_numbers(&mut line, parameters.as_slice());
         }
         Event::Step(command) => push_command(&mut line, command),
         Event::Finish { eight } => {

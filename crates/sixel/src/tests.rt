@@ -76,10 +76,10 @@ fn ends_by_what_came_of_the_task(rt: HostRuntime) -> Result<(), Fail> {
 }
 
 /// How the program ends where the words give no task, and what it writes to standard output and to standard error.
-fn explains(rt: &HostRuntime, fault: WordsFault, exit: Exit, written: &str, said: &str) -> bool {
-    let mut output = Vec::new(rt.alloc());
-    let mut errors = Vec::new(rt.alloc());
-    let ended = explain(rt.alloc(), fault, &mut output, &mut errors);
+fn explains(alloc: Global, fault: WordsFault, exit: Exit, written: &str, said: &str) -> bool {
+    let mut output = Vec::new(alloc);
+    let mut errors = Vec::new(alloc);
+    let ended = explain(alloc, fault, &mut output, &mut errors);
     ended == exit && output.as_slice() == written.as_bytes() && errors.as_slice() == said.as_bytes()
 }
 
@@ -107,13 +107,13 @@ fn ends_by_what_is_wrong_with_the_words(rt: HostRuntime) -> Result<(), Fail> {
     }
     match parse_words(alloc, words.as_slice()) {
         Ok(_) => assert!(rt; false),
-        Err(fault) => assert!(rt; explains(&rt, fault, Exit::Done, HELP, "")),
+        Err(fault) => assert!(rt; explains(alloc, fault, Exit::Done, HELP, "")),
     }
     let fault = usage(alloc, "not text");
-    assert!(rt; explains(&rt, fault, Exit::Usage, "", USAGE));
+    assert!(rt; explains(alloc, fault, Exit::Usage, "", USAGE));
     assert!(rt;
         explains(
-            &rt,
+            alloc,
             WordsFault::OutOfMemory,
             Exit::Refused,
             "",

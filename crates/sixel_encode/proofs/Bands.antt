@@ -27,15 +27,15 @@ use Rattle.sixel_encode.proofs.Pixels.{is_here, owns, lies_owns}
 
 -- ---- events that keep the rules, and what stands after them
 
-pub record Passed (registers : ℕ) (p : PictureValue) (before events : List Event) (line : ℕ)
+pub record Passed (registers : ℕ) (p : PictureValue) (before events : List Event) (band : ℕ)
     (done : ℕ → ℕ → Bool) : Type 0 where
   pub keeps : KeepEach registers before events
-  pub stands : Stands p (before ++ events) line done
+  pub stands : Stands p (before ++ events) band done
 
-pub passed_none : (registers : ℕ) (p : PictureValue) (before : List Event) (line : ℕ) (done : ℕ → ℕ → Bool)
-    → Stands p before line done → Passed registers p before [] line done
+pub passed_none : (registers : ℕ) (p : PictureValue) (before : List Event) (band : ℕ) (done : ℕ → ℕ → Bool)
+    → Stands p before band done → Passed registers p before [] band done
 unfolding KeepEach
-passed_none registers p before line done s = record { keeps = tt; stands = rw append-nil s }
+passed_none registers p before band done s = record { keeps = tt; stands = rw append-nil s }
 
 pub passed_join : (registers : ℕ) (p : PictureValue) (before xs ys : List Event) (l1 l2 : ℕ) (d1 d2 : ℕ → ℕ → Bool)
     → Passed registers p before xs l1 d1 → Passed registers p (before ++ xs) ys l2 d2 →
@@ -56,41 +56,41 @@ passed_same registers p before events l1 l2 done also s e h = record {
 
 -- ---- events that paint nothing
 
-pub quiet_keeps : (registers : ℕ) (p : PictureValue) (before : List Event) (line : ℕ) (done : ℕ → ℕ → Bool) (e : Event)
-    → Stands p before line done → bits_of e ≡ 0 → raster_of e ≡ None → is_finish e ≡ false
+pub quiet_keeps : (registers : ℕ) (p : PictureValue) (before : List Event) (band : ℕ) (done : ℕ → ℕ → Bool) (e : Event)
+    → Stands p before band done → bits_of e ≡ 0 → raster_of e ≡ None → is_finish e ≡ false
     → breaks_register registers e ≡ false → definition_where (λ r. true) e ≡ None → is_repeat_of_zero e ≡ false
     → breaks_redefined before e ≡ false → Keeps registers before e
 unfolding breaks_colour_value breaks_repeat_zero breaks_unselected breaks_undefined
-quiet_keeps registers p before line done e s bits raster finish r5 define r7 r10 =
+quiet_keeps registers p before band done e s bits raster finish r5 define r7 r10 =
     keeps_in_box registers before e (box_of p) s.has_box raster finish r5 (rw define refl) r7 (rw bits refl)
     (rw bits refl) r10
     (λ x y h. (let n : falls before e x y ≡ false = falls_quiet before e x y bits in cc (n, h)))
 
-pub select_keeps : (registers : ℕ) (p : PictureValue) (before : List Event) (line r : ℕ) (done : ℕ → ℕ → Bool)
-    → Stands p before line done → r < registers → Keeps registers before (Step (Select r))
+pub select_keeps : (registers : ℕ) (p : PictureValue) (before : List Event) (band r : ℕ) (done : ℕ → ℕ → Bool)
+    → Stands p before band done → r < registers → Keeps registers before (Step (Select r))
 unfolding breaks_register breaks_redefined
-select_keeps registers p before line r done s l =
-    quiet_keeps registers p before line done (Step (Select r)) s refl refl refl (lt-leb registers r l) refl refl refl
+select_keeps registers p before band r done s l =
+    quiet_keeps registers p before band done (Step (Select r)) s refl refl refl (lt-leb registers r l) refl refl refl
 
-pub return_keeps : (registers : ℕ) (p : PictureValue) (before : List Event) (line : ℕ) (done : ℕ → ℕ → Bool)
-    → Stands p before line done → Keeps registers before (Step CarriageReturn)
+pub return_keeps : (registers : ℕ) (p : PictureValue) (before : List Event) (band : ℕ) (done : ℕ → ℕ → Bool)
+    → Stands p before band done → Keeps registers before (Step CarriageReturn)
 unfolding breaks_register breaks_redefined
-return_keeps registers p before line done s =
-    quiet_keeps registers p before line done (Step CarriageReturn) s refl refl refl refl refl refl refl
+return_keeps registers p before band done s =
+    quiet_keeps registers p before band done (Step CarriageReturn) s refl refl refl refl refl refl refl
 
-pub next_keeps : (registers : ℕ) (p : PictureValue) (before : List Event) (line : ℕ) (done : ℕ → ℕ → Bool)
-    → Stands p before line done → Keeps registers before (Step NextLine)
+pub next_keeps : (registers : ℕ) (p : PictureValue) (before : List Event) (band : ℕ) (done : ℕ → ℕ → Bool)
+    → Stands p before band done → Keeps registers before (Step NextLine)
 unfolding breaks_register breaks_redefined
-next_keeps registers p before line done s =
-    quiet_keeps registers p before line done (Step NextLine) s refl refl refl refl refl refl refl
+next_keeps registers p before band done s =
+    quiet_keeps registers p before band done (Step NextLine) s refl refl refl refl refl refl refl
 
 -- ---- a register
 
-pub own_pixel : (p : PictureValue) (line r x y : ℕ) → owns p line r x y ≡ true → IsOwn p r x y
-own_pixel p line r x y h =
-    let a = and_parts (nat_lt x p.width) (is_here p line r x y) h in
-    let b = and_parts (nat_lt y p.height) ((y / 6 == line) && (register_of p x y == r)) a.1 in
-    let c = and_parts (y / 6 == line) (register_of p x y == r) b.1 in
+pub own_pixel : (p : PictureValue) (band r x y : ℕ) → owns p band r x y ≡ true → IsOwn p r x y
+own_pixel p band r x y h =
+    let a = and_parts (nat_lt x p.width) (is_here p band r x y) h in
+    let b = and_parts (nat_lt y p.height) ((y / 6 == band) && (register_of p x y == r)) a.1 in
+    let c = and_parts (y / 6 == band) (register_of p x y == r) b.1 in
     record {
       inside_x = ltb-true x p.width a.0;
       inside_y = ltb-true y p.height b.0;
@@ -99,87 +99,87 @@ own_pixel p line r x y h =
     }
 
 -- from the left margin, a register's commands paint its pixels of the band
-pub register_passed : (registers : ℕ) (p : PictureValue) (before : List Event) (line r : ℕ) (done : ℕ → ℕ → Bool)
-    → Stands p before line done → column 0 before ≡ 0 → IsUsed registers p r →
-    Passed registers p before (map Step (register_commands p line r)) line (λ x y. owns p line r x y || done x y)
+pub register_passed : (registers : ℕ) (p : PictureValue) (before : List Event) (band r : ℕ) (done : ℕ → ℕ → Bool)
+    → Stands p before band done → column 0 before ≡ 0 → IsUsed registers p r →
+    Passed registers p before (map Step (register_commands p band r)) band (λ x y. owns p band r x y || done x y)
 unfolding register_commands
-register_passed registers p before line r done s margin used =
-    let joined = runs_joined (band_columns p line r) in
-    let stands : Stands p (before ++ Step (Select r) ∷ []) line done = stands_quiet p before
-    (Step (Select r)) line line done s refl refl (λ q. refl) (omega arith) in
-    let draws : Draws p (before ++ Step (Select r) ∷ []) line 0 r done =
+register_passed registers p before band r done s margin used =
+    let joined = runs_joined (band_columns p band r) in
+    let stands : Stands p (before ++ Step (Select r) ∷ []) band done = stands_quiet p before
+    (Step (Select r)) band band done s refl refl (λ q. refl) (omega arith) in
+    let draws : Draws p (before ++ Step (Select r) ∷ []) band 0 r done =
     record {
       stands = stands;
       at_column = column_push 0 before (Step (Select r))
           ∙ rw margin refl;
       knows = known_select before r;
     } in
-    let own : AreOwn p line 0 (band_columns p line r) r =
-    (λ x y h. own_pixel p line r x y (sym (lies_owns p line r x y) ∙ h)) in
-    let drawn = runs_drawn (runs (band_columns p line r)) registers p
-    (before ++ Step (Select r) ∷ []) line 0 r done draws used.coloured
-    (subst (λ bs. AreOwn p line 0 bs r) (sym joined) own) in
+    let own : AreOwn p band 0 (band_columns p band r) r =
+    (λ x y h. own_pixel p band r x y (sym (lies_owns p band r x y) ∙ h)) in
+    let drawn = runs_drawn (runs (band_columns p band r)) registers p
+    (before ++ Step (Select r) ∷ []) band 0 r done draws used.coloured
+    (subst (λ bs. AreOwn p band 0 bs r) (sym joined) own) in
     passed_join registers p before (Step (Select r) ∷ [])
-    (map Step (flat_map run_commands (runs (band_columns p line r)))) line line done _
+    (map Step (flat_map run_commands (runs (band_columns p band r)))) band band done _
     (record {
       keeps = keep_one registers before (Step (Select r))
-          (select_keeps registers p before line r done s used.under);
+          (select_keeps registers p before band r done s used.under);
       stands = stands;
     })
     (record {
       keeps = drawn.keeps;
-      stands = stands_same p _ line _ _ drawn.draws.stands
-          (λ x y. ap (λ o. o || done x y) (ap (λ bs. lies 0 line bs x y) joined ∙ lies_owns p line r x y));
+      stands = stands_same p _ band _ _ drawn.draws.stands
+          (λ x y. ap (λ o. o || done x y) (ap (λ bs. lies 0 band bs x y) joined ∙ lies_owns p band r x y));
     })
 
 -- ---- the registers of a band
 
-other_passed : (registers : ℕ) (p : PictureValue) (before : List Event) (line r : ℕ) (done : ℕ → ℕ → Bool)
-    → Stands p before line done → IsUsed registers p r →
-    Passed registers p before (Step CarriageReturn ∷ map Step (register_commands p line r)) line
-    (λ x y. owns p line r x y || done x y)
-other_passed registers p before line r done s used =
-    let stands : Stands p (before ++ Step CarriageReturn ∷ []) line done = stands_quiet p before
-    (Step CarriageReturn) line line done s refl refl (λ q. refl) (omega arith) in
-    passed_join registers p before (Step CarriageReturn ∷ []) (map Step (register_commands p line r)) line line done _
+other_passed : (registers : ℕ) (p : PictureValue) (before : List Event) (band r : ℕ) (done : ℕ → ℕ → Bool)
+    → Stands p before band done → IsUsed registers p r →
+    Passed registers p before (Step CarriageReturn ∷ map Step (register_commands p band r)) band
+    (λ x y. owns p band r x y || done x y)
+other_passed registers p before band r done s used =
+    let stands : Stands p (before ++ Step CarriageReturn ∷ []) band done = stands_quiet p before
+    (Step CarriageReturn) band band done s refl refl (λ q. refl) (omega arith) in
+    passed_join registers p before (Step CarriageReturn ∷ []) (map Step (register_commands p band r)) band band done _
     (record {
       keeps = keep_one registers before (Step CarriageReturn)
-          (return_keeps registers p before line done s);
+          (return_keeps registers p before band done s);
       stands = stands;
     })
-    (register_passed registers p (before ++ Step CarriageReturn ∷ []) line r done stands
+    (register_passed registers p (before ++ Step CarriageReturn ∷ []) band r done stands
     (column_push 0 before (Step CarriageReturn)) used)
 
-others_passed : (rs : List ℕ) (registers : ℕ) (p : PictureValue) (before : List Event) (line : ℕ)
-    (done : ℕ → ℕ → Bool) → Stands p before line done → AllByRecursion (IsUsed registers p) rs →
-    Passed registers p before (map Step (flat_map (λ r. CarriageReturn ∷ register_commands p line r) rs)) line
-    (λ x y. list_any (λ r. owns p line r x y) rs || done x y)
-others_passed [] registers p before line done s used = passed_none registers p before line done s
-others_passed (r ∷ rs) registers p before line done s used =
-    let one = other_passed registers p before line r done s used.0 in
-    let rest = others_passed rs registers p (before ++ (Step CarriageReturn ∷ map Step (register_commands p line r)))
-    line (λ x y. owns p line r x y || done x y) one.stands used.1 in
-    rw (map-append Step (register_commands p line r) (flat_map (λ r. CarriageReturn ∷ register_commands p line r) rs))
-    (passed_same registers p before ((Step CarriageReturn ∷ map Step (register_commands p line r))
-    ++ map Step (flat_map (λ r. CarriageReturn ∷ register_commands p line r) rs)) line line
-    (λ x y. list_any (λ r. owns p line r x y) rs || (owns p line r x y || done x y)) _
-    (passed_join registers p before (Step CarriageReturn ∷ map Step (register_commands p line r))
-    (map Step (flat_map (λ r. CarriageReturn ∷ register_commands p line r) rs)) line line _ _ one rest)
-    refl (λ x y. or_turn (list_any (λ r. owns p line r x y) rs) (owns p line r x y) (done x y)))
+others_passed : (rs : List ℕ) (registers : ℕ) (p : PictureValue) (before : List Event) (band : ℕ)
+    (done : ℕ → ℕ → Bool) → Stands p before band done → AllByRecursion (IsUsed registers p) rs →
+    Passed registers p before (map Step (flat_map (λ r. CarriageReturn ∷ register_commands p band r) rs)) band
+    (λ x y. list_any (λ r. owns p band r x y) rs || done x y)
+others_passed [] registers p before band done s used = passed_none registers p before band done s
+others_passed (r ∷ rs) registers p before band done s used =
+    let one = other_passed registers p before band r done s used.0 in
+    let rest = others_passed rs registers p (before ++ (Step CarriageReturn ∷ map Step (register_commands p band r)))
+    band (λ x y. owns p band r x y || done x y) one.stands used.1 in
+    rw (map-append Step (register_commands p band r) (flat_map (λ r. CarriageReturn ∷ register_commands p band r) rs))
+    (passed_same registers p before ((Step CarriageReturn ∷ map Step (register_commands p band r))
+    ++ map Step (flat_map (λ r. CarriageReturn ∷ register_commands p band r) rs)) band band
+    (λ x y. list_any (λ r. owns p band r x y) rs || (owns p band r x y || done x y)) _
+    (passed_join registers p before (Step CarriageReturn ∷ map Step (register_commands p band r))
+    (map Step (flat_map (λ r. CarriageReturn ∷ register_commands p band r) rs)) band band _ _ one rest)
+    refl (λ x y. or_turn (list_any (λ r. owns p band r x y) rs) (owns p band r x y) (done x y)))
 
-pub registers_passed : (rs : List ℕ) (registers : ℕ) (p : PictureValue) (before : List Event) (line : ℕ)
-    (done : ℕ → ℕ → Bool) → Stands p before line done → column 0 before ≡ 0 → AllByRecursion (IsUsed registers p) rs →
-    Passed registers p before (map Step (join_by (register_commands p line) (CarriageReturn ∷ []) rs)) line
-    (λ x y. list_any (λ r. owns p line r x y) rs || done x y)
-registers_passed [] registers p before line done s margin used = passed_none registers p before line done s
-registers_passed (r ∷ rs) registers p before line done s margin used =
-    let one = register_passed registers p before line r done s margin used.0 in
-    let rest = others_passed rs registers p (before ++ map Step (register_commands p line r)) line
-    (λ x y. owns p line r x y || done x y) one.stands used.1 in
-    rw (map-append Step (register_commands p line r) (flat_map (λ r. CarriageReturn ∷ register_commands p line r) rs))
-    (passed_same registers p before (map Step (register_commands p line r)
-    ++ map Step (flat_map (λ r. CarriageReturn ∷ register_commands p line r) rs)) line line
-    (λ x y. list_any (λ r. owns p line r x y) rs || (owns p line r x y || done x y)) _
-    (passed_join registers p before (map Step (register_commands p line r))
-    (map Step (flat_map (λ r. CarriageReturn ∷ register_commands p line r) rs)) line line _ _ one rest)
-    refl (λ x y. or_turn (list_any (λ r. owns p line r x y) rs) (owns p line r x y) (done x y)))
+pub registers_passed : (rs : List ℕ) (registers : ℕ) (p : PictureValue) (before : List Event) (band : ℕ)
+    (done : ℕ → ℕ → Bool) → Stands p before band done → column 0 before ≡ 0 → AllByRecursion (IsUsed registers p) rs →
+    Passed registers p before (map Step (join_by (register_commands p band) (CarriageReturn ∷ []) rs)) band
+    (λ x y. list_any (λ r. owns p band r x y) rs || done x y)
+registers_passed [] registers p before band done s margin used = passed_none registers p before band done s
+registers_passed (r ∷ rs) registers p before band done s margin used =
+    let one = register_passed registers p before band r done s margin used.0 in
+    let rest = others_passed rs registers p (before ++ map Step (register_commands p band r)) band
+    (λ x y. owns p band r x y || done x y) one.stands used.1 in
+    rw (map-append Step (register_commands p band r) (flat_map (λ r. CarriageReturn ∷ register_commands p band r) rs))
+    (passed_same registers p before (map Step (register_commands p band r)
+    ++ map Step (flat_map (λ r. CarriageReturn ∷ register_commands p band r) rs)) band band
+    (λ x y. list_any (λ r. owns p band r x y) rs || (owns p band r x y || done x y)) _
+    (passed_join registers p before (map Step (register_commands p band r))
+    (map Step (flat_map (λ r. CarriageReturn ∷ register_commands p band r) rs)) band band _ _ one rest)
+    refl (λ x y. or_turn (list_any (λ r. owns p band r x y) rs) (owns p band r x y) (done x y)))

@@ -1,7 +1,7 @@
 -- The bits of a column, and the mask of a band's registers.
 use Rattle.std.proofs.Common.{◌≡◌, ℕ, zero, suc, List, [], ◌∷◌, map, ◌+◌, ◌*◌, ◌%◌, ◌^◌, ◌<◌, ◌≤◌, Bool, true, false}
 use Rattle.std.proofs.Common.{not, ◌&&◌, ◌||◌, cond, refl, sym, ap, ◌∙◌}
-use Rattle.std.proofs.Common.{add-one, arith, lit≤}
+use Rattle.std.proofs.Common.{add-one, arith}
 use Rattle.std.specs.Prelude.{◌==◌, nat_le, bit_or, sum_by, if◌then◌else◌}
 use Rattle.std.specs.Int.{bit_at, w16}
 use Rattle.std.specs.List.{list_any}
@@ -55,29 +55,29 @@ from_same false false h = refl
 
 -- ---- a column
 
-pub bits_are : (p : PictureValue) (line register x : ℕ) → column_bits p line register x
-    ≡ six (has_pixel p line register x 0) (has_pixel p line register x 1) (has_pixel p line register x 2)
-    (has_pixel p line register x 3) (has_pixel p line register x 4) (has_pixel p line register x 5)
+pub bits_are : (p : PictureValue) (band register x : ℕ) → column_bits p band register x
+    ≡ six (has_pixel p band register x 0) (has_pixel p band register x 1) (has_pixel p band register x 2)
+    (has_pixel p band register x 3) (has_pixel p band register x 4) (has_pixel p band register x 5)
 unfolding column_bits
-bits_are p line register x = refl
+bits_are p band register x = refl
 
 -- a column's bits are at most 63
-pub column_most : (p : PictureValue) (line register x : ℕ) → column_bits p line register x ≤ 63
-column_most p line register x =
-    rw (bits_are p line register x)
+pub column_most : (p : PictureValue) (band register x : ℕ) → column_bits p band register x ≤ 63
+column_most p band register x =
+    rw (bits_are p band register x)
     (leb-true _ 63 (each_six_at (λ a b c d e f. nat_le (six a b c d e f) 63) refl
-    (has_pixel p line register x 0) (has_pixel p line register x 1) (has_pixel p line register x 2)
-    (has_pixel p line register x 3) (has_pixel p line register x 4) (has_pixel p line register x 5)))
+    (has_pixel p band register x 0) (has_pixel p band register x 1) (has_pixel p band register x 2)
+    (has_pixel p band register x 3) (has_pixel p band register x 4) (has_pixel p band register x 5)))
 
 -- a column has a bit where one of its pixels is of the register
-pub column_has : (p : PictureValue) (line register x : ℕ)
-    → list_any (has_pixel p line register x) (below 6) ≡ not (column_bits p line register x == 0)
-column_has p line register x =
-    rw (bits_are p line register x)
+pub column_has : (p : PictureValue) (band register x : ℕ)
+    → list_any (has_pixel p band register x) (below 6) ≡ not (column_bits p band register x == 0)
+column_has p band register x =
+    rw (bits_are p band register x)
     (sym (from_same _ _ (each_six_at (λ a b c d e f.
     same (a || (b || (c || (d || (e || (f || false)))))) (not (six a b c d e f == 0))) refl
-    (has_pixel p line register x 0) (has_pixel p line register x 1) (has_pixel p line register x 2)
-    (has_pixel p line register x 3) (has_pixel p line register x 4) (has_pixel p line register x 5))))
+    (has_pixel p band register x 0) (has_pixel p band register x 1) (has_pixel p band register x 2)
+    (has_pixel p band register x 3) (has_pixel p band register x 4) (has_pixel p band register x 5))))
 
 -- the bit of a row, in a byte
 pub weight_is : (k : ℕ) → k < 6 → 1 * 2 ^ k % 256 ≡ 2 ^ k
@@ -89,48 +89,39 @@ weight_is (suc (suc (suc (suc zero)))) h = refl
 weight_is (suc (suc (suc (suc (suc zero))))) h = refl
 weight_is (suc (suc (suc (suc (suc (suc k)))))) h = absurd (omega arith)
 
-pub weight_most : (k : ℕ) → k < 6 → 2 ^ k ≤ 32
-weight_most zero h = lit≤ tt
-weight_most (suc zero) h = lit≤ tt
-weight_most (suc (suc zero)) h = lit≤ tt
-weight_most (suc (suc (suc zero))) h = lit≤ tt
-weight_most (suc (suc (suc (suc zero)))) h = lit≤ tt
-weight_most (suc (suc (suc (suc (suc zero))))) h = lit≤ tt
-weight_most (suc (suc (suc (suc (suc (suc k)))))) h = absurd (omega arith)
-
 -- the bits of a register in the first rows of a column
 abbrev pub bits_above : PictureValue → ℕ → ℕ → ℕ → ℕ → ℕ
-bits_above p line register x row = sum_by (λ k. if has_pixel p line register x k then 2 ^ k else 0) (below row)
+bits_above p band register x row = sum_by (λ k. if has_pixel p band register x k then 2 ^ k else 0) (below row)
 
-above_then : (p : PictureValue) (line register x row : ℕ) → bits_above p line register x (row + 1)
-    ≡ bits_above p line register x row + (if has_pixel p line register x row then 2 ^ row else 0)
-above_then p line register x row =
-    ap (sum_by (λ k. if has_pixel p line register x k then 2 ^ k else 0)) (below_then row)
-    ∙ sum_by_push (λ k. if has_pixel p line register x k then 2 ^ k else 0) (below row) row
+above_then : (p : PictureValue) (band register x row : ℕ) → bits_above p band register x (row + 1)
+    ≡ bits_above p band register x row + (if has_pixel p band register x row then 2 ^ row else 0)
+above_then p band register x row =
+    ap (sum_by (λ k. if has_pixel p band register x k then 2 ^ k else 0)) (below_then row)
+    ∙ sum_by_push (λ k. if has_pixel p band register x k then 2 ^ k else 0) (below row) row
 
 twice : (row : ℕ) → 2 ^ (row + 1) ≡ 2 ^ row + 2 ^ row
 twice row = rw add-one (two-pow-succ row)
 
 -- a row with a pixel of the register adds its bit
-pub row_added : (p : PictureValue) (line register x row bits : ℕ) → row < 6 → has_pixel p line register x row ≡ true
-    → bits ≡ bits_above p line register x row → bits < 2 ^ row
-    → (bits + 1 * 2 ^ row % 256 ≡ bits_above p line register x (row + 1)) × (bits + 1 * 2 ^ row % 256 < 2 ^ (row + 1))
-row_added p line register x row bits small here is less =
+pub row_added : (p : PictureValue) (band register x row bits : ℕ) → row < 6 → has_pixel p band register x row ≡ true
+    → bits ≡ bits_above p band register x row → bits < 2 ^ row
+    → (bits + 1 * 2 ^ row % 256 ≡ bits_above p band register x (row + 1)) × (bits + 1 * 2 ^ row % 256 < 2 ^ (row + 1))
+row_added p band register x row bits small here is less =
     let weight : 1 * 2 ^ row % 256 ≡ 2 ^ row = weight_is row small in
-    let longer : bits_above p line register x (row + 1) ≡ bits_above p line register x row + 2 ^ row =
-    above_then p line register x row
-    ∙ ap (λ (t : Bool). bits_above p line register x row + (if t then 2 ^ row else 0)) here in
+    let longer : bits_above p band register x (row + 1) ≡ bits_above p band register x row + 2 ^ row =
+    above_then p band register x row
+    ∙ ap (λ (t : Bool). bits_above p band register x row + (if t then 2 ^ row else 0)) here in
     let double : 2 ^ (row + 1) ≡ 2 ^ row + 2 ^ row = twice row in
     (omega arith, omega arith)
 
 -- any other row adds none
-pub row_passed : (p : PictureValue) (line register x row bits : ℕ) → has_pixel p line register x row ≡ false
-    → bits ≡ bits_above p line register x row → bits < 2 ^ row
-    → (bits ≡ bits_above p line register x (row + 1)) × (bits < 2 ^ (row + 1))
-row_passed p line register x row bits gone is less =
-    let longer : bits_above p line register x (row + 1) ≡ bits_above p line register x row + 0 =
-    above_then p line register x row
-    ∙ ap (λ (t : Bool). bits_above p line register x row + (if t then 2 ^ row else 0)) gone in
+pub row_passed : (p : PictureValue) (band register x row bits : ℕ) → has_pixel p band register x row ≡ false
+    → bits ≡ bits_above p band register x row → bits < 2 ^ row
+    → (bits ≡ bits_above p band register x (row + 1)) × (bits < 2 ^ (row + 1))
+row_passed p band register x row bits gone is less =
+    let longer : bits_above p band register x (row + 1) ≡ bits_above p band register x row + 0 =
+    above_then p band register x row
+    ∙ ap (λ (t : Bool). bits_above p band register x row + (if t then 2 ^ row else 0)) gone in
     let double : 2 ^ (row + 1) ≡ 2 ^ row + 2 ^ row = twice row in
     (omega arith, omega arith)
 

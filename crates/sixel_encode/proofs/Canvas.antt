@@ -25,66 +25,66 @@ use Rattle.sixel_encode.proofs.Ranges.{any_filter, any_range}
 
 -- the point is a pixel of the band
 abbrev pub is_in_band : PictureValue → ℕ → ℕ → ℕ → Bool
-is_in_band p line x y = nat_lt x p.width && (nat_lt y p.height && (y / 6 == line))
+is_in_band p band x y = nat_lt x p.width && (nat_lt y p.height && (y / 6 == band))
 
-owns_in_band : (p : PictureValue) (line r x y : ℕ) → owns p line r x y ≡ true → is_in_band p line x y ≡ true
-owns_in_band p line r x y h =
-    let a = and_parts (nat_lt x p.width) (is_here p line r x y) h in
-    let b = and_parts (nat_lt y p.height) ((y / 6 == line) && (register_of p x y == r)) a.1 in
-    let c = and_parts (y / 6 == line) (register_of p x y == r) b.1 in
+owns_in_band : (p : PictureValue) (band r x y : ℕ) → owns p band r x y ≡ true → is_in_band p band x y ≡ true
+owns_in_band p band r x y h =
+    let a = and_parts (nat_lt x p.width) (is_here p band r x y) h in
+    let b = and_parts (nat_lt y p.height) ((y / 6 == band) && (register_of p x y == r)) a.1 in
+    let c = and_parts (y / 6 == band) (register_of p x y == r) b.1 in
     and_from _ _ a.0 (and_from _ _ b.0 c.0)
 
-forth_step : (p : PictureValue) (line r x y : ℕ) (t rest : Bool) → owns p line r x y ≡ t
-    → (rest ≡ true → is_in_band p line x y ≡ true) → (t || rest) ≡ true → is_in_band p line x y ≡ true
-forth_step p line r x y true rest e k h = owns_in_band p line r x y e
-forth_step p line r x y false rest e k h = k h
+forth_step : (p : PictureValue) (band r x y : ℕ) (t rest : Bool) → owns p band r x y ≡ t
+    → (rest ≡ true → is_in_band p band x y ≡ true) → (t || rest) ≡ true → is_in_band p band x y ≡ true
+forth_step p band r x y true rest e k h = owns_in_band p band r x y e
+forth_step p band r x y false rest e k h = k h
 
-any_owns_forth : (p : PictureValue) (line x y : ℕ) (rs : List ℕ) → list_any (λ r. owns p line r x y) rs ≡ true
-    → is_in_band p line x y ≡ true
-any_owns_forth p line x y [] h = cc h
-any_owns_forth p line x y (r ∷ rs) h = forth_step p line r x y (owns p line r x y)
-    (list_any (λ r. owns p line r x y) rs) refl (any_owns_forth p line x y rs) h
+any_owns_forth : (p : PictureValue) (band x y : ℕ) (rs : List ℕ) → list_any (λ r. owns p band r x y) rs ≡ true
+    → is_in_band p band x y ≡ true
+any_owns_forth p band x y [] h = cc h
+any_owns_forth p band x y (r ∷ rs) h = forth_step p band r x y (owns p band r x y)
+    (list_any (λ r. owns p band r x y) rs) refl (any_owns_forth p band x y rs) h
 
 -- a pixel's own register occurs in its band
-own_occurs : (p : PictureValue) (line r x y : ℕ) → x < p.width → is_here p line r x y ≡ true → occurs p line r ≡ true
-own_occurs p line r x y l here =
-    occurs_is p line r
-    ∙ any_range p.width 0 x (λ u. not (column_bits p line r u == 0)) (omega arith) (omega arith)
-    (not_from_false _ (false_from_ne_true (column_bits p line r x == 0)
-    (λ z. (let e : column_bits p line r x ≡ 0 = eqb-true (column_bits p line r x) 0 z in
-    let t : has_row (column_bits p line r x) line y ≡ true = row_is p line r x y ∙ here in
-    let n : has_row 0 line y ≡ true = rw e at t in
-    let m : has_row 0 line y ≡ false = has_row_blank line y in cc (n, m)))))
+own_occurs : (p : PictureValue) (band r x y : ℕ) → x < p.width → is_here p band r x y ≡ true → occurs p band r ≡ true
+own_occurs p band r x y l here =
+    occurs_is p band r
+    ∙ any_range p.width 0 x (λ u. not (column_bits p band r u == 0)) (omega arith) (omega arith)
+    (not_from_false _ (false_from_ne_true (column_bits p band r x == 0)
+    (λ z. (let e : column_bits p band r x ≡ 0 = eqb-true (column_bits p band r x) 0 z in
+    let t : has_row (column_bits p band r x) band y ≡ true = row_is p band r x y ∙ here in
+    let n : has_row 0 band y ≡ true = rw e at t in
+    let m : has_row 0 band y ≡ false = has_row_blank band y in cc (n, m)))))
 
-pub any_owns_back : (registers : ℕ) (p : PictureValue) (line x y : ℕ) → Parted registers p
-    → is_in_band p line x y ≡ true → list_any (λ r. owns p line r x y) (band_registers p line) ≡ true
+pub any_owns_back : (registers : ℕ) (p : PictureValue) (band x y : ℕ) → Parted registers p
+    → is_in_band p band x y ≡ true → list_any (λ r. owns p band r x y) (band_registers p band) ≡ true
 unfolding band_registers
-any_owns_back registers p line x y f h =
-    let a = and_parts (nat_lt x p.width) (nat_lt y p.height && (y / 6 == line)) h in
-    let b = and_parts (nat_lt y p.height) (y / 6 == line) a.1 in
+any_owns_back registers p band x y f h =
+    let a = and_parts (nat_lt x p.width) (nat_lt y p.height && (y / 6 == band)) h in
+    let b = and_parts (nat_lt y p.height) (y / 6 == band) a.1 in
     let l : x < p.width = ltb-true x p.width a.0 in
     let m : y < p.height = ltb-true y p.height b.0 in
-    let here : is_here p line (register_of p x y) x y
+    let here : is_here p band (register_of p x y) x y
     ≡ true = and_from _ _ b.0 (and_from _ _ b.1 (eq-eqb (register_of p x y) (register_of p x y) refl)) in
     let u : register_of p x y < registers = (pixel_used registers p f x y l m).under in
     let entries : length p.palette ≡ registers = f.entries in
-    any_filter (occurs p line) (λ r. owns p line r x y) (below (length p.palette))
-    ∙ any_range (length p.palette) 0 (register_of p x y) (λ r. occurs p line r && owns p line r x y) (omega arith)
+    any_filter (occurs p band) (λ r. owns p band r x y) (below (length p.palette))
+    ∙ any_range (length p.palette) 0 (register_of p x y) (λ r. occurs p band r && owns p band r x y) (omega arith)
     (omega arith)
-    (and_from _ _ (own_occurs p line (register_of p x y) x y l here) (and_from _ _ a.0 here))
+    (and_from _ _ (own_occurs p band (register_of p x y) x y l here) (and_from _ _ a.0 here))
 
 -- ---- a band
 
-pub band_passed : (registers : ℕ) (p : PictureValue) (before : List Event) (line : ℕ) (done : ℕ → ℕ → Bool)
-    → Parted registers p → Stands p before line done → column 0 before ≡ 0 →
-    Passed registers p before (map Step (band_commands p line)) line (λ x y. is_in_band p line x y || done x y)
+pub band_passed : (registers : ℕ) (p : PictureValue) (before : List Event) (band : ℕ) (done : ℕ → ℕ → Bool)
+    → Parted registers p → Stands p before band done → column 0 before ≡ 0 →
+    Passed registers p before (map Step (band_commands p band)) band (λ x y. is_in_band p band x y || done x y)
 unfolding band_commands
-band_passed registers p before line done f s margin =
-    passed_same registers p before (map Step (join_by (register_commands p line) (CarriageReturn ∷ [])
-    (band_registers p line))) line line (λ x y. list_any (λ r. owns p line r x y) (band_registers p line) || done x y) _
-    (registers_passed (band_registers p line) registers p before line done s margin (band_used registers p line f))
+band_passed registers p before band done f s margin =
+    passed_same registers p before (map Step (join_by (register_commands p band) (CarriageReturn ∷ [])
+    (band_registers p band))) band band (λ x y. list_any (λ r. owns p band r x y) (band_registers p band) || done x y) _
+    (registers_passed (band_registers p band) registers p before band done s margin (band_used registers p band f))
     refl (λ x y. ap (λ o. o || done x y)
-    (same_tests _ _ (any_owns_forth p line x y (band_registers p line)) (any_owns_back registers p line x y f)))
+    (same_tests _ _ (any_owns_forth p band x y (band_registers p band)) (any_owns_back registers p band x y f)))
 
 -- ---- the bands
 
@@ -92,58 +92,58 @@ band_passed registers p before line done f s margin =
 abbrev pub is_above : PictureValue → ℕ → ℕ → ℕ → Bool
 is_above p count x y = nat_lt x p.width && (nat_lt y p.height && nat_lt (y / 6) count)
 
-above_more : (p : PictureValue) (line x y : ℕ)
-    → (is_in_band p line x y || is_above p line x y) ≡ is_above p (line + 1) x y
-above_more p line x y = step (nat_lt x p.width) (nat_lt y p.height) (y / 6)
+above_more : (p : PictureValue) (band x y : ℕ)
+    → (is_in_band p band x y || is_above p band x y) ≡ is_above p (band + 1) x y
+above_more p band x y = step (nat_lt x p.width) (nat_lt y p.height) (y / 6)
   where
     step : (a b : Bool) (q : ℕ)
-        → ((a && (b && (q == line))) || (a && (b && nat_lt q line))) ≡ (a && (b && nat_lt q (line + 1)))
+        → ((a && (b && (q == band))) || (a && (b && nat_lt q band))) ≡ (a && (b && nat_lt q (band + 1)))
     step true true q = grind (arith, nat_tests)
     step true false q = refl
     step false b q = refl
 
-next_passed : (registers : ℕ) (p : PictureValue) (before : List Event) (line : ℕ) → Parted registers p
-    → Stands p before line (is_above p (line + 1)) →
-    Passed registers p before (Step NextLine ∷ map Step (band_commands p (line + 1))) (line + 1)
-    (is_above p (line + 1 + 1))
-next_passed registers p before line f s =
-    let stands : Stands p (before ++ Step NextLine ∷ []) (line + 1) (is_above p (line + 1)) = stands_quiet p before
-    (Step NextLine) line (line + 1) _ s refl refl (λ q. refl) (omega arith) in
-    passed_same registers p before (Step NextLine ∷ map Step (band_commands p (line + 1))) (line + 1) (line + 1)
-    (λ x y. is_in_band p (line + 1) x y || is_above p (line + 1) x y) _
-    (passed_join registers p before (Step NextLine ∷ []) (map Step (band_commands p (line + 1))) (line + 1)
-    (line + 1) _ _
+next_passed : (registers : ℕ) (p : PictureValue) (before : List Event) (band : ℕ) → Parted registers p
+    → Stands p before band (is_above p (band + 1)) →
+    Passed registers p before (Step NextLine ∷ map Step (band_commands p (band + 1))) (band + 1)
+    (is_above p (band + 1 + 1))
+next_passed registers p before band f s =
+    let stands : Stands p (before ++ Step NextLine ∷ []) (band + 1) (is_above p (band + 1)) = stands_quiet p before
+    (Step NextLine) band (band + 1) _ s refl refl (λ q. refl) (omega arith) in
+    passed_same registers p before (Step NextLine ∷ map Step (band_commands p (band + 1))) (band + 1) (band + 1)
+    (λ x y. is_in_band p (band + 1) x y || is_above p (band + 1) x y) _
+    (passed_join registers p before (Step NextLine ∷ []) (map Step (band_commands p (band + 1))) (band + 1)
+    (band + 1) _ _
     (record {
       keeps = keep_one registers before (Step NextLine)
-          (next_keeps registers p before line _ s);
+          (next_keeps registers p before band _ s);
       stands = stands;
     })
-    (band_passed registers p (before ++ Step NextLine ∷ []) (line + 1) (is_above p (line + 1)) f stands
+    (band_passed registers p (before ++ Step NextLine ∷ []) (band + 1) (is_above p (band + 1)) f stands
     (column_push 0 before (Step NextLine))))
-    refl (above_more p (line + 1))
+    refl (above_more p (band + 1))
 
-nexts_passed : (n : ℕ) (registers : ℕ) (p : PictureValue) (before : List Event) (line : ℕ) → Parted registers p
-    → Stands p before line (is_above p (line + 1)) →
-    Passed registers p before (map Step (flat_map (λ l. NextLine ∷ band_commands p l) (range_with_len (line + 1) n)))
-    (line + n) (is_above p (line + 1 + n))
-nexts_passed zero registers p before line f s =
-    passed_same registers p before [] line (line + 0) (is_above p (line + 1)) _
-    (passed_none registers p before line _ s) (omega arith)
-    (λ x y. ap (λ n. is_above p n x y) (let e : line + 1 ≡ line + 1 + 0 = omega arith in e))
-nexts_passed (suc n) registers p before line f s =
-    let one = next_passed registers p before line f s in
-    let rest = nexts_passed n registers p (before ++ (Step NextLine ∷ map Step (band_commands p (line + 1))))
-    (line + 1) f one.stands in
-    rw (map-append Step (band_commands p (line + 1))
-    (flat_map (λ l. NextLine ∷ band_commands p l) (range_with_len (line + 1 + 1) n)))
-    (passed_same registers p before ((Step NextLine ∷ map Step (band_commands p (line + 1)))
-    ++ map Step (flat_map (λ l. NextLine ∷ band_commands p l) (range_with_len (line + 1 + 1) n)))
-    (line + 1 + n) (line + suc n) (is_above p (line + 1 + 1 + n)) _
-    (passed_join registers p before (Step NextLine ∷ map Step (band_commands p (line + 1)))
-    (map Step (flat_map (λ l. NextLine ∷ band_commands p l) (range_with_len (line + 1 + 1) n)))
-    (line + 1) (line + 1 + n) _ _ one rest)
+nexts_passed : (n : ℕ) (registers : ℕ) (p : PictureValue) (before : List Event) (band : ℕ) → Parted registers p
+    → Stands p before band (is_above p (band + 1)) →
+    Passed registers p before (map Step (flat_map (λ l. NextLine ∷ band_commands p l) (range_with_len (band + 1) n)))
+    (band + n) (is_above p (band + 1 + n))
+nexts_passed zero registers p before band f s =
+    passed_same registers p before [] band (band + 0) (is_above p (band + 1)) _
+    (passed_none registers p before band _ s) (omega arith)
+    (λ x y. ap (λ n. is_above p n x y) (let e : band + 1 ≡ band + 1 + 0 = omega arith in e))
+nexts_passed (suc n) registers p before band f s =
+    let one = next_passed registers p before band f s in
+    let rest = nexts_passed n registers p (before ++ (Step NextLine ∷ map Step (band_commands p (band + 1))))
+    (band + 1) f one.stands in
+    rw (map-append Step (band_commands p (band + 1))
+    (flat_map (λ l. NextLine ∷ band_commands p l) (range_with_len (band + 1 + 1) n)))
+    (passed_same registers p before ((Step NextLine ∷ map Step (band_commands p (band + 1)))
+    ++ map Step (flat_map (λ l. NextLine ∷ band_commands p l) (range_with_len (band + 1 + 1) n)))
+    (band + 1 + n) (band + suc n) (is_above p (band + 1 + 1 + n)) _
+    (passed_join registers p before (Step NextLine ∷ map Step (band_commands p (band + 1)))
+    (map Step (flat_map (λ l. NextLine ∷ band_commands p l) (range_with_len (band + 1 + 1) n)))
+    (band + 1) (band + 1 + n) _ _ one rest)
     (omega arith) (λ x y. ap (λ n. is_above p n x y)
-    (let e : line + 1 + 1 + n ≡ line + 1 + suc n = omega arith in e)))
+    (let e : band + 1 + 1 + n ≡ band + 1 + suc n = omega arith in e)))
 
 above_none : (p : PictureValue) (x y : ℕ) → false ≡ is_above p 0 x y
 above_none p x y = step (nat_lt x p.width) (nat_lt y p.height)

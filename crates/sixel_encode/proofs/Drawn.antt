@@ -30,8 +30,8 @@ use Rattle.sixel_encode.proofs.Stands.{keeps_in_box}
 -- ---- one data command
 
 -- the same, inside a register's commands
-pub record Draws (p : PictureValue) (before : List Event) (line col r : ℕ) (done : ℕ → ℕ → Bool) : Type 0 where
-  pub stands : Stands p before line done
+pub record Draws (p : PictureValue) (before : List Event) (band col r : ℕ) (done : ℕ → ℕ → Bool) : Type 0 where
+  pub stands : Stands p before band done
   pub at_column : column 0 before ≡ col
   pub knows : known before ≡ Some r
 
@@ -92,11 +92,11 @@ repeat_data n b h = record {
   no_redefinition = λ before. refl;
 }
 
-falls_data : (p : PictureValue) (before : List Event) (line col r n b : ℕ) (done : ℕ → ℕ → Bool) (e : Event)
-    → Draws p before line col r done → IsData e n b → (x y : ℕ) →
-    falls before e x y ≡ covers col n line 1 b x y
+falls_data : (p : PictureValue) (before : List Event) (band col r n b : ℕ) (done : ℕ → ℕ → Bool) (e : Event)
+    → Draws p before band col r done → IsData e n b → (x y : ℕ) →
+    falls before e x y ≡ covers col n band 1 b x y
 unfolding falls touches
-falls_data p before line col r n b done e d is x y = rw (d.at_column, is.columns, d.stands.at_line, is.bits) refl
+falls_data p before band col r n b done e d is x y = rw (d.at_column, is.columns, d.stands.at_line, is.bits) refl
 
 in_box : (p : PictureValue) (r x y : ℕ) → IsOwn p r x y → is_in_box (box_of p) x y ≡ true
 in_box p r x y h = and_from _ _ (lt-ltb x p.width h.inside_x) (lt-ltb y p.height h.inside_y)
@@ -105,12 +105,12 @@ some_map : {A B : Type 0} (f : A → B) (o : Option A) → is_some o ≡ true �
 some_map f None h = cc h
 some_map f (Some a) h = refl
 
-pub data_keeps : (registers : ℕ) (p : PictureValue) (before : List Event) (line col r n b : ℕ) (done : ℕ → ℕ → Bool)
-    (e : Event) → Draws p before line col r done → IsData e n b →
-    is_some (palette_at p.palette r) ≡ true → ((x y : ℕ) → covers col n line 1 b x y ≡ true → IsOwn p r x y)
+pub data_keeps : (registers : ℕ) (p : PictureValue) (before : List Event) (band col r n b : ℕ) (done : ℕ → ℕ → Bool)
+    (e : Event) → Draws p before band col r done → IsData e n b →
+    is_some (palette_at p.palette r) ≡ true → ((x y : ℕ) → covers col n band 1 b x y ≡ true → IsOwn p r x y)
     → Keeps registers before e
 unfolding breaks_register breaks_colour_value breaks_repeat_zero breaks_unselected breaks_undefined
-data_keeps registers p before line col r n b done e d is some own =
+data_keeps registers p before band col r n b done e d is some own =
     keeps_in_box registers before e (box_of p) d.stands.has_box is.no_raster is.no_finish
     (rw is.no_name refl)
     (rw (is.no_definition (λ r. true)) refl)
@@ -119,16 +119,16 @@ data_keeps registers p before line col r n b done e d is some own =
     (rw (d.knows, d.stands.defines r, some_map definition_by (palette_at p.palette r) some)
     (and-false (is_painting e)))
     (is.no_redefinition before)
-    (λ x y h. in_box p r x y (own x y (sym (falls_data p before line col r n b done e d is x y) ∙ h)))
+    (λ x y h. in_box p r x y (own x y (sym (falls_data p before band col r n b done e d is x y) ∙ h)))
 
-pub data_draws : (p : PictureValue) (before : List Event) (line col r n b : ℕ) (done : ℕ → ℕ → Bool) (e : Event)
-    → Draws p before line col r done → IsData e n b →
-    ((x y : ℕ) → covers col n line 1 b x y ≡ true → IsOwn p r x y)
-    → Draws p (before ++ e ∷ []) line (col + n) r (λ x y. covers col n line 1 b x y || done x y)
-data_draws p before line col r n b done e d is own = record {
-  stands = stands_push p before e line line done (λ x y. covers col n line 1 b x y) d.stands is.no_raster
+pub data_draws : (p : PictureValue) (before : List Event) (band col r n b : ℕ) (done : ℕ → ℕ → Bool) (e : Event)
+    → Draws p before band col r done → IsData e n b →
+    ((x y : ℕ) → covers col n band 1 b x y ≡ true → IsOwn p r x y)
+    → Draws p (before ++ e ∷ []) band (col + n) r (λ x y. covers col n band 1 b x y || done x y)
+data_draws p before band col r n b done e d is own = record {
+  stands = stands_push p before e band band done (λ x y. covers col n band 1 b x y) d.stands is.no_raster
       (λ q. is.no_definition (λ s. s == q)) (rw is.no_next (omega arith))
-      (falls_data p before line col r n b done e d is) (λ x y h. d.knows ∙ ap Some (sym ((own x y h).own)));
+      (falls_data p before band col r n b done e d is) (λ x y h. d.knows ∙ ap Some (sym ((own x y h).own)));
   at_column = column_push 0 before e ∙ rw (is.no_return, d.at_column, is.columns) refl;
   knows = known_same before e is.no_select is.no_name ∙ d.knows;
 }
@@ -136,42 +136,42 @@ data_draws p before line col r n b done e d is own = record {
 -- ---- data commands, one after another
 
 -- events that keep the rules, and what stands after them
-pub record Drawn (registers : ℕ) (p : PictureValue) (before events : List Event) (line col r : ℕ)
+pub record Drawn (registers : ℕ) (p : PictureValue) (before events : List Event) (band col r : ℕ)
     (done : ℕ → ℕ → Bool) : Type 0 where
   pub keeps : KeepEach registers before events
-  pub draws : Draws p (before ++ events) line col r done
+  pub draws : Draws p (before ++ events) band col r done
 
-pub drawn_none : (registers : ℕ) (p : PictureValue) (before : List Event) (line col r : ℕ) (done : ℕ → ℕ → Bool)
-    → Draws p before line col r done → Drawn registers p before [] line col r done
+pub drawn_none : (registers : ℕ) (p : PictureValue) (before : List Event) (band col r : ℕ) (done : ℕ → ℕ → Bool)
+    → Draws p before band col r done → Drawn registers p before [] band col r done
 unfolding KeepEach
-drawn_none registers p before line col r done d = record { keeps = tt; draws = rw append-nil d }
+drawn_none registers p before band col r done d = record { keeps = tt; draws = rw append-nil d }
 
-pub drawn_one : (registers : ℕ) (p : PictureValue) (before : List Event) (line col r n b : ℕ) (done : ℕ → ℕ → Bool)
-    (e : Event) → Draws p before line col r done → IsData e n b →
-    is_some (palette_at p.palette r) ≡ true → ((x y : ℕ) → covers col n line 1 b x y ≡ true → IsOwn p r x y) →
-    Drawn registers p before (e ∷ []) line (col + n) r (λ x y. covers col n line 1 b x y || done x y)
-drawn_one registers p before line col r n b done e d is some own = record {
-  keeps = keep_one registers before e (data_keeps registers p before line col r n b done e d is some own);
-  draws = data_draws p before line col r n b done e d is own;
+pub drawn_one : (registers : ℕ) (p : PictureValue) (before : List Event) (band col r n b : ℕ) (done : ℕ → ℕ → Bool)
+    (e : Event) → Draws p before band col r done → IsData e n b →
+    is_some (palette_at p.palette r) ≡ true → ((x y : ℕ) → covers col n band 1 b x y ≡ true → IsOwn p r x y) →
+    Drawn registers p before (e ∷ []) band (col + n) r (λ x y. covers col n band 1 b x y || done x y)
+drawn_one registers p before band col r n b done e d is some own = record {
+  keeps = keep_one registers before e (data_keeps registers p before band col r n b done e d is some own);
+  draws = data_draws p before band col r n b done e d is own;
 }
 
-pub drawn_join : (registers : ℕ) (p : PictureValue) (before xs ys : List Event) (line c1 c2 r : ℕ)
-    (d1 d2 : ℕ → ℕ → Bool) → Drawn registers p before xs line c1 r d1
-    → Drawn registers p (before ++ xs) ys line c2 r d2 →
-    Drawn registers p before (xs ++ ys) line c2 r d2
-drawn_join registers p before xs ys line c1 c2 r d1 d2 f g = record {
+pub drawn_join : (registers : ℕ) (p : PictureValue) (before xs ys : List Event) (band c1 c2 r : ℕ)
+    (d1 d2 : ℕ → ℕ → Bool) → Drawn registers p before xs band c1 r d1
+    → Drawn registers p (before ++ xs) ys band c2 r d2 →
+    Drawn registers p before (xs ++ ys) band c2 r d2
+drawn_join registers p before xs ys band c1 c2 r d1 d2 f g = record {
   keeps = keep_append registers before xs ys f.keeps g.keeps;
-  draws = subst (λ b. Draws p b line c2 r d2) (append_assoc before xs ys) g.draws;
+  draws = subst (λ b. Draws p b band c2 r d2) (append_assoc before xs ys) g.draws;
 }
 
-pub drawn_same : (registers : ℕ) (p : PictureValue) (before events : List Event) (line c1 c2 r : ℕ)
-    (done also : ℕ → ℕ → Bool) → Drawn registers p before events line c1 r done → c1 ≡ c2 →
-    ((x y : ℕ) → done x y ≡ also x y) → Drawn registers p before events line c2 r also
-drawn_same registers p before events line c1 c2 r done also d e h = record {
+pub drawn_same : (registers : ℕ) (p : PictureValue) (before events : List Event) (band c1 c2 r : ℕ)
+    (done also : ℕ → ℕ → Bool) → Drawn registers p before events band c1 r done → c1 ≡ c2 →
+    ((x y : ℕ) → done x y ≡ also x y) → Drawn registers p before events band c2 r also
+drawn_same registers p before events band c1 c2 r done also d e h = record {
   keeps = d.keeps;
   draws = record {
     stands = stands_same p
-        (before ++ events) line done also d.draws.stands h;
+        (before ++ events) band done also d.draws.stands h;
     at_column = d.draws.at_column ∙ e;
     knows = d.draws.knows;
   };
@@ -185,84 +185,84 @@ or_turn false false c = refl
 
 -- the points of these columns are the register's own
 abbrev pub AreOwn : PictureValue → ℕ → ℕ → List ℕ → ℕ → Type 0
-AreOwn p line col bits r = (x y : ℕ) → lies col line bits x y ≡ true → IsOwn p r x y
+AreOwn p band col bits r = (x y : ℕ) → lies col band bits x y ≡ true → IsOwn p r x y
 
-sixels_drawn : (n : ℕ) (registers : ℕ) (p : PictureValue) (before : List Event) (line col r b : ℕ)
-    (done : ℕ → ℕ → Bool) → Draws p before line col r done →
-    is_some (palette_at p.palette r) ≡ true → AreOwn p line col (replicate n b) r →
-    Drawn registers p before (map Step (replicate n (Sixel b))) line (col + n) r
-    (λ x y. lies col line (replicate n b) x y || done x y)
+sixels_drawn : (n : ℕ) (registers : ℕ) (p : PictureValue) (before : List Event) (band col r b : ℕ)
+    (done : ℕ → ℕ → Bool) → Draws p before band col r done →
+    is_some (palette_at p.palette r) ≡ true → AreOwn p band col (replicate n b) r →
+    Drawn registers p before (map Step (replicate n (Sixel b))) band (col + n) r
+    (λ x y. lies col band (replicate n b) x y || done x y)
 unfolding lies
-sixels_drawn zero registers p before line col r b done d some own =
-    drawn_same registers p before [] line col (col + 0) r done done (drawn_none registers p before line col r done d)
+sixels_drawn zero registers p before band col r b done d some own =
+    drawn_same registers p before [] band col (col + 0) r done done (drawn_none registers p before band col r done d)
     (omega arith) (λ x y. refl)
-sixels_drawn (suc n) registers p before line col r b done d some own =
-    let one = drawn_one registers p before line col r 1 b done (Step (Sixel b)) d (sixel_data b) some
-    (λ x y h. own x y (or_left (covers col 1 line 1 b x y) (lies (col + 1) line (replicate n b) x y) h)) in
-    let rest = sixels_drawn n registers p (before ++ Step (Sixel b) ∷ []) line (col + 1) r b
-    (λ x y. covers col 1 line 1 b x y || done x y) one.draws some
-    (λ x y h. own x y (or_right (covers col 1 line 1 b x y) (lies (col + 1) line (replicate n b) x y) h)) in
-    drawn_same registers p before (map Step (replicate (suc n) (Sixel b))) line (col + 1 + n) (col + suc n) r
-    (λ x y. lies (col + 1) line (replicate n b) x y || (covers col 1 line 1 b x y || done x y)) _
-    (drawn_join registers p before (Step (Sixel b) ∷ []) (map Step (replicate n (Sixel b))) line (col + 1)
+sixels_drawn (suc n) registers p before band col r b done d some own =
+    let one = drawn_one registers p before band col r 1 b done (Step (Sixel b)) d (sixel_data b) some
+    (λ x y h. own x y (or_left (covers col 1 band 1 b x y) (lies (col + 1) band (replicate n b) x y) h)) in
+    let rest = sixels_drawn n registers p (before ++ Step (Sixel b) ∷ []) band (col + 1) r b
+    (λ x y. covers col 1 band 1 b x y || done x y) one.draws some
+    (λ x y h. own x y (or_right (covers col 1 band 1 b x y) (lies (col + 1) band (replicate n b) x y) h)) in
+    drawn_same registers p before (map Step (replicate (suc n) (Sixel b))) band (col + 1 + n) (col + suc n) r
+    (λ x y. lies (col + 1) band (replicate n b) x y || (covers col 1 band 1 b x y || done x y)) _
+    (drawn_join registers p before (Step (Sixel b) ∷ []) (map Step (replicate n (Sixel b))) band (col + 1)
     (col + 1 + n) r _ _ one rest)
-    (omega arith) (λ x y. or_turn (lies (col + 1) line (replicate n b) x y) (covers col 1 line 1 b x y) (done x y))
+    (omega arith) (λ x y. or_turn (lies (col + 1) band (replicate n b) x y) (covers col 1 band 1 b x y) (done x y))
 
 -- a run draws its columns
-pub run_drawn : (run : Run) (registers : ℕ) (p : PictureValue) (before : List Event) (line col r : ℕ)
-    (done : ℕ → ℕ → Bool) → Draws p before line col r done →
-    is_some (palette_at p.palette r) ≡ true → AreOwn p line col (replicate run.count run.item) r →
-    Drawn registers p before (map Step (run_commands run)) line (col + run.count) r
-    (λ x y. lies col line (replicate run.count run.item) x y || done x y)
-run_drawn run registers p before line col r done d some own = split (nat_le 4 run.count) (leb-true 4 run.count)
+pub run_drawn : (run : Run) (registers : ℕ) (p : PictureValue) (before : List Event) (band col r : ℕ)
+    (done : ℕ → ℕ → Bool) → Draws p before band col r done →
+    is_some (palette_at p.palette r) ≡ true → AreOwn p band col (replicate run.count run.item) r →
+    Drawn registers p before (map Step (run_commands run)) band (col + run.count) r
+    (λ x y. lies col band (replicate run.count run.item) x y || done x y)
+run_drawn run registers p before band col r done d some own = split (nat_le 4 run.count) (leb-true 4 run.count)
   where
     split : (t : Bool) → (t ≡ true → 4 ≤ run.count) →
         Drawn registers p before (map Step (if t then Repeat run.count run.item ∷ [] else replicate run.count
-        (Sixel run.item))) line (col + run.count) r
-        (λ x y. lies col line (replicate run.count run.item) x y || done x y)
+        (Sixel run.item))) band (col + run.count) r
+        (λ x y. lies col band (replicate run.count run.item) x y || done x y)
     split true h =
-        drawn_same registers p before (Step (Repeat run.count run.item) ∷ []) line (col + run.count)
-        (col + run.count) r (λ x y. covers col run.count line 1 run.item x y || done x y) _
-        (drawn_one registers p before line col r run.count run.item done (Step (Repeat run.count run.item)) d
+        drawn_same registers p before (Step (Repeat run.count run.item) ∷ []) band (col + run.count)
+        (col + run.count) r (λ x y. covers col run.count band 1 run.item x y || done x y) _
+        (drawn_one registers p before band col r run.count run.item done (Step (Repeat run.count run.item)) d
         (repeat_data run.count run.item (h refl)) some
-        (λ x y k. own x y (sym (lies_replicate run.count col line run.item x y) ∙ k)))
-        refl (λ x y. ap (λ o. o || done x y) (lies_replicate run.count col line run.item x y))
-    split false h = sixels_drawn run.count registers p before line col r run.item done d some own
+        (λ x y k. own x y (sym (lies_replicate run.count col band run.item x y) ∙ k)))
+        refl (λ x y. ap (λ o. o || done x y) (lies_replicate run.count col band run.item x y))
+    split false h = sixels_drawn run.count registers p before band col r run.item done d some own
 
 -- runs draw their columns
-pub runs_drawn : (rs : List Run) (registers : ℕ) (p : PictureValue) (before : List Event) (line col r : ℕ)
-    (done : ℕ → ℕ → Bool) → Draws p before line col r done →
-    is_some (palette_at p.palette r) ≡ true → AreOwn p line col (items_of rs) r →
-    Drawn registers p before (map Step (flat_map run_commands rs)) line (col + length (items_of rs)) r
-    (λ x y. lies col line (items_of rs) x y || done x y)
+pub runs_drawn : (rs : List Run) (registers : ℕ) (p : PictureValue) (before : List Event) (band col r : ℕ)
+    (done : ℕ → ℕ → Bool) → Draws p before band col r done →
+    is_some (palette_at p.palette r) ≡ true → AreOwn p band col (items_of rs) r →
+    Drawn registers p before (map Step (flat_map run_commands rs)) band (col + length (items_of rs)) r
+    (λ x y. lies col band (items_of rs) x y || done x y)
 unfolding lies
-runs_drawn [] registers p before line col r done d some own =
-    drawn_same registers p before [] line col (col + 0) r done _ (drawn_none registers p before line col r done d)
+runs_drawn [] registers p before band col r done d some own =
+    drawn_same registers p before [] band col (col + 0) r done _ (drawn_none registers p before band col r done d)
     (omega arith) (λ x y. refl)
-runs_drawn (run ∷ rs) registers p before line col r done d some own =
+runs_drawn (run ∷ rs) registers p before band col r done d some own =
     let len : length (replicate run.count run.item) ≡ run.count = length-replicate run.count run.item in
-    let both : (x y : ℕ) → lies col line (replicate run.count run.item ++ items_of rs) x y
-    ≡ (lies col line (replicate run.count run.item) x y || lies (col + run.count) line (items_of rs) x y)
-    = (λ x y. lies_append col line (replicate run.count run.item) (items_of rs) x y ∙ rw len refl) in
-    let one = run_drawn run registers p before line col r done d some
+    let both : (x y : ℕ) → lies col band (replicate run.count run.item ++ items_of rs) x y
+    ≡ (lies col band (replicate run.count run.item) x y || lies (col + run.count) band (items_of rs) x y)
+    = (λ x y. lies_append col band (replicate run.count run.item) (items_of rs) x y ∙ rw len refl) in
+    let one = run_drawn run registers p before band col r done d some
     (λ x y h. own x y (both x y
-    ∙ or_left (lies col line (replicate run.count run.item) x y)
-    (lies (col + run.count) line (items_of rs) x y) h)) in
-    let rest = runs_drawn rs registers p (before ++ map Step (run_commands run)) line (col + run.count) r
-    (λ x y. lies col line (replicate run.count run.item) x y || done x y) one.draws some
+    ∙ or_left (lies col band (replicate run.count run.item) x y)
+    (lies (col + run.count) band (items_of rs) x y) h)) in
+    let rest = runs_drawn rs registers p (before ++ map Step (run_commands run)) band (col + run.count) r
+    (λ x y. lies col band (replicate run.count run.item) x y || done x y) one.draws some
     (λ x y h. own x y (both x y
-    ∙ or_right (lies col line (replicate run.count run.item) x y)
-    (lies (col + run.count) line (items_of rs) x y) h)) in
+    ∙ or_right (lies col band (replicate run.count run.item) x y)
+    (lies (col + run.count) band (items_of rs) x y) h)) in
     let long : length (replicate run.count run.item ++ items_of rs)
     ≡ run.count + length (items_of rs) = length-append (replicate run.count run.item) (items_of rs)
     ∙ ap (λ n. n + length (items_of rs)) len in
     rw (map-append Step (run_commands run) (flat_map run_commands rs))
-    (drawn_same registers p before (map Step (run_commands run) ++ map Step (flat_map run_commands rs)) line
+    (drawn_same registers p before (map Step (run_commands run) ++ map Step (flat_map run_commands rs)) band
     (col + run.count + length (items_of rs)) (col + length (replicate run.count run.item ++ items_of rs)) r
-    (λ x y. lies (col + run.count) line (items_of rs) x y ||
-    (lies col line (replicate run.count run.item) x y || done x y)) _
-    (drawn_join registers p before (map Step (run_commands run)) (map Step (flat_map run_commands rs)) line
+    (λ x y. lies (col + run.count) band (items_of rs) x y ||
+    (lies col band (replicate run.count run.item) x y || done x y)) _
+    (drawn_join registers p before (map Step (run_commands run)) (map Step (flat_map run_commands rs)) band
     (col + run.count) (col + run.count + length (items_of rs)) r _ _ one rest)
     (omega arith)
-    (λ x y. or_turn (lies (col + run.count) line (items_of rs) x y)
-    (lies col line (replicate run.count run.item) x y) (done x y) ∙ ap (λ o. o || done x y) (sym (both x y))))
+    (λ x y. or_turn (lies (col + run.count) band (items_of rs) x y)
+    (lies col band (replicate run.count run.item) x y) (done x y) ∙ ap (λ o. o || done x y) (sym (both x y))))

@@ -116,17 +116,17 @@ without_length : (bs : List ℕ) → length (without_blanks bs) ≤ length bs
 without_length [] = lit≤ tt
 without_length (b ∷ bs) = without_step b bs (without_blanks bs) (has_bits (b ∷ bs)) (without_length bs)
 
-pub columns_length : (p : PictureValue) (line r : ℕ) → length (band_columns p line r) ≤ p.width
+pub columns_length : (p : PictureValue) (band r : ℕ) → length (band_columns p band r) ≤ p.width
 unfolding band_columns
-columns_length p line r =
-    omega (arith, without_length (all_columns p line r), length-map-range_with_len (column_bits p line r) 0 p.width)
+columns_length p band r =
+    omega (arith, without_length (all_columns p band r), length-map-range_with_len (column_bits p band r) 0 p.width)
 
-register_size : (p : PictureValue) (line r : ℕ) → r < 1000 → p.width ≤ 2048
-    → size (register_commands p line r) ≤ p.width + 4
+register_size : (p : PictureValue) (band r : ℕ) → r < 1000 → p.width ≤ 2048
+    → size (register_commands p band r) ≤ p.width + 4
 unfolding register_commands
-register_size p line r h w =
-    let columns = band_columns p line r in
-    let short : length columns ≤ p.width = columns_length p line r in
+register_size p band r h w =
+    let columns = band_columns p band r in
+    let short : length columns ≤ p.width = columns_length p band r in
     let joined : length (items_of (runs columns)) ≡ length columns = ap length (runs_joined columns) in
     let rest : size (flat_map run_commands (runs columns)) ≤ length (items_of (runs columns)) =
     runs_size (runs columns) (omega arith) in
@@ -139,44 +139,44 @@ return_size cs = size_cons CarriageReturn cs
 next_size : (cs : List Command) → size (NextLine ∷ cs) ≡ 1 + size cs
 next_size cs = size_cons NextLine cs
 
-others_size : (rs : List ℕ) (registers : ℕ) (p : PictureValue) (line : ℕ) → registers ≤ 1000 → p.width ≤ 2048
+others_size : (rs : List ℕ) (registers : ℕ) (p : PictureValue) (band : ℕ) → registers ≤ 1000 → p.width ≤ 2048
     → AllByRecursion (IsUsed registers p) rs
-    → size (flat_map (λ r. CarriageReturn ∷ register_commands p line r) rs) ≤ length rs * (p.width + 5)
-others_size [] registers p line n w h = omega (arith, size_none)
-others_size (r ∷ rs) registers p line n w h =
+    → size (flat_map (λ r. CarriageReturn ∷ register_commands p band r) rs) ≤ length rs * (p.width + 5)
+others_size [] registers p band n w h = omega (arith, size_none)
+others_size (r ∷ rs) registers p band n w h =
     let under : r < registers = (h.0).under in
-    let others = flat_map (λ r. CarriageReturn ∷ register_commands p line r) rs in
-    let one : size (register_commands p line r) ≤ p.width + 4 = register_size p line r (omega arith) w in
-    let rest : size others ≤ length rs * (p.width + 5) = others_size rs registers p line n w h.1 in
-    let both : size (CarriageReturn ∷ (register_commands p line r ++ others))
-    ≡ 1 + (size (register_commands p line r) + size others) =
-    return_size (register_commands p line r ++ others)
-    ∙ ap (λ m. 1 + m) (size_append (register_commands p line r) others) in
+    let others = flat_map (λ r. CarriageReturn ∷ register_commands p band r) rs in
+    let one : size (register_commands p band r) ≤ p.width + 4 = register_size p band r (omega arith) w in
+    let rest : size others ≤ length rs * (p.width + 5) = others_size rs registers p band n w h.1 in
+    let both : size (CarriageReturn ∷ (register_commands p band r ++ others))
+    ≡ 1 + (size (register_commands p band r) + size others) =
+    return_size (register_commands p band r ++ others)
+    ∙ ap (λ m. 1 + m) (size_append (register_commands p band r) others) in
     rw (suc-mul (length rs) (p.width + 5)) (omega arith)
 
-registers_size : (rs : List ℕ) (registers : ℕ) (p : PictureValue) (line : ℕ) → registers ≤ 1000 → p.width ≤ 2048
+registers_size : (rs : List ℕ) (registers : ℕ) (p : PictureValue) (band : ℕ) → registers ≤ 1000 → p.width ≤ 2048
     → AllByRecursion (IsUsed registers p) rs → 1 ≤ length rs
-    → size (join_by (register_commands p line) (CarriageReturn ∷ []) rs) + 1 ≤ length rs * (p.width + 5)
-registers_size [] registers p line n w h k = absurd (omega arith)
-registers_size (r ∷ rs) registers p line n w h k =
+    → size (join_by (register_commands p band) (CarriageReturn ∷ []) rs) + 1 ≤ length rs * (p.width + 5)
+registers_size [] registers p band n w h k = absurd (omega arith)
+registers_size (r ∷ rs) registers p band n w h k =
     let under : r < registers = (h.0).under in
-    let others = flat_map (λ r. CarriageReturn ∷ register_commands p line r) rs in
-    let one : size (register_commands p line r) ≤ p.width + 4 = register_size p line r (omega arith) w in
-    let rest : size others ≤ length rs * (p.width + 5) = others_size rs registers p line n w h.1 in
-    let both : size (register_commands p line r ++ others) ≡ size (register_commands p line r) + size others =
-    size_append (register_commands p line r) others in
+    let others = flat_map (λ r. CarriageReturn ∷ register_commands p band r) rs in
+    let one : size (register_commands p band r) ≤ p.width + 4 = register_size p band r (omega arith) w in
+    let rest : size others ≤ length rs * (p.width + 5) = others_size rs registers p band n w h.1 in
+    let both : size (register_commands p band r ++ others) ≡ size (register_commands p band r) + size others =
+    size_append (register_commands p band r) others in
     rw (suc-mul (length rs) (p.width + 5)) (omega arith)
 
 -- ---- bands
 
-band_size : (registers : ℕ) (p : PictureValue) (line : ℕ) → registers ≤ 1000 → Parted registers p → line < bands p
-    → size (band_commands p line) + 1 ≤ entries_of p * (p.width + 5)
+band_size : (registers : ℕ) (p : PictureValue) (band : ℕ) → registers ≤ 1000 → Parted registers p → band < bands p
+    → size (band_commands p band) + 1 ≤ entries_of p * (p.width + 5)
 unfolding band_commands
-band_size registers p line n h l =
+band_size registers p band n h l =
     le_trans
-    (registers_size (band_registers p line) registers p line n h.most_width (band_used registers p line h)
-    (band_some registers p line h l))
-    (mul-le-mul_right (p.width + 5) (band_length registers p line h))
+    (registers_size (band_registers p band) registers p band n h.most_width (band_used registers p band h)
+    (band_some registers p band h l))
+    (mul-le-mul_right (p.width + 5) (band_length registers p band h))
 
 nexts_size : (n a registers : ℕ) (p : PictureValue) → registers ≤ 1000 → Parted registers p → a + n ≤ bands p
     → size (flat_map (λ l. NextLine ∷ band_commands p l) (range_with_len a n)) ≤ n * (entries_of p * (p.width + 5))

@@ -18,32 +18,32 @@ any_map : (f : ℕ → ℕ) (q : ℕ → Bool) (xs : List ℕ) → list_any q (m
 any_map f q [] = refl
 any_map f q (x ∷ xs) = ap (λ (t : Bool). q (f x) || t) (any_map f q xs)
 
-pub occurs_is : (p : PictureValue) (line r : ℕ)
-    → occurs p line r ≡ list_any (λ x. not (column_bits p line r x == 0)) (below p.width)
+pub occurs_is : (p : PictureValue) (band r : ℕ)
+    → occurs p band r ≡ list_any (λ x. not (column_bits p band r x == 0)) (below p.width)
 unfolding occurs
-occurs_is p line r = any_map (column_bits p line r) (λ bits. not (bits == 0)) (below p.width)
+occurs_is p band r = any_map (column_bits p band r) (λ bits. not (bits == 0)) (below p.width)
 
 -- a register that occurs in a band has a pixel there
-pub occurs_used : (registers : ℕ) (p : PictureValue) (line r : ℕ) → Parted registers p → occurs p line r ≡ true
+pub occurs_used : (registers : ℕ) (p : PictureValue) (band r : ℕ) → Parted registers p → occurs p band r ≡ true
     → IsUsed registers p r
-occurs_used registers p line r h here =
-    let i : InRange 0 p.width (λ x. not (column_bits p line r x == 0)) =
-    range_any p.width 0 _ (sym (occurs_is p line r) ∙ here) in
-    let k : InRange 0 6 (has_pixel p line r i.number) =
-    range_any 6 0 _ (column_has p line r i.number ∙ i.passes) in
-    let parts = and_parts (nat_lt (6 * line + k.number) p.height) (register_of p i.number (6 * line + k.number) == r)
+occurs_used registers p band r h here =
+    let i : InRange 0 p.width (λ x. not (column_bits p band r x == 0)) =
+    range_any p.width 0 _ (sym (occurs_is p band r) ∙ here) in
+    let k : InRange 0 6 (has_pixel p band r i.number) =
+    range_any 6 0 _ (column_has p band r i.number ∙ i.passes) in
+    let parts = and_parts (nat_lt (6 * band + k.number) p.height) (register_of p i.number (6 * band + k.number) == r)
     k.passes in
     let under : i.number < 0 + p.width = i.under in
     let within : i.number < p.width = omega arith in
-    subst (IsUsed registers p) (eqb-true (register_of p i.number (6 * line + k.number)) r parts.1)
-    (pixel_used registers p h i.number (6 * line + k.number) within (ltb-true (6 * line + k.number) p.height parts.0))
+    subst (IsUsed registers p) (eqb-true (register_of p i.number (6 * band + k.number)) r parts.1)
+    (pixel_used registers p h i.number (6 * band + k.number) within (ltb-true (6 * band + k.number) p.height parts.0))
 
-pub band_used : (registers : ℕ) (p : PictureValue) (line : ℕ) → Parted registers p
-    → AllByRecursion (IsUsed registers p) (band_registers p line)
+pub band_used : (registers : ℕ) (p : PictureValue) (band : ℕ) → Parted registers p
+    → AllByRecursion (IsUsed registers p) (band_registers p band)
 unfolding band_registers
-band_used registers p line h =
-    filter_range (IsUsed registers p) (occurs p line) (length p.palette) 0 (length p.palette) (omega arith)
-    (λ r l here. occurs_used registers p line r h here)
+band_used registers p band h =
+    filter_range (IsUsed registers p) (occurs p band) (length p.palette) 0 (length p.palette) (omega arith)
+    (λ r l here. occurs_used registers p band r h here)
 
 -- ---- at least one
 
@@ -52,28 +52,28 @@ any_some q [] h = cc h
 any_some q (r ∷ rs) h = omega arith
 
 -- the register of the first pixel of a band occurs there
-first_occurs : (p : PictureValue) (line r : ℕ) → 0 < p.width → has_pixel p line r 0 0 ≡ true → occurs p line r ≡ true
-first_occurs p line r some here =
-    occurs_is p line r
-    ∙ any_range p.width 0 0 (λ x. not (column_bits p line r x == 0)) (omega arith) (omega arith)
-    (sym (column_has p line r 0) ∙ any_range 6 0 0 (has_pixel p line r 0) (omega arith) (omega arith) here)
+first_occurs : (p : PictureValue) (band r : ℕ) → 0 < p.width → has_pixel p band r 0 0 ≡ true → occurs p band r ≡ true
+first_occurs p band r some here =
+    occurs_is p band r
+    ∙ any_range p.width 0 0 (λ x. not (column_bits p band r x == 0)) (omega arith) (omega arith)
+    (sym (column_has p band r 0) ∙ any_range 6 0 0 (has_pixel p band r 0) (omega arith) (omega arith) here)
 
 -- a register occurs in each band
-pub band_some : (registers : ℕ) (p : PictureValue) (line : ℕ) → Parted registers p → line < bands p
-    → 1 ≤ length (band_registers p line)
+pub band_some : (registers : ℕ) (p : PictureValue) (band : ℕ) → Parted registers p → band < bands p
+    → 1 ≤ length (band_registers p band)
 unfolding band_registers
-band_some registers p line h l =
-    let own = register_of p 0 (6 * line + 0) in
+band_some registers p band h l =
+    let own = register_of p 0 (6 * band + 0) in
     let some : 0 < p.width = omega (arith, h.some_width) in
-    let inside : 6 * line + 0 < p.height = omega arith in
-    let here : has_pixel p line own 0 0 ≡ true =
-    and_from _ _ (lt-ltb (6 * line + 0) p.height inside) (eq-eqb own own refl) in
-    let used : own < registers = (pixel_used registers p h 0 (6 * line + 0) some inside).under in
+    let inside : 6 * band + 0 < p.height = omega arith in
+    let here : has_pixel p band own 0 0 ≡ true =
+    and_from _ _ (lt-ltb (6 * band + 0) p.height inside) (eq-eqb own own refl) in
+    let used : own < registers = (pixel_used registers p h 0 (6 * band + 0) some inside).under in
     let entries : length p.palette ≡ registers = h.entries in
-    any_some (λ r. true) (filter (occurs p line) (below (length p.palette)))
-    (any_filter (occurs p line) (λ r. true) (below (length p.palette))
-    ∙ any_range (length p.palette) 0 own (λ r. occurs p line r && true) (omega arith) (omega arith)
-    (and_from _ _ (first_occurs p line own some here) refl))
+    any_some (λ r. true) (filter (occurs p band) (below (length p.palette)))
+    (any_filter (occurs p band) (λ r. true) (below (length p.palette))
+    ∙ any_range (length p.palette) 0 own (λ r. occurs p band r && true) (omega arith) (omega arith)
+    (and_from _ _ (first_occurs p band own some here) refl))
 
 -- ---- no more than the palette has entries
 
@@ -111,14 +111,14 @@ kept_length (suc n) a q t h =
     kept_step a (filter q (range_with_len (a + 1) n)) (entries t (a + 1) n) (q a) (t a) (h a)
     (kept_length n (a + 1) q t h)
 
-pub band_length : (registers : ℕ) (p : PictureValue) (line : ℕ) → Parted registers p
-    → length (band_registers p line) ≤ entries_of p
+pub band_length : (registers : ℕ) (p : PictureValue) (band : ℕ) → Parted registers p
+    → length (band_registers p band) ≤ entries_of p
 unfolding band_registers
-band_length registers p line h =
-    let kept : length (filter (occurs p line) (range_with_len 0 (length p.palette)))
+band_length registers p band h =
+    let kept : length (filter (occurs p band) (range_with_len 0 (length p.palette)))
     ≤ entries (λ i. is_some (palette_at p.palette i)) 0 (length p.palette) =
-    kept_length (length p.palette) 0 (occurs p line) (λ i. is_some (palette_at p.palette i))
-    (λ r here. (occurs_used registers p line r h here).coloured) in
+    kept_length (length p.palette) 0 (occurs p band) (λ i. is_some (palette_at p.palette i))
+    (λ r here. (occurs_used registers p band r h here).coloured) in
     let all : entries (λ i. is_some (palette_at p.palette i)) 0 (length p.palette) ≡ count_by is_some p.palette =
     entries_are p.palette in
     omega arith

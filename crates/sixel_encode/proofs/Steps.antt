@@ -43,88 +43,88 @@ join-then f between (y ∷ ys) x =
 
 -- the text of the first bands
 abbrev pub bands_above : PictureValue → ℕ → List ℕ
-bands_above p line = commands_text (join_by (band_commands p) (NextLine ∷ []) (below line))
+bands_above p band = commands_text (join_by (band_commands p) (NextLine ∷ []) (below band))
 
 -- and of the next one
 abbrev pub band_step : PictureValue → ℕ → List ℕ
-band_step p line = commands_text ((if line == 0 then [] else NextLine ∷ []) ++ band_commands p line)
+band_step p band = commands_text ((if band == 0 then [] else NextLine ∷ []) ++ band_commands p band)
 
 below_nil : (n : ℕ) → is_nil (below n) ≡ (n == 0)
 below_nil zero = refl
 below_nil (suc n) = sym (ne_eqb (suc n) 0 (λ e. cc e))
 
-pub bands-then : (p : PictureValue) (line : ℕ) → bands_above p (line + 1) ≡ bands_above p line ++ band_step p line
-bands-then p line =
-    ap (λ (ks : List ℕ). commands_text (join_by (band_commands p) (NextLine ∷ []) ks)) (below_then line)
-    ∙ ap commands_text (join-then (band_commands p) (NextLine ∷ []) (below line) line)
-    ∙ text-append (join_by (band_commands p) (NextLine ∷ []) (below line)) _
-    ∙ ap (λ (t : Bool). bands_above p line ++ commands_text ((if t then [] else NextLine ∷ []) ++ band_commands p line))
-    (below_nil line)
+pub bands-then : (p : PictureValue) (band : ℕ) → bands_above p (band + 1) ≡ bands_above p band ++ band_step p band
+bands-then p band =
+    ap (λ (ks : List ℕ). commands_text (join_by (band_commands p) (NextLine ∷ []) ks)) (below_then band)
+    ∙ ap commands_text (join-then (band_commands p) (NextLine ∷ []) (below band) band)
+    ∙ text-append (join_by (band_commands p) (NextLine ∷ []) (below band)) _
+    ∙ ap (λ (t : Bool). bands_above p band ++ commands_text ((if t then [] else NextLine ∷ []) ++ band_commands p band))
+    (below_nil band)
 
 -- the text of the first registers of a band
 abbrev pub registers_above : PictureValue → ℕ → ℕ → List ℕ
-registers_above p line register =
-    commands_text (join_by (register_commands p line) (CarriageReturn ∷ []) (filter (occurs p line) (below register)))
+registers_above p band register =
+    commands_text (join_by (register_commands p band) (CarriageReturn ∷ []) (filter (occurs p band) (below register)))
 
 -- no register occurs before this one
 abbrev pub is_first_of : PictureValue → ℕ → ℕ → Bool
-is_first_of p line register = is_nil (filter (occurs p line) (below register))
+is_first_of p band register = is_nil (filter (occurs p band) (below register))
 
 -- the text of a register that occurs
 abbrev pub next_text : PictureValue → ℕ → ℕ → Bool → List ℕ
-next_text p line register is_first =
-    commands_text ((if is_first then [] else CarriageReturn ∷ []) ++ register_commands p line register)
+next_text p band register is_first =
+    commands_text ((if is_first then [] else CarriageReturn ∷ []) ++ register_commands p band register)
 
 -- and of any other
 abbrev pub register_step : PictureValue → ℕ → ℕ → List ℕ
-register_step p line register =
-    if occurs p line register then next_text p line register (is_first_of p line register) else []
+register_step p band register =
+    if occurs p band register then next_text p band register (is_first_of p band register) else []
 
-registers_step : (p : PictureValue) (line register : ℕ) (t : Bool)
-    → commands_text (join_by (register_commands p line) (CarriageReturn ∷ [])
-    (filter (occurs p line) (below register) ++ cond t (register ∷ []) []))
-    ≡ registers_above p line register ++ (if t then next_text p line register (is_first_of p line register) else [])
-registers_step p line register true =
-    ap commands_text (join-then (register_commands p line) (CarriageReturn ∷ [])
-    (filter (occurs p line) (below register)) register)
-    ∙ text-append (join_by (register_commands p line) (CarriageReturn ∷ []) (filter (occurs p line) (below register))) _
-registers_step p line register false =
-    ap (λ (ks : List ℕ). commands_text (join_by (register_commands p line) (CarriageReturn ∷ []) ks))
-    (append-nil (filter (occurs p line) (below register)))
-    ∙ sym (append-nil (registers_above p line register))
+registers_step : (p : PictureValue) (band register : ℕ) (t : Bool)
+    → commands_text (join_by (register_commands p band) (CarriageReturn ∷ [])
+    (filter (occurs p band) (below register) ++ cond t (register ∷ []) []))
+    ≡ registers_above p band register ++ (if t then next_text p band register (is_first_of p band register) else [])
+registers_step p band register true =
+    ap commands_text (join-then (register_commands p band) (CarriageReturn ∷ [])
+    (filter (occurs p band) (below register)) register)
+    ∙ text-append (join_by (register_commands p band) (CarriageReturn ∷ []) (filter (occurs p band) (below register))) _
+registers_step p band register false =
+    ap (λ (ks : List ℕ). commands_text (join_by (register_commands p band) (CarriageReturn ∷ []) ks))
+    (append-nil (filter (occurs p band) (below register)))
+    ∙ sym (append-nil (registers_above p band register))
 
-filter_then : (p : PictureValue) (line register : ℕ)
-    → filter (occurs p line) (below (register + 1))
-    ≡ filter (occurs p line) (below register) ++ cond (occurs p line register) (register ∷ []) []
-filter_then p line register =
-    ap (filter (occurs p line)) (below_then register) ∙ filter-append (occurs p line) (below register) (register ∷ [])
+filter_then : (p : PictureValue) (band register : ℕ)
+    → filter (occurs p band) (below (register + 1))
+    ≡ filter (occurs p band) (below register) ++ cond (occurs p band register) (register ∷ []) []
+filter_then p band register =
+    ap (filter (occurs p band)) (below_then register) ∙ filter-append (occurs p band) (below register) (register ∷ [])
 
-pub registers-then : (p : PictureValue) (line register : ℕ)
-    → registers_above p line (register + 1) ≡ registers_above p line register ++ register_step p line register
-registers-then p line register =
-    ap (λ (ks : List ℕ). commands_text (join_by (register_commands p line) (CarriageReturn ∷ []) ks))
-    (filter_then p line register)
-    ∙ registers_step p line register (occurs p line register)
+pub registers-then : (p : PictureValue) (band register : ℕ)
+    → registers_above p band (register + 1) ≡ registers_above p band register ++ register_step p band register
+registers-then p band register =
+    ap (λ (ks : List ℕ). commands_text (join_by (register_commands p band) (CarriageReturn ∷ []) ks))
+    (filter_then p band register)
+    ∙ registers_step p band register (occurs p band register)
 
 first_step : (xs : List ℕ) (x : ℕ) → is_nil (xs ++ x ∷ []) ≡ false
 first_step [] x = refl
 first_step (y ∷ ys) x = refl
 
 -- a register that occurs is before the next one
-pub first-after : (p : PictureValue) (line register : ℕ) → occurs p line register ≡ true
-    → false ≡ is_first_of p line (register + 1)
-first-after p line register h =
-    sym (ap is_nil (filter_then p line register)
-    ∙ ap (λ (t : Bool). is_nil (filter (occurs p line) (below register) ++ cond t (register ∷ []) [])) h
-    ∙ first_step (filter (occurs p line) (below register)) register)
+pub first-after : (p : PictureValue) (band register : ℕ) → occurs p band register ≡ true
+    → false ≡ is_first_of p band (register + 1)
+first-after p band register h =
+    sym (ap is_nil (filter_then p band register)
+    ∙ ap (λ (t : Bool). is_nil (filter (occurs p band) (below register) ++ cond t (register ∷ []) [])) h
+    ∙ first_step (filter (occurs p band) (below register)) register)
 
 -- any other changes nothing
-pub first-same : (p : PictureValue) (line register : ℕ) → occurs p line register ≡ false
-    → is_first_of p line register ≡ is_first_of p line (register + 1)
-first-same p line register h =
-    sym (ap is_nil (filter_then p line register)
-    ∙ ap (λ (t : Bool). is_nil (filter (occurs p line) (below register) ++ cond t (register ∷ []) [])) h
-    ∙ ap is_nil (append-nil (filter (occurs p line) (below register))))
+pub first-same : (p : PictureValue) (band register : ℕ) → occurs p band register ≡ false
+    → is_first_of p band register ≡ is_first_of p band (register + 1)
+first-same p band register h =
+    sym (ap is_nil (filter_then p band register)
+    ∙ ap (λ (t : Bool). is_nil (filter (occurs p band) (below register) ++ cond t (register ∷ []) [])) h
+    ∙ ap is_nil (append-nil (filter (occurs p band) (below register))))
 
 -- ---- definitions one by one
 
@@ -157,48 +157,48 @@ pub entries-all : (palette : List (Option Parts)) (n : ℕ) → length palette �
 unfolding define_commands
 entries-all palette n e = ap (entries_above palette) e
 
-pub registers-all : (p : PictureValue) (line n : ℕ) → length p.palette ≡ n
-    → commands_text (band_commands p line) ≡ registers_above p line n
+pub registers-all : (p : PictureValue) (band n : ℕ) → length p.palette ≡ n
+    → commands_text (band_commands p band) ≡ registers_above p band n
 unfolding band_commands band_registers
-registers-all p line n e = ap (registers_above p line) e
+registers-all p band n e = ap (registers_above p band) e
 
 pub bands-all : (p : PictureValue) → commands_text (picture_commands p) ≡ bands_above p (bands p)
 unfolding picture_commands
 bands-all p = refl
 
 -- a register's commands
-pub register-parts : (p : PictureValue) (line register : ℕ) → commands_text (register_commands p line register)
-    ≡ commands_text (Select register ∷ []) ++ columns_text (all_columns p line register)
+pub register-parts : (p : PictureValue) (band register : ℕ) → commands_text (register_commands p band register)
+    ≡ commands_text (Select register ∷ []) ++ columns_text (all_columns p band register)
 unfolding register_commands band_columns
-register-parts p line register =
-    text-append (Select register ∷ []) (flat_map run_commands (runs (band_columns p line register)))
+register-parts p band register =
+    text-append (Select register ∷ []) (flat_map run_commands (runs (band_columns p band register)))
 
 -- a register that occurs, and what stands before it
-pub next-parts : (p : PictureValue) (line register : ℕ) (is_first : Bool) → next_text p line register is_first
-    ≡ commands_text (if is_first then [] else CarriageReturn ∷ []) ++ commands_text (register_commands p line register)
-next-parts p line register is_first = text-append (if is_first then [] else CarriageReturn ∷ [])
-    (register_commands p line register)
+pub next-parts : (p : PictureValue) (band register : ℕ) (is_first : Bool) → next_text p band register is_first
+    ≡ commands_text (if is_first then [] else CarriageReturn ∷ []) ++ commands_text (register_commands p band register)
+next-parts p band register is_first = text-append (if is_first then [] else CarriageReturn ∷ [])
+    (register_commands p band register)
 
 -- a band, and what stands before it
-pub band-parts : (p : PictureValue) (line : ℕ) → band_step p line
-    ≡ commands_text (if line == 0 then [] else NextLine ∷ []) ++ commands_text (band_commands p line)
-band-parts p line = text-append (if line == 0 then [] else NextLine ∷ []) (band_commands p line)
+pub band-parts : (p : PictureValue) (band : ℕ) → band_step p band
+    ≡ commands_text (if band == 0 then [] else NextLine ∷ []) ++ commands_text (band_commands p band)
+band-parts p band = text-append (if band == 0 then [] else NextLine ∷ []) (band_commands p band)
 
 -- the step of a register that occurs
-pub step-is : (p : PictureValue) (line register : ℕ) (is_first : Bool) → occurs p line register ≡ true
-    → is_first ≡ is_first_of p line register → next_text p line register is_first ≡ register_step p line register
-step-is p line register is_first h first =
-    ap (next_text p line register) first
-    ∙ ap (λ (t : Bool). if t then next_text p line register (is_first_of p line register) else []) (sym h)
+pub step-is : (p : PictureValue) (band register : ℕ) (is_first : Bool) → occurs p band register ≡ true
+    → is_first ≡ is_first_of p band register → next_text p band register is_first ≡ register_step p band register
+step-is p band register is_first h first =
+    ap (next_text p band register) first
+    ∙ ap (λ (t : Bool). if t then next_text p band register (is_first_of p band register) else []) (sym h)
 
 -- and of one that doesn't
-pub step-none : (p : PictureValue) (line register : ℕ) → occurs p line register ≡ false
-    → registers_above p line register ≡ registers_above p line (register + 1)
-step-none p line register h =
-    sym (registers-then p line register
-    ∙ ap (λ (t : Bool). registers_above p line register
-    ++ (if t then next_text p line register (is_first_of p line register) else [])) h
-    ∙ append-nil (registers_above p line register))
+pub step-none : (p : PictureValue) (band register : ℕ) → occurs p band register ≡ false
+    → registers_above p band register ≡ registers_above p band (register + 1)
+step-none p band register h =
+    sym (registers-then p band register
+    ∙ ap (λ (t : Bool). registers_above p band register
+    ++ (if t then next_text p band register (is_first_of p band register) else [])) h
+    ∙ append-nil (registers_above p band register))
 
 -- ---- the whole text
 

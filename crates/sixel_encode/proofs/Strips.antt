@@ -19,32 +19,32 @@ or_and true b false = sym (and-false b)
 or_and false b c = refl
 
 -- the first column, and the others
-pub covers_split : (left n line rows bits x y : ℕ)
-    → covers left (suc n) line rows bits x y
-    ≡ (covers left 1 line rows bits x y || covers (left + 1) n line rows bits x y)
+pub covers_split : (left n band rows bits x y : ℕ)
+    → covers left (suc n) band rows bits x y
+    ≡ (covers left 1 band rows bits x y || covers (left + 1) n band rows bits x y)
 unfolding covers
-covers_split left n line rows bits x y = rw (within_split left n x)
+covers_split left n band rows bits x y = rw (within_split left n x)
     (or_and (nat_le left x && nat_lt x (left + 1)) (nat_le (left + 1) x && nat_lt x (left + 1 + n))
-    (any_below 6 (λ k. (bit_at bits k == 1) && nat_le ((6 * line + k) * rows) y && nat_lt y
-    ((6 * line + k) * rows + rows))))
+    (any_below 6 (λ k. (bit_at bits k == 1) && nat_le ((6 * band + k) * rows) y && nat_lt y
+    ((6 * band + k) * rows + rows))))
 
 -- the point lies in one of these columns, from the first one on, in the row of a set bit
 unfoldable pub lies : ℕ → ℕ → List ℕ → ℕ → ℕ → Bool
-lies left line [] x y = false
-lies left line (b ∷ bs) x y = covers left 1 line 1 b x y || lies (left + 1) line bs x y
+lies left band [] x y = false
+lies left band (b ∷ bs) x y = covers left 1 band 1 b x y || lies (left + 1) band bs x y
 
-pub lies_replicate : (n left line b x y : ℕ) → covers left n line 1 b x y ≡ lies left line (replicate n b) x y
+pub lies_replicate : (n left band b x y : ℕ) → covers left n band 1 b x y ≡ lies left band (replicate n b) x y
 unfolding lies
-lies_replicate zero left line b x y = no_columns_cover left line b x y
-lies_replicate (suc n) left line b x y = covers_split left n line 1 b x y
-    ∙ ap (λ o. covers left 1 line 1 b x y || o) (lies_replicate n (left + 1) line b x y)
+lies_replicate zero left band b x y = no_columns_cover left band b x y
+lies_replicate (suc n) left band b x y = covers_split left n band 1 b x y
+    ∙ ap (λ o. covers left 1 band 1 b x y || o) (lies_replicate n (left + 1) band b x y)
 
-pub lies_append : (left line : ℕ) (xs ys : List ℕ) (x y : ℕ)
-    → lies left line (xs ++ ys) x y ≡ (lies left line xs x y || lies (left + length xs) line ys x y)
+pub lies_append : (left band : ℕ) (xs ys : List ℕ) (x y : ℕ)
+    → lies left band (xs ++ ys) x y ≡ (lies left band xs x y || lies (left + length xs) band ys x y)
 unfolding lies
-lies_append left line [] ys x y = let e : left + 0 ≡ left = omega arith in rw e refl
-lies_append left line (b ∷ bs) ys x y =
+lies_append left band [] ys x y = let e : left + 0 ≡ left = omega arith in rw e refl
+lies_append left band (b ∷ bs) ys x y =
     let e : left + 1 + length bs ≡ left + suc (length bs) = omega arith in
-    ap (λ o. covers left 1 line 1 b x y || o) (lies_append (left + 1) line bs ys x y ∙ rw e refl)
-    ∙ sym (or_assoc (covers left 1 line 1 b x y) (lies (left + 1) line bs x y)
-    (lies (left + suc (length bs)) line ys x y))
+    ap (λ o. covers left 1 band 1 b x y || o) (lies_append (left + 1) band bs ys x y ∙ rw e refl)
+    ∙ sym (or_assoc (covers left 1 band 1 b x y) (lies (left + 1) band bs x y)
+    (lies (left + suc (length bs)) band ys x y))

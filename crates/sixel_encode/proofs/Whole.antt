@@ -68,11 +68,11 @@ box_above p x y h =
     let l : y < p.height = ltb-true y p.height parts.1 in
     and_from _ _ parts.0 (and_from _ _ parts.1 (lt-ltb (y / 6) ((p.height + 5) / 6) (omega arith)))
 
-finish_keeps : (registers : ℕ) (p : PictureValue) (before : List Event) (line : ℕ)
-    → Stands p before line (is_above p (bands p)) → Keeps registers before (Finish false)
+finish_keeps : (registers : ℕ) (p : PictureValue) (before : List Event) (band : ℕ)
+    → Stands p before band (is_above p (bands p)) → Keeps registers before (Finish false)
 unfolding breaks_raster_first breaks_raster_twice breaks_ratio breaks_box_size breaks_register breaks_colour_value
     breaks_repeat_zero breaks_unselected breaks_undefined breaks_redefined BreaksOutside BreaksUncovered
-finish_keeps registers p before line s = record {
+finish_keeps registers p before band s = record {
   raster_first = rw s.has_box refl;
   raster_twice = rw s.has_box refl;
   ratio = refl;
@@ -121,18 +121,18 @@ palette_entry xs i l = sym (ap option_flatten (slice_get-get_or xs i None l))
 abbrev make : ℕ → ℕ → List (Option Parts) → List ℕ → PictureValue
 make w h palette registers = record { width = w; height = h; palette = palette; registers = registers }
 
-left_palette : (p : PictureValue) (events : List Event) (line : ℕ) (done : ℕ → ℕ → Bool) → Stands p events line done
+left_palette : (p : PictureValue) (events : List Event) (band : ℕ) (done : ℕ → ℕ → Bool) → Stands p events band done
     → p.palette ≡ palette_left (length p.palette) events
 unfolding palette_left colour_of
-left_palette p events line done s =
+left_palette p events band done s =
     fill_by_all (λ r. colour_of events r) p.palette (length p.palette) None refl
     (λ r l. palette_entry p.palette r l
     ∙ sym (ap (option_and_then colour_by) (s.defines r) ∙ colour_back (palette_at p.palette r)))
 
-left_pixel : (p : PictureValue) (events : List Event) (line i : ℕ) → Stands p events line (is_above p (bands p))
+left_pixel : (p : PictureValue) (events : List Event) (band i : ℕ) → Stands p events band (is_above p (bands p))
     → i < p.width * p.height → 0 < p.width →
     get_or p.registers i 0 ≡ unwrap_or (register_at events (i % p.width) (i / p.width)) 0
-left_pixel p events line i s l w =
+left_pixel p events band i s l w =
     let x : i % p.width < p.width = omega arith in
     let m : i < p.height * p.width = rw (mul_comm p.height p.width) l in
     let y : i / p.width < p.height = (div-lt_iff_lt-mul w).1 m in
@@ -141,23 +141,23 @@ left_pixel p events line i s l w =
     let e : i / p.width * p.width + i % p.width ≡ i = div-add-mod' i p.width in
     rw (s.paints (i % p.width) (i / p.width), there, e) refl
 
-left_pixels : (registers : ℕ) (p : PictureValue) (events : List Event) (line : ℕ) → Parted registers p
-    → Stands p events line (is_above p (bands p)) →
+left_pixels : (registers : ℕ) (p : PictureValue) (events : List Event) (band : ℕ) → Parted registers p
+    → Stands p events band (is_above p (bands p)) →
     p.registers ≡ row_by_row p.width p.height (λ x y. unwrap_or (register_at events x y) 0)
-left_pixels registers p events line h s =
+left_pixels registers p events band h s =
     rows_from_index p.width p.height (λ x y. unwrap_or (register_at events x y) 0) p.registers 0 h.count
-    (λ i l. left_pixel p events line i s l (omega (arith, h.some_width)))
+    (λ i l. left_pixel p events band i s l (omega (arith, h.some_width)))
 
 -- a list after which all pixels are painted leaves the picture
-stands_left : (registers : ℕ) (p : PictureValue) (events : List Event) (line : ℕ) → Parted registers p
-    → Stands p events line (is_above p (bands p)) → picture_left registers events ≡ p
+stands_left : (registers : ℕ) (p : PictureValue) (events : List Event) (band : ℕ) → Parted registers p
+    → Stands p events band (is_above p (bands p)) → picture_left registers events ≡ p
 unfolding picture_left
-stands_left registers p events line h s =
+stands_left registers p events band h s =
     let box : unwrap_or (raster_before events) (record { pan = 1; pad = 1; width = 0; height = 0 })
     ≡ box_of p = rw s.has_box refl in
-    let palette : palette_left registers events ≡ p.palette = rw (← h.entries) (sym (left_palette p events line _ s)) in
+    let palette : palette_left registers events ≡ p.palette = rw (← h.entries) (sym (left_palette p events band _ s)) in
     let pixels : row_by_row p.width p.height (λ x y. unwrap_or (register_at events x y) 0)
-    ≡ p.registers = sym (left_pixels registers p events line h s) in
+    ≡ p.registers = sym (left_pixels registers p events band h s) in
     rw (box, palette, pixels) refl
 
 -- what the canonical list of a picture leaves is the picture

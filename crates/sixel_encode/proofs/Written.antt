@@ -94,22 +94,22 @@ map_each : (P : ℕ → Type 0) (f : ℕ → ℕ) (xs : List ℕ) → ((x : ℕ)
 map_each P f [] h = tt
 map_each P f (x ∷ xs) h = (h x, map_each P f xs h)
 
-columns_within : (p : PictureValue) (line r : ℕ) → AllByRecursion (λ c. c ≤ 63) (band_columns p line r)
+columns_within : (p : PictureValue) (band r : ℕ) → AllByRecursion (λ c. c ≤ 63) (band_columns p band r)
 unfolding band_columns
-columns_within p line r =
-    without_each _ (all_columns p line r)
-    (map_each (λ c. c ≤ 63) (column_bits p line r) (below p.width) (column_most p line r))
+columns_within p band r =
+    without_each _ (all_columns p band r)
+    (map_each (λ c. c ≤ 63) (column_bits p band r) (below p.width) (column_most p band r))
 
-register_writable : (p : PictureValue) (line r : ℕ) → r ≤ 65535 → p.width ≤ 2048
-    → AreWritable (register_commands p line r)
+register_writable : (p : PictureValue) (band r : ℕ) → r ≤ 65535 → p.width ≤ 2048
+    → AreWritable (register_commands p band r)
 unfolding register_commands
-register_writable p line r l w =
-    let joined = runs_joined (band_columns p line r) in
-    let e : length (items_of (runs (band_columns p line r))) ≡ length (band_columns p line r) = ap length joined in
-    let c : length (band_columns p line r) ≤ p.width = columns_length p line r in (
+register_writable p band r l w =
+    let joined = runs_joined (band_columns p band r) in
+    let e : length (items_of (runs (band_columns p band r))) ≡ length (band_columns p band r) = ap length joined in
+    let c : length (band_columns p band r) ≤ p.width = columns_length p band r in (
       record { is_event = l; spellable = tt },
-      runs_writable (runs (band_columns p line r)) (omega arith)
-          (subst (AllByRecursion (λ c. c ≤ 63)) (sym joined) (columns_within p line r)),
+      runs_writable (runs (band_columns p band r)) (omega arith)
+          (subst (AllByRecursion (λ c. c ≤ 63)) (sym joined) (columns_within p band r)),
     )
 
 -- ---- bands
@@ -129,13 +129,13 @@ join_writable f c P [] s h k = tt
 join_writable f c P (r ∷ rs) s h k =
     all_append (λ c. CanWrite (Step c)) (f r) (flat_map (λ r. c ∷ f r) rs) (k r h.0) (rest_writable f c P rs s h.1 k)
 
-band_writable : (registers : ℕ) (p : PictureValue) (line : ℕ) → registers ≤ 65535 → Parted registers p
-    → AreWritable (band_commands p line)
+band_writable : (registers : ℕ) (p : PictureValue) (band : ℕ) → registers ≤ 65535 → Parted registers p
+    → AreWritable (band_commands p band)
 unfolding band_commands
-band_writable registers p line n h =
-    join_writable (register_commands p line) CarriageReturn (IsUsed registers p) (band_registers p line)
-    (record { is_event = tt; spellable = tt }) (band_used registers p line h)
-    (λ r u. (let under : r < registers = u.under in register_writable p line r (omega arith) h.most_width))
+band_writable registers p band n h =
+    join_writable (register_commands p band) CarriageReturn (IsUsed registers p) (band_registers p band)
+    (record { is_event = tt; spellable = tt }) (band_used registers p band h)
+    (λ r u. (let under : r < registers = u.under in register_writable p band r (omega arith) h.most_width))
 
 every : (xs : List ℕ) → AllByRecursion (λ x. Unit {0}) xs
 every [] = tt

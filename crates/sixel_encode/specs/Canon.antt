@@ -46,11 +46,11 @@ run_commands r = if nat_le 4 r.count then Repeat r.count r.item ∷ [] else repl
 
 -- the pixel of this column and this row of a band lies in the picture, and is of the register
 abbrev pub has_pixel : PictureValue → ℕ → ℕ → ℕ → ℕ → Bool
-has_pixel p line register x k = nat_lt (6 * line + k) p.height && (register_of p x (6 * line + k) == register)
+has_pixel p band register x k = nat_lt (6 * band + k) p.height && (register_of p x (6 * band + k) == register)
 
 -- the bits of a register in a column of a band: bit k is row k of the band
 unfoldable pub column_bits : PictureValue → ℕ → ℕ → ℕ → ℕ
-column_bits p line register x = sum_by (λ k. if has_pixel p line register x k then 2 ^ k else 0) (below 6)
+column_bits p band register x = sum_by (λ k. if has_pixel p band register x k then 2 ^ k else 0) (below 6)
 
 -- some of the columns has a bit
 abbrev pub has_bits : List ℕ → Bool
@@ -63,11 +63,11 @@ without_blanks (bits ∷ columns) = if has_bits (bits ∷ columns) then bits ∷
 
 -- all columns of a register in a band
 abbrev pub all_columns : PictureValue → ℕ → ℕ → List ℕ
-all_columns p line register = map (column_bits p line register) (below p.width)
+all_columns p band register = map (column_bits p band register) (below p.width)
 
 -- the columns of a register in a band, up to the last one that has a bit
 unfoldable pub band_columns : PictureValue → ℕ → ℕ → List ℕ
-band_columns p line register = without_blanks (all_columns p line register)
+band_columns p band register = without_blanks (all_columns p band register)
 
 -- ---- bands
 
@@ -77,19 +77,19 @@ bands p = (p.height + 5) / 6
 
 -- the register occurs in the band
 unfoldable pub occurs : PictureValue → ℕ → ℕ → Bool
-occurs p line register = has_bits (all_columns p line register)
+occurs p band register = has_bits (all_columns p band register)
 
 -- the registers that occur in a band, in increasing order
 unfoldable pub band_registers : PictureValue → ℕ → List ℕ
-band_registers p line = filter (occurs p line) (below (length p.palette))
+band_registers p band = filter (occurs p band) (below (length p.palette))
 
 -- a select, and the columns of the register
 unfoldable pub register_commands : PictureValue → ℕ → ℕ → List Command
-register_commands p line register = Select register ∷ flat_map run_commands (runs (band_columns p line register))
+register_commands p band register = Select register ∷ flat_map run_commands (runs (band_columns p band register))
 
 -- the registers of a band, with a carriage return between two
 unfoldable pub band_commands : PictureValue → ℕ → List Command
-band_commands p line = join_by (register_commands p line) (CarriageReturn ∷ []) (band_registers p line)
+band_commands p band = join_by (register_commands p band) (CarriageReturn ∷ []) (band_registers p band)
 
 -- ---- the list
 

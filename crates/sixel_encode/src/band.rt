@@ -22,21 +22,21 @@ pub(crate) type Text = Block<65_536>;
 pub(crate) fn put_band<K: Sink>(
     text: &mut Text,
     picture: &Picture,
-    line: u32,
+    band: u32,
     out: &mut K,
 ) -> Result<(), DeviceFault>
-    requires { line < 342 }
+    requires { band < 342 }
     ensures bytes { Puts result (in_all (K.taken out.old) text.old) (in_all (K.taken out.new) text.new)
-        (commands_text (band_commands picture.now line)) }
+        (commands_text (band_commands picture.now band)) }
     ensures taken { TakesMore (K.taken out.old) (K.taken out.new) }
     ensures unflushed { NeverFlushes (K.is_flushed out.old) (K.is_flushed out.new) }
     ensures failures { CountsFailure result (K.failure_count out.old) (K.failure_count out.new) }
 {
-    let registers = band_registers(picture, line);
+    let registers = band_registers(picture, band);
     let mut is_first = true;
     for register in 0..16 {
         if has(registers, register) {
-            put_next(text, picture, line, register, is_first, out)?;
+            put_next(text, picture, band, register, is_first, out)?;
             is_first = false;
         }
     }
@@ -56,21 +56,21 @@ fn has(registers: u16, register: u8) -> bool
 fn put_next<K: Sink>(
     text: &mut Text,
     picture: &Picture,
-    line: u32,
+    band: u32,
     register: u8,
     is_first: bool,
     out: &mut K,
 ) -> Result<(), DeviceFault>
-    requires { line < 342 }
+    requires { band < 342 }
     ensures bytes { Puts result (in_all (K.taken out.old) text.old) (in_all (K.taken out.new) text.new)
         (commands_text ((if is_first then [] else Command.CarriageReturn ∷ [])
-        ++ register_commands picture.now line register)) }
+        ++ register_commands picture.now band register)) }
     ensures taken { TakesMore (K.taken out.old) (K.taken out.new) }
     ensures unflushed { NeverFlushes (K.is_flushed out.old) (K.is_flushed out.new) }
     ensures failures { CountsFailure result (K.failure_count out.old) (K.failure_count out.new) }
 {
     put_between(text, is_first, Command::CarriageReturn, out)?;
-    put_register(text, picture, line, register, out)
+    put_register(text, picture, band, register, out)
 }
 
 /// Puts the command, but nothing before the first of what it stands between.
@@ -114,19 +114,19 @@ pub(crate) fn put_command<K: Sink>(
 fn put_register<K: Sink>(
     text: &mut Text,
     picture: &Picture,
-    line: u32,
+    band: u32,
     register: u8,
     out: &mut K,
 ) -> Result<(), DeviceFault>
-    requires { line < 342 }
+    requires { band < 342 }
     ensures bytes { Puts result (in_all (K.taken out.old) text.old) (in_all (K.taken out.new) text.new)
-        (commands_text (register_commands picture.now line register)) }
+        (commands_text (register_commands picture.now band register)) }
     ensures taken { TakesMore (K.taken out.old) (K.taken out.new) }
     ensures unflushed { NeverFlushes (K.is_flushed out.old) (K.is_flushed out.new) }
     ensures failures { CountsFailure result (K.failure_count out.old) (K.failure_count out.new) }
 {
     put_command(text, select(register), out)?;
-    put_columns(text, picture, line, register, out)
+    put_columns(text, picture, band, register, out)
 }
 
 fn select(register: u8) -> Command
@@ -139,13 +139,13 @@ fn select(register: u8) -> Command
 fn put_columns<K: Sink>(
     text: &mut Text,
     picture: &Picture,
-    line: u32,
+    band: u32,
     register: u8,
     out: &mut K,
 ) -> Result<(), DeviceFault>
-    requires { line < 342 }
+    requires { band < 342 }
     ensures bytes { Puts result (in_all (K.taken out.old) text.old) (in_all (K.taken out.new) text.new)
-        (commands_text (flat_map run_commands (runs (band_columns picture.now line register)))) }
+        (commands_text (flat_map run_commands (runs (band_columns picture.now band register)))) }
     ensures taken { TakesMore (K.taken out.old) (K.taken out.new) }
     ensures unflushed { NeverFlushes (K.is_flushed out.old) (K.is_flushed out.new) }
     ensures failures { CountsFailure result (K.failure_count out.old) (K.failure_count out.new) }
@@ -153,7 +153,7 @@ fn put_columns<K: Sink>(
     let mut count = 0;
     let mut bits = 0;
     for x in 0..picture.width() {
-        let next = column_bits(picture, line, register, x);
+        let next = column_bits(picture, band, register, x);
         if next == bits {
             count += 1;
         } else {
@@ -181,6 +181,6 @@ fn put_run<K: Sink>(text: &mut Text, count: u16, bits: u8, out: &mut K) -> Resul
     if count >= LEAST_REPEAT {
         return put_command(text, Command::Repeat { count, bits }, out);
     }
-    let sixels = [63 + bits; 3];
+    let sixels = [b'?' + bits; LEAST_REPEAT as usize - 1];
     text.put(&sixels[..count as usize], out)
 }

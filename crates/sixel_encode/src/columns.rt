@@ -12,28 +12,28 @@ pub(crate) const ROWS: u32 = 6;
 
 /// Whether the pixel of this column and this row of a band lies in the picture, and is of the register.
 #[inline]
-fn has_pixel(picture: &Picture, line: u32, register: u8, x: u32, row: u32) -> bool
-    requires line { line < 342 }
+fn has_pixel(picture: &Picture, band: u32, register: u8, x: u32, row: u32) -> bool
+    requires band { band < 342 }
     requires x { x < picture.now.width }
     requires row { row < 6 }
-    ensures { result ≡ has_pixel picture.now line register x row }
+    ensures { result ≡ has_pixel picture.now band register x row }
 {
-    let y = ROWS * line + row;
+    let y = ROWS * band + row;
     y < picture.height() && picture.register_at(x, y) == register
 }
 
 /// The bits of a register in a column of a band: bit 0 is the uppermost row. Rows past the picture have none.
 #[inline]
 #[tactic(auto, unfolding(crate::specs::Canon::column_bits))]
-pub(crate) fn column_bits(picture: &Picture, line: u32, register: u8, x: u32) -> u8
-    requires line { line < 342 }
+pub(crate) fn column_bits(picture: &Picture, band: u32, register: u8, x: u32) -> u8
+    requires band { band < 342 }
     requires x { x < picture.now.width }
-    ensures value { result ≡ column_bits picture.now line register x }
+    ensures value { result ≡ column_bits picture.now band register x }
     ensures small { result ≤ 63 }
 {
     let mut bits = 0;
     for row in 0..ROWS {
-        if has_pixel(picture, line, register, x, row) {
+        if has_pixel(picture, band, register, x, row) {
             bits += 1 << row;
         }
     }
@@ -41,44 +41,44 @@ pub(crate) fn column_bits(picture: &Picture, line: u32, register: u8, x: u32) ->
 }
 
 /// The registers that occur in a band, as a mask: bit 0 is register 0.
-pub(crate) fn band_registers(picture: &Picture, line: u32) -> u16
-    requires { line < 342 }
+pub(crate) fn band_registers(picture: &Picture, band: u32) -> u16
+    requires { band < 342 }
     ensures value { (register : ℕ) → register < 16 →
-        (bit_at result register == 1) ≡ occurs picture.now line register }
+        (bit_at result register == 1) ≡ occurs picture.now band register }
     ensures picture { IsPicture 16 picture.now }
 {
     let mut registers = 0;
     for x in 0..picture.width() {
-        registers = with_column(registers, picture, line, x);
+        registers = with_column(registers, picture, band, x);
     }
     registers
 }
 
 /// The registers, and those of a column of a band.
 #[inline]
-fn with_column(registers: u16, picture: &Picture, line: u32, x: u32) -> u16
-    requires line { line < 342 }
+fn with_column(registers: u16, picture: &Picture, band: u32, x: u32) -> u16
+    requires band { band < 342 }
     requires x { x < picture.now.width }
     ensures { (register : ℕ) → register < 16 → (bit_at result register == 1)
-        ≡ ((bit_at registers register == 1) || not (column_bits picture.now line register x == 0)) }
+        ≡ ((bit_at registers register == 1) || not (column_bits picture.now band register x == 0)) }
 {
     let mut result = registers;
     for row in 0..ROWS {
-        result = with_pixel(result, picture, line, x, row);
+        result = with_pixel(result, picture, band, x, row);
     }
     result
 }
 
 /// The registers, and that of a pixel if it lies in the picture.
 #[inline]
-fn with_pixel(registers: u16, picture: &Picture, line: u32, x: u32, row: u32) -> u16
-    requires line { line < 342 }
+fn with_pixel(registers: u16, picture: &Picture, band: u32, x: u32, row: u32) -> u16
+    requires band { band < 342 }
     requires x { x < picture.now.width }
     requires row { row < 6 }
     ensures { (register : ℕ) → register < 16 → (bit_at result register == 1)
-        ≡ ((bit_at registers register == 1) || has_pixel picture.now line register x row) }
+        ≡ ((bit_at registers register == 1) || has_pixel picture.now band register x row) }
 {
-    let y = ROWS * line + row;
+    let y = ROWS * band + row;
     if y < picture.height() {
         registers | 1 << picture.register_at(x, y)
     } else {

@@ -172,8 +172,8 @@ fn put_bands<K: Sink>(text: &mut Text, picture: &Picture, out: &mut K) -> Result
     ensures unflushed { NeverFlushes (K.is_flushed out.old) (K.is_flushed out.new) }
     ensures failures { CountsFailure result (K.failure_count out.old) (K.failure_count out.new) }
 {
-    for line in 0..picture.height().div_ceil(ROWS) {
-        put_next_band(text, picture, line, out)?;
+    for band in 0..picture.height().div_ceil(ROWS) {
+        put_next_band(text, picture, band, out)?;
     }
     Ok(())
 }
@@ -182,16 +182,16 @@ fn put_bands<K: Sink>(text: &mut Text, picture: &Picture, out: &mut K) -> Result
 fn put_next_band<K: Sink>(
     text: &mut Text,
     picture: &Picture,
-    line: u32,
+    band: u32,
     out: &mut K,
 ) -> Result<(), DeviceFault>
-    requires { line < 342 }
+    requires { band < 342 }
     ensures bytes { Puts result (in_all (K.taken out.old) text.old) (in_all (K.taken out.new) text.new)
-        (commands_text ((if line == 0 then [] else Command.NextLine ∷ []) ++ band_commands picture.now line)) }
+        (commands_text ((if band == 0 then [] else Command.NextLine ∷ []) ++ band_commands picture.now band)) }
     ensures taken { TakesMore (K.taken out.old) (K.taken out.new) }
     ensures unflushed { NeverFlushes (K.is_flushed out.old) (K.is_flushed out.new) }
     ensures failures { CountsFailure result (K.failure_count out.old) (K.failure_count out.new) }
 {
-    put_between(text, line == 0, Command::NextLine, out)?;
-    put_band(text, picture, line, out)
+    put_between(text, band == 0, Command::NextLine, out)?;
+    put_band(text, picture, band, out)
 }

@@ -123,7 +123,8 @@ fn derives_the_name_of_each_fault(rt: HostRuntime) -> Result<(), Fail> {
         (RunFault::Write, "Write"),
     ];
     for (fault, name) in rows {
-        assert_eq!(rt; format!(in rt.alloc(); "{fault}")?.as_str(), name);
+        let text = format!(in rt.alloc(); "{fault}")?;
+        assert!(rt; text.as_str() == name);
     }
     Ok(())
 }

@@ -47,9 +47,7 @@ pub fn list<S: Source, K: Sink>(input: &mut S, output: &mut K) -> Result<Status,
                 Err(fault) => Err(RunFault::Grammar(fault)),
             };
         }
-        if let Err(fault) = list_piece(&mut reader, &piece[..count], &mut lines, output) {
-            return Err(fault);
-        }
+        list_piece(&mut reader, &piece[..count], &mut lines, output)?;
     }
 }
 
@@ -112,10 +110,8 @@ fn put_lines<K: Sink>(
     ensures failures { CountsFailure result (K.failure_count out.old) (K.failure_count out.new) }
 {
     let Completed { first, second } = completed;
-    match put_line(first, lines, out) {
-        Ok(()) => put_line(second, lines, out),
-        Err(fault) => Err(fault),
-    }
+    put_line(first, lines, out)?;
+    put_line(second, lines, out)
 }
 
 fn put_line<K: Sink>(

@@ -26,10 +26,10 @@ pub fn render<S: Source, K: Sink>(
     ensures writes { CountsWrites result (K.failure_count output.old) (K.failure_count output.new) }
 {
     match sixel_check::check(alloc, input)? {
-        Verdict::Portable(picture) => match write_ppm(&picture, output) {
-            Ok(()) => Ok(Status::Done),
-            Err(fault) => Err(RunFault::from(fault)),
-        },
+        Verdict::Portable(picture) => {
+            write_ppm(&picture, output)?;
+            Ok(Status::Done)
+        }
         Verdict::Broken(finding) => Ok(Status::Broken(finding)),
     }
 }

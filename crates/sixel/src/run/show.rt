@@ -77,10 +77,8 @@ fn write_screen<K: Sink>(
     ensures unread { result ≢ Err Read }
     ensures writes { CountsWrites result (K.failure_count output.old) (K.failure_count output.new) }
 {
-    match write_ppm_colours(choices.screen_width, choices.screen_height, shown, output) {
-        Ok(()) => Ok(Status::Done),
-        Err(fault) => Err(RunFault::from(fault)),
-    }
+    write_ppm_colours(choices.screen_width, choices.screen_height, shown, output)?;
+    Ok(Status::Done)
 }
 
 /// The colours of the whole screen after the events.

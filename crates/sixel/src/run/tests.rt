@@ -428,30 +428,40 @@ fn answers_write_where_both_devices_fail(rt: HostRuntime) {
     assert_eq!(rt; ran.sink.after_fault, 0);
 }
 
+/// Whether a list into a room of so many bytes fills it.
+fn fills_room(alloc: Global, count: usize) -> bool {
+    let mut whole = [0; 512];
+    let (room, _) = whole.split_at_mut(count.min(512));
+    let ran = list_failing(alloc, PIXEL, 5, None, None, room);
+    ran.answer == Err(RunFault::Write) && Some(&*room) == PIXEL_LINES.as_bytes().get(..count)
+}
+
 #[test]
 fn fills_a_sink_that_has_too_little_room(rt: HostRuntime) {
-    let text = PIXEL_LINES.as_bytes();
-    for count in 0..text.len() {
-        let mut whole = [0; 512];
-        let (room, _) = whole.split_at_mut(count.min(512));
-        let ran = list_failing(rt.alloc(), PIXEL, 5, None, None, room);
-        assert_eq!(rt; ran.answer, Err(RunFault::Write));
-        assert_eq!(rt; Some(&*room), text.get(..count));
+    for count in 0..PIXEL_LINES.len() {
+        assert!(rt; fills_room(rt.alloc(), count));
+    }
+}
+
+/// How many takes a list of the smallest picture has in pieces of a size, where it is done.
+fn takes_of(alloc: Global, piece: usize) -> Option<u64> {
+    let limits = Limits {
+        piece,
+        fill_fails: None,
+        most: 512,
+        take_fails: None,
+    };
+    let ran = run_watched(alloc, Task::List, PIXEL, limits, &mut [0; 512]);
+    if ran.answer == Ok(Status::Done) {
+        Some(ran.sink.takes)
+    } else {
+        None
     }
 }
 
 /// A slow producer's lines are seen, and a fast one's leave together: one take for each piece that completes an event.
 #[test]
 fn writes_what_a_piece_completes_at_once(rt: HostRuntime) {
-    for (piece, takes) in [(1, 5), (64, 1)] {
-        let limits = Limits {
-            piece,
-            fill_fails: None,
-            most: 512,
-            take_fails: None,
-        };
-        let ran = run_watched(rt.alloc(), Task::List, PIXEL, limits, &mut [0; 512]);
-        assert_eq!(rt; ran.answer, Ok(Status::Done));
-        assert_eq!(rt; ran.sink.takes, takes, "in pieces of {piece}");
-    }
+    assert!(rt; takes_of(rt.alloc(), 1) == Some(5));
+    assert!(rt; takes_of(rt.alloc(), 64) == Some(1));
 }

@@ -5,9 +5,9 @@ ghost use Rattle.sixel.specs.Outputs.{HasSides};
 use crate::task::Task;
 use crate::words::{WordsFault, parse_words, usage};
 use crate::{Exit, execute, explain};
+use std::alloc::Global;
 use std::io;
 use std::io::{Error, Write};
-use std::process::Abort;
 use std::test::Fail;
 
 /// A stream that takes so many bytes, one a call, and then fails.
@@ -35,80 +35,97 @@ impl Write for Narrow<'_> {
     }
 }
 
-/// The task on these bytes ends so and writes this, whatever room standard error has; it has a front of this line.
-fn ends_so(
-    rt: &(impl AllocGlobal + Abort),
+/// Whether a front of the line was written, as long as there is room for.
+fn fills(written: &[u8], line: &[u8], room: usize) -> bool {
+    Some(written) == line.get(..room.min(line.len()))
+}
+
+/// Whether the task on these bytes ends so and writes this, and of this line what standard error has room for.
+fn ends_in(
+    alloc: Global,
     task: Task,
     bytes: &[u8],
     exit: Exit,
     text: &[u8],
     line: &[u8],
-)
+    room: usize,
+) -> bool
     requires { HasSides task }
 {
-    for room in [0, 1, 9, 64] {
-        let mut output = Vec::new(rt.alloc());
-        let mut said = Vec::new(rt.alloc());
-        let errors = Narrow {
-            written: &mut said,
-            room,
-        };
-        let ended = execute(rt.alloc(), task, bytes, &mut output, errors);
-        assert_eq!(rt; ended, exit, "room for {room}");
-        assert_eq!(rt; output.as_slice(), text, "room for {room}");
-        assert_eq!(rt;
-            Some(said.as_slice()),
-            line.get(..room.min(line.len())),
-            "room for {room}"
-        );
-    }
+    let mut output = Vec::new(alloc);
+    let mut said = Vec::new(alloc);
+    let errors = Narrow {
+        written: &mut said,
+        room,
+    };
+    let ended = execute(alloc, task, bytes, &mut output, errors);
+    ended == exit && output.as_slice() == text && fills(said.as_slice(), line, room)
+}
+
+/// The same whatever room standard error has.
+fn ends_so(alloc: Global, task: Task, bytes: &[u8], exit: Exit, text: &[u8], line: &[u8]) -> bool
+    requires { HasSides task }
+{
+    ends_in(alloc, task, bytes, exit, text, line, 0)
+        && ends_in(alloc, task, bytes, exit, text, line, 1)
+        && ends_in(alloc, task, bytes, exit, text, line, 9)
+        && ends_in(alloc, task, bytes, exit, text, line, 64)
 }
 
 /// The line of a refusal, or of a picture that isn't rendered, can't be written: the exit status stays.
 #[test]
 fn a_standard_error_that_fails(rt: HostRuntime) {
-    ends_so(
-        &rt,
-        Task::List,
-        b"\x1bPq!65536~",
-        Exit::Refused,
-        b"0 start 7bit 0\n",
-        b"sixel: NumberTooLarge at 8\n",
+    assert!(rt;
+        ends_so(
+            rt.alloc(),
+            Task::List,
+            b"\x1bPq!65536~",
+            Exit::Refused,
+            b"0 start 7bit 0\n",
+            b"sixel: NumberTooLarge at 8\n",
+        )
     );
     let uncovered = b"\x1bPq\"1;1;2;1#0;2;0;0;0#0@\x1b\\";
     let line = b"broken Uncovered 24 1 0\n";
-    ends_so(&rt, Task::Render, uncovered, Exit::Broken, b"", line);
-    ends_so(&rt, Task::Check, uncovered, Exit::Broken, line, b"");
-    ends_so(
-        &rt,
-        Task::Render,
-        b"\x1bPq\"1;1;1;1#0;1;360;50;100#0@\x1b\\",
-        Exit::Refused,
-        b"",
-        b"sixel: NotRgb\n",
+    assert!(rt; ends_so(rt.alloc(), Task::Render, uncovered, Exit::Broken, b"", line));
+    assert!(rt; ends_so(rt.alloc(), Task::Check, uncovered, Exit::Broken, line, b""));
+    assert!(rt;
+        ends_so(
+            rt.alloc(),
+            Task::Render,
+            b"\x1bPq\"1;1;1;1#0;1;360;50;100#0@\x1b\\",
+            Exit::Refused,
+            b"",
+            b"sixel: NotRgb\n",
+        )
     );
-    ends_so(
-        &rt,
-        Task::Encode,
-        b"P6 1 1 256\n",
-        Exit::Refused,
-        b"",
-        b"sixel: Maxval at 7\n",
+    assert!(rt;
+        ends_so(
+            rt.alloc(),
+            Task::Encode,
+            b"P6 1 1 256\n",
+            Exit::Refused,
+            b"",
+            b"sixel: Maxval at 7\n",
+        )
     );
-    ends_so(
-        &rt,
-        Task::Check,
-        b"\x1bPq\"1;1;1;1#0;2;0;0;0#0@\x1b\\",
-        Exit::Done,
-        b"portable 1 1\n",
-        b"",
+    assert!(rt;
+        ends_so(
+            rt.alloc(),
+            Task::Check,
+            b"\x1bPq\"1;1;1;1#0;2;0;0;0#0@\x1b\\",
+            Exit::Done,
+            b"portable 1 1\n",
+            b"",
+        )
     );
 }
 
-/// Standard output has room for five bytes of a line, and standard error for so many of the fault's.
-fn refuses_with(rt: &(impl AllocGlobal + Abort), room: usize, line: &[u8]) {
-    let mut written = Vec::new(rt.alloc());
-    let mut said = Vec::new(rt.alloc());
+/// Whether a check is refused, where standard output has room for five bytes of its line, and standard error for so many
+/// of the fault's.
+fn refuses_with(alloc: Global, room: usize, line: &[u8]) -> bool {
+    let mut written = Vec::new(alloc);
+    let mut said = Vec::new(alloc);
     let output = Narrow {
         written: &mut written,
         room: 5,
@@ -118,30 +135,29 @@ fn refuses_with(rt: &(impl AllocGlobal + Abort), room: usize, line: &[u8]) {
         room,
     };
     let bytes = b"\x1bPq\"1;1;1;1#0;2;0;0;0#0@\x1b\\".as_slice();
-    let ended = execute(rt.alloc(), Task::Check, bytes, output, errors);
-    assert_eq!(rt; ended, Exit::Refused);
-    assert_eq!(rt; written.as_slice(), b"porta".as_slice());
-    assert_eq!(rt; said.as_slice(), line);
+    let ended = execute(alloc, Task::Check, bytes, output, errors);
+    ended == Exit::Refused && written.as_slice() == b"porta".as_slice() && said.as_slice() == line
 }
 
 #[test]
 fn a_standard_output_that_fails(rt: HostRuntime) {
-    refuses_with(&rt, 64, b"sixel: write failed\n");
-    refuses_with(&rt, 7, b"sixel: ");
-    refuses_with(&rt, 0, b"");
+    assert!(rt; refuses_with(rt.alloc(), 64, b"sixel: write failed\n"));
+    assert!(rt; refuses_with(rt.alloc(), 7, b"sixel: "));
+    assert!(rt; refuses_with(rt.alloc(), 0, b""));
 }
 
-/// Words that give no task end so, and write a front of this text to standard output and of that one to standard error.
+/// Whether words that give no task end so, and write of this text what standard output has room for, and likewise of
+/// that line.
 fn explains_so(
-    rt: &(impl AllocGlobal + Abort),
+    alloc: Global,
     fault: WordsFault,
     room: usize,
     exit: Exit,
     text: &str,
     line: &str,
-) {
-    let mut written = Vec::new(rt.alloc());
-    let mut said = Vec::new(rt.alloc());
+) -> bool {
+    let mut written = Vec::new(alloc);
+    let mut said = Vec::new(alloc);
     let output = Narrow {
         written: &mut written,
         room,
@@ -150,15 +166,10 @@ fn explains_so(
         written: &mut said,
         room,
     };
-    assert_eq!(rt; explain(rt.alloc(), fault, output, errors), exit);
-    assert_eq!(rt;
-        Some(written.as_slice()),
-        text.as_bytes().get(..room.min(text.len()))
-    );
-    assert_eq!(rt;
-        Some(said.as_slice()),
-        line.as_bytes().get(..room.min(line.len()))
-    );
+    let ended = explain(alloc, fault, output, errors);
+    ended == exit
+        && fills(written.as_slice(), text.as_bytes(), room)
+        && fills(said.as_slice(), line.as_bytes(), room)
 }
 
 /// Why these words, with spaces between them, give no task.
@@ -200,19 +211,14 @@ For more information, try '--help'.
 fn words_are_explained_as_far_as_there_is_room(rt: HostRuntime) -> Result<(), Fail> {
     for room in [0, 1, 20, 512] {
         let help = fault_of(&rt, "sixel list --help")?;
-        explains_so(&rt, help, room, Exit::Done, HELP, "");
+        assert!(rt; explains_so(rt.alloc(), help, room, Exit::Done, HELP, ""));
         let unknown = fault_of(&rt, "sixel view")?;
-        explains_so(&rt, unknown, room, Exit::Usage, "", UNKNOWN);
+        assert!(rt; explains_so(rt.alloc(), unknown, room, Exit::Usage, "", UNKNOWN));
         let not_text = usage(rt.alloc(), "the arguments are not text");
-        explains_so(&rt, not_text, room, Exit::Usage, "", NOT_TEXT);
-        explains_so(
-            &rt,
-            WordsFault::OutOfMemory,
-            room,
-            Exit::Refused,
-            "",
-            "sixel: out of memory\n",
-        );
+        assert!(rt; explains_so(rt.alloc(), not_text, room, Exit::Usage, "", NOT_TEXT));
+        let memory = WordsFault::OutOfMemory;
+        let line = "sixel: out of memory\n";
+        assert!(rt; explains_so(rt.alloc(), memory, room, Exit::Refused, "", line));
     }
     Ok(())
 }

@@ -1,26 +1,38 @@
 mod refused;
 
 use crate::words::{WordsFault, parse_words};
+use std::alloc::{AllocError, Global};
 use std::test::Fail;
 
-/// What the words, with spaces between them, come to.
-fn said(rt: &HostRuntime, line: &str) -> Result<String, Fail> {
-    let alloc = rt.alloc();
+/// The words, which have spaces between them.
+fn words_of(alloc: Global, line: &str) -> Result<Vec<String>, AllocError> {
     let mut words = Vec::new(alloc);
     for word in line.split(' ') {
         words.push(String::from_str(alloc, word)?)?;
     }
-    Ok(match parse_words(alloc, words.as_slice()) {
-        Ok(task) => format!(in alloc; "{task:?}")?,
-        Err(WordsFault::Usage(text)) => format!(in alloc; "usage {text}")?,
-        Err(WordsFault::Help(text)) => format!(in alloc; "help {text}")?,
-        Err(WordsFault::OutOfMemory) => format!(in alloc; "out of memory")?,
-    })
+    Ok(words)
+}
+
+fn told(alloc: Global, fault: WordsFault) -> Result<String, AllocError> {
+    match fault {
+        WordsFault::Usage(text) => format!(in alloc; "usage {text}"),
+        WordsFault::Help(text) => format!(in alloc; "help {text}"),
+        WordsFault::OutOfMemory => String::from_str(alloc, "out of memory"),
+    }
+}
+
+/// What the words, with spaces between them, come to.
+fn said(alloc: Global, line: &str) -> Result<String, AllocError> {
+    let words = words_of(alloc, line)?;
+    match parse_words(alloc, words.as_slice()) {
+        Ok(task) => format!(in alloc; "{task:?}"),
+        Err(fault) => told(alloc, fault),
+    }
 }
 
 /// Whether the words come to this text.
 fn says(rt: &HostRuntime, line: &str, text: &str) -> Result<bool, Fail> {
-    Ok(said(rt, line)?.as_str() == text)
+    Ok(said(rt.alloc(), line)?.as_str() == text)
 }
 
 /// Whether the words are refused with this text and the sentence that follows each.

@@ -41,12 +41,12 @@ fn plain_text(
         text.push_str(format!(in alloc; "#{register};2;10;20;30")?.as_str())?;
     }
     let mut before_band = "";
-    for line in 0..height.wrapping_add(5) / 6 {
+    for band in 0..height.wrapping_add(5) / 6 {
         text.push_str(before_band)?;
         before_band = "-";
         let start = registers
             .len()
-            .min(line.wrapping_mul(6).wrapping_mul(width));
+            .min(band.wrapping_mul(6).wrapping_mul(width));
         let rows = &registers[start..];
         let mut before_register = "";
         for register in 0..16 {

@@ -13,5 +13,5 @@ returns-clause-rule c =
     let made : c.range.result ≡ vp.Signed (pos 1) (pos 4096) = rw (c.new-2.ensures.start, c.new-2.ensures.end, c.value_parser.ensures) at c.range.ensures in
     let is_q : given.0 ≡ vp.Signed (pos 1) (pos 4096) = given.2 ∙ made in
     let is : c.value_parser-2.result.value_parser ≡ Some (vp.Signed (pos 1) (pos 4096)) = given.1 ∙ ap (λ (q : ValueParser). Some q) is_q in
-    let whole : c.value_parser-2.result ≡ record c.value_name.result { value_parser = Some (vp.Signed (pos 1) (pos 4096)) } = c.value_parser-2.ensures.others ∙ ap (λ v. record c.value_name.result { value_parser = v }) is in
+    let whole : c.value_parser-2.result ≡ record c.value_name.result { value_parser = Some (vp.Signed (pos 1) (pos 4096)) } = ◌∙◌ {b = record c.value_name.result { value_parser = c.value_parser-2.result.value_parser }} c.value_parser-2.ensures.others (ap (λ v. record c.value_name.result { value_parser = v }) is) in
     rw (c.help.ensures, c.default_value.ensures, whole, c.value_name.ensures, c.long.ensures) (ap (as_side c.args.name.now c.args.fallback.now) c.new.ensures.rule)

@@ -4,6 +4,16 @@ use crate::task::{Status, Task};
 use sixel_grammar::{Fault, Reason};
 use std::alloc::Global;
 
+/// Whether the status goes with this line.
+fn goes_with(answer: Result<Status, RunFault>, line: &str) -> bool {
+    let is_broken = line.starts_with("broken");
+    match answer {
+        Ok(Status::Done) => !is_broken,
+        Ok(Status::Broken(_)) => is_broken,
+        Err(_) => false,
+    }
+}
+
 /// Whether the bytes, in pieces of a size, have this line, and a status that goes with it.
 fn checks_in_pieces(alloc: Global, bytes: &[u8], piece: usize, line: &str) -> bool {
     let mut room = [0; 96];
@@ -14,13 +24,9 @@ fn checks_in_pieces(alloc: Global, bytes: &[u8], piece: usize, line: &str) -> bo
         take_fails: None,
     };
     let ran = run_watched(alloc, Task::Check, bytes, limits, &mut room);
-    let is_broken = line.starts_with("broken");
-    let is_right = match ran.answer {
-        Ok(Status::Done) => !is_broken,
-        Ok(Status::Broken(_)) => is_broken,
-        Err(_) => false,
-    };
-    is_right && room.get(..ran.written) == Some(line.as_bytes()) && ran.sink.flushes == 1
+    goes_with(ran.answer, line)
+        && room.get(..ran.written) == Some(line.as_bytes())
+        && ran.sink.flushes == 1
 }
 
 /// Whether the bytes have this line, in pieces of each size.

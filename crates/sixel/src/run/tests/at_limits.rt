@@ -5,42 +5,27 @@ use crate::run::tests::agrees;
 use crate::task::{Status, Task};
 use sixel_check::{Finding, Rule};
 use sixel_picture::PpmReason;
-use std::alloc::Global;
+use std::alloc::{AllocError, Global};
 use std::test::Fail;
 
-/// Some bytes, one of them so many times, and some more.
+/// Some bytes, others so many times, and some more.
 fn with_many(
-    rt: &impl AllocGlobal,
+    alloc: Global,
     front: &[u8],
     count: usize,
-    byte: u8,
+    part: &[u8],
     rest: &[u8],
-) -> Result<Vec<u8>, Fail> {
-    let mut bytes = Vec::new(rt.alloc());
-    bytes.extend_from_slice(front)?;
+) -> Result<Vec<u8>, AllocError> {
+    let mut bytes = Vec::from_slice(alloc, front)?;
     for _ in 0..count {
-        bytes.push(byte)?;
+        bytes.extend_from_slice(part)?;
     }
     bytes.extend_from_slice(rest)?;
     Ok(bytes)
 }
 
-/// The smallest portable picture without its end, 24 bytes, so many times one command, one more, and the end.
-fn with_commands(
-    rt: &impl AllocGlobal,
-    command: &[u8],
-    count: usize,
-    more: &[u8],
-) -> Result<Vec<u8>, Fail> {
-    let mut bytes = Vec::new(rt.alloc());
-    bytes.extend_from_slice(b"\x1bPq\"1;1;1;1#0;2;0;0;0#0@")?;
-    for _ in 0..count {
-        bytes.extend_from_slice(command)?;
-    }
-    bytes.extend_from_slice(more)?;
-    bytes.extend_from_slice(b"\x1b\\")?;
-    Ok(bytes)
-}
+/// The smallest portable picture without its end, 24 bytes.
+const OPEN_PIXEL: &[u8] = b"\x1bPq\"1;1;1;1#0;2;0;0;0#0@";
 
 /// Whether a check of the bytes writes this line, and answers this.
 fn checks(alloc: Global, bytes: &[u8], line: &str, answer: Result<Status, RunFault>) -> bool {
@@ -59,16 +44,16 @@ fn outside(place: u64, x: u64, y: u64) -> Result<Status, RunFault> {
 /// A column is 1 + 200 * 65535 and a row 6 * 200. The commands stand at 24 + 200 * 7 and 24 + 200.
 #[test]
 fn pixels_far_outside_are_named(rt: HostRuntime) -> Result<(), Fail> {
-    let bytes = with_commands(&rt, b"!65535?", 200, b"")?;
+    let bytes = with_many(rt.alloc(), OPEN_PIXEL, 200, b"!65535?", b"\x1b\\")?;
     let whole = checks(rt.alloc(), &bytes, "portable 1 1\n", Ok(Status::Done));
     assert!(rt; whole);
-    let bytes = with_commands(&rt, b"!65535?", 200, b"@")?;
+    let bytes = with_many(rt.alloc(), OPEN_PIXEL, 200, b"!65535?", b"@\x1b\\")?;
     let (line, answer) = (
         "broken Outside 1424 13107001 0\n",
         outside(1424, 13_107_001, 0),
     );
     assert!(rt; checks(rt.alloc(), &bytes, line, answer));
-    let bytes = with_commands(&rt, b"-", 200, b"@")?;
+    let bytes = with_many(rt.alloc(), OPEN_PIXEL, 200, b"-", b"@\x1b\\")?;
     let (line, answer) = ("broken Outside 224 0 1200\n", outside(224, 0, 1200));
     assert!(rt; checks(rt.alloc(), &bytes, line, answer));
     Ok(())
@@ -89,7 +74,7 @@ fn the_greatest_numbers_are_checked(rt: HostRuntime) {
 /// The `!` stands at 3, 100,000 zeros from 4 on, the 3 at 100,004, and the end at 100,006.
 #[test]
 fn a_number_with_many_zeros_is_listed(rt: HostRuntime) -> Result<(), Fail> {
-    let bytes = with_many(&rt, b"\x1bPq!", 100_000, b'0', b"3~\x1b\\")?;
+    let bytes = with_many(rt.alloc(), b"\x1bPq!", 100_000, b"0", b"3~\x1b\\")?;
     let lines = b"0 start 7bit 0\n3 repeat 3 63\n100006 end 7bit\n";
     assert!(rt;
         agrees(
@@ -116,7 +101,7 @@ fn refused(reason: PpmReason, place: u64) -> Result<Status, RunFault> {
 /// A header ends before 65,536 bytes: here it has 2 + 65,526 + 8, and one more.
 #[test]
 fn the_longest_header_is_encoded(rt: HostRuntime) -> Result<(), Fail> {
-    let bytes = with_many(&rt, b"P6", 65_526, b' ', b"1 1 100\n\0\0\0")?;
+    let bytes = with_many(rt.alloc(), b"P6", 65_526, b" ", b"1 1 100\n\0\0\0")?;
     assert!(rt;
         encodes(
             rt.alloc(),
@@ -125,16 +110,16 @@ fn the_longest_header_is_encoded(rt: HostRuntime) -> Result<(), Fail> {
             Ok(Status::Done),
         )
     );
-    let bytes = with_many(&rt, b"P6", 65_527, b' ', b"1 1 100\n\0\0\0")?;
+    let bytes = with_many(rt.alloc(), b"P6", 65_527, b" ", b"1 1 100\n\0\0\0")?;
     assert!(rt; encodes(rt.alloc(), &bytes, b"", refused(PpmReason::Header, 65_536),));
-    let bytes = with_many(&rt, b"P6", 65_534, b' ', b"")?;
+    let bytes = with_many(rt.alloc(), b"P6", 65_534, b" ", b"")?;
     assert!(rt; encodes(rt.alloc(), &bytes, b"", refused(PpmReason::Short, 65_536),));
     Ok(())
 }
 
 #[test]
 fn a_size_of_many_digits_is_refused(rt: HostRuntime) -> Result<(), Fail> {
-    let bytes = with_many(&rt, b"P6 ", 1000, b'9', b" 1 100\n")?;
+    let bytes = with_many(rt.alloc(), b"P6 ", 1000, b"9", b" 1 100\n")?;
     assert!(rt; encodes(rt.alloc(), &bytes, b"", refused(PpmReason::Size, 3)));
     Ok(())
 }

@@ -1,75 +1,93 @@
 ghost use Rattle.sixel.specs.Outputs.{HasSides};
 
-use crate::fault::RunFault;
 use crate::run::run;
 use crate::task::{Status, Task};
 use sixel_check::{Verdict, check_bytes};
 use sixel_grammar::{SliceSink, SliceSource};
 use sixel_picture::{Colour, Palette, Picture};
-use std::alloc::Global;
+use std::alloc::{AllocError, Global};
 use std::test::Fail;
 
-/// A picture file of pseudo-random runs in 16 colours.
-fn picture_file(alloc: Global, width: u32, height: u32, seed: u32) -> Result<Vec<u8>, Fail> {
-    let mut bytes = Vec::new(alloc);
-    bytes.extend_from_slice(format!(in alloc; "P6\n{width} {height}\n100\n")?.as_bytes())?;
-    let mut state = seed;
-    let mut percent: u8 = 0;
-    for _ in 0..width.saturating_mul(height) {
-        state = state.wrapping_mul(1_664_525).wrapping_add(1_013_904_223);
-        if state >> 30 == 0 {
-            percent = ((state >> 24) % 16) as u8;
-        }
-        bytes.push(percent.saturating_mul(6))?;
-        bytes.push(90u8.saturating_sub(percent.saturating_mul(6)))?;
-        bytes.push(50)?;
+/// The next of the pseudo-random numbers.
+fn after(state: u32) -> u32 {
+    state.wrapping_mul(1_664_525).wrapping_add(1_013_904_223)
+}
+
+/// The register of the next pixel: in one case of four another one.
+fn drawn(state: u32, register: u8) -> u8 {
+    if state >> 30 == 0 {
+        ((state >> 24) % 16) as u8
+    } else {
+        register
     }
+}
+
+fn push_pixel(bytes: &mut Vec<u8>, percent: u8) -> Result<(), AllocError> {
+    bytes.push(percent)?;
+    bytes.push(90u8.saturating_sub(percent))?;
+    bytes.push(50)?;
+    Ok(())
+}
+
+/// Pseudo-random runs in 16 colours.
+fn push_pixels(bytes: &mut Vec<u8>, count: u32, seed: u32) -> Result<(), AllocError> {
+    let mut state = seed;
+    let mut register = 0;
+    for _ in 0..count {
+        state = after(state);
+        register = drawn(state, register);
+        push_pixel(bytes, register.saturating_mul(6))?;
+    }
+    Ok(())
+}
+
+/// A picture file of pseudo-random runs in 16 colours.
+fn picture_file(alloc: Global, width: u32, height: u32) -> Result<Vec<u8>, Fail> {
+    let head = format!(in alloc; "P6\n{width} {height}\n100\n")?;
+    let mut bytes = Vec::new(alloc);
+    bytes.extend_from_slice(head.as_bytes())?;
+    push_pixels(&mut bytes, width.saturating_mul(height), width)?;
     Ok(bytes)
 }
 
-/// What a task answers for the bytes, and the part of the room that it writes.
-fn sent(
-    alloc: Global,
-    task: Task,
-    bytes: &[u8],
-    room: &mut [u8],
-) -> (Result<Status, RunFault>, usize)
-    requires { HasSides task }
-{
-    let mut input = SliceSource::new(bytes, 37, None);
+/// How many bytes of the room the text of a picture file takes, where it is encoded.
+fn encode_into(alloc: Global, picture: &[u8], room: &mut [u8]) -> Option<usize> {
+    let mut input = SliceSource::new(picture, 37, None);
     let mut output = SliceSink::new(room, 64, None);
-    let answer = run(alloc, task, &mut input, &mut output);
-    (answer, output.written().len())
+    if run(alloc, Task::Encode, &mut input, &mut output) == Ok(Status::Done) {
+        Some(output.written().len())
+    } else {
+        None
+    }
 }
 
-/// What is encoded is portable, and rendered it is the picture that it was.
+/// Whether a task is done for the bytes and writes this.
+fn sends(alloc: Global, task: Task, bytes: &[u8], text: &[u8]) -> bool
+    requires { HasSides task }
+{
+    let mut room = [0; 8192];
+    let mut input = SliceSource::new(bytes, 37, None);
+    let mut output = SliceSink::new(&mut room, 64, None);
+    run(alloc, task, &mut input, &mut output) == Ok(Status::Done) && output.written() == text
+}
+
+/// Whether what is encoded of a picture file of these sides is portable, and rendered it is that file.
+fn returns(alloc: Global, width: u32, height: u32) -> Result<bool, Fail> {
+    let picture = picture_file(alloc, width, height)?;
+    let mut room = [0; 8192];
+    let count = encode_into(alloc, picture.as_slice(), &mut room).ok_or("no text")?;
+    let text = room.get(..count).ok_or("the text")?;
+    let line = format!(in alloc; "portable {width} {height}\n")?;
+    Ok(
+        sends(alloc, Task::Check, text, line.as_bytes())
+            && sends(alloc, Task::Render, text, picture.as_slice()),
+    )
+}
+
 #[test]
 fn encoded_pictures_come_back(rt: HostRuntime) -> Result<(), Fail> {
-    let alloc = rt.alloc();
     for width in 1..=70 {
-        let height = width % 13 + 1;
-        let picture = picture_file(alloc, width, height, width)?;
-        let mut text = [0; 8192];
-        let (answer, count) = sent(alloc, Task::Encode, picture.as_slice(), &mut text);
-        assert_eq!(rt; answer, Ok(Status::Done), "{width} by {height}");
-        let text = text.get(..count).ok_or("the text")?;
-        let mut line = [0; 64];
-        let (answer, count) = sent(alloc, Task::Check, text, &mut line);
-        assert_eq!(rt; answer, Ok(Status::Done), "{width} by {height}");
-        let said = format!(in alloc; "portable {width} {height}\n")?;
-        assert_eq!(rt;
-            line.get(..count),
-            Some(said.as_bytes()),
-            "{width} by {height}"
-        );
-        let mut again = [0; 8192];
-        let (answer, count) = sent(alloc, Task::Render, text, &mut again);
-        assert_eq!(rt; answer, Ok(Status::Done), "{width} by {height}");
-        assert_eq!(rt;
-            again.get(..count),
-            Some(picture.as_slice()),
-            "{width} by {height}"
-        );
+        assert!(rt; returns(rt.alloc(), width, width % 13 + 1)?, "{width}");
     }
     Ok(())
 }

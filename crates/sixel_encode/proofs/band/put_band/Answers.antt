@@ -25,15 +25,15 @@ returns-in_err-put_next-clause-bytes g c =
     let p = c.args.picture.now in
     let register = c.loop-register.register in
     let before = in_all (g.K.Sink.taken c.loop-register.out) c.loop-register.text in
-    let here : occurs p c.args.line register ≡ true =
+    let here : occurs p c.args.band register ≡ true =
     sym (c.band_registers-registers.ensures.value register c.loop-register-test.true) ∙ sym c.if-has.ensures in
     let front = c.in_err-put_next.ensures.bytes in
-    rw (failed.1, registers-all p c.args.line 16 c.band_registers-registers.ensures.picture.palette.entries)
-    (steps-stopped (registers_above p c.args.line) (register_step p c.args.line)
-    (registers-then p c.args.line) register 16
+    rw (failed.1, registers-all p c.args.band 16 c.band_registers-registers.ensures.picture.palette.entries)
+    (steps-stopped (registers_above p c.args.band) (register_step p c.args.band)
+    (registers-then p c.args.band) register 16
     c.loop-register-test.true _ before _ c.loop-register.invariant.bytes (
       front.0,
-      put-as before _ _ _ (ap (take front.0) (step-is p c.args.line register c.loop-register.is_first here
+      put-as before _ _ _ (ap (take front.0) (step-is p c.args.band register c.loop-register.is_first here
           c.loop-register.invariant.first)) front.1,
     ))
 
@@ -48,16 +48,16 @@ loop-register-preserved g c = elim c.if-has.branch [
       let register = c.loop-register.register in
       let before = in_all (g.K.Sink.taken c.loop-register.out) c.loop-register.text in
       let after = in_all (g.K.Sink.taken w.put_next.new.out) w.put_next.new.text in
-      let here : occurs p c.args.line register ≡ true =
+      let here : occurs p c.args.band register ≡ true =
       sym (c.band_registers-registers.ensures.value register c.loop-register-test.true) ∙ sym w.if-has.ensures in
       rw (w.out-is, w.text-is, w.is_first-is)
       (record {
-        bytes = steps-put (registers_above p c.args.line) (register_step p c.args.line)
-            (registers-then p c.args.line) register
+        bytes = steps-put (registers_above p c.args.band) (register_step p c.args.band)
+            (registers-then p c.args.band) register
             _ before _ c.loop-register.invariant.bytes
-            (put-as before after _ _ (step-is p c.args.line register c.loop-register.is_first here
+            (put-as before after _ _ (step-is p c.args.band register c.loop-register.is_first here
             c.loop-register.invariant.first) w.in_ok-put_next.ensures.bytes);
-        first = first-after p c.args.line register here;
+        first = first-after p c.args.band register here;
         taken = TakesMore-then _
             (g.K.Sink.taken c.loop-register.out) _ c.loop-register.invariant.taken w.put_next.ensures.taken;
         unflushed = λ t. c.loop-register.invariant.unflushed (w.put_next.ensures.unflushed t);
@@ -66,12 +66,12 @@ loop-register-preserved g c = elim c.if-has.branch [
   | else-has w ↦
       let p = c.args.picture.now in
       let register = c.loop-register.register in
-      let gone : occurs p c.args.line register ≡ false =
+      let gone : occurs p c.args.band register ≡ false =
       sym (c.band_registers-registers.ensures.value register c.loop-register-test.true) ∙ sym w.if-has.ensures in
       rw (w.out-is, w.text-is, w.is_first-is)
       (record {
-        bytes = put-as _ _ _ _ (step-none p c.args.line register gone) c.loop-register.invariant.bytes;
-        first = c.loop-register.invariant.first ∙ first-same p c.args.line register gone;
+        bytes = put-as _ _ _ _ (step-none p c.args.band register gone) c.loop-register.invariant.bytes;
+        first = c.loop-register.invariant.first ∙ first-same p c.args.band register gone;
         taken = c.loop-register.invariant.taken;
         unflushed = c.loop-register.invariant.unflushed;
         failures = c.loop-register.invariant.failures;
@@ -83,6 +83,6 @@ returns-clause-bytes g c =
     let p = c.args.picture.now in
     let done : c.loop-register.register ≡ 16 = omega arith in
     put-as _ _ _ _
-    (ap (registers_above p c.args.line) done
-    ∙ sym (registers-all p c.args.line 16 c.band_registers-registers.ensures.picture.palette.entries))
+    (ap (registers_above p c.args.band) done
+    ∙ sym (registers-all p c.args.band 16 c.band_registers-registers.ensures.picture.palette.entries))
     c.loop-register.invariant.bytes

@@ -15,7 +15,7 @@ unfolding band_columns
 returns-in_err-put_run-clause-bytes g c =
     let failed = err_from_is_err_and c.from_residual.result c.from_residual.ensures.1 in
     let p = c.args.picture.now in
-    let f = column_bits p c.args.line c.args.register in
+    let f = column_bits p c.args.band c.args.register in
     let before = in_all (g.K.Sink.taken c.loop-x.out) c.loop-x.text in
     let inv = c.loop-x.invariant.stands in
     let within : c.loop-x.x ≤ p.width = omega arith in
@@ -32,7 +32,7 @@ pub loop-x-preserved : goal.loop-x-preserved
 loop-x-preserved g c = elim c.if-next-bits.branch [
   | then-next-bits w ↦
       let inv = c.loop-x.invariant.stands in
-      let f = column_bits c.args.picture.now c.args.line c.args.register in
+      let f = column_bits c.args.picture.now c.args.band c.args.register in
       let same : f c.loop-x.x ≡ c.loop-x.bits = omega arith in
       rw (w.out-is, w.text-is, w.count-is, w.bits-is)
       (record {
@@ -45,7 +45,7 @@ loop-x-preserved g c = elim c.if-next-bits.branch [
       })
   | else-next-bits+in_ok-put_run w ↦
       let inv = c.loop-x.invariant.stands in
-      let f = column_bits c.args.picture.now c.args.line c.args.register in
+      let f = column_bits c.args.picture.now c.args.band c.args.register in
       let other : f c.loop-x.x ≢ c.loop-x.bits = (λ e. w.if-next-bits.false (c.column_bits-next.ensures.value ∙ e)) in
       let before = in_all (g.K.Sink.taken c.loop-x.out) c.loop-x.text in
       rw (w.out-is, w.text-is, w.count-is, w.bits-is, c.column_bits-next.ensures.value)
@@ -56,7 +56,7 @@ loop-x-preserved g c = elim c.if-next-bits.branch [
           columns-other f c.loop-x.x c.loop-x.count c.loop-x.bits inv.0 inv.2 other,
         );
         short = omega arith;
-        small = column_most c.args.picture.now c.args.line c.args.register c.loop-x.x;
+        small = column_most c.args.picture.now c.args.band c.args.register c.loop-x.x;
         taken = TakesMore-then _ (g.K.Sink.taken c.loop-x.out) _ c.loop-x.invariant.taken w.put_run.ensures.taken;
         unflushed = λ t. c.loop-x.invariant.unflushed (w.put_run.ensures.unflushed t);
         failures = cc (w.in_ok-put_run.ensures.failures, c.loop-x.invariant.failures);
@@ -65,7 +65,7 @@ loop-x-preserved g c = elim c.if-next-bits.branch [
 
 pub loop-x-init : goal.loop-x-init
 loop-x-init g c = record {
-  stands = ([], Appends-none _, columns-none (column_bits c.args.picture.now c.args.line c.args.register));
+  stands = ([], Appends-none _, columns-none (column_bits c.args.picture.now c.args.band c.args.register));
   short = omega arith;
   small = omega arith;
   taken = TakesMore-refl _;
@@ -77,7 +77,7 @@ pub returns-then-bits-eq0-clause-bytes : goal.returns-then-bits-eq0-clause-bytes
 unfolding band_columns
 returns-then-bits-eq0-clause-bytes g c =
     let p = c.args.picture.now in
-    let f = column_bits p c.args.line c.args.register in
+    let f = column_bits p c.args.band c.args.register in
     let inv = c.loop-x.invariant.stands in
     let done : c.loop-x.x ≡ p.width = omega arith in
     put-as _ _ _ _
@@ -88,7 +88,7 @@ pub returns-clause-bytes : goal.returns-clause-bytes
 unfolding band_columns
 returns-clause-bytes g c =
     let p = c.args.picture.now in
-    let f = column_bits p c.args.line c.args.register in
+    let f = column_bits p c.args.band c.args.register in
     let before = in_all (g.K.Sink.taken c.loop-x.out) c.loop-x.text in
     let inv = c.loop-x.invariant.stands in
     let done : c.loop-x.x ≡ p.width = omega arith in

@@ -10,7 +10,7 @@ abbrev pub invariant-loop-x : goal.invariant-loop-x
 invariant-loop-x g l = record {
   stands : (put : List ℕ) × Appends (in_all (g.K.Sink.taken l.fn.out) l.fn.text) (in_all (g.K.Sink.taken l.out) l.text)
       put
-      × StandsBefore (column_bits l.fn.picture l.fn.line l.fn.register) l.x put l.count l.bits;
+      × StandsBefore (column_bits l.fn.picture l.fn.band l.fn.register) l.x put l.count l.bits;
   short : l.count ≤ l.x;
   small : l.bits ≤ 63;
   taken : TakesMore (g.K.Sink.taken l.fn.out) (g.K.Sink.taken l.out);

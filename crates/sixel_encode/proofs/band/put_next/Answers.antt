@@ -8,7 +8,7 @@ pub returns-clause-bytes : goal.returns-clause-bytes
 returns-clause-bytes g c =
     let before = in_all (g.K.Sink.taken c.put_between.new.out) c.put_between.new.text in
     puts-joined c.put_register.result _ before _ _ _ _
-    (next-parts c.args.picture.now c.args.line c.args.register c.args.is_first)
+    (next-parts c.args.picture.now c.args.band c.args.register c.args.is_first)
     c.in_ok-put_between.ensures.bytes c.put_register.ensures.bytes
 
 pub returns-clause-taken : goal.returns-clause-taken

@@ -11,7 +11,7 @@ pub returns-clause-bytes : goal.returns-clause-bytes
 unfolding band_columns
 returns-clause-bytes g c =
     let before = in_all (g.K.Sink.taken c.put_command.new.out) c.put_command.new.text in
-    puts-joined c.put_columns.result _ before _ _ _ _ (register-parts c.args.picture.now c.args.line c.args.register)
+    puts-joined c.put_columns.result _ before _ _ _ _ (register-parts c.args.picture.now c.args.band c.args.register)
     (put-as _ before _ _ (ap (λ (s : Command). commands_text (s ∷ [])) c.select.ensures)
     c.in_ok-put_command.ensures.bytes)
     c.put_columns.ensures.bytes

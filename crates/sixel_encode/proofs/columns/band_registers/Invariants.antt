@@ -5,4 +5,4 @@ use Rattle.sixel_encode.proofs.columns.band_registers.Given as goal
 
 abbrev pub invariant-loop-x : goal.invariant-loop-x
 invariant-loop-x l = (register : ℕ) → register < 16
-    → (bit_at l.registers register == 1) ≡ has_bits (map (column_bits l.picture l.line register) (below l.x))
+    → (bit_at l.registers register == 1) ≡ has_bits (map (column_bits l.picture l.band register) (below l.x))

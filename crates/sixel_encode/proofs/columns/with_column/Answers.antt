@@ -8,7 +8,7 @@ use Rattle.sixel_encode.proofs.columns.with_column.Goals as goal
 
 pub loop-row-preserved : goal.loop-row-preserved
 loop-row-preserved c = λ register small.
-    let has = has_pixel c.args.picture.now c.args.line register c.args.x in
+    let has = has_pixel c.args.picture.now c.args.band register c.args.x in
     let before = bit_at c.args.registers register == 1 in
     c.with_pixel-result.ensures register small
     ∙ ap (λ (t : Bool). t || has c.loop-row.row) (c.loop-row.invariant register small)
@@ -21,4 +21,4 @@ returns c = λ register small.
     let stands = c.loop-row.invariant register small in
     (rw done at stands)
     ∙ ap (λ (t : Bool). (bit_at c.args.registers register == 1) || t)
-    (column_has c.args.picture.now c.args.line register c.args.x)
+    (column_has c.args.picture.now c.args.band register c.args.x)

@@ -6,4 +6,4 @@ use Rattle.sixel_encode.proofs.columns.with_column.Given as goal
 
 abbrev pub invariant-loop-row : goal.invariant-loop-row
 invariant-loop-row l = (register : ℕ) → register < 16 → (bit_at l.result register == 1)
-    ≡ ((bit_at l.registers register == 1) || list_any (has_pixel l.picture l.line register l.x) (below l.row))
+    ≡ ((bit_at l.registers register == 1) || list_any (has_pixel l.picture l.band register l.x) (below l.row))

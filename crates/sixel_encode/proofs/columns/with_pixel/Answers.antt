@@ -9,7 +9,7 @@ use Rattle.sixel_encode.proofs.columns.with_pixel.Goals as goal
 
 pub returns-then-y-height : goal.returns-then-y-height
 returns-then-y-height c = λ register small.
-    let y = 6 * c.args.line + c.args.row in
+    let y = 6 * c.args.band + c.args.row in
     let own = register_of c.args.picture.now c.args.x y in
     let inside : nat_lt y c.args.picture.now.height ≡ true = lt-ltb _ _ (omega arith) in
     rw (c.register_at.ensures.same)

@@ -8,8 +8,8 @@ use Rattle.sixel_encode.proofs.Steps.{band_step, bands-all, bands-then, bands_ab
 use Rattle.sixel_encode.proofs.Texts.{text-none}
 use Rattle.sixel_encode.proofs.writing.put_bands.Goals as goal
 
-pub loop-line-init : goal.loop-line-init
-loop-line-init g c = record {
+pub loop-band-init : goal.loop-band-init
+loop-band-init g c = record {
   bytes = rw text-none (Appends-none _);
   taken = TakesMore-refl _;
   unflushed = λ t. t;
@@ -20,30 +20,30 @@ pub returns-in_err-put_next_band-clause-bytes : goal.returns-in_err-put_next_ban
 returns-in_err-put_next_band-clause-bytes g c =
     let failed = err_from_is_err_and c.from_residual.result c.from_residual.ensures.1 in
     let p = c.args.picture.now in
-    let before = in_all (g.K.Sink.taken c.loop-line.out) c.loop-line.text in
+    let before = in_all (g.K.Sink.taken c.loop-band.out) c.loop-band.text in
     rw (failed.1, bands-all p)
-    (steps-stopped (bands_above p) (band_step p) (bands-then p) c.loop-line.line (bands p) (omega arith)
-    _ before _ c.loop-line.invariant.bytes c.in_err-put_next_band.ensures.bytes)
+    (steps-stopped (bands_above p) (band_step p) (bands-then p) c.loop-band.band (bands p) (omega arith)
+    _ before _ c.loop-band.invariant.bytes c.in_err-put_next_band.ensures.bytes)
 
 pub returns-in_err-put_next_band-clause-taken : goal.returns-in_err-put_next_band-clause-taken
 returns-in_err-put_next_band-clause-taken g c =
-    TakesMore-then _ (g.K.Sink.taken c.loop-line.out) _ c.loop-line.invariant.taken c.put_next_band.ensures.taken
+    TakesMore-then _ (g.K.Sink.taken c.loop-band.out) _ c.loop-band.invariant.taken c.put_next_band.ensures.taken
 
-pub loop-line-preserved : goal.loop-line-preserved
-loop-line-preserved g c =
+pub loop-band-preserved : goal.loop-band-preserved
+loop-band-preserved g c =
     let p = c.args.picture.now in
-    let before = in_all (g.K.Sink.taken c.loop-line.out) c.loop-line.text in
+    let before = in_all (g.K.Sink.taken c.loop-band.out) c.loop-band.text in
     record {
-      bytes = steps-put (bands_above p) (band_step p) (bands-then p) c.loop-line.line
-          _ before _ c.loop-line.invariant.bytes c.in_ok-put_next_band.ensures.bytes;
-      taken = TakesMore-then _ (g.K.Sink.taken c.loop-line.out) _ c.loop-line.invariant.taken
+      bytes = steps-put (bands_above p) (band_step p) (bands-then p) c.loop-band.band
+          _ before _ c.loop-band.invariant.bytes c.in_ok-put_next_band.ensures.bytes;
+      taken = TakesMore-then _ (g.K.Sink.taken c.loop-band.out) _ c.loop-band.invariant.taken
           c.put_next_band.ensures.taken;
-      unflushed = λ t. c.loop-line.invariant.unflushed (c.put_next_band.ensures.unflushed t);
-      failures = cc (c.in_ok-put_next_band.ensures.failures, c.loop-line.invariant.failures);
+      unflushed = λ t. c.loop-band.invariant.unflushed (c.put_next_band.ensures.unflushed t);
+      failures = cc (c.in_ok-put_next_band.ensures.failures, c.loop-band.invariant.failures);
     }
 
 pub returns-clause-bytes : goal.returns-clause-bytes
 returns-clause-bytes g c =
     let p = c.args.picture.now in
-    let done : c.loop-line.line ≡ bands p = omega arith in
-    put-as _ _ _ _ (ap (bands_above p) done ∙ sym (bands-all p)) c.loop-line.invariant.bytes
+    let done : c.loop-band.band ≡ bands p = omega arith in
+    put-as _ _ _ _ (ap (bands_above p) done ∙ sym (bands-all p)) c.loop-band.invariant.bytes

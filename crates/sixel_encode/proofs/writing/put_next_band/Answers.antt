@@ -7,7 +7,7 @@ use Rattle.sixel_encode.proofs.writing.put_next_band.Goals as goal
 pub returns-clause-bytes : goal.returns-clause-bytes
 returns-clause-bytes g c =
     let before = in_all (g.K.Sink.taken c.put_between.new.out) c.put_between.new.text in
-    puts-joined c.put_band.result _ before _ _ _ _ (band-parts c.args.picture.now c.args.line)
+    puts-joined c.put_band.result _ before _ _ _ _ (band-parts c.args.picture.now c.args.band)
     c.in_ok-put_between.ensures.bytes c.put_band.ensures.bytes
 
 pub returns-clause-taken : goal.returns-clause-taken

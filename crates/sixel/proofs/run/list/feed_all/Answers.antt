@@ -30,7 +30,9 @@ loop-byte-preserved g c =
           let next = c.in-Ok.ensures.accepted (events ++ inv.0) (bytes ++ take i piece) inv.1 in (
             inv.0 ++ done,
             stands-as _ _ _ _ _ (append_assoc events inv.0 done) (one_past bytes piece i c.loop-byte-test.true) next,
-            Appends-then _ (in_all (g.K.Sink.taken c.loop-byte.out) c.loop-byte.lines) _ _ _ _ inv.2
+            Appends-then _ (in_all (g.K.Sink.taken c.loop-byte.out) c.loop-byte.lines)
+                (in_all (g.K.Sink.taken c.put_lines.new.out) c.put_lines.new.lines) (list_text inv.0) (list_text done)
+                (list_text (inv.0 ++ done)) inv.2
                 c.in-Ok-put_lines.ensures.bytes (list_text-append inv.0 done),
           );
       more = TakesMore-then _ _ _ c.loop-byte.invariant.more c.in-Ok-put_lines.ensures.more;

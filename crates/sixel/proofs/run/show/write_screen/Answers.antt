@@ -1,15 +1,19 @@
+use Rattle.std.proofs.lemmas.Result.{err_from_is_err_and}
 use Rattle.sixel.specs.Screens.{show_terminal}
 use Rattle.sixel.proofs.Screens.{unwritten, written}
 use Rattle.sixel.proofs.run.show.write_screen.Goals as goal
 
-pub returns-in-Ok-clause-wrote : goal.returns-in-Ok-clause-wrote
+pub returns-clause-wrote : goal.returns-clause-wrote
 unfolding show_terminal
-returns-in-Ok-clause-wrote g c = λ events bytes doc is.
+returns-clause-wrote g c = λ events bytes doc is.
     written {A = Unit {0}} (show_terminal c.args.choices) bytes events (g.K.Sink.taken c.args.output.now)
-    (g.K.Sink.taken c.write_ppm_colours.new.out) c.args.shown.now tt doc is c.in-Ok.ensures.bytes
+    (g.K.Sink.taken c.write_ppm_colours.new.out) c.args.shown.now tt doc is c.in_ok-write_ppm_colours.ensures.bytes
 
-pub returns-in-Err-clause-wrote : goal.returns-in-Err-clause-wrote
+pub returns-in_err-write_ppm_colours-clause-wrote : goal.returns-in_err-write_ppm_colours-clause-wrote
 unfolding show_terminal
-returns-in-Err-clause-wrote g c = λ events bytes doc is.
-    rw c.from.ensures (unwritten (Unit {0}) (show_terminal c.args.choices) bytes events (g.K.Sink.taken c.args.output.now)
-    (g.K.Sink.taken c.write_ppm_colours.new.out) c.args.shown.now c.in-Err.fault doc is c.in-Err.ensures.bytes)
+returns-in_err-write_ppm_colours-clause-wrote g c = λ events bytes doc is.
+    let failed = err_from_is_err_and c.from_residual.result c.from_residual.ensures.1 in
+    rw (failed.1, failed.2)
+    (unwritten (Unit {0}) (show_terminal c.args.choices) bytes events (g.K.Sink.taken c.args.output.now)
+    (g.K.Sink.taken c.write_ppm_colours.new.out) c.args.shown.now c.in_err-write_ppm_colours.field-0.0 doc is
+    c.in_err-write_ppm_colours.ensures.bytes)
