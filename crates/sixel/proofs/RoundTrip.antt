@@ -1,7 +1,10 @@
 -- The text of a picture, checked.
+use Rattle.std.specs.Prelude.{Ok, Err}
 use Rattle.std.proofs.Common.{◌≡◌, ◌∙◌, ◌+◌, ℕ, List, [], ◌∷◌, length, lit≤, refl, sym, ap, subst}
 use Rattle.sixel_grammar.specs.declared.command.Event.{Event}
 use Rattle.sixel_grammar.specs.declared.command.Placed.{Placed}
+use Rattle.sixel_grammar.specs.declared.fault.InputFault.TheVariants.{Grammar, OutOfMemory, Read}
+use Rattle.sixel_grammar.proofs.Unique.{fault_no_document}
 use Rattle.sixel_grammar.specs.Document.{events_of}
 use Rattle.sixel_grammar.specs.FixedText.{fixed_places}
 use Rattle.sixel_grammar.specs.Spelling.{fixed_spelling}
@@ -10,11 +13,12 @@ use Rattle.sixel_picture.specs.Rules.{BreaksNone, picture_left}
 use Rattle.sixel_check.specs.declared.verdict.Verdict.TheVariants.{Portable}
 use Rattle.sixel_check.specs.Portable.{IsPortable}
 use Rattle.sixel_check.proofs.ShownLemmas.{left_is_portable}
-use Rattle.sixel_encode.specs.Canon.{canon}
+use Rattle.sixel_encode.specs.Canon.{canon, canon_text}
 use Rattle.sixel_encode.proofs.Length
 use Rattle.sixel_encode.proofs.Whole
 use Rattle.sixel_encode.proofs.Written
-use Rattle.sixel.specs.Laws.{EncodedChecks, EncodedIsPortable}
+use Rattle.sixel.specs.Laws.{EncodedAnswers, EncodedChecks, EncodedIsPortable}
+use Rattle.sixel.proofs.Checks.{same_verdict}
 use Rattle.sixel.specs.Texts.{portable_line}
 
 events_placed : (n : ℕ) (es : List Event) → events_of (fixed_places n es) ≡ es
@@ -34,6 +38,15 @@ encoded_is_portable p is =
       (subst (BreaksNone 16 12) (sym same) none, sym left ∙ ap (picture_left 16) (sym same)),
       subst (λ (es : List Event). IsPortable 16 es p) (sym same) shown,
     )
+
+pub encoded_answers : EncodedAnswers
+encoded_answers p (Ok verdict) is answers =
+    let found = encoded_is_portable p is in
+    same_verdict (canon_text p) answers.0 found.0 verdict (Portable p) answers.1 found.1 answers.2 found.2
+encoded_answers p (Err OutOfMemory) is answers = tt
+encoded_answers p (Err Read) is answers = tt
+encoded_answers p (Err (Grammar fault)) is answers =
+    let found = encoded_is_portable p is in fault_no_document (canon_text p) fault answers (found.0, found.1)
 
 pub encoded_checks : EncodedChecks
 encoded_checks p is =

@@ -1,12 +1,26 @@
 -- How the program ends.
-use Rattle.std.specs.Prelude.{Result, Ok, Err}
-use Rattle.sixel.specs.declared.Exit.{Exit}
-use Rattle.sixel.specs.declared.Exit.TheVariants.{Done, Broken, Refused, Usage}
+use Rattle.std.specs.Prelude.{◌≡◌, ◌⊎◌, ℕ, List, [], Bool, false, true, take, Option, IfSome, Result, Ok, Err, if◌then◌else◌}
+use Rattle.std.specs.Io.KnownBytes.{Appends}
+use Rattle.sixel_grammar.specs.Devices.{one_more}
+use Rattle.sixel.specs.declared.exit.Exit.{Exit}
+use Rattle.sixel.specs.declared.exit.Exit.TheVariants.{Done, Broken, Refused, Usage}
 use Rattle.sixel.specs.declared.fault.RunFault.{RunFault}
 use Rattle.sixel.specs.declared.task.Status.{Status}
 use Rattle.sixel.specs.declared.task.Status.TheVariants as status
+use Rattle.sixel.specs.declared.task.Task.{Task}
+use Rattle.sixel.specs.declared.task.Task.TheVariants as task
 use Rattle.sixel.specs.declared.words.WordsFault.{WordsFault}
 use Rattle.sixel.specs.declared.words.WordsFault.TheVariants as fault
+use Rattle.sixel.specs.declared.fault.RunFault.TheVariants as run
+use Rattle.sixel.specs.Outputs.{CountsReads, CountsWrites, TakesMemory, Wrote}
+use Rattle.sixel.specs.Texts.{Text, fault_line, finding_line}
+
+-- the numbers
+abbrev pub exit_code : Exit → ℕ
+exit_code Done = 0
+exit_code Broken = 1
+exit_code Refused = 2
+exit_code Usage = 3
 
 -- after a run
 abbrev pub exit_for_answer : Result Status RunFault → Exit
@@ -19,3 +33,36 @@ abbrev pub exit_for_words : WordsFault → Exit
 exit_for_words (fault.Help text) = Done
 exit_for_words (fault.Usage text) = Usage
 exit_for_words fault.OutOfMemory = Refused
+
+-- ---- what is said of a run
+
+abbrev pub is_render : Task → Bool
+is_render task.Render = true
+is_render _ = false
+
+-- the line of a refusal, or of the broken rule that kept a picture from being rendered; else none
+abbrev pub complaint : Task → Result Status RunFault → Text
+complaint t (Ok status.Done) = []
+complaint t (Ok (status.Broken finding)) = if is_render t then finding_line finding else []
+complaint t (Err fault) = fault_line fault
+
+-- the text was appended to what a sink had, or a front of it, and the sink failed; of what a sink has, and of its count of
+-- failures, it is said what they were before and after
+abbrev pub IsPut : Text → Option (List ℕ) × Option (List ℕ) → ℕ × ℕ → Type 0
+IsPut text taken failures =
+    (Appends taken.0 taken.1 text × (failures.1 ≡ failures.0))
+    ⊎ ((n : ℕ) × Appends taken.0 taken.1 (take n text) × (failures.1 ≡ one_more failures.0))
+
+-- a run of the task had some answer. The source and the first sink are as after such a run, the program ends as after it,
+-- and the second sink was put the line that is said of it
+-- of each device stands here what it was before and after: the bytes that it tells, and its count of failures
+pub record RunEnds (t : Task) (exit : Exit) (input : Option (List ℕ) × Option (List ℕ)) (reads : ℕ × ℕ)
+    (output : Option (List ℕ) × Option (List ℕ)) (writes : ℕ × ℕ)
+    (errors : Option (List ℕ) × Option (List ℕ)) (complaints : ℕ × ℕ) : Type 0 where
+  pub answer : Result Status RunFault
+  pub wrote : IfSome input.0 (λ bytes. Wrote t bytes input.1 answer output.0 output.1)
+  pub memory : answer ≡ Err run.OutOfMemory → TakesMemory t input.0
+  pub read : CountsReads answer reads.0 reads.1
+  pub written : CountsWrites answer writes.0 writes.1
+  pub ends : exit ≡ exit_for_answer answer
+  pub said : IsPut (complaint t answer) errors complaints

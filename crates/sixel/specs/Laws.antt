@@ -1,8 +1,12 @@
 -- What the laws of encoded pictures say.
-use Rattle.std.specs.Prelude.{ℕ, List, Ok}
+use Rattle.std.specs.Prelude.{◌≡◌, ℕ, List, Result, Ok, Err, ⊤}
 use Rattle.sixel_grammar.specs.declared.command.Placed.{Placed}
+use Rattle.sixel_grammar.specs.declared.fault.InputFault.{InputFault}
+use Rattle.sixel_grammar.specs.declared.fault.InputFault.TheVariants.{Grammar, OutOfMemory, Read}
 use Rattle.sixel_grammar.specs.Document.{Document, events_of}
 use Rattle.sixel_picture.specs.Pictures.{IsPicture, PictureValue}
+use Rattle.sixel_check.specs.Checking.{Answers}
+use Rattle.sixel_check.specs.declared.verdict.Verdict.{Verdict}
 use Rattle.sixel_check.specs.declared.verdict.Verdict.TheVariants.{Portable}
 use Rattle.sixel_check.specs.Portable.{IsPortable}
 use Rattle.sixel_check.specs.Verdicts.{IsVerdict}
@@ -17,6 +21,18 @@ EncodedIsPortable registers =
     (p : PictureValue) → IsPicture registers p
     → (events : List Placed) × Document events (canon_text p) × IsVerdict registers events (Portable p)
     × IsPortable registers (events_of events) p
+
+-- the answer is that the picture is portable; or memory was wanting, or a read failed
+abbrev pub IsPortableAnswer : PictureValue → Result Verdict InputFault → Type 0
+IsPortableAnswer p (Ok verdict) = verdict ≡ Portable p
+IsPortableAnswer p (Err OutOfMemory) = ⊤
+IsPortableAnswer p (Err Read) = ⊤
+IsPortableAnswer p (Err (Grammar fault)) = ⊥
+
+-- whatever a check may answer for that text is that the picture is portable, or want of memory, or a failed read
+abbrev pub EncodedAnswers : Type 0
+EncodedAnswers = (p : PictureValue) (answer : Result Verdict InputFault) → IsPicture 16 p
+    → Answers answer (canon_text p) → IsPortableAnswer p answer
 
 -- and so a check of it writes that it is portable, with its size
 abbrev pub EncodedChecks : Type 0

@@ -119,13 +119,19 @@ rule_name rule.Outside = codes "Outside"
 rule_name rule.Uncovered = codes "Uncovered"
 
 -- the column and the row, where there is a pixel
-abbrev pub pixel_parts : Option (ℕ × ℕ) → List Text
-pixel_parts None = []
-pixel_parts (Some pixel) = numbers (pixel.0 ∷ pixel.1 ∷ [])
+abbrev pub point_parts : Option (ℕ × ℕ) → List Text
+point_parts None = []
+point_parts (Some pixel) = numbers (pixel.0 ∷ pixel.1 ∷ [])
+
+-- the pixel of a rule that names one
+abbrev pub pixel_parts : Rule → Option (ℕ × ℕ) → List Text
+pixel_parts rule.Outside pixel = point_parts pixel
+pixel_parts rule.Uncovered pixel = point_parts pixel
+pixel_parts _ pixel = []
 
 -- the rule, the place and the pixel
 abbrev pub finding_line : Finding → Text
-finding_line f = line (codes "broken") (rule_name f.rule ∷ decimal f.place ∷ pixel_parts f.pixel)
+finding_line f = line (codes "broken") (rule_name f.rule ∷ decimal f.place ∷ pixel_parts f.rule f.pixel)
 
 -- the width and the height
 abbrev pub portable_line : PictureValue → Text

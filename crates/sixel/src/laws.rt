@@ -6,7 +6,7 @@ ghost use Rattle.sixel.specs.declared.fault.RunFault.{RunFault};
 ghost use Rattle.sixel.specs.declared.task.Status.{Status};
 ghost use Rattle.sixel.specs.declared.task.Task.{Task};
 ghost use Rattle.sixel.specs.declared.task.Task.TheVariants.{List as Listing, Show};
-ghost use Rattle.sixel.specs.Laws.{EncodedChecks, EncodedIsPortable};
+ghost use Rattle.sixel.specs.Laws.{EncodedAnswers, EncodedChecks, EncodedIsPortable};
 ghost use Rattle.sixel.specs.Outputs.{Gives};
 ghost use Rattle.sixel.specs.Texts.{Text};
 ghost use Rattle.sixel.specs.Words.{IsTaskOf, sixel_app};
@@ -24,9 +24,11 @@ pub fn tasks_give_one_output()
 {}
 
 /// The text that `encode` writes of any picture is a document whose verdict is that picture, palette included, and
-/// which each terminal of the class with room shows; and a check of it says so.
+/// which each terminal of the class with room shows. Whatever a check may answer for it is that this picture is portable,
+/// or want of memory, or that a read failed; and its line says so.
 pub fn encoded_pictures_are_portable()
     ensures portable { EncodedIsPortable 16 }
+    ensures answered { EncodedAnswers }
     ensures checked { EncodedChecks }
 {}
 

@@ -3,7 +3,7 @@
 ghost use Rattle.std.specs.Prelude.{◌≡◌, ◌+◌, ◌*◌, ◌≤◌, ◌++◌, ◌∷◌, length, decimal};
 ghost use Rattle.arrayvec.specs.ArrayVec.{array_vec_len};
 ghost use Rattle.sixel_grammar.specs.Devices.{CountsFailure, NeverFlushes, Puts};
-ghost use Rattle.sixel.specs.Texts.{event_line, event_parts, fault_line, finding_line, kind_name, numbers, portable_line};
+ghost use Rattle.sixel.specs.Texts.{event_line, event_parts, fault_line, finding_line, kind_name, numbers, pixel_parts, portable_line};
 ghost use Rattle.sixel.specs.Texts.{ppm_reason_name, reason_name, rule_name, spaced, verdict_line};
 
 use crate::fault::RunFault;
@@ -160,7 +160,7 @@ fn ppm_reason_name(reason: PpmReason) -> &'static str
 }
 
 /// The line of a fault.
-fn fault_line(fault: &RunFault) -> Line
+pub fn fault_line(fault: &RunFault) -> Line
     ensures { result.items ≡ fault_line fault.now }
 {
     let mut line = ArrayVec::new();
@@ -215,18 +215,30 @@ fn rule_name(rule: Rule) -> &'static str
     }
 }
 
+/// The pixel of a finding whose rule names one.
+fn push_pixel(line: &mut Line, finding: &Finding)
+    requires { array_vec_len line.old ≤ 50 }
+    ensures items { line.new.items ≡ line.old.items ++ spaced (pixel_parts finding.now.rule finding.now.pixel) }
+    ensures len { array_vec_len line.new ≤ 92 }
+{
+    match (finding.rule, finding.pixel) {
+        (Rule::Outside | Rule::Uncovered, Some((x, y))) => {
+            push_number(line, x);
+            push_number(line, y);
+        }
+        _ => {}
+    }
+}
+
 /// The line of a finding.
-fn finding_line(finding: &Finding) -> Line
+pub fn finding_line(finding: &Finding) -> Line
     ensures { result.items ≡ finding_line finding.now }
 {
     let mut line = ArrayVec::new();
     push_all(&mut line, b"broken ");
     push_all(&mut line, rule_name(finding.rule).as_bytes());
     push_number(&mut line, finding.place);
-    if let Some((x, y)) = finding.pixel {
-        push_number(&mut line, x);
-        push_number(&mut line, y);
-    }
+    push_pixel(&mut line, finding);
     line.push(b'\n');
     line
 }

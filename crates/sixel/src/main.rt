@@ -1,17 +1,21 @@
 //! The program `sixel`: checks, lists, draws and writes sixel pictures, from standard input to standard output.
 #![tactic(auto)]
 
-ghost use Rattle.std.specs.Prelude.{◌≡◌, ◌≢◌, IfErr, IfOk, IfSome, Ok, false, is_ok, map};
+ghost use Rattle.std.specs.Prelude.{◌≡◌, ◌≢◌, IfErr, IfOk, IfSome, Ok, false, is_ok, map, true};
 ghost use Rattle.std.specs.String.{string_bytes};
 ghost use Rattle.std.specs.Vec.Iter.{into_iter_items};
 ghost use Rattle.sixel_check.specs.declared.verdict.Finding.{Finding as AFinding};
-ghost use Rattle.sixel.specs.Exits.{exit_for_answer, exit_for_words};
+ghost use Rattle.sixel.specs.Exits.{exit_for_words};
 ghost use Rattle.sixel.specs.Outputs.{Gives, HasSides};
 ghost use Rattle.sixel.specs.Texts.{Text};
-ghost use Rattle.sixel.specs.Words.{IsSortedOut, IsTaskOf};
+ghost use Rattle.sixel.specs.Words.{IsSortedOut, IsTaskOf, sixel_app};
+ghost use Rattle.sixel.specs.declared.task.Status.{Status};
+ghost use Rattle.sixel.specs.declared.task.Task.{Task as ATask};
+ghost use Rattle.clap.specs.Takes.{takes};
 
+mod exit;
 mod fault;
-mod laws;
+pub mod laws;
 mod lines;
 mod run;
 mod task;
@@ -20,32 +24,24 @@ mod watched;
 mod words;
 
 use clap::Error;
+use exit::{Exit, code_of, report};
 use fault::RunFault;
-use lines::{write_fault, write_finding};
+use lines::write_fault;
 use sixel_grammar::{FromRead, ToWrite, put_all};
 use std::alloc::Global;
 use std::env::Args;
 use std::io::{ErrorKind, Read, Write};
 use std::process::ExitCode;
 use std::{env, io};
-use task::{Status, Task};
+use task::Task;
 use words::{WordsFault, parse_words, usage};
-
-/// How the program ends. The numbers are its exit statuses.
-#[derive(Clone, Copy, Debug, PartialEq, Eq)]
-enum Exit {
-    Done = 0,
-    Broken = 1,
-    Refused = 2,
-    Usage = 3,
-}
 
 fn main(rt: HostRuntime) -> ExitCode {
     let exit = match task_in(rt.alloc(), env::args(&rt)) {
         Ok(task) => execute(rt.alloc(), task, rt.stdin(), rt.stdout(), rt.stderr()),
         Err(fault) => explain(rt.alloc(), fault, rt.stdout(), rt.stderr()),
     };
-    ExitCode::from(exit as u8)
+    ExitCode::from(code_of(exit))
 }
 
 /// The task that these arguments name, of which the first is the program's name; none where they couldn't be read.
@@ -55,6 +51,9 @@ fn task_in(alloc: Global, arguments: io::Result<Args>) -> Result<Task, WordsFaul
     ensures sides { IfOk result HasSides }
     ensures unread { IfErr arguments (λ error. is_ok result ≡ false) }
     ensures fault { IfErr result IsSortedOut }
+    ensures accepted { IfErr result (λ fault. IfOk arguments (λ words.
+        takes sixel_app (map string_bytes (into_iter_items words)) ≡ true → (t : ATask) →
+        IsTaskOf (map string_bytes (into_iter_items words)) t → fault ≡ WordsFault.OutOfMemory)) }
 {
     let arguments = match arguments {
         Ok(arguments) => arguments,
@@ -67,7 +66,7 @@ fn task_in(alloc: Global, arguments: io::Result<Args>) -> Result<Task, WordsFaul
     }
 }
 
-/// Runs the task, and says on the third stream why it was refused, or which rule kept a picture from being rendered.
+/// Runs the task over streams, of which the third gets the line that `report` puts.
 fn execute<R: Read + Drop, W: Write + Drop, E: Write + Drop>(
     alloc: Global,
     task: Task,
@@ -82,33 +81,10 @@ fn execute<R: Read + Drop, W: Write + Drop, E: Write + Drop>(
         (text : Text) × (finding : AFinding) × Gives task bytes text (Ok (Status.Broken finding))) }
     ensures no_usage { result ≢ Exit.Usage }
 {
-    let answer = run::run(
-        alloc,
-        task,
-        &mut FromRead::new(input),
-        &mut ToWrite::new(output),
-    );
-    // If a line can't be written, the exit status stays.
-    match answer {
-        Ok(Status::Broken(finding)) if task == Task::Render => {
-            let _ = write_finding(&finding, &mut ToWrite::new(errors));
-        }
-        Ok(_) => {}
-        Err(fault) => {
-            let _ = write_fault(&fault, &mut ToWrite::new(errors));
-        }
-    }
-    exit_of(answer)
-}
-
-fn exit_of(answer: Result<Status, RunFault>) -> Exit
-    ensures { result ≡ exit_for_answer answer }
-{
-    match answer {
-        Ok(Status::Done) => Exit::Done,
-        Ok(Status::Broken(_)) => Exit::Broken,
-        Err(_) => Exit::Refused,
-    }
+    let mut input = FromRead::new(input);
+    let mut output = ToWrite::new(output);
+    let mut errors = ToWrite::new(errors);
+    report(alloc, task, &mut input, &mut output, &mut errors)
 }
 
 /// Shows the help that was asked for, or says what is wrong with the words.

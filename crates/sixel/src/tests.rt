@@ -3,10 +3,12 @@ ghost use Rattle.sixel.specs.Outputs.{HasSides};
 mod examples;
 mod streams;
 
+use crate::exit::Exit;
 use crate::task::Task;
-use crate::words::{WordsFault, parse_words, usage};
-use crate::{Exit, execute, explain};
+use crate::words::{WordsFault, parse_words};
+use crate::{execute, explain, task_in};
 use std::alloc::Global;
+use std::io::{Error, ErrorKind};
 use std::test::Fail;
 
 /// Whether a task on the bytes ends so, and writes this to standard output and this to standard error.
@@ -91,12 +93,20 @@ Options:
   -h, --help  Print help
 ";
 
-const USAGE: &str = "error: not text
+const USAGE: &str = "error: the arguments are not text
 
 Usage: sixel <COMMAND>
 
 For more information, try '--help'.
 ";
+
+/// Whether arguments that couldn't be read for this reason end the program so, with this on standard error.
+fn unread(alloc: Global, reason: ErrorKind, exit: Exit, said: &str) -> bool {
+    match task_in(alloc, Err(Error::from(reason))) {
+        Ok(_) => false,
+        Err(fault) => explains(alloc, fault, exit, "", said),
+    }
+}
 
 #[test]
 fn ends_by_what_is_wrong_with_the_words(rt: HostRuntime) -> Result<(), Fail> {
@@ -109,16 +119,8 @@ fn ends_by_what_is_wrong_with_the_words(rt: HostRuntime) -> Result<(), Fail> {
         Ok(_) => assert!(rt; false),
         Err(fault) => assert!(rt; explains(alloc, fault, Exit::Done, HELP, "")),
     }
-    let fault = usage(alloc, "not text");
-    assert!(rt; explains(alloc, fault, Exit::Usage, "", USAGE));
-    assert!(rt;
-        explains(
-            alloc,
-            WordsFault::OutOfMemory,
-            Exit::Refused,
-            "",
-            "sixel: out of memory\n"
-        )
-    );
+    assert!(rt; unread(alloc, ErrorKind::InvalidData, Exit::Usage, USAGE));
+    let memory = "sixel: out of memory\n";
+    assert!(rt; unread(alloc, ErrorKind::OutOfMemory, Exit::Refused, memory));
     Ok(())
 }

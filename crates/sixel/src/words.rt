@@ -247,6 +247,7 @@ fn is_side(number: u32) -> bool
 fn sorted_out(error: Error) -> WordsFault
     ensures sorted { IsSortedOut result }
     ensures memory { kind_of error ≡ ErrorKind.OutOfMemory → result ≡ WordsFault.OutOfMemory }
+    ensures only { result ≡ WordsFault.OutOfMemory → kind_of error ≡ ErrorKind.OutOfMemory }
 {
     if error.kind() == ErrorKind::OutOfMemory {
         WordsFault::OutOfMemory

@@ -1,9 +1,12 @@
-use Rattle.std.proofs.Common.{◌≡◌, ◌∙◌, Ok, IfOk, map, refl, subst}
+use Rattle.std.proofs.Common.{◌≡◌, ◌∙◌, Ok, IfErr, IfOk, map, refl, subst, true}
+use Rattle.clap.specs.Takes.{takes}
 use Rattle.std.specs.String.{string_bytes}
 use Rattle.std.specs.Vec.Iter.{into_iter_items}
 use Rattle.std.proofs.lemmas.Iterator.{items_from_collect}
 use Rattle.std.proofs.lemmas.Iterator.Adapters.{YieldsList-from_vec}
-use Rattle.sixel.specs.Words.{IsTaskOf}
+use Rattle.sixel.specs.Words.{IsTaskOf, sixel_app}
+use Rattle.sixel.specs.declared.task.Task.{Task as ATask}
+use Rattle.sixel.specs.declared.words.WordsFault.TheVariants as fault
 use Rattle.sixel.proofs.task_in.Goals as goal
 
 pub returns-in-Ok-collect-clause-task : goal.returns-in-Ok-collect-clause-task
@@ -15,3 +18,14 @@ returns-in-Ok-collect-clause-task c =
     rw c.in-Ok.is
     (subst (λ ws. IfOk c.parse_words.result (IsTaskOf (map string_bytes ws))) (c.as_slice.ensures.value ∙ same)
     c.parse_words.ensures.task)
+
+pub returns-in-Ok-collect-clause-accepted : goal.returns-in-Ok-collect-clause-accepted
+returns-in-Ok-collect-clause-accepted c =
+    let had = into_iter_items c.in-Ok.arguments in
+    let same : c.in-Ok-collect.words.items ≡ had =
+    items_from_collect {E = Unit {0}} (Ok c.in-Ok-collect.words) c.in-Ok-collect.ensures.ran
+    (YieldsList-from_vec had refl c.in-Ok.arguments.rest.ok.0) in
+    rw c.in-Ok.is
+    (subst (λ ws. IfErr c.parse_words.result (λ refusal. takes sixel_app (map string_bytes ws) ≡ true → (t : ATask)
+    → IsTaskOf (map string_bytes ws) t → refusal ≡ fault.OutOfMemory)) (c.as_slice.ensures.value ∙ same)
+    c.parse_words.ensures.accepted)

@@ -92,11 +92,13 @@ fn writes_the_line_of_a_finding(rt: HostRuntime) {
             "broken Uncovered 24 1 0\n",
         ),
         (
-            Rule::RasterFirst,
+            Rule::Outside,
             u64::MAX,
             Some((u64::MAX, u64::MAX)),
-            "broken RasterFirst 18446744073709551615 18446744073709551615 18446744073709551615\n",
+            "broken Outside 18446744073709551615 18446744073709551615 18446744073709551615\n",
         ),
+        // no document's finding: this rule names no pixel
+        (Rule::RasterFirst, 3, Some((1, 0)), "broken RasterFirst 3\n"),
     ];
     for (rule, place, pixel, line) in rows {
         assert!(rt; finds(&Finding { rule, place, pixel }, line), "{line}");

@@ -2,9 +2,10 @@
 
 ghost use Rattle.sixel.specs.Outputs.{HasSides};
 
+use crate::exit::Exit;
 use crate::task::Task;
 use crate::words::{WordsFault, parse_words, usage};
-use crate::{Exit, execute, explain};
+use crate::{execute, explain};
 use std::alloc::Global;
 use std::io;
 use std::io::{Error, Write};

@@ -1,5 +1,5 @@
-use Rattle.sixel.proofs.RoundTrip.{encoded_checks, encoded_is_portable}
+use Rattle.sixel.proofs.RoundTrip.{encoded_answers, encoded_checks, encoded_is_portable}
 use Rattle.sixel.proofs.laws.encoded_pictures_are_portable.Goals as goal
 
 pub returns : goal.returns
-returns c = record { portable = encoded_is_portable; checked = encoded_checks }
+returns c = record { portable = encoded_is_portable; answered = encoded_answers; checked = encoded_checks }
