@@ -1,12 +1,16 @@
 -- Reading a source to its end.
 use Rattle.std.proofs.Common.{◌≡◌, ℕ, zero, suc, get_or, ◌+◌, ◌<◌, ◌≤◌, List, [], ◌∷◌, ◌++◌, length, take, drop, Option, Some, None, refl, sym, ap, subst, ◌∙◌, append_assoc, arith}
 use Rattle.std.specs.Prelude.{IfSome}
-use Rattle.std.specs.Io.KnownBytes.{Consumes, IsAtEnd}
+use Rattle.std.specs.Io.KnownBytes.{Consumes, IsAtEnd, Keeps}
 use Rattle.std.proofs.lemmas.List.{append-nil, take_more, take-append-drop}
+use Rattle.sixel_grammar.specs.declared.command.Placed.{Placed}
 use Rattle.sixel_grammar.specs.declared.fault.InputFault.{InputFault}
 use Rattle.sixel_grammar.specs.declared.fault.InputFault.TheVariants.{Grammar, OutOfMemory, Read}
+use Rattle.sixel_grammar.specs.declared.reader.Reader.{Reader}
 use Rattle.sixel_grammar.specs.Faults.{IsFaultOf}
-use Rattle.sixel_grammar.specs.Reading.{Explains, ExplainsAlways}
+use Rattle.sixel_grammar.specs.Reading.{Explains, ExplainsAlways, NoFaultBefore}
+use Rattle.sixel_grammar.specs.Standing.{StandsAfter}
+use Rattle.sixel_grammar.proofs.Stands.{read_complete, read_short}
 
 pub refuses-more : (fault : InputFault) (bytes rest whole : List ℕ) → whole ≡ bytes ++ rest
     → ExplainsAlways fault bytes → ExplainsAlways fault whole
@@ -37,6 +41,15 @@ refused_early (Some a) None fault xs c h = absurd c
 refused_early (Some a) (Some b) (Grammar f) xs c h = subst (λ (t : List ℕ). IsFaultOf t f) (sym c) (h b)
 refused_early (Some a) (Some b) OutOfMemory xs c h = tt
 refused_early (Some a) (Some b) Read xs c h = absurd h
+
+-- a reader that stands after all that was given found no fault in it, and a call that fails gives nothing
+pub no_fault_before : (a b c : Option (List ℕ)) (r : Reader) (events : List Placed) (given : List ℕ) → StandsAfter r events given
+    → Consumes a b given → Keeps b c → IfSome a (NoFaultBefore c)
+no_fault_before None b c r events given s u k = tt
+no_fault_before (Some a) None c r events given s u k = absurd u
+no_fault_before (Some a) (Some b) None r events given s u k = absurd k
+no_fault_before (Some a) (Some b) (Some c) r events given s u k =
+    (given, u ∙ ap (λ (t : List ℕ). given ++ t) (sym k), read_short r events given s, (events, read_complete r events given s))
 
 pub take_none : (n : ℕ) (xs : List ℕ) → n ≡ 0 → take n xs ≡ []
 take_none n [] e = rw e refl

@@ -1,9 +1,12 @@
--- What a refusal of a whole input says.
-use Rattle.std.specs.Prelude.{ℕ, ◌++◌, List, Result, Ok, Err}
+-- What a refusal of an input says.
+use Rattle.std.specs.Prelude.{ℕ, ◌≤◌, ◌++◌, List, length, Option, Some, Result, Ok, Err}
+use Rattle.std.specs.Io.KnownBytes.{Consumes}
 use Rattle.sixel_grammar.specs.declared.fault.InputFault.{InputFault}
 use Rattle.sixel_grammar.specs.declared.fault.InputFault.TheVariants.{Grammar, OutOfMemory, Read}
 use Rattle.sixel_grammar.specs.Devices.{one_more}
+use Rattle.sixel_grammar.specs.Document.{most_bytes}
 use Rattle.sixel_grammar.specs.Faults.{IsFaultOf}
+use Rattle.sixel_grammar.specs.Prefix.{IsViable}
 
 -- a fault of the grammar is that of the bytes; the others say nothing of them
 abbrev pub Explains : InputFault → List ℕ → Type 0
@@ -24,3 +27,7 @@ abbrev pub ExplainsAlways : InputFault → List ℕ → Type 0
 ExplainsAlways (Grammar fault) bytes = (rest : List ℕ) → IsFaultOf (bytes ++ rest) fault
 ExplainsAlways OutOfMemory bytes = Unit {0}
 ExplainsAlways Read bytes = ⊥
+
+-- no fault is in the bytes that were given, which are those before what is `left`: some document begins with them
+abbrev pub NoFaultBefore : Option (List ℕ) → List ℕ → Type 0
+NoFaultBefore left bytes = (given : List ℕ) × Consumes (Some bytes) left given × (length given ≤ most_bytes) × IsViable given

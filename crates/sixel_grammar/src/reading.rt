@@ -4,7 +4,8 @@ ghost use Rattle.std.specs.Prelude.{◌≡◌, ◌<◌, ◌⊎◌, ℕ, List, []
 ghost use Rattle.std.specs.Option.{option_to_list};
 ghost use Rattle.sixel_grammar.specs.Document.{Document};
 ghost use Rattle.sixel_grammar.specs.Faults.{IsFaultOf};
-ghost use Rattle.sixel_grammar.specs.Reading.{Explains, ExplainsAlways, failures_after};
+ghost use Rattle.sixel_grammar.specs.Reading.{Explains, ExplainsAlways, NoFaultBefore, failures_after};
+ghost use Rattle.sixel_grammar.specs.declared.fault.InputFault.TheVariants.{Read as ReadFault};
 ghost use Rattle.sixel_grammar.specs.Standing.{StandsAfter, completions};
 
 use crate::command::{Completed, Placed};
@@ -20,6 +21,7 @@ const PIECE: usize = 65_536;
 pub fn read_all<S: Source>(alloc: Global, input: &mut S) -> Result<Vec<Placed>, InputFault>
     ensures document { IfOk result (λ v. IfSome (S.remaining input.old) (Document v.items)) }
     ensures refused { IfErr result (λ fault. IfSome (S.remaining input.old) (Explains fault)) }
+    ensures unread { result ≡ Err ReadFault → IfSome (S.remaining input.old) (NoFaultBefore (S.remaining input.new)) }
     ensures failures { S.failure_count input.new ≡ failures_after result (S.failure_count input.old) }
 {
     let mut events = Vec::new(alloc);

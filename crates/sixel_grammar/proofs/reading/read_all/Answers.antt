@@ -4,7 +4,7 @@ use Rattle.std.proofs.lemmas.Result.{err_from_is_err_and}
 use Rattle.sixel_grammar.specs.Faults.{IsFaultOf}
 use Rattle.sixel_grammar.specs.Reading.{Explains}
 use Rattle.sixel_grammar.specs.declared.fault.InputFault.TheVariants.{Grammar}
-use Rattle.sixel_grammar.proofs.Sources.{consumes-then, all_read, refused_early, take_none}
+use Rattle.sixel_grammar.proofs.Sources.{consumes-then, all_read, no_fault_before, refused_early, take_none}
 use Rattle.sixel_grammar.proofs.reading.read_all.Goals as goal
 
 pub returns-in_err-finish-clause-refused : goal.returns-in_err-finish-clause-refused
@@ -21,6 +21,11 @@ returns-in_err-finish-clause-refused g c =
     (consumes-then _ _ _ i.0 (take c.in_ok-count.count c.fill.new.piece) i.2 b.0) (b.1 z some)
     (subst (λ t. IsFaultOf t c.in_err-finish.field-0.0) (sym (ap (λ t. i.0 ++ t) none ∙ append-nil i.0))
     (c.in_err-finish.ensures.answer c.loop-events.events.items i.0 i.1).0))
+
+pub returns-in_err-count-clause-unread : goal.returns-in_err-count-clause-unread
+returns-in_err-count-clause-unread g c = λ is.
+    let i = c.loop-events.invariant in
+    no_fault_before _ _ _ c.loop-events.reader c.loop-events.events.items i.0 i.1 i.2 c.in_err-count.ensures.bytes
 
 pub returns-in_err-read_piece-clause-refused : goal.returns-in_err-read_piece-clause-refused
 returns-in_err-read_piece-clause-refused g c =
