@@ -6,6 +6,7 @@ ghost use Rattle.sixel_grammar.specs.declared.command.Event.TheVariants.{Step as
 ghost use Rattle.sixel_grammar.specs.Bytes.{is_filler as filler_test, is_digit as digit_test, is_data as data_test, is_body as body_test};
 ghost use Rattle.sixel_grammar.specs.Faults.{NothingYet as NothingForm, NoCommand as NoCommandForm, RepeatNumber as RepeatForm, RasterFields as RasterForm, ColourFields as ColourForm, Ended as EndedForm, refusal, is_idle};
 ghost use Rattle.sixel_grammar.specs.Next.{begin as begin_of, within as within_of, only_grown, only_whole, settled as settled_of, next_of, with_digit, ends_repeat};
+ghost use Rattle.sixel_grammar.specs.Standing.{is_columns};
 ghost use Rattle.sixel_grammar.specs.Pending.{Grows, MakesWhole, event_of, form_of, takes_digits};
 
 use crate::command::{Command, Event};
@@ -521,6 +522,7 @@ impl Pending {
     pub(crate) fn ended_repeat(&mut self, byte: u8) -> Option<Command>
         ensures ended { IfSome result (λ command.
             within_of (form_of self.old) byte ≡ Some (NoCommandForm, Some (step_of command))) }
+        ensures repeat { IfSome result (λ command. is_columns (step_of command) ≡ true) }
         ensures after { IsSome result → form_of self.new ≡ NoCommandForm }
         ensures unfinished { IsSome result → is_idle (form_of self.old) ≡ false }
         ensures not_whole { IsNone result → self.old.form ≡ Open.RepeatNumber →

@@ -37,7 +37,7 @@ pub struct Reader {
 }
 
 impl Reader {
-    ghost use Rattle.sixel_grammar.specs.Standing.{IsNotPlain, Refuses, StandsAfter, Takes, completions, fault_of, opened_after};
+    ghost use Rattle.sixel_grammar.specs.Standing.{IsNotPlain, Refuses, StandsAfter, Takes, are_plain, completions, fault_of, opened_after};
 
     /// A reader that has read nothing.
     pub fn new() -> Reader
@@ -76,6 +76,7 @@ impl Reader {
     #[inline(always)]
     pub fn feed_plain(&mut self, byte: u8) -> Option<Plain>
         ensures accepted { IfSome result (λ p. Takes self.old self.new byte (completions (plain_of p))) }
+        ensures plain { IfSome result (λ p. are_plain (completions (plain_of p)) ≡ true) }
         ensures kept { IsNone result → self.new ≡ self.old }
         ensures stopped { IsSome (fault_of self.old) → IsNone result }
         ensures refused { IsNone result → IsNotPlain self.old byte }
@@ -83,11 +84,10 @@ impl Reader {
         if let Some(plain) = self.feed_quickly(byte) {
             return Some(plain);
         }
-        if self.try_grow(byte) {
-            Some(Plain::Nothing)
-        } else {
-            None
+        if !self.try_grow(byte) {
+            return None;
         }
+        Some(Plain::Nothing)
     }
 
     /// The ways of nearly all bytes: a sixel by itself, a digit, a separator of colour fields, a repeat from its introducer to
@@ -95,6 +95,7 @@ impl Reader {
     #[inline(always)]
     fn feed_quickly(&mut self, byte: u8) -> Option<Plain>
         ensures accepted { IfSome result (λ p. Takes self.old self.new byte (completions (plain_of p))) }
+        ensures plain { IfSome result (λ p. are_plain (completions (plain_of p)) ≡ true) }
         ensures kept { IsNone result → self.new ≡ self.old }
         ensures stopped { IsSome (fault_of self.old) → IsNone result }
         ensures refused { IsNone result → 0 < self.old.left → makes_columns (form_of self.old.pending) byte ≡ false }
@@ -117,6 +118,7 @@ impl Reader {
     fn take_digit(&mut self, byte: u8) -> Option<Plain>
         requires { IsTrue (digit_test byte) }
         ensures accepted { IfSome result (λ p. Takes self.old self.new byte (completions (plain_of p))) }
+        ensures plain { IfSome result (λ p. are_plain (completions (plain_of p)) ≡ true) }
         ensures kept { IsNone result → self.new ≡ self.old }
         ensures stopped { IsSome (fault_of self.old) → IsNone result }
     {
@@ -132,6 +134,7 @@ impl Reader {
     #[inline(always)]
     fn take_separator(&mut self) -> Option<Plain>
         ensures accepted { IfSome result (λ p. Takes self.old self.new 59 (completions (plain_of p))) }
+        ensures plain { IfSome result (λ p. are_plain (completions (plain_of p)) ≡ true) }
         ensures kept { IsNone result → self.new ≡ self.old }
         ensures stopped { IsSome (fault_of self.old) → IsNone result }
     {
@@ -147,6 +150,7 @@ impl Reader {
     #[inline(always)]
     fn begin_repeat(&mut self) -> Option<Plain>
         ensures accepted { IfSome result (λ p. Takes self.old self.new 33 (completions (plain_of p))) }
+        ensures plain { IfSome result (λ p. are_plain (completions (plain_of p)) ≡ true) }
         ensures kept { IsNone result → self.new ≡ self.old }
         ensures stopped { IsSome (fault_of self.old) → IsNone result }
     {
@@ -164,6 +168,7 @@ impl Reader {
     #[inline(always)]
     fn end_repeat(&mut self, byte: u8) -> Option<Plain>
         ensures accepted { IfSome result (λ p. Takes self.old self.new byte (completions (plain_of p))) }
+        ensures plain { IfSome result (λ p. are_plain (completions (plain_of p)) ≡ true) }
         ensures kept { IsNone result → self.new ≡ self.old }
         ensures stopped { IsSome (fault_of self.old) → IsNone result }
         ensures refused { IsNone result → 0 < self.old.left → ends_repeat (form_of self.old.pending) byte ≡ false }
@@ -227,9 +232,9 @@ impl Reader {
 
     /// The command that the byte ends, where it completes nothing else.
     #[inline(never)]
-    fn ended_by(&mut self, byte: u8) -> Option<Placed>
+    fn ended_by(&mut self, byte: u8) -> Option<Plain>
         requires { 0 < self.old.left → only_grown (within_of (form_of self.old.pending) byte) ≡ None }
-        ensures accepted { IfSome result (λ ended. Takes self.old self.new byte (ended ∷ [])) }
+        ensures accepted { IfSome result (λ p. Takes self.old self.new byte (completions (plain_of p))) }
         ensures kept { IsNone result → self.new ≡ self.old }
         ensures stopped { IsSome (fault_of self.old) → IsNone result }
         ensures refused { IsNone result → 0 < self.old.left →
@@ -238,20 +243,12 @@ impl Reader {
         if self.left == 0 {
             return None;
         }
-        let place = MOST_BYTES - self.left;
-        match self.pending.ended_by(byte) {
-            Some(command) => {
-                let opened = self.opened;
-                self.opened = place;
-                self.left -= 1;
-                self.sixels = ready_for(self.left, &self.pending);
-                Some(Placed {
-                    place: opened,
-                    event: Event::Step(command),
-                })
-            }
-            None => None,
-        }
+        let command = self.pending.ended_by(byte)?;
+        let place = self.opened;
+        self.opened = MOST_BYTES - self.left;
+        self.left -= 1;
+        self.sixels = ready_for(self.left, &self.pending);
+        Some(Plain::Command { place, command })
     }
 
     /// Any other byte. Its answers have places of their own here, so that the ways above touch no memory for them.
@@ -264,10 +261,7 @@ impl Reader {
         ensures in_order { IfOk result (λ c. IsNone c.first → IsNone c.second) }
     {
         if let Some(ended) = self.ended_by(byte) {
-            return Ok(Completed {
-                first: Some(ended),
-                second: None,
-            });
+            return Ok(Completed::of_plain(ended));
         }
         self.feed_any(byte)
     }

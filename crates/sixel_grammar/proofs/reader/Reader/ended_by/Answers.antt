@@ -3,7 +3,7 @@ use Rattle.sixel_grammar.specs.declared.command.Event.TheVariants.{Step}
 use Rattle.sixel_grammar.proofs.Stands.{ended}
 use Rattle.sixel_grammar.proofs.reader.Reader.ended_by.Goals as goal
 
-pub returns-in-Some-clause-accepted : goal.returns-in-Some-clause-accepted
-returns-in-Some-clause-accepted c = λ events bytes s.
-    ended c.args.self.now _ events bytes c.args.byte (Step c.in-Some.command) s
-    (omega (arith, c.if-self-eq0.false)) c.in-Some.ensures.ended refl refl refl
+pub returns-clause-accepted : goal.returns-clause-accepted
+returns-clause-accepted c = λ events bytes s.
+    ended c.args.self.now _ events bytes c.args.byte (Step c.in_ok-command.command) s
+    (omega (arith, c.if-self-eq0.false)) c.in_ok-command.ensures.ended refl refl refl

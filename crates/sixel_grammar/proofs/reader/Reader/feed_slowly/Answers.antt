@@ -1,9 +1,14 @@
-use Rattle.std.proofs.Common.{◌≡◌, refl, subst}
+use Rattle.std.proofs.Common.{◌∷◌, [], ◌++◌, ◌≡◌, refl, subst, sym}
 use Rattle.std.specs.Prelude.{IfOk, IfErr}
 use Rattle.sixel_grammar.specs.declared.command.Completed.{Completed}
 use Rattle.sixel_grammar.specs.declared.reader.Reader.{Reader}
-use Rattle.sixel_grammar.specs.Standing.{Refuses, Takes, completions}
+use Rattle.sixel_grammar.specs.Standing.{Refuses, StandsAfter, Takes, completions}
 use Rattle.sixel_grammar.proofs.reader.Reader.feed_slowly.Goals as goal
+
+pub returns-in-Some-clause-accepted : goal.returns-in-Some-clause-accepted
+returns-in-Some-clause-accepted c = λ events bytes s.
+    subst (λ (d : Completed). StandsAfter c.ended_by.new.self (events ++ completions d) (bytes ++ c.args.byte ∷ []))
+    (sym c.of_plain.ensures) (c.in-Some.ensures.accepted events bytes s)
 
 pub returns-clause-accepted : goal.returns-clause-accepted
 returns-clause-accepted c =
