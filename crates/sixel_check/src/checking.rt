@@ -3,7 +3,8 @@
 ghost use Rattle.std.specs.Prelude.{◌≡◌, ◌≢◌, ◌++◌, ◌∷◌, [], ℕ, List, Err, IfErr, IfSome, OnErr, OnOk, Some};
 ghost use Rattle.sixel_grammar.specs.declared.command.Event.TheVariants.{Step};
 ghost use Rattle.std.specs.Option.{option_to_list};
-ghost use Rattle.sixel_grammar.specs.Reading.{ExplainsAlways, failures_after};
+ghost use Rattle.sixel_grammar.specs.Reading.{ExplainsAlways, NoFaultBefore, failures_after};
+ghost use Rattle.sixel_grammar.specs.declared.fault.InputFault.TheVariants.{Read as ReadFault};
 ghost use Rattle.sixel_grammar.specs.Standing.{completions};
 ghost use Rattle.sixel_grammar.specs.declared.command.Placed.{Placed as PlacedValue};
 ghost use Rattle.sixel_check.specs.Growth.{GrowsFor, MayGrowAmong, MayGrowIn};
@@ -174,6 +175,7 @@ fn conclude<P: Plane>(reader: &Reader, checker: Checker<P>) -> Result<Verdict, I
 pub fn check<S: Source>(alloc: Global, input: &mut S) -> Result<Verdict, InputFault>
     ensures answer { IfSome (S.remaining input.old) (Answers result) }
     ensures failures { S.failure_count input.new ≡ failures_after result (S.failure_count input.old) }
+    ensures unread { result ≡ Err ReadFault → IfSome (S.remaining input.old) (NoFaultBefore (S.remaining input.new)) }
     ensures memory { IfSome (S.remaining input.old) (λ bytes. result ≡ Err InputFault.OutOfMemory → MayGrowIn bytes) }
 {
     let mut reader = Reader::new();

@@ -3,7 +3,7 @@ use Rattle.std.proofs.lemmas.List.{length-append, length-take-le}
 use Rattle.std.proofs.lemmas.Result.{err_from_is_err_and}
 use Rattle.sixel_grammar.specs.Document.{most_bytes}
 use Rattle.sixel_grammar.specs.Standing.{left_of}
-use Rattle.sixel_grammar.proofs.Sources.{consumes-then, refused_early}
+use Rattle.sixel_grammar.proofs.Sources.{consumes-then, no_fault_before, refused_early}
 use Rattle.sixel_check.specs.declared.verdict.Verdict.{Verdict}
 use Rattle.sixel_check.proofs.GrowthLemmas.{grows_told}
 use Rattle.sixel_check.proofs.ReadLemmas.{not_failed}
@@ -35,6 +35,11 @@ returns-in_err-read_piece-clause-memory g c =
     (grows_told _ _ _ (i.0 ++ take c.in_ok-count.count c.fill.new.piece)
     (consumes-then _ _ _ i.0 (take c.in_ok-count.count c.fill.new.piece) i.2 c.in_ok-count.ensures.bytes.0)
     (c.in_err-read_piece.ensures.memory i.0 i.1))
+
+pub returns-in_err-count-clause-unread : goal.returns-in_err-count-clause-unread
+returns-in_err-count-clause-unread g c = λ is.
+    let i = c.loop-checker.invariant in
+    no_fault_before _ _ _ c.loop-checker.reader i.1.events i.0 i.1.read i.2 c.in_err-count.ensures.bytes
 
 pub loop-checker-smaller : goal.loop-checker-smaller
 loop-checker-smaller g c =
