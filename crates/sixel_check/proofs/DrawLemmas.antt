@@ -1,5 +1,5 @@
 -- On what is drawn of an event that breaks no rule.
-use Rattle.std.proofs.Common.{◌≡◌, ◌≢◌, ◌==◌, ◌&&◌, ◌+◌, ℕ, zero, suc, ◌<◌, ◌≤◌, Bool, true, false, not, Option, Some}
+use Rattle.std.proofs.Common.{◌≡◌, ◌≢◌, ◌==◌, ◌&&◌, ◌+◌, ◌%◌, ℕ, zero, suc, ◌<◌, ◌≤◌, Bool, true, false, not, Option, Some}
 use Rattle.std.proofs.Common.{None, IsTrue, IsFalse}
 use Rattle.std.proofs.Common.{List, [], ◌∷◌, ◌++◌, arith, sym, ◌∙◌, ap, ap₂, subst, refl, ◌||◌}
 use Rattle.std.specs.Prelude.{IfSome, IsSome, is_none, is_some, nat_le, if◌then◌else◌}
@@ -87,7 +87,7 @@ run_fits_in n s before e a d none spellable paints =
     let k = keeps before e none in
     let real = run_fits (column 0 before) (band before) (columns_of 0 e) (bits_of e) s.width s.height
     (inside_alone s before e d k.outside) (has_columns e k.repeat_zero paints) (few_bits e spellable)
-    (some_bits (bits_of e) paints) in
+    (λ none. some_bits (bits_of e % 64) paints (ap (λ (n : ℕ). n % 64) none)) in
     let narrow = small s.width d.width in
     let low = small s.height d.height in
     let column_fits : column 0 before + columns_of 0 e ≤ s.width = real.columns in
@@ -107,7 +107,7 @@ drawn_paint n s before e r a d none spellable paints is =
 -- and without one
 pub drawn_still : (s : Sheet) (before : List Event) (e : Event) → is_painting e ≡ false → IsDrawn s before
     → IsDrawn s (before ++ e ∷ [])
-drawn_still s before e still d = drawn_idle s before e (no_bits (bits_of e) still) d
+drawn_still s before e still d = drawn_idle s before e (no_bits (bits_of e % 64) still) d
 
 -- a painting command has a known register
 pub knows : (n : Notes) (before : List Event) (e : Event) → AreNotesAfter n before → NoneBelow 13 before e
@@ -205,7 +205,7 @@ falls_paint : (before : List Event) (e : Event) (x y : ℕ) (b : Bool) → is_pa
     → is_painting e ≡ true
 falls_paint before e x y true p f = p
 falls_paint before e x y false p f =
-    let still : falls before e x y ≡ false = idle_falls before e x y (no_bits (bits_of e) p) in
+    let still : falls before e x y ≡ false = idle_falls before e x y (no_bits (bits_of e % 64) p) in
     cc
 
 known_defined : (before : List Event) (e : Event) (r : ℕ) → NoneBelow 13 before e → is_painting e ≡ true

@@ -1,8 +1,11 @@
 -- How a sheet follows the events.
-use Rattle.std.proofs.Common.{◌≡◌, ℕ, ◌<◌, Bool, true, false, ◌||◌}
+use Rattle.std.proofs.Common.{◌≡◌, ℕ, ◌+◌, ◌*◌, ◌/◌, ◌%◌, ◌^◌, ◌<◌, Bool, true, false, ◌||◌, arith}
 use Rattle.std.proofs.Common.{Option, Some, None, List, [], ◌∷◌, ◌++◌, refl, sym, ap, ap₂, ◌∙◌}
 use Rattle.std.specs.Prelude.{IsTrue, is_some, if◌then◌else◌}
+use Rattle.std.specs.Int.{bit_at}
 use Rattle.std.specs.Option.{option_or}
+use Rattle.std.proofs.lemmas.Bool.{false_from_ne_true}
+use Rattle.std.proofs.lemmas.Nat.Bits.{bit_at_cat_low, bit_at-zero}
 use Rattle.sixel_grammar.specs.declared.command.Event.{Event}
 use Rattle.sixel_grammar.specs.declared.command.Event.TheVariants.{Start, Step, Finish}
 use Rattle.sixel_grammar.specs.declared.command.Command.TheVariants.{Sixel, Repeat, Raster, Select, Define}
@@ -13,23 +16,36 @@ use Rattle.sixel_picture.specs.Pictures.{is_side}
 use Rattle.sixel_picture.specs.Positions.{any_at, any_below, earliest, last_at, last_below}
 use Rattle.sixel_picture.specs.Rules.{is_covered, known, raster_before, register_at}
 use Rattle.sixel_picture.specs.Sheets.{Sheet, blank_sheet, cell, painted_sheet}
-use Rattle.sixel_picture.proofs.CoverLemmas.{no_bits_cover}
+use Rattle.sixel_picture.proofs.CoverLemmas.{lies_under}
 use Rattle.sixel_picture.proofs.SheetLemmas.{cell-blank_sheet, cell-painted_sheet, length_rows}
 use Rattle.sixel_picture.proofs.StepLemmas.{covered_push, raster_push, register_push}
 use Rattle.sixel_check.specs.Judging.{IsDrawn, IsUndrawn}
 
 -- ---- events that paint nothing
 
--- an event without a set bit paints no point
-pub idle_falls : (before : List Event) (e : Event) (x y : ℕ) → bits_of e ≡ 0 → falls before e x y ≡ false
-unfolding falls touches
-idle_falls before e x y h = rw h (no_bits_cover (column 0 before) (columns_of 0 e) (band before) x y)
+low_clear : (bits k : ℕ) → bits % 64 ≡ 0 → k < 6 → bit_at bits k ≡ 0
+low_clear bits k clear low =
+    let whole : bits ≡ bits / 64 * 2 ^ 6 + 0 = omega arith in
+    ap (λ (n : ℕ). bit_at n k) whole ∙ bit_at_cat_low (bits / 64) 6 0 k low ∙ bit_at-zero k
 
-pub idle_covered : (before : List Event) (e : Event) (x y : ℕ) → bits_of e ≡ 0
+clear_covers : (left count line bits x y : ℕ) → bits % 64 ≡ 0 → covers left count line 1 bits x y ≡ false
+clear_covers left count line bits x y clear =
+    false_from_ne_true _ (λ h.
+    let u = lies_under left count line bits x y h in
+    let set : bit_at bits u.bit ≡ 1 = u.set in
+    let unset : bit_at bits u.bit ≡ 0 = low_clear bits u.bit clear u.below in
+    absurd (omega arith))
+
+-- an event without a set bit of the six paints no point
+pub idle_falls : (before : List Event) (e : Event) (x y : ℕ) → bits_of e % 64 ≡ 0 → falls before e x y ≡ false
+unfolding falls touches
+idle_falls before e x y h = clear_covers (column 0 before) (columns_of 0 e) (band before) (bits_of e) x y h
+
+pub idle_covered : (before : List Event) (e : Event) (x y : ℕ) → bits_of e % 64 ≡ 0
     → is_covered (before ++ e ∷ []) x y ≡ is_covered before x y
 idle_covered before e x y h = covered_push before e x y ∙ rw (idle_falls before e x y h) refl
 
-pub idle_register : (before : List Event) (e : Event) (x y : ℕ) → bits_of e ≡ 0
+pub idle_register : (before : List Event) (e : Event) (x y : ℕ) → bits_of e % 64 ≡ 0
     → register_at (before ++ e ∷ []) x y ≡ register_at before x y
 idle_register before e x y h = register_push before e x y ∙ rw (idle_falls before e x y h) refl
 
@@ -62,7 +78,7 @@ pub undrawn_empty : IsUndrawn []
 unfolding raster_before earliest is_covered any_at any_below register_at last_at last_below
 undrawn_empty = record { no_box = refl; uncovered = λ x y. refl; no_register = λ x y. refl }
 
-pub undrawn_idle : (before : List Event) (e : Event) → raster_of e ≡ None → bits_of e ≡ 0 → IsUndrawn before
+pub undrawn_idle : (before : List Event) (e : Event) → raster_of e ≡ None → bits_of e % 64 ≡ 0 → IsUndrawn before
     → IsUndrawn (before ++ e ∷ [])
 undrawn_idle before e none idle u = record {
   no_box = raster_push before e ∙ ap₂ option_or u.no_box none;
@@ -73,7 +89,8 @@ undrawn_idle before e none idle u = record {
 -- neither raster attributes nor a data command
 pub undrawn_push : (before : List Event) (e : Event) → raster_of e ≡ None → is_data_command e ≡ false → IsUndrawn before
     → IsUndrawn (before ++ e ∷ [])
-undrawn_push before e none no_data u = undrawn_idle before e none (no_data_bits e no_data) u
+undrawn_push before e none no_data u =
+    undrawn_idle before e none (ap (λ (n : ℕ). n % 64) (no_data_bits e no_data)) u
 
 -- ---- from the box on
 
@@ -83,7 +100,7 @@ pub drawn_first : (before : List Event) (e : Event) (w h : ℕ)
     → IsUndrawn before → IsDrawn (blank_sheet w h) (before ++ e ∷ [])
 unfolding blank_sheet
 drawn_first before e w h is width height u =
-    let idle : bits_of e ≡ 0 = raster_bits e _ is in
+    let idle : bits_of e % 64 ≡ 0 = ap (λ (n : ℕ). n % 64) (raster_bits e _ is) in
     let bare : (x y : ℕ) → x < w → y < h → cell (blank_sheet w h) x y ≡ None = cell-blank_sheet w h in
     record {
       box = raster_push before e ∙ ap₂ option_or u.no_box is;
@@ -99,8 +116,8 @@ box_stays : (before : List Event) (e : Event) (a : Attributes) → raster_before
     → raster_before (before ++ e ∷ []) ≡ Some a
 box_stays before e a is = raster_push before e ∙ ap (λ (o : Option Attributes). option_or o (raster_of e)) is
 
--- an event without a set bit leaves the sheet as it is
-pub drawn_idle : (s : Sheet) (before : List Event) (e : Event) → bits_of e ≡ 0 → IsDrawn s before
+-- an event without a set bit of the six leaves the sheet as it is
+pub drawn_idle : (s : Sheet) (before : List Event) (e : Event) → bits_of e % 64 ≡ 0 → IsDrawn s before
     → IsDrawn s (before ++ e ∷ [])
 drawn_idle s before e idle d = record {
   box = box_stays before e _ d.box;

@@ -1,5 +1,5 @@
 -- On what terminals show, where no rule is broken: the picture that is left.
-use Rattle.std.proofs.Common.{◌≡◌, ◌<◌, ◌≤◌, ◌+◌, ◌-◌, ◌*◌, ℕ, Bool, true, false, ◌&&◌, cond, Option, Some, None}
+use Rattle.std.proofs.Common.{◌≡◌, ◌<◌, ◌≤◌, ◌+◌, ◌-◌, ◌*◌, ◌%◌, ℕ, Bool, true, false, ◌&&◌, cond, Option, Some, None}
 use Rattle.std.proofs.Common.{List, length}
 use Rattle.std.proofs.Common.{take, refl, sym, ap, ◌∙◌, arith}
 use Rattle.std.specs.Prelude.{◌==◌, if◌then◌else◌, is_none, slice_get, slice_index_or, unwrap_or, IsSome}
@@ -37,8 +37,8 @@ use Rattle.sixel_check.proofs.WithinLemmas.{none_painted_outside, plain, touches
 
 -- what paints a point has a set bit
 falls_paints : (before : List Event) (e : Event) (x y : ℕ) → falls before e x y ≡ true → is_painting e ≡ true
-falls_paints before e x y h = not_from_false _ (false_from_ne_true (bits_of e == 0) (λ is.
-    let no : true ≡ false = sym h ∙ idle_falls before e x y (eqb-true (bits_of e) 0 is) in cc))
+falls_paints before e x y h = not_from_false _ (false_from_ne_true (bits_of e % 64 == 0) (λ is.
+    let no : true ≡ false = sym h ∙ idle_falls before e x y (eqb-true (bits_of e % 64) 0 is) in cc))
 
 known_if : (b : Bool) (o : Option ℕ) → (b && is_none o) ≡ false → b ≡ true → IsSome o
 known_if b (Some r) h p = refl

@@ -31,10 +31,11 @@ pub(crate) fn columns_of(event: &Event) -> u16
     }
 }
 
+/// Whether it is data with a set bit of the six.
 pub(crate) fn is_painting(event: &Event) -> bool
     ensures { result ≡ said.is_painting event.now }
 {
-    bits_of(event) != 0
+    bits_of(event) % 64 != 0
 }
 
 pub(crate) fn is_data_command(event: &Event) -> bool

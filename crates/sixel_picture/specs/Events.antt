@@ -1,5 +1,5 @@
 -- What each event says.
-use Rattle.std.specs.Prelude.{◌==◌, ℕ, Bool, true, false, ◌&&◌, not, Option, Some, None, nat_lt, if◌then◌else◌}
+use Rattle.std.specs.Prelude.{◌==◌, ℕ, ◌%◌, Bool, true, false, ◌&&◌, not, Option, Some, None, nat_lt, if◌then◌else◌}
 use Rattle.sixel_picture.specs.Pictures.{is_side}
 use Rattle.sixel_grammar.specs.declared.command.Command.TheVariants.{Sixel, Repeat, Raster, Select, Define}
 use Rattle.sixel_grammar.specs.declared.command.Command.TheVariants.{CarriageReturn, NextLine}
@@ -52,9 +52,9 @@ bits_of (Step (Sixel bits)) = bits
 bits_of (Step (Repeat count bits)) = bits
 bits_of _ = 0
 
--- a data command with a set bit
+-- a data command with a set bit of the six; bits above them, which no text spells, paint nothing
 abbrev pub is_painting : Event → Bool
-is_painting e = not (bits_of e == 0)
+is_painting e = not (bits_of e % 64 == 0)
 
 -- a repeat of 0
 abbrev pub is_repeat_of_zero : Event → Bool
