@@ -116,14 +116,13 @@ fn worked_documents(rt: HostRuntime) -> Result<(), Fail> {
 }
 
 /// Whether the answer on the bytes in pieces of a size is so.
-pub(super) fn agrees_in(
+fn agrees_in(
     rt: &impl AllocGlobal,
     bytes: &[u8],
     piece: usize,
-    fail_at: Option<u64>,
     expected: &str,
 ) -> Result<bool, Fail> {
-    let mut source = SliceSource::new(bytes, piece.max(1), fail_at);
+    let mut source = SliceSource::new(bytes, piece.max(1), None);
     is_said(rt, &check(rt.alloc(), &mut source), expected)
 }
 
@@ -134,7 +133,7 @@ pub(super) fn agrees_in_three(
     expected: &str,
 ) -> Result<bool, Fail> {
     for piece in [1, 7, 65_536] {
-        if !agrees_in(rt, bytes, piece, None, expected)? {
+        if !agrees_in(rt, bytes, piece, expected)? {
             return Ok(false);
         }
     }
@@ -144,7 +143,7 @@ pub(super) fn agrees_in_three(
 /// Whether it is, in pieces of 1 byte to their length.
 fn agrees_in_pieces(rt: &impl AllocGlobal, bytes: &[u8], expected: &str) -> Result<bool, Fail> {
     for piece in 1..=bytes.len() {
-        if !agrees_in(rt, bytes, piece, None, expected)? {
+        if !agrees_in(rt, bytes, piece, expected)? {
             return Ok(false);
         }
     }
@@ -178,15 +177,28 @@ pub(super) fn picture_of(rt: &impl AllocGlobal, text: &str) -> Result<Picture, F
     }
 }
 
-/// Whether the picture of one pixel has this register, and registers 0 and 1 have these colours and the next has none.
-fn is_left(picture: &Picture, register: u8, first: Option<Colour>, second: Option<Colour>) -> bool {
-    let palette = picture.palette();
+/// Whether the first registers have these colours, and the others of the 16 have none.
+fn has_colours(picture: &Picture, colours: &[Option<Colour>]) -> bool {
+    for register in 0..16u8 {
+        let expected = colours.get(register as usize).copied().flatten();
+        if picture.palette().get(register) != expected {
+            return false;
+        }
+    }
+    true
+}
+
+/// Whether the picture of one pixel has this register, registers 0 and 1 have these colours, and the others have none.
+pub(super) fn is_left(
+    picture: &Picture,
+    register: u8,
+    first: Option<Colour>,
+    second: Option<Colour>,
+) -> bool {
     picture.width() == 1
         && picture.height() == 1
         && picture.register_at(0, 0) == register
-        && palette.get(0) == first
-        && palette.get(1) == second
-        && palette.get(2).is_none()
+        && has_colours(picture, &[first, second])
 }
 
 /// The text leaves such a picture.
@@ -202,7 +214,7 @@ fn agree_left(
     Ok(())
 }
 
-fn black() -> Option<Colour> {
+pub(super) fn black() -> Option<Colour> {
     Colour::rgb(0, 0, 0)
 }
 
@@ -270,12 +282,6 @@ fn is_row(alloc: Global, picture: &Picture, y: u32, expected: &str) -> Result<bo
     Ok(row_of(alloc, picture, y)?.as_slice() == expected.as_bytes())
 }
 
-/// Whether registers 0 to 2 have these colours, and register 3 has none.
-fn has_colours(picture: &Picture, colours: [Option<Colour>; 3]) -> bool {
-    let palette = picture.palette();
-    [palette.get(0), palette.get(1), palette.get(2)] == colours && palette.get(3).is_none()
-}
-
 #[test]
 fn the_picture_of_two_letters(rt: HostRuntime) -> Result<(), Fail> {
     let picture = picture_of(
@@ -287,13 +293,6 @@ fn the_picture_of_two_letters(rt: HostRuntime) -> Result<(), Fail> {
         assert!(rt; is_row(rt.alloc(), &picture, y, expected)?, "row {y}");
     }
     let colours = [black(), Colour::rgb(100, 100, 0), Colour::rgb(0, 100, 0)];
-    assert!(rt; has_colours(&picture, colours));
-    Ok(())
-}
-
-#[test]
-fn a_source_that_fails(rt: HostRuntime) -> Result<(), Fail> {
-    let bytes = bytes_of(&rt, "EPq\"1;1;1;1#0;2;0;0;0#0@E\\")?;
-    assert!(rt; agrees_in(&rt, &bytes, 5, Some(2), "read failed")?);
+    assert!(rt; has_colours(&picture, &colours));
     Ok(())
 }

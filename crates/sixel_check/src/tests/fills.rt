@@ -98,16 +98,41 @@ fn a_source_is_left_alone_after_a_fault(rt: HostRuntime) -> Result<(), Fail> {
     Ok(())
 }
 
-/// Six fills of five bytes give the picture, and the seventh finds its end.
+/// Two letters in a box of 14 by 7 pixels, 90 bytes.
+const LETTERS: &[u8] =
+    b"\x1bPq\"1;1;14;7#0;2;0;0;0#1;2;100;100;0#2;2;0;100;0#1~~@@vv@@~~@@~~$#2??}}GG}}??}}??-#1!14@\x1b\\";
+
+/// Whether each of so many fills, failing in turn, is answered and is the last one. No fill after them fails.
+fn fails_in_turn(
+    rt: &impl AllocGlobal,
+    bytes: &[u8],
+    piece: usize,
+    expected: &str,
+    fills: u64,
+) -> Result<bool, Fail> {
+    for fill in 0..fills {
+        let last = fill.saturating_add(1);
+        if !agrees_after(rt, bytes, piece, Some(fill), "read failed", last)? {
+            return Ok(false);
+        }
+    }
+    agrees_after(rt, bytes, piece, Some(fills), expected, fills)
+}
+
+/// So many fills give all bytes, and the last one finds their end.
 #[test]
 fn a_source_is_left_alone_after_its_failure(rt: HostRuntime) -> Result<(), Fail> {
-    for fill in 0..7u64 {
-        let fills = fill.saturating_add(1);
+    for (piece, fills) in [(1, 27), (5, 7), (64, 2)] {
         assert!(rt;
-            agrees_after(&rt, PICTURE, 5, Some(fill), "read failed", fills)?,
-            "fill {fill}"
+            fails_in_turn(&rt, PICTURE, piece, "portable 1 1", fills)?,
+            "{piece}"
         );
     }
-    assert!(rt; agrees_after(&rt, PICTURE, 5, Some(7), "portable 1 1", 7)?);
+    for (piece, fills) in [(1, 91), (5, 19), (64, 3)] {
+        assert!(rt;
+            fails_in_turn(&rt, LETTERS, piece, "portable 14 7", fills)?,
+            "{piece}"
+        );
+    }
     Ok(())
 }

@@ -8,10 +8,11 @@ ghost use Rattle.sixel_check.specs.Standing.{StandsAfter, expects};
 use crate::checker::Checker;
 use crate::checking::{check, check_bytes};
 use crate::rule::Rule;
+use crate::tests::documents::{black, is_left};
+use crate::tests::steps::expects_so;
 use crate::verdict::Verdict;
 use sixel_grammar::{InputFault, Placed, Reader, SliceSource};
-use sixel_picture::BytePlane;
-use std::alloc::AllocError;
+use sixel_picture::{BandPlane, BytePlane, Plane};
 use std::test::Fail;
 
 /// A picture of one pixel.
@@ -29,10 +30,10 @@ const BOXLESS: &[(&[u8], Rule, u64)] = &[
     (b"\x1bPq\"1;1;2049;1#0;2;0;0;0#0@\x1b\\", Rule::BoxSize, 3),
 ];
 
-/// Portable with ample memory, and want of memory where a growth was refused.
+/// The picture of one pixel with ample memory, black in register 0 alone; and want of memory where a growth was refused.
 fn portable_or_refused(answer: &Result<Verdict, InputFault>) -> bool {
     match answer {
-        Ok(Verdict::Portable(picture)) => picture.width() == 1 && picture.height() == 1,
+        Ok(Verdict::Portable(picture)) => is_left(picture, 0, black(), None),
         Ok(Verdict::Broken(_)) => false,
         Err(fault) => matches!(fault, InputFault::OutOfMemory),
     }
@@ -74,21 +75,25 @@ fn no_box_takes_no_memory(rt: HostRuntime) -> Result<(), Fail> {
     Ok(())
 }
 
-/// Pushes an event, and where it is refused, once more.
-fn push_again(checker: &mut Checker<BytePlane>, placed: &Placed) -> Result<(), AllocError>
+/// Pushes an event; where it is refused, nothing has changed, and it is pushed once more.
+fn push_again<P: Plane>(checker: &mut Checker<P>, placed: &Placed) -> Result<(), Fail>
     requires expected { (seen : List PlacedValue) × StandsAfter checker.old seen × IsTrue (expects seen placed.now.event) }
     requires spellable { IsSpellable placed.now.event }
     ensures { OnOk result ((seen : List PlacedValue) → StandsAfter checker.old seen
         → StandsAfter checker.new (seen ++ placed.now ∷ [])) }
 {
-    match checker.push(placed) {
-        Ok(()) => Ok(()),
-        Err(_) => checker.push(placed),
+    if checker.push(placed).is_ok() {
+        return Ok(());
     }
+    if checker.is_whole() || !expects_so(checker, false, true) {
+        return Err(Fail::from("a refused push changed something"));
+    }
+    checker.push(placed)?;
+    Ok(())
 }
 
 /// Pushes an event that may come.
-fn push_next(checker: &mut Checker<BytePlane>, placed: Option<Placed>) -> Result<(), Fail>
+fn push_next<P: Plane>(checker: &mut Checker<P>, placed: Option<Placed>) -> Result<(), Fail>
     requires { (seen : List PlacedValue) × StandsAfter checker.old seen }
     ensures { OnOk result ((seen : List PlacedValue) × StandsAfter checker.new seen) }
 {
@@ -98,18 +103,17 @@ fn push_next(checker: &mut Checker<BytePlane>, placed: Option<Placed>) -> Result
             if !checker.expects(&placed.event) || !placed.event.is_spellable() {
                 return Err(Fail::from("an event that may not come"));
             }
-            push_again(checker, &placed)?;
-            Ok(())
+            push_again(checker, &placed)
         }
     }
 }
 
 /// A checker that has seen the events of these bytes.
-fn pushed_again(rt: &impl AllocGlobal, bytes: &[u8]) -> Result<Checker<BytePlane>, Fail>
+fn pushed_again<P: Plane>(rt: &impl AllocGlobal, bytes: &[u8]) -> Result<Checker<P>, Fail>
     ensures { IfOk result (λ checker. (seen : List PlacedValue) × StandsAfter checker seen) }
 {
     let mut reader = Reader::new();
-    let mut checker: Checker<BytePlane> = Checker::new(rt.alloc());
+    let mut checker: Checker<P> = Checker::new(rt.alloc());
     for byte in bytes {
         match reader.feed(*byte) {
             Ok(completed) => {
@@ -122,14 +126,28 @@ fn pushed_again(rt: &impl AllocGlobal, bytes: &[u8]) -> Result<Checker<BytePlane
     Ok(checker)
 }
 
-/// The first growth refused, the push that asked for it is repeated, and the verdict is that of ample memory.
+/// Whether the verdict on the picture of one pixel is that of ample memory, where a refused push was repeated.
+fn is_repeated<P: Plane>(rt: &impl AllocGlobal) -> Result<bool, Fail> {
+    let checker: Checker<P> = pushed_again(rt, PICTURE)?;
+    if !checker.is_whole() {
+        return Ok(false);
+    }
+    match checker.finish()? {
+        Verdict::Portable(picture) => Ok(is_left(&picture, 0, black(), None)),
+        Verdict::Broken(_) => Ok(false),
+    }
+}
+
+/// A plane of bytes takes memory once; its first growth refused, the push that asked for it is repeated.
 #[test]
 fn a_refused_push_is_repeated(rt: HostRuntime) -> Result<(), Fail> {
-    let checker = pushed_again(&rt, PICTURE)?;
-    if !checker.is_whole() {
-        return Err(Fail::from("not whole"));
-    }
-    let verdict = checker.finish()?;
-    assert!(rt; matches!(&verdict, Verdict::Portable(picture) if picture.width() == 1));
+    assert!(rt; is_repeated::<BytePlane>(&rt)?);
+    Ok(())
+}
+
+/// A plane of bands takes memory twice; so does the first growth refused, and the second.
+#[test]
+fn a_refused_push_of_bands_is_repeated(rt: HostRuntime) -> Result<(), Fail> {
+    assert!(rt; is_repeated::<BandPlane>(&rt)?);
     Ok(())
 }

@@ -1,61 +1,192 @@
-//! A plain checker, which keeps the list and looks back from each event, beside the one that keeps no events.
+//! A plain judge, which keeps the commands and looks back from each of them, beside the one that keeps none.
+//!
+//! It goes by the rules as `Rule` states them, and takes nothing else from the other judge or the reader: a document is
+//! made of commands that are known.
 
 use crate::checking::check_bytes;
-use crate::events::{
-    bits_of, columns_of, is_data_command, is_finish, is_next_line, is_painting, is_raster,
-    is_repeat_of_zero, is_return, named_by, select_of, sides_of,
-};
 use crate::rule::Rule;
 use crate::verdict::{Finding, Verdict};
-use sixel_grammar::{Command, Event, Placed, SliceSource, read_all};
-use sixel_picture::Picture;
+use sixel_grammar::Command;
+use sixel_picture::{Colour, Parts, Picture};
 use std::alloc::AllocError;
 use std::test::Fail;
 
-/// What the documents are made of, with most that keeps them portable.
-const PARTS: &[&[u8]] = &[
-    b"#0",
-    b"#1",
-    b"#0",
-    b"#1",
-    b"~",
-    b"~",
-    b"!2~",
-    b"!2~",
-    b"$",
-    b"$",
-    b"?",
-    b"B",
-    b"@",
-    b"-",
-    b"#0;2;0;0;0",
-    b"#1;1;360;50;100",
-    b"#1;2;0;0;0",
-    b"!0~",
-    b"#16",
-    b"\"1;1;2;6",
+/// A command and its place. The end has no command.
+#[derive(Clone, Copy)]
+struct Step {
+    place: u64,
+    command: Option<Command>,
+}
+
+/// `"1;1;2;6`
+const BOX: Command = Command::Raster {
+    pan: 1,
+    pad: 1,
+    width: 2,
+    height: 6,
+};
+
+/// `"2;1;2;6`
+const TALL: Command = Command::Raster {
+    pan: 2,
+    pad: 1,
+    width: 2,
+    height: 6,
+};
+
+/// `"1;1;0;6`
+const EMPTY: Command = Command::Raster {
+    pan: 1,
+    pad: 1,
+    width: 0,
+    height: 6,
+};
+
+/// `#0;2;0;0;0`
+const FIRST_BLACK: Command = Command::Define {
+    register: 0,
+    system: 2,
+    x: 0,
+    y: 0,
+    z: 0,
+};
+
+/// `#1;1;360;50;100`
+const SECOND_HUE: Command = Command::Define {
+    register: 1,
+    system: 1,
+    x: 360,
+    y: 50,
+    z: 100,
+};
+
+/// `#1;2;0;0;0`
+const SECOND_BLACK: Command = Command::Define {
+    register: 1,
+    system: 2,
+    x: 0,
+    y: 0,
+    z: 0,
+};
+
+/// `#1;2;0;0;101`
+const NO_COLOUR: Command = Command::Define {
+    register: 1,
+    system: 2,
+    x: 0,
+    y: 0,
+    z: 101,
+};
+
+/// `!2~`
+const TWICE: Command = Command::Repeat { count: 2, bits: 63 };
+
+/// `!0~`
+const NEVER: Command = Command::Repeat { count: 0, bits: 63 };
+
+/// What a document begins with: mostly a box of 2 by 6 pixels.
+const FIRST: [(&str, Command); 8] = [
+    ("\"1;1;2;6", BOX),
+    ("\"1;1;2;6", BOX),
+    ("\"1;1;2;6", BOX),
+    ("\"1;1;2;6", BOX),
+    ("\"1;1;2;6", BOX),
+    ("\"2;1;2;6", TALL),
+    ("\"1;1;0;6", EMPTY),
+    ("#0", Command::Select(0)),
 ];
 
+/// Two definitions and a select.
+const SECOND: [(&str, Command); 3] = [
+    ("#0;2;0;0;0", FIRST_BLACK),
+    ("#1;1;360;50;100", SECOND_HUE),
+    ("#1", Command::Select(1)),
+];
+
+/// What follows, with most that keeps a document portable.
+const MORE: [(&str, Command); 24] = [
+    ("#0", Command::Select(0)),
+    ("#1", Command::Select(1)),
+    ("#0", Command::Select(0)),
+    ("#1", Command::Select(1)),
+    ("~", Command::Sixel(63)),
+    ("~", Command::Sixel(63)),
+    ("~", Command::Sixel(63)),
+    ("!2~", TWICE),
+    ("!2~", TWICE),
+    ("!2~", TWICE),
+    ("$", Command::CarriageReturn),
+    ("$", Command::CarriageReturn),
+    ("?", Command::Sixel(0)),
+    ("B", Command::Sixel(3)),
+    ("@", Command::Sixel(1)),
+    ("-", Command::NextLine),
+    ("#0;2;0;0;0", FIRST_BLACK),
+    ("#1;1;360;50;100", SECOND_HUE),
+    ("#1;2;0;0;0", SECOND_BLACK),
+    ("#1;2;0;0;101", NO_COLOUR),
+    ("!0~", NEVER),
+    ("#2", Command::Select(2)),
+    ("#16", Command::Select(16)),
+    ("\"1;1;2;6", BOX),
+];
+
+const RULES: [Rule; 12] = [
+    Rule::RasterFirst,
+    Rule::RasterTwice,
+    Rule::Ratio,
+    Rule::BoxSize,
+    Rule::Register,
+    Rule::ColourValue,
+    Rule::RepeatZero,
+    Rule::Unselected,
+    Rule::Undefined,
+    Rule::Redefined,
+    Rule::Outside,
+    Rule::Uncovered,
+];
+
+/// The columns of data, and its bits.
+fn data_of(command: Option<Command>) -> (u64, u8) {
+    match command {
+        Some(Command::Sixel(bits)) => (1, bits),
+        Some(Command::Repeat { count, bits }) => (count as u64, bits),
+        _ => (0, 0),
+    }
+}
+
 /// The width and the height of the first raster attributes.
-fn box_of(before: &[Placed]) -> Option<(u32, u32)> {
-    before.iter().find_map(|placed| sides_of(&placed.event))
+fn box_of(before: &[Step]) -> Option<(u64, u64)> {
+    for step in before {
+        if let Some(Command::Raster { width, height, .. }) = step.command {
+            return Some((width as u64, height as u64));
+        }
+    }
+    None
 }
 
 /// The register of the last select, if it was named last too.
-fn known(before: &[Placed]) -> Option<u16> {
+fn known(before: &[Step]) -> Option<u16> {
     let mut selected = None;
     let mut named = None;
-    for placed in before {
-        selected = select_of(&placed.event).or(selected);
-        named = named_by(&placed.event).or(named);
+    for step in before {
+        match step.command {
+            Some(Command::Select(register)) => {
+                selected = Some(register);
+                named = Some(register);
+            }
+            Some(Command::Define { register, .. }) => named = Some(register),
+            _ => {}
+        }
     }
     if selected == named { selected } else { None }
 }
 
-/// The colour system and the coordinates of a definition of the register.
-fn definition_by(event: &Event, wanted: u16) -> Option<(u16, u16, u16, u16)> {
-    match event {
-        Event::Step(
+/// The colour system and the coordinates of the last definition of the register.
+fn definition(before: &[Step], wanted: u16) -> Option<[u16; 4]> {
+    let mut last = None;
+    for step in before {
+        if let Some(
             Command::Define {
                 register,
                 system,
@@ -63,52 +194,48 @@ fn definition_by(event: &Event, wanted: u16) -> Option<(u16, u16, u16, u16)> {
                 y,
                 z,
             },
-        ) if *register == wanted => { Some((*system, *x, *y, *z)) }
-        _ => None,
-    }
-}
-
-/// Those of the last definition of the register.
-fn definition(before: &[Placed], register: u16) -> Option<(u16, u16, u16, u16)> {
-    let mut last = None;
-    for placed in before {
-        last = definition_by(&placed.event, register).or(last);
+        ) = step.command
+            && register == wanted
+        {
+            last = Some([system, x, y, z]);
+        }
     }
     last
 }
 
 /// Whether a command painted in the register.
-fn is_painted_in(before: &[Placed], register: u16) -> bool {
-    for (position, placed) in before.iter().enumerate() {
+fn is_painted_in(before: &[Step], register: u16) -> bool {
+    for (position, step) in before.iter().enumerate() {
         let earlier = before.get(..position).unwrap_or(&[]);
-        if is_painting(&placed.event) && known(earlier) == Some(register) {
+        if data_of(step.command).1 != 0 && known(earlier) == Some(register) {
             return true;
         }
     }
     false
 }
 
-/// The column and the band after these events.
-fn corner(before: &[Placed]) -> (u64, u64) {
+/// The column and the row after these commands.
+fn corner(before: &[Step]) -> (u64, u64) {
     let mut column: u64 = 0;
-    let mut band: u64 = 0;
-    for placed in before {
-        column = column.saturating_add(columns_of(&placed.event) as u64);
-        if is_return(&placed.event) {
-            column = 0;
-        }
-        if is_next_line(&placed.event) {
-            band = band.saturating_add(1);
+    let mut row: u64 = 0;
+    for step in before {
+        match step.command {
+            Some(Command::CarriageReturn) => column = 0,
+            Some(Command::NextLine) => {
+                column = 0;
+                row = row.saturating_add(6);
+            }
+            command => column = column.saturating_add(data_of(command).0),
         }
     }
-    (column, band)
+    (column, row)
 }
 
-/// Whether the event paints the point.
-fn falls(before: &[Placed], event: &Event, x: u64, y: u64) -> bool {
-    let (column, band) = corner(before);
-    let top = band.saturating_mul(6);
-    let set: u8 = match y.saturating_sub(top) {
+/// Whether the command paints the point.
+fn falls(before: &[Step], command: Option<Command>, x: u64, y: u64) -> bool {
+    let (column, row) = corner(before);
+    let (columns, bits) = data_of(command);
+    let set: u8 = match y.saturating_sub(row) {
         0 => 1,
         1 => 2,
         2 => 4,
@@ -117,29 +244,26 @@ fn falls(before: &[Placed], event: &Event, x: u64, y: u64) -> bool {
         5 => 32,
         _ => 0,
     };
-    y >= top
-        && x >= column
-        && x < column.saturating_add(columns_of(event) as u64)
-        && bits_of(event) & set != 0
+    y >= row && x >= column && x < column.saturating_add(columns) && bits & set != 0
 }
 
-/// The position of the last event that paints the point.
-fn last_over(events: &[Placed], x: u64, y: u64) -> Option<usize> {
+/// The register in which the point was painted last.
+fn register_over(steps: &[Step], x: u64, y: u64) -> Option<u16> {
     let mut last = None;
-    for (position, placed) in events.iter().enumerate() {
-        let before = events.get(..position).unwrap_or(&[]);
-        if falls(before, &placed.event, x, y) {
-            last = Some(position);
+    for (position, step) in steps.iter().enumerate() {
+        let before = steps.get(..position).unwrap_or(&[]);
+        if falls(before, step.command, x, y) {
+            last = known(before);
         }
     }
     last
 }
 
-/// The first point outside the box that the event paints, of more points than the documents reach.
-fn outside(before: &[Placed], event: &Event, width: u32, height: u32) -> Option<(u64, u64)> {
-    for y in 0..36u64 {
+/// The first point outside the box that the command paints, of more points than the documents reach.
+fn outside(before: &[Step], step: Step, width: u64, height: u64) -> Option<(u64, u64)> {
+    for y in 0..42u64 {
         for x in 0..18u64 {
-            if (x >= width as u64 || y >= height as u64) && falls(before, event, x, y) {
+            if (x >= width || y >= height) && falls(before, step.command, x, y) {
                 return Some((x, y));
             }
         }
@@ -147,44 +271,51 @@ fn outside(before: &[Placed], event: &Event, width: u32, height: u32) -> Option<
     None
 }
 
-/// The first pixel of the box that no event paints.
-fn uncovered(before: &[Placed], width: u32, height: u32) -> Option<(u64, u64)> {
+/// The first pixel of the box that no command paints.
+fn uncovered(before: &[Step], width: u64, height: u64) -> Option<(u64, u64)> {
     for y in 0..height {
         for x in 0..width {
-            if last_over(before, x as u64, y as u64).is_none() {
-                return Some((x as u64, y as u64));
+            if register_over(before, x, y).is_none() {
+                return Some((x, y));
             }
         }
     }
     None
 }
 
-/// Whether the colour system and the coordinates give a colour.
-fn is_colour((system, x, y, z): (u16, u16, u16, u16)) -> bool {
-    (system == 1 && x <= 360 || system == 2 && x <= 100) && y <= 100 && z <= 100
+/// The least rule that raster attributes break.
+fn raster_rule(boxed: bool, pan: u16, pad: u16, width: u16, height: u16) -> Option<Rule> {
+    if boxed {
+        Some(Rule::RasterTwice)
+    } else if pan != 1 || pad != 1 {
+        Some(Rule::Ratio)
+    } else if width < 1 || width > 2048 || height < 1 || height > 2048 {
+        Some(Rule::BoxSize)
+    } else {
+        None
+    }
 }
 
-/// The least rule that an event breaks that names the register.
-fn naming_rule(before: &[Placed], event: &Event, register: u16) -> Option<Rule> {
+/// The least rule that a definition breaks.
+fn definition_rule(before: &[Step], register: u16, given: [u16; 4]) -> Option<Rule> {
+    let [system, x, y, z] = given;
     if register > 15 {
-        return Some(Rule::Register);
-    }
-    let given = definition_by(event, register)?;
-    if !is_colour(given) {
+        Some(Rule::Register)
+    } else if !(system == 1 && x <= 360 || system == 2 && x <= 100) || y > 100 || z > 100 {
         Some(Rule::ColourValue)
-    } else if Some(given) != definition(before, register) && is_painted_in(before, register) {
+    } else if definition(before, register) != Some(given) && is_painted_in(before, register) {
         Some(Rule::Redefined)
     } else {
         None
     }
 }
 
-/// The least rule that an event breaks that names no register, of those that look at no pixel and at no box.
-fn data_rule(before: &[Placed], event: &Event) -> Option<Rule> {
-    if is_repeat_of_zero(event) {
+/// The least rule that data after raster attributes breaks, of those that look at no pixel.
+fn data_rule(before: &[Step], columns: u64, bits: u8) -> Option<Rule> {
+    if columns == 0 {
         return Some(Rule::RepeatZero);
     }
-    if !is_painting(event) {
+    if bits == 0 {
         return None;
     }
     match known(before) {
@@ -194,50 +325,71 @@ fn data_rule(before: &[Placed], event: &Event) -> Option<Rule> {
     }
 }
 
-/// The least rule that the event breaks, of those that look at no pixel.
-fn plain_rule(before: &[Placed], event: &Event) -> Option<Rule> {
+/// The least rule that the command or the end breaks, of those that look at no pixel.
+fn plain_rule(before: &[Step], step: Step) -> Option<Rule> {
     let boxed = box_of(before).is_some();
-    if !boxed && (is_data_command(event) || is_return(event) || is_finish(event)) {
-        return Some(Rule::RasterFirst);
+    match step.command {
+        Some(
+            Command::Raster {
+                pan,
+                pad,
+                width,
+                height,
+            },
+        ) => raster_rule(boxed, pan, pad, width, height),
+        Some(Command::Select(register)) if register > 15 => Some(Rule::Register),
+        Some(Command::Select(_)) => None,
+        Some(
+            Command::Define {
+                register,
+                system,
+                x,
+                y,
+                z,
+            },
+        ) => definition_rule(before, register, [system, x, y, z]),
+        _ if !boxed => Some(Rule::RasterFirst),
+        Some(Command::Sixel(bits)) => data_rule(before, 1, bits),
+        Some(Command::Repeat { count, bits }) => data_rule(before, count as u64, bits),
+        _ => None,
     }
-    if boxed && is_raster(event) {
-        return Some(Rule::RasterTwice);
+}
+
+/// The rule of those that look at pixels, and the pixel.
+fn pixel_rule(before: &[Step], step: Step) -> Option<(Rule, (u64, u64))> {
+    let (width, height) = box_of(before)?;
+    if let Some(pixel) = outside(before, step, width, height) {
+        return Some((Rule::Outside, pixel));
     }
-    match named_by(event) {
-        Some(register) => naming_rule(before, event, register),
-        None => data_rule(before, event),
+    if step.command.is_some() {
+        return None;
+    }
+    uncovered(before, width, height).map(|pixel| (Rule::Uncovered, pixel))
+}
+
+/// What the command or the end breaks.
+fn finding_at(before: &[Step], step: Step) -> Option<Finding> {
+    let place = step.place;
+    match plain_rule(before, step) {
+        Some(rule) => Some(Finding {
+            rule,
+            place,
+            pixel: None,
+        }),
+        None => pixel_rule(before, step).map(|(rule, pixel)| Finding {
+            rule,
+            place,
+            pixel: Some(pixel),
+        }),
     }
 }
 
 /// The first broken rule.
-fn plain_finding(events: &[Placed]) -> Option<Finding> {
-    for (position, placed) in events.iter().enumerate() {
-        let before = events.get(..position).unwrap_or(&[]);
-        let place = placed.place;
-        if let Some(rule) = plain_rule(before, &placed.event) {
-            return Some(Finding {
-                rule,
-                place,
-                pixel: None,
-            });
-        }
-        if let Some((width, height)) = box_of(before) {
-            if let Some(pixel) = outside(before, &placed.event, width, height) {
-                return Some(Finding {
-                    rule: Rule::Outside,
-                    place,
-                    pixel: Some(pixel),
-                });
-            }
-            if is_finish(&placed.event)
-                && let Some(pixel) = uncovered(before, width, height)
-            {
-                return Some(Finding {
-                    rule: Rule::Uncovered,
-                    place,
-                    pixel: Some(pixel),
-                });
-            }
+fn plain_finding(steps: &[Step]) -> Option<Finding> {
+    for (position, step) in steps.iter().enumerate() {
+        let finding = finding_at(steps.get(..position).unwrap_or(&[]), *step);
+        if finding.is_some() {
+            return finding;
         }
     }
     None
@@ -250,41 +402,71 @@ fn next(state: u64) -> u64 {
         .wrapping_add(1_442_695_040_888_963_407)
 }
 
-/// One of the parts, by the generator's state.
-fn chosen<'a>(parts: &[&'a [u8]], state: u64) -> &'a [u8] {
-    parts
-        .get((state >> 40) as usize % 20)
-        .copied()
-        .unwrap_or(&[])
+/// A document in bytes and in commands.
+#[derive(Drop)]
+struct Made {
+    bytes: Vec<u8>,
+    steps: Vec<Step>,
 }
 
-/// Five of these parts, at the end of the bytes.
-fn push_parts(bytes: &mut Vec<u8>, parts: &[&[u8]], state: &mut u64) -> Result<(), AllocError> {
+/// Appends a command.
+fn push(made: &mut Made, part: (&str, Command)) -> Result<(), AllocError> {
+    let place = made.bytes.len() as u64;
+    let command = Some(part.1);
+    made.steps.push(Step { place, command })?;
+    made.bytes.extend_from_slice(part.0.as_bytes())
+}
+
+/// A document of five commands after its beginning.
+fn document_of(rt: &impl AllocGlobal, state: &mut u64) -> Result<Made, Fail> {
+    let mut made = Made {
+        bytes: Vec::new(rt.alloc()),
+        steps: Vec::new(rt.alloc()),
+    };
+    made.bytes.extend_from_slice(b"\x1bPq")?;
+    *state = next(*state);
+    push(&mut made, FIRST[(*state >> 40) as usize % 8])?;
+    for part in SECOND {
+        push(&mut made, part)?;
+    }
     for _ in 0..5u32 {
         *state = next(*state);
-        bytes.extend_from_slice(chosen(parts, *state))?;
+        push(&mut made, MORE[(*state >> 40) as usize % 24])?;
     }
-    Ok(())
+    let place = made.bytes.len() as u64;
+    made.steps.push(Step {
+        place,
+        command: None,
+    })?;
+    made.bytes.extend_from_slice(b"\x1b\\")?;
+    Ok(made)
 }
 
-/// A document of five parts after a box of 2 by 6 pixels, two definitions and a select.
-fn document_of(rt: &impl AllocGlobal, state: &mut u64) -> Result<Vec<u8>, Fail> {
-    let mut bytes = Vec::new(rt.alloc());
-    bytes.extend_from_slice(b"\x1bPq\"1;1;2;6#0;2;0;0;0#1;1;360;50;100#1")?;
-    push_parts(&mut bytes, PARTS, state)?;
-    bytes.extend_from_slice(b"\x1b\\")?;
-    Ok(bytes)
+/// The colour system and the coordinates of a colour.
+fn values_of(colour: Colour) -> [u16; 4] {
+    match colour.parts() {
+        Parts::Rgb(red, green, blue) => [2, red as u16, green as u16, blue as u16],
+        Parts::Hls(hue, lightness, saturation) => [1, hue, lightness as u16, saturation as u16],
+    }
 }
 
-/// Whether each pixel has the register that was known at the last event over it.
-fn agrees(picture: &Picture, events: &[Placed]) -> bool {
+/// Whether each register has the colour of its last definition, and none where it has none.
+fn has_last_colours(picture: &Picture, steps: &[Step]) -> bool {
+    for register in 0..16u8 {
+        let colour = picture.palette().get(register).map(values_of);
+        if colour != definition(steps, register as u16) {
+            return false;
+        }
+    }
+    true
+}
+
+/// Whether each pixel has the register in which it was painted last.
+fn has_last_registers(picture: &Picture, steps: &[Step]) -> bool {
     for y in 0..picture.height() {
         for x in 0..picture.width() {
             let register = picture.register_at(x, y) as u16;
-            let plain = last_over(events, x as u64, y as u64).and_then(|position| known(
-                events.get(..position).unwrap_or(&[]),
-            ));
-            if plain != Some(register) {
+            if register_over(steps, x as u64, y as u64) != Some(register) {
                 return false;
             }
         }
@@ -292,25 +474,50 @@ fn agrees(picture: &Picture, events: &[Placed]) -> bool {
     true
 }
 
+/// Whether the picture has the size of the box, and the registers and the colours that the commands leave.
+fn is_left(picture: &Picture, steps: &[Step]) -> bool {
+    box_of(steps) == Some((picture.width() as u64, picture.height() as u64))
+        && has_last_registers(picture, steps)
+        && has_last_colours(picture, steps)
+}
+
+/// Whether both judges say the same of it; what it breaks is marked, or that it breaks nothing.
+fn is_judged_alike(
+    rt: &impl AllocGlobal,
+    made: &Made,
+    met: &mut [bool; 12],
+    portable: &mut u32,
+) -> bool {
+    match (
+        check_bytes(rt.alloc(), &made.bytes),
+        plain_finding(&made.steps),
+    ) {
+        (Ok(Verdict::Broken(finding)), Some(plain)) => {
+            for (mark, rule) in met.iter_mut().zip(RULES) {
+                *mark = *mark || plain.rule == rule;
+            }
+            finding == plain
+        }
+        (Ok(Verdict::Portable(picture)), None) => {
+            *portable = portable.saturating_add(1);
+            is_left(&picture, &made.steps)
+        }
+        _ => false,
+    }
+}
+
+/// The documents break each of the rules, and some break none.
 #[test]
 fn both_judge_alike(rt: HostRuntime) -> Result<(), Fail> {
     let mut state: u64 = 1;
+    let mut met = [false; 12];
     let mut portable: u32 = 0;
     for _ in 0..400u32 {
-        let bytes = document_of(&rt, &mut state)?;
-        let mut source = SliceSource::new(&bytes, 64, None);
-        let Ok(events) = read_all(rt.alloc(), &mut source) else {
-            return Err(Fail::from("no document"));
-        };
-        match (check_bytes(rt.alloc(), &bytes), plain_finding(&events)) {
-            (Ok(Verdict::Broken(finding)), Some(plain)) => assert_eq!(rt; finding, plain),
-            (Ok(Verdict::Portable(picture)), None) => {
-                assert!(rt; agrees(&picture, &events));
-                portable = portable.saturating_add(1);
-            }
-            _ => return Err(Fail::from("the two differ")),
-        }
+        let made = document_of(&rt, &mut state)?;
+        let alike = is_judged_alike(&rt, &made, &mut met, &mut portable);
+        assert!(rt; alike, "{:?}", made.bytes.as_slice());
     }
+    assert!(rt; met == [true; 12]);
     assert!(rt; portable > 4);
     Ok(())
 }

@@ -9,7 +9,7 @@ use crate::tests::documents::DOCUMENTS;
 use crate::tests::{bytes_of, in_words};
 use arrayvec::ArrayVec;
 use sixel_grammar::{Command, Event, Placed, SliceSource, read_all};
-use sixel_picture::BytePlane;
+use sixel_picture::{BytePlane, Plane};
 use std::process::Abort;
 use std::test::Fail;
 
@@ -170,7 +170,7 @@ const COMMANDS: [Command; 7] = [
 ];
 
 /// Whether the checker expects a start or not, and commands of any kind and an end or not.
-fn expects_so(checker: &Checker<BytePlane>, start: bool, more: bool) -> bool {
+pub(super) fn expects_so<P: Plane>(checker: &Checker<P>, start: bool, more: bool) -> bool {
     for eight in [false, true] {
         let event = Event::Start {
             eight,
