@@ -7,7 +7,7 @@ mod making;
 
 use crate::choices::{Choices, Ground};
 use crate::terminal::Terminal;
-use sixel_grammar::{SliceSource, read_all};
+use sixel_grammar::{InputFault, Placed, SliceSource, read_all};
 use sixel_picture::{Colour, Parts};
 use std::alloc::Global;
 use std::test::Fail;
@@ -63,6 +63,16 @@ fn terminal(alloc: Global, choices: Choices, registers: u16) -> Result<Terminal,
     Ok(Terminal::new(choices, colours, white_screen(alloc, pixels)?).or(Err("a terminal"))?)
 }
 
+/// What reading a text gives.
+fn document(alloc: Global, text: &[u8]) -> Result<Vec<Placed>, InputFault> {
+    read_all(alloc, &mut SliceSource::new(text, 64, None))
+}
+
+/// The events of a document.
+fn events_of(alloc: Global, text: &[u8]) -> Result<Vec<Placed>, Fail> {
+    Ok(document(alloc, text).or(Err("a document"))?)
+}
+
 /// What a terminal of 16 grey registers and a white screen shows after a document.
 fn shown(alloc: Global, choices: Choices, text: &[u8]) -> Result<Vec<Parts>, Fail> {
     shown_of(alloc, choices, 16, text)
@@ -75,8 +85,7 @@ fn shown_of(
     registers: u16,
     text: &[u8],
 ) -> Result<Vec<Parts>, Fail> {
-    let mut source = SliceSource::new(text, 64, None);
-    let events = read_all(alloc, &mut source).or(Err("a document"))?;
+    let events = events_of(alloc, text)?;
     let colours = terminal(alloc, choices, registers)?.show(alloc, events.as_slice())?;
     parts_of(alloc, colours.as_slice())
 }

@@ -2,10 +2,12 @@
 
 use crate::choices::{Choices, Ground};
 use crate::terminal::Terminal;
-use crate::tests::{BLACK, RED, WHITE, grey, parts_of, plain_choices, shown, terminal};
-use sixel_grammar::{Command, Event, Placed, SliceSource, read_all};
+use crate::tests::{
+    BLACK, RED, WHITE, document, events_of, grey, parts_of, plain_choices, shown, terminal,
+};
+use sixel_grammar::{Command, Event, Placed};
 use sixel_picture::{Colour, Parts};
-use std::alloc::Global;
+use std::alloc::{AllocError, Global};
 use std::test::Fail;
 
 /// So many white rows of one column, of which these are black.
@@ -138,10 +140,8 @@ fn any_list_of_events_is_shown(rt: HostRuntime) -> Result<(), Fail> {
     assert_eq!(rt; nothing.as_slice(), [WHITE, WHITE].as_slice());
 
     let text = b"\x1bPq@\x1b\\".as_slice();
-    let mut source = SliceSource::new(text, 64, None);
-    let mut events = read_all(rt.alloc(), &mut source).or(Err("a document"))?;
-    let mut source = SliceSource::new(text, 64, None);
-    for placed in read_all(rt.alloc(), &mut source).or(Err("a document"))? {
+    let mut events = events_of(rt.alloc(), text)?;
+    for placed in events_of(rt.alloc(), text)? {
         events.push(placed)?;
     }
     let middle = events.as_slice().get(1..5).ok_or("six events")?;
@@ -151,30 +151,79 @@ fn any_list_of_events_is_shown(rt: HostRuntime) -> Result<(), Fail> {
     Ok(())
 }
 
-/// Under `rt try --test --fail-alloc N` the N-th growth is refused: those of `show` are 3, 4 and 5. A refusal is
-/// answered, and the next call, for which there is memory, shows the screen.
-#[test]
-fn a_refused_growth_is_answered(rt: HostRuntime) -> Result<(), Fail> {
+/// A pixel painted in register 0, which is black, and then another colour of register 0.
+const REDEFINED: &[u8] = b"\x1bPq\"1;1;1;1#0;2;0;0;0#0@#0;2;100;0;0\x1b\\";
+
+/// Whether the terminal shows one pixel of this colour; `None` where a growth was refused.
+fn shows(alloc: Global, terminal: &Terminal, events: &[Placed], expected: Parts) -> Option<bool> {
+    let colours = terminal.show(alloc, events).ok()?;
+    let [colour] = colours.as_slice() else {
+        return Some(false);
+    };
+    Some(colour.parts() == expected)
+}
+
+fn copies(alloc: Global, colour: Colour, count: usize) -> Result<Vec<Colour>, AllocError> {
+    vec![in alloc; colour; count]
+}
+
+/// Whether a terminal that binds so shows the colour, or does at the next call where a growth was refused.
+fn shows_in_turn(alloc: Global, binds_at_showing: bool, expected: Parts) -> Result<bool, Fail> {
+    let choices = Choices {
+        binds_at_showing,
+        ..plain_choices(1, 1)
+    };
     let black = Colour::rgb(0, 0, 0).ok_or("black")?;
     let white = Colour::rgb(100, 100, 100).ok_or("white")?;
-    let Ok(colours) = vec![in rt.alloc(); black; 16] else {
-        return Ok(());
-    };
-    let Ok(screen) = vec![in rt.alloc(); white; 2] else {
-        return Ok(());
-    };
-    let terminal = Terminal::new(plain_choices(2, 1), colours, screen).or(Err("a terminal"))?;
-    let painted = [Placed {
-        place: 0,
-        event: Event::Step(Command::Sixel(1)),
-    }];
-    let shown = match terminal.show(rt.alloc(), &painted) {
-        Ok(shown) => shown,
-        Err(_) => terminal.show(rt.alloc(), &painted)?,
-    };
-    let mut colours = shown.iter();
-    assert_eq!(rt; colours.next().map(|colour| colour.parts()), Some(BLACK));
-    assert_eq!(rt; colours.next().map(|colour| colour.parts()), Some(WHITE));
-    assert_eq!(rt; shown.len(), 2);
+    let colours = copies(alloc, black, 16).or_else(|_| copies(alloc, black, 16))?;
+    let screen = copies(alloc, white, 1).or_else(|_| copies(alloc, white, 1))?;
+    let terminal = Terminal::new(choices, colours, screen).or(Err("a terminal"))?;
+    let events = document(alloc, REDEFINED).or_else(|_| document(alloc, REDEFINED));
+    let events = events.or(Err("a document"))?;
+    let first = shows(alloc, &terminal, &events, expected);
+    Ok(first.or_else(|| shows(alloc, &terminal, &events, expected)) == Some(true))
+}
+
+/// Under `rt try --test --fail-alloc N` the N-th growth is refused: the first four make the terminal and the events, and
+/// those of `show` are 5, 6 and 7. No other is refused.
+#[test]
+fn a_refused_growth_is_answered(rt: HostRuntime) -> Result<(), Fail> {
+    assert!(rt; shows_in_turn(rt.alloc(), false, BLACK)?);
+    Ok(())
+}
+
+#[test]
+fn a_refused_growth_is_answered_at_showing(rt: HostRuntime) -> Result<(), Fail> {
+    assert!(rt; shows_in_turn(rt.alloc(), true, RED)?);
+    Ok(())
+}
+
+/// So many black columns of six rows, one event each.
+fn columns_of(alloc: Global, count: usize) -> Result<Vec<Placed>, Fail> {
+    let mut events = Vec::with_capacity(alloc, count)?;
+    for _ in 0..count {
+        events.push(Placed {
+            place: 0,
+            event: Event::Step(Command::Sixel(63)),
+        })?;
+    }
+    Ok(events)
+}
+
+/// Whether the first pixels are black, so many, and the others white.
+fn are_black_first(colours: &[Colour], count: usize) -> bool {
+    let (black, white) = colours.split_at(count.min(colours.len()));
+    black.iter().all(|colour| colour.parts() == BLACK)
+        && white.iter().all(|colour| colour.parts() == WHITE)
+}
+
+/// The largest screen, and a list that goes far past its right side.
+#[test]
+fn the_largest_screen_is_shown(rt: HostRuntime) -> Result<(), Fail> {
+    let terminal = terminal(rt.alloc(), plain_choices(4_096, 4_096), 16)?;
+    let events = columns_of(rt.alloc(), 150_000)?;
+    let colours = terminal.show(rt.alloc(), &events)?;
+    assert_eq!(rt; colours.len(), 16_777_216);
+    assert!(rt; are_black_first(&colours, 24_576));
     Ok(())
 }

@@ -2,8 +2,27 @@
 
 use crate::choices::{Choices, Ground};
 use crate::terminal::{Terminal, TerminalReason};
-use crate::tests::{grey_colours, plain_choices, terminal, white_screen};
+use crate::tests::{grey_colours, plain_choices, terminal};
+use std::alloc::Global;
 use std::test::Fail;
+
+/// Why so many registers and pixels make no terminal, if their colours come back as they were.
+fn refused(
+    alloc: Global,
+    choices: Choices,
+    registers: u16,
+    pixels: u16,
+) -> Result<Option<TerminalReason>, Fail> {
+    let colours = grey_colours(alloc, registers)?;
+    let screen = grey_colours(alloc, pixels)?;
+    match Terminal::new(choices, colours.clone()?, screen.clone()?) {
+        Ok(_) => Ok(None),
+        Err(fault) => {
+            let is_same = fault.colours == colours && fault.screen == screen;
+            Ok(is_same.then_some(fault.reason))
+        }
+    }
+}
 
 #[test]
 fn terminals_name_the_first_reason(rt: HostRuntime) -> Result<(), Fail> {
@@ -83,16 +102,8 @@ fn terminals_name_the_first_reason(rt: HostRuntime) -> Result<(), Fail> {
             TerminalReason::Origin,
         ),
     ] {
-        let colours = grey_colours(rt.alloc(), registers)?;
-        let screen = white_screen(rt.alloc(), pixels)?;
-        match Terminal::new(choices, colours, screen) {
-            Ok(_) => assert!(rt; false, "a terminal"),
-            Err(fault) => {
-                assert_eq!(rt; fault.reason, expected);
-                assert_eq!(rt; fault.colours.len(), registers as usize);
-                assert_eq!(rt; fault.screen.len(), pixels);
-            }
-        }
+        let reason = refused(rt.alloc(), choices, registers, pixels)?;
+        assert_eq!(rt; reason, Some(expected), "{choices:?}, {pixels} pixels");
     }
     Ok(())
 }
