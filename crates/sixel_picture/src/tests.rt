@@ -48,16 +48,19 @@ fn set(palette: &mut Palette, register: u8, colour: Option<Colour>) {
     }
 }
 
+/// Whether the register has the colour, and each other one none.
+fn holds_alone(palette: &Palette, register: u8, colour: Option<Colour>) -> bool {
+    (0..=255u8).all(|other| palette.get(other) == if other == register { colour } else { None })
+}
+
 #[test]
 fn palettes_have_sixteen_registers(rt: HostRuntime) -> Result<(), Fail> {
     let colour = Colour::rgb(20, 40, 60);
     assert!(rt; colour.is_some());
     let mut palette = Palette::new();
-    assert_eq!(rt; palette.get(15), None);
+    assert!(rt; holds_alone(&palette, 15, None), "empty");
     set(&mut palette, 15, colour);
-    for (register, expected) in [(15, colour), (14, None), (16, None), (255, None)] {
-        assert_eq!(rt; palette.get(register), expected, "register {register}");
-    }
+    assert!(rt; holds_alone(&palette, 15, colour), "register 15");
     Ok(())
 }
 
@@ -151,14 +154,10 @@ fn pictures_keep_their_parts(rt: HostRuntime) -> Result<(), Fail> {
     Ok(())
 }
 
-/// `rt try --test --fail-alloc 1` refuses the only growth of a plane.
+/// `rt try --test --fail-alloc 1` refuses the only growth of the first plane.
 #[test]
-fn a_refused_growth_is_answered(rt: HostRuntime) -> Result<(), Fail> {
-    match BytePlane::blank(rt.alloc(), 3, 2) {
-        Ok(plane) => assert_eq!(rt; plane.first_blank(), Some((0, 0))),
-        Err(refused) => assert_eq!(rt; refused, AllocError),
-    }
-    Ok(())
+fn a_refused_growth_is_answered(rt: HostRuntime) {
+    assert!(rt; planes::one_is_blank::<BytePlane>(rt.alloc()));
 }
 
 /// The PPM of two pixels side by side, red and blue.
@@ -239,23 +238,30 @@ fn colours_are_written_as_ppm(rt: HostRuntime) -> Result<(), Fail> {
     Ok(())
 }
 
+/// Whether a sink that fails before the end of the text has a front of it: one that takes a byte a call and fails at
+/// one, and one with too little room.
+fn fails_in_turn(picture: &Picture, text: &[u8]) -> bool {
+    let failed = Err(PpmFault::Write);
+    for count in 0..text.len() {
+        let front = &text[..count];
+        let mut room = [0; 32];
+        if !writes(picture, &mut room, 1, Some(count as u64), failed, front)
+            || !writes(picture, &mut room[..count.min(32)], 4, None, failed, front)
+        {
+            return false;
+        }
+    }
+    true
+}
+
 #[test]
 fn failing_sinks_have_a_front_of_the_text(rt: HostRuntime) -> Result<(), Fail> {
-    let picture = picture_of(rt.alloc(), 2, 1, red_and_blue(), &[0, 3])?;
-    for count in 0..TWO_PIXELS.len() {
-        let front = &TWO_PIXELS[..count];
-        let failed = Err(PpmFault::Write);
-        let fail_at = Some(count as u64);
-        assert!(rt;
-            writes(&picture, &mut [0; 32], 1, fail_at, failed, front),
-            "call {count}"
-        );
-        let mut room = [0; 32];
-        assert!(rt;
-            writes(&picture, &mut room[..count], 4, None, failed, front),
-            "room {count}"
-        );
-    }
+    let two = picture_of(rt.alloc(), 2, 1, red_and_blue(), &[0, 3])?;
+    assert!(rt; fails_in_turn(&two, TWO_PIXELS), "two pixels");
+    let mut palette = Palette::new();
+    set(&mut palette, 0, Colour::rgb(0, 0, 0));
+    let black = picture_of(rt.alloc(), 1, 1, palette, &[0])?;
+    assert!(rt; fails_in_turn(&black, BLACK), "a black pixel");
     Ok(())
 }
 

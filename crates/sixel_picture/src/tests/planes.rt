@@ -7,7 +7,7 @@ use crate::band_plane::BandPlane;
 use crate::bits::is_set;
 use crate::byte_plane::BytePlane;
 use crate::plane::Plane;
-use std::alloc::AllocError;
+use std::alloc::Global;
 use std::test::Fail;
 
 /// A run of columns in a band.
@@ -152,14 +152,60 @@ fn the_columns_after_whole_groups_are_looked_at(rt: HostRuntime) -> Result<(), F
     Ok(())
 }
 
-/// `rt try --test --fail-alloc N` refuses the first and the second growth of a plane in turn.
-#[test]
-fn a_refused_growth_of_bands_is_answered(rt: HostRuntime) -> Result<(), Fail> {
-    match BandPlane::blank(rt.alloc(), 3, 2) {
-        Ok(plane) => assert_eq!(rt; plane.first_blank(), Some((0, 0))),
-        Err(refused) => assert_eq!(rt; refused, AllocError),
+/// Whether the plane has this size, and no pixel with a register.
+fn is_blank<P: Plane>(plane: &P, width: u32, height: u32) -> bool {
+    for y in 0..height {
+        for x in 0..width {
+            if pixel(plane, x, y).is_some() {
+                return false;
+            }
+        }
     }
-    Ok(())
+    (plane.width(), plane.height()) == (width, height) && plane.first_blank() == Some((0, 0))
+}
+
+/// Whether a new plane is blank; `None` where a growth was refused.
+fn is_made_blank<P: Plane>(alloc: Global, width: u32, height: u32) -> Option<bool> {
+    if width < 1 || width > 2048 || height < 1 || height > 2048 {
+        return Some(false);
+    }
+    let plane = P::blank(alloc, width, height).ok()?;
+    Some(is_blank(&plane, width, height))
+}
+
+#[test]
+fn planes_of_any_size_are_made_blank(rt: HostRuntime) {
+    for (width, height) in [
+        (1, 1),
+        (1_025, 7),
+        (2_047, 5),
+        (2_048, 2_047),
+        (2_048, 2_048),
+    ] {
+        let made = Some(true);
+        let bytes = is_made_blank::<BytePlane>(rt.alloc(), width, height);
+        assert!(rt; bytes == made, "bytes, {width} by {height}");
+        let bands = is_made_blank::<BandPlane>(rt.alloc(), width, height);
+        assert!(rt; bands == made, "bands, {width} by {height}");
+    }
+}
+
+/// Whether one of two planes is made at least, and each that is made is blank.
+pub(super) fn one_is_blank<P: Plane>(alloc: Global) -> bool {
+    match (
+        is_made_blank::<P>(alloc, 3, 7),
+        is_made_blank::<P>(alloc, 3, 7),
+    ) {
+        (Some(first), Some(second)) => first && second,
+        (Some(is_blank), None) | (None, Some(is_blank)) => is_blank,
+        (None, None) => false,
+    }
+}
+
+/// Under `rt try --test --fail-alloc N` the N-th growth is refused: those of the first plane are 1 and 2.
+#[test]
+fn a_refused_growth_of_bands_is_answered(rt: HostRuntime) {
+    assert!(rt; one_is_blank::<BandPlane>(rt.alloc()));
 }
 
 /// Whether the plane takes the run, and then has this first blank pixel, and shows these two pixels.
