@@ -3,4 +3,7 @@
 mod devices;
 mod documents;
 mod faults;
+mod fills;
+mod in_turn;
 mod spelling;
+mod words;

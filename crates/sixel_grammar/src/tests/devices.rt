@@ -1,11 +1,7 @@
 //! The devices over readers, writers and slices, and the block before a sink.
 
-ghost use Rattle.std.specs.Prelude.{Some};
-
-use crate::{
-    Block, DeviceFault, FromRead, InputFault, Sink, SliceSink, SliceSource, Source, ToWrite,
-    put_all, read_all,
-};
+use crate::tests::words::{PICTURE, PICTURE_IN_WORDS, answer_in_words};
+use crate::{Block, DeviceFault, FromRead, Sink, SliceSink, Source, ToWrite, put_all, read_all};
 use arrayvec::ArrayVec;
 use std::io;
 use std::io::{Error, ErrorKind, Read, Write};
@@ -72,8 +68,6 @@ impl Write for FakeWriter<'_> {
     }
 }
 
-const DOCUMENT: &[u8] = b"\x1bPq\"1;1;1;1#0;2;0;0;0#0@\x1b\\";
-
 #[test]
 fn a_reader_is_a_source(rt: HostRuntime) {
     let calls: &[Call] = &[
@@ -100,30 +94,22 @@ fn a_reader_is_a_source(rt: HostRuntime) {
     assert_eq!(rt; source.failures(), 2);
 }
 
+/// Whether the picture is read from a reader that does these calls, with this answer.
+fn agrees(rt: &impl AllocGlobal, calls: &'static [Call], expected: &str) -> Result<bool, Fail> {
+    let mut source = FromRead::new(FakeReader {
+        rest: PICTURE,
+        calls,
+    });
+    let answer = read_all(rt.alloc(), &mut source);
+    Ok(answer_in_words(rt, &answer)?.as_str() == expected)
+}
+
 #[test]
 fn a_document_is_read_from_a_reader(rt: HostRuntime) -> Result<(), Fail> {
     let calls: &[Call] = &[Call::Moves(1), Call::Moves(7), Call::Moves(3)];
-    let mut source = FromRead::new(FakeReader {
-        rest: DOCUMENT,
-        calls,
-    });
-    match read_all(rt.alloc(), &mut source) {
-        Ok(events) => assert_eq!(rt; events.len(), 6),
-        Err(fault) => return Err(format!(in rt.alloc(); "{fault:?}")?.into()),
-    }
-    for calls in [
-        &[Call::Fails] as &[Call],
-        &[Call::Moves(9), Call::Interrupted],
-    ] {
-        let mut source = FromRead::new(FakeReader {
-            rest: DOCUMENT,
-            calls,
-        });
-        assert_eq!(rt;
-            read_all(rt.alloc(), &mut source).err(),
-            Some(InputFault::Read)
-        );
-    }
+    assert!(rt; agrees(&rt, calls, PICTURE_IN_WORDS)?);
+    assert!(rt; agrees(&rt, &[Call::Fails], "read failed")?);
+    assert!(rt; agrees(&rt, &[Call::Moves(9), Call::Interrupted], "read failed")?);
     Ok(())
 }
 
@@ -150,68 +136,6 @@ fn a_writer_is_a_sink(rt: HostRuntime) {
     assert_eq!(rt; sink.flush(), Ok(()));
     assert_eq!(rt; sink.failures(), 3);
     assert_eq!(rt; written.as_slice(), b"sixel".as_slice());
-}
-
-/// A source that counts how often it is called.
-#[derive(Drop)]
-struct Counting<'a> {
-    inner: SliceSource<'a>,
-    calls: u64,
-}
-
-impl Source for Counting<'_> {
-    ghost remaining = { λ s. Some s.inner.rest };
-
-    ghost failure_count = { λ s. s.inner.failures };
-
-    fn fill(&mut self, piece: &mut [u8]) -> Result<usize, DeviceFault> {
-        self.calls = self.calls.saturating_add(1);
-        self.inner.fill(piece)
-    }
-
-    fn failures(&self) -> u64 {
-        self.inner.failures()
-    }
-}
-
-#[test]
-fn a_failed_source_is_left_alone(rt: HostRuntime) {
-    for call in 0..6 {
-        let mut source = Counting {
-            inner: SliceSource::new(DOCUMENT, 5, Some(call)),
-            calls: 0,
-        };
-        assert_eq!(rt;
-            read_all(rt.alloc(), &mut source).err(),
-            Some(InputFault::Read)
-        );
-        assert_eq!(rt; source.calls, call + 1);
-    }
-}
-
-#[test]
-fn each_call_of_a_source_fails_in_turn(rt: HostRuntime) {
-    for piece in [1, 5, 64] {
-        let mut number = 0;
-        for call in 0..100 {
-            let mut source = SliceSource::new(DOCUMENT, piece, Some(call));
-            match read_all(rt.alloc(), &mut source) {
-                Ok(events) => {
-                    assert_eq!(rt; events.len(), 6);
-                    assert_eq!(rt; source.failures(), 0);
-                    break;
-                }
-                Err(fault) => {
-                    assert_eq!(rt; fault, InputFault::Read);
-                    assert_eq!(rt; source.failures(), 1);
-                    number = call + 1;
-                }
-            }
-        }
-        // one call a piece, and one more finds the end
-        let pieces = DOCUMENT.len().div_ceil(piece) + 1;
-        assert_eq!(rt; number, pieces as u64);
-    }
 }
 
 #[test]

@@ -1,61 +1,13 @@
 //! Documents and what they say, byte by byte and in pieces.
 
+use crate::tests::words::{PICTURE, PICTURE_IN_WORDS, all_in_words, answer_in_words, in_words};
 use crate::{
     Command, Completed, Event, Fault, InputFault, Placed, Plain, Reader, Reason, SliceSource,
     read_all,
 };
+use arrayvec::ArrayVec;
 use std::process::Abort;
 use std::test::Fail;
-
-/// One event in words: its place, its name, its numbers.
-fn in_words(rt: &impl AllocGlobal, placed: &Placed) -> Result<String, Fail> {
-    let alloc = rt.alloc();
-    let place = placed.place;
-    let text = match &placed.event {
-        Event::Start { eight, parameters } => {
-            let parameters = parameters.as_slice();
-            format!(in alloc; "{place} start {eight} {parameters:?}")?
-        }
-        Event::Finish { eight } => format!(in alloc; "{place} finish {eight}")?,
-        Event::Step(Command::Sixel(bits)) => format!(in alloc; "{place} sixel {bits}")?,
-        Event::Step(Command::Repeat { count, bits }) => {
-            format!(in alloc; "{place} repeat {count} {bits}")?
-        }
-        Event::Step(
-            Command::Raster {
-                pan,
-                pad,
-                width,
-                height,
-            },
-        ) => format!(in alloc; "{place} raster {pan} {pad} {width} {height}")?,
-        Event::Step(Command::Select(register)) => format!(in alloc; "{place} select {register}")?,
-        Event::Step(
-            Command::Define {
-                register,
-                system,
-                x,
-                y,
-                z,
-            },
-        ) => format!(in alloc; "{place} define {register} {system} {x} {y} {z}")?,
-        Event::Step(Command::CarriageReturn) => format!(in alloc; "{place} return")?,
-        Event::Step(Command::NextLine) => format!(in alloc; "{place} newline")?,
-    };
-    Ok(text)
-}
-
-/// All of them, with `, ` between two.
-fn all_in_words(rt: &impl AllocGlobal, events: &[Placed]) -> Result<String, Fail> {
-    let mut text = String::new(rt.alloc());
-    for placed in events {
-        if !text.is_empty() {
-            text.push_str(", ")?;
-        }
-        text.push_str(in_words(rt, placed)?.as_str())?;
-    }
-    Ok(text)
-}
 
 fn keep(events: &mut Vec<Placed>, placed: Option<Placed>) -> Result<(), Fail> {
     match placed {
@@ -122,11 +74,7 @@ fn documents_say_their_events(rt: HostRuntime) -> Result<(), Fail> {
             "1 start false [0], 5 sixel 63, 6 return, 7 newline, 8 sixel 0, 9 finish false",
             None,
         ),
-        (
-            b"\x1bPq\"1;1;1;1#0;2;0;0;0#0@\x1b\\",
-            "0 start false [0], 3 raster 1 1 1 1, 11 define 0 2 0 0 0, 21 select 0, 23 sixel 1, 24 finish false",
-            None,
-        ),
+        (PICTURE, PICTURE_IN_WORDS, None),
         (
             b"\x90q\"1;1;1;1#0;2;0;0;0#0@\x9c",
             "0 start true [0], 2 raster 1 1 1 1, 10 define 0 2 0 0 0, 20 select 0, 22 sixel 1, 23 finish true",
@@ -277,24 +225,62 @@ fn plain_bytes_are_read_quickly(rt: HostRuntime) -> Result<(), Fail> {
     Ok(())
 }
 
+/// The bytes, so many times one byte, and bytes after it.
+fn filled(
+    rt: &impl AllocGlobal,
+    front: &[u8],
+    byte: u8,
+    count: u32,
+    back: &[u8],
+) -> Result<Vec<u8>, Fail> {
+    let mut bytes = front.to_vec(rt.alloc())?;
+    for _ in 0..count {
+        bytes.push(byte)?;
+    }
+    bytes.extend_from_slice(back)?;
+    Ok(bytes)
+}
+
 #[test]
 fn many_leading_zeros_are_one_number(rt: HostRuntime) -> Result<(), Fail> {
-    let mut bytes = b"\x1bPq!".to_vec(rt.alloc())?;
-    for _ in 0..100_000 {
-        bytes.push(b'0')?;
-    }
-    bytes.extend_from_slice(b"3~\x1b\\")?;
-    let (events, found) = fed(&rt, bytes.as_slice())?;
+    let bytes = filled(&rt, b"\x1bPq!", b'0', 100_000, b"3~\x1b\\")?;
+    let mut source = SliceSource::new(bytes.as_slice(), 65_536, None);
+    let answer = read_all(rt.alloc(), &mut source);
     assert_eq!(rt;
-        all_in_words(&rt, events.as_slice())?.as_str(),
+        answer_in_words(&rt, &answer)?.as_str(),
         "0 start false [0], 3 repeat 3 63, 100006 finish false"
     );
-    assert_eq!(rt; found, None);
+    Ok(())
+}
+
+/// A start, 200,000 sixels and a finish.
+#[test]
+fn a_long_list_is_read(rt: HostRuntime) -> Result<(), Fail> {
+    let bytes = filled(&rt, b"\x90q", b'~', 200_000, b"\x9c")?;
+    let mut source = SliceSource::new(bytes.as_slice(), 65_536, None);
+    match read_all(rt.alloc(), &mut source) {
+        Ok(events) => {
+            assert_eq!(rt; events.len(), 200_002);
+            assert_eq!(rt;
+                all_in_words(&rt, &events[..2])?.as_str(),
+                "0 start true [0], 2 sixel 63"
+            );
+            assert_eq!(rt;
+                all_in_words(&rt, &events[200_000..])?.as_str(),
+                "200001 sixel 63, 200002 finish true"
+            );
+        }
+        Err(fault) => return Err(format!(in rt.alloc(); "{fault:?}")?.into()),
+    }
     Ok(())
 }
 
 /// Feeds the bytes and then spaces up to the limit: what the reader answers at the end, at a byte more and at the end again.
-fn at_the_limit(rt: &impl Abort, bytes: &[u8]) -> (Option<Fault>, Option<Fault>, Option<Fault>) {
+fn at_the_limit(
+    rt: &impl Abort,
+    bytes: &[u8],
+    too_many: u8,
+) -> (Option<Fault>, Option<Fault>, Option<Fault>) {
     let mut reader = Reader::new();
     let mut taken: u64 = 0;
     for byte in bytes {
@@ -307,25 +293,75 @@ fn at_the_limit(rt: &impl Abort, bytes: &[u8]) -> (Option<Fault>, Option<Fault>,
     }
     assert!(rt; !refused);
     let end = reader.finish().err();
-    (end, reader.feed(b'x').err(), reader.finish().err())
+    (end, reader.feed(too_many).err(), reader.finish().err())
 }
 
 #[test]
 fn a_document_ends_at_the_limit(rt: HostRuntime) {
     let too_long = fault(Reason::TooLong, 268_435_456);
-    let whole = at_the_limit(&rt, b"\x1bPq\"1;1;1;1#0;2;0;0;0#0@\x1b\\");
-    assert_eq!(rt; whole, (None, too_long, too_long));
+    for too_many in [b'x', b' '] {
+        let whole = at_the_limit(&rt, PICTURE, too_many);
+        assert_eq!(rt; whole, (None, too_long, too_long));
+    }
     let truncated = fault(Reason::Truncated, 268_435_456);
-    assert_eq!(rt; at_the_limit(&rt, b""), (truncated, too_long, too_long));
+    let spaces = at_the_limit(&rt, b"", b' ');
+    assert_eq!(rt; spaces, (truncated, too_long, too_long));
+}
+
+fn placed(place: u64, event: Event) -> Placed {
+    Placed { place, event }
+}
+
+fn step(place: u64, command: Command) -> Placed {
+    Placed {
+        place,
+        event: Event::Step(command),
+    }
+}
+
+/// The events of the smallest picture.
+fn smallest() -> [Placed; 6] {
+    let mut parameters = ArrayVec::new();
+    let _ = parameters.try_push(0);
+    [
+        placed(
+            0,
+            Event::Start {
+                eight: false,
+                parameters,
+            },
+        ),
+        step(
+            3,
+            Command::Raster {
+                pan: 1,
+                pad: 1,
+                width: 1,
+                height: 1,
+            },
+        ),
+        step(
+            11,
+            Command::Define {
+                register: 0,
+                system: 2,
+                x: 0,
+                y: 0,
+                z: 0,
+            },
+        ),
+        step(21, Command::Select(0)),
+        step(23, Command::Sixel(1)),
+        placed(24, Event::Finish { eight: false }),
+    ]
 }
 
 /// With ample memory this reads. `rt try --test --fail-alloc N` refuses the N-th growth: then this is `OutOfMemory`.
 #[test]
-fn each_growth_is_refused_by_name(rt: HostRuntime) -> Result<(), Fail> {
-    let mut source = SliceSource::new(b"\x1bPq\"1;1;1;1#0;2;0;0;0#0@\x1b\\", 64, None);
+fn each_growth_is_refused_by_name(rt: HostRuntime) {
+    let mut source = SliceSource::new(PICTURE, 64, None);
     match read_all(rt.alloc(), &mut source) {
-        Ok(events) => assert_eq!(rt; events.len(), 6),
+        Ok(events) => assert!(rt; events.as_slice() == smallest().as_slice()),
         Err(fault) => assert_eq!(rt; fault, InputFault::OutOfMemory),
     }
-    Ok(())
 }
