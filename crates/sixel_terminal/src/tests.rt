@@ -73,12 +73,7 @@ fn events_of(alloc: Global, text: &[u8]) -> Result<Vec<Placed>, Fail> {
     Ok(document(alloc, text).or(Err("a document"))?)
 }
 
-/// What a terminal of 16 grey registers and a white screen shows after a document.
-fn shown(alloc: Global, choices: Choices, text: &[u8]) -> Result<Vec<Parts>, Fail> {
-    shown_of(alloc, choices, 16, text)
-}
-
-/// The same of a terminal of so many registers.
+/// What a terminal of so many grey registers and a white screen shows after a document.
 fn shown_of(
     alloc: Global,
     choices: Choices,
@@ -88,6 +83,17 @@ fn shown_of(
     let events = events_of(alloc, text)?;
     let colours = terminal(alloc, choices, registers)?.show(alloc, events.as_slice())?;
     parts_of(alloc, colours.as_slice())
+}
+
+/// Whether a terminal of so many registers shows this after a document.
+fn is_shown(
+    alloc: Global,
+    choices: Choices,
+    registers: u16,
+    text: &[u8],
+    expected: &[Parts],
+) -> Result<bool, Fail> {
+    Ok(shown_of(alloc, choices, registers, text)?.as_slice() == expected)
 }
 
 /// The coordinates of colours.

@@ -1,7 +1,7 @@
 //! What each choice of a terminal does to what it shows.
 
 use crate::choices::{Choices, Ground};
-use crate::tests::{BLACK, RED, WHITE, grey, plain_choices, shown};
+use crate::tests::{BLACK, RED, WHITE, grey, is_shown, plain_choices};
 use std::test::Fail;
 
 /// A pixel painted in register 0, which is black, and then another colour of register 0.
@@ -55,8 +55,10 @@ fn terminals_show_what_they_choose(rt: HostRuntime) -> Result<(), Fail> {
         (one, NONE_REPEATED, [BLACK].as_slice()),
         (none, NONE_REPEATED, [WHITE].as_slice()),
     ] {
-        let colours = shown(rt.alloc(), choices, text)?;
-        assert_eq!(rt; colours.as_slice(), expected, "{text:?}");
+        assert!(rt;
+            is_shown(rt.alloc(), choices, 16, text, expected)?,
+            "{text:?}"
+        );
     }
     Ok(())
 }

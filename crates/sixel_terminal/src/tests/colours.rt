@@ -1,7 +1,7 @@
 //! Registers and their colours.
 
 use crate::choices::Choices;
-use crate::tests::{BLACK, RED, grey, plain_choices, shown, shown_of};
+use crate::tests::{BLACK, RED, grey, is_shown, plain_choices};
 use sixel_picture::Parts;
 use std::test::Fail;
 
@@ -35,8 +35,10 @@ fn definitions_give_colours_or_none(rt: HostRuntime) -> Result<(), Fail> {
         (one, HUE_OUT_OF_RANGE, Parts::Hls(360, 100, 100)),
         (unclamped, HUE_OUT_OF_RANGE, grey(6)),
     ] {
-        let colours = shown(rt.alloc(), choices, text)?;
-        assert_eq!(rt; colours.as_slice(), [expected].as_slice(), "{text:?}");
+        assert!(rt;
+            is_shown(rt.alloc(), choices, 16, text, &[expected])?,
+            "{text:?}"
+        );
     }
     Ok(())
 }
@@ -54,10 +56,9 @@ fn numbers_of_registers_wrap_at_their_count(rt: HostRuntime) -> Result<(), Fail>
         (256, b"\x1bPq#256@\x1b\\".as_slice(), BLACK),
         (256, b"\x1bPq#65535@\x1b\\".as_slice(), grey(15)),
     ] {
-        let colours = shown_of(rt.alloc(), plain_choices(1, 1), registers, text)?;
-        assert_eq!(rt;
-            colours.as_slice(),
-            [expected].as_slice(),
+        let one = plain_choices(1, 1);
+        assert!(rt;
+            is_shown(rt.alloc(), one, registers, text, &[expected])?,
             "{text:?} on {registers}"
         );
     }

@@ -3,7 +3,7 @@
 use crate::choices::{Choices, Ground};
 use crate::terminal::Terminal;
 use crate::tests::{
-    BLACK, RED, WHITE, document, events_of, grey, parts_of, plain_choices, shown, terminal,
+    BLACK, RED, WHITE, document, events_of, grey, is_shown, parts_of, plain_choices, terminal,
 };
 use sixel_grammar::{Command, Event, Placed};
 use sixel_picture::{Colour, Parts};
@@ -37,9 +37,11 @@ fn heights_follow_the_ratio(rt: HostRuntime) -> Result<(), Fail> {
             tall: 2,
             ..plain_choices(1, height)
         };
-        let colours = shown(rt.alloc(), choices, text)?;
         let expected = rows_of(rt.alloc(), height, black)?;
-        assert_eq!(rt; colours.as_slice(), expected.as_slice(), "{text:?}");
+        assert!(rt;
+            is_shown(rt.alloc(), choices, 16, text, &expected)?,
+            "{text:?}"
+        );
     }
     Ok(())
 }
@@ -72,8 +74,10 @@ fn the_last_painting_is_shown(rt: HostRuntime) -> Result<(), Fail> {
         ),
         (two, b"\x1bPq\x1b\\".as_slice(), [WHITE, WHITE].as_slice()),
     ] {
-        let colours = shown(rt.alloc(), choices, text)?;
-        assert_eq!(rt; colours.as_slice(), expected, "{text:?}");
+        assert!(rt;
+            is_shown(rt.alloc(), choices, 16, text, expected)?,
+            "{text:?}"
+        );
     }
     Ok(())
 }
@@ -125,8 +129,10 @@ fn grounds_are_filled_or_kept(rt: HostRuntime) -> Result<(), Fail> {
             painted.as_slice(),
         ),
     ] {
-        let colours = shown(rt.alloc(), choices, text)?;
-        assert_eq!(rt; colours.as_slice(), expected, "{text:?}");
+        assert!(rt;
+            is_shown(rt.alloc(), choices, 16, text, expected)?,
+            "{text:?}"
+        );
     }
     Ok(())
 }
