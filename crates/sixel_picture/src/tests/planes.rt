@@ -7,7 +7,7 @@ use crate::band_plane::BandPlane;
 use crate::bits::is_set;
 use crate::byte_plane::BytePlane;
 use crate::plane::Plane;
-use std::alloc::Global;
+use std::alloc::{AllocError, Global};
 use std::test::Fail;
 
 /// A run of columns in a band.
@@ -247,22 +247,18 @@ fn is_filled<P: Plane>(plane: &mut P) -> bool {
 /// The registers of a plane that is filled so.
 const FILLED: [u8; 14] = [3, 3, 3, 3, 3, 3, 3, 3, 3, 3, 3, 3, 4, 4];
 
-#[test]
-fn a_byte_plane_is_painted_by_runs(rt: HostRuntime) -> Result<(), Fail> {
-    let mut plane = BytePlane::blank(rt.alloc(), 2, 7)?;
-    assert!(rt; is_filled(&mut plane));
-    let blank = plane.first_blank();
-    assert_eq!(rt; blank, None);
-    assert_eq!(rt; plane.into_registers().as_slice(), FILLED.as_slice());
-    Ok(())
+/// Whether a plane has these registers, once it is filled.
+fn is_painted_by_runs<P: Plane>(alloc: Global) -> Result<bool, AllocError> {
+    let mut plane = P::blank(alloc, 2, 7)?;
+    if !is_filled(&mut plane) || plane.first_blank().is_some() {
+        return Ok(false);
+    }
+    Ok(plane.into_registers().as_slice() == FILLED.as_slice())
 }
 
 #[test]
-fn a_band_plane_is_painted_by_runs(rt: HostRuntime) -> Result<(), Fail> {
-    let mut plane = BandPlane::blank(rt.alloc(), 2, 7)?;
-    assert!(rt; is_filled(&mut plane));
-    let blank = plane.first_blank();
-    assert_eq!(rt; blank, None);
-    assert_eq!(rt; plane.into_registers().as_slice(), FILLED.as_slice());
+fn planes_are_painted_by_runs(rt: HostRuntime) -> Result<(), Fail> {
+    assert!(rt; is_painted_by_runs::<BytePlane>(rt.alloc())?, "bytes");
+    assert!(rt; is_painted_by_runs::<BandPlane>(rt.alloc())?, "bands");
     Ok(())
 }
