@@ -2,13 +2,12 @@
 
 use sixel_grammar::{DeviceFault, Sink, Source};
 
-/// How often a device was called, and how often after a call that failed.
+/// How often a device was called.
 #[derive(Clone, Copy, Debug, Default, PartialEq, Eq)]
 pub struct Calls {
     pub fills: u64,
     pub takes: u64,
     pub flushes: u64,
-    pub after_fault: u64,
 }
 
 /// A device, and the calls that it saw.
@@ -16,7 +15,6 @@ pub struct Calls {
 pub struct Watched<D> {
     pub device: D,
     pub calls: Calls,
-    has_failed: bool,
 }
 
 impl<D> Watched<D> {
@@ -24,7 +22,6 @@ impl<D> Watched<D> {
         Watched {
             device,
             calls: Calls::default(),
-            has_failed: false,
         }
     }
 }
@@ -36,13 +33,7 @@ impl<D: Source> Source for Watched<D> {
 
     fn fill(&mut self, piece: &mut [u8]) -> Result<usize, DeviceFault> {
         self.calls.fills = self.calls.fills.saturating_add(1);
-        self.calls.after_fault = self
-            .calls
-            .after_fault
-            .saturating_add(self.has_failed as u64);
-        let result = self.device.fill(piece);
-        self.has_failed |= result.is_err();
-        result
+        self.device.fill(piece)
     }
 
     fn failures(&self) -> u64 {
@@ -59,24 +50,12 @@ impl<D: Sink> Sink for Watched<D> {
 
     fn take(&mut self, piece: &[u8]) -> Result<usize, DeviceFault> {
         self.calls.takes = self.calls.takes.saturating_add(1);
-        self.calls.after_fault = self
-            .calls
-            .after_fault
-            .saturating_add(self.has_failed as u64);
-        let result = self.device.take(piece);
-        self.has_failed |= result.is_err();
-        result
+        self.device.take(piece)
     }
 
     fn flush(&mut self) -> Result<(), DeviceFault> {
         self.calls.flushes = self.calls.flushes.saturating_add(1);
-        self.calls.after_fault = self
-            .calls
-            .after_fault
-            .saturating_add(self.has_failed as u64);
-        let result = self.device.flush();
-        self.has_failed |= result.is_err();
-        result
+        self.device.flush()
     }
 
     fn failures(&self) -> u64 {

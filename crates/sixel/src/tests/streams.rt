@@ -4,11 +4,11 @@ ghost use Rattle.sixel.specs.Outputs.{HasSides};
 
 use crate::exit::Exit;
 use crate::task::Task;
-use crate::words::{WordsFault, parse_words, usage};
-use crate::{execute, explain};
+use crate::words::{WordsFault, parse_words};
+use crate::{execute, explain, task_in};
 use std::alloc::Global;
 use std::io;
-use std::io::{Error, Write};
+use std::io::{Error, ErrorKind, Write};
 use std::test::Fail;
 
 /// A stream that takes so many bytes, one a call, and then fails.
@@ -73,9 +73,38 @@ fn ends_so(alloc: Global, task: Task, bytes: &[u8], exit: Exit, text: &[u8], lin
         && ends_in(alloc, task, bytes, exit, text, line, 64)
 }
 
-/// The line of a refusal, or of a picture that isn't rendered, can't be written: the exit status stays.
+/// Each task ends by what came of it, also where the line of a refusal, or of a picture that isn't rendered, can't be
+/// written.
 #[test]
 fn a_standard_error_that_fails(rt: HostRuntime) {
+    assert!(rt;
+        ends_so(
+            rt.alloc(),
+            Task::List,
+            b"\x1bPq\x1b\\",
+            Exit::Done,
+            b"0 start 7bit 0\n3 end 7bit\n",
+            b"",
+        )
+    );
+    let pixel = Task::Show {
+        showing: false,
+        fill: false,
+        selects: false,
+        width: 1,
+        height: 1,
+    };
+    let hue = b"\x1bPq#0;1;360;50;100#0@\x1b\\";
+    assert!(rt;
+        ends_so(
+            rt.alloc(),
+            pixel,
+            hue,
+            Exit::Refused,
+            b"",
+            b"sixel: NotRgb\n"
+        )
+    );
     assert!(rt;
         ends_so(
             rt.alloc(),
@@ -185,6 +214,14 @@ fn fault_of(rt: &impl AllocGlobal, line: &str) -> Result<WordsFault, Fail> {
     }
 }
 
+/// Why arguments that couldn't be read for this reason give no task.
+fn unread(alloc: Global, reason: ErrorKind) -> Result<WordsFault, Fail> {
+    match task_in(alloc, Err(Error::from(reason))) {
+        Ok(_) => Err(Fail::from("a task")),
+        Err(fault) => Ok(fault),
+    }
+}
+
 const HELP: &str = "Lists what the picture says, a line for each command
 
 Usage: sixel list
@@ -215,9 +252,9 @@ fn words_are_explained_as_far_as_there_is_room(rt: HostRuntime) -> Result<(), Fa
         assert!(rt; explains_so(rt.alloc(), help, room, Exit::Done, HELP, ""));
         let unknown = fault_of(&rt, "sixel view")?;
         assert!(rt; explains_so(rt.alloc(), unknown, room, Exit::Usage, "", UNKNOWN));
-        let not_text = usage(rt.alloc(), "the arguments are not text");
+        let not_text = unread(rt.alloc(), ErrorKind::InvalidData)?;
         assert!(rt; explains_so(rt.alloc(), not_text, room, Exit::Usage, "", NOT_TEXT));
-        let memory = WordsFault::OutOfMemory;
+        let memory = unread(rt.alloc(), ErrorKind::OutOfMemory)?;
         let line = "sixel: out of memory\n";
         assert!(rt; explains_so(rt.alloc(), memory, room, Exit::Refused, "", line));
     }

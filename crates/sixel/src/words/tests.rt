@@ -1,5 +1,3 @@
-mod refused;
-
 use crate::words::{WordsFault, parse_words};
 use std::alloc::{AllocError, Global};
 use std::test::Fail;

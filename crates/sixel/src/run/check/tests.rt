@@ -1,38 +1,14 @@
 use crate::fault::RunFault;
-use crate::run::tests::{Limits, agrees, run_watched, stops_reading, stops_writing};
+use crate::run::tests::agrees;
 use crate::task::{Status, Task};
+use sixel_check::{Finding, Rule};
 use sixel_grammar::{Fault, Reason};
 use std::alloc::Global;
 
-/// Whether the status goes with this line.
-fn goes_with(answer: Result<Status, RunFault>, line: &str) -> bool {
-    let is_broken = line.starts_with("broken");
-    match answer {
-        Ok(Status::Done) => !is_broken,
-        Ok(Status::Broken(_)) => is_broken,
-        Err(_) => false,
-    }
-}
-
-/// Whether the bytes, in pieces of a size, have this line, and a status that goes with it.
-fn checks_in_pieces(alloc: Global, bytes: &[u8], piece: usize, line: &str) -> bool {
-    let mut room = [0; 96];
-    let limits = Limits {
-        piece,
-        fill_fails: None,
-        most: 96,
-        take_fails: None,
-    };
-    let ran = run_watched(alloc, Task::Check, bytes, limits, &mut room);
-    goes_with(ran.answer, line)
-        && room.get(..ran.written) == Some(line.as_bytes())
-        && ran.sink.flushes == 1
-}
-
-/// Whether the bytes have this line, in pieces of each size.
-fn checks(alloc: Global, bytes: &[u8], line: &str) -> bool {
+/// Whether the bytes have this line and this answer, in pieces of each size.
+fn checks(alloc: Global, bytes: &[u8], line: &str, answer: Result<Status, RunFault>) -> bool {
     for piece in 1..=bytes.len() {
-        if !checks_in_pieces(alloc, bytes, piece, line) {
+        if !agrees(alloc, Task::Check, bytes, piece, line.as_bytes(), answer) {
             return false;
         }
     }
@@ -82,14 +58,18 @@ fn answers_portable(rt: HostRuntime) {
             b"\x1bPq\"1;1;2048;1#0;2;0;0;0#0!2048@\x1b\\".as_slice(),
             "portable 2048 1\n",
         ),
+        (
+            b"\x1bPq\"1;1;1;1#0;1;360;50;100#0@\x1b\\".as_slice(),
+            "portable 1 1\n",
+        ),
+        (
+            b"\x90q\"1;1;1;1#0;2;0;0;0#0@\x9c".as_slice(),
+            "portable 1 1\n",
+        ),
     ];
     for (bytes, line) in rows {
-        assert!(rt; checks(rt.alloc(), bytes, line), "{line}");
+        assert!(rt; checks(rt.alloc(), bytes, line, Ok(Status::Done)), "{line}");
     }
-    let hue = b"\x1bPq\"1;1;1;1#0;1;360;50;100#0@\x1b\\";
-    assert!(rt; checks(rt.alloc(), hue, "portable 1 1\n"));
-    let eight = b"\x90q\"1;1;1;1#0;2;0;0;0#0@\x9c";
-    assert!(rt; checks(rt.alloc(), eight, "portable 1 1\n"));
 }
 
 #[test]
@@ -98,124 +78,213 @@ fn names_broken_rules_of_painting(rt: HostRuntime) {
         (
             b"\x1bPq\"1;1;2;1#0;2;0;0;0#0@\x1b\\".as_slice(),
             "broken Uncovered 24 1 0\n",
+            Rule::Uncovered,
+            24,
+            Some((1, 0)),
         ),
         (
             b"\x1bPq\"1;1;1;2#0;2;0;0;0#0@\x1b\\".as_slice(),
             "broken Uncovered 24 0 1\n",
+            Rule::Uncovered,
+            24,
+            Some((0, 1)),
         ),
         (
             b"\x1bPq\"1;1;1;1#0;2;0;0;0@\x1b\\".as_slice(),
             "broken Unselected 21\n",
+            Rule::Unselected,
+            21,
+            None,
         ),
         (
             b"\x1bPq\"1;1;1;1#0;2;0;0;0#1;2;100;0;0@\x1b\\".as_slice(),
             "broken Unselected 33\n",
+            Rule::Unselected,
+            33,
+            None,
         ),
         (
             b"\x1bPq\"1;1;1;1#1;2;100;0;0#1#0;2;0;0;0@\x1b\\".as_slice(),
             "broken Unselected 35\n",
+            Rule::Unselected,
+            35,
+            None,
         ),
         (
             b"\x1bPq\"1;1;1;1#0@\x1b\\".as_slice(),
             "broken Undefined 13\n",
+            Rule::Undefined,
+            13,
+            None,
         ),
         (
             b"\x1bPq\"1;1;1;1#0;2;0;0;0#0@#0;2;100;0;0\x1b\\".as_slice(),
             "broken Redefined 24\n",
+            Rule::Redefined,
+            24,
+            None,
         ),
         (
             b"\x1bPq\"1;1;2;1#0;2;0;0;0#1;2;100;0;0#0@#1@#0;2;1;0;0\x1b\\".as_slice(),
             "broken Redefined 39\n",
+            Rule::Redefined,
+            39,
+            None,
         ),
         (
             b"\x1bPq\"1;1;1;1#0;2;0;0;0#0A\x1b\\".as_slice(),
             "broken Outside 23 0 1\n",
+            Rule::Outside,
+            23,
+            Some((0, 1)),
         ),
         (
             b"\x1bPq\"1;1;1;1#0;2;0;0;0#0!2@\x1b\\".as_slice(),
             "broken Outside 23 1 0\n",
+            Rule::Outside,
+            23,
+            Some((1, 0)),
         ),
         (
             b"\x1bPq\"1;1;1;1#0;2;0;0;0#0!2B\x1b\\".as_slice(),
             "broken Outside 23 1 0\n",
+            Rule::Outside,
+            23,
+            Some((1, 0)),
         ),
         (
             b"\x1bPq\"1;1;1;1#0;2;0;0;0#0!2C\x1b\\".as_slice(),
             "broken Outside 23 0 2\n",
+            Rule::Outside,
+            23,
+            Some((0, 2)),
         ),
     ];
-    for (bytes, line) in rows {
-        assert!(rt; checks(rt.alloc(), bytes, line), "{line}");
+    for (bytes, line, rule, place, pixel) in rows {
+        let answer = Ok(Status::Broken(Finding { rule, place, pixel }));
+        assert!(rt; checks(rt.alloc(), bytes, line, answer), "{line}");
     }
 }
 
 #[test]
 fn names_broken_rules_of_commands(rt: HostRuntime) {
     let rows = [
-        (b"\x1bPq\x1b\\".as_slice(), "broken RasterFirst 3\n"),
+        (
+            b"\x1bPq\x1b\\".as_slice(),
+            "broken RasterFirst 3\n",
+            Rule::RasterFirst,
+            3,
+            None,
+        ),
         (
             b"\x1bPq@\"2;1;1;1\x1b\\".as_slice(),
             "broken RasterFirst 3\n",
+            Rule::RasterFirst,
+            3,
+            None,
         ),
         (
             b"\x1bPq\"1;1;1;1#0;2;0;0;0#0!0@\x1b\\".as_slice(),
             "broken RepeatZero 23\n",
+            Rule::RepeatZero,
+            23,
+            None,
         ),
         (
             b"\x1bPq\"1;1;1;1#16;2;0;0;0#16@\x1b\\".as_slice(),
             "broken Register 11\n",
+            Rule::Register,
+            11,
+            None,
         ),
         (
             b"\x1bPq\"1;1;1;1#0;3;0;0;0#0@\x1b\\".as_slice(),
             "broken ColourValue 11\n",
+            Rule::ColourValue,
+            11,
+            None,
         ),
         (
             b"\x1bPq\"1;1;1;1#0;2;101;0;0#0@\x1b\\".as_slice(),
             "broken ColourValue 11\n",
+            Rule::ColourValue,
+            11,
+            None,
         ),
         (
             b"\x1bPq\"2;1;0;1#0;2;0;0;0#0@\x1b\\".as_slice(),
             "broken Ratio 3\n",
+            Rule::Ratio,
+            3,
+            None,
         ),
         (
             b"\x1bPq\"1;1;0;1#0;2;0;0;0#0@\x1b\\".as_slice(),
             "broken BoxSize 3\n",
+            Rule::BoxSize,
+            3,
+            None,
         ),
         (
             b"\x1bPq\"1;1;2049;1#0;2;0;0;0#0@\x1b\\".as_slice(),
             "broken BoxSize 3\n",
+            Rule::BoxSize,
+            3,
+            None,
         ),
         (
             b"\x1bPq\"1;1#0;2;0;0;0#0@\x1b\\".as_slice(),
             "broken BoxSize 3\n",
+            Rule::BoxSize,
+            3,
+            None,
         ),
         (
             b"\x1bPq\"1;1;1;1\"1;1;1;1#0;2;0;0;0#0@\x1b\\".as_slice(),
             "broken RasterTwice 11\n",
+            Rule::RasterTwice,
+            11,
+            None,
         ),
         (
             b"\x1bPq\"1;1;1;1#0;2;0;0;0#0@\"1;1;1;1\x1b\\".as_slice(),
             "broken RasterTwice 24\n",
+            Rule::RasterTwice,
+            24,
+            None,
         ),
         (
             b"\x1bPq\"1;1;1;1A\x1b\\".as_slice(),
             "broken Unselected 11\n",
+            Rule::Unselected,
+            11,
+            None,
         ),
         (
             b"\x1bPq\"1;1;1;1#0;2;0;0;0#0@#16;3;0;0;0\x1b\\".as_slice(),
             "broken Register 24\n",
+            Rule::Register,
+            24,
+            None,
         ),
         (
             b"\x1bPq\"1;1;1;1#0;2;0;0;0#0@#0;1;0;0;0\x1b\\".as_slice(),
             "broken Redefined 24\n",
+            Rule::Redefined,
+            24,
+            None,
         ),
         (
             b"\x1bPq#0;2;0;0;0#1;2;100;100;0#2;2;0;100;0#1~~@@vv@@~~@@~~$#2??}}GG}}??}}??-#1!14@\x1b\\".as_slice(),
             "broken RasterFirst 41\n",
+            Rule::RasterFirst,
+            41,
+            None,
         ),
     ];
-    for (bytes, line) in rows {
-        assert!(rt; checks(rt.alloc(), bytes, line), "{line}");
+    for (bytes, line, rule, place, pixel) in rows {
+        let answer = Ok(Status::Broken(Finding { rule, place, pixel }));
+        assert!(rt; checks(rt.alloc(), bytes, line, answer), "{line}");
     }
 }
 
@@ -227,21 +296,5 @@ fn answers_a_later_fault(rt: HostRuntime) {
         reason: Reason::NumberTooLarge,
         place: 11,
     });
-    for piece in 1..=bytes.len() {
-        assert!(rt; agrees(rt.alloc(), Task::Check, bytes, piece, b"", Err(fault)));
-    }
-}
-
-#[test]
-fn answers_the_device_that_failed(rt: HostRuntime) {
-    let bytes = b"\x1bPq\"1;1;1;1#0;2;0;0;0#0@\x1b\\";
-    for fill in 0..6 {
-        let stops = stops_reading(rt.alloc(), Task::Check, bytes, 5, fill, &mut [0; 96]);
-        assert!(rt; stops, "fill {fill}");
-    }
-    for (take, written) in [(0, 0), (1, 5), (2, 10), (3, 13)] {
-        let front = b"portable 1 1\n".get(..written);
-        let stops = stops_writing(rt.alloc(), Task::Check, bytes, 5, take, front, &mut [0; 96]);
-        assert!(rt; stops, "take {take}");
-    }
+    assert!(rt; checks(rt.alloc(), bytes, "", Err(fault)));
 }

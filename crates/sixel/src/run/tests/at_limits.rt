@@ -1,7 +1,7 @@
 //! Runs on long inputs, and on numbers and places at their limits.
 
 use crate::fault::RunFault;
-use crate::run::tests::agrees;
+use crate::run::tests::{Limits, agrees, run_watched};
 use crate::task::{Status, Task};
 use sixel_check::{Finding, Rule};
 use sixel_picture::PpmReason;
@@ -86,6 +86,41 @@ fn a_number_with_many_zeros_is_listed(rt: HostRuntime) -> Result<(), Fail> {
             Ok(Status::Done)
         )
     );
+    Ok(())
+}
+
+/// A screen of more than a million pixels.
+const SCREEN: Task = Task::Show {
+    showing: false,
+    fill: false,
+    selects: false,
+    width: 1100,
+    height: 1000,
+};
+
+/// Whether the bytes are shown on that screen, white but for the first pixel: 17 bytes are the header.
+fn shows_a_pixel(alloc: Global, bytes: &[u8]) -> Result<bool, AllocError> {
+    let mut room = vec![in alloc; 0u8; 3_300_017]?;
+    let limits = Limits {
+        piece: 65_536,
+        fill_fails: None,
+        most: 65_536,
+        take_fails: None,
+    };
+    let ran = run_watched(alloc, SCREEN, bytes, limits, &mut room);
+    Ok(
+        ran.answer == Ok(Status::Done)
+            && ran.written == 3_300_017
+            && room.get(..20) == Some(b"P6\n1100 1000\n100\n\0\0\0".as_slice())
+            && room.iter().filter(|sample| **sample != 100).count() == 20,
+    )
+}
+
+/// More than 100,000 events, of which one paints.
+#[test]
+fn a_long_document_is_shown_on_a_large_screen(rt: HostRuntime) -> Result<(), Fail> {
+    let bytes = with_many(rt.alloc(), b"\x1bPq", 150_000, b"$", b"@\x1b\\")?;
+    assert!(rt; shows_a_pixel(rt.alloc(), &bytes)?);
     Ok(())
 }
 

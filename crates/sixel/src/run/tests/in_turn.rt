@@ -1,4 +1,4 @@
-//! Each call of a device fails in turn, task by task.
+//! Each call of a device fails in turn, task by task, and the calls of whole runs are counted.
 
 ghost use Rattle.sixel.specs.Outputs.{HasSides};
 
@@ -6,6 +6,8 @@ use crate::fault::RunFault;
 use crate::run::tests::{Limits, Ran, run_watched};
 use crate::task::{Status, Task};
 use sixel_check::{Finding, Rule};
+use sixel_grammar::{Fault, Reason};
+use sixel_picture::PpmReason;
 use std::alloc::Global;
 
 /// A task on some bytes, and what it writes and answers where no device fails.
@@ -15,22 +17,56 @@ struct Case {
     bytes: &'static [u8],
     text: &'static [u8],
     answer: Result<Status, RunFault>,
+    /// In and out in pieces of 1, 5 and 64 bytes: how often is filled and taken. The fills give the bytes up to the one
+    /// that is a fault, or all and find the end.
+    calls: [(usize, u64, u64); 3],
 }
 
-/// One black pixel, checked.
-const PIXEL: Case = Case {
-    task: Task::Check,
-    bytes: b"\x1bPq\"1;1;1;1#0;2;0;0;0#0@\x1b\\",
-    text: b"portable 1 1\n",
+/// One black pixel.
+const PIXEL: &[u8] = b"\x1bPq\"1;1;1;1#0;2;0;0;0#0@\x1b\\";
+
+/// A number that is too large, at its fifth digit.
+const LARGE: &[u8] = b"\x1bPq!65536~";
+
+const TOO_LARGE: RunFault = RunFault::Grammar(Fault {
+    reason: Reason::NumberTooLarge,
+    place: 8,
+});
+
+/// One pixel, listed. In pieces of 5 the lines leave by 15, 17, 43 and 12 bytes.
+const LISTED: Case = Case {
+    task: Task::List,
+    bytes: PIXEL,
+    text: b"0 start 7bit 0\n3 raster 1 1 1 1\n11 define 0 2 0 0 0\n21 select 0\n23 sixel 1\n24 end 7bit\n",
     answer: Ok(Status::Done),
+    calls: [(1, 27, 87), (5, 7, 19), (64, 2, 2)],
 };
 
-/// Two letters, checked.
+/// A fault after a line.
+const LISTED_FAULT: Case = Case {
+    task: Task::List,
+    bytes: LARGE,
+    text: b"0 start 7bit 0\n",
+    answer: Err(TOO_LARGE),
+    calls: [(1, 9, 15), (5, 2, 3), (64, 1, 1)],
+};
+
+/// One pixel, checked.
+const CHECKED: Case = Case {
+    task: Task::Check,
+    bytes: PIXEL,
+    text: b"portable 1 1\n",
+    answer: Ok(Status::Done),
+    calls: [(1, 27, 13), (5, 7, 3), (64, 2, 1)],
+};
+
+/// Two letters, checked: 90 bytes.
 const LETTERS: Case = Case {
     task: Task::Check,
     bytes: b"\x1bPq\"1;1;14;7#0;2;0;0;0#1;2;100;100;0#2;2;0;100;0#1~~@@vv@@~~@@~~$#2??}}GG}}??}}??-#1!14@\x1b\\",
     text: b"portable 14 7\n",
     answer: Ok(Status::Done),
+    calls: [(1, 91, 14), (5, 19, 3), (64, 3, 1)],
 };
 
 /// A box of two pixels of which one is painted, checked.
@@ -43,36 +79,91 @@ const UNCOVERED: Case = Case {
         place: 24,
         pixel: Some((1, 0)),
     })),
+    calls: [(1, 27, 24), (5, 7, 5), (64, 2, 1)],
 };
 
-/// One black pixel, rendered.
-const FILE: Case = Case {
+/// A fault, which leaves no verdict.
+const CHECKED_FAULT: Case = Case {
+    task: Task::Check,
+    bytes: LARGE,
+    text: b"",
+    answer: Err(TOO_LARGE),
+    calls: [(1, 9, 0), (5, 2, 0), (64, 1, 0)],
+};
+
+/// One pixel, rendered.
+const RENDERED: Case = Case {
     task: Task::Render,
-    bytes: b"\x1bPq\"1;1;1;1#0;2;0;0;0#0@\x1b\\",
+    bytes: PIXEL,
     text: b"P6\n1 1\n100\n\x00\x00\x00",
     answer: Ok(Status::Done),
+    calls: [(1, 27, 14), (5, 7, 3), (64, 2, 1)],
 };
 
-/// Five red pixels, encoded.
+/// A fault, which leaves no picture.
+const RENDERED_FAULT: Case = Case {
+    task: Task::Render,
+    bytes: LARGE,
+    text: b"",
+    answer: Err(TOO_LARGE),
+    calls: [(1, 9, 0), (5, 2, 0), (64, 1, 0)],
+};
+
+/// Five red pixels, encoded: 26 bytes.
 const RED: Case = Case {
     task: Task::Encode,
     bytes: b"P6 5 1 100\nd\0\0d\0\0d\0\0d\0\0d\0\0",
     text: b"\x1bP0;1q\"1;1;5;1#0;2;100;0;0#0!5@\x1b\\",
     answer: Ok(Status::Done),
+    calls: [(1, 27, 33), (5, 7, 7), (64, 2, 1)],
 };
 
-/// A register that is black and then red, shown on a screen of one pixel.
-const SCREEN: Case = Case {
-    task: Task::Show {
-        showing: false,
-        fill: false,
-        selects: false,
-        width: 1,
-        height: 1,
-    },
+/// Three red pixels, encoded: 20 bytes.
+const SHORT_RED: Case = Case {
+    task: Task::Encode,
+    bytes: b"P6 3 1 100\nd\0\0d\0\0d\0\0",
+    text: b"\x1bP0;1q\"1;1;3;1#0;2;100;0;0#0@@@\x1b\\",
+    answer: Ok(Status::Done),
+    calls: [(1, 21, 33), (5, 5, 7), (64, 2, 1)],
+};
+
+/// A file of another kind, by its second byte.
+const ENCODED_FAULT: Case = Case {
+    task: Task::Encode,
+    bytes: b"P5 1 1 100",
+    text: b"",
+    answer: Err(RunFault::Ppm {
+        reason: PpmReason::Header,
+        place: 1,
+    }),
+    calls: [(1, 2, 0), (5, 1, 0), (64, 1, 0)],
+};
+
+/// A screen of one pixel.
+const SCREEN: Task = Task::Show {
+    showing: false,
+    fill: false,
+    selects: false,
+    width: 1,
+    height: 1,
+};
+
+/// A register that is black and then red, shown: 38 bytes.
+const SHOWN: Case = Case {
+    task: SCREEN,
     bytes: b"\x1bPq\"1;1;1;1#0;2;0;0;0#0@#0;2;100;0;0\x1b\\",
     text: b"P6\n1 1\n100\n\x00\x00\x00",
     answer: Ok(Status::Done),
+    calls: [(1, 39, 14), (5, 9, 3), (64, 2, 1)],
+};
+
+/// A fault, which leaves no screen.
+const SHOWN_FAULT: Case = Case {
+    task: SCREEN,
+    bytes: LARGE,
+    text: b"",
+    answer: Err(TOO_LARGE),
+    calls: [(1, 9, 0), (5, 2, 0), (64, 1, 0)],
 };
 
 /// Runs the task on the bytes, in and out in pieces. Fill number `fill_fails` fails, and take or flush number
@@ -96,68 +187,90 @@ fn run_case(
     run_watched(alloc, case.task, case.bytes, limits, room)
 }
 
-/// Whether the run was whole: the case's answer and text, and one flush.
-fn is_whole(ran: &Ran, case: Case, room: &[u8]) -> bool {
-    ran.answer == case.answer && room.get(..ran.written) == Some(case.text) && ran.sink.flushes == 1
+/// The lines of the events that the first bytes of one pixel complete, and of the number that is too large.
+fn lines_of(given: usize) -> &'static [u8] {
+    match given {
+        0..=2 => b"",
+        3..=11 => b"0 start 7bit 0\n",
+        12..=21 => b"0 start 7bit 0\n3 raster 1 1 1 1\n",
+        22..=23 => b"0 start 7bit 0\n3 raster 1 1 1 1\n11 define 0 2 0 0 0\n",
+        24..=25 =>
+            b"0 start 7bit 0\n3 raster 1 1 1 1\n11 define 0 2 0 0 0\n21 select 0\n23 sixel 1\n",
+        _ => LISTED.text,
+    }
 }
 
-/// Whether a run stops where this fill fails: nothing is written, the sink is flushed once, and the source isn't called
-/// again.
+/// What is written where the source fails after so many bytes: only a list doesn't wait for the end.
+fn text_of(task: Task, given: usize) -> &'static [u8] {
+    if task == Task::List {
+        lines_of(given)
+    } else {
+        b""
+    }
+}
+
+/// Whether a run stops where this fill fails, and doesn't fill again.
 fn stops_at_fill(alloc: Global, case: Case, piece: usize, fill: u64) -> bool
     requires { HasSides case.task }
 {
-    let ran = run_case(alloc, case, piece, Some(fill), None, &mut [0; 128]);
-    ran.answer == Err(RunFault::Read)
-        && ran.written == 0
-        && ran.sink.flushes == 1
-        && ran.source.after_fault == 0
-}
-
-/// Each fill of a whole run fails in turn; a failure after the last one isn't met.
-fn stops_at_fills(alloc: Global, case: Case, piece: usize) -> bool
-    requires { HasSides case.task }
-{
-    let fills = run_case(alloc, case, piece, None, None, &mut [0; 128])
-        .source
-        .fills;
-    for fill in 0..fills {
-        if !stops_at_fill(alloc, case, piece, fill) {
-            return false;
-        }
-    }
     let mut room = [0; 128];
-    let ran = run_case(alloc, case, piece, Some(fills), None, &mut room);
-    is_whole(&ran, case, &room)
+    let ran = run_case(alloc, case, piece, Some(fill), None, &mut room);
+    let text = text_of(case.task, piece.saturating_mul(fill as usize));
+    ran.answer == Err(RunFault::Read)
+        && room.get(..ran.written) == Some(text)
+        && ran.source.fills == fill.saturating_add(1)
+        && ran.sink.flushes == 1
 }
 
-/// Whether a run stops where this take or flush fails: a front of the text is written, and the sink isn't called again.
+/// How much is written where this take fails. The lines of a list that a piece completes leave by themselves, so its takes
+/// aren't all full.
+fn is_front(case: Case, piece: usize, take: u64, written: usize) -> bool {
+    let full = piece.saturating_mul(take as usize);
+    case.task == Task::List || written == full.min(case.text.len())
+}
+
+/// Whether a run stops where this take or flush fails, and calls the sink no more: a front of the text is written.
 fn stops_at_take(alloc: Global, case: Case, piece: usize, take: u64, flushes: u64) -> bool
     requires { HasSides case.task }
 {
     let mut room = [0; 128];
     let ran = run_case(alloc, case, piece, None, Some(take), &mut room);
     ran.answer == Err(RunFault::Write)
+        && is_front(case, piece, take, ran.written)
         && room.get(..ran.written) == case.text.get(..ran.written)
+        && ran.sink.takes.saturating_add(ran.sink.flushes) == take.saturating_add(1)
         && ran.sink.flushes == flushes
-        && ran.sink.after_fault == 0
 }
 
-/// Each take of a whole run fails in turn, and then the flush; a failure after it isn't met.
-fn stops_at_takes(alloc: Global, case: Case, piece: usize) -> bool
+/// Whether a run is whole, with so many fills and takes: each device fails at a call that doesn't come.
+fn is_whole(alloc: Global, case: Case, piece: usize, fills: u64, takes: u64) -> bool
     requires { HasSides case.task }
 {
-    let takes = run_case(alloc, case, piece, None, None, &mut [0; 128])
-        .sink
-        .takes;
+    let mut room = [0; 128];
+    let never = takes.saturating_add(1);
+    let ran = run_case(alloc, case, piece, Some(fills), Some(never), &mut room);
+    ran.answer == case.answer
+        && room.get(..ran.written) == Some(case.text)
+        && ran.source.fills == fills
+        && ran.sink.takes == takes
+        && ran.sink.flushes == 1
+}
+
+/// Each call of each device fails in turn, in pieces of a size.
+fn stops_in_pieces(alloc: Global, case: Case, piece: usize, fills: u64, takes: u64) -> bool
+    requires { HasSides case.task }
+{
+    for fill in 0..fills {
+        if !stops_at_fill(alloc, case, piece, fill) {
+            return false;
+        }
+    }
     for take in 0..takes {
         if !stops_at_take(alloc, case, piece, take, 0) {
             return false;
         }
     }
-    let mut room = [0; 128];
-    let never = takes.saturating_add(1);
-    let ran = run_case(alloc, case, piece, None, Some(never), &mut room);
-    stops_at_take(alloc, case, piece, takes, 1) && is_whole(&ran, case, &room)
+    stops_at_take(alloc, case, piece, takes, 1) && is_whole(alloc, case, piece, fills, takes)
 }
 
 /// Whether a sink with room for a part of the text has that part.
@@ -169,19 +282,7 @@ fn fills_room(alloc: Global, case: Case, count: usize) -> bool
     let ran = run_case(alloc, case, 5, None, None, room);
     ran.answer == Err(RunFault::Write)
         && case.text.get(..count) == Some(&*room)
-        && ran.sink.after_fault == 0
-}
-
-/// Each room that is too small for the text.
-fn fills_rooms(alloc: Global, case: Case) -> bool
-    requires { HasSides case.task }
-{
-    for count in 0..case.text.len() {
-        if !fills_room(alloc, case, count) {
-            return false;
-        }
-    }
-    true
+        && ran.sink.flushes == 0
 }
 
 /// Whether nothing is written, and neither device is called again, where both fail at their first call, which for the
@@ -189,105 +290,44 @@ fn fills_rooms(alloc: Global, case: Case) -> bool
 fn stops_at_both(alloc: Global, case: Case) -> bool
     requires { HasSides case.task }
 {
-    let ran = run_case(alloc, case, 5, Some(0), Some(0), &mut [0; 128]);
+    let ran = run_case(alloc, case, 1, Some(0), Some(0), &mut [0; 128]);
     ran.answer == Err(RunFault::Write)
         && ran.written == 0
         && ran.source.fills == 1
-        && ran.source.after_fault == 0
+        && ran.sink.takes == 0
         && ran.sink.flushes == 1
-        && ran.sink.after_fault == 0
 }
 
-/// Each call of each device fails in turn, in pieces of a size.
-fn stops(alloc: Global, case: Case, piece: usize) -> bool
+/// Each call of each device fails in turn, then both at once, and each room is tried that is too small for the text.
+fn stops(alloc: Global, case: Case) -> bool
     requires { HasSides case.task }
 {
-    stops_at_fills(alloc, case, piece) && stops_at_takes(alloc, case, piece)
-}
-
-#[test]
-fn a_check_stops_where_a_device_fails(rt: HostRuntime) {
-    for piece in [1, 5, 64] {
-        assert!(rt; stops(rt.alloc(), PIXEL, piece), "in pieces of {piece}");
+    for (piece, fills, takes) in case.calls {
+        if !stops_in_pieces(alloc, case, piece, fills, takes) {
+            return false;
+        }
     }
-    assert!(rt; fills_rooms(rt.alloc(), PIXEL));
-    assert!(rt; stops_at_both(rt.alloc(), PIXEL));
-}
-
-#[test]
-fn a_longer_check_stops_where_a_device_fails(rt: HostRuntime) {
-    for piece in [1, 5, 64] {
-        assert!(rt; stops(rt.alloc(), LETTERS, piece), "in pieces of {piece}");
+    for count in 0..case.text.len() {
+        if !fills_room(alloc, case, count) {
+            return false;
+        }
     }
-    assert!(rt; fills_rooms(rt.alloc(), LETTERS));
-    assert!(rt; stops_at_both(rt.alloc(), LETTERS));
+    stops_at_both(alloc, case)
 }
 
 #[test]
-fn a_check_of_a_broken_rule_stops_where_a_device_fails(rt: HostRuntime) {
-    for piece in [1, 5, 64] {
-        assert!(rt; stops(rt.alloc(), UNCOVERED, piece), "in pieces of {piece}");
-    }
-    assert!(rt; fills_rooms(rt.alloc(), UNCOVERED));
-    assert!(rt; stops_at_both(rt.alloc(), UNCOVERED));
-}
-
-#[test]
-fn a_render_stops_where_a_device_fails(rt: HostRuntime) {
-    for piece in [1, 5, 64] {
-        assert!(rt; stops(rt.alloc(), FILE, piece), "in pieces of {piece}");
-    }
-    assert!(rt; fills_rooms(rt.alloc(), FILE));
-    assert!(rt; stops_at_both(rt.alloc(), FILE));
-}
-
-#[test]
-fn an_encode_stops_where_a_device_fails(rt: HostRuntime) {
-    for piece in [1, 5, 64] {
-        assert!(rt; stops(rt.alloc(), RED, piece), "in pieces of {piece}");
-    }
-    assert!(rt; fills_rooms(rt.alloc(), RED));
-    assert!(rt; stops_at_both(rt.alloc(), RED));
-}
-
-#[test]
-fn a_show_stops_where_a_device_fails(rt: HostRuntime) {
-    for piece in [1, 5, 64] {
-        assert!(rt; stops(rt.alloc(), SCREEN, piece), "in pieces of {piece}");
-    }
-    assert!(rt; fills_rooms(rt.alloc(), SCREEN));
-    assert!(rt; stops_at_both(rt.alloc(), SCREEN));
-}
-
-/// Whether the task is done, or refused for want of memory: then nothing is written, and the output is flushed.
-/// `rt try --test --fail-alloc N` refuses the N-th growth.
-fn is_done_or_refused(alloc: Global, case: Case) -> bool
-    requires { HasSides case.task }
-{
-    let mut room = [0; 128];
-    let ran = run_case(alloc, case, 5, None, None, &mut room);
-    let is_refused = ran.answer == Err(RunFault::OutOfMemory)
-        && ran.written == 0
-        && ran.sink.flushes == 1;
-    is_refused || is_whole(&ran, case, &room)
-}
-
-#[test]
-fn each_growth_of_a_check_is_refused(rt: HostRuntime) {
-    assert!(rt; is_done_or_refused(rt.alloc(), PIXEL));
-}
-
-#[test]
-fn each_growth_of_a_render_is_refused(rt: HostRuntime) {
-    assert!(rt; is_done_or_refused(rt.alloc(), FILE));
-}
-
-#[test]
-fn each_growth_of_an_encode_is_refused(rt: HostRuntime) {
-    assert!(rt; is_done_or_refused(rt.alloc(), RED));
-}
-
-#[test]
-fn each_growth_of_a_show_is_refused(rt: HostRuntime) {
-    assert!(rt; is_done_or_refused(rt.alloc(), SCREEN));
+fn each_call_of_a_device_fails(rt: HostRuntime) {
+    assert!(rt; stops(rt.alloc(), LISTED));
+    assert!(rt; stops(rt.alloc(), LISTED_FAULT));
+    assert!(rt; stops(rt.alloc(), CHECKED));
+    assert!(rt; stops(rt.alloc(), LETTERS));
+    assert!(rt; stops(rt.alloc(), UNCOVERED));
+    assert!(rt; stops(rt.alloc(), CHECKED_FAULT));
+    assert!(rt; stops(rt.alloc(), RENDERED));
+    assert!(rt; stops(rt.alloc(), RENDERED_FAULT));
+    assert!(rt; stops(rt.alloc(), RED));
+    assert!(rt; stops(rt.alloc(), SHORT_RED));
+    assert!(rt; stops(rt.alloc(), ENCODED_FAULT));
+    assert!(rt; stops(rt.alloc(), SHOWN));
+    assert!(rt; stops(rt.alloc(), SHOWN_FAULT));
 }

@@ -22,13 +22,6 @@ fn drawn(state: u32, register: u8) -> u8 {
     }
 }
 
-fn push_pixel(bytes: &mut Vec<u8>, percent: u8) -> Result<(), AllocError> {
-    bytes.push(percent)?;
-    bytes.push(90u8.saturating_sub(percent))?;
-    bytes.push(50)?;
-    Ok(())
-}
-
 /// Pseudo-random runs in 16 colours.
 fn push_pixels(bytes: &mut Vec<u8>, count: u32, seed: u32) -> Result<(), AllocError> {
     let mut state = seed;
@@ -36,7 +29,8 @@ fn push_pixels(bytes: &mut Vec<u8>, count: u32, seed: u32) -> Result<(), AllocEr
     for _ in 0..count {
         state = after(state);
         register = drawn(state, register);
-        push_pixel(bytes, register.saturating_mul(6))?;
+        let percent = register.saturating_mul(6);
+        bytes.extend_from_slice(&[percent, 90u8.saturating_sub(percent), 50])?;
     }
     Ok(())
 }
@@ -99,53 +93,47 @@ fn is_encoded_as(picture: &Picture, text: &[u8]) -> bool {
     sixel_encode::encode(picture, &mut output).is_ok() && output.written() == text
 }
 
-/// Whether the text is portable, and leaves one pixel in register 0 of this palette.
-fn leaves(alloc: Global, text: &[u8], palette: &Palette) -> bool {
+/// Whether registers 0 and 3 have these colours, and no other register has one.
+fn has_colours(palette: &Palette, first: Option<Colour>, fourth: Option<Colour>) -> bool {
+    for register in 0..16 {
+        let expected = match register {
+            0 => first,
+            3 => fourth,
+            _ => None,
+        };
+        if palette.get(register) != expected {
+            return false;
+        }
+    }
+    true
+}
+
+/// Whether the text is portable, leaves one pixel in register 0 of these colours, and is what is encoded of that.
+fn comes_back(alloc: Global, text: &[u8], first: Option<Colour>, fourth: Option<Colour>) -> bool {
     match check_bytes(alloc, text) {
-        Ok(Verdict::Portable(left)) => {
-            left.width() == 1
-                && left.height() == 1
-                && left.register_at(0, 0) == 0
-                && left.palette() == palette
+        Ok(Verdict::Portable(picture)) => {
+            picture.width() == 1
+                && picture.height() == 1
+                && picture.register_at(0, 0) == 0
+                && has_colours(picture.palette(), first, fourth)
+                && is_encoded_as(&picture, text)
         }
         _ => false,
     }
 }
 
-/// Checks what is encoded of one pixel in register 0 of this palette: the picture is the same, palette included.
-fn comes_back(alloc: Global, palette: Palette, text: &[u8]) -> Result<bool, Fail> {
-    let mut registers = Vec::new(alloc);
-    registers.push(0)?;
-    let picture = Picture::new(1, 1, palette, registers).or(Err("a picture"))?;
-    Ok(is_encoded_as(&picture, text) && leaves(alloc, text, &palette))
-}
-
-/// Gives a register a colour, where there are both.
-fn set(palette: &mut Palette, register: u8, colour: Option<Colour>) {
-    if let Some(colour) = colour
-        && register < 16
-    {
-        palette.set(register, colour);
-    }
-}
-
 #[test]
-fn palettes_come_back(rt: HostRuntime) -> Result<(), Fail> {
-    let mut palette = Palette::new();
-    set(&mut palette, 0, Colour::rgb(0, 0, 0));
-    set(&mut palette, 3, Colour::hls(120, 50, 100));
+fn palettes_come_back(rt: HostRuntime) {
     let text = b"\x1bP0;1q\"1;1;1;1#0;2;0;0;0#3;1;120;50;100#0@\x1b\\";
-    assert!(rt; comes_back(rt.alloc(), palette, text)?);
-    let mut palette = Palette::new();
-    set(&mut palette, 0, Colour::hls(360, 50, 100));
+    let (black, hue) = (Colour::rgb(0, 0, 0), Colour::hls(120, 50, 100));
+    assert!(rt; comes_back(rt.alloc(), text, black, hue));
     let text = b"\x1bP0;1q\"1;1;1;1#0;1;360;50;100#0@\x1b\\";
-    assert!(rt; comes_back(rt.alloc(), palette, text)?);
-    Ok(())
+    assert!(rt; comes_back(rt.alloc(), text, Colour::hls(360, 50, 100), None));
 }
 
 /// The picture of the 14 by 7 example, encoded again: the blank columns at the end of a register's line are gone.
 #[test]
-fn a_picture_is_encoded_shortly(rt: HostRuntime) -> Result<(), Fail> {
+fn a_picture_is_encoded_shortly(rt: HostRuntime) {
     let bytes =
         b"\x1bPq\"1;1;14;7#0;2;0;0;0#1;2;100;100;0#2;2;0;100;0#1~~@@vv@@~~@@~~$#2??}}GG}}??}}??-#1!14@\x1b\\";
     let text =
@@ -155,5 +143,4 @@ fn a_picture_is_encoded_shortly(rt: HostRuntime) -> Result<(), Fail> {
         _ => false,
     };
     assert!(rt; is_right);
-    Ok(())
 }
