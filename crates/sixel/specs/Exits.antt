@@ -1,5 +1,6 @@
 -- How the program ends.
-use Rattle.std.specs.Prelude.{◌≡◌, ◌⊎◌, ℕ, List, [], Bool, false, true, take, Option, IfSome, Result, Ok, Err, if◌then◌else◌}
+use Rattle.std.specs.Prelude.{◌≡◌, ◌≢◌, ◌⊎◌, ℕ, List, [], Bool, false, true, take, Option, IfSome, Result, Ok, Err}
+use Rattle.std.specs.Prelude.{if◌then◌else◌}
 use Rattle.std.specs.Io.KnownBytes.{Appends}
 use Rattle.sixel_grammar.specs.Devices.{one_more}
 use Rattle.sixel.specs.declared.exit.Exit.{Exit}
@@ -46,8 +47,8 @@ complaint t (Ok status.Done) = []
 complaint t (Ok (status.Broken finding)) = if is_render t then finding_line finding else []
 complaint t (Err fault) = fault_line fault
 
--- the text was appended to what a sink had, or a front of it, and the sink failed; of what a sink has, and of its count of
--- failures, it is said what they were before and after
+-- the text was appended to what a sink had, or a front of it, and the sink failed
+-- what the sink has and its count of failures stand here as they were before and after
 abbrev pub IsPut : Text → Option (List ℕ) × Option (List ℕ) → ℕ × ℕ → Type 0
 IsPut text taken failures =
     (Appends taken.0 taken.1 text × (failures.1 ≡ failures.0))
@@ -55,14 +56,16 @@ IsPut text taken failures =
 
 -- a run of the task had some answer. The source and the first sink are as after such a run, the program ends as after it,
 -- and the second sink was put the line that is said of it
--- of each device stands here what it was before and after: the bytes that it tells, and its count of failures
+-- of each device stands here what it was before and after: the bytes that it tells, and its count of failures; and of the
+-- first sink whether it is flushed in the end
 pub record RunEnds (t : Task) (exit : Exit) (input : Option (List ℕ) × Option (List ℕ)) (reads : ℕ × ℕ)
-    (output : Option (List ℕ) × Option (List ℕ)) (writes : ℕ × ℕ)
+    (output : Option (List ℕ) × Option (List ℕ)) (writes : ℕ × ℕ) (is_flushed : Bool)
     (errors : Option (List ℕ) × Option (List ℕ)) (complaints : ℕ × ℕ) : Type 0 where
   pub answer : Result Status RunFault
   pub wrote : IfSome input.0 (λ bytes. Wrote t bytes input.1 answer output.0 output.1)
   pub memory : answer ≡ Err run.OutOfMemory → TakesMemory t input.0
   pub read : CountsReads answer reads.0 reads.1
   pub written : CountsWrites answer writes.0 writes.1
+  pub flushed : answer ≢ Err run.Write → is_flushed ≡ true
   pub ends : exit ≡ exit_for_answer answer
   pub said : IsPut (complaint t answer) errors complaints

@@ -119,14 +119,14 @@ rule_name rule.Outside = codes "Outside"
 rule_name rule.Uncovered = codes "Uncovered"
 
 -- the column and the row, where there is a pixel
-abbrev pub point_parts : Option (ℕ × ℕ) → List Text
-point_parts None = []
-point_parts (Some pixel) = numbers (pixel.0 ∷ pixel.1 ∷ [])
+abbrev pub column_and_row : Option (ℕ × ℕ) → List Text
+column_and_row None = []
+column_and_row (Some pixel) = numbers (pixel.0 ∷ pixel.1 ∷ [])
 
 -- the pixel of a rule that names one
 abbrev pub pixel_parts : Rule → Option (ℕ × ℕ) → List Text
-pixel_parts rule.Outside pixel = point_parts pixel
-pixel_parts rule.Uncovered pixel = point_parts pixel
+pixel_parts rule.Outside pixel = column_and_row pixel
+pixel_parts rule.Uncovered pixel = column_and_row pixel
 pixel_parts _ pixel = []
 
 -- the rule, the place and the pixel

@@ -1,7 +1,7 @@
 //! How the program ends.
 
-ghost use Rattle.std.specs.Prelude.{◌≡◌, ◌≢◌, Err, IfSome};
-ghost use Rattle.sixel.specs.Exits.{IsPut, RunEnds, complaint, exit_code, exit_for_answer};
+ghost use Rattle.std.specs.Prelude.{◌≡◌};
+ghost use Rattle.sixel.specs.Exits.{RunEnds, complaint, exit_code, exit_for_answer};
 ghost use Rattle.sixel.specs.Outputs.{HasSides};
 
 use crate::fault::RunFault;
@@ -70,6 +70,7 @@ pub fn report<S: Source, K: Sink, E: Sink>(
     ensures { RunEnds task result
         (S.remaining input.old, S.remaining input.new) (S.failure_count input.old, S.failure_count input.new)
         (K.taken output.old, K.taken output.new) (K.failure_count output.old, K.failure_count output.new)
+        (K.is_flushed output.new)
         (E.taken errors.old, E.taken errors.new) (E.failure_count errors.old, E.failure_count errors.new) }
 {
     let answer = run::run(alloc, task, input, output);

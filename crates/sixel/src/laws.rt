@@ -24,8 +24,8 @@ pub fn tasks_give_one_output()
 {}
 
 /// The text that `encode` writes of any picture is a document whose verdict is that picture, palette included, and
-/// which each terminal of the class with room shows. Whatever a check may answer for it is that this picture is portable,
-/// or want of memory, or that a read failed; and its line says so.
+/// which each terminal of the class with room shows. Whatever a check may answer for it is that this picture is
+/// portable, or want of memory, or that a read failed; and its line says so.
 pub fn encoded_pictures_are_portable()
     ensures portable { EncodedIsPortable 16 }
     ensures answered { EncodedAnswers }

@@ -3,8 +3,8 @@
 ghost use Rattle.std.specs.Prelude.{◌≡◌, ◌+◌, ◌*◌, ◌≤◌, ◌++◌, ◌∷◌, length, decimal};
 ghost use Rattle.arrayvec.specs.ArrayVec.{array_vec_len};
 ghost use Rattle.sixel_grammar.specs.Devices.{CountsFailure, NeverFlushes, Puts};
-ghost use Rattle.sixel.specs.Texts.{event_line, event_parts, fault_line, finding_line, kind_name, numbers, pixel_parts, portable_line};
-ghost use Rattle.sixel.specs.Texts.{ppm_reason_name, reason_name, rule_name, spaced, verdict_line};
+ghost use Rattle.sixel.specs.Texts.{event_line, event_parts, fault_line, finding_line, kind_name, numbers, pixel_parts};
+ghost use Rattle.sixel.specs.Texts.{portable_line, ppm_reason_name, reason_name, rule_name, spaced, verdict_line};
 
 use crate::fault::RunFault;
 use arrayvec::ArrayVec;
