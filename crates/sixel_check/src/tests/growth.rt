@@ -30,7 +30,7 @@ const BOXLESS: &[(&[u8], Rule, u64)] = &[
     (b"\x1bPq\"1;1;2049;1#0;2;0;0;0#0@\x1b\\", Rule::BoxSize, 3),
 ];
 
-/// The picture of one pixel with ample memory, black in register 0 alone; and want of memory where a growth was refused.
+/// The picture of one pixel with ample memory, black in register 0 alone; want of memory where a growth was refused.
 fn portable_or_refused(answer: &Result<Verdict, InputFault>) -> bool {
     match answer {
         Ok(Verdict::Portable(picture)) => is_left(picture, 0, black(), None),
