@@ -15,11 +15,15 @@ const PPM: RunFault = RunFault::Ppm {
     place: 60,
 };
 
-/// Whether this is the line of the fault.
+/// Whether this is the line of the fault, and five bytes a call are a front of it where the third call fails.
 fn says(fault: RunFault, line: &str) -> bool {
-    let mut room = [0; 64];
+    let (mut room, mut short) = ([0; 64], [0; 64]);
     let mut out = SliceSink::new(&mut room, 64, None);
-    write_fault(&fault, &mut out) == Ok(()) && out.written() == line.as_bytes()
+    let mut failing = SliceSink::new(&mut short, 5, Some(2));
+    write_fault(&fault, &mut out) == Ok(())
+        && out.written() == line.as_bytes()
+        && write_fault(&fault, &mut failing) == Err(DeviceFault)
+        && Some(failing.written()) == line.as_bytes().get(..10)
 }
 
 /// Whether this is the line of the finding.
@@ -103,14 +107,6 @@ fn writes_the_line_of_a_finding(rt: HostRuntime) {
     for (rule, place, pixel, line) in rows {
         assert!(rt; finds(&Finding { rule, place, pixel }, line), "{line}");
     }
-}
-
-#[test]
-fn writes_a_front_where_the_device_fails(rt: HostRuntime) {
-    let mut room = [0; 64];
-    let mut out = SliceSink::new(&mut room, 5, Some(2));
-    assert_eq!(rt; write_fault(&RunFault::Read, &mut out), Err(DeviceFault));
-    assert_eq!(rt; out.written(), b"sixel: rea".as_slice());
 }
 
 /// The derived text is the variant's name. The program never prints it.
