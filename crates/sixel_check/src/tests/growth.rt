@@ -30,25 +30,6 @@ const BOXLESS: &[(&[u8], Rule, u64)] = &[
     (b"\x1bPq\"1;1;2049;1#0;2;0;0;0#0@\x1b\\", Rule::BoxSize, 3),
 ];
 
-/// The picture of one pixel with ample memory, black in register 0 alone; want of memory where a growth was refused.
-fn portable_or_refused(answer: &Result<Verdict, InputFault>) -> bool {
-    match answer {
-        Ok(Verdict::Portable(picture)) => is_left(picture, 0, black(), None),
-        Ok(Verdict::Broken(_)) => false,
-        Err(fault) => matches!(fault, InputFault::OutOfMemory),
-    }
-}
-
-#[test]
-fn a_refused_growth_is_named(rt: HostRuntime) -> Result<(), Fail> {
-    let mut source = SliceSource::new(PICTURE, 5, None);
-    let answer = check(rt.alloc(), &mut source);
-    assert!(rt; portable_or_refused(&answer));
-    let answer = check_bytes(rt.alloc(), PICTURE);
-    assert!(rt; portable_or_refused(&answer));
-    Ok(())
-}
-
 /// Whether this rule is the first broken one, at this place.
 fn is_broken(answer: &Result<Verdict, InputFault>, rule: Rule, place: u64) -> bool {
     match answer {

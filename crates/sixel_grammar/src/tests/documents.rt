@@ -356,12 +356,12 @@ fn smallest() -> [Placed; 6] {
     ]
 }
 
-/// With ample memory this reads. `rt try --test --fail-alloc N` refuses the N-th growth: then this is `OutOfMemory`.
+/// Its events whole, where memory is ample.
 #[test]
-fn each_growth_is_refused_by_name(rt: HostRuntime) {
+fn the_smallest_picture_has_six_events(rt: HostRuntime) {
     let mut source = SliceSource::new(PICTURE, 64, None);
     match read_all(rt.alloc(), &mut source) {
         Ok(events) => assert!(rt; events.as_slice() == smallest().as_slice()),
-        Err(fault) => assert_eq!(rt; fault, InputFault::OutOfMemory),
+        Err(_) => assert!(rt; false),
     }
 }

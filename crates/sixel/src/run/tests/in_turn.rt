@@ -226,7 +226,7 @@ fn stops_at_fill(alloc: Global, case: Case, piece: usize, fill: u64) -> bool
 /// aren't all full.
 fn is_front(case: Case, piece: usize, take: u64, written: usize) -> bool {
     let full = piece.saturating_mul(take as usize);
-    case.task == Task::List || written == full.min(case.text.len())
+    (case.task == Task::List && piece > 1) || written == full.min(case.text.len())
 }
 
 /// Whether a run stops where this take or flush fails, and calls the sink no more: a front of the text is written.
