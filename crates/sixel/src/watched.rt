@@ -3,7 +3,7 @@
 use sixel_grammar::{DeviceFault, Sink, Source};
 
 /// How often a device was called.
-#[derive(Clone, Copy, Debug, Default, PartialEq, Eq)]
+#[derive(Clone, Copy)]
 pub struct Calls {
     pub fills: u64,
     pub takes: u64,
@@ -21,7 +21,11 @@ impl<D> Watched<D> {
     pub fn new(device: D) -> Watched<D> {
         Watched {
             device,
-            calls: Calls::default(),
+            calls: Calls {
+                fills: 0,
+                takes: 0,
+                flushes: 0,
+            },
         }
     }
 }

@@ -202,13 +202,14 @@ fn explains_so(
         && fills(said.as_slice(), line.as_bytes(), room)
 }
 
-/// Why these words, with spaces between them, give no task.
-fn fault_of(rt: &impl AllocGlobal, line: &str) -> Result<WordsFault, Fail> {
-    let mut words = Vec::new(rt.alloc());
-    for word in line.split(' ') {
-        words.push(String::from_str(rt.alloc(), word)?)?;
+/// Why these words after the program's name give no task.
+fn fault_of(alloc: Global, arguments: &[&str]) -> Result<WordsFault, Fail> {
+    let mut words = Vec::new(alloc);
+    words.push(String::from_str(alloc, "sixel")?)?;
+    for word in arguments {
+        words.push(String::from_str(alloc, word)?)?;
     }
-    match parse_words(rt.alloc(), words.as_slice()) {
+    match parse_words(alloc, words.as_slice()) {
         Ok(_) => Err(Fail::from("a task")),
         Err(fault) => Ok(fault),
     }
@@ -248,9 +249,9 @@ For more information, try '--help'.
 #[test]
 fn words_are_explained_as_far_as_there_is_room(rt: HostRuntime) -> Result<(), Fail> {
     for room in [0, 1, 20, 512] {
-        let help = fault_of(&rt, "sixel list --help")?;
+        let help = fault_of(rt.alloc(), &["list", "--help"])?;
         assert!(rt; explains_so(rt.alloc(), help, room, Exit::Done, HELP, ""));
-        let unknown = fault_of(&rt, "sixel view")?;
+        let unknown = fault_of(rt.alloc(), &["view"])?;
         assert!(rt; explains_so(rt.alloc(), unknown, room, Exit::Usage, "", UNKNOWN));
         let not_text = unread(rt.alloc(), ErrorKind::InvalidData)?;
         assert!(rt; explains_so(rt.alloc(), not_text, room, Exit::Usage, "", NOT_TEXT));

@@ -22,6 +22,10 @@ fn drawn(state: u32, register: u8) -> u8 {
     }
 }
 
+fn push_pixel(bytes: &mut Vec<u8>, percent: u8) -> Result<(), AllocError> {
+    bytes.extend_from_slice(&[percent, 90u8.saturating_sub(percent), 50])
+}
+
 /// Pseudo-random runs in 16 colours.
 fn push_pixels(bytes: &mut Vec<u8>, count: u32, seed: u32) -> Result<(), AllocError> {
     let mut state = seed;
@@ -29,8 +33,7 @@ fn push_pixels(bytes: &mut Vec<u8>, count: u32, seed: u32) -> Result<(), AllocEr
     for _ in 0..count {
         state = after(state);
         register = drawn(state, register);
-        let percent = register.saturating_mul(6);
-        bytes.extend_from_slice(&[percent, 90u8.saturating_sub(percent), 50])?;
+        push_pixel(bytes, register.saturating_mul(6))?;
     }
     Ok(())
 }
