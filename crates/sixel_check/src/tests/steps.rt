@@ -59,46 +59,6 @@ fn smallest(rt: &impl AllocGlobal) -> Result<Vec<Placed>, Fail> {
     Ok(events_of(rt, picture).ok_or("no document")?)
 }
 
-/// Whether the checker expects a start among these events, and no other.
-fn expects_starts(checker: &Checker<BytePlane>, events: &[Placed]) -> bool {
-    for placed in events {
-        if checker.expects(&placed.event) != matches!(&placed.event, Event::Start { .. }) {
-            return false;
-        }
-    }
-    true
-}
-
-/// Whether the checker expects one of these events.
-fn expects_any(checker: &Checker<BytePlane>, events: &[Placed]) -> bool {
-    for placed in events {
-        if checker.expects(&placed.event) {
-            return true;
-        }
-    }
-    false
-}
-
-#[test]
-fn a_start_is_expected_first(rt: HostRuntime) -> Result<(), Fail> {
-    let events = smallest(&rt)?;
-    let fresh: Checker<BytePlane> = Checker::new(rt.alloc());
-    assert!(rt; !fresh.is_whole());
-    assert!(rt; expects_starts(&fresh, events.as_slice()));
-    assert!(rt; !fresh.expects(&Event::Step(Command::NextLine)));
-    Ok(())
-}
-
-#[test]
-fn nothing_is_expected_after_the_end(rt: HostRuntime) -> Result<(), Fail> {
-    let events = smallest(&rt)?;
-    let checker = pushed(&rt, events.as_slice())?;
-    assert!(rt; checker.is_whole());
-    assert!(rt; !expects_any(&checker, events.as_slice()));
-    assert!(rt; verdict_of(&rt, checker)?.as_str() == "portable 1 1");
-    Ok(())
-}
-
 /// The verdict on the events of a document, pushed one by one; none where the bytes are no document.
 fn answer_by_events(rt: &impl AllocGlobal, bytes: &[u8]) -> Result<Option<String>, Fail> {
     match events_of(rt, bytes) {
