@@ -1,6 +1,7 @@
 ghost use Rattle.sixel.specs.Outputs.{HasSides};
 
 mod examples;
+mod exhausted;
 mod streams;
 
 use crate::execute;

@@ -12,7 +12,6 @@ use sixel_grammar::{DeviceFault, Sink, SliceSink};
 use std::alloc::{AllocError, Global};
 use std::test::Fail;
 
-mod exhausted;
 mod planes;
 mod reading;
 

@@ -165,7 +165,7 @@ fn is_blank<P: Plane>(plane: &P, width: u32, height: u32) -> bool {
 }
 
 /// Whether a new plane is blank; `None` where a growth was refused.
-pub(super) fn is_made_blank<P: Plane>(alloc: Global, width: u32, height: u32) -> Option<bool> {
+fn is_made_blank<P: Plane>(alloc: Global, width: u32, height: u32) -> Option<bool> {
     if width < 1 || width > 2048 || height < 1 || height > 2048 {
         return Some(false);
     }

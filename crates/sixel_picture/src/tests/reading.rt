@@ -441,7 +441,7 @@ fn the_largest_picture_is_read(rt: HostRuntime) -> Result<(), Fail> {
 }
 
 /// Whether five red pixels are read as they are; `None` where a growth was refused.
-pub(super) fn reads_red(alloc: Global) -> Option<bool> {
+fn reads_red(alloc: Global) -> Option<bool> {
     match read(alloc, RED, 65_536) {
         Ok(picture) => {
             let red = [Parts::Rgb(100, 0, 0)];
