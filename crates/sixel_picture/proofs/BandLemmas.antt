@@ -16,7 +16,8 @@ use Rattle.sixel_picture.specs.Sheets.{blank_sheet, cell, painted_sheet, row_by_
 use Rattle.sixel_picture.specs.BandPlanes.{is_painted, cell_of_bands, sheet_of_bands}
 use Rattle.sixel_picture.proofs.SheetLemmas.{length_rows, get_index, at_rows, rows_from_index}
 use Rattle.sixel_picture.proofs.CoverLemmas.{lies_under, covers_under, PassesBelow, passes_below, any_below_at}
-use Rattle.sixel_picture.proofs.ByteLemmas.{IsPaintedBelow, in_row_at, painted_kept, painted_more, painted_same, same_test}
+use Rattle.sixel_picture.proofs.ByteLemmas.{IsRunBelow, in_row_at, run_more, same_test}
+use Rattle.sixel_picture.proofs.PaintLemmas.{painted_same}
 
 -- ---- places
 
@@ -115,7 +116,7 @@ or_bit_of old bits k =
 
 -- after all six bits the pixels that the run covers have the register
 pub covered_rows : (w left count band bits register : ℕ) (old new : List ℕ)
-    → IsPaintedBelow 6 w left count band bits register old new → (i : ℕ) → i < length old
+    → IsRunBelow 6 w left count band bits register old new → (i : ℕ) → i < length old
     → get_or new i 0 ≡ cond (covers left count band 1 bits (i % w) (i / w)) register (get_or old i 0)
 unfolding covers
 covered_rows w left count band bits register old new painted = painted.pixels
@@ -127,14 +128,13 @@ same_either false x = refl
 -- a pixel that is written to, whether it is painted or not
 pub painted_put : (t : Bool) (k w left band bits register start : ℕ) (old mid new : List ℕ) → 0 < w → left + 1 ≤ w
     → start ≡ (6 * band + k) * w + left → t ≡ (bit_at bits k == 1)
-    → IsPaintedBelow k w left 1 band bits register old mid
+    → IsRunBelow k w left 1 band bits register old mid
     → AreChanged start (start + 1) (λ r. if t then register else r) mid new
-    → IsPaintedBelow (k + 1) w left 1 band bits register old new
+    → IsRunBelow (k + 1) w left 1 band bits register old new
 painted_put true k w left band bits register start old mid new some fits at set before c =
-    painted_more k w left 1 band bits register start old mid new some fits at (sym set) before c.long c.changed
+    run_more k w left 1 band bits register start old mid new some fits at (sym set) before c.long c.changed
 painted_put false k w left band bits register start old mid new some fits at clear before c =
-    painted_kept (k + 1) w left 1 band bits register old mid new
-    (painted_same k w left 1 band bits register old mid (sym clear) before) c.long
+    painted_same k band 1 bits _ _ register 0 old mid new (sym clear) before c.long
     (λ i lt. c.changed i lt ∙ same_either (nat_le start i && nat_lt i (start + 1)) (get_or mid i 0))
 
 -- a bit of a byte to which bits may have been added

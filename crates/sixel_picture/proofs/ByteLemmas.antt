@@ -1,7 +1,7 @@
 -- On bytes, one a pixel, that stand for a sheet.
-use Rattle.std.proofs.Common.{◌≡◌, ◌==◌, ℕ, ◌+◌, ◌-◌, ◌*◌, ◌/◌, ◌%◌, ◌<◌, ◌≤◌, Bool, true, false, ◌&&◌, ◌||◌, cond}
+use Rattle.std.proofs.Common.{◌≡◌, ◌==◌, ℕ, ◌+◌, ◌-◌, ◌*◌, ◌/◌, ◌%◌, ◌<◌, ◌≤◌, Bool, true, false, ◌&&◌, cond}
 use Rattle.std.proofs.Common.{Option, Some, None, List, [], ◌∷◌, length, get_or, map, replicate, nat_le, nat_lt}
-use Rattle.std.proofs.Common.{refl, sym, ap, ap₂, ◌∙◌, arith, add-one}
+use Rattle.std.proofs.Common.{refl, sym, ap, ap₂, ◌∙◌, arith}
 use Rattle.std.specs.Prelude.{is_none}
 use Rattle.std.specs.Int.{bit_at}
 use Rattle.std.specs.List.{position_from}
@@ -12,10 +12,9 @@ use Rattle.std.proofs.lemmas.List.{get_or-map, get_or-replicate, length-map, len
 use Rattle.std.proofs.lemmas.Nat.{div-add-mod', mod_below, same_from_place}
 use Rattle.std.proofs.lemmas.Option.{slice_get-get_or}
 use Rattle.sixel_picture.specs.Geometry.{covers}
-use Rattle.sixel_picture.specs.Positions.{any_below}
 use Rattle.sixel_picture.specs.Sheets.{IsFull, blank_sheet, cell, first_blank, painted_sheet}
 use Rattle.sixel_picture.specs.BytePlanes.{register_of_byte, sheet_of_bytes}
-use Rattle.sixel_picture.proofs.PositionLemmas.{and_false}
+use Rattle.sixel_picture.proofs.PaintLemmas.{IsPaintedBelow, painted_more}
 use Rattle.sixel_picture.proofs.SheetLemmas.{rows_from_index}
 
 -- a register's byte is no blank
@@ -81,31 +80,11 @@ full_bytes w h xs full =
 
 -- ---- painting
 
--- bit k is set, and its row is y
-abbrev bit_covers : ℕ → ℕ → ℕ → ℕ → Bool
-bit_covers band bits y k =
-    (bit_at bits k == 1) && nat_le ((6 * band + k) * 1) y && nat_lt y ((6 * band + k) * 1 + 1)
-
--- the pixel lies in the columns of the run and in the row of a set bit below n
-abbrev pub covered_below : ℕ → ℕ → ℕ → ℕ → ℕ → ℕ → ℕ → Bool
-covered_below n left count band bits x y =
-    nat_le left x && nat_lt x (left + count) && any_below n (bit_covers band bits y)
-
--- the bytes after the rows of the bits below n
-pub record IsPaintedBelow (n w left count band bits register : ℕ) (old new : List ℕ) : Type 0 where
-  pub long : length new ≡ length old
-  pub pixels : (i : ℕ) → i < length old
-      → get_or new i 0 ≡ cond (covered_below n left count band bits (i % w) (i / w)) register (get_or old i 0)
-
-pub painted_none : (w left count band bits register : ℕ) (xs : List ℕ)
-    → IsPaintedBelow 0 w left count band bits register xs xs
-unfolding any_below
-painted_none w left count band bits register xs = record {
-  long = refl;
-  pixels = λ i lt.
-      ap (λ t. cond t register (get_or xs i 0))
-      (sym (and_false (nat_le left (i % w) && nat_lt (i % w) (left + count))));
-}
+-- the bytes after the rows of the bits below n of a run
+abbrev pub IsRunBelow : ℕ → ℕ → ℕ → ℕ → ℕ → ℕ → ℕ → List ℕ → List ℕ → Type 0
+IsRunBelow n w left count band bits register old new =
+    IsPaintedBelow n band 1 bits (λ i. nat_le left (i % w) && nat_lt (i % w) (left + count)) (λ i. i / w) register 0
+    old new
 
 pub same_test : (a b : Bool) → (a ≡ true → b ≡ true) → (b ≡ true → a ≡ true) → a ≡ b
 same_test true b f g = sym (f refl)
@@ -154,60 +133,18 @@ in_row w row left count i some fits =
     let at = in_row_at w row (i / w) (i % w) left count (mod_below i w some) fits in
     rw (div-add-mod' i w) at at
 
--- a row on top of those before
-on_top : (a t b : Bool) (r o : ℕ) → cond (a && t) r (cond (a && b) r o) ≡ cond (a && (t || b)) r o
-on_top true true b r o = refl
-on_top true false b r o = refl
-on_top false t b r o = refl
-
-row_covers : (band bits y k : ℕ) → (bit_at bits k == 1) ≡ true
-    → bit_covers band bits y k ≡ (nat_le (6 * band + k) y && nat_lt y (6 * band + k + 1))
-row_covers band bits y k set = rw set (let same : (6 * band + k) * 1 ≡ 6 * band + k = omega arith in rw same refl)
-
-no_row_covers : (band bits y k : ℕ) → (bit_at bits k == 1) ≡ false → bit_covers band bits y k ≡ false
-no_row_covers band bits y k clear = rw clear refl
-
 -- one more bit, which is set
-pub painted_more : (k w left count band bits register start : ℕ) (old mid new : List ℕ)
+pub run_more : (k w left count band bits register start : ℕ) (old mid new : List ℕ)
     → 0 < w → left + count ≤ w → start ≡ (6 * band + k) * w + left
-    → (bit_at bits k == 1) ≡ true → IsPaintedBelow k w left count band bits register old mid → length new ≡ length mid
+    → (bit_at bits k == 1) ≡ true → IsRunBelow k w left count band bits register old mid → length new ≡ length mid
     → ((i : ℕ) → i < length mid
     → get_or new i 0 ≡ cond (nat_le start i && nat_lt i (start + count)) register (get_or mid i 0))
-    → IsPaintedBelow (k + 1) w left count band bits register old new
-unfolding any_below
-painted_more k w left count band bits register start old mid new some fits at set before long row = record {
-  long = long ∙ before.long;
-  pixels = λ i lt.
-      let a = nat_le left (i % w) && nat_lt (i % w) (left + count) in
-      let b = any_below k (bit_covers band bits (i / w)) in
-      let t = nat_le (6 * band + k) (i / w) && nat_lt (i / w) (6 * band + k + 1) in
-      let in_mid : i < length mid = omega (arith, before.long) in
-      let written : get_or new i 0 ≡ cond (a && t) register (get_or mid i 0) =
-      row i in_mid ∙ ap (λ (v : Bool). cond v register (get_or mid i 0))
-      (rw at (in_row w (6 * band + k) left count i some fits)) in
-      let joined : get_or new i 0 ≡ cond (a && (t || b)) register (get_or old i 0) =
-      written ∙ ap (λ n. cond (a && t) register n) (before.pixels i lt) ∙ on_top a t b register (get_or old i 0) in
-      rw (add-one, row_covers band bits (i / w) k set) joined;
-}
-
--- one more bit, which isn't
-pub painted_same : (k w left count band bits register : ℕ) (old new : List ℕ) → (bit_at bits k == 1) ≡ false
-    → IsPaintedBelow k w left count band bits register old new
-    → IsPaintedBelow (k + 1) w left count band bits register old new
-unfolding any_below
-painted_same k w left count band bits register old new clear before = record {
-  long = before.long;
-  pixels = λ i lt. rw (add-one, no_row_covers band bits (i / w) k clear) (before.pixels i lt);
-}
-
-pub painted_kept : (k w left count band bits register : ℕ) (old mid new : List ℕ)
-    → IsPaintedBelow k w left count band bits register old mid → length new ≡ length mid
-    → ((i : ℕ) → i < length mid → get_or new i 0 ≡ get_or mid i 0)
-    → IsPaintedBelow k w left count band bits register old new
-painted_kept k w left count band bits register old mid new before long same = record {
-  long = long ∙ before.long;
-  pixels = λ i lt. same i (omega (arith, before.long)) ∙ before.pixels i lt;
-}
+    → IsRunBelow (k + 1) w left count band bits register old new
+run_more k w left count band bits register start old mid new some fits at set before long row =
+    let one : (6 * band + k) * 1 ≡ 6 * band + k = omega arith in
+    painted_more k band 1 bits _ _ register 0 old mid new set before long
+    (λ i lt. row i lt
+    ∙ ap (λ (v : Bool). cond v register (get_or mid i 0)) (rw (at, one) (in_row w (6 * band + k) left count i some fits)))
 
 byte_or : (t : Bool) (r b : ℕ) → register_of_byte r ≡ Some r
     → register_of_byte (cond t r b) ≡ cond t (Some r) (register_of_byte b)
@@ -216,11 +153,11 @@ byte_or false r b e = refl
 
 -- after all six bits the sheet is the painted one
 pub painted_bytes : (w h left count band bits register : ℕ) (old new : List ℕ) → length old ≡ w * h → register < 255
-    → IsPaintedBelow 6 w left count band bits register old new
+    → IsRunBelow 6 w left count band bits register old new
     → sheet_of_bytes w h new ≡ painted_sheet (sheet_of_bytes w h old) left band count bits register
 unfolding painted_sheet covers
 painted_bytes w h left count band bits register old new long small painted =
-    let covered = covered_below 6 left count band bits in
+    let covered = covers left count band 1 bits in
     let pixel : ℕ → ℕ → Option ℕ = λ x y. cond (covered x y) (Some register) (cell (sheet_of_bytes w h old) x y) in
     let whole : length (map register_of_byte new) ≡ w * h = simp length-map (painted.long ∙ long) in
     let at : (i : ℕ) → i < w * h → get_or (map register_of_byte new) i None ≡ pixel (i % w) (i / w) = λ i lt.

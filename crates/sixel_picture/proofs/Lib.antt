@@ -1,6 +1,7 @@
 pub mod SheetLemmas
 pub mod PictureLemmas
 pub mod LaneLemmas
+pub mod PaintLemmas
 pub mod ByteLemmas
 pub mod BandLemmas
 pub mod BandBlankLemmas

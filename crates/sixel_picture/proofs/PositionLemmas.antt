@@ -4,6 +4,7 @@ use Rattle.std.proofs.Common.{List, [], ◌∷◌, ◌++◌, length, take, ◌�
 use Rattle.std.specs.Prelude.{slice_get}
 use Rattle.std.specs.Option.{option_or}
 use Rattle.std.specs.List.{list_any}
+use Rattle.std.proofs.Math.Bool.{or-false}
 use Rattle.std.proofs.Math.Nat.{eq-or-lt_of_le}
 use Rattle.std.proofs.lemmas.Option.{slice_get_within}
 use Rattle.std.proofs.lemmas.List.{take-append-le, length-append}
@@ -35,10 +36,6 @@ earliest_push f [] x = option_or_none (f x)
 earliest_push f (y ∷ ys) x =
     ap (option_or (f y)) (earliest_push f ys x) ∙ sym (option_or_assoc (f y) (earliest f ys) (f x))
 
-pub or_false : (a : Bool) → (a || false) ≡ a
-or_false true = refl
-or_false false = refl
-
 pub and_false : (a : Bool) → (a && false) ≡ false
 and_false true = refl
 and_false false = refl
@@ -52,7 +49,7 @@ since_step x y ys s t false false true h = refl
 since_step x y ys s t false false false h = refl
 
 any_push : {X : Type 0} (p : X → Bool) (ys : List X) (x : X) → list_any p (ys ++ x ∷ []) ≡ (list_any p ys || p x)
-any_push p ys x = list_any-append p ys (x ∷ []) ∙ ap (λ b. list_any p ys || b) (or_false (p x))
+any_push p ys x = list_any-append p ys (x ∷ []) ∙ ap (λ b. list_any p ys || b) (or-false (p x))
 
 -- the items since the last that passes, with one more item
 pub since_push : {X : Type 0} (p : X → Bool) (xs : List X) (x : X)

@@ -1,10 +1,10 @@
 -- On the pixels of a screen while it is drawn on.
-use Rattle.std.proofs.Common.{◌≡◌, ℕ, ◌+◌, ◌-◌, ◌*◌, ◌/◌, ◌%◌, ◌<◌, ◌≤◌, Bool, true, false, ◌&&◌, ◌||◌, cond}
+use Rattle.std.proofs.Common.{◌≡◌, ℕ, ◌+◌, ◌-◌, ◌*◌, ◌/◌, ◌%◌, ◌<◌, ◌≤◌, Bool, false, ◌&&◌, ◌||◌, cond}
 use Rattle.std.proofs.Common.{List, length, get_or, nat_le, nat_lt, refl, sym, ap, ◌∙◌, arith}
-use Rattle.std.proofs.lemmas.Bool.{and_parts, leb-true, ltb-true}
+use Rattle.std.proofs.Math.Bool.{and-false}
 use Rattle.std.proofs.lemmas.Bool.Decides.{nat_tests}
-use Rattle.sixel_picture.proofs.ByteLemmas.{in_row, same_test}
-use Rattle.sixel_picture.proofs.PositionLemmas.{and_false}
+use Rattle.sixel_picture.proofs.ByteLemmas.{in_row}
+use Rattle.sixel_picture.proofs.PaintLemmas.{on_top}
 use Rattle.sixel_terminal.specs.declared.canvas.Ink.{Ink}
 use Rattle.sixel_terminal.specs.declared.canvas.Span.{Span}
 use Rattle.sixel_terminal.specs.Canvases.{black, is_in_span}
@@ -18,14 +18,7 @@ pub record IsFilledBelow (n w : ℕ) (columns rows : Span) (ink : Ink) (old new 
 
 -- no number is from n on and below n
 none_between : (n y : ℕ) → (nat_le n y && nat_lt y n) ≡ false
-none_between n y =
-    same_test _ false
-    (λ t.
-    let parts = and_parts (nat_le n y) (nat_lt y n) t in
-    let from = leb-true n y parts.0 in
-    let to = ltb-true y n parts.1 in
-    absurd (omega arith))
-    (λ t. cc)
+none_between n y = grind (arith, nat_tests)
 
 -- one row more
 one_row_more : (s n y : ℕ) → s ≤ n
@@ -39,14 +32,8 @@ filled_none w columns rows ink xs = record {
   pixels = λ i lt.
       ap (λ t. cond t ink (get_or xs i black))
       (sym (ap (λ t. is_in_span columns (i % w) && t) (none_between rows.start (i / w))
-      ∙ and_false (is_in_span columns (i % w))));
+      ∙ and-false (is_in_span columns (i % w))));
 }
-
--- a row on top of those before
-on_top : (a t b : Bool) (r o : Ink) → cond (a && t) r (cond (a && b) r o) ≡ cond (a && (t || b)) r o
-on_top true true b r o = refl
-on_top true false b r o = refl
-on_top false t b r o = refl
 
 pub filled_more : (n w start count : ℕ) (columns rows : Span) (ink : Ink) (old mid new : List Ink)
     → 0 < w → columns.start ≤ columns.end → columns.end ≤ w → rows.start ≤ n

@@ -1,12 +1,13 @@
 -- On painting the pixels of a screen.
-use Rattle.std.proofs.Common.{◌≡◌, ◌==◌, ℕ, ◌+◌, ◌-◌, ◌*◌, ◌/◌, ◌%◌, ◌<◌, Bool, true, false, ◌&&◌, ◌||◌, cond}
-use Rattle.std.proofs.Common.{List, length, get_or, min, nat_le, nat_lt, refl, sym, ap, ap₂, ◌∙◌, arith, add-one}
+use Rattle.std.proofs.Common.{◌≡◌, ◌==◌, ℕ, ◌+◌, ◌-◌, ◌*◌, ◌/◌, ◌%◌, ◌<◌, Bool, true, false, ◌&&◌, cond}
+use Rattle.std.proofs.Common.{List, length, get_or, min, nat_le, nat_lt, refl, sym, ap, ap₂, ◌∙◌, arith}
 use Rattle.std.specs.Int.{bit_at}
+use Rattle.std.proofs.Math.Bool.{and_assoc}
 use Rattle.std.proofs.lemmas.Bool.Decides.{nat_tests}
 use Rattle.std.proofs.lemmas.Nat.{div_below, mod_below}
 use Rattle.sixel_picture.specs.Geometry.{covers}
 use Rattle.sixel_picture.specs.Positions.{any_below}
-use Rattle.sixel_picture.proofs.PositionLemmas.{and_false}
+use Rattle.sixel_picture.proofs.PaintLemmas.{IsPaintedBelow, bit_covers, bit_rows, painted_more}
 use Rattle.std.specs.Prelude.{None, unwrap_or, if◌then◌else◌}
 use Rattle.std.specs.Bool.{then_some}
 use Rattle.std.specs.Option.{option_map}
@@ -74,123 +75,61 @@ box_pixels t width height columns rows ink old new whole some across down filled
     (rw (across, down)
     (box_pixel t width height (i % t.choices.screen_width) (i / t.choices.screen_width) in_width in_height))
 
--- bit k is set, and its rows hold y
-abbrev bit_covers : Pen → ℕ → ℕ → ℕ → Bool
-bit_covers p bits y k =
-    (bit_at bits k == 1) && nat_le ((6 * p.band + k) * p.height) y && nat_lt y ((6 * p.band + k) * p.height + p.height)
-
--- the point lies in the columns and in the rows of a set bit below n
-abbrev pub covered_below : ℕ → Pen → ℕ → ℕ → ℕ → ℕ → Bool
-covered_below n p count bits x y =
-    nat_le p.column x && nat_lt x (p.column + count) && any_below n (bit_covers p bits y)
-
--- the pixel is painted by a bit below n
-abbrev pub painted_below : ℕ → Display → Pen → ℕ → ℕ → ℕ → ℕ → Bool
-painted_below n t p count bits x y =
-    is_from_origin t x y && covered_below n p count bits (x - t.choices.origin_x) (y - t.choices.origin_y)
-
--- the pixels after the rows of the bits below n
-pub record IsPaintedBelow (n : ℕ) (t : Display) (p : Pen) (count bits : ℕ) (ink : Ink)
-    (old new : List Ink) : Type 0 where
-  pub long : length new ≡ length old
-  pub pixels : (i : ℕ) → i < length old
-      → get_or new i black
-      ≡ cond (painted_below n t p count bits (i % t.choices.screen_width) (i / t.choices.screen_width)) ink
-      (get_or old i black)
-
-pub painted_none : (t : Display) (p : Pen) (count bits : ℕ) (ink : Ink) (xs : List Ink)
-    → IsPaintedBelow 0 t p count bits ink xs xs
-unfolding any_below
-painted_none t p count bits ink xs = record {
-  long = refl;
-  pixels = λ i lt.
-      let x = i % t.choices.screen_width in
-      let y = i / t.choices.screen_width in
-      let inside = nat_le p.column (x - t.choices.origin_x) && nat_lt (x - t.choices.origin_x) (p.column + count) in
-      ap (λ v. cond v ink (get_or xs i black))
-      (sym (ap (λ v. is_from_origin t x y && v) (and_false inside) ∙ and_false (is_from_origin t x y)));
-}
-
--- a bit's rows on top of those before
-on_top : (a b c r o : Bool) (i k : Ink)
-    → cond ((a && c) && (b && r)) i (cond ((a && b) && (c && o)) i k) ≡ cond ((a && b) && (c && (r || o))) i k
-on_top true true true true o i k = refl
-on_top true true true false o i k = refl
-on_top true true false r o i k = refl
-on_top true false true r o i k = refl
-on_top true false false r o i k = refl
-on_top false b c r o i k = refl
-
-set_covers : (p : Pen) (bits y k : ℕ) → (bit_at bits k == 1) ≡ true
-    → bit_covers p bits y k
-    ≡ (nat_le ((6 * p.band + k) * p.height) y && nat_lt y ((6 * p.band + k) * p.height + p.height))
-set_covers p bits y k set = rw set refl
-
-clear_covers : (p : Pen) (bits y k : ℕ) → (bit_at bits k == 1) ≡ false → bit_covers p bits y k ≡ false
-clear_covers p bits y k clear = rw clear refl
+-- the pixels of the screen after the rows of the bits below n
+abbrev pub IsInkedBelow : ℕ → Display → Pen → ℕ → ℕ → Ink → List Ink → List Ink → Type 0
+IsInkedBelow n t p count bits ink old new =
+    IsPaintedBelow n p.band p.height bits
+    (λ i. is_from_origin t (i % t.choices.screen_width) (i / t.choices.screen_width)
+    && (nat_le p.column (i % t.choices.screen_width - t.choices.origin_x)
+    && nat_lt (i % t.choices.screen_width - t.choices.origin_x) (p.column + count)))
+    (λ i. i / t.choices.screen_width - t.choices.origin_y) ink black old new
 
 -- one more bit, which is set
-pub painted_more : (k : ℕ) (t : Display) (p : Pen) (count bits : ℕ) (ink : Ink) (columns rows : Span)
+pub inked_more : (k : ℕ) (t : Display) (p : Pen) (count bits : ℕ) (ink : Ink) (columns rows : Span)
     (old mid new : List Ink)
     → length old ≡ t.choices.screen_width * t.choices.screen_height → 0 < t.choices.screen_width
     → columns ≡ span_of (t.choices.origin_x + p.column) count t.choices.screen_width
     → rows ≡ span_of (t.choices.origin_y + (6 * p.band + k) * p.height) p.height t.choices.screen_height
-    → (bit_at bits k == 1) ≡ true → IsPaintedBelow k t p count bits ink old mid → length new ≡ length mid
+    → (bit_at bits k == 1) ≡ true → IsInkedBelow k t p count bits ink old mid → length new ≡ length mid
     → ((i : ℕ) → i < length mid
     → get_or new i black
     ≡ cond (is_in_span columns (i % t.choices.screen_width) && is_in_span rows (i / t.choices.screen_width)) ink
     (get_or mid i black))
-    → IsPaintedBelow (k + 1) t p count bits ink old new
-unfolding any_below
-painted_more k t p count bits ink columns rows old mid new whole some across down set before long filled = record {
-  long = long ∙ before.long;
-  pixels = λ i lt.
-      let x = i % t.choices.screen_width in
-      let y = i / t.choices.screen_width in
-      let px = x - t.choices.origin_x in
-      let py = y - t.choices.origin_y in
-      let a = nat_le t.choices.origin_x x in
-      let b = nat_le t.choices.origin_y y in
-      let c = nat_le p.column px && nat_lt px (p.column + count) in
-      let top = (6 * p.band + k) * p.height in
-      let r = nat_le top py && nat_lt py (top + p.height) in
-      let o = any_below k (bit_covers p bits py) in
-      let in_width : x < t.choices.screen_width = mod_below i t.choices.screen_width some in
-      let in_height : y < t.choices.screen_height =
-      div_below i t.choices.screen_width t.choices.screen_height some (omega (arith, whole, lt)) in
-      let in_mid : i < length mid = omega (arith, before.long) in
-      let here : (is_in_span columns x && is_in_span rows y) ≡ ((a && c) && (b && r)) =
-      rw (across, down) (ap₂ (λ v w. v && w)
-      (span_from t.choices.origin_x p.column count t.choices.screen_width x in_width)
-      (span_from t.choices.origin_y top p.height t.choices.screen_height y in_height)) in
-      let written : get_or new i black ≡ cond ((a && c) && (b && r)) ink (get_or mid i black) =
-      filled i in_mid ∙ ap (λ (v : Bool). cond v ink (get_or mid i black)) here in
-      let joined : get_or new i black ≡ cond ((a && b) && (c && (r || o))) ink (get_or old i black) =
-      written ∙ ap (λ n. cond ((a && c) && (b && r)) ink n) (before.pixels i lt)
-      ∙ on_top a b c r o ink (get_or old i black) in
-      rw (add-one, set_covers p bits py k set) joined;
-}
-
--- one more bit, which isn't
-pub painted_same : (k : ℕ) (t : Display) (p : Pen) (count bits : ℕ) (ink : Ink) (old new : List Ink)
-    → (bit_at bits k == 1) ≡ false → IsPaintedBelow k t p count bits ink old new
-    → IsPaintedBelow (k + 1) t p count bits ink old new
-unfolding any_below
-painted_same k t p count bits ink old new clear before = record {
-  long = before.long;
-  pixels = λ i lt.
-      rw (add-one, clear_covers p bits (i / t.choices.screen_width - t.choices.origin_y) k clear) (before.pixels i lt);
-}
+    → IsInkedBelow (k + 1) t p count bits ink old new
+inked_more k t p count bits ink columns rows old mid new whole some across down set before long filled =
+    painted_more k p.band p.height bits _ _ ink black old mid new set before long (λ i lt.
+    let x = i % t.choices.screen_width in
+    let y = i / t.choices.screen_width in
+    let px = x - t.choices.origin_x in
+    let a = nat_le t.choices.origin_x x in
+    let b = nat_le t.choices.origin_y y in
+    let c = nat_le p.column px && nat_lt px (p.column + count) in
+    let r = bit_rows p.band p.height (y - t.choices.origin_y) k in
+    let in_width : x < t.choices.screen_width = mod_below i t.choices.screen_width some in
+    let in_height : y < t.choices.screen_height =
+    div_below i t.choices.screen_width t.choices.screen_height some (omega (arith, whole, before.long, lt)) in
+    let here : (is_in_span columns x && is_in_span rows y) ≡ ((a && c) && (b && r)) =
+    rw (across, down) (ap₂ (λ v w. v && w)
+    (span_from t.choices.origin_x p.column count t.choices.screen_width x in_width)
+    (span_from t.choices.origin_y ((6 * p.band + k) * p.height) p.height t.choices.screen_height y in_height)) in
+    filled i lt
+    ∙ ap (λ (v : Bool). cond v ink (get_or mid i black)) (here ∙ and_cross a b c r ∙ sym (and_assoc (a && b) c r)))
 
 -- all six bits
-pub painted_all : (t : Display) (p : Pen) (count bits : ℕ) (ink : Ink) (old new : List Ink)
-    → IsPaintedBelow 6 t p count bits ink old new → (i : ℕ) → i < length old
+pub inked_all : (t : Display) (p : Pen) (count bits : ℕ) (ink : Ink) (old new : List Ink)
+    → IsInkedBelow 6 t p count bits ink old new → (i : ℕ) → i < length old
     → get_or new i black
     ≡ cond (is_from_origin t (i % t.choices.screen_width) (i / t.choices.screen_width)
     && covers p.column count p.band p.height bits (i % t.choices.screen_width - t.choices.origin_x)
     (i / t.choices.screen_width - t.choices.origin_y)) ink (get_or old i black)
 unfolding covers
-painted_all t p count bits ink old new painted i lt = painted.pixels i lt
+inked_all t p count bits ink old new painted i lt =
+    let px = i % t.choices.screen_width - t.choices.origin_x in
+    let py = i / t.choices.screen_width - t.choices.origin_y in
+    painted.pixels i lt
+    ∙ ap (λ (v : Bool). cond v ink (get_or old i black))
+    (and_assoc (is_from_origin t (i % t.choices.screen_width) (i / t.choices.screen_width))
+    (nat_le p.column px && nat_lt px (p.column + count)) (any_below 6 (bit_covers p.band p.height bits py)))
 
 empty_across : (o l c w x : ℕ) → x < w → min (o + l) w ≡ min (o + l + c) w
     → (nat_le o x && (nat_le l (x - o) && nat_lt (x - o) (l + c))) ≡ false
@@ -223,7 +162,7 @@ off_screen t p count bits columns ink xs whole some across empty i lt =
     ap (λ (v : Bool). cond v ink (get_or xs i black))
     (sym (and_first (nat_le t.choices.origin_x x) (nat_le t.choices.origin_y y)
     (nat_le p.column px && nat_lt px (p.column + count))
-    (any_below 6 (bit_covers p bits (y - t.choices.origin_y))) none))
+    (any_below 6 (bit_covers p.band p.height bits (y - t.choices.origin_y))) none))
 
 no_columns : (l line rows bits x y : ℕ) → covers l 0 line rows bits x y ≡ false
 unfolding covers

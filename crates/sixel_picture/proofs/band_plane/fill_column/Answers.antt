@@ -1,11 +1,11 @@
 use Rattle.std.proofs.Common.{◌≡◌, refl, arith}
-use Rattle.sixel_picture.proofs.ByteLemmas.{painted_none}
+use Rattle.sixel_picture.proofs.PaintLemmas.{painted_none}
 use Rattle.sixel_picture.proofs.BandLemmas.{covered_rows, painted_put}
 use Rattle.sixel_picture.proofs.band_plane.fill_column.Goals as goal
 
 pub loop-bit-init : goal.loop-bit-init
 loop-bit-init c =
-    painted_none c.args.width c.args.column 1 c.args.band c.args.bits c.args.register c.args.registers.now
+    painted_none c.args.band 1 c.args.bits _ _ c.args.register 0 c.args.registers.now
 
 pub loop-bit-preserved : goal.loop-bit-preserved
 loop-bit-preserved c =

@@ -6,7 +6,8 @@ use Rattle.std.proofs.lemmas.List.{take_at}
 use Rattle.sixel_picture.specs.declared.byte_plane.BytePlane.TheInside.{Inside}
 use Rattle.sixel_picture.specs.BytePlanes.{sheet_of_bytes}
 use Rattle.sixel_picture.specs.Sheets.{Sheet, painted_sheet}
-use Rattle.sixel_picture.proofs.ByteLemmas.{painted_none, painted_more, painted_same, painted_bytes}
+use Rattle.sixel_picture.proofs.ByteLemmas.{painted_bytes, run_more}
+use Rattle.sixel_picture.proofs.PaintLemmas.{painted_none, painted_same}
 use Rattle.sixel_picture.proofs.byte_plane.BytePlanePlane.paint_run.Goals as goal
 use Rattle.sixel_picture.proofs.byte_plane.BytePlanePlane.paint_run.Goals.{then-is_set, else-is_set}
 
@@ -14,8 +15,7 @@ pub loop-bit-init : goal.loop-bit-init
 loop-bit-init c = record {
   same_width = refl;
   same_height = refl;
-  painted = painted_none c.self.inside.width c.args.column c.args.count c.args.band c.args.bits c.args.register
-      c.self.inside.pixels.items;
+  painted = painted_none c.args.band 1 c.args.bits _ _ c.args.register 0 c.self.inside.pixels.items;
 }
 
 pub invariant_of-self : goal.invariant_of-self
@@ -59,7 +59,7 @@ loop-bit-preserved c = elim c.if-is_set.branch [
       record {
         same_width = ap (λ (s : Inside). s.width) w.self-inside-is ∙ c.loop-bit.invariant.same_width;
         same_height = ap (λ (s : Inside). s.height) w.self-inside-is ∙ c.loop-bit.invariant.same_height;
-        painted = painted_more c.loop-bit.bit c.self.inside.width c.args.column c.args.count c.args.band c.args.bits
+        painted = run_more c.loop-bit.bit c.self.inside.width c.args.column c.args.count c.args.band c.args.bits
             c.args.register _ c.self.inside.pixels.items c.loop-bit.self-inside.pixels.items
             c.if-is_set.self-inside.pixels.items
             some (omega arith) start set c.loop-bit.invariant.painted long (rw (items, ← stored) w.paint_row.ensures);
@@ -69,7 +69,8 @@ loop-bit-preserved c = elim c.if-is_set.branch [
       record {
         same_width = ap (λ (s : Inside). s.width) w.self-inside-is ∙ c.loop-bit.invariant.same_width;
         same_height = ap (λ (s : Inside). s.height) w.self-inside-is ∙ c.loop-bit.invariant.same_height;
-        painted = rw w.self-inside-is (painted_same c.loop-bit.bit _ _ _ _ _ _ _ _ clear c.loop-bit.invariant.painted);
+        painted = rw w.self-inside-is (painted_same c.loop-bit.bit c.args.band 1 c.args.bits _ _ c.args.register 0 _ _ _ clear
+            c.loop-bit.invariant.painted refl (λ i lt. refl));
       }
 ]
 

@@ -1,7 +1,9 @@
-use Rattle.std.proofs.Common.{◌≡◌, ◌==◌, ◌<◌, true, false, sym, ap, arith, rules}
+use Rattle.std.proofs.Common.{◌≡◌, ◌==◌, ◌<◌, true, false, refl, sym, ap, arith, rules}
 use Rattle.std.specs.Int.{bit_at}
 use Rattle.sixel_terminal.specs.Displays.{Display}
-use Rattle.sixel_terminal.proofs.PaintLemmas.{off_screen, painted_none, painted_more, painted_same, painted_all}
+use Rattle.sixel_picture.proofs.PaintLemmas.{painted_none, painted_same}
+use Rattle.sixel_terminal.specs.Canvases.{black}
+use Rattle.sixel_terminal.proofs.PaintLemmas.{inked_all, inked_more, off_screen}
 use Rattle.sixel_terminal.proofs.terminal.Terminal.paint_columns.Goals as goal
 use Rattle.sixel_terminal.proofs.terminal.Terminal.paint_columns.Goals.{then-is_set, else-is_set}
 
@@ -13,7 +15,8 @@ returns-then-columns c =
     c.requires some (rw same at c.new-columns.ensures) c.if-columns.true
 
 pub loop-bit-init : goal.loop-bit-init
-loop-bit-init c = painted_none c.args.self.now c.args.pen c.args.count c.args.bits c.args.ink.now c.args.inks.now
+loop-bit-init c =
+    painted_none c.args.pen.band c.args.pen.height c.args.bits _ _ c.args.ink.now black c.args.inks.now
 
 pub loop-bit-preserved : goal.loop-bit-preserved
 loop-bit-preserved c = elim c.if-is_set.branch [
@@ -22,19 +25,19 @@ loop-bit-preserved c = elim c.if-is_set.branch [
       let set : (bit_at c.args.bits c.loop-bit.bit == 1) ≡ true = sym w.if-is_set.ensures in
       let some : 0 < c.args.self.now.choices.screen_width = rw (← same) (search rules) in
       rw w.inks-is
-      (painted_more c.loop-bit.bit c.args.self.now c.args.pen c.args.count c.args.bits c.args.ink.now
+      (inked_more c.loop-bit.bit c.args.self.now c.args.pen c.args.count c.args.bits c.args.ink.now
       c.new-columns.result w.rows_of-rows.result c.args.inks.now c.loop-bit.inks w.fill.new.inks c.requires some
       (rw same at c.new-columns.ensures) w.rows_of-rows.ensures set c.loop-bit.invariant w.fill.auto.inks
       (rw same at w.fill.ensures))
   | else-is_set w ↦
       let clear : (bit_at c.args.bits c.loop-bit.bit == 1) ≡ false = sym w.if-is_set.ensures in
       rw w.inks-is
-      (painted_same c.loop-bit.bit c.args.self.now c.args.pen c.args.count c.args.bits c.args.ink.now c.args.inks.now
-      c.loop-bit.inks clear c.loop-bit.invariant)
+      (painted_same c.loop-bit.bit c.args.pen.band c.args.pen.height c.args.bits _ _ c.args.ink.now black c.args.inks.now
+      c.loop-bit.inks c.loop-bit.inks clear c.loop-bit.invariant refl (λ i lt. refl))
 ]
 
 pub returns : goal.returns
 returns c =
     let done : c.loop-bit.bit ≡ 6 = omega arith in
-    painted_all c.args.self.now c.args.pen c.args.count c.args.bits c.args.ink.now c.args.inks.now c.loop-bit.inks
+    inked_all c.args.self.now c.args.pen c.args.count c.args.bits c.args.ink.now c.args.inks.now c.loop-bit.inks
     (rw done at c.loop-bit.invariant)
