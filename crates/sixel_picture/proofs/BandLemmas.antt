@@ -1,5 +1,6 @@
 -- On registers and a byte of painted rows for each column and band, that stand for a sheet.
-use Rattle.std.proofs.Common.{◌≡◌, ◌==◌, ◌≢◌, ℕ, zero, suc, ◌+◌, ◌*◌, ◌/◌, ◌%◌, ◌<◌, ◌≤◌, Bool, true, false, ◌&&◌, ◌||◌, cond}
+use Rattle.std.proofs.Common.{◌≡◌, ◌==◌, ◌≢◌, ℕ, zero, suc, ◌+◌, ◌*◌, ◌/◌, ◌%◌, ◌<◌, ◌≤◌, Bool, true, false, ◌&&◌}
+use Rattle.std.proofs.Common.{◌||◌, cond}
 use Rattle.std.proofs.Common.{Option, Some, None, List, length, get_or, replicate, nat_le, nat_lt}
 use Rattle.std.proofs.Common.{if◌then◌else◌, inl, inr, refl, sym, ap, ap₂, ◌∙◌, arith, max, mul_comm}
 use Rattle.std.specs.Int.{bit_at, div_ceil}
@@ -8,7 +9,8 @@ use Rattle.sixel_picture.specs.Positions.{any_below}
 use Rattle.std.specs.Option.{option_flatten}
 use Rattle.std.proofs.lemmas.Bool.{and_parts, and_from, leb-true, ltb-true, le-leb, lt-ltb, eqb-true, eq-eqb, cases_eq}
 use Rattle.std.proofs.lemmas.List.{get_or-replicate}
-use Rattle.std.proofs.lemmas.Nat.{div-add-mod', div_below, mod_below, div-mul-add, mod-mul-add, mul-add-lt, row_fits_turned}
+use Rattle.std.proofs.lemmas.Nat.{div-add-mod', div_below, mod_below, div-mul-add, mod-mul-add, mul-add-lt}
+use Rattle.std.proofs.lemmas.Nat.{row_fits_turned}
 use Rattle.std.proofs.lemmas.Nat.Bits.{bit_at_or, bit_at-lt, bit_at-zero, same_from_bits_below}
 use Rattle.sixel_picture.specs.Geometry.{covers}
 use Rattle.sixel_picture.specs.Lanes.{AreChanged}
@@ -86,7 +88,8 @@ covered_band left count band bits x y =
     let parts =
     and_parts ((nat_le left x && nat_lt x (left + count)) && (nat_le band (y / 6) && nat_lt (y / 6) (band + 1)))
     (bit_at bits (y % 6) == 1) t in
-    let both = and_parts (nat_le left x && nat_lt x (left + count)) (nat_le band (y / 6) && nat_lt (y / 6) (band + 1)) parts.0 in
+    let both = and_parts (nat_le left x && nat_lt x (left + count)) (nat_le band (y / 6) && nat_lt (y / 6) (band + 1))
+    parts.0 in
     let columns = and_parts (nat_le left x) (nat_lt x (left + count)) both.0 in
     let rows = and_parts (nat_le band (y / 6)) (nat_lt (y / 6) (band + 1)) both.1 in
     let low = leb-true _ _ rows.0 in
@@ -112,7 +115,8 @@ greater a (suc (suc b)) p q = absurd (omega arith)
 
 or_bit_of : (old bits k : ℕ) → (bit_at (bit_or old bits) k == 1) ≡ ((bit_at bits k == 1) || (bit_at old k == 1))
 or_bit_of old bits k =
-    ap (λ n. n == 1) (bit_at_or old bits k) ∙ greater (bit_at old k) (bit_at bits k) (bit_at-lt old k) (bit_at-lt bits k)
+    ap (λ n. n == 1) (bit_at_or old bits k) ∙ greater (bit_at old k) (bit_at bits k) (bit_at-lt old k)
+    (bit_at-lt bits k)
 
 -- after all six bits the pixels that the run covers have the register
 pub covered_rows : (w left count band bits register : ℕ) (old new : List ℕ)

@@ -144,7 +144,8 @@ run_more k w left count band bits register start old mid new some fits at set be
     let one : (6 * band + k) * 1 ≡ 6 * band + k = omega arith in
     painted_more k band 1 bits _ _ register 0 old mid new set before long
     (λ i lt. row i lt
-    ∙ ap (λ (v : Bool). cond v register (get_or mid i 0)) (rw (at, one) (in_row w (6 * band + k) left count i some fits)))
+    ∙ ap (λ (v : Bool). cond v register (get_or mid i 0))
+    (rw (at, one) (in_row w (6 * band + k) left count i some fits)))
 
 byte_or : (t : Bool) (r b : ℕ) → register_of_byte r ≡ Some r
     → register_of_byte (cond t r b) ≡ cond t (Some r) (register_of_byte b)

@@ -10,9 +10,12 @@ use Rattle.std.proofs.lemmas.Bool.{cases_lt, cases_eq, eq-eqb, ne_eqb, cond-true
 use Rattle.std.proofs.lemmas.List.{length-map}
 use Rattle.std.proofs.lemmas.Nat.Bits.{and_pow, bit_at-lt}
 use Rattle.std.proofs.lemmas.Nat.{one_shl, pow_pos}
-use Rattle.std.proofs.lemmas.Simd.{length-put_chunk, get_or-put_chunk_below, get_or-put_chunk_at, get_or-put_chunk_above}
-use Rattle.std.proofs.lemmas.Simd.{length-replicate, get_or-replicate, length-chunk, get_or-chunk, length-zip2, get_or-zip2}
-use Rattle.std.proofs.lemmas.Simd.{zip2_splat, bitmask_splat, first_set_mask_l, map-map, run_in_chunk_fails, run_in_chunk_stops}
+use Rattle.std.proofs.lemmas.Simd.{length-put_chunk, get_or-put_chunk_below, get_or-put_chunk_at}
+use Rattle.std.proofs.lemmas.Simd.{get_or-put_chunk_above}
+use Rattle.std.proofs.lemmas.Simd.{length-replicate, get_or-replicate, length-chunk, get_or-chunk, length-zip2}
+use Rattle.std.proofs.lemmas.Simd.{get_or-zip2}
+use Rattle.std.proofs.lemmas.Simd.{zip2_splat, bitmask_splat, first_set_mask_l, map-map, run_in_chunk_fails}
+use Rattle.std.proofs.lemmas.Simd.{run_in_chunk_stops}
 use lib.Count.{count_trailing_zeros}
 use lib.Lanes.{chunk, put_chunk, mask_l, top, zip2}
 use Rattle.sixel_picture.specs.Lanes.{AreChanged, NonePasses, IsFirstAt, IsFirst}

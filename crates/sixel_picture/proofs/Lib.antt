@@ -12,13 +12,13 @@ pub mod KnownLemmas
 pub mod LatestLemmas
 pub mod AppendLemmas
 pub mod RuleLemmas
-pub mod Rows
+mod WorkedRules
 pub mod LeftLemmas
 pub mod CoverLemmas
 pub mod FirstLemmas
 pub mod LastLemmas
 pub mod KeepLemmas
-mod PpmRows
+mod WorkedPpms
 pub mod PpmHeaderLemmas
 pub mod PpmColourLemmas
 pub mod PpmSampleLemmas

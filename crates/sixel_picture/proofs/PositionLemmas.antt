@@ -171,7 +171,8 @@ holds_there : {X : Type 0} (P : List X → X → Type 0) (xs : List X) (x : X) (
 holds_there P xs x i e h =
     let item : h.item ≡ x = some_same _ _ (sym h.here ∙ ap (slice_get (xs ++ x ∷ [])) e ∙ get_end xs x) in
     subst (P xs) item
-    (subst (λ (t : List _). P t h.item) (ap (λ (n : ℕ). take n (xs ++ x ∷ [])) e ∙ take-append_seam xs (x ∷ [])) h.holds)
+    (subst (λ (t : List _). P t h.item) (ap (λ (n : ℕ). take n (xs ++ x ∷ [])) e ∙ take-append_seam xs (x ∷ []))
+    h.holds)
   where
     some_same : {A : Type 0} (a b : A) → Some a ≡ Some b → a ≡ b
     some_same a b h = cc

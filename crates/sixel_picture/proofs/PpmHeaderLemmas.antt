@@ -181,10 +181,10 @@ ended_read Width p b rest false i d e w = simp (i, d, e, w)
 ended_read Height p b rest false i d e w = simp (i, d, e, w)
 ended_read Maxval p b rest false i d e w = simp (i, d, e, w)
 ended_read Width p b rest true i d e w =
-    simp (i, d, e, w) (simp (i, d, e, w) at
+    simp (i, d, e, w) (simp (i, e) at
     (height_begun (record p { width = p.value }) b rest (is_space b) (b == 35) i refl refl))
 ended_read Height p b rest true i d e w =
-    simp (i, d, e, w) (simp (i, d, e, w) at
+    simp (i, d, e, w) (simp (i, e) at
     (maxval_begun (record p { height = p.value }) b rest (is_space b) (b == 35) i refl refl))
 ended_read Maxval p b rest true i d e w = simp (i, d, e, w)
 

@@ -190,8 +190,8 @@ fn shows_in_turn(alloc: Global, binds_at_showing: bool, expected: Parts) -> Resu
     Ok(first.or_else(|| shows(alloc, &terminal, &events, expected)) == Some(true))
 }
 
-/// Under `rt try --test --fail-alloc N` the N-th growth is refused: the first four make the terminal and the events, and
-/// those of `show` are 5, 6 and 7. No other is refused.
+/// Under `rt try --test --fail-alloc N` the N-th growth is refused: the first four make the terminal and the events,
+/// and those of `show` are 5, 6 and 7. No other is refused.
 #[test]
 fn a_refused_growth_is_answered(rt: HostRuntime) -> Result<(), Fail> {
     assert!(rt; shows_in_turn(rt.alloc(), false, BLACK)?);

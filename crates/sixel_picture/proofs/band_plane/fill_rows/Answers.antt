@@ -24,12 +24,13 @@ loop-bit-preserved c = elim c.if-is_set.branch [
   | then-is_set w ↦
       let set : (bit_at c.args.bits c.loop-bit.bit == 1) ≡ true = sym w.if-is_set.ensures in
       rw w.registers-is (run_more c.loop-bit.bit c.args.width c.args.column c.args.count c.args.band c.args.bits
-      c.args.register _ c.args.registers.now c.loop-bit.registers _ c.requires.some c.requires.columns refl set c.loop-bit.invariant
+      c.args.register _ c.args.registers.now c.loop-bit.registers _ c.requires.some c.requires.columns refl set
+      c.loop-bit.invariant
       w.fill.ensures.long w.fill.ensures.changed)
   | else-is_set w ↦
       let clear : (bit_at c.args.bits c.loop-bit.bit == 1) ≡ false = sym w.if-is_set.ensures in
-      rw w.registers-is (painted_same c.loop-bit.bit c.args.band 1 c.args.bits _ _ c.args.register 0 _ _ _ clear c.loop-bit.invariant refl
-      (λ i lt. refl))
+      rw w.registers-is (painted_same c.loop-bit.bit c.args.band 1 c.args.bits _ _ c.args.register 0 _ _ _ clear
+      c.loop-bit.invariant refl (λ i lt. refl))
 ]
 
 pub returns : goal.returns

@@ -8,5 +8,6 @@ returns c =
     let inside = c.self.inside in
     let full : IsFull _ = rw (← c.self.view_is) at c.requires in
     let some : 0 < inside.width = search rules in
-    full_bands inside.width inside.height inside.registers.items inside.coverage.items some c.self.invariant.each_pixel full
+    full_bands inside.width inside.height inside.registers.items inside.coverage.items some
+    c.self.invariant.each_pixel full
     ∙ ap (λ (s : Sheet). s.cells) c.self.view_is

@@ -27,7 +27,8 @@ fill_run-requires-clause-rows c = λ k small set.
     let row = c.requires.rows k small set in
     let here : 6 * c.args.band + k < inside.height = omega (arith, high, row) in
     let room = row_fits_turned (6 * c.args.band + k) inside.width inside.width inside.height here (omega arith) in
-    let stored : length c.deref_mut-2.result.now ≡ length inside.registers.items = ap length c.deref_mut-2.ensures.value in
+    let stored : length c.deref_mut-2.result.now ≡ length inside.registers.items =
+    ap length c.deref_mut-2.ensures.value in
     omega (arith, room, stored, c.self.invariant.each_pixel)
 
 pub returns : goal.returns

@@ -39,7 +39,8 @@ returns-then-is_set c =
     ap (λ b. bit_at b (c.args.y % 6) == 1) (sym (get_or_read inside.coverage.items _ _ byte c.index.ensures 0))
     ∙ sym c.if-is_set.ensures in
     painted _ _ _ set (get_or_read inside.registers.items _ _ pixel c.index-then-is_set.ensures 0)
-    ∙ sym (cell_at_bands inside.width inside.height inside.registers.items inside.coverage.items c.args.x c.args.y in_x in_y)
+    ∙ sym (cell_at_bands inside.width inside.height inside.registers.items inside.coverage.items c.args.x c.args.y
+    in_x in_y)
     ∙ ap (λ (s : Sheet). cell s c.args.x c.args.y) c.self.view_is
 
 pub returns-else-is_set : goal.returns-else-is_set
@@ -55,5 +56,6 @@ returns-else-is_set c =
     ap (λ b. bit_at b (c.args.y % 6) == 1) (sym (get_or_read inside.coverage.items _ _ byte c.index.ensures 0))
     ∙ sym c.if-is_set.ensures in
     blank _ _ clear
-    ∙ sym (cell_at_bands inside.width inside.height inside.registers.items inside.coverage.items c.args.x c.args.y in_x in_y)
+    ∙ sym (cell_at_bands inside.width inside.height inside.registers.items inside.coverage.items c.args.x c.args.y
+    in_x in_y)
     ∙ ap (λ (s : Sheet). cell s c.args.x c.args.y) c.self.view_is

@@ -69,7 +69,8 @@ loop-bit-preserved c = elim c.if-is_set.branch [
       record {
         same_width = ap (λ (s : Inside). s.width) w.self-inside-is ∙ c.loop-bit.invariant.same_width;
         same_height = ap (λ (s : Inside). s.height) w.self-inside-is ∙ c.loop-bit.invariant.same_height;
-        painted = rw w.self-inside-is (painted_same c.loop-bit.bit c.args.band 1 c.args.bits _ _ c.args.register 0 _ _ _ clear
+        painted = rw w.self-inside-is
+            (painted_same c.loop-bit.bit c.args.band 1 c.args.bits _ _ c.args.register 0 _ _ _ clear
             c.loop-bit.invariant.painted refl (λ i lt. refl));
       }
 ]

@@ -1,7 +1,8 @@
 use Rattle.std.proofs.Common.{ℕ, ◌≡◌, ◌<◌, ◌∙◌, length, refl, take, arith}
 use Rattle.std.proofs.lemmas.Result.{err_from_is_err_and}
 use Rattle.sixel_grammar.proofs.Sources.{take_none}
-use Rattle.sixel_picture.proofs.PpmReadLemmas.{answered, holds_on, in_samples_still, samples_begin, samples_fault_counts}
+use Rattle.sixel_picture.proofs.PpmReadLemmas.{answered, holds_on, in_samples_still, samples_begin}
+use Rattle.sixel_picture.proofs.PpmReadLemmas.{samples_fault_counts}
 use Rattle.sixel_picture.proofs.PpmReadLemmas.{samples_finished, samples_go_on, samples_refused}
 use Rattle.sixel_picture.proofs.ppm.read.read_samples.Goals as goal
 
@@ -10,7 +11,7 @@ loop-samples-init g c = (samples_begin _ c.args.begun, refl)
 
 pub returns-then-count-eq0-clause-bytes : goal.returns-then-count-eq0-clause-bytes
 returns-then-count-eq0-clause-bytes g c =
-    let filled = answered c.fill.result c.map_err.result c.in_ok-count.count _ c.in_ok-count.was c.map_err.ensures.cases in
+    let filled = answered _ _ _ _ c.in_ok-count.was c.map_err.ensures.cases in
     let bytes = rw filled at c.fill.ensures.bytes in
     let zero : c.in_ok-count.count ≡ 0 = omega (arith, c.if-count-eq0.true) in
     let room : 0 < length c.fill.new.piece = omega arith in
@@ -21,7 +22,7 @@ returns-then-count-eq0-clause-bytes g c =
 
 pub returns-in_err-feed-clause-bytes : goal.returns-in_err-feed-clause-bytes
 returns-in_err-feed-clause-bytes g c =
-    let filled = answered c.fill.result c.map_err.result c.in_ok-count.count _ c.in_ok-count.was c.map_err.ensures.cases in
+    let filled = answered _ _ _ _ c.in_ok-count.was c.map_err.ensures.cases in
     let bytes = rw filled at c.fill.ensures.bytes in
     let exit = c.from_residual-in_err-feed in
     let failed = err_from_is_err_and exit.result exit.ensures.1 in
@@ -32,7 +33,7 @@ returns-in_err-feed-clause-bytes g c =
 
 pub returns-in_err-feed-clause-failures : goal.returns-in_err-feed-clause-failures
 returns-in_err-feed-clause-failures g c =
-    let filled = answered c.fill.result c.map_err.result c.in_ok-count.count _ c.in_ok-count.was c.map_err.ensures.cases in
+    let filled = answered _ _ _ _ c.in_ok-count.was c.map_err.ensures.cases in
     let failures = rw filled at c.fill.ensures.failures in
     let exit = c.from_residual-in_err-feed in
     let failed = err_from_is_err_and exit.result exit.ensures.1 in
@@ -44,10 +45,11 @@ returns-in_err-feed-clause-failures g c =
 
 pub loop-samples-preserved : goal.loop-samples-preserved
 loop-samples-preserved g c =
-    let filled = answered c.fill.result c.map_err.result c.in_ok-count.count _ c.in_ok-count.was c.map_err.ensures.cases in
+    let filled = answered _ _ _ _ c.in_ok-count.was c.map_err.ensures.cases in
     let bytes = rw filled at c.fill.ensures.bytes in
     let failures = rw filled at c.fill.ensures.failures in (
-      samples_go_on _ _ _ c.args.begun c.loop-samples.samples c.feed.new.self (take c.in_ok-count.count c.fill.new.piece)
+      samples_go_on _ _ _ c.args.begun c.loop-samples.samples c.feed.new.self
+          (take c.in_ok-count.count c.fill.new.piece)
           c.loop-samples.invariant.0
           bytes.0 c.in_ok-feed.ensures.read,
       failures ∙ c.loop-samples.invariant.1,

@@ -32,8 +32,8 @@ loop-bit-preserved c = elim c.if-is_set.branch [
   | else-is_set w ↦
       let clear : (bit_at c.args.bits c.loop-bit.bit == 1) ≡ false = sym w.if-is_set.ensures in
       rw w.inks-is
-      (painted_same c.loop-bit.bit c.args.pen.band c.args.pen.height c.args.bits _ _ c.args.ink.now black c.args.inks.now
-      c.loop-bit.inks c.loop-bit.inks clear c.loop-bit.invariant refl (λ i lt. refl))
+      (painted_same c.loop-bit.bit c.args.pen.band c.args.pen.height c.args.bits _ _ c.args.ink.now black
+      c.args.inks.now c.loop-bit.inks c.loop-bit.inks clear c.loop-bit.invariant refl (λ i lt. refl))
 ]
 
 pub returns : goal.returns

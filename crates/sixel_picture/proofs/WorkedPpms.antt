@@ -1,4 +1,4 @@
--- Worked rows of the reading of picture files.
+-- Worked strings of the reading of picture files.
 use Rattle.std.proofs.Common.{◌≡◌, ◌+◌, ◌≤◌, ◌∙◌, ℕ, zero, suc, true, false, nat_lt, List, [], ◌∷◌, ◌++◌, Result, Ok}
 use Rattle.std.proofs.Common.{refl, ap, arith}
 use Rattle.std.specs.Prelude.{Some, None, codes, replicate}

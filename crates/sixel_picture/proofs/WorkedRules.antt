@@ -24,8 +24,14 @@ unfolding Rules.is_covered any_at any_below passes_at falls touches covers colum
 covered_there = refl
 
 uncovered_there : HoldsAtPosition (Rules.Breaks 16 12) uncovered 5
-unfolding Rules.Breaks Rules.BreaksUncovered Rules.raster_before earliest Rules.is_covered any_at any_below passes_at falls touches covers column band since
-uncovered_there = record { item = Finish false; here = refl; holds = (refl, (1, 0, record { inside = refl; blank = refl })) }
+unfolding Rules.Breaks Rules.BreaksUncovered Rules.raster_before earliest Rules.is_covered any_at any_below passes_at
+    falls touches covers column band since
+uncovered_there = record {
+  item = Finish false;
+  here = refl;
+  holds =
+      (refl, (1, 0, record { inside = refl; blank = refl }));
+}
 
 -- EPq"1;1;1;2#0;2;0;0;0#0@E\ : the bits of one column
 abbrev uncovered_row : List Event
@@ -33,7 +39,8 @@ uncovered_row =
     start ∷ Step (Raster 1 1 1 2) ∷ Step (Define 0 2 0 0 0) ∷ Step (Select 0) ∷ Step (Sixel 1) ∷ Finish false ∷ []
 
 uncovered_row_there : HoldsAtPosition (Rules.Breaks 16 12) uncovered_row 5
-unfolding Rules.Breaks Rules.BreaksUncovered Rules.raster_before earliest Rules.is_covered any_at any_below passes_at falls touches covers column band since
+unfolding Rules.Breaks Rules.BreaksUncovered Rules.raster_before earliest Rules.is_covered any_at any_below passes_at
+    falls touches covers column band since
 uncovered_row_there =
     record { item = Finish false; here = refl; holds = (refl, (0, 1, record { inside = refl; blank = refl })) }
 
@@ -48,7 +55,8 @@ unselected_there = record { item = Step (Sixel 1); here = refl; holds = refl }
 -- EPq"1;1;1;1#1;2;100;0;0#1#0;2;0;0;0@E\ : nor does it leave the selection alone
 abbrev named : List Event
 named =
-    start ∷ Step (Raster 1 1 1 1) ∷ Step (Define 1 2 100 0 0) ∷ Step (Select 1) ∷ Step (Define 0 2 0 0 0) ∷ Step (Sixel 1)
+    start ∷ Step (Raster 1 1 1 1) ∷ Step (Define 1 2 100 0 0) ∷ Step (Select 1) ∷ Step (Define 0 2 0 0 0)
+    ∷ Step (Sixel 1)
     ∷ Finish false ∷ []
 
 named_there : HoldsAtPosition (Rules.Breaks 16 8) named 5
@@ -58,7 +66,8 @@ named_there = record { item = Step (Sixel 1); here = refl; holds = refl }
 -- EPq"1;1;1;1#1#0;2;0;0;0#1;2;100;0;0@E\ : the register that was selected is defined last
 abbrev selected : List Event
 selected =
-    start ∷ Step (Raster 1 1 1 1) ∷ Step (Select 1) ∷ Step (Define 0 2 0 0 0) ∷ Step (Define 1 2 100 0 0) ∷ Step (Sixel 1)
+    start ∷ Step (Raster 1 1 1 1) ∷ Step (Select 1) ∷ Step (Define 0 2 0 0 0) ∷ Step (Define 1 2 100 0 0)
+    ∷ Step (Sixel 1)
     ∷ Finish false ∷ []
 
 known_there : Rules.known selected ≡ Some 1
@@ -66,8 +75,15 @@ unfolding Rules.known latest
 known_there = refl
 
 left_there : Rules.picture_left 16 selected
-    ≡ record { width = 1; height = 1; palette = Some (Rgb 0 0 0) ∷ Some (Rgb 100 0 0) ∷ replicate 14 None; registers = 1 ∷ [] }
-unfolding Rules.picture_left Rules.palette_left Rules.colour_of Rules.definition_of latest Rules.raster_before earliest row_by_row Rules.register_at last_at last_below at_position falls touches covers column band since any_below Rules.known
+    ≡ record {
+      width = 1;
+      height = 1;
+      palette = Some (Rgb 0 0 0) ∷ Some (Rgb 100 0 0) ∷ replicate 14 None;
+      registers = 1 ∷ [];
+    }
+unfolding Rules.picture_left Rules.palette_left Rules.colour_of Rules.definition_of latest Rules.raster_before
+    earliest row_by_row Rules.register_at last_at last_below at_position falls touches covers column band since
+    any_below Rules.known
 left_there = refl
 
 -- EPq"1;1;1;1#0@E\
@@ -81,15 +97,18 @@ undefined_there = record { item = Step (Sixel 1); here = refl; holds = refl }
 -- EPq"1;1;2;1#0;2;0;0;0#1;2;100;0;0#0@#1@#0;2;1;0;0E\ : the register isn't the selected one
 abbrev redefined : List Event
 redefined =
-    start ∷ Step (Raster 1 1 2 1) ∷ Step (Define 0 2 0 0 0) ∷ Step (Define 1 2 100 0 0) ∷ Step (Select 0) ∷ Step (Sixel 1)
+    start ∷ Step (Raster 1 1 2 1) ∷ Step (Define 0 2 0 0 0) ∷ Step (Define 1 2 100 0 0) ∷ Step (Select 0)
+    ∷ Step (Sixel 1)
     ∷ Step (Select 1) ∷ Step (Sixel 1) ∷ Step (Define 0 2 1 0 0) ∷ Finish false ∷ []
 
 redefined_there : HoldsAtPosition (Rules.Breaks 16 10) redefined 8
-unfolding Rules.Breaks Rules.breaks_redefined Rules.is_painted_in any_at any_below passes_at Rules.known latest Rules.definition_of
+unfolding Rules.Breaks Rules.breaks_redefined Rules.is_painted_in any_at any_below passes_at Rules.known latest
+    Rules.definition_of
 redefined_there = record { item = Step (Define 0 2 1 0 0); here = refl; holds = refl }
 
 -- the same colour again is no other
-defined_again : Rules.breaks_redefined (start ∷ Step (Define 0 2 0 0 0) ∷ Step (Select 0) ∷ Step (Sixel 1) ∷ []) (Step (Define 0 2 0 0 0)) ≡ false
+defined_again : Rules.breaks_redefined (start ∷ Step (Define 0 2 0 0 0) ∷ Step (Select 0) ∷ Step (Sixel 1) ∷ [])
+    (Step (Define 0 2 0 0 0)) ≡ false
 unfolding Rules.breaks_redefined Rules.is_painted_in any_at any_below passes_at Rules.known latest Rules.definition_of
 defined_again = refl
 
@@ -103,11 +122,17 @@ below_there = record { item = Step (Sixel 2); here = refl; holds = (0, 1, record
 
 -- EPq"1;1;1;1#0;2;0;0;0#0!2@E\ : the second column is outside
 abbrev outside : List Event
-outside = start ∷ Step (Raster 1 1 1 1) ∷ Step (Define 0 2 0 0 0) ∷ Step (Select 0) ∷ Step (Repeat 2 1) ∷ Finish false ∷ []
+outside = start ∷ Step (Raster 1 1 1 1) ∷ Step (Define 0 2 0 0 0) ∷ Step (Select 0) ∷ Step (Repeat 2 1) ∷ Finish false
+    ∷ []
 
 outside_there : HoldsAtPosition (Rules.Breaks 16 11) outside 4
 unfolding Rules.Breaks Rules.BreaksOutside Rules.raster_before earliest falls touches covers column band since any_below
-outside_there = record { item = Step (Repeat 2 1); here = refl; holds = (1, 0, record { painted = refl; outside = refl }) }
+outside_there = record {
+  item = Step (Repeat 2 1);
+  here = refl;
+  holds =
+      (1, 0, record { painted = refl; outside = refl });
+}
 
 -- EPqE\
 abbrev empty : List Event
