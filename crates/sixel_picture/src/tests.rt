@@ -5,7 +5,7 @@ ghost use Rattle.std.specs.Prelude.{None};
 use crate::byte_plane::BytePlane;
 use crate::colour::{Colour, Parts};
 use crate::palette::Palette;
-use crate::picture::{Picture, PictureReason};
+use crate::picture::{Picture, PictureFault, PictureReason};
 use crate::plane::Plane;
 use crate::ppm::{PpmFault, write_ppm, write_ppm_colours};
 use sixel_grammar::{DeviceFault, Sink, SliceSink};
@@ -72,23 +72,24 @@ fn red_and_blue() -> Palette {
     palette
 }
 
-/// Why parts in red and blue make no picture, if they come back as they were.
+/// Whether a fault hands back these parts.
+fn hands_back(fault: &PictureFault, palette: &Palette, registers: &[u8]) -> bool {
+    fault.palette == *palette && fault.registers.as_slice() == registers
+}
+
+/// Why parts make no picture, if they come back as they were.
 fn reason_of(
     alloc: Global,
     width: u32,
     height: u32,
+    palette: Palette,
     registers: &[u8],
 ) -> Result<Option<PictureReason>, AllocError> {
-    let palette = red_and_blue();
-    Ok(
-        match Picture::new(width, height, palette, registers.to_vec(alloc)?) {
-            Ok(_) => None,
-            Err(fault) => {
-                let is_same = fault.palette == palette && fault.registers.as_slice() == registers;
-                is_same.then_some(fault.reason)
-            }
-        },
-    )
+    let made = Picture::new(width, height, palette, registers.to_vec(alloc)?);
+    Ok(match made {
+        Ok(_) => None,
+        Err(fault) => hands_back(&fault, &palette, registers).then_some(fault.reason),
+    })
 }
 
 #[test]
@@ -106,9 +107,16 @@ fn pictures_name_the_first_reason(rt: HostRuntime) -> Result<(), Fail> {
         (1, 1, [1].as_slice(), PictureReason::NoColour),
         (2, 1, [3, 15].as_slice(), PictureReason::NoColour),
     ] {
-        let reason = reason_of(rt.alloc(), width, height, registers)?;
+        let reason = reason_of(rt.alloc(), width, height, red_and_blue(), registers)?;
         assert_eq!(rt; reason, Some(expected), "{width} by {height}");
     }
+    Ok(())
+}
+
+#[test]
+fn a_picture_wants_a_colour_for_each_register(rt: HostRuntime) -> Result<(), Fail> {
+    let reason = reason_of(rt.alloc(), 1, 1, Palette::new(), &[3])?;
+    assert!(rt; reason == Some(PictureReason::NoColour));
     Ok(())
 }
 
@@ -124,22 +132,13 @@ fn picture_of(
     Ok(Picture::new(width, height, palette, registers).or(Err("a picture"))?)
 }
 
-#[test]
-fn a_picture_wants_a_colour_for_each_register(rt: HostRuntime) -> Result<(), Fail> {
-    match Picture::new(1, 1, Palette::new(), [3].to_vec(rt.alloc())?) {
-        Ok(_) => assert!(rt; false, "a picture"),
-        Err(fault) => assert_eq!(rt; fault.reason, PictureReason::NoColour),
-    }
-    Ok(())
-}
-
 /// The register of a pixel, where it lies in the picture.
 fn register_of(picture: &Picture, x: u32, y: u32) -> Option<u8> {
-    if x < picture.width() && y < picture.height() {
-        Some(picture.register_at(x, y))
-    } else {
-        None
+    let (width, height) = (picture.width(), picture.height());
+    if x >= width || y >= height {
+        return None;
     }
+    Some(picture.register_at(x, y))
 }
 
 #[test]
@@ -179,39 +178,50 @@ fn writes(
     write_ppm(picture, &mut sink) == answer && sink.written() == text
 }
 
-/// Whether the picture is written so into a sink with room for it.
-fn is_written(picture: &Picture, answer: Result<(), PpmFault>, text: &[u8]) -> bool {
-    writes(picture, &mut [0; 32], 32, None, answer, text)
+/// Whether the picture of these registers side by side is written so into a sink with room for it.
+fn is_written(
+    alloc: Global,
+    palette: Palette,
+    registers: &[u8],
+    answer: Result<(), PpmFault>,
+    text: &[u8],
+) -> Result<bool, Fail> {
+    let width = registers.len().min(2) as u32;
+    let picture = picture_of(alloc, width, 1, palette, registers)?;
+    Ok(writes(&picture, &mut [0; 32], 32, None, answer, text))
+}
+
+/// A palette in which register 0 is black, and register 1 a hue.
+fn black_and_hue() -> Palette {
+    let mut palette = Palette::new();
+    set(&mut palette, 0, Colour::rgb(0, 0, 0));
+    set(&mut palette, 1, Colour::hls(120, 50, 100));
+    palette
 }
 
 #[test]
 fn pictures_are_written_as_ppm(rt: HostRuntime) -> Result<(), Fail> {
-    let picture = picture_of(rt.alloc(), 2, 1, red_and_blue(), &[0, 3])?;
-    assert!(rt; is_written(&picture, Ok(()), TWO_PIXELS));
-
-    let mut palette = Palette::new();
-    set(&mut palette, 0, Colour::rgb(0, 0, 0));
-    set(&mut palette, 1, Colour::hls(120, 50, 100));
-    let black = picture_of(rt.alloc(), 1, 1, palette, &[0])?;
-    assert!(rt;
-        is_written(&black, Ok(()), BLACK),
-        "a hue that no pixel has"
-    );
-    let hue = picture_of(rt.alloc(), 1, 1, palette, &[1])?;
-    assert!(rt; is_written(&hue, Err(PpmFault::NotRgb), b""));
-    let last_hue = picture_of(rt.alloc(), 2, 1, palette, &[0, 1])?;
-    assert!(rt; is_written(&last_hue, Err(PpmFault::NotRgb), b""));
+    let refused = Err(PpmFault::NotRgb);
+    for (palette, registers, answer, text) in [
+        (red_and_blue(), [0, 3].as_slice(), Ok(()), TWO_PIXELS),
+        // A hue that no pixel has.
+        (black_and_hue(), [0].as_slice(), Ok(()), BLACK),
+        (black_and_hue(), [1].as_slice(), refused, b"".as_slice()),
+        (black_and_hue(), [0, 1].as_slice(), refused, b"".as_slice()),
+    ] {
+        assert!(rt; is_written(rt.alloc(), palette, registers, answer, text)?);
+    }
     Ok(())
 }
 
 /// Whether the colours are written so, after what the sink has.
 fn writes_colours(
     sink: &mut SliceSink<'_>,
-    colours: [Colour; 2],
+    colours: &[Colour; 2],
     answer: Result<(), PpmFault>,
     text: &[u8],
 ) -> bool {
-    write_ppm_colours(2, 1, &colours, sink) == answer && sink.written() == text
+    write_ppm_colours(2, 1, colours, sink) == answer && sink.written() == text
 }
 
 #[test]
@@ -221,8 +231,8 @@ fn colours_are_written_as_ppm(rt: HostRuntime) -> Result<(), Fail> {
     let hue = Colour::hls(360, 50, 100).ok_or("a hue")?;
     let mut room = [0; 32];
     let mut sink = SliceSink::new(&mut room, 32, None);
-    assert!(rt; writes_colours(&mut sink, [red, hue], Err(PpmFault::NotRgb), b""));
-    assert!(rt; writes_colours(&mut sink, [red, blue], Ok(()), TWO_PIXELS));
+    assert!(rt; writes_colours(&mut sink, &[red, hue], Err(PpmFault::NotRgb), b""));
+    assert!(rt; writes_colours(&mut sink, &[red, blue], Ok(()), TWO_PIXELS));
     Ok(())
 }
 
@@ -286,8 +296,8 @@ impl Sink for CountingSink {
 /// The text of 300 by 200 blue pixels: 180,015 bytes.
 fn large_text(alloc: Global) -> Result<Vec<u8>, AllocError> {
     let mut text = Vec::from_slice(alloc, b"P6\n300 200\n100\n")?;
-    for index in 0..3 * 300 * 200 {
-        text.push(if index % 3 == 2 { 100 } else { 0 })?;
+    for _ in 0..60_000 {
+        text.extend_from_slice(&[0, 0, 100])?;
     }
     Ok(text)
 }

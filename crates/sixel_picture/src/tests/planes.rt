@@ -61,10 +61,15 @@ fn pixel<P: Plane>(plane: &P, x: u32, y: u32) -> Option<u8> {
     }
 }
 
+/// Whether the planes show the same pixel there.
+fn is_same_pixel<P: Plane, Q: Plane>(one: &P, other: &Q, x: u32, y: u32) -> bool {
+    pixel(one, x, y) == pixel(other, x, y)
+}
+
 /// Whether the planes show the same in these columns of a row.
 fn is_same_row<P: Plane, Q: Plane>(one: &P, other: &Q, columns: u32, row: u32) -> bool {
     for column in 0..columns {
-        if pixel(one, column, row) != pixel(other, column, row) {
+        if !is_same_pixel(one, other, column, row) {
             return false;
         }
     }

@@ -139,7 +139,7 @@ fn faults_have_reasons_and_places(rt: HostRuntime) -> Result<(), Fail> {
 
 /// A header and so many pixels (i, 0, 0) after it.
 fn reds(alloc: Global, header: &[u8], count: u8) -> Result<Vec<u8>, AllocError> {
-    let mut bytes = Vec::from_slice(alloc, header)?;
+    let mut bytes = header.to_vec(alloc)?;
     for red in 0..count {
         bytes.extend_from_slice(&[red, 0, 0])?;
     }
@@ -304,8 +304,10 @@ fn filled(
     count: usize,
     rest: &[u8],
 ) -> Result<Vec<u8>, AllocError> {
-    let mut bytes = Vec::from_slice(alloc, front)?;
-    bytes.resize(front.len().saturating_add(count), filler)?;
+    let mut bytes = front.to_vec(alloc)?;
+    for _ in 0..count {
+        bytes.push(filler)?;
+    }
     bytes.extend_from_slice(rest)?;
     Ok(bytes)
 }
