@@ -1,12 +1,15 @@
 -- On the first blank pixel of registers and bytes of bands, and on a plane without one.
 use Rattle.std.proofs.Common.{◌≡◌, ℕ, zero, suc, ◌+◌, ◌*◌, ◌/◌, ◌%◌, ◌<◌, Bool, true, false, cond}
-use Rattle.std.proofs.Common.{Option, Some, None, List, [], ◌∷◌, length, get_or, map}
+use Rattle.std.proofs.Common.{Option, Some, None, List, [], ◌∷◌, length, get_or, map, nat_lt}
 use Rattle.std.proofs.Common.{inl, inr, refl, sym, ap, ap₂, ◌∙◌, arith}
 use Rattle.std.specs.Prelude.{is_none}
 use Rattle.std.specs.List.{position_from}
 use Rattle.std.specs.Option.{option_map}
 use Rattle.std.proofs.lemmas.Bool.{cases_lt}
+use Rattle.std.proofs.lemmas.Bool.{le-ltb, lt-ltb}
+use Rattle.std.proofs.lemmas.Iterator.Adapters.{position_from-zero}
 use Rattle.std.proofs.lemmas.List.{get_or-map, length-map}
+use Rattle.std.proofs.lemmas.List.Sums.{position_or_len_is}
 use Rattle.std.proofs.lemmas.Nat.{div-add-mod', div_below, mod_below, div-mul-add, mod-mul-add}
 use Rattle.sixel_picture.specs.Sheets.{IsFull, first_blank, row_by_row}
 use Rattle.sixel_picture.specs.BandPlanes.{is_painted, cell_of_bands, sheet_of_bands, RowsArePainted, IsFirstUnpainted}
@@ -17,32 +20,23 @@ use Rattle.sixel_picture.proofs.ByteLemmas.{none_from_map}
 
 -- ---- positions in a list
 
-position_step : {A : Type 0} (p : A → Bool) (n : ℕ) (x : A) (xs : List A) (d : A) (i : ℕ) → i < suc (length xs)
-    → p (get_or (x ∷ xs) i d) ≡ true → ((k : ℕ) → k < i → p (get_or (x ∷ xs) k d) ≡ false)
-    → ((i' : ℕ) → i' < length xs → p (get_or xs i' d) ≡ true → ((k : ℕ) → k < i' → p (get_or xs k d) ≡ false)
-    → position_from p (n + 1) xs ≡ Some (n + 1 + i'))
-    → cond (p x) (Some n) (position_from p (n + 1) xs) ≡ Some (n + i)
-position_step p n x xs d zero lt here before more =
-    ap (λ (t : Bool). cond t (Some n) (position_from p (n + 1) xs)) here ∙ ap Some (omega arith)
-position_step p n x xs d (suc i) lt here before more =
-    ap (λ (t : Bool). cond t (Some n) (position_from p (n + 1) xs)) (before zero (omega arith))
-    ∙ more i (omega arith) here (λ k low. before (suc k) (omega arith)) ∙ ap Some (omega arith)
-
 -- the first item that passes
-position_is : {A : Type 0} (p : A → Bool) (n : ℕ) (xs : List A) (d : A) (i : ℕ) → i < length xs
-    → p (get_or xs i d) ≡ true → ((k : ℕ) → k < i → p (get_or xs k d) ≡ false)
-    → position_from p n xs ≡ Some (n + i)
-position_is p n [] d i lt here before = absurd (omega arith)
-position_is p n (x ∷ xs) d i lt here before =
-    position_step p n x xs d i (omega arith) here before (position_is p (n + 1) xs d)
+position_is : {A : Type 0} (p : A → Bool) (xs : List A) (d : A) (i : ℕ) → i < length xs
+    → p (get_or xs i d) ≡ true → ((k : ℕ) → k < i → p (get_or xs k d) ≡ false) → position_from p 0 xs ≡ Some i
+position_is p xs d i lt here before =
+    sym (position_from-zero p xs)
+    ∙ ap (λ n. cond (nat_lt n (length xs)) (Some n) None)
+    (position_or_len_is p xs i d (omega arith) before (λ _. here))
+    ∙ ap (λ t. cond t (Some i) None) (lt-ltb i (length xs) lt)
 
 -- no item passes
-position_none : {A : Type 0} (p : A → Bool) (n : ℕ) (xs : List A) (d : A)
-    → ((k : ℕ) → k < length xs → p (get_or xs k d) ≡ false) → position_from p n xs ≡ None
-position_none p n [] d none = refl
-position_none p n (x ∷ xs) d none =
-    ap (λ (t : Bool). cond t (Some n) (position_from p (n + 1) xs)) (none zero (omega arith))
-    ∙ position_none p (n + 1) xs d (λ k lt. none (suc k) (omega arith))
+position_none : {A : Type 0} (p : A → Bool) (xs : List A) (d : A)
+    → ((k : ℕ) → k < length xs → p (get_or xs k d) ≡ false) → position_from p 0 xs ≡ None
+position_none p xs d none =
+    sym (position_from-zero p xs)
+    ∙ ap (λ n. cond (nat_lt n (length xs)) (Some n) None)
+    (position_or_len_is p xs (length xs) d (omega arith) none (λ lt. absurd (omega arith)))
+    ∙ ap (λ t. cond t (Some (length xs)) None) (le-ltb (length xs) (length xs) (omega arith))
 
 none_step : {A : Type 0} (p : A → Bool) (n : ℕ) (x : A) (xs : List A) (d : A) (t : Bool) → p x ≡ t
     → cond t (Some n) (position_from p (n + 1) xs) ≡ None
@@ -53,21 +47,13 @@ none_step p n x xs d false e none more zero lt = e
 none_step p n x xs d false e none more (suc k) lt = more none k (omega arith)
 
 -- and then each item fails
-none_passes : {A : Type 0} (p : A → Bool) (n : ℕ) (xs : List A) (d : A) → position_from p n xs ≡ None
+pub none_passes : {A : Type 0} (p : A → Bool) (n : ℕ) (xs : List A) (d : A) → position_from p n xs ≡ None
     → (k : ℕ) → k < length xs → p (get_or xs k d) ≡ false
 none_passes p n [] d none k lt = absurd (omega arith)
 none_passes p n (x ∷ xs) d none k lt =
     none_step p n x xs d (p x) refl none (none_passes p (n + 1) xs d) k (omega arith)
 
 -- ---- the pixels of a plane
-
-painted_none : (t : Bool) (r : ℕ) → t ≡ true → is_none (cond t (Some r) None) ≡ false
-painted_none true r e = refl
-painted_none false r e = cc
-
-blank_none : (t : Bool) (r : ℕ) → t ≡ false → is_none (cond t (Some r) None) ≡ true
-blank_none true r e = cc
-blank_none false r e = refl
 
 some_painted : (t : Bool) (r : ℕ) → is_none (cond t (Some r) None) ≡ false → Some r ≡ cond t (Some r) None
 some_painted true r e = refl
@@ -96,11 +82,11 @@ unfolding first_blank
 none_found w h registers coverage some painted =
     let pixel = cell_of_bands w registers coverage in
     ap (option_map (λ i. (i % w, i / w)))
-    (sym (position_none is_none 0 (row_by_row w h pixel) None
+    (sym (position_none is_none (row_by_row w h pixel) None
     (λ k lt.
     let inside : k < w * h = rw (← length_rows w h pixel) lt in
     ap is_none (get_index w h pixel k None inside)
-    ∙ painted_none (is_painted w coverage (k % w) (k / w)) _
+    ∙ ap (λ t. is_none (cond t (Some (get_or registers (k / w * w + k % w) 0)) None))
     (painted (k % w) (k / w) (mod_below k w some) (row_below k w h some inside)))))
 
 pixel_found : (w h x y : ℕ) (registers coverage : List ℕ) → 0 < w → IsFirstUnpainted w h coverage (x, y)
@@ -111,16 +97,16 @@ pixel_found w h x y registers coverage some first =
     let inside : y * w + x < w * h = place_fits w h x y first.inside_x first.inside_y in
     let column : (y * w + x) % w ≡ x = mod-mul-add y w x first.inside_x in
     let row : (y * w + x) / w ≡ y = div-mul-add y w x first.inside_x in
-    let found : position_from is_none 0 (row_by_row w h pixel) ≡ Some (0 + (y * w + x)) =
-    position_is is_none 0 (row_by_row w h pixel) None (y * w + x) (rw (length_rows w h pixel) inside)
+    let found : position_from is_none 0 (row_by_row w h pixel) ≡ Some (y * w + x) =
+    position_is is_none (row_by_row w h pixel) None (y * w + x) (rw (length_rows w h pixel) inside)
     (ap is_none (get_index w h pixel (y * w + x) None inside)
-    ∙ blank_none (is_painted w coverage ((y * w + x) % w) ((y * w + x) / w)) _
+    ∙ ap (λ t. is_none (cond t (Some (get_or registers ((y * w + x) / w * w + (y * w + x) % w) 0)) None))
     (ap₂ (is_painted w coverage) column row ∙ first.unpainted))
     (λ k lt.
     ap is_none (get_index w h pixel k None (omega (arith, inside, lt)))
-    ∙ painted_none (is_painted w coverage (k % w) (k / w)) _ (before_pixel w h coverage x y k some first lt)) in
+    ∙ ap (λ t. is_none (cond t (Some (get_or registers (k / w * w + k % w) 0)) None))
+    (before_pixel w h coverage x y k some first lt)) in
     ap₂ (λ a b. Some (a, b)) (sym column) (sym row)
-    ∙ ap (λ i. Some (i % w, i / w)) (omega arith)
     ∙ sym (ap (option_map (λ i. (i % w, i / w))) found)
 
 -- the first pixel that isn't painted is the first blank one
