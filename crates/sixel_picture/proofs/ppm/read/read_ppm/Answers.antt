@@ -46,3 +46,6 @@ returns-clause-bytes g c =
     c.in_ok-started.ensures.started.ordered)
     c.in_ok-started.ensures.started
     c.in_ok-samples.ensures c.in_ok-feed.ensures.read c.read_samples.ensures.bytes
+
+pub returns-clause-failures : goal.returns-clause-failures
+returns-clause-failures g c = rw c.in_ok-started.ensures.failures at c.read_samples.ensures.failures
