@@ -10,7 +10,7 @@ use Rattle.sixel_grammar.specs.Next.{next_of}
 use Rattle.sixel_grammar.proofs.Advance.{GoesTo, advances}
 use Rattle.sixel_grammar.proofs.Viable.{complete}
 use Rattle.sixel_grammar.proofs.Walk.{Stamp, state, after, walk, walk-none, walk-then}
-use Rattle.sixel_grammar.proofs.Whole.{start, document_walk}
+use Rattle.sixel_grammar.proofs.DocumentWalk.{start, document_walk}
 
 -- the bytes end in some form
 abbrev pub Ends : List ℕ → Type 0

@@ -1,14 +1,14 @@
 pub mod Spelled
 pub mod Devices
 pub mod Sinks
-pub mod Parts
+pub mod Pieces
 pub mod Numbers
 pub mod Advance
 pub mod Viable
 pub mod FixedText
 pub mod Lengths
 pub mod Walk
-pub mod Whole
+pub mod DocumentWalk
 pub mod Choices
 pub mod Stands
 pub mod Fronts

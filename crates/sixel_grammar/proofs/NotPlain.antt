@@ -16,7 +16,7 @@ use Rattle.sixel_grammar.proofs.Advance.{GoesTo, advances}
 use Rattle.sixel_grammar.proofs.Stands.{completed_events, handed, read_complete}
 use Rattle.sixel_grammar.proofs.Unique.{complete_once}
 use Rattle.sixel_grammar.proofs.Viable.{complete}
-use Rattle.sixel_grammar.proofs.Whole.{not_viable}
+use Rattle.sixel_grammar.proofs.DocumentWalk.{not_viable}
 
 abbrev whole_columns : Option (Form × Option Event) → Bool
 whole_columns None = false

@@ -26,7 +26,7 @@ use Rattle.sixel_grammar.proofs.Choices.{goes-on}
 use Rattle.sixel_grammar.proofs.Fronts.{nothing}
 use Rattle.sixel_grammar.proofs.Viable.{complete}
 use Rattle.sixel_grammar.proofs.Walk.{State, moved, walk}
-use Rattle.sixel_grammar.proofs.Whole.{start, not_viable, document_walk, ends_walk}
+use Rattle.sixel_grammar.proofs.DocumentWalk.{start, not_viable, document_walk, ends_walk}
 
 abbrev pub fault_at : Reason → ℕ → Fault
 fault_at reason place = record { reason = reason; place = place }

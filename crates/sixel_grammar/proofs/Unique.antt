@@ -17,7 +17,7 @@ use Rattle.sixel_grammar.specs.Spelling.{is_open_ended}
 use Rattle.sixel_grammar.specs.Faults.{Form, NothingYet, Ended, EndsIn, IsClosed, refusal, Stops, IsTooLong, IsRefused, IsFaultOf}
 use Rattle.sixel_grammar.specs.Next.{next_of}
 use Rattle.sixel_grammar.proofs.Walk.{Stamp, stamp, State, state, with_stamp, moved, after, walk, walk-none, walk-append, walk-then}
-use Rattle.sixel_grammar.proofs.Whole.{start, stamped_from, document_walk, ends_walk}
+use Rattle.sixel_grammar.proofs.DocumentWalk.{start, stamped_from, document_walk, ends_walk}
 use Rattle.sixel_grammar.proofs.Stands.{fault_at, form_at}
 use Rattle.sixel_grammar.proofs.Viable.{complete}
 use Rattle.sixel_grammar.proofs.Fronts.{fronts}

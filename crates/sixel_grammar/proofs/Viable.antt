@@ -15,7 +15,7 @@ use Rattle.sixel_grammar.specs.Document.{AreFiller, Piece, IsPiece, bytes_of, jo
 use Rattle.sixel_grammar.specs.Prefix.{tails, completed_at, complete_from, CompleteIn}
 use Rattle.sixel_grammar.specs.Faults.{Form, NothingYet, Introducing, Parameters, LastSeparator, NoCommand, RepeatNumber, RasterFields, ColourFields, Terminating, Ended, EndsIn, IsClosed, AreBegun}
 use Rattle.sixel_grammar.proofs.Numbers.{no_digits, fields-separator}
-use Rattle.sixel_grammar.proofs.Parts.{joined-append, said-append, all-append, begun-step, begun-finish, start_of}
+use Rattle.sixel_grammar.proofs.Pieces.{joined-append, said-append, all-append, begun-step, begun-finish, start_of}
 
 -- no spelling is empty
 pub spells-some : (e : Event) (text : List ℕ) → Spells e text → 0 < length text

@@ -7,8 +7,8 @@ use Rattle.sixel_grammar.specs.declared.command.Event.TheVariants as event
 use Rattle.sixel_grammar.specs.declared.pending.Open.{Open}
 use Rattle.sixel_grammar.specs.declared.pending.Open.TheVariants as kind
 use Rattle.sixel_grammar.specs.declared.pending.Pending.{Pending}
-use Rattle.sixel_grammar.specs.declared.pending.Whole.{Whole}
-use Rattle.sixel_grammar.specs.declared.pending.Whole.TheVariants.{Start, Step, Finish}
+use Rattle.sixel_grammar.specs.declared.pending.WholeEvent.{WholeEvent}
+use Rattle.sixel_grammar.specs.declared.pending.WholeEvent.TheVariants.{Start, Step, Finish}
 use Rattle.sixel_grammar.specs.Faults.{Form, NothingYet, Introducing, Parameters, LastSeparator, NoCommand, RepeatNumber, RasterFields, ColourFields, Terminating, Ended}
 use Rattle.sixel_grammar.specs.Next.{only_grown, only_whole}
 
@@ -37,7 +37,7 @@ takes_digits kind.ColourFields = true
 takes_digits _ = false
 
 -- the event that is whole; a start has the parameters that were read
-abbrev pub event_of : Whole → Pending → Event
+abbrev pub event_of : WholeEvent → Pending → Event
 event_of Start p = event.Start p.eight p.parameters
 event_of (Step command) p = event.Step command
 event_of (Finish eight) p = event.Finish eight
@@ -47,5 +47,5 @@ abbrev pub Grows : Bool → Pending → Option (Form × Option Event) → Type 0
 Grows result new does = (if result then Some (form_of new) else None) ≡ only_grown does
 
 -- the event that a byte that does this makes whole, and what is open then
-abbrev pub MakesWhole : Option Whole → Pending → Option (Form × Option Event) → Type 0
-MakesWhole result new does = option_map (λ (whole : Whole). (form_of new, event_of whole new)) result ≡ only_whole does
+abbrev pub MakesWhole : Option WholeEvent → Pending → Option (Form × Option Event) → Type 0
+MakesWhole result new does = option_map (λ (whole : WholeEvent). (form_of new, event_of whole new)) result ≡ only_whole does

@@ -42,7 +42,7 @@ pub(crate) struct Pending {
 
 /// An event that is whole with a byte.
 #[derive(Clone, Copy, Debug, PartialEq, Eq)]
-pub(crate) enum Whole {
+pub(crate) enum WholeEvent {
     Start,
     Step(Command),
     Finish { eight: bool },
@@ -52,7 +52,7 @@ pub(crate) enum Whole {
 #[derive(Clone, Copy, Debug, PartialEq, Eq)]
 pub(crate) struct Both {
     pub ended: Command,
-    pub whole: Whole,
+    pub whole: WholeEvent,
 }
 
 #[inline]
@@ -151,7 +151,7 @@ impl Pending {
     }
 
     /// The command that the byte ends, where it begins another or is filler, and makes nothing whole itself.
-    pub(crate) fn ended_by(&mut self, byte: u8) -> Option<Command>
+    pub(crate) fn end_command(&mut self, byte: u8) -> Option<Command>
         requires { only_grown (within_of (form_of self.old) byte) ≡ None }
         ensures ended { IfSome result (λ command.
             next_of (form_of self.old) byte ≡ Some (Some (step_of command), form_of self.new, None)) }
@@ -165,7 +165,7 @@ impl Pending {
     }
 
     /// The command that the byte ends, and the event that it makes whole itself.
-    pub(crate) fn ends_whole(&mut self, byte: u8) -> Option<Both>
+    pub(crate) fn end_and_make_whole(&mut self, byte: u8) -> Option<Both>
         requires { only_grown (within_of (form_of self.old) byte) ≡ None }
         ensures ended { IfSome result (λ both. next_of (form_of self.old) byte ≡
             Some (Some (step_of both.ended), form_of self.new, Some (event_of both.whole self.new))) }
@@ -174,7 +174,7 @@ impl Pending {
     {
         match self.settled() {
             None => None,
-            Some(ended) => match self.begins_whole(byte) {
+            Some(ended) => match self.begin_whole(byte) {
                 Some(whole) => Some(Both { ended, whole }),
                 None => None,
             },
@@ -198,26 +198,26 @@ impl Pending {
     }
 
     /// The event that a byte is by itself, where no command is open.
-    fn begins_whole(&mut self, byte: u8) -> Option<Whole>
+    fn begin_whole(&mut self, byte: u8) -> Option<WholeEvent>
         ensures whole { MakesWhole result self.new (begin_of byte) }
         ensures refused { IsNone result → self.new ≡ self.old }
     {
         if is_data(byte) {
             self.set(Open::NoCommand);
-            return Some(Whole::Step(Command::Sixel(byte - b'?')));
+            return Some(WholeEvent::Step(Command::Sixel(byte - b'?')));
         }
         match byte {
             b'$' => {
                 self.set(Open::NoCommand);
-                Some(Whole::Step(Command::CarriageReturn))
+                Some(WholeEvent::Step(Command::CarriageReturn))
             }
             b'-' => {
                 self.set(Open::NoCommand);
-                Some(Whole::Step(Command::NextLine))
+                Some(WholeEvent::Step(Command::NextLine))
             }
             0x9c => {
                 self.set(Open::Ended);
-                Some(Whole::Finish { eight: true })
+                Some(WholeEvent::Finish { eight: true })
             }
             _ => None,
         }
@@ -331,21 +331,21 @@ impl Pending {
     }
 
     /// The event that is whole with the byte, where what is open goes on with it.
-    pub(crate) fn makes_whole(&mut self, byte: u8) -> Option<Whole>
+    pub(crate) fn make_whole(&mut self, byte: u8) -> Option<WholeEvent>
         ensures whole { MakesWhole result self.new (within_of (form_of self.old) byte) }
         ensures refused { IsNone result → self.new ≡ self.old }
     {
         match self.form {
-            Open::Parameters => self.starts(byte),
-            Open::LastSeparator => self.starts_last(byte),
-            Open::RepeatNumber => self.ended_repeat(byte).map(Whole::Step),
-            Open::NoCommand => self.begins_whole(byte),
-            Open::Terminating => self.finishes(byte),
+            Open::Parameters => self.start(byte),
+            Open::LastSeparator => self.start_after_separator(byte),
+            Open::RepeatNumber => self.end_repeat(byte).map(WholeEvent::Step),
+            Open::NoCommand => self.begin_whole(byte),
+            Open::Terminating => self.finish(byte),
             _ => None,
         }
     }
 
-    fn starts(&mut self, byte: u8) -> Option<Whole>
+    fn start(&mut self, byte: u8) -> Option<WholeEvent>
         requires { self.old.form ≡ Open.Parameters }
         ensures whole { MakesWhole result self.new (within_of (form_of self.old) byte) }
         ensures refused { IsNone result → self.new ≡ self.old }
@@ -353,33 +353,33 @@ impl Pending {
         if byte == b'q' && !self.parameters.is_full() {
             self.add_parameter();
             self.set(Open::NoCommand);
-            Some(Whole::Start)
+            Some(WholeEvent::Start)
         } else {
             None
         }
     }
 
-    fn starts_last(&mut self, byte: u8) -> Option<Whole>
+    fn start_after_separator(&mut self, byte: u8) -> Option<WholeEvent>
         requires { self.old.form ≡ Open.LastSeparator }
         ensures whole { MakesWhole result self.new (within_of (form_of self.old) byte) }
         ensures refused { IsNone result → self.new ≡ self.old }
     {
         if byte == b'q' {
             self.set(Open::NoCommand);
-            Some(Whole::Start)
+            Some(WholeEvent::Start)
         } else {
             None
         }
     }
 
-    fn finishes(&mut self, byte: u8) -> Option<Whole>
+    fn finish(&mut self, byte: u8) -> Option<WholeEvent>
         requires { self.old.form ≡ Open.Terminating }
         ensures whole { MakesWhole result self.new (within_of (form_of self.old) byte) }
         ensures refused { IsNone result → self.new ≡ self.old }
     {
         if byte == b'\\' {
             self.set(Open::Ended);
-            Some(Whole::Finish { eight: false })
+            Some(WholeEvent::Finish { eight: false })
         } else {
             None
         }
@@ -519,7 +519,7 @@ impl Pending {
 
     /// The repeat that is open, where the byte ends it.
     #[inline]
-    pub(crate) fn ended_repeat(&mut self, byte: u8) -> Option<Command>
+    pub(crate) fn end_repeat(&mut self, byte: u8) -> Option<Command>
         ensures ended { IfSome result (λ command.
             within_of (form_of self.old) byte ≡ Some (NoCommandForm, Some (step_of command))) }
         ensures repeat { IfSome result (λ command. is_columns (step_of command) ≡ true) }
@@ -545,17 +545,17 @@ impl Pending {
 
     /// The event that is whole; a start has the parameters that were read.
     #[inline]
-    pub(crate) fn event_of(&self, whole: Whole) -> Event
+    pub(crate) fn event_of(&self, whole: WholeEvent) -> Event
         ensures { result ≡ event_of whole self.now }
     {
         match whole {
-            Whole::Start => self.start(),
-            Whole::Step(command) => Event::Step(command),
-            Whole::Finish { eight } => Event::Finish { eight },
+            WholeEvent::Start => self.start_event(),
+            WholeEvent::Step(command) => Event::Step(command),
+            WholeEvent::Finish { eight } => Event::Finish { eight },
         }
     }
 
-    fn start(&self) -> Event
+    fn start_event(&self) -> Event
         ensures { result ≡ Event.Start self.now.eight self.now.parameters }
     {
         let mut parameters = ArrayVec::new();

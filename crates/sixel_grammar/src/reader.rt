@@ -176,7 +176,7 @@ impl Reader {
         if self.left == 0 {
             return None;
         }
-        let command = self.pending.ended_repeat(byte)?;
+        let command = self.pending.end_repeat(byte)?;
         self.left -= 1;
         self.sixels = ready_for(self.left, &self.pending);
         let place = self.opened;
@@ -232,7 +232,7 @@ impl Reader {
 
     /// The command that the byte ends, where it completes nothing else.
     #[inline(never)]
-    fn ended_by(&mut self, byte: u8) -> Option<Plain>
+    fn end_command(&mut self, byte: u8) -> Option<Plain>
         requires { 0 < self.old.left → only_grown (within_of (form_of self.old.pending) byte) ≡ None }
         ensures accepted { IfSome result (λ p. Takes self.old self.new byte (completions (plain_of p))) }
         ensures kept { IsNone result → self.new ≡ self.old }
@@ -243,7 +243,7 @@ impl Reader {
         if self.left == 0 {
             return None;
         }
-        let command = self.pending.ended_by(byte)?;
+        let command = self.pending.end_command(byte)?;
         let place = self.opened;
         self.opened = MOST_BYTES - self.left;
         self.left -= 1;
@@ -260,7 +260,7 @@ impl Reader {
         ensures refused { IfErr result (Refuses self.old self.new byte) }
         ensures in_order { IfOk result (λ c. IsNone c.first → IsNone c.second) }
     {
-        if let Some(ended) = self.ended_by(byte) {
+        if let Some(ended) = self.end_command(byte) {
             return Ok(Completed::of_plain(ended));
         }
         self.feed_any(byte)
@@ -284,13 +284,13 @@ impl Reader {
             return Err(self.refuse(Reason::TooLong, place));
         }
         let opened = self.opened_at(place);
-        if let Some(whole) = self.pending.makes_whole(byte) {
+        if let Some(whole) = self.pending.make_whole(byte) {
             self.opened = opened;
             self.left -= 1;
             self.sixels = ready_for(self.left, &self.pending);
             return Ok(Completed::of_one(opened, self.pending.event_of(whole)));
         }
-        match self.pending.ends_whole(byte) {
+        match self.pending.end_and_make_whole(byte) {
             Some(both) => {
                 self.opened = place;
                 self.left -= 1;

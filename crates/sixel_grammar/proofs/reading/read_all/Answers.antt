@@ -42,5 +42,5 @@ loop-events-preserved g c =
       i.0 ++ take c.in_ok-count.count c.fill.new.piece,
       c.in_ok-read_piece.ensures.read i.0 i.1,
       consumes-then _ _ _ i.0 (take c.in_ok-count.count c.fill.new.piece) i.2 c.in_ok-count.ensures.bytes.0,
-      c.in_ok-count.ensures.failures ∙ i.3,
+      cc (c.in_ok-count.ensures.failures, i.3),
     )

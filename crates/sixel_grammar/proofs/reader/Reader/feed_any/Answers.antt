@@ -21,31 +21,31 @@ returns-then-self-eq0-clause-refused c = λ events bytes s.
       c.refuse.ensures.after,
     )
 
-pub returns-in-Some-makes_whole-clause-accepted : goal.returns-in-Some-makes_whole-clause-accepted
-returns-in-Some-makes_whole-clause-accepted c = λ events bytes s.
+pub returns-in-Some-make_whole-clause-accepted : goal.returns-in-Some-make_whole-clause-accepted
+returns-in-Some-make_whole-clause-accepted c = λ events bytes s.
     let place : 268435456 - c.args.self.now.left ≡ length bytes = omega (arith, s.left) in
     whole c.args.self.now _ events bytes c.args.byte c.opened_at-opened.result
-    (event_of c.in-Some-makes_whole.whole c.makes_whole.new.self) c.of_one.result s
+    (event_of c.in-Some-make_whole.whole c.make_whole.new.self) c.of_one.result s
     (omega (arith, c.if-self-eq0.false))
-    (whole-is _ _ _ (sym c.in-Some-makes_whole.ensures.whole))
+    (whole-is _ _ _ (sym c.in-Some-make_whole.ensures.whole))
     (c.opened_at-opened.ensures ∙ ap (λ (n : ℕ). opened_after n c.args.self.now) place)
     (c.of_one.ensures
     ∙ ap
     (λ (e : Event). record { first = Some (record { place = c.opened_at-opened.result; event = e }); second = None })
     c.event_of.ensures) refl refl (λ i. refl)
 
-pub returns-in-Some-ends_whole-clause-accepted : goal.returns-in-Some-ends_whole-clause-accepted
-returns-in-Some-ends_whole-clause-accepted c = λ events bytes s.
-    let same : c.makes_whole.new.self ≡ c.args.self.now.pending = c.in_default-makes_whole.ensures.refused refl in
-    both c.args.self.now _ events bytes c.args.byte c.opened_at-opened.result (Step c.in-Some-ends_whole.both.ended)
-    (event_of c.in-Some-ends_whole.both.whole c.ends_whole.new.self) c.of_two.result s
+pub returns-in-Some-end_and_make_whole-clause-accepted : goal.returns-in-Some-end_and_make_whole-clause-accepted
+returns-in-Some-end_and_make_whole-clause-accepted c = λ events bytes s.
+    let same : c.make_whole.new.self ≡ c.args.self.now.pending = c.in_default-make_whole.ensures.refused refl in
+    both c.args.self.now _ events bytes c.args.byte c.opened_at-opened.result (Step c.in-Some-end_and_make_whole.both.ended)
+    (event_of c.in-Some-end_and_make_whole.both.whole c.end_and_make_whole.new.self) c.of_two.result s
     (omega (arith, c.if-self-eq0.false))
-    (ap (λ (p : Pending). next_of (form_of p) c.args.byte) (sym same) ∙ c.in-Some-ends_whole.ensures.ended)
+    (ap (λ (p : Pending). next_of (form_of p) c.args.byte) (sym same) ∙ c.in-Some-end_and_make_whole.ensures.ended)
     c.opened_at-opened.ensures
     (c.of_two.ensures
     ∙ ap (λ (e : Event).
     record {
-      first = Some (record { place = c.opened_at-opened.result; event = Step c.in-Some-ends_whole.both.ended });
+      first = Some (record { place = c.opened_at-opened.result; event = Step c.in-Some-end_and_make_whole.both.ended });
       second = Some (record { place = 268435456 - c.args.self.now.left; event = e });
     }) c.event_of-second.ensures)
     refl refl refl
@@ -53,10 +53,10 @@ returns-in-Some-ends_whole-clause-accepted c = λ events bytes s.
 pub returns-in-None-clause-refused : goal.returns-in-None-clause-refused
 returns-in-None-clause-refused c = λ events bytes s.
     let lt : 0 < c.args.self.now.left = omega (arith, c.if-self-eq0.false) in
-    let same : c.makes_whole.new.self ≡ c.args.self.now.pending = c.in_default-makes_whole.ensures.refused refl in
+    let same : c.make_whole.new.self ≡ c.args.self.now.pending = c.in_default-make_whole.ensures.refused refl in
     let stop : next_of (form_of c.args.self.now.pending) c.args.byte ≡ None =
     stops (form_of c.args.self.now.pending) c.args.byte (c.requires.not_grown lt)
-    (sym c.in_default-makes_whole.ensures.whole) (c.requires.not_ended lt)
+    (sym c.in_default-make_whole.ensures.whole) (c.requires.not_ended lt)
     (subst (λ (p : Pending). OnSome (settled (form_of p)) (only_whole (begin c.args.byte) ≡ None)) same
     (c.in-None.ensures.not_ended refl)) in
     let f = refused_at c.args.self.now events bytes c.args.byte s lt stop in

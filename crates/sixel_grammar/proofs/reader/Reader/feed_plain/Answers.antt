@@ -6,6 +6,9 @@ use Rattle.sixel_grammar.specs.Standing.{StandsAfter}
 use Rattle.sixel_grammar.proofs.NotPlain.{not_plain}
 use Rattle.sixel_grammar.proofs.reader.Reader.feed_plain.Goals as goal
 
+pub returns-in-Some-clause-accepted : goal.returns-in-Some-clause-accepted
+returns-in-Some-clause-accepted c = c.in-Some.ensures.accepted
+
 pub returns-clause-accepted : goal.returns-clause-accepted
 returns-clause-accepted c = λ events bytes s.
     let same : c.feed_quickly.new.self ≡ c.args.self.now = c.in_default.ensures.kept refl in

@@ -7,12 +7,12 @@ use Rattle.sixel_grammar.proofs.reader.Reader.feed_slowly.Goals as goal
 
 pub returns-in-Some-clause-accepted : goal.returns-in-Some-clause-accepted
 returns-in-Some-clause-accepted c = λ events bytes s.
-    subst (λ (d : Completed). StandsAfter c.ended_by.new.self (events ++ completions d) (bytes ++ c.args.byte ∷ []))
+    subst (λ (d : Completed). StandsAfter c.end_command.new.self (events ++ completions d) (bytes ++ c.args.byte ∷ []))
     (sym c.of_plain.ensures) (c.in-Some.ensures.accepted events bytes s)
 
 pub returns-clause-accepted : goal.returns-clause-accepted
 returns-clause-accepted c =
-    let same : c.ended_by.new.self ≡ c.args.self.now = c.in_default.ensures.kept refl in
+    let same : c.end_command.new.self ≡ c.args.self.now = c.in_default.ensures.kept refl in
     let from =
     λ (r : Reader).
     IfOk c.feed_any.result (λ (done : Completed). Takes r c.feed_any.new.self c.args.byte (completions done)) in
@@ -20,6 +20,6 @@ returns-clause-accepted c =
 
 pub returns-clause-refused : goal.returns-clause-refused
 returns-clause-refused c =
-    let same : c.ended_by.new.self ≡ c.args.self.now = c.in_default.ensures.kept refl in
+    let same : c.end_command.new.self ≡ c.args.self.now = c.in_default.ensures.kept refl in
     let from = λ (r : Reader). IfErr c.feed_any.result (Refuses r c.feed_any.new.self c.args.byte) in
     subst from same c.feed_any.ensures.refused

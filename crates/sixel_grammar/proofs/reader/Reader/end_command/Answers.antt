@@ -1,7 +1,7 @@
 use Rattle.std.proofs.Common.{refl, arith}
 use Rattle.sixel_grammar.specs.declared.command.Event.TheVariants.{Step}
 use Rattle.sixel_grammar.proofs.Stands.{ended}
-use Rattle.sixel_grammar.proofs.reader.Reader.ended_by.Goals as goal
+use Rattle.sixel_grammar.proofs.reader.Reader.end_command.Goals as goal
 
 pub returns-clause-accepted : goal.returns-clause-accepted
 returns-clause-accepted c = λ events bytes s.

@@ -18,7 +18,7 @@ use Rattle.sixel_grammar.specs.Prefix.{completed_at, IsViable}
 use Rattle.sixel_grammar.specs.Faults.{Form, NothingYet, Introducing, Parameters, LastSeparator, NoCommand, RepeatNumber, RasterFields, ColourFields, Terminating, Ended, EndsIn, AreSteps, AreBegun, IsClosed}
 use Rattle.sixel_grammar.specs.Next.{begin, within, next_of}
 use Rattle.sixel_grammar.proofs.Walk.{Stamp, stamp, State, state, after, walk, walk-none, walk-then, idle, within-some, number_walk, fields_walk, repeat-digits, raster-digits, raster-separators, colour-digits, colour-separators, parameters-digits, parameters-separators, is_data-bits, Ready, Rests, command-reaches}
-use Rattle.sixel_grammar.proofs.Parts.{start_of}
+use Rattle.sixel_grammar.proofs.Pieces.{start_of}
 
 -- the events of pieces that stand from n on, each with the number of bytes with which it is complete
 abbrev pub stamped_from : ℕ → List Piece → List Stamp
