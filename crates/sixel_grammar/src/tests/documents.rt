@@ -36,21 +36,25 @@ fn fault(reason: Reason, place: u64) -> Option<Fault> {
     Some(Fault { reason, place })
 }
 
-/// A row: the bytes, the events in words, the fault.
-type Row = (&'static [u8], &'static str, Option<Fault>);
+/// A row: the bytes, the events in words, the reason and the place of the fault.
+type Row = (&'static [u8], &'static str, Option<(Reason, u64)>);
 
 /// Each row by `feed`, and by `read_all` in pieces of 1, 5 and 64 bytes.
 fn agrees(rt: &(impl Abort + AllocGlobal), row: &Row) -> Result<(), Fail> {
-    let (bytes, words, expected) = row;
+    let (bytes, words, refusal) = row;
+    let expected = match refusal {
+        Some((reason, place)) => fault(*reason, *place),
+        None => None,
+    };
     let (events, found) = fed(rt, bytes)?;
     assert_eq!(rt; all_in_words(rt, events.as_slice())?.as_str(), *words);
-    assert_eq!(rt; found, *expected, "{words}");
+    assert_eq!(rt; found, expected, "{words}");
     for piece in [1, 5, 64] {
         let mut source = SliceSource::new(bytes, piece, None);
         match read_all(rt.alloc(), &mut source) {
             Ok(events) => {
                 assert_eq!(rt; all_in_words(rt, events.as_slice())?.as_str(), *words);
-                assert_eq!(rt; None, *expected, "{words}");
+                assert_eq!(rt; None, expected, "{words}");
             }
             Err(found) => {
                 let expected = expected.map(InputFault::Grammar);
@@ -61,63 +65,115 @@ fn agrees(rt: &(impl Abort + AllocGlobal), row: &Row) -> Result<(), Fail> {
     Ok(())
 }
 
+/// Documents.
+const DOCUMENTS: &[Row] = &[
+    (
+        b"\x1bPq@\x1b\\",
+        "0 start false [0], 3 sixel 1, 4 finish false",
+        None,
+    ),
+    (
+        b" \x1bPq\n~$-?\x1b\\\n",
+        "1 start false [0], 5 sixel 63, 6 return, 7 newline, 8 sixel 0, 9 finish false",
+        None,
+    ),
+    (PICTURE, PICTURE_IN_WORDS, None),
+    (
+        b"\x90q\"1;1;1;1#0;2;0;0;0#0@\x9c",
+        "0 start true [0], 2 raster 1 1 1 1, 10 define 0 2 0 0 0, 20 select 0, 22 sixel 1, 23 finish true",
+        None,
+    ),
+    (
+        b"\x1bPq!12~\x1b\\",
+        "0 start false [0], 3 repeat 12 63, 7 finish false",
+        None,
+    ),
+    (
+        b"\x1bP007;;3q\x1b\\",
+        "0 start false [7, 0, 3], 9 finish false",
+        None,
+    ),
+    (
+        b"\x1bP0;0;0;q\x1b\\",
+        "0 start false [0, 0, 0], 9 finish false",
+        None,
+    ),
+    (
+        b"\x1bPq#;;;;\x1b\\",
+        "0 start false [0], 3 define 0 0 0 0 0, 8 finish false",
+        None,
+    ),
+    (
+        b"\x1bPq\"\x1b\\",
+        "0 start false [0], 3 raster 0 0 0 0, 4 finish false",
+        None,
+    ),
+    (
+        b"\x1bPq!~\x1b\\",
+        "0 start false [0], 3 repeat 0 63, 5 finish false",
+        None,
+    ),
+    (
+        b"\x1bPq#1~#2\t$\x9c",
+        "0 start false [0], 3 select 1, 5 sixel 63, 6 select 2, 9 return, 10 finish true",
+        None,
+    ),
+    (b"\x90q\x1b\\", "0 start true [0], 2 finish false", None),
+];
+
+const START: &str = "0 start false [0]";
+
+/// What is no document.
+const NO_DOCUMENTS: &[Row] = &[
+    (b"", "", Some((Reason::Truncated, 0))),
+    (b"x", "", Some((Reason::NotSixel, 0))),
+    (b"\x1bPp", "", Some((Reason::NotSixel, 2))),
+    (
+        b"\x1bPq@",
+        "0 start false [0], 3 sixel 1",
+        Some((Reason::Truncated, 4)),
+    ),
+    (
+        b"\x1bPq$\x1b]",
+        "0 start false [0], 3 return",
+        Some((Reason::BadTerminator, 5)),
+    ),
+    (
+        b"\x1bPq\x1b\\x",
+        "0 start false [0], 3 finish false",
+        Some((Reason::Trailing, 5)),
+    ),
+    (b"\x1bPq!", START, Some((Reason::Truncated, 4))),
+    (b"\x1bPq!65536~", START, Some((Reason::NumberTooLarge, 8))),
+    (b"\x1bPq#1;2~", START, Some((Reason::FieldCount, 7))),
+    (b"\x1bPq\"1;1;1;1;", START, Some((Reason::FieldCount, 11))),
+    (b"\x1bP1;2;3;4q", "", Some((Reason::FieldCount, 8))),
+    (b"\x1bP0;0;0;;", "", Some((Reason::FieldCount, 8))),
+    (b"\x1bP0;0;0;x", "", Some((Reason::NotSixel, 8))),
+    (b"\x1bP0;0;0;", "", Some((Reason::Truncated, 8))),
+    (b"\x1bPq!3 ~", START, Some((Reason::BadRepeat, 5))),
+    (b"\x1bPq#0\x18", START, Some((Reason::BadByte, 5))),
+    (b"\x1bPq\"1;1", START, Some((Reason::Truncated, 7))),
+    (b"\x1bP1;2;3;65536", "", Some((Reason::FieldCount, 8))),
+    (b"\x1bP65536q", "", Some((Reason::NumberTooLarge, 6))),
+    (b"\x1bPq#1;2;3\"", START, Some((Reason::FieldCount, 9))),
+    (b"\x1bPq#1;2;3;4;5;", START, Some((Reason::FieldCount, 13))),
+    (
+        b"\x1bPq~\x80",
+        "0 start false [0], 3 sixel 63",
+        Some((Reason::BadByte, 4)),
+    ),
+    (b"\x1bP q", "", Some((Reason::NotSixel, 2))),
+    (
+        b"\x1bPq#7\x9c\x1b",
+        "0 start false [0], 3 select 7, 5 finish true",
+        Some((Reason::Trailing, 6)),
+    ),
+];
+
 #[test]
 fn documents_say_their_events(rt: HostRuntime) -> Result<(), Fail> {
-    let rows: [Row; 12] = [
-        (
-            b"\x1bPq@\x1b\\",
-            "0 start false [0], 3 sixel 1, 4 finish false",
-            None,
-        ),
-        (
-            b" \x1bPq\n~$-?\x1b\\\n",
-            "1 start false [0], 5 sixel 63, 6 return, 7 newline, 8 sixel 0, 9 finish false",
-            None,
-        ),
-        (PICTURE, PICTURE_IN_WORDS, None),
-        (
-            b"\x90q\"1;1;1;1#0;2;0;0;0#0@\x9c",
-            "0 start true [0], 2 raster 1 1 1 1, 10 define 0 2 0 0 0, 20 select 0, 22 sixel 1, 23 finish true",
-            None,
-        ),
-        (
-            b"\x1bPq!12~\x1b\\",
-            "0 start false [0], 3 repeat 12 63, 7 finish false",
-            None,
-        ),
-        (
-            b"\x1bP007;;3q\x1b\\",
-            "0 start false [7, 0, 3], 9 finish false",
-            None,
-        ),
-        (
-            b"\x1bP0;0;0;q\x1b\\",
-            "0 start false [0, 0, 0], 9 finish false",
-            None,
-        ),
-        (
-            b"\x1bPq#;;;;\x1b\\",
-            "0 start false [0], 3 define 0 0 0 0 0, 8 finish false",
-            None,
-        ),
-        (
-            b"\x1bPq\"\x1b\\",
-            "0 start false [0], 3 raster 0 0 0 0, 4 finish false",
-            None,
-        ),
-        (
-            b"\x1bPq!~\x1b\\",
-            "0 start false [0], 3 repeat 0 63, 5 finish false",
-            None,
-        ),
-        (
-            b"\x1bPq#1~#2\t$\x9c",
-            "0 start false [0], 3 select 1, 5 sixel 63, 6 select 2, 9 return, 10 finish true",
-            None,
-        ),
-        (b"\x90q\x1b\\", "0 start true [0], 2 finish false", None),
-    ];
-    for row in &rows {
+    for row in DOCUMENTS {
         agrees(&rt, row)?;
     }
     Ok(())
@@ -125,54 +181,7 @@ fn documents_say_their_events(rt: HostRuntime) -> Result<(), Fail> {
 
 #[test]
 fn what_is_no_document_has_its_fault(rt: HostRuntime) -> Result<(), Fail> {
-    let start = "0 start false [0]";
-    let rows: [Row; 24] = [
-        (b"", "", fault(Reason::Truncated, 0)),
-        (b"x", "", fault(Reason::NotSixel, 0)),
-        (b"\x1bPp", "", fault(Reason::NotSixel, 2)),
-        (
-            b"\x1bPq@",
-            "0 start false [0], 3 sixel 1",
-            fault(Reason::Truncated, 4),
-        ),
-        (
-            b"\x1bPq$\x1b]",
-            "0 start false [0], 3 return",
-            fault(Reason::BadTerminator, 5),
-        ),
-        (
-            b"\x1bPq\x1b\\x",
-            "0 start false [0], 3 finish false",
-            fault(Reason::Trailing, 5),
-        ),
-        (b"\x1bPq!", start, fault(Reason::Truncated, 4)),
-        (b"\x1bPq!65536~", start, fault(Reason::NumberTooLarge, 8)),
-        (b"\x1bPq#1;2~", start, fault(Reason::FieldCount, 7)),
-        (b"\x1bPq\"1;1;1;1;", start, fault(Reason::FieldCount, 11)),
-        (b"\x1bP1;2;3;4q", "", fault(Reason::FieldCount, 8)),
-        (b"\x1bP0;0;0;;", "", fault(Reason::FieldCount, 8)),
-        (b"\x1bP0;0;0;x", "", fault(Reason::NotSixel, 8)),
-        (b"\x1bP0;0;0;", "", fault(Reason::Truncated, 8)),
-        (b"\x1bPq!3 ~", start, fault(Reason::BadRepeat, 5)),
-        (b"\x1bPq#0\x18", start, fault(Reason::BadByte, 5)),
-        (b"\x1bPq\"1;1", start, fault(Reason::Truncated, 7)),
-        (b"\x1bP1;2;3;65536", "", fault(Reason::FieldCount, 8)),
-        (b"\x1bP65536q", "", fault(Reason::NumberTooLarge, 6)),
-        (b"\x1bPq#1;2;3\"", start, fault(Reason::FieldCount, 9)),
-        (b"\x1bPq#1;2;3;4;5;", start, fault(Reason::FieldCount, 13)),
-        (
-            b"\x1bPq~\x80",
-            "0 start false [0], 3 sixel 63",
-            fault(Reason::BadByte, 4),
-        ),
-        (b"\x1bP q", "", fault(Reason::NotSixel, 2)),
-        (
-            b"\x1bPq#7\x9c\x1b",
-            "0 start false [0], 3 select 7, 5 finish true",
-            fault(Reason::Trailing, 6),
-        ),
-    ];
-    for row in &rows {
+    for row in NO_DOCUMENTS {
         agrees(&rt, row)?;
     }
     Ok(())

@@ -25,16 +25,12 @@ fn is_in(bytes: Bytes, byte: u8) -> bool {
         Bytes::Digits => 0x30 <= byte && byte <= 0x39,
         Bytes::LowDigits => 0x30 <= byte && byte <= 0x35,
         Bytes::Data => 0x3f <= byte && byte <= 0x7e,
-        Bytes::Body => {
-            (0x09 <= byte && byte <= 0x0a)
-                || byte == 0x0d
-                || (0x3f <= byte && byte <= 0x7e)
-                || (0x20 <= byte && byte <= 0x24)
-                || byte == 0x2d
-                || byte == 0x1b
-                || byte == 0x9c
-        }
+        Bytes::Body => is_body(byte),
     }
+}
+
+fn is_body(byte: u8) -> bool {
+    matches!(byte, 0x09 | 0x0a | 0x0d | 0x1b | 0x20..=0x24 | 0x2d | 0x3f..=0x7e | 0x9c)
 }
 
 /// What is open, shown by bytes that open it: which bytes may follow, which others have a reason of their own, and the reason of

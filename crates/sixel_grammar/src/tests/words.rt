@@ -1,6 +1,7 @@
 //! Events and answers in words.
 
 use crate::{Command, Event, Fault, InputFault, Placed};
+use arrayvec::ArrayVec;
 use std::test::Fail;
 
 /// The smallest portable picture, 26 bytes.
@@ -9,6 +10,45 @@ pub(super) const PICTURE: &[u8] = b"\x1bPq\"1;1;1;1#0;2;0;0;0#0@\x1b\\";
 /// What it says.
 pub(super) const PICTURE_IN_WORDS: &str =
     "0 start false [0], 3 raster 1 1 1 1, 11 define 0 2 0 0 0, 21 select 0, 23 sixel 1, 24 finish false";
+
+fn listed(numbers: &[u16]) -> ArrayVec<u16, 5> {
+    let mut list = ArrayVec::new();
+    let _ = list.try_extend_from_slice(numbers);
+    list
+}
+
+/// The name of a command, and its numbers.
+fn named(command: &Command) -> (&'static str, ArrayVec<u16, 5>) {
+    match command {
+        Command::Sixel(bits) => ("sixel", listed(&[(*bits).into()])),
+        Command::Repeat { count, bits } => ("repeat", listed(&[*count, (*bits).into()])),
+        Command::Raster {
+            pan,
+            pad,
+            width,
+            height,
+        } => ("raster", listed(&[*pan, *pad, *width, *height])),
+        Command::Select(register) => ("select", listed(&[*register])),
+        Command::Define {
+            register,
+            system,
+            x,
+            y,
+            z,
+        } => ("define", listed(&[*register, *system, *x, *y, *z])),
+        Command::CarriageReturn => ("return", listed(&[])),
+        Command::NextLine => ("newline", listed(&[])),
+    }
+}
+
+fn command_in_words(rt: &impl AllocGlobal, command: &Command) -> Result<String, Fail> {
+    let (name, numbers) = named(command);
+    let mut text = name.to_string(rt.alloc())?;
+    for number in numbers.as_slice() {
+        text.push_str(format!(in rt.alloc(); " {number}")?.as_str())?;
+    }
+    Ok(text)
+}
 
 /// One event in words: its place, its name, its numbers.
 pub(super) fn in_words(rt: &impl AllocGlobal, placed: &Placed) -> Result<String, Fail> {
@@ -19,31 +59,12 @@ pub(super) fn in_words(rt: &impl AllocGlobal, placed: &Placed) -> Result<String,
             let parameters = parameters.as_slice();
             format!(in alloc; "{place} start {eight} {parameters:?}")?
         }
-        Event::Finish { eight } => format!(in alloc; "{place} finish {eight}")?,
-        Event::Step(Command::Sixel(bits)) => format!(in alloc; "{place} sixel {bits}")?,
-        Event::Step(Command::Repeat { count, bits }) => {
-            format!(in alloc; "{place} repeat {count} {bits}")?
+        Event::Step(command) => {
+            let words = command_in_words(rt, command)?;
+            let words = words.as_str();
+            format!(in alloc; "{place} {words}")?
         }
-        Event::Step(
-            Command::Raster {
-                pan,
-                pad,
-                width,
-                height,
-            },
-        ) => format!(in alloc; "{place} raster {pan} {pad} {width} {height}")?,
-        Event::Step(Command::Select(register)) => format!(in alloc; "{place} select {register}")?,
-        Event::Step(
-            Command::Define {
-                register,
-                system,
-                x,
-                y,
-                z,
-            },
-        ) => format!(in alloc; "{place} define {register} {system} {x} {y} {z}")?,
-        Event::Step(Command::CarriageReturn) => format!(in alloc; "{place} return")?,
-        Event::Step(Command::NextLine) => format!(in alloc; "{place} newline")?,
+        Event::Finish { eight } => format!(in alloc; "{place} finish {eight}")?,
     };
     Ok(text)
 }
