@@ -10,8 +10,9 @@ use Rattle.sixel_grammar.specs.Bytes.{introducer, terminator}
 use Rattle.sixel_grammar.specs.Spelling.{AreNumbers, IsEvent, fixed_fields, fixed_spelling}
 use Rattle.sixel_grammar.specs.Lengths.{digit_count, fields_length, most_length}
 
-by_digits : (l : ℕ) (a b c d : Bool) → (a ≡ true → l ≤ 1) → (b ≡ true → l ≤ 2) → (c ≡ true → l ≤ 3) → (d ≡ true → l ≤ 4) → l ≤ 5 →
-    l ≤ (if a then 1 else if b then 2 else if c then 3 else if d then 4 else 5)
+by_digits : (l : ℕ) (a b c d : Bool)
+    → (a ≡ true → l ≤ 1) → (b ≡ true → l ≤ 2) → (c ≡ true → l ≤ 3) → (d ≡ true → l ≤ 4) → l ≤ 5
+    → l ≤ (if a then 1 else if b then 2 else if c then 3 else if d then 4 else 5)
 by_digits l true b c d h1 h2 h3 h4 h5 = h1 refl
 by_digits l false true c d h1 h2 h3 h4 h5 = h2 refl
 by_digits l false false true d h1 h2 h3 h4 h5 = h3 refl

@@ -104,7 +104,8 @@ abbrev plain_with : ℕ → ℕ → Option (Option Event × Form × Option Event
 plain_with opened n None = false
 plain_with opened n (Some x) = are_plain (completed_events opened n x.0 x.2)
 
-none_plain : (opened n : ℕ) (w : Option (Form × Option Event)) (s : Option Event) (y : Option (Form × Option Event)) → only_grown w ≡ None → No w → ended_columns s ≡ false → plain_with opened n (chosen w s y) ≡ false
+none_plain : (opened n : ℕ) (w : Option (Form × Option Event)) (s : Option Event) (y : Option (Form × Option Event))
+    → only_grown w ≡ None → No w → ended_columns s ≡ false → plain_with opened n (chosen w s y) ≡ false
 none_plain opened n None None y g h e = refl
 none_plain opened n None (Some k) None g h e = refl
 none_plain opened n None (Some k) (Some (f, None)) g h e = e
@@ -112,8 +113,10 @@ none_plain opened n None (Some k) (Some (f, Some d)) g h e = refl
 none_plain opened n (Some (f, None)) s y g h e = cc
 none_plain opened n (Some (f, Some d)) s y g h e = h
 
-came : (f : Form) (events : List Placed) (opened : ℕ) (bytes : List ℕ) (b : ℕ) (done : List Placed) (x : Option (Option Event × Form × Option Event)) → next_of f b ≡ x
-    → EndsIn f events opened bytes → CompleteIn (events ++ done) (bytes ++ b ∷ []) → are_plain done ≡ true → plain_with opened (length bytes) x ≡ false → ⊥
+came : (f : Form) (events : List Placed) (opened : ℕ) (bytes : List ℕ) (b : ℕ) (done : List Placed)
+    (x : Option (Option Event × Form × Option Event)) → next_of f b ≡ x → EndsIn f events opened bytes
+    → CompleteIn (events ++ done) (bytes ++ b ∷ []) → are_plain done ≡ true
+    → plain_with opened (length bytes) x ≡ false → ⊥
 came f events opened bytes b done None h e c few none = not_viable f e b [] h (events ++ done, c)
 came f events opened bytes b done (Some x) h e c few none =
     let went : GoesTo events opened bytes b (Some x) = subst (GoesTo events opened bytes b) h (advances f e b) in
@@ -129,5 +132,7 @@ not_plain r q events done bytes b other s few t =
     let len = length-append bytes (b ∷ []) in
     let n = other (omega (arith, s.left, t.left, len)) in
     let f = form_of r.pending in
-    came f events (opened_after (length bytes) r) bytes b done (next_of f b) refl s.ends (read_complete q (events ++ done) (bytes ++ b ∷ []) t) few
-    (none_plain (opened_after (length bytes) r) (length bytes) (within f b) (settled f) (begin b) n.0 (whole_none f b n.1) (settled_none f))
+    came f events (opened_after (length bytes) r) bytes b done (next_of f b) refl s.ends
+    (read_complete q (events ++ done) (bytes ++ b ∷ []) t) few
+    (none_plain (opened_after (length bytes) r) (length bytes) (within f b) (settled f) (begin b) n.0
+    (whole_none f b n.1) (settled_none f))

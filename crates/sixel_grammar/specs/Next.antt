@@ -46,7 +46,8 @@ within Introducing b = if b == 80 then Some (Parameters false [] 0, None) else N
 within (Parameters eight ns n) b =
     if is_digit b then number_next (Parameters eight ns) n b
     else (if nat_lt (length ns) 3 then parameter_end eight ns n b else None)
-within (LastSeparator eight ns) b = if b == 113 then Some (NoCommand, Some (Start eight (record { items = ns }))) else None
+within (LastSeparator eight ns) b =
+    if b == 113 then Some (NoCommand, Some (Start eight (record { items = ns }))) else None
 within NoCommand b = begin b
 within (RepeatNumber n) b =
     if is_digit b then number_next RepeatNumber n b

@@ -48,4 +48,5 @@ Grows result new does = (if result then Some (form_of new) else None) ≡ only_g
 
 -- the event that a byte that does this makes whole, and what is open then
 abbrev pub MakesWhole : Option WholeEvent → Pending → Option (Form × Option Event) → Type 0
-MakesWhole result new does = option_map (λ (whole : WholeEvent). (form_of new, event_of whole new)) result ≡ only_whole does
+MakesWhole result new does =
+    option_map (λ (whole : WholeEvent). (form_of new, event_of whole new)) result ≡ only_whole does

@@ -7,7 +7,8 @@ use Rattle.sixel_grammar.specs.Document.{Piece, bytes_of, Parses}
 -- E P q E \, P q E \, q E \, E \, ~ E \, ; E \, ;; E \, ;;; E \, \ and nothing, where E is the byte 27
 abbrev pub tails : List (List ℕ)
 tails =
-    (27 ∷ 80 ∷ 113 ∷ 27 ∷ 92 ∷ []) ∷ (80 ∷ 113 ∷ 27 ∷ 92 ∷ []) ∷ (113 ∷ 27 ∷ 92 ∷ []) ∷ (27 ∷ 92 ∷ []) ∷ (126 ∷ 27 ∷ 92 ∷ [])
+    (27 ∷ 80 ∷ 113 ∷ 27 ∷ 92 ∷ []) ∷ (80 ∷ 113 ∷ 27 ∷ 92 ∷ []) ∷ (113 ∷ 27 ∷ 92 ∷ []) ∷ (27 ∷ 92 ∷ [])
+    ∷ (126 ∷ 27 ∷ 92 ∷ [])
     ∷ (59 ∷ 27 ∷ 92 ∷ []) ∷ (59 ∷ 59 ∷ 27 ∷ 92 ∷ []) ∷ (59 ∷ 59 ∷ 59 ∷ 27 ∷ 92 ∷ []) ∷ (92 ∷ []) ∷ [] ∷ []
 
 -- how many bytes have to come before the event of this piece, which stands from n on, is complete

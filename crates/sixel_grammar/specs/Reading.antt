@@ -30,4 +30,5 @@ ExplainsAlways Read bytes = ⊥
 
 -- no fault is in the bytes that were given, which are those before what is `left`: some document begins with them
 abbrev pub NoFaultBefore : Option (List ℕ) → List ℕ → Type 0
-NoFaultBefore left bytes = (given : List ℕ) × Consumes (Some bytes) left given × (length given ≤ most_bytes) × IsViable given
+NoFaultBefore left bytes =
+    (given : List ℕ) × Consumes (Some bytes) left given × (length given ≤ most_bytes) × IsViable given

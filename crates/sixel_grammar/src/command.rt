@@ -16,7 +16,7 @@ pub enum Command {
         count: u16,
         bits: u8,
     },
-    /// Raster attributes: the pixel aspect ratio `pan` to `pad`, and the picture's size in pixels. What isn't given is 0.
+    /// Raster attributes: the pixel aspect ratio `pan` to `pad`, and the picture's size in pixels. What is missing is 0.
     Raster {
         pan: u16,
         pad: u16,
@@ -25,8 +25,8 @@ pub enum Command {
     },
     /// Selects a colour register.
     Select(u16),
-    /// Gives a register a colour. System 1 is HLS (hue in degrees, then lightness and saturation in percent), system 2 is
-    /// RGB (each in percent).
+    /// Gives a register a colour. System 1 is HLS (hue in degrees, then lightness and saturation in percent), system 2
+    /// is RGB (each in percent).
     Define {
         register: u16,
         system: u16,

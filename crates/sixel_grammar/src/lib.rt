@@ -1,5 +1,5 @@
-//! The grammar of sixel pictures (DEC EK-VT3XX-GP, volume 2, the chapter on sixel graphics): what a document says, read byte
-//! by byte from any source and written to any sink.
+//! The grammar of sixel pictures (DEC EK-VT3XX-GP, volume 2, the chapter on sixel graphics): what a document says, read
+//! byte by byte from any source and written to any sink.
 #![tactic(auto)]
 
 mod block;

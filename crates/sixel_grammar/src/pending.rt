@@ -450,7 +450,8 @@ impl Pending {
     fn try_add_digit(&mut self, byte: u8) -> bool
         requires { IsTrue (digit_test byte) }
         ensures answer { result ≡ nat_le (with_digit self.old.number byte) 65535 }
-        ensures after { self.new ≡ (if result then record self.old { number = with_digit self.old.number byte } else self.old) }
+        ensures after { self.new ≡
+            (if result then record self.old { number = with_digit self.old.number byte } else self.old) }
     {
         let number = u32::from(self.number) * 10 + u32::from(byte - b'0');
         if number <= 65535 {

@@ -26,7 +26,8 @@ pub struct Reader {
     left: u64,
     /// Where what is open began.
     opened: u64,
-    /// How many byte values, from `?` on, are a sixel by themselves now: 64 between commands, none where nothing may come.
+    /// How many byte values, from `?` on, are a sixel by themselves now: 64 between commands, none where none
+    /// may come.
     sixels: u8,
     pending: Pending,
     fault: Option<Fault>,
@@ -71,8 +72,8 @@ impl Reader {
 
     /// Reads one byte as `feed` does, where it completes nothing, is a sixel by itself, or ends a repeat.
     ///
-    /// `None`: it is none of these or refused, it was not read, and nothing has changed. This way is the quicker one, and
-    /// `feed` takes every byte.
+    /// `None`: it is none of these or refused, it was not read, and nothing has changed. This way is the quicker one,
+    /// and `feed` takes every byte.
     #[inline(always)]
     pub fn feed_plain(&mut self, byte: u8) -> Option<Plain>
         ensures accepted { IfSome result (λ p. Takes self.old self.new byte (completions (plain_of p))) }
@@ -90,8 +91,8 @@ impl Reader {
         Some(Plain::Nothing)
     }
 
-    /// The ways of nearly all bytes: a sixel by itself, a digit, a separator of colour fields, a repeat from its introducer to
-    /// the data byte that ends it.
+    /// The ways of nearly all bytes: a sixel by itself, a digit, a separator of colour fields, a repeat from its
+    /// introducer to the data byte that ends it.
     #[inline(always)]
     fn feed_quickly(&mut self, byte: u8) -> Option<Plain>
         ensures accepted { IfSome result (λ p. Takes self.old self.new byte (completions (plain_of p))) }
@@ -186,7 +187,8 @@ impl Reader {
     /// Whether the byte is a sixel by itself.
     #[inline]
     fn is_sixel(&self, byte: u8) -> bool
-        ensures { IsTrue result ↔ IsTrue (data_test byte) × (0 < self.now.left) × (form_of self.now.pending ≡ NoCommandForm) }
+        ensures { IsTrue result
+            ↔ IsTrue (data_test byte) × (0 < self.now.left) × (form_of self.now.pending ≡ NoCommandForm) }
     {
         byte.wrapping_sub(b'?') < self.sixels
     }
@@ -215,7 +217,8 @@ impl Reader {
         ensures accepted { result ≡ true → Takes self.old self.new byte [] }
         ensures kept { result ≡ false → self.new ≡ self.old }
         ensures stopped { IsSome (fault_of self.old) → result ≡ false }
-        ensures refused { result ≡ false → 0 < self.old.left → only_grown (within_of (form_of self.old.pending) byte) ≡ None }
+        ensures refused { result ≡ false → 0 < self.old.left →
+            only_grown (within_of (form_of self.old.pending) byte) ≡ None }
     {
         if self.left == 0 {
             return false;
@@ -335,7 +338,8 @@ impl Reader {
     pub fn finish(&self) -> Result<(), Fault>
         ensures fault { IfSome (fault_of self.now) (λ fault. result ≡ Err fault) }
         ensures answer { (events : List PlacedEvent) (bytes : List ℕ) → StandsAfter self.now events bytes →
-            MatchResult result (λ _. Document events bytes) (λ fault. IsFaultOf bytes fault × (fault.place ≡ length bytes)) }
+            MatchResult result (λ _. Document events bytes)
+            (λ fault. IsFaultOf bytes fault × (fault.place ≡ length bytes)) }
     {
         if let Some(fault) = self.fault {
             return Err(fault);

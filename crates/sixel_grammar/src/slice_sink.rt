@@ -41,8 +41,8 @@ impl<'a> Model for SliceSink<'a> {
 }
 
 impl<'a> SliceSink<'a> {
-    /// A sink into the slice. Call number `fail_at`, from 0, fails, and each take that finds the slice full; no other does.
-    /// Takes and flushes count together.
+    /// A sink into the slice. Call number `fail_at`, from 0, fails, and each take that finds the slice full; no other
+    /// does. Takes and flushes count together.
     pub fn new(room: &'a mut [u8], piece: usize, fail_at: Option<u64>) -> SliceSink<'a>
         requires { 0 < piece }
         ensures { result ≡ record {

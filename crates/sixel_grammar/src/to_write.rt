@@ -5,11 +5,11 @@ ghost use Rattle.std.specs.Prelude.{◌≡◌, false};
 use crate::device::{DeviceFault, Sink};
 use std::io::Write;
 
-/// Any writer, as a sink: each `take` is one `write`. An error of any kind counts as a failure, an interruption too, and so does
-/// a write that takes no byte.
+/// Any writer, as a sink: each `take` is one `write`. An error of any kind counts as a failure, an interruption too,
+/// and so does a write that takes no byte.
 ///
-/// No contract says when a write succeeds, nor what a writer's flush does, so none says that a failed call is one of the writer,
-/// or that `flush` flushes it: tests show it.
+/// No contract says when a write succeeds, nor what a writer's flush does, so none says that a failed call is one of
+/// the writer, or that `flush` flushes it: tests show it.
 #[derive(Debug, Drop)]
 pub struct ToWrite<W> {
     writer: W,

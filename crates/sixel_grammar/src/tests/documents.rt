@@ -225,7 +225,8 @@ fn plain_bytes_are_read_quickly(rt: HostRuntime) -> Result<(), Fail> {
             }
         }
     }
-    // Left to `feed` are the byte that ends the introducer, those that end a definition and a select, a next line, and the end.
+    // Left to `feed` are the byte that ends the introducer, those that end a definition and a select, a next line, and
+    // the end.
     assert_eq!(rt;
         read.as_str(),
         "..x..3 repeat 3 636 sixel 0..........x.xx.x"
@@ -284,7 +285,8 @@ fn a_long_list_is_read(rt: HostRuntime) -> Result<(), Fail> {
     Ok(())
 }
 
-/// Feeds the bytes and then spaces up to the limit: what the reader answers at the end, at a byte more and at the end again.
+/// Feeds the bytes and then spaces up to the limit: what the reader answers at the end, at a byte more and at the end
+/// again.
 fn at_the_limit(
     rt: &impl Abort,
     bytes: &[u8],

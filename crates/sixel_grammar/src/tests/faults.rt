@@ -33,8 +33,8 @@ fn is_body(byte: u8) -> bool {
     matches!(byte, 0x09 | 0x0a | 0x0d | 0x1b | 0x20..=0x24 | 0x2d | 0x3f..=0x7e | 0x9c)
 }
 
-/// What is open, shown by bytes that open it: which bytes may follow, which others have a reason of their own, and the reason of
-/// the rest.
+/// What is open, shown by bytes that open it: which bytes may follow, which others have a reason of their own, and the
+/// reason of the rest.
 #[derive(Drop)]
 struct Open {
     bytes: &'static [u8],

@@ -65,7 +65,8 @@ fn each_fill_fails_in_turn(rt: HostRuntime) -> Result<(), Fail> {
     Ok(())
 }
 
-/// The piece that holds the fault is the last one, also where the next fill would fail. At the end there is one fill more.
+/// The piece that holds the fault is the last one, also where the next fill would fail. At the end there is one fill
+/// more.
 #[test]
 fn a_source_is_left_alone_after_a_fault(rt: HostRuntime) -> Result<(), Fail> {
     for (piece, fills) in [(1, 13), (2, 7), (5, 3), (12, 2), (13, 1), (64, 1)] {

@@ -1,8 +1,18 @@
-use Rattle.std.proofs.Common.{◌+◌, ◌-◌, length, take, drop, arith}
+use Rattle.std.proofs.Common.{◌+◌, ◌-◌, length, take, drop, refl, arith}
 use Rattle.std.proofs.lemmas.List.{length-drop, length-take, take_rest}
 use Rattle.std.proofs.Math.Seq.{take-add}
 use Rattle.sixel_grammar.proofs.Devices.{Appends-then}
+use Rattle.sixel_grammar.proofs.Sinks.{Appends-none}
 use Rattle.sixel_grammar.proofs.device.put_all.Goals as goal
+
+pub loop-at-init : goal.loop-at-init
+loop-at-init g c = record {
+  in_range = omega arith;
+  appended = Appends-none _;
+  unflushed = λ t. t;
+  held = λ t. absurd (omega arith);
+  failures = refl;
+}
 
 pub loop-at-preserved : goal.loop-at-preserved
 loop-at-preserved g c =
