@@ -44,3 +44,6 @@ loop-events-preserved g c =
       consumes-then _ _ _ i.0 (take c.in_ok-count.count c.fill.new.piece) i.2 c.in_ok-count.ensures.bytes.0,
       cc (c.in_ok-count.ensures.failures, i.3),
     )
+
+pub returns-then-count-eq0-clause-failures : goal.returns-then-count-eq0-clause-failures
+returns-then-count-eq0-clause-failures g c = cc (c.in_ok-count.ensures.failures, c.loop-events.invariant.3)
