@@ -5,7 +5,7 @@ ghost use Rattle.std.specs.Option.{option_map};
 ghost use Rattle.sixel_grammar.specs.declared.command.Event.{Event as EventValue};
 ghost use Rattle.sixel_grammar.specs.Spelling.{IsSpellable};
 ghost use Rattle.sixel_picture.specs.Events.{raster_of};
-ghost use Rattle.sixel_picture.specs.Rules.{FallsOutside, StaysBlank, picture_left};
+ghost use Rattle.sixel_picture.specs.Rules.{FallsOutside, StaysBlank, palette_left, picture_left};
 ghost use Rattle.sixel_picture.specs.Sheets.{IsFull};
 ghost use Rattle.sixel_check.specs.Breaches.{IsBreachOf, NoneBelow};
 ghost use Rattle.sixel_check.specs.Judging.{AreNotesAfter, IsDrawn, IsSheetAfter, IsUndrawn, StandsUnbroken, box_of};
@@ -19,7 +19,7 @@ use crate::outside::outside_pixel;
 use crate::rule::Rule;
 use crate::rules::broken_rule;
 use sixel_grammar::Event;
-use sixel_picture::{Picture, Plane};
+use sixel_picture::{Palette, Picture, Plane};
 use std::alloc::{AllocError, Global};
 
 /// The first pixel outside the box that the event paints.
@@ -160,6 +160,13 @@ pub(crate) fn draw<P: Plane>(
     }
 }
 
+/// The palette that is left: the colour of each register whose definition stands.
+fn left_palette(notes: &Notes) -> Palette
+    ensures { (events : List EventValue) → AreNotesAfter notes.now events → result ≡ palette_left 16 events }
+{
+    notes.palette
+}
+
 /// The picture of a plane without a blank pixel.
 pub(crate) fn picture_of<P: Plane>(notes: &Notes, plane: P) -> Picture
     requires full { IsFull (P.sheet plane) }
@@ -169,7 +176,7 @@ pub(crate) fn picture_of<P: Plane>(notes: &Notes, plane: P) -> Picture
 {
     let width = plane.width();
     let height = plane.height();
-    match Picture::new(width, height, notes.palette, plane.into_registers()) {
+    match Picture::new(width, height, left_palette(notes), plane.into_registers()) {
         Ok(picture) => picture,
         Err(_) => unreachable!(),
     }

@@ -31,13 +31,11 @@ unreachable-requires g c =
     let s = g.P.Plane.sheet c.args.plane in
     let fits = picture_fits c.args.notes.now s q.0 c.into_registers.result.items q.1.notes_are q.1.sheet_is q.1.coloured
     c.into_registers.ensures in
-    let palette_is = q.1.notes_are.palette_is in
     absurd
-    (fits_not _ _ _ (palette_left 16 q.0) _ s _ c.in-Err.ensures.reason c.width-width.ensures c.height-height.ensures (cc)
-    fits)
+    (fits_not _ _ _ (palette_left 16 q.0) _ s _ c.in-Err.ensures.reason c.width-width.ensures c.height-height.ensures
+    (c.left_palette.ensures q.0 q.1.notes_are) fits)
 
 pub returns : goal.returns
 returns g c = λ events s.
-    let palette_is = s.notes_are.palette_is in
     left_of _ _ _ _ _ (g.P.Plane.sheet c.args.plane) events c.in-Ok.ensures.parts c.width-width.ensures
-    c.height-height.ensures (cc) s.sheet_is c.into_registers.ensures
+    c.height-height.ensures (c.left_palette.ensures events s.notes_are) s.sheet_is c.into_registers.ensures
