@@ -1,0 +1,88 @@
+-- On the answer of a check of a source.
+use Rattle.std.proofs.Common.{◌≡◌, ◌≢◌, ◌++◌, ◌∙◌, ℕ, List, Option, Some, None, ap, sym, subst, take, refl}
+use Rattle.std.specs.Prelude.{Err, IfErr, IfSome, Ok, Result}
+use Rattle.std.specs.Io.KnownBytes.{Consumes, IsAtEnd}
+use Rattle.std.proofs.lemmas.List.{append-nil}
+use Rattle.sixel_grammar.specs.Devices.{one_more}
+use Rattle.sixel_grammar.specs.Reading.{Explains, ExplainsAlways, failures_after}
+use Rattle.sixel_grammar.specs.declared.fault.InputFault.{InputFault}
+use Rattle.sixel_grammar.specs.declared.fault.InputFault.TheVariants.{Grammar, OutOfMemory, Read}
+use Rattle.sixel_grammar.proofs.Sources.{all_read, consumes-then, refused_early, take_none}
+use Rattle.sixel_check.specs.Checking.{Answers}
+use Rattle.sixel_check.specs.Growth.{GrowsFor, MayGrowIn}
+use Rattle.sixel_check.specs.declared.verdict.Verdict.{Verdict}
+use Rattle.sixel_check.proofs.GrowthLemmas.{grows_told}
+use Rattle.sixel_check.proofs.ReadLemmas.{never_read, not_failed}
+
+-- ---- a failure of the source
+
+pub read_answers : (o : Option (List ℕ)) (r : Result Verdict InputFault) → r ≡ Err Read → IfSome o (Answers r)
+read_answers None r is = tt
+read_answers (Some bytes) r is = subst (λ (t : Result Verdict InputFault). Answers t bytes) (sym is) tt
+
+pub read_counts : (old mid new : ℕ) (r : Result Verdict InputFault) → r ≡ Err Read → new ≡ one_more mid → mid ≡ old
+    → new ≡ failures_after r old
+read_counts old mid new r is one same =
+    one ∙ ap one_more same ∙ ap (λ (t : Result Verdict InputFault). failures_after t old) (sym is)
+
+pub read_grows : (o : Option (List ℕ)) (r : Result Verdict InputFault) → r ≡ Err Read
+    → IfSome o (λ bytes. r ≡ Err OutOfMemory → MayGrowIn bytes)
+read_grows None r is = tt
+read_grows (Some bytes) r is = λ e. absurd (other (sym is ∙ e))
+  where
+    other : (let r : Result Verdict InputFault = Err Read in r) ≡ Err OutOfMemory → ⊥
+    other e = cc
+
+-- ---- the end of the bytes
+
+-- what holds of the bytes before a piece of none holds of all
+pub told_all : (a b c : Option (List ℕ)) (front piece : List ℕ) (n : ℕ) (P : List ℕ → Type 0) → Consumes a b front
+    → Consumes b c (take n piece) → n ≡ 0 → IsAtEnd c → P front → IfSome a P
+told_all a b c front piece n P before none zero end p =
+    all_read a c (front ++ take n piece) P (consumes-then a b c front (take n piece) before none) end
+    (subst P (sym (ap (λ (t : List ℕ). front ++ t) (take_none n piece zero) ∙ append-nil front)) p)
+
+pub end_counts : (old mid new : ℕ) (r : Result Verdict InputFault) → IfErr r (λ fault. fault ≡ Read → ⊥) → new ≡ mid
+    → mid ≡ old → new ≡ failures_after r old
+end_counts old mid new (Ok v) never same before = same ∙ before
+end_counts old mid new (Err (Grammar f)) never same before = same ∙ before
+end_counts old mid new (Err OutOfMemory) never same before = same ∙ before
+end_counts old mid new (Err Read) never same before = absurd (never refl)
+
+pub end_reads : (P : Type 0) (r : Result Verdict InputFault) → IfErr r (λ fault. fault ≡ Read → ⊥) → r ≡ Err Read → P
+end_reads P (Ok v) never e = cc
+end_reads P (Err (Grammar f)) never e = cc
+end_reads P (Err OutOfMemory) never e = cc
+end_reads P (Err Read) never e = absurd (never refl)
+
+pub end_grows : (o : Option (List ℕ)) (r : Result Verdict InputFault) → r ≢ Err OutOfMemory
+    → IfSome o (λ bytes. r ≡ Err OutOfMemory → MayGrowIn bytes)
+end_grows None r other = tt
+end_grows (Some bytes) r other = λ e. absurd (other e)
+
+-- ---- a piece that was refused
+
+pub fault_answers : (a b : Option (List ℕ)) (fault : InputFault) (r : Result Verdict InputFault) (xs : List ℕ)
+    → r ≡ Err fault → Consumes a b xs → ExplainsAlways fault xs → IfSome a (Answers r)
+fault_answers a b fault r xs is c h =
+    subst (λ (t : Result Verdict InputFault). IfSome a (Answers t)) (sym is) (refused_early a b fault xs c h)
+
+pub fault_counts : (old mid new : ℕ) (fault : InputFault) (r : Result Verdict InputFault) (xs : List ℕ) → r ≡ Err fault
+    → ExplainsAlways fault xs → new ≡ mid → mid ≡ old → new ≡ failures_after r old
+fault_counts old mid new fault r xs is h same before =
+    same ∙ before ∙ not_failed Verdict fault xs old h
+    ∙ ap (λ (t : Result Verdict InputFault). failures_after t old) (sym is)
+
+pub fault_reads : (P : Type 0) (fault : InputFault) (r : Result Verdict InputFault) (xs : List ℕ) → r ≡ Err fault
+    → ExplainsAlways fault xs → r ≡ Err Read → P
+fault_reads P fault r xs is h e = absurd (never_read fault xs h (same fault Read (sym is ∙ e)))
+  where
+    same : (f k : InputFault) → (let r : Result Verdict InputFault = Err f in r) ≡ Err k → f ≡ k
+    same f k e = cc
+
+pub fault_grows : (a b : Option (List ℕ)) (fault : InputFault) (r : Result Verdict InputFault) (xs : List ℕ)
+    → r ≡ Err fault → Consumes a b xs → GrowsFor fault xs
+    → IfSome a (λ bytes. r ≡ Err OutOfMemory → MayGrowIn bytes)
+fault_grows a b fault r xs is c h =
+    subst (λ (t : Result Verdict InputFault). IfSome a (λ bytes. t ≡ Err OutOfMemory → MayGrowIn bytes)) (sym is)
+    (grows_told a b fault xs c h)
