@@ -42,18 +42,16 @@ told_all a b c front piece n P before none zero end p =
     all_read a c (front ++ take n piece) P (consumes-then a b c front (take n piece) before none) end
     (subst P (sym (ap (λ (t : List ℕ). front ++ t) (take_none n piece zero) ∙ append-nil front)) p)
 
-pub end_counts : (old mid new : ℕ) (r : Result Verdict InputFault) → IfErr r (λ fault. fault ≡ Read → ⊥) → new ≡ mid
-    → mid ≡ old → new ≡ failures_after r old
+pub end_counts : (old mid new : ℕ) (r : Result Verdict InputFault) → r ≢ Err Read → new ≡ mid → mid ≡ old
+    → new ≡ failures_after r old
 end_counts old mid new (Ok v) never same before = same ∙ before
 end_counts old mid new (Err (Grammar f)) never same before = same ∙ before
 end_counts old mid new (Err OutOfMemory) never same before = same ∙ before
 end_counts old mid new (Err Read) never same before = absurd (never refl)
 
-pub end_reads : (P : Type 0) (r : Result Verdict InputFault) → IfErr r (λ fault. fault ≡ Read → ⊥) → r ≡ Err Read → P
-end_reads P (Ok v) never e = cc
-end_reads P (Err (Grammar f)) never e = cc
-end_reads P (Err OutOfMemory) never e = cc
-end_reads P (Err Read) never e = absurd (never refl)
+pub end_reads : (r : Result Verdict InputFault) → r ≢ Err Read → IfErr r (λ fault. fault ≡ Read → ⊥)
+end_reads (Ok v) never = tt
+end_reads (Err fault) never = λ e. never (ap (λ (f : InputFault). Err f) e)
 
 pub end_grows : (o : Option (List ℕ)) (r : Result Verdict InputFault) → r ≢ Err OutOfMemory
     → IfSome o (λ bytes. r ≡ Err OutOfMemory → MayGrowIn bytes)

@@ -155,11 +155,18 @@ fn read_piece<P: Plane>(
     Ok(())
 }
 
+/// A reader and a checker before any byte.
+fn nothing_read(alloc: Global) -> (Reader, Checker<BandPlane>)
+    ensures { AreAfter result.0 result.1 [] }
+{
+    (Reader::new(), Checker::new(alloc))
+}
+
 /// The answer at the end of the bytes.
 fn conclude<P: Plane>(reader: &Reader, checker: Checker<P>) -> Result<Verdict, InputFault>
     requires { (front : List ℕ) × AreAfter reader.now checker front }
     ensures answer { (front : List ℕ) → AreAfter reader.now checker front → Answers result front }
-    ensures never_read { IfErr result (λ fault. fault ≡ InputFault.Read → ⊥) }
+    ensures never_read { result ≢ Err InputFault.Read }
     ensures memory { result ≢ Err InputFault.OutOfMemory }
 {
     reader.finish()?;
@@ -178,9 +185,8 @@ pub fn check<S: Source>(alloc: Global, input: &mut S) -> Result<Verdict, InputFa
     ensures unread { result ≡ Err ReadFault → IfSome (S.remaining input.old) (NoFaultBefore (S.remaining input.new)) }
     ensures memory { IfSome (S.remaining input.old) (λ bytes. result ≡ Err InputFault.OutOfMemory → MayGrowIn bytes) }
 {
-    let mut reader = Reader::new();
-    let mut checker: Checker<BandPlane> = Checker::new(alloc);
     let mut piece = [0u8; PIECE];
+    let (mut reader, mut checker) = nothing_read(alloc);
     loop {
         let count = input.fill(&mut piece)?;
         if count == 0 {
@@ -197,8 +203,7 @@ pub fn check_bytes(alloc: Global, bytes: &[u8]) -> Result<Verdict, InputFault>
     ensures never_read { IfErr result (λ fault. fault ≡ InputFault.Read → ⊥) }
     ensures memory { result ≡ Err InputFault.OutOfMemory → MayGrowIn bytes.now }
 {
-    let mut reader = Reader::new();
-    let mut checker: Checker<BandPlane> = Checker::new(alloc);
+    let (mut reader, mut checker) = nothing_read(alloc);
     read_piece(&mut reader, &mut checker, bytes)?;
     conclude(&reader, checker)
 }

@@ -8,15 +8,14 @@ use Rattle.sixel_grammar.specs.Reading.{NoFaultBefore}
 use Rattle.sixel_grammar.specs.Standing.{left_of}
 use Rattle.sixel_grammar.proofs.Sources.{consumes-then, no_fault_before}
 use Rattle.sixel_check.specs.Checking.{Answers}
-use Rattle.sixel_check.proofs.CheckLemmas.{end_counts, end_grows, end_reads, fault_answers, fault_counts, fault_grows}
+use Rattle.sixel_check.proofs.CheckLemmas.{end_counts, end_grows, fault_answers, fault_counts, fault_grows}
 use Rattle.sixel_check.proofs.CheckLemmas.{fault_reads, read_answers, read_counts, read_grows, told_all}
-use Rattle.sixel_check.proofs.ReadLemmas.{after_none}
 use Rattle.sixel_check.proofs.checking.check.Goals as goal
 
 pub loop-checker-init : goal.loop-checker-init
 loop-checker-init g c = (
   [],
-  after_none c.new-reader.result c.new-checker.result c.new-reader.ensures c.new-checker.ensures,
+  c.nothing_read-reader.ensures,
   Consumes-nil (g.S.Source.remaining c.args.input.now),
   refl,
 )
@@ -67,9 +66,7 @@ returns-then-count-eq0-clause-failures g c =
     c.in_ok-count.ensures.failures c.loop-checker.invariant.3
 
 pub returns-then-count-eq0-clause-unread : goal.returns-then-count-eq0-clause-unread
-returns-then-count-eq0-clause-unread g c =
-    end_reads (IfSome (g.S.Source.remaining c.args.input.now) (NoFaultBefore (g.S.Source.remaining c.fill.new.self)))
-    c.conclude.result c.conclude.ensures.never_read
+returns-then-count-eq0-clause-unread g c = λ is. absurd (c.conclude.ensures.never_read is)
 
 pub returns-then-count-eq0-clause-memory : goal.returns-then-count-eq0-clause-memory
 returns-then-count-eq0-clause-memory g c =

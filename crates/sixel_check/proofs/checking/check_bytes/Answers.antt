@@ -1,36 +1,43 @@
 use Rattle.std.proofs.Common.{[]}
 use Rattle.std.specs.Prelude.{Err}
 use Rattle.std.proofs.lemmas.Result.{err_from_is_err_and}
+use Rattle.sixel_check.proofs.CheckLemmas.{end_reads}
 use Rattle.sixel_check.proofs.GrowthLemmas.{grows_if}
-use Rattle.sixel_check.proofs.ReadLemmas.{after_none, explains_now, never_read}
+use Rattle.sixel_check.proofs.ReadLemmas.{explains_now, never_read}
 use Rattle.sixel_check.proofs.checking.check_bytes.Goals as goal
 
 pub conclude-requires : goal.conclude-requires
 conclude-requires c =
-    (c.args.bytes.now, c.in_ok-read_piece.ensures.read [] (after_none c.new-reader.result c.new-checker.result c.new-reader.ensures c.new-checker.ensures))
+    (c.args.bytes.now, c.in_ok-read_piece.ensures.read [] c.nothing_read-reader.ensures)
 
 pub returns-clause-answer : goal.returns-clause-answer
 returns-clause-answer c =
     c.conclude.ensures.answer c.args.bytes.now
-    (c.in_ok-read_piece.ensures.read [] (after_none c.new-reader.result c.new-checker.result c.new-reader.ensures c.new-checker.ensures))
+    (c.in_ok-read_piece.ensures.read [] c.nothing_read-reader.ensures)
 
 pub returns-in_err-read_piece-clause-answer : goal.returns-in_err-read_piece-clause-answer
 returns-in_err-read_piece-clause-answer c =
     let failed = err_from_is_err_and c.from_residual.result c.from_residual.ensures.1 in
     rw (failed.1, failed.2)
     (explains_now _ c.args.bytes.now
-    (c.in_err-read_piece.ensures.refused [] (after_none c.new-reader.result c.new-checker.result c.new-reader.ensures c.new-checker.ensures)))
+    (c.in_err-read_piece.ensures.refused [] c.nothing_read-reader.ensures))
 
 pub returns-in_err-read_piece-clause-never_read : goal.returns-in_err-read_piece-clause-never_read
 returns-in_err-read_piece-clause-never_read c =
     let failed = err_from_is_err_and c.from_residual.result c.from_residual.ensures.1 in
     rw (failed.1, failed.2)
     (never_read _ c.args.bytes.now
-    (c.in_err-read_piece.ensures.refused [] (after_none c.new-reader.result c.new-checker.result c.new-reader.ensures c.new-checker.ensures)))
+    (c.in_err-read_piece.ensures.refused [] c.nothing_read-reader.ensures))
 
 pub returns-in_err-read_piece-clause-memory : goal.returns-in_err-read_piece-clause-memory
 returns-in_err-read_piece-clause-memory c =
     let failed = err_from_is_err_and c.from_residual.result c.from_residual.ensures.1 in
     rw (failed.1, failed.2)
     (grows_if (Err _) c.args.bytes.now
-    (c.in_err-read_piece.ensures.memory [] (after_none c.new-reader.result c.new-checker.result c.new-reader.ensures c.new-checker.ensures)))
+    (c.in_err-read_piece.ensures.memory [] c.nothing_read-reader.ensures))
+
+pub returns-clause-never_read : goal.returns-clause-never_read
+returns-clause-never_read c = end_reads c.conclude.result c.conclude.ensures.never_read
+
+pub returns-clause-memory : goal.returns-clause-memory
+returns-clause-memory c = λ is. absurd (c.conclude.ensures.memory is)
