@@ -13,9 +13,9 @@ mod terminals;
 
 use crate::checking::check_bytes;
 use crate::verdict::{Finding, Verdict};
-use sixel_grammar::{Fault, InputFault};
+use sixel_grammar::{Fault, InputFault, Placed, SliceSource, read_all};
 use sixel_picture::Picture;
-use std::alloc::AllocError;
+use std::alloc::{AllocError, Global};
 use std::process::Abort;
 use std::test::Fail;
 
@@ -26,6 +26,29 @@ fn bytes_of(rt: &impl AllocGlobal, text: &str) -> Result<Vec<u8>, Fail> {
         bytes.push(if *byte == b'E' { 0x1b } else { *byte })?;
     }
     Ok(bytes)
+}
+
+/// The parts one after another.
+fn joined(rt: &impl AllocGlobal, parts: &[&str]) -> Result<String, AllocError> {
+    let mut text = String::new(rt.alloc());
+    for part in parts {
+        text.push_str(part)?;
+    }
+    Ok(text)
+}
+
+/// A part so many times.
+fn times(rt: &impl AllocGlobal, part: &str, count: u32) -> Result<String, AllocError> {
+    let mut text = String::new(rt.alloc());
+    for _ in 0..count {
+        text.push_str(part)?;
+    }
+    Ok(text)
+}
+
+/// The events of a document.
+fn events_of(alloc: Global, bytes: &[u8]) -> Result<Vec<Placed>, InputFault> {
+    read_all(alloc, &mut SliceSource::new(bytes, 64, None))
 }
 
 fn picture_in_words(rt: &impl AllocGlobal, picture: &Picture) -> Result<String, AllocError> {

@@ -3,8 +3,9 @@
 //! Offsets: `"1;1;1;1` is 3 to 10, so a first definition stands at 11, and what follows `#0;2;0;0;0` at 21.
 
 use crate::tests::documents::picture_of;
-use crate::tests::{agree, agrees};
+use crate::tests::{agree, agrees, joined, times};
 use sixel_picture::Colour;
+use std::alloc::AllocError;
 use std::process::Abort;
 use std::test::Fail;
 
@@ -154,18 +155,18 @@ fn outside_pixels_of_a_later_band(rt: HostRuntime) -> Result<(), Fail> {
 }
 
 /// 341 bands of six rows in this data, and one band in other data.
-fn with_bands(rt: &impl AllocGlobal, raster: &str, band: &str, last: &str) -> Result<String, Fail> {
-    let mut text = String::new(rt.alloc());
-    text.push_str("EPq")?;
-    text.push_str(raster)?;
-    text.push_str("#0;2;0;0;0#0")?;
-    for _ in 0..341 {
-        text.push_str(band)?;
-        text.push_str("-")?;
-    }
-    text.push_str(last)?;
-    text.push_str("E\\")?;
-    Ok(text)
+fn with_bands(
+    rt: &impl AllocGlobal,
+    raster: &str,
+    band: &str,
+    last: &str,
+) -> Result<String, AllocError> {
+    let one = joined(rt, &[band, "-"])?;
+    let bands = times(rt, one.as_str(), 341)?;
+    joined(
+        rt,
+        &["EPq", raster, "#0;2;0;0;0#0", bands.as_str(), last, "E\\"],
+    )
 }
 
 /// 2,048 rows are 341 bands and two rows more. Before the bands stand 26 bytes, and before the last 26 + 341 * 2.

@@ -282,16 +282,23 @@ fn is_row(alloc: Global, picture: &Picture, y: u32, expected: &str) -> Result<bo
     Ok(row_of(alloc, picture, y)?.as_slice() == expected.as_bytes())
 }
 
+/// Whether these are the rows of the picture.
+fn has_rows(alloc: Global, picture: &Picture, rows: &[&str]) -> Result<bool, AllocError> {
+    for (y, expected) in (0..7u32).zip(rows) {
+        if !is_row(alloc, picture, y, expected)? {
+            return Ok(false);
+        }
+    }
+    Ok(picture.width() == 14 && picture.height() == 7)
+}
+
 #[test]
 fn the_picture_of_two_letters(rt: HostRuntime) -> Result<(), Fail> {
     let picture = picture_of(
         &rt,
         "EPq\"1;1;14;7#0;2;0;0;0#1;2;100;100;0#2;2;0;100;0#1~~@@vv@@~~@@~~$#2??}}GG}}??}}??-#1!14@E\\",
     )?;
-    assert!(rt; picture.width() == 14 && picture.height() == 7);
-    for (y, expected) in (0..7u32).zip(LETTERS) {
-        assert!(rt; is_row(rt.alloc(), &picture, y, expected)?, "row {y}");
-    }
+    assert!(rt; has_rows(rt.alloc(), &picture, &LETTERS)?);
     let colours = [black(), Colour::rgb(100, 100, 0), Colour::rgb(0, 100, 0)];
     assert!(rt; has_colours(&picture, &colours));
     Ok(())

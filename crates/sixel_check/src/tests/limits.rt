@@ -2,20 +2,18 @@
 
 use crate::tests::documents::agrees_in_three;
 use crate::tests::steps::agrees_on_events;
-use crate::tests::{agrees, bytes_of};
+use crate::tests::{agrees, bytes_of, joined, times};
+use std::alloc::AllocError;
 use std::process::Abort;
 use std::test::Fail;
 
 /// The smallest picture without its end, 24 bytes; 200 times one command; more commands; and the end.
-fn with_many(rt: &impl AllocGlobal, command: &str, more: &str) -> Result<String, Fail> {
-    let mut text = String::new(rt.alloc());
-    text.push_str("EPq\"1;1;1;1#0;2;0;0;0#0@")?;
-    for _ in 0..200 {
-        text.push_str(command)?;
-    }
-    text.push_str(more)?;
-    text.push_str("E\\")?;
-    Ok(text)
+fn with_many(rt: &impl AllocGlobal, command: &str, more: &str) -> Result<String, AllocError> {
+    let many = times(rt, command, 200)?;
+    joined(
+        rt,
+        &["EPq\"1;1;1;1#0;2;0;0;0#0@", many.as_str(), more, "E\\"],
+    )
 }
 
 /// The answer is the same on the bytes, from a source, and on the events.

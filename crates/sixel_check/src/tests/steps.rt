@@ -6,9 +6,9 @@ ghost use Rattle.sixel_check.specs.Standing.{StandsAfter};
 
 use crate::checker::Checker;
 use crate::tests::documents::DOCUMENTS;
-use crate::tests::{bytes_of, in_words};
+use crate::tests::{bytes_of, events_of, in_words};
 use arrayvec::ArrayVec;
-use sixel_grammar::{Command, Event, Placed, SliceSource, read_all};
+use sixel_grammar::{Command, Event, Placed};
 use sixel_picture::{BytePlane, Plane};
 use std::process::Abort;
 use std::test::Fail;
@@ -47,26 +47,20 @@ fn verdict_of(rt: &impl AllocGlobal, checker: Checker<BytePlane>) -> Result<Stri
     in_words(rt, &Ok(verdict))
 }
 
-/// The events of the bytes; none where they are no document.
-fn events_of(rt: &impl AllocGlobal, bytes: &[u8]) -> Option<Vec<Placed>> {
-    let mut source = SliceSource::new(bytes, 64, None);
-    read_all(rt.alloc(), &mut source).ok()
-}
-
 /// The events of the smallest portable picture.
 fn smallest(rt: &impl AllocGlobal) -> Result<Vec<Placed>, Fail> {
     let picture = b"\x1bPq\"1;1;1;1#0;2;0;0;0#0@\x1b\\";
-    Ok(events_of(rt, picture).ok_or("no document")?)
+    Ok(events_of(rt.alloc(), picture).or(Err("no document"))?)
 }
 
 /// The verdict on the events of a document, pushed one by one; none where the bytes are no document.
 fn answer_by_events(rt: &impl AllocGlobal, bytes: &[u8]) -> Result<Option<String>, Fail> {
-    match events_of(rt, bytes) {
-        Some(events) => {
+    match events_of(rt.alloc(), bytes) {
+        Ok(events) => {
             let checker = pushed(rt, events.as_slice())?;
             Ok(Some(verdict_of(rt, checker)?))
         }
-        None => Ok(None),
+        Err(_) => Ok(None),
     }
 }
 
@@ -129,23 +123,30 @@ const COMMANDS: [Command; 7] = [
     Command::NextLine,
 ];
 
-/// Whether the checker expects a start or not, and commands of any kind and an end or not.
-pub(super) fn expects_so<P: Plane>(checker: &Checker<P>, start: bool, more: bool) -> bool {
-    for eight in [false, true] {
-        let event = Event::Start {
-            eight,
-            parameters: ArrayVec::new(),
-        };
-        if checker.expects(&event) != start || checker.expects(&Event::Finish { eight }) != more {
-            return false;
-        }
-    }
+/// Whether the checker expects such a start or not, and such an end or not.
+fn expects_ends<P: Plane>(checker: &Checker<P>, eight: bool, start: bool, more: bool) -> bool {
+    let event = Event::Start {
+        eight,
+        parameters: ArrayVec::new(),
+    };
+    checker.expects(&event) == start && checker.expects(&Event::Finish { eight }) == more
+}
+
+/// Whether it expects commands of any kind or not.
+fn expects_commands<P: Plane>(checker: &Checker<P>, more: bool) -> bool {
     for command in COMMANDS {
         if checker.expects(&Event::Step(command)) != more {
             return false;
         }
     }
     true
+}
+
+/// Whether the checker expects a start or not, and commands of any kind and an end or not.
+pub(super) fn expects_so<P: Plane>(checker: &Checker<P>, start: bool, more: bool) -> bool {
+    expects_ends(checker, false, start, more)
+        && expects_ends(checker, true, start, more)
+        && expects_commands(checker, more)
 }
 
 /// A start comes first and at no other time. Then commands of any kind come, and an end at any time; after it comes

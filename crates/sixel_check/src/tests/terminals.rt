@@ -1,8 +1,8 @@
 //! What 32 terminals of the class show after portable documents, and after broken ones.
 
-use crate::tests::bytes_of;
 use crate::tests::documents::picture_of;
-use sixel_grammar::{Placed, SliceSource, read_all};
+use crate::tests::{bytes_of, events_of};
+use sixel_grammar::Placed;
 use sixel_picture::{Colour, Parts, Picture};
 use sixel_terminal::{Choices, Ground, Terminal};
 use std::alloc::Global;
@@ -119,12 +119,6 @@ fn colours_of(alloc: Global, picture: &Picture) -> Result<Vec<Parts>, Fail> {
     Ok(pixels)
 }
 
-/// The events of a document.
-fn events_of(alloc: Global, bytes: &[u8]) -> Result<Vec<Placed>, Fail> {
-    let mut source = SliceSource::new(bytes, 64, None);
-    Ok(read_all(alloc, &mut source).or(Err("a document"))?)
-}
-
 /// Whether terminals of all choices show the picture after these events, and grey around it.
 fn is_shown(alloc: Global, events: &[Placed], picture: &Picture) -> Result<bool, Fail> {
     let (width, height) = (picture.width(), picture.height());
@@ -144,7 +138,7 @@ fn is_shown(alloc: Global, events: &[Placed], picture: &Picture) -> Result<bool,
 fn each_terminal_shows_what_is_portable(rt: HostRuntime) -> Result<(), Fail> {
     for text in PORTABLE {
         let bytes = bytes_of(&rt, text)?;
-        let events = events_of(rt.alloc(), &bytes)?;
+        let events = events_of(rt.alloc(), &bytes).or(Err("a document"))?;
         let picture = picture_of(&rt, text)?;
         let shows = is_shown(rt.alloc(), events.as_slice(), &picture)?;
         assert!(rt; shows, "{text:?}");
@@ -171,7 +165,7 @@ fn shows(
 ) -> Result<bool, Fail> {
     let alloc = rt.alloc();
     let bytes = bytes_of(rt, text)?;
-    let events = events_of(alloc, &bytes)?;
+    let events = events_of(alloc, &bytes).or(Err("a document"))?;
     let answer = shown(alloc, choices, colours, events.as_slice())?;
     let expected = framed(alloc, choices.screen_width.saturating_sub(2), 1, pixels)?;
     Ok(answer.as_slice() == expected.as_slice())
