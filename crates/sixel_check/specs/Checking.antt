@@ -1,14 +1,17 @@
 -- What a check of bytes answers.
-use Rattle.std.specs.Prelude.{◌≡◌, ◌++◌, ℕ, List, Option, IfSome, IsTrue, Result, Ok, Err}
+use Rattle.std.specs.Prelude.{◌≡◌, ◌++◌, ◌∷◌, [], ℕ, List, Option, IfSome, IsTrue, Result, Ok, Err}
 use Rattle.std.specs.Option.{option_to_list}
 use Rattle.sixel_grammar.specs.Document.{Document, events_of}
-use Rattle.sixel_grammar.specs.Reading.{Explains}
+use Rattle.sixel_grammar.specs.Reading.{Explains, ExplainsAlways}
 use Rattle.sixel_grammar.specs.Spelling.{IsSpellable}
 use Rattle.sixel_grammar.specs.Standing as grammar
+use Rattle.sixel_grammar.specs.declared.command.Command.{Command}
 use Rattle.sixel_grammar.specs.declared.command.Completed.{Completed}
+use Rattle.sixel_grammar.specs.declared.command.Event.TheVariants.{Step}
 use Rattle.sixel_grammar.specs.declared.command.Placed.{Placed}
 use Rattle.sixel_grammar.specs.declared.fault.InputFault.{InputFault}
 use Rattle.sixel_grammar.specs.declared.reader.Reader.{Reader}
+use Rattle.sixel_check.specs.Growth.{GrowsFor, MayGrowAmong}
 use Rattle.sixel_check.specs.Portable.{IsShownEverywhere}
 use Rattle.sixel_check.specs.Standing.{CheckerValue, StandsAfter, expects}
 use Rattle.sixel_check.specs.Verdicts.{IsVerdict}
@@ -35,3 +38,28 @@ MayCome seen placed = IfSome placed (λ p. IsTrue (expects seen p.event) × IsSp
 -- the events may come next, in order
 abbrev pub MayComplete : List Placed → Completed → Type 0
 MayComplete seen c = MayCome seen c.first × MayCome (seen ++ option_to_list c.first) c.second
+
+abbrev pub command_at : ℕ → Command → Placed
+command_at place command = record { place = place; event = Step command }
+
+-- where the checker stood after some events, it stands after them and these
+abbrev pub TakesEvents : CheckerValue → CheckerValue → List Placed → Type 0
+TakesEvents old new more = (seen : List Placed) → StandsAfter old seen → StandsAfter new (seen ++ more)
+
+-- where the checker stands after some events, memory may be taken among them and these
+abbrev pub MayGrowOver : CheckerValue → List Placed → Type 0
+MayGrowOver checker more = (seen : List Placed) → StandsAfter checker seen → MayGrowAmong (seen ++ more)
+
+-- where both stood after some bytes, they stand after them and these
+abbrev pub TakesBytes : Reader → CheckerValue → Reader → CheckerValue → List ℕ → Type 0
+TakesBytes reader checker r c more = (front : List ℕ) → AreAfter reader checker front → AreAfter r c (front ++ more)
+
+-- where both stand after some bytes, the fault is one of whatever they and these begin
+abbrev pub RefusesBytes : Reader → CheckerValue → List ℕ → InputFault → Type 0
+RefusesBytes reader checker more fault =
+    (front : List ℕ) → AreAfter reader checker front → ExplainsAlways fault (front ++ more)
+
+-- where both stand after some bytes, want of memory is answered for them and these alone
+abbrev pub GrowsForBytes : Reader → CheckerValue → List ℕ → InputFault → Type 0
+GrowsForBytes reader checker more fault =
+    (front : List ℕ) → AreAfter reader checker front → GrowsFor fault (front ++ more)

@@ -1,14 +1,14 @@
 //! Checking the bytes of a document.
 
-ghost use Rattle.std.specs.Prelude.{◌≡◌, ◌≢◌, ◌++◌, ◌∷◌, [], ℕ, List, Err, IfErr, IfSome, OnErr, OnOk, Some};
-ghost use Rattle.sixel_grammar.specs.declared.command.Event.TheVariants.{Step};
+ghost use Rattle.std.specs.Prelude.{◌≡◌, ◌≢◌, ◌∷◌, [], ℕ, List, Err, IfErr, IfSome, OnErr, OnOk, Some};
 ghost use Rattle.std.specs.Option.{option_to_list};
-ghost use Rattle.sixel_grammar.specs.Reading.{ExplainsAlways, NoFaultBefore, failures_after};
+ghost use Rattle.sixel_grammar.specs.Reading.{NoFaultBefore, failures_after};
 ghost use Rattle.sixel_grammar.specs.declared.fault.InputFault.TheVariants.{Read as ReadFault};
 ghost use Rattle.sixel_grammar.specs.Standing.{completions};
 ghost use Rattle.sixel_grammar.specs.declared.command.Placed.{Placed as PlacedValue};
-ghost use Rattle.sixel_check.specs.Growth.{GrowsFor, MayGrowAmong, MayGrowIn};
-ghost use Rattle.sixel_check.specs.Checking.{Answers, AreAfter, MayCome, MayComplete};
+ghost use Rattle.sixel_check.specs.Growth.{MayGrowIn};
+ghost use Rattle.sixel_check.specs.Checking.{Answers, AreAfter, GrowsForBytes, MayCome, MayComplete, MayGrowOver};
+ghost use Rattle.sixel_check.specs.Checking.{RefusesBytes, TakesBytes, TakesEvents, command_at};
 ghost use Rattle.sixel_check.specs.Standing.{StandsAfter};
 
 use crate::checker::Checker;
@@ -23,10 +23,8 @@ const PIECE: usize = 65_536;
 /// Pushes an event, if there is one.
 fn keep_one<P: Plane>(checker: &mut Checker<P>, placed: Option<Placed>) -> Result<(), AllocError>
     requires { (seen : List PlacedValue) × StandsAfter checker.old seen × MayCome seen placed }
-    ensures kept { OnOk result ((seen : List PlacedValue) → StandsAfter checker.old seen
-        → StandsAfter checker.new (seen ++ option_to_list placed)) }
-    ensures grows { OnErr result ((seen : List PlacedValue) → StandsAfter checker.old seen
-        → MayGrowAmong (seen ++ option_to_list placed)) }
+    ensures kept { OnOk result (TakesEvents checker.old checker.new (option_to_list placed)) }
+    ensures grows { OnErr result (MayGrowOver checker.old (option_to_list placed)) }
 {
     match placed {
         None => Ok(()),
@@ -37,10 +35,8 @@ fn keep_one<P: Plane>(checker: &mut Checker<P>, placed: Option<Placed>) -> Resul
 /// Pushes the events that a byte completed.
 fn keep<P: Plane>(checker: &mut Checker<P>, completed: Completed) -> Result<(), AllocError>
     requires { (seen : List PlacedValue) × StandsAfter checker.old seen × MayComplete seen completed }
-    ensures kept { OnOk result ((seen : List PlacedValue) → StandsAfter checker.old seen
-        → StandsAfter checker.new (seen ++ completions completed)) }
-    ensures grows { OnErr result ((seen : List PlacedValue) → StandsAfter checker.old seen
-        → MayGrowAmong (seen ++ completions completed)) }
+    ensures kept { OnOk result (TakesEvents checker.old checker.new (completions completed)) }
+    ensures grows { OnErr result (MayGrowOver checker.old (completions completed)) }
 {
     let Completed { first, second } = completed;
     keep_one(checker, first)?;
@@ -55,11 +51,9 @@ fn push_command<P: Plane>(
     command: Command,
 ) -> Result<(), AllocError>
     requires { (seen : List PlacedValue) × StandsAfter checker.old seen
-        × MayCome seen (Some (record { place = place; event = Step command })) }
-    ensures kept { OnOk result ((seen : List PlacedValue) → StandsAfter checker.old seen
-        → StandsAfter checker.new (seen ++ record { place = place; event = Step command } ∷ [])) }
-    ensures grows { OnErr result ((seen : List PlacedValue) → StandsAfter checker.old seen
-        → MayGrowAmong (seen ++ record { place = place; event = Step command } ∷ [])) }
+        × MayCome seen (Some (command_at place command)) }
+    ensures kept { OnOk result (TakesEvents checker.old checker.new (command_at place command ∷ [])) }
+    ensures grows { OnErr result (MayGrowOver checker.old (command_at place command ∷ [])) }
 {
     let event = Event::Step(command);
     checker.push(&Placed { place, event })
@@ -73,11 +67,9 @@ fn keep_command<P: Plane>(
     command: Command,
 ) -> Result<(), AllocError>
     requires { (seen : List PlacedValue) × StandsAfter checker.old seen
-        × MayCome seen (Some (record { place = place; event = Step command })) }
-    ensures kept { OnOk result ((seen : List PlacedValue) → StandsAfter checker.old seen
-        → StandsAfter checker.new (seen ++ record { place = place; event = Step command } ∷ [])) }
-    ensures grows { OnErr result ((seen : List PlacedValue) → StandsAfter checker.old seen
-        → MayGrowAmong (seen ++ record { place = place; event = Step command } ∷ [])) }
+        × MayCome seen (Some (command_at place command)) }
+    ensures kept { OnOk result (TakesEvents checker.old checker.new (command_at place command ∷ [])) }
+    ensures grows { OnErr result (MayGrowOver checker.old (command_at place command ∷ [])) }
 {
     match command {
         Command::Sixel(bits) => push_command(checker, place, Command::Sixel(bits)),
@@ -102,12 +94,9 @@ fn read_byte<P: Plane>(
     byte: u8,
 ) -> Result<(), InputFault>
     requires { (front : List ℕ) × AreAfter reader.old checker.old front }
-    ensures read { OnOk result ((front : List ℕ) → AreAfter reader.old checker.old front
-        → AreAfter reader.new checker.new (front ++ byte ∷ [])) }
-    ensures refused { IfErr result (λ fault. (front : List ℕ) → AreAfter reader.old checker.old front
-        → ExplainsAlways fault (front ++ byte ∷ [])) }
-    ensures memory { IfErr result (λ fault. (front : List ℕ) → AreAfter reader.old checker.old front
-        → GrowsFor fault (front ++ byte ∷ [])) }
+    ensures read { OnOk result (TakesBytes reader.old checker.old reader.new checker.new (byte ∷ [])) }
+    ensures refused { IfErr result (RefusesBytes reader.old checker.old (byte ∷ [])) }
+    ensures memory { IfErr result (GrowsForBytes reader.old checker.old (byte ∷ [])) }
 {
     match reader.feed_plain(byte) {
         Some(Plain::Nothing) => Ok(()),
@@ -124,12 +113,9 @@ fn read_slowly<P: Plane>(
     byte: u8,
 ) -> Result<(), InputFault>
     requires { (front : List ℕ) × AreAfter reader.old checker.old front }
-    ensures read { OnOk result ((front : List ℕ) → AreAfter reader.old checker.old front
-        → AreAfter reader.new checker.new (front ++ byte ∷ [])) }
-    ensures refused { IfErr result (λ fault. (front : List ℕ) → AreAfter reader.old checker.old front
-        → ExplainsAlways fault (front ++ byte ∷ [])) }
-    ensures memory { IfErr result (λ fault. (front : List ℕ) → AreAfter reader.old checker.old front
-        → GrowsFor fault (front ++ byte ∷ [])) }
+    ensures read { OnOk result (TakesBytes reader.old checker.old reader.new checker.new (byte ∷ [])) }
+    ensures refused { IfErr result (RefusesBytes reader.old checker.old (byte ∷ [])) }
+    ensures memory { IfErr result (GrowsForBytes reader.old checker.old (byte ∷ [])) }
 {
     let completed = reader.feed(byte)?;
     Ok(keep(checker, completed)?)
@@ -142,12 +128,9 @@ fn read_piece<P: Plane>(
     piece: &[u8],
 ) -> Result<(), InputFault>
     requires { (front : List ℕ) × AreAfter reader.old checker.old front }
-    ensures read { OnOk result ((front : List ℕ) → AreAfter reader.old checker.old front
-        → AreAfter reader.new checker.new (front ++ piece.now)) }
-    ensures refused { IfErr result (λ fault. (front : List ℕ) → AreAfter reader.old checker.old front
-        → ExplainsAlways fault (front ++ piece.now)) }
-    ensures memory { IfErr result (λ fault. (front : List ℕ) → AreAfter reader.old checker.old front
-        → GrowsFor fault (front ++ piece.now)) }
+    ensures read { OnOk result (TakesBytes reader.old checker.old reader.new checker.new piece.now) }
+    ensures refused { IfErr result (RefusesBytes reader.old checker.old piece.now) }
+    ensures memory { IfErr result (GrowsForBytes reader.old checker.old piece.now) }
 {
     for byte in piece {
         read_byte(reader, checker, *byte)?;
@@ -178,7 +161,8 @@ fn conclude<P: Plane>(reader: &Reader, checker: Checker<P>) -> Result<Verdict, I
 /// Whatever is met first in one pass over its bytes is answered: a fault of the grammar, a failure of the source, or a
 /// growth that was refused. Only a whole document has a verdict. The source isn't read after a fault or its end.
 ///
-/// Nothing of the input is kept. Memory is taken once, for the pixels of the box, when its raster attributes are complete.
+/// Nothing of the input is kept. Memory is taken once, for the pixels of the box, when its raster attributes are
+/// complete.
 pub fn check<S: Source>(alloc: Global, input: &mut S) -> Result<Verdict, InputFault>
     ensures answer { IfSome (S.remaining input.old) (Answers result) }
     ensures failures { S.failure_count input.new ≡ failures_after result (S.failure_count input.old) }

@@ -38,7 +38,8 @@ pub returns-in_err-count-clause-unread : goal.returns-in_err-count-clause-unread
 returns-in_err-count-clause-unread g c = λ is.
     let i = c.loop-checker.invariant in
     no_fault_before (g.S.Source.remaining c.args.input.now) (g.S.Source.remaining c.loop-checker.input)
-    (g.S.Source.remaining c.fill.new.self) c.loop-checker.reader i.1.events i.0 i.1.read i.2 c.in_err-count.ensures.bytes
+    (g.S.Source.remaining c.fill.new.self) c.loop-checker.reader i.1.events i.0 i.1.read i.2
+    c.in_err-count.ensures.bytes
 
 pub returns-in_err-count-clause-memory : goal.returns-in_err-count-clause-memory
 returns-in_err-count-clause-memory g c =
@@ -129,7 +130,8 @@ loop-checker-smaller g c =
     let new : left_of c.read_piece.new.reader + length (i.0 ++ take c.in_ok-count.count c.fill.new.piece) ≡ most_bytes =
     (c.in_ok-read_piece.ensures.read i.0 i.1).read.left in
     let some : 0 < c.in_ok-count.count = omega arith in
-    let long : c.in_ok-count.count ≤ length c.fill.new.piece = omega (arith, c.in_ok-count.ensures.bound, c.fill.auto.piece) in
+    let long : c.in_ok-count.count ≤ length c.fill.new.piece =
+    omega (arith, c.in_ok-count.ensures.bound, c.fill.auto.piece) in
     omega (
       arith,
       old,
@@ -145,6 +147,7 @@ loop-checker-preserved g c =
       i.0 ++ take c.in_ok-count.count c.fill.new.piece,
       c.in_ok-read_piece.ensures.read i.0 i.1,
       consumes-then (g.S.Source.remaining c.args.input.now) (g.S.Source.remaining c.loop-checker.input)
-          (g.S.Source.remaining c.fill.new.self) i.0 (take c.in_ok-count.count c.fill.new.piece) i.2 c.in_ok-count.ensures.bytes.0,
+          (g.S.Source.remaining c.fill.new.self) i.0 (take c.in_ok-count.count c.fill.new.piece) i.2
+          c.in_ok-count.ensures.bytes.0,
       ◌∙◌ {b = g.S.Source.failure_count c.loop-checker.input} c.in_ok-count.ensures.failures i.3,
     )
