@@ -6,5 +6,6 @@ pub mod Pictures
 pub mod Files
 pub mod Screens
 pub mod Runs
+pub mod Ends
 pub mod RoundTrip
 pub mod Matches

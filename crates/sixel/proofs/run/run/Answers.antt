@@ -1,5 +1,12 @@
+use Rattle.std.proofs.Common.{◌∙◌}
 use Rattle.sixel.proofs.Runs.{flushed, unflushed}
 use Rattle.sixel.proofs.run.run.Goals as goal
+
+pub returns-in-Ok-clause-flushed : goal.returns-in-Ok-clause-flushed
+returns-in-Ok-clause-flushed g c = λ unfailed. c.in-Ok.ensures.flushed
+
+pub returns-in-Ok-clause-writes : goal.returns-in-Ok-clause-writes
+returns-in-Ok-clause-writes g c = c.in-Ok.ensures.failures ∙ c.perform-answer.ensures.writes
 
 pub returns-in-Err-clause-wrote : goal.returns-in-Err-clause-wrote
 returns-in-Err-clause-wrote g c =

@@ -11,3 +11,13 @@ returns-in_default-clause-none c = λ none t is.
 pub returns-in_default-2-clause-none : goal.returns-in_default-2-clause-none
 returns-in_default-2-clause-none c = λ none t is.
     without_width (rows_of (found_of c.args.matches.now)) t (c.side_of.ensures.none (rw c.in_default.is-0 refl)) is
+
+pub returns-in-Some-Some-clause-task : goal.returns-in-Some-Some-clause-task
+returns-in-Some-Some-clause-task c = (
+  refl,
+  c.flag_of.ensures,
+  c.flag_of-in-Some-Some.ensures,
+  c.flag_of-in-Some-Some-2.ensures,
+  c.in-Some-Some.ensures.some,
+  c.in-Some-Some.ensures'.some,
+)

@@ -8,7 +8,7 @@ pub returns : goal.returns
 returns c =
     let local : (fields_of c.about.result).has_globals ≡ false = ap (λ f. f.has_globals) c.about.ensures
     ∙ c.new.ensures.local in
-    let app : app_of c.about.result ≡ new_app c.args.name.now = ap app_of_fields c.about.ensures ∙ c.new.ensures.app in
+    let app : app_of c.about.result ≡ new_app c.args.name.now = rw c.about.ensures c.new.ensures.app in
     IfOk-weaker c.subcommand.result _ _
     (λ r h. h.shape local ∙ ap (λ (a : App). with_subcommand (app_of c.args.command) a.top) app)
     c.subcommand.ensures

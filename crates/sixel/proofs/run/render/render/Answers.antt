@@ -1,6 +1,6 @@
 use Rattle.std.proofs.lemmas.Result.{err_from_is_err_and}
 use Rattle.sixel.proofs.Checks.{grown}
-use Rattle.sixel.proofs.Pictures.{unrendered}
+use Rattle.sixel.proofs.Pictures.{broken_rendered, unrendered}
 use Rattle.sixel.proofs.run.render.render.Goals as goal
 
 pub returns-in_err-write_ppm-in-Portable-clause-wrote : goal.returns-in_err-write_ppm-in-Portable-clause-wrote
@@ -16,3 +16,8 @@ returns-in_err-picture-clause-memory g c =
     let failed = err_from_is_err_and c.from_residual.result c.from_residual.ensures.1 in
     grown (g.S.Source.remaining c.args.input.now) _ failed.0 c.from_residual.result c.in_err-picture.ensures.memory
     failed.1 failed.2
+
+pub returns-in-Broken-clause-wrote : goal.returns-in-Broken-clause-wrote
+returns-in-Broken-clause-wrote g c =
+    broken_rendered (g.S.Source.remaining c.args.input.now) c.in-Broken.finding (g.K.Sink.taken c.args.output.now)
+    (rw c.in-Broken.is at c.in_ok-picture.ensures.answer)

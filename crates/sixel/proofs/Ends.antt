@@ -1,0 +1,28 @@
+-- What the end of a run says of its bytes.
+use Rattle.std.proofs.Common.{◌≡◌, ℕ, List, Option, Some, None}
+use Rattle.std.specs.Prelude.{Result, Ok, Err, IfSome}
+use Rattle.sixel_check.specs.declared.verdict.Finding.{Finding}
+use Rattle.sixel.specs.declared.exit.Exit.TheVariants as exit
+use Rattle.sixel.specs.declared.fault.RunFault.{RunFault}
+use Rattle.sixel.specs.declared.task.Status.{Status}
+use Rattle.sixel.specs.declared.task.Status.TheVariants as status
+use Rattle.sixel.specs.declared.task.Task.{Task}
+use Rattle.sixel.specs.Exits.{exit_for_answer}
+use Rattle.sixel.specs.Outputs.{Gives, Wrote}
+use Rattle.sixel.specs.Texts.{Text}
+
+pub done_gives : (t : Task) (told left : Option (List ℕ)) (a : Result Status RunFault) (had has : Option (List ℕ))
+    → IfSome told (λ bytes. Wrote t bytes left a had has) → exit_for_answer a ≡ exit.Done
+    → IfSome told (λ bytes. (text : Text) × Gives t bytes text (Ok status.Done))
+done_gives t None left a had has wrote is = tt
+done_gives t (Some bytes) left (Ok status.Done) had has wrote is = (wrote.0, wrote.1)
+done_gives t (Some bytes) left (Ok (status.Broken finding)) had has wrote is = let no : exit.Broken ≡ exit.Done = is in cc
+done_gives t (Some bytes) left (Err fault) had has wrote is = let no : exit.Refused ≡ exit.Done = is in cc
+
+pub broken_gives : (t : Task) (told left : Option (List ℕ)) (a : Result Status RunFault) (had has : Option (List ℕ))
+    → IfSome told (λ bytes. Wrote t bytes left a had has) → exit_for_answer a ≡ exit.Broken
+    → IfSome told (λ bytes. (text : Text) × (finding : Finding) × Gives t bytes text (Ok (status.Broken finding)))
+broken_gives t None left a had has wrote is = tt
+broken_gives t (Some bytes) left (Ok status.Done) had has wrote is = let no : exit.Done ≡ exit.Broken = is in cc
+broken_gives t (Some bytes) left (Ok (status.Broken finding)) had has wrote is = (wrote.0, finding, wrote.1)
+broken_gives t (Some bytes) left (Err fault) had has wrote is = let no : exit.Refused ≡ exit.Broken = is in cc
