@@ -8,6 +8,9 @@ use Rattle.sixel.proofs.Listing.{list_text-append}
 use Rattle.sixel.proofs.Outputs.{ended-early, ended-well, not-read, stopped, unread, unrefused}
 use Rattle.sixel.proofs.run.list.list.Goals as goal
 
+pub returns-in-Ok-finish-clause-reads : goal.returns-in-Ok-finish-clause-reads
+returns-in-Ok-finish-clause-reads g c = c.in-Ok.ensures.failures ∙ c.loop-count.invariant.reads
+
 pub returns-in-Err-clause-wrote : goal.returns-in-Err-clause-wrote
 returns-in-Err-clause-wrote g c =
     let inv = c.loop-count.invariant.stands in
