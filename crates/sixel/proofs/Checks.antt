@@ -21,7 +21,7 @@ use Rattle.sixel.specs.declared.fault.RunFault.TheVariants.{Grammar, Ppm, NotRgb
 use Rattle.sixel.specs.declared.task.Status.{Status}
 use Rattle.sixel.specs.Conversions.{of_input}
 use Rattle.sixel.specs.Outputs.{CheckGives, WroteBy, WroteNothing, status_of}
-use Rattle.sixel.specs.Texts.{Text, BeginsWith, verdict_line}
+use Rattle.sixel.specs.Texts.{Text, verdict_line}
 
 -- two verdicts on one document are the same
 pub same_verdict : (bytes : List ℕ) (d e : List Placed) (v w : Verdict) → Document d bytes → Document e bytes

@@ -16,7 +16,8 @@ pub done_gives : (t : Task) (told left : Option (List ℕ)) (a : Result Status R
     → IfSome told (λ bytes. (text : Text) × Gives t bytes text (Ok status.Done))
 done_gives t None left a had has wrote is = tt
 done_gives t (Some bytes) left (Ok status.Done) had has wrote is = (wrote.0, wrote.1)
-done_gives t (Some bytes) left (Ok (status.Broken finding)) had has wrote is = let no : exit.Broken ≡ exit.Done = is in cc
+done_gives t (Some bytes) left (Ok (status.Broken finding)) had has wrote is =
+    let no : exit.Broken ≡ exit.Done = is in cc
 done_gives t (Some bytes) left (Err fault) had has wrote is = let no : exit.Refused ≡ exit.Done = is in cc
 
 pub broken_gives : (t : Task) (told left : Option (List ℕ)) (a : Result Status RunFault) (had has : Option (List ℕ))

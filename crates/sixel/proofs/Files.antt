@@ -15,7 +15,7 @@ use Rattle.sixel.specs.declared.task.Status.{Status}
 use Rattle.sixel.specs.declared.task.Status.TheVariants.{Done}
 use Rattle.sixel.specs.Conversions.{of_ppm}
 use Rattle.sixel.specs.Outputs.{EncodeGives, WroteBy, WroteNothing, encode_output}
-use Rattle.sixel.specs.Texts.{Text, BeginsWith}
+use Rattle.sixel.specs.Texts.{Text}
 
 pub encode-once : (bytes : List ℕ) (first second : Text) (a b : Result Status RunFault)
     → EncodeGives bytes first a → EncodeGives bytes second b → (first ≡ second) × (a ≡ b)

@@ -1,5 +1,5 @@
 -- What a run of `render` owes.
-use Rattle.std.proofs.Common.{◌≡◌, ◌∙◌, ◌⊎◌, ℕ, Bool, true, false, List, [], take, drop, Option, Some, None, refl, sym, ap, inl, inr, subst}
+use Rattle.std.proofs.Common.{◌≡◌, ◌∙◌, ◌⊎◌, ℕ, Bool, true, false, List, [], take, drop, Option, Some, None, refl, sym, ap, inl, inr}
 use Rattle.std.specs.Prelude.{Result, Ok, Err, IfSome}
 use Rattle.std.proofs.lemmas.List.{take-append-drop}
 use Rattle.sixel_grammar.specs.declared.command.Placed.{Placed}
@@ -9,7 +9,6 @@ use Rattle.sixel_grammar.specs.Faults.{IsFaultOf}
 use Rattle.sixel_grammar.proofs.Sinks.{Appends-none, nothing_put}
 use Rattle.sixel_grammar.proofs.Total.{judged}
 use Rattle.sixel_grammar.proofs.Unique.{fault_no_document, fault_once}
-use Rattle.sixel_picture.specs.declared.colour.Parts.{Parts}
 use Rattle.sixel_picture.specs.declared.ppm.PpmFault.{PpmFault}
 use Rattle.sixel_picture.specs.declared.ppm.PpmFault.TheVariants as ppm
 use Rattle.sixel_picture.specs.Pictures.{PictureValue}
@@ -26,8 +25,8 @@ use Rattle.sixel.specs.declared.task.Status.{Status}
 use Rattle.sixel.specs.declared.task.Status.TheVariants as status
 use Rattle.sixel.specs.declared.task.Status.TheVariants.{Done}
 use Rattle.sixel.specs.Conversions.{of_ppm}
-use Rattle.sixel.specs.Outputs.{RenderGives, WroteBy, WroteNothing, picture_output, render_output}
-use Rattle.sixel.specs.Texts.{Text, BeginsWith}
+use Rattle.sixel.specs.Outputs.{RenderGives, WroteBy, WroteNothing, render_output}
+use Rattle.sixel.specs.Texts.{Text}
 use Rattle.sixel.proofs.Checks.{same_verdict}
 
 -- ---- one output

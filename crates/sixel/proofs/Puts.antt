@@ -1,12 +1,11 @@
 -- Lines that are put one after another.
-use Rattle.std.proofs.Common.{◌≡◌, ◌∙◌, ℕ, zero, suc, ◌+◌, List, [], ◌∷◌, ◌++◌, length, take, Option, Some, None, refl, sym, ap, append_assoc, inl, inr}
+use Rattle.std.proofs.Common.{◌≡◌, ◌∙◌, ℕ, List, [], ◌++◌, Option, Some, None, refl, sym, ap, append_assoc}
+use Rattle.std.proofs.Common.{inl, inr}
 use Rattle.std.specs.Prelude.{Result, Ok, Err}
 use Rattle.std.proofs.lemmas.List.{append-nil, append_cancel_left}
-use Rattle.std.proofs.Math.Seq.{take-append-add}
 use Rattle.std.specs.Io.KnownBytes.{Appends, Keeps}
 use Rattle.sixel_grammar.specs.Blocks.{TakesMore, in_all}
 use Rattle.sixel_grammar.specs.Devices.{CountsFailure, Puts}
-use Rattle.sixel_grammar.proofs.Devices.{Appends-then}
 use Rattle.sixel.specs.Exits.{IsPut}
 use Rattle.sixel.specs.Texts.{Text, BeginsWith}
 
@@ -38,7 +37,7 @@ pub begins-then : (text part more : Text) → BeginsWith text part → BeginsWit
 begins-then text part more p q = (q.0 ++ p.0, p.1 ∙ ap (λ (t : Text). t ++ p.0) q.1 ∙ append_assoc more q.0 p.0)
 
 -- what a call of `put_all` states, as what is said of a run
-pub is_put : {A E : Type 0} (r : Result A E) (text : Text) (taken : Option (List ℕ) × Option (List ℕ)) (failures : ℕ × ℕ)
-    → Puts r taken.0 taken.1 text → CountsFailure r failures.0 failures.1 → IsPut text taken failures
+pub is_put : {A E : Type 0} (r : Result A E) (text : Text) (taken : Option (List ℕ) × Option (List ℕ))
+    (failures : ℕ × ℕ) → Puts r taken.0 taken.1 text → CountsFailure r failures.0 failures.1 → IsPut text taken failures
 is_put (Ok x) text taken failures put counts = inl (put, counts)
 is_put (Err x) text taken failures put counts = inr (put.0, put.1, counts)

@@ -8,7 +8,6 @@ use Rattle.sixel_grammar.proofs.Unique.{fault_no_document}
 use Rattle.sixel_grammar.specs.Document.{events_of}
 use Rattle.sixel_grammar.specs.FixedText.{fixed_places}
 use Rattle.sixel_grammar.specs.Spelling.{fixed_spelling}
-use Rattle.sixel_picture.specs.Pictures.{PictureValue}
 use Rattle.sixel_picture.specs.Rules.{BreaksNone, picture_left}
 use Rattle.sixel_check.specs.declared.verdict.Verdict.TheVariants.{Portable}
 use Rattle.sixel_check.specs.Portable.{IsPortable}
@@ -19,7 +18,6 @@ use Rattle.sixel_encode.proofs.Whole
 use Rattle.sixel_encode.proofs.Written
 use Rattle.sixel.specs.Laws.{EncodedAnswers, EncodedChecks, EncodedIsPortable}
 use Rattle.sixel.proofs.Checks.{same_verdict}
-use Rattle.sixel.specs.Texts.{portable_line}
 
 events_placed : (n : ℕ) (es : List Event) → events_of (fixed_places n es) ≡ es
 events_placed n [] = refl

@@ -10,5 +10,6 @@ returns g c = record {
   written = c.run-answer.ensures.writes;
   flushed = c.run-answer.ensures.flushed;
   ends = c.exit_of.ensures;
-  said = is_put c.put_all.result _ _ _ (rw (c.as_slice.ensures.value, c.complaint-line.ensures) at c.put_all.ensures.bytes) c.put_all.ensures.failures;
+  said = is_put c.put_all.result _ _ _
+      (rw (c.as_slice.ensures.value, c.complaint-line.ensures) at c.put_all.ensures.bytes) c.put_all.ensures.failures;
 }

@@ -28,10 +28,14 @@ returns c =
     let zeroth : app_of c.subcommand_required-command.result ≡ bare =
     ap app_of_fields c.subcommand_required-command.ensures
     ∙ ap (on_top (λ s. record s { subcommand_required = true })) about in
-    let a1 : app_of c.in_ok-command.command ≡ one = c.in_ok-command.ensures ∙ ap (λ (a : App). with_plain a (codes "list")) zeroth in
-    let a2 : app_of c.in_ok-command-2.command ≡ two = c.in_ok-command-2.ensures ∙ ap (λ (a : App). with_plain a (codes "check")) a1 in
-    let a3 : app_of c.in_ok-command-3.command ≡ three = c.in_ok-command-3.ensures ∙ ap (λ (a : App). with_plain a (codes "render")) a2 in
-    let a4 : app_of c.in_ok-command-4.command ≡ four = c.in_ok-command-4.ensures ∙ ap (λ (a : App). with_plain a (codes "encode")) a3 in
+    let a1 : app_of c.in_ok-command.command ≡ one =
+    c.in_ok-command.ensures ∙ ap (λ (a : App). with_plain a (codes "list")) zeroth in
+    let a2 : app_of c.in_ok-command-2.command ≡ two =
+    c.in_ok-command-2.ensures ∙ ap (λ (a : App). with_plain a (codes "check")) a1 in
+    let a3 : app_of c.in_ok-command-3.command ≡ three =
+    c.in_ok-command-3.ensures ∙ ap (λ (a : App). with_plain a (codes "render")) a2 in
+    let a4 : app_of c.in_ok-command-4.command ≡ four =
+    c.in_ok-command-4.ensures ∙ ap (λ (a : App). with_plain a (codes "encode")) a3 in
     let show : app_of c.in_ok-show_command.field-0 ≡ show_app = c.in_ok-show_command.ensures.app in
     IfOk-weaker c.subcommand.result _ _
     (λ r h. h.shape c.in_ok-show_command.ensures.local ∙ ap₂ with_subcommand a4 (ap (λ (a : App). a.top) show))
