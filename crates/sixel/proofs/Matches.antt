@@ -3,6 +3,7 @@ use Rattle.std.proofs.Common.{◌||◌, ◌≡◌, ◌∙◌, ◌≤◌, ℕ, Bo
 use Rattle.std.specs.Prelude.{option_map, Box, IfSome, Result, Ok, Err}
 use Rattle.std.specs.Box.{box_value}
 use Rattle.std.specs.Str.Parse.{ParsesUnsigned}
+use Rattle.sixel_terminal.specs.Limits.{most_screen_side}
 use Rattle.clap.specs.Matches.{ReadsOne}
 use Rattle.clap.specs.Simple.{subcommand_rows}
 use Rattle.clap.specs.Walk.{Row, Text}
@@ -39,7 +40,7 @@ abbrev pub Parses : (E : Type 0) → (Text → Result ℕ E → Type 0) → Type
 Parses E gives = (t : Text) (r : Result ℕ E) → gives t r → ParsesUnsigned 32 10 t r
 
 pub number_read : {E : Type 0} (o : Option Text) (gives : Text → Result ℕ E → Type 0) (n : ℕ) → Parses E gives
-    → (o ≡ None → Some n ≡ None) → ((t : Text) → o ≡ Some t → ReadsOne gives t (Some n)) → 1 ≤ n → n ≤ 4096
+    → (o ≡ None → Some n ≡ None) → ((t : Text) → o ≡ Some t → ReadsOne gives t (Some n)) → 1 ≤ n → n ≤ most_screen_side
     → HasNumber o n
 number_read None gives n parses none value least most = let bad : Some n ≡ None = none refl in cc
 number_read (Some t) gives n parses none value least most =
@@ -48,7 +49,7 @@ number_read (Some t) gives n parses none value least most =
 
 pub number_refused : {E : Type 0} (o : Option Text) (gives : Text → Result ℕ E → Type 0) (r : Option ℕ)
     → Parses E gives → ((t : Text) → o ≡ Some t → ReadsOne gives t r)
-    → IfSome r (λ k. 1 ≤ k → k ≤ 4096 → ⊥) → (n : ℕ) → HasNumber o n → ⊥
+    → IfSome r (λ k. 1 ≤ k → k ≤ most_screen_side → ⊥) → (n : ℕ) → HasNumber o n → ⊥
 number_refused o gives None parses value out n h =
     let read = value h.0 h.1 in
     let refused = parses h.0 (Err read.0) read.1 in

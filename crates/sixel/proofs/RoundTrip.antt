@@ -9,6 +9,7 @@ use Rattle.sixel_grammar.specs.Document.{events_of}
 use Rattle.sixel_grammar.specs.FixedText.{fixed_places}
 use Rattle.sixel_grammar.specs.Spelling.{fixed_spelling}
 use Rattle.sixel_picture.specs.Rules.{BreaksNone, picture_left}
+use Rattle.sixel_picture.specs.RuleNumbers.{last_rule}
 use Rattle.sixel_check.specs.declared.verdict.Verdict.TheVariants.{Portable}
 use Rattle.sixel_check.specs.Portable.{IsPortable}
 use Rattle.sixel_check.proofs.ShownLemmas.{left_is_portable}
@@ -27,13 +28,13 @@ pub encoded_is_portable : EncodedIsPortable 16
 encoded_is_portable p is =
     let placed : List Placed = fixed_places 0 (canon p) in
     let same : events_of placed ≡ canon p = events_placed 0 (canon p) in
-    let none : BreaksNone 16 12 (canon p) = Whole.lists_break_no_rule 16 p is in
+    let none : BreaksNone 16 last_rule (canon p) = Whole.lists_break_no_rule 16 p is in
     let left : picture_left 16 (canon p) ≡ p = Whole.lists_leave_their_picture 16 p is in
     let shown : IsPortable 16 (canon p) p =
     subst (IsPortable 16 (canon p)) left (left_is_portable 16 (canon p) (Written.lists_are_whole p) none) in (
       placed,
       Written.texts_are_documents 16 (lit≤ tt) (Length.texts_have_at_most 268435456 16 (lit≤ tt) (lit≤ tt)) p is,
-      (subst (BreaksNone 16 12) (sym same) none, sym left ∙ ap (picture_left 16) (sym same)),
+      (subst (BreaksNone 16 last_rule) (sym same) none, sym left ∙ ap (picture_left 16) (sym same)),
       subst (λ (es : List Event). IsPortable 16 es p) (sym same) shown,
     )
 

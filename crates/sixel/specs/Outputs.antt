@@ -7,7 +7,7 @@ use Rattle.sixel_grammar.specs.Document.{Document, events_of, most_bytes}
 use Rattle.sixel_grammar.specs.Prefix.{CompleteIn}
 use Rattle.sixel_grammar.specs.Faults.{IsFaultOf}
 use Rattle.sixel_picture.specs.declared.ppm.PpmFault.{PpmFault}
-use Rattle.sixel_picture.specs.Pictures.{PictureValue}
+use Rattle.sixel_picture.specs.Pictures.{PictureValue, register_count}
 use Rattle.sixel_picture.specs.Ppm.{are_rgb, colours_of, is_file_side, ppm_text}
 use Rattle.sixel_picture.specs.PpmReading.{HasWholeHeader, ppm_read}
 use Rattle.sixel_terminal.specs.Displays.{Display}
@@ -63,7 +63,7 @@ status_of (Broken finding) = status.Broken finding
 abbrev pub CheckGives : List ℕ → Text → Result Status RunFault → Type 0
 CheckGives bytes text (Ok status) =
     (events : List Placed) × Document events bytes
-    × ((verdict : Verdict) × IsVerdict 16 events verdict × (text ≡ verdict_line verdict) × (status ≡ status_of verdict))
+    × ((verdict : Verdict) × IsVerdict register_count events verdict × (text ≡ verdict_line verdict) × (status ≡ status_of verdict))
 CheckGives bytes text (Err (Grammar fault)) = (text ≡ []) × IsFaultOf bytes fault
 CheckGives bytes text (Err (Ppm reason place)) = ⊥
 CheckGives bytes text (Err NotRgb) = ⊥
@@ -88,7 +88,7 @@ abbrev pub RenderGives : List ℕ → Text → Result Status RunFault → Type 0
 RenderGives bytes text (Err (Grammar fault)) = (text ≡ []) × IsFaultOf bytes fault
 RenderGives bytes text answer =
     (events : List Placed) × Document events bytes
-    × ((verdict : Verdict) × IsVerdict 16 events verdict × ((text, answer) ≡ render_output verdict))
+    × ((verdict : Verdict) × IsVerdict register_count events verdict × ((text, answer) ≡ render_output verdict))
 
 -- ---- picture files
 
@@ -98,7 +98,7 @@ encode_output (Ok picture) = (canon_text picture, Ok Done)
 encode_output (Err fault) = ([], Err (of_ppm fault))
 
 abbrev pub EncodeGives : List ℕ → Text → Result Status RunFault → Type 0
-EncodeGives bytes text answer = (text, answer) ≡ encode_output (ppm_read 16 bytes)
+EncodeGives bytes text answer = (text, answer) ≡ encode_output (ppm_read register_count bytes)
 
 -- ---- screens
 

@@ -3,6 +3,7 @@ use Rattle.std.specs.Prelude.{◌≡◌, ◌≢◌, ◌⊎◌, ◌≤◌, ℕ, B
 use Rattle.std.specs.Option.{option_map_or}
 use Rattle.std.specs.Str.{bytes_eq}
 use Rattle.std.specs.Str.Parse.{IsNumeral, digits_value, without_leading_plus}
+use Rattle.sixel_terminal.specs.Limits.{most_screen_side}
 use Rattle.clap.specs.Simple.{App, new_app, new_rule, on_top, subcommand_of, with_rule, with_subcommand}
 use Rattle.clap.specs.Values.{kind_of}
 use Rattle.clap.specs.Walk.{Row, Rule, Text, first_of, one_of}
@@ -30,7 +31,7 @@ side name fallback = record (new_rule name) {
   long = Some name;
   value_names = 1;
   defaults = fallback ∷ [];
-  parser = Some (parser.Signed (pos 1) (pos 4096));
+  parser = Some (parser.Signed (pos 1) (pos most_screen_side));
 }
 
 -- `show`
@@ -63,7 +64,7 @@ pub record IsSideText (text : Text) (n : ℕ) : Type 0 where
   pub numeral : IsNumeral 10 (without_leading_plus text)
   pub value : digits_value 10 (without_leading_plus text) ≡ n
   pub least : 1 ≤ n
-  pub most : n ≤ 4096
+  pub most : n ≤ most_screen_side
 
 -- the option's entry is this number from 1 to 4,096
 abbrev pub HasSide : Text → List Row → ℕ → Type 0

@@ -1,6 +1,7 @@
 //! Laws about the definitions. Each function's contract is the law.
 
 ghost use Rattle.std.specs.Prelude.{◌≡◌, ◌∷◌, [], ℕ, List, Result, codes, false, true};
+ghost use Rattle.sixel_picture.specs.Pictures.{register_count};
 ghost use Rattle.clap.specs.Takes.{takes};
 ghost use Rattle.sixel.specs.declared.fault.RunFault.{RunFault};
 ghost use Rattle.sixel.specs.declared.task.Status.{Status};
@@ -27,7 +28,7 @@ pub fn tasks_give_one_output()
 /// which each terminal of the class with room shows. Whatever a check may answer for it is that this picture is
 /// portable, or want of memory, or that a read failed; and its line says so.
 pub fn encoded_pictures_are_portable()
-    ensures portable { EncodedIsPortable 16 }
+    ensures portable { EncodedIsPortable register_count }
     ensures answered { EncodedAnswers }
     ensures checked { EncodedChecks }
 {}

@@ -4,6 +4,7 @@ use Rattle.sixel_grammar.specs.declared.command.Placed.{Placed}
 use Rattle.sixel_grammar.specs.Document.{AreWhole, events_of}
 use Rattle.sixel_picture.specs.Pictures.{PictureValue}
 use Rattle.sixel_picture.specs.Rules.{BreaksNone, picture_left}
+use Rattle.sixel_picture.specs.RuleNumbers.{last_rule}
 use Rattle.sixel_check.specs.declared.rule.Rule.{Rule}
 use Rattle.sixel_check.specs.declared.rule.Rule.TheVariants.{RasterFirst, RasterTwice, Ratio, BoxSize, Register}
 use Rattle.sixel_check.specs.declared.rule.Rule.TheVariants.{ColourValue}
@@ -18,7 +19,7 @@ use Rattle.sixel_check.specs.Verdicts.{IsVerdict, number_of}
 use Rattle.sixel_check.proofs.ShownLemmas.{left_is_portable}
 use Rattle.sixel_check.proofs.StandLemmas.{stands_whole}
 
-number_most : (r : Rule) → number_of r ≤ 12
+number_most : (r : Rule) → number_of r ≤ last_rule
 number_most RasterFirst = lit≤ tt
 number_most RasterTwice = lit≤ tt
 number_most Ratio = lit≤ tt
@@ -32,7 +33,7 @@ number_most Redefined = lit≤ tt
 number_most Outside = lit≤ tt
 number_most Uncovered = lit≤ tt
 
-no_other : (n : ℕ) (placed : List Placed) (p : PictureValue) → BreaksNone n 12 (events_of placed)
+no_other : (n : ℕ) (placed : List Placed) (p : PictureValue) → BreaksNone n last_rule (events_of placed)
     → p ≡ picture_left n (events_of placed) → (v : Verdict) → IsVerdict n placed v → v ≡ Portable p
 unfolding BreaksNone
 no_other n placed p none is (Portable q) k = ap (λ (x : PictureValue). Portable x) (k.1 ∙ sym is)

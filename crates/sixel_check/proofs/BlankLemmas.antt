@@ -12,7 +12,7 @@ use Rattle.std.proofs.Math.Nat.{mul_comm}
 use Rattle.std.proofs.lemmas.Option.{slice_get-get_or}
 use Rattle.sixel_grammar.specs.declared.command.Event.{Event}
 use Rattle.sixel_picture.specs.Events.{Attributes, is_in_box}
-use Rattle.sixel_picture.specs.Pictures.{is_side, picture_of_parts}
+use Rattle.sixel_picture.specs.Pictures.{is_side, picture_of_parts, most_side}
 use Rattle.sixel_picture.specs.Rules.{IsFirstPoint, StaysBlank, is_before, is_covered}
 use Rattle.sixel_picture.specs.Rules.{palette_left, picture_left, register_at}
 use Rattle.sixel_picture.specs.Sheets.{Sheet, cell, first_blank, row_by_row}
@@ -163,7 +163,7 @@ blank_place s before i d f =
     )
 
 pub small : (n : ℕ) → IsTrue (is_side n) → n < 18446744073709551615
-small n h = let le : n ≤ 2048 = leb-true n 2048 (and_parts (nat_le 1 n) (nat_le n 2048) h).1 in omega arith
+small n h = let le : n ≤ most_side = leb-true n most_side (and_parts (nat_le 1 n) (nat_le n most_side) h).1 in omega arith
 
 -- the first blank pixel is the first point of the box that no event paints, if there is any
 pub first_blank_drawn : (s : Sheet) (before : List Event) → IsDrawn s before

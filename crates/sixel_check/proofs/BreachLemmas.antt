@@ -23,6 +23,7 @@ use Rattle.sixel_picture.specs.Rules.{colour_by, colour_of, definition_of, gives
 use Rattle.sixel_picture.specs.Rules.{palette_left, raster_before}
 use Rattle.sixel_picture.proofs.LeftLemmas.{left_at, length_left}
 use Rattle.sixel_picture.proofs.PositionLemmas.{and_false}
+use Rattle.sixel_picture.specs.RuleNumbers.{raster_first_rule, outside_rule}
 use Rattle.sixel_check.specs.declared.notes.Notes.{Notes}
 use Rattle.sixel_check.specs.declared.rule.Rule.{Rule}
 use Rattle.sixel_check.specs.declared.rule.Rule.TheVariants.{RasterFirst, RasterTwice, Ratio, BoxSize, Register}
@@ -45,7 +46,7 @@ pub record IsLeast (before : List Event) (e : Event) (rule : Rule) : Type 0 wher
   pub no_pixel : IsPixel rule None before e
 
 abbrev pub IsLeastOf : List Event → Event → Option Rule → Type 0
-IsLeastOf before e None = NoneBelow 11 before e
+IsLeastOf before e None = NoneBelow outside_rule before e
 IsLeastOf before e (Some rule) = IsLeast before e rule
 
 -- none below a number, and not that number
@@ -73,7 +74,7 @@ not_both : (b : Bool) → b ≡ false → ¬ IsTrue b
 not_both true f t = cc
 not_both false f t = cc
 
-none_below_one : (before : List Event) (e : Event) → NoneBelow 1 before e
+none_below_one : (before : List Event) (e : Event) → NoneBelow raster_first_rule before e
 unfolding Breaks
 none_below_one before e zero lt h = h
 none_below_one before e (suc m) lt h = absurd (omega arith)

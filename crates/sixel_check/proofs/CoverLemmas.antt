@@ -16,6 +16,7 @@ use Rattle.sixel_picture.proofs.FirstLemmas.{earliest_later}
 use Rattle.sixel_picture.proofs.PositionLemmas.{get_end}
 use Rattle.sixel_picture.proofs.RuleLemmas.{Keeps, keeps_at}
 use Rattle.sixel_picture.proofs.StepLemmas.{covered_push}
+use Rattle.sixel_picture.specs.RuleNumbers.{last_rule}
 use Rattle.sixel_check.specs.Laws.{AllCovered, FilledFirst}
 use Rattle.sixel_check.proofs.WholeLemmas.{EndsIn, box_before, whole_ends}
 
@@ -63,7 +64,7 @@ filled_first n events i j d e none lt at_i is_data at_j =
 -- ---- at the end
 
 -- the end of a list in which no rule is broken keeps each rule
-keeps_end : (n : ℕ) (before : List Event) (eight : Bool) → BreaksNone n 12 (before ++ Finish eight ∷ [])
+keeps_end : (n : ℕ) (before : List Event) (eight : Bool) → BreaksNone n last_rule (before ++ Finish eight ∷ [])
     → Keeps n before (Finish eight)
 keeps_end n before eight none =
     let k : Keeps n (take (length before) (before ++ Finish eight ∷ [])) (Finish eight)
@@ -78,7 +79,7 @@ covered_at_end n before eight a x y k box inside =
     (λ blank. k.uncovered (refl, rw box (x, y, record { inside = inside; blank = blank })))
 
 covered_whole : (n : ℕ) (before : List Event) (eight : Bool) (a : Attributes) (x y : ℕ)
-    → BreaksNone n 12 (before ++ Finish eight ∷ []) → raster_before (before ++ Finish eight ∷ []) ≡ Some a
+    → BreaksNone n last_rule (before ++ Finish eight ∷ []) → raster_before (before ++ Finish eight ∷ []) ≡ Some a
     → is_in_box a x y ≡ true → is_covered (before ++ Finish eight ∷ []) x y ≡ true
 covered_whole n before eight a x y none box inside =
     covered_push before (Finish eight) x y
@@ -95,14 +96,14 @@ box_if_end : (o : Option Attributes) → (is_none o && true) ≡ false → IsSom
 box_if_end (Some a) h = refl
 box_if_end None h = cc
 
-box_at_end : (n : ℕ) (before : List Event) (eight : Bool) → BreaksNone n 12 (before ++ Finish eight ∷ [])
+box_at_end : (n : ℕ) (before : List Event) (eight : Bool) → BreaksNone n last_rule (before ++ Finish eight ∷ [])
     → IsSome (raster_before (before ++ Finish eight ∷ []))
 unfolding breaks_raster_first
 box_at_end n before eight none =
     rw (box_before before eight) (box_if_end (raster_before before) (keeps_end n before eight none).raster_first)
 
 -- a whole list in which no rule is broken has a box
-pub box_there : (n : ℕ) (events : List Event) → AreWhole events → BreaksNone n 12 events → IsSome (raster_before events)
+pub box_there : (n : ℕ) (events : List Event) → AreWhole events → BreaksNone n last_rule events → IsSome (raster_before events)
 box_there n events whole none =
     let e : EndsIn events = whole_ends events whole in
     let is : events ≡ e.front ++ Finish e.eight ∷ [] = e.is in

@@ -4,7 +4,7 @@ use Rattle.std.proofs.Common.{Option, Some, None, List, [], ◌∷◌, length, t
 use Rattle.std.specs.Prelude.{IsSomeAnd, IsTrue, IsFalse, slice_get}
 use Rattle.std.specs.Bool.{MatchBool}
 use Rattle.std.specs.Option.{option_map}
-use Rattle.std.proofs.lemmas.Bool.{and_parts, both_ways, eqb-false, eqb-true, lt-ltb, ltb-true, or_cases}
+use Rattle.std.proofs.lemmas.Bool.{and_parts, both_ways, eq-eqb, eqb-false, eqb-true, lt-ltb, ltb-true, or_cases}
 use Rattle.std.proofs.lemmas.List.{length-map}
 use Rattle.sixel_grammar.specs.declared.command.Event.{Event}
 use Rattle.sixel_grammar.specs.declared.command.Placed.{Placed}
@@ -17,6 +17,9 @@ use Rattle.sixel_picture.specs.Rules.{StaysBlank, is_before, is_covered, picture
 use Rattle.sixel_picture.proofs.CoverLemmas.{lies_under}
 use Rattle.sixel_picture.proofs.PositionLemmas.{holds_within}
 use Rattle.sixel_picture.proofs.RuleLemmas.{no_more_rules}
+use Rattle.sixel_picture.specs.RuleNumbers.{raster_first_rule, raster_twice_rule, ratio_rule, box_size_rule}
+use Rattle.sixel_picture.specs.RuleNumbers.{register_rule, colour_value_rule, repeat_zero_rule, unselected_rule}
+use Rattle.sixel_picture.specs.RuleNumbers.{undefined_rule, redefined_rule, outside_rule, uncovered_rule, last_rule}
 use Rattle.sixel_check.specs.declared.rule.Rule.{Rule}
 use Rattle.sixel_check.specs.declared.rule.Rule.TheVariants.{RasterFirst, RasterTwice, Ratio, BoxSize, Register, ColourValue}
 use Rattle.sixel_check.specs.declared.rule.Rule.TheVariants.{RepeatZero, Unselected, Undefined, Redefined, Outside, Uncovered}
@@ -143,34 +146,42 @@ uncovered_decided before e = both_decided _ _ (decide_true (is_finish e)) (blank
 rule_decided : (registers n : ℕ) (before : List Event) (e : Event) → Decided (Breaks registers n before e)
 unfolding Breaks
 rule_decided registers n before e =
-    decide_either (n == 1) _ _ (decide_true _)
-    (decide_either (n == 2) _ _ (decide_true _)
-    (decide_either (n == 3) _ _ (decide_true _)
-    (decide_either (n == 4) _ _ (decide_true _)
-    (decide_either (n == 5) _ _ (decide_true _)
-    (decide_either (n == 6) _ _ (decide_true _)
-    (decide_either (n == 7) _ _ (decide_true _)
-    (decide_either (n == 8) _ _ (decide_true _)
-    (decide_either (n == 9) _ _ (decide_true _)
-    (decide_either (n == 10) _ _ (decide_true _)
-    (decide_either (n == 11) _ _ (outside_decided before e)
-    (decide_either (n == 12) _ _ (uncovered_decided before e) (inr (λ none. none)))))))))))))
+    decide_either (n == raster_first_rule) _ _ (decide_true _)
+    (decide_either (n == raster_twice_rule) _ _ (decide_true _)
+    (decide_either (n == ratio_rule) _ _ (decide_true _)
+    (decide_either (n == box_size_rule) _ _ (decide_true _)
+    (decide_either (n == register_rule) _ _ (decide_true _)
+    (decide_either (n == colour_value_rule) _ _ (decide_true _)
+    (decide_either (n == repeat_zero_rule) _ _ (decide_true _)
+    (decide_either (n == unselected_rule) _ _ (decide_true _)
+    (decide_either (n == undefined_rule) _ _ (decide_true _)
+    (decide_either (n == redefined_rule) _ _ (decide_true _)
+    (decide_either (n == outside_rule) _ _ (outside_decided before e)
+    (decide_either (n == uncovered_rule) _ _ (uncovered_decided before e) (inr (λ none. none)))))))))))))
 
-rule_of : (n : ℕ) → 1 ≤ n → n ≤ 12 → (r : Rule) × (number_of r ≡ n)
-rule_of zero least most = absurd (omega arith)
-rule_of (suc zero) least most = (RasterFirst, refl)
-rule_of (suc (suc zero)) least most = (RasterTwice, refl)
-rule_of (suc (suc (suc zero))) least most = (Ratio, refl)
-rule_of (suc (suc (suc (suc zero)))) least most = (BoxSize, refl)
-rule_of (suc (suc (suc (suc (suc zero))))) least most = (Register, refl)
-rule_of (suc (suc (suc (suc (suc (suc zero)))))) least most = (ColourValue, refl)
-rule_of (suc (suc (suc (suc (suc (suc (suc zero))))))) least most = (RepeatZero, refl)
-rule_of (suc (suc (suc (suc (suc (suc (suc (suc zero)))))))) least most = (Unselected, refl)
-rule_of (suc (suc (suc (suc (suc (suc (suc (suc (suc zero))))))))) least most = (Undefined, refl)
-rule_of (suc (suc (suc (suc (suc (suc (suc (suc (suc (suc zero)))))))))) least most = (Redefined, refl)
-rule_of (suc (suc (suc (suc (suc (suc (suc (suc (suc (suc (suc zero))))))))))) least most = (Outside, refl)
-rule_of (suc (suc (suc (suc (suc (suc (suc (suc (suc (suc (suc (suc zero)))))))))))) least most = (Uncovered, refl)
-rule_of (suc (suc (suc (suc (suc (suc (suc (suc (suc (suc (suc (suc (suc (n)))))))))))))) least most = absurd (omega arith)
+-- the number is that of this rule, or a greater one's
+or_later : (n : ℕ) (r : Rule) → number_of r ≤ n → (suc (number_of r) ≤ n → (q : Rule) × (number_of q ≡ n))
+    → (q : Rule) × (number_of q ≡ n)
+or_later n r from more = elim (decide_true (number_of r == n)) [
+  | inl is ↦ (r, eqb-true _ _ is)
+  | inr not ↦ more (omega (arith, from, (λ (e : number_of r ≡ n). not (eq-eqb _ _ e))))
+]
+
+rule_of : (n : ℕ) → 1 ≤ n → n ≤ last_rule → (r : Rule) × (number_of r ≡ n)
+rule_of n l most =
+    or_later n RasterFirst l (λ l.
+    (or_later n RasterTwice l (λ l.
+    (or_later n Ratio l (λ l.
+    (or_later n BoxSize l (λ l.
+    (or_later n Register l (λ l.
+    (or_later n ColourValue l (λ l.
+    (or_later n RepeatZero l (λ l.
+    (or_later n Unselected l (λ l.
+    (or_later n Undefined l (λ l.
+    (or_later n Redefined l (λ l.
+    (or_later n Outside l (λ l.
+    (or_later n Uncovered l (λ l.
+    absurd (omega (arith, l, most)))))))))))))))))))))))))
 
 no_rule_zero : (registers : ℕ) (before : List Event) (e : Event) → ¬ Breaks registers 0 before e
 unfolding Breaks
@@ -204,7 +215,7 @@ pixel_of registers Uncovered before e h = elim (blank_first before) [
 
 -- the least rule that is broken at position i
 abbrev LeastAt : ℕ → List Event → ℕ → Type 0
-LeastAt registers events i = LeastBelow (λ n. HoldsAtPosition (Breaks registers n) events i) 13
+LeastAt registers events i = LeastBelow (λ n. HoldsAtPosition (Breaks registers n) events i) (suc last_rule)
 
 held_decided : (registers n : ℕ) (events : List Event) (i : ℕ) (o : Option Event) → slice_get events i ≡ o
     → Decided (HoldsAtPosition (Breaks registers n) events i)
@@ -221,12 +232,12 @@ position_decided : (registers : ℕ) (events : List Event) (i : ℕ)
     → LeastAt registers events i ⊎ ((n : ℕ) → ¬ HoldsAtPosition (Breaks registers n) events i)
 position_decided registers events i =
     elim (least_below (λ n. HoldsAtPosition (Breaks registers n) events i)
-    (λ n. held_decided registers n events i (slice_get events i) refl) 13) [
+    (λ n. held_decided registers n events i (slice_get events i) refl) (suc last_rule)) [
       | inl f ↦ inl f
-      | inr none ↦ inr (λ n h. elim (decide_true (nat_lt n 13)) [
-        | inl low ↦ none n (ltb-true n 13 low) h
+      | inr none ↦ inr (λ n h. elim (decide_true (nat_lt n (suc last_rule))) [
+        | inl low ↦ none n (ltb-true n (suc last_rule) low) h
         | inr high ↦
-            let above : ¬ (n < 13) = λ lt. high (lt-ltb n 13 lt) in
+            let above : ¬ (n < suc last_rule) = λ lt. high (lt-ltb n (suc last_rule) lt) in
             no_more_rules registers n (take i events) h.item (omega (arith, above)) h.holds
       ])
     ]
@@ -251,7 +262,7 @@ first_broken registers events f = record {
 least_rule : (registers : ℕ) (events : List Event) (i : ℕ) (f : LeastAt registers events i)
     → (r : Rule) × (number_of r ≡ f.number)
 least_rule registers events i f =
-    let below : f.number < 13 = f.below in
+    let below : f.number < suc last_rule = f.below in
     let not_zero : ¬ (f.number ≡ 0) = λ e.
     no_rule_zero registers (take i events) f.holds.item
     (subst (λ (n : ℕ). Breaks registers n (take i events) f.holds.item) e f.holds.holds) in

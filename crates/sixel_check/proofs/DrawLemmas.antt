@@ -12,7 +12,7 @@ use Rattle.sixel_grammar.specs.declared.command.Event.{Event}
 use Rattle.sixel_grammar.specs.declared.command.Event.TheVariants.{Start, Step, Finish}
 use Rattle.sixel_picture.specs.Events.{Attributes, Definition, bits_of, columns_of, definition_where, has_sides}
 use Rattle.sixel_picture.specs.Events.{is_data_command, is_finish, is_painting, is_return, is_square, raster_of}
-use Rattle.sixel_picture.specs.Pictures.{is_side}
+use Rattle.sixel_picture.specs.Pictures.{is_side, most_side}
 use Rattle.sixel_picture.specs.Geometry.{band, column, falls, touches}
 use Rattle.sixel_picture.specs.Rules.{BreaksOutside, breaks_box_size, breaks_raster_first, breaks_ratio}
 use Rattle.sixel_picture.specs.Rules.{breaks_repeat_zero, breaks_undefined, breaks_unselected, definition_of, known}
@@ -21,7 +21,7 @@ use Rattle.sixel_picture.specs.Sheets.{Sheet, blank_sheet, painted_sheet}
 use Rattle.sixel_picture.proofs.RuleLemmas.{Keeps}
 use Rattle.sixel_picture.proofs.StepLemmas.{definition_push, register_push}
 use Rattle.sixel_check.specs.declared.notes.Notes.{Notes}
-use Rattle.sixel_check.specs.Breaches.{NoneBelow}
+use Rattle.sixel_check.specs.Breaches.{BreaksNoRule}
 use Rattle.sixel_check.specs.Judging.{AreColoured, AreNotesAfter, IsDrawn, IsUndrawn}
 use Rattle.sixel_check.specs.Outside.{PaintsOutside}
 use Rattle.sixel_check.specs.Notes.{known_in}
@@ -81,7 +81,7 @@ inside_alone s before e d none x y p =
 
 -- the plane takes the run
 pub run_fits_in : (n : Notes) (s : Sheet) (before : List Event) (e : Event) → AreNotesAfter n before → IsDrawn s before
-    → NoneBelow 13 before e → IsSpellable e → is_painting e ≡ true
+    → BreaksNoRule before e → IsSpellable e → is_painting e ≡ true
     → RunFits n.column n.band (columns_of 0 e) (bits_of e) s.width s.height
 run_fits_in n s before e a d none spellable paints =
     let k = keeps before e none in
@@ -98,7 +98,7 @@ run_fits_in n s before e a d none spellable paints =
 
 -- the sheet with the run of a painting command
 pub drawn_paint : (n : Notes) (s : Sheet) (before : List Event) (e : Event) (r : ℕ) → AreNotesAfter n before
-    → IsDrawn s before → NoneBelow 13 before e → IsSpellable e → is_painting e ≡ true → known_in n ≡ Some r
+    → IsDrawn s before → BreaksNoRule before e → IsSpellable e → is_painting e ≡ true → known_in n ≡ Some r
     → IsDrawn (painted_sheet s n.column n.band (columns_of 0 e) (bits_of e) r) (before ++ e ∷ [])
 drawn_paint n s before e r a d none spellable paints is =
     drawn_capped s before e r n.column n.band (sym (known_is n before a) ∙ is) a.column_is a.band_is
@@ -110,7 +110,7 @@ pub drawn_still : (s : Sheet) (before : List Event) (e : Event) → is_painting 
 drawn_still s before e still d = drawn_idle s before e (no_bits (bits_of e % 64) still) d
 
 -- a painting command has a known register
-pub knows : (n : Notes) (before : List Event) (e : Event) → AreNotesAfter n before → NoneBelow 13 before e
+pub knows : (n : Notes) (before : List Event) (e : Event) → AreNotesAfter n before → BreaksNoRule before e
     → is_painting e ≡ true → known_in n ≡ None → ⊥
 unfolding breaks_unselected
 knows n before e a none paints is =
@@ -127,7 +127,7 @@ or_left true b h = cc
 or_left false b h = refl
 
 -- no box, and an event that makes none
-pub undrawn_still : (before : List Event) (e : Event) → NoneBelow 13 before e → raster_of e ≡ None → IsUndrawn before
+pub undrawn_still : (before : List Event) (e : Event) → BreaksNoRule before e → raster_of e ≡ None → IsUndrawn before
     → IsUndrawn (before ++ e ∷ [])
 unfolding breaks_raster_first
 undrawn_still before e none bare u =
@@ -146,14 +146,14 @@ square_is a h =
     ap₂ (λ (p q : ℕ). Some (record { pan = p; pad = q; width = a.width; height = a.height })) pan pad
 
 -- raster attributes that break no rule
-pub good_sides : (before : List Event) (e : Event) (a : Attributes) → NoneBelow 13 before e → raster_of e ≡ Some a
+pub good_sides : (before : List Event) (e : Event) (a : Attributes) → BreaksNoRule before e → raster_of e ≡ Some a
     → IsTrue (is_side a.width) × IsTrue (is_side a.height)
 unfolding breaks_box_size
 good_sides before e a none is =
     let k = keeps before e none in
     and_parts (is_side a.width) (is_side a.height) (not-false (has_sides a) (rw is at k.box_size))
 
-pub good_ratio : (before : List Event) (e : Event) (a : Attributes) → NoneBelow 13 before e → raster_of e ≡ Some a
+pub good_ratio : (before : List Event) (e : Event) (a : Attributes) → BreaksNoRule before e → raster_of e ≡ Some a
     → raster_of e ≡ Some (record { pan = 1; pad = 1; width = a.width; height = a.height })
 unfolding breaks_ratio
 good_ratio before e a none is =
@@ -174,7 +174,7 @@ attributes_of (Some a) w h e =
     let same : (a.width, a.height) ≡ (w, h) = cc in
     (a, refl, ap (λ (p : ℕ × ℕ). p.0) same, ap (λ (p : ℕ × ℕ). p.1) same)
 
-pub sides_good : (before : List Event) (e : Event) (w h : ℕ) → NoneBelow 13 before e → sides (raster_of e) ≡ Some (w, h)
+pub sides_good : (before : List Event) (e : Event) (w h : ℕ) → BreaksNoRule before e → sides (raster_of e) ≡ Some (w, h)
     → IsTrue (is_side w) × IsTrue (is_side h)
 sides_good before e w h none is =
     let a = attributes_of (raster_of e) w h is in
@@ -182,7 +182,7 @@ sides_good before e w h none is =
     (subst (λ (n : ℕ). IsTrue (is_side n)) a.2 good.0, subst (λ (n : ℕ). IsTrue (is_side n)) a.3 good.1)
 
 -- the first box
-pub drawn_box : (before : List Event) (e : Event) (w h : ℕ) → NoneBelow 13 before e → sides (raster_of e) ≡ Some (w, h)
+pub drawn_box : (before : List Event) (e : Event) (w h : ℕ) → BreaksNoRule before e → sides (raster_of e) ≡ Some (w, h)
     → IsUndrawn before → IsDrawn (blank_sheet w h) (before ++ e ∷ [])
 drawn_box before e w h none is u =
     let a = attributes_of (raster_of e) w h is in
@@ -208,7 +208,7 @@ falls_paint before e x y false p f =
     let still : falls before e x y ≡ false = idle_falls before e x y (no_bits (bits_of e % 64) p) in
     cc
 
-known_defined : (before : List Event) (e : Event) (r : ℕ) → NoneBelow 13 before e → is_painting e ≡ true
+known_defined : (before : List Event) (e : Event) (r : ℕ) → BreaksNoRule before e → is_painting e ≡ true
     → known before ≡ Some r → IsSome (definition_of before r)
 unfolding breaks_undefined
 known_defined before e r none paints is =
@@ -216,7 +216,7 @@ known_defined before e r none paints is =
     not_none (definition_of before r) (rw (paints, is) at k.undefined)
 
 coloured_there : (n : Notes) (before : List Event) (e : Event) (x y r : ℕ) → AreNotesAfter n before
-    → NoneBelow 13 before e
+    → BreaksNoRule before e
     → AreColoured before → (b : Bool) → falls before e x y ≡ b
     → (if b then known before else register_at before x y) ≡ Some r → (r < 16) × IsSome (definition_of before r)
 coloured_there n before e x y r a none c true f is =
@@ -225,7 +225,7 @@ coloured_there n before e x y r a none c true f is =
     (rw (known_is n before a, is) at low, known_defined before e r none paints is)
 coloured_there n before e x y r a none c false f is = c x y r is
 
-pub coloured_push : (n : Notes) (before : List Event) (e : Event) → AreNotesAfter n before → NoneBelow 13 before e
+pub coloured_push : (n : Notes) (before : List Event) (e : Event) → AreNotesAfter n before → BreaksNoRule before e
     → AreColoured before → AreColoured (before ++ e ∷ [])
 coloured_push n before e a none c x y r is =
     let there =
@@ -236,8 +236,8 @@ coloured_push n before e a none c x y r is =
 pub narrow : (column band count bits width height : ℕ) → IsTrue (is_side width) → IsTrue (is_side height)
     → RunFits column band count bits width height → (column < 4294967296) × (band < 4294967296)
 narrow column band count bits width height w h fits =
-    let wide : width ≤ 2048 = leb-true width 2048 (and_parts (nat_le 1 width) (nat_le width 2048) w).1 in
-    let high : height ≤ 2048 = leb-true height 2048 (and_parts (nat_le 1 height) (nat_le height 2048) h).1 in
+    let wide : width ≤ most_side = leb-true width most_side (and_parts (nat_le 1 width) (nat_le width most_side) w).1 in
+    let high : height ≤ most_side = leb-true height most_side (and_parts (nat_le 1 height) (nat_le height most_side) h).1 in
     let columns : column + count ≤ width = fits.columns in
     let low : band < height = fits.low in
     (omega (arith, wide, columns), omega (arith, high, low))

@@ -21,9 +21,10 @@ use Rattle.sixel_picture.specs.Positions.{HoldsAtPosition}
 use Rattle.sixel_picture.specs.Sheets.{Sheet}
 use Rattle.sixel_picture.proofs.PositionLemmas.{holds_before, holds_end, holds_within}
 use Rattle.sixel_picture.proofs.RuleLemmas.{none_push}
+use Rattle.sixel_picture.specs.RuleNumbers.{last_rule}
 use Rattle.sixel_check.specs.declared.notes.Notes.{Notes}
 use Rattle.sixel_check.specs.declared.verdict.Verdict.{Verdict}
-use Rattle.sixel_check.specs.Breaches.{NoneBelow}
+use Rattle.sixel_check.specs.Breaches.{BreaksNoRule}
 use Rattle.sixel_check.specs.Growth.{GrowsFor, MayGrow, MayGrowAmong, MayGrowIn}
 use Rattle.sixel_check.specs.Judging.{IsSheetAfter, IsUndrawn, StandsUnbroken}
 use Rattle.sixel_check.specs.Checking.{AreAfter}
@@ -44,11 +45,11 @@ no_box (Some s) before e h = cc
 
 -- raster attributes that break no rule, where there is no sheet yet
 pub judge_grows : (notes : Notes) (sheet : Option Sheet) (before : List Event) (e : Event) → sheet ≡ None
-    → IsSome (raster_of e) → StandsUnbroken notes sheet before → NoneBelow 13 before e → MayGrow before e
+    → IsSome (raster_of e) → StandsUnbroken notes sheet before → BreaksNoRule before e → MayGrow before e
 judge_grows notes sheet before e is declares s none = record {
   declares = declares;
   first = (no_box sheet before is s.sheet_is).no_box;
-  unbroken = none_push 16 12 before e s.unbroken (keeps before e none);
+  unbroken = none_push 16 last_rule before e s.unbroken (keeps before e none);
 }
 
 -- where a map gives something, there is something

@@ -12,10 +12,11 @@ use Rattle.sixel_picture.specs.Rules.{Breaks, IsFirstBroken, register_at}
 use Rattle.sixel_picture.specs.Sheets.{Sheet}
 use Rattle.sixel_picture.proofs.PositionLemmas.{get_before, get_end, holds_before, holds_end, holds_within}
 use Rattle.sixel_picture.proofs.RuleLemmas.{first_push, first_there, none_of_none, none_push}
+use Rattle.sixel_picture.specs.RuleNumbers.{last_rule}
 use Rattle.sixel_check.specs.declared.breach.Breach.{Breach}
 use Rattle.sixel_check.specs.declared.notes.Notes.{Notes}
 use Rattle.sixel_check.specs.declared.verdict.Finding.{Finding}
-use Rattle.sixel_check.specs.Breaches.{IsBreach, NoneBelow}
+use Rattle.sixel_check.specs.Breaches.{IsBreach, BreaksNoRule}
 use Rattle.sixel_check.specs.Judging.{AreNotesAfter, IsSheetAfter, JudgesAfter, StandsUnbroken}
 use Rattle.sixel_check.specs.Verdicts.{IsFinding, IsPixel, number_of}
 use Rattle.sixel_check.proofs.DrawLemmas.{coloured_push}
@@ -31,7 +32,7 @@ length_events seen = length-map seen (λ (q : Placed). q.event)
 pub judge_start : (notes : Notes) → AreNotesAfter notes [] → StandsUnbroken notes None []
 unfolding register_at last_at last_below
 judge_start notes a = record {
-  unbroken = none_of_none 16 12;
+  unbroken = none_of_none 16 last_rule;
   notes_are = a;
   sheet_is = undrawn_empty;
   coloured = λ x y r h. cc;
@@ -78,13 +79,13 @@ judge_finds notes sheet seen p b s breach = (
 
 -- no finding, and an event that breaks no rule
 pub judge_goes_on : (notes next : Notes) (sheet drawn : Option Sheet) (seen : List Placed) (p : Placed)
-    → StandsUnbroken notes sheet (events_of seen) → NoneBelow 13 (events_of seen) p.event
+    → StandsUnbroken notes sheet (events_of seen) → BreaksNoRule (events_of seen) p.event
     → AreNotesAfter next (events_of seen ++ p.event ∷ []) → IsSheetAfter drawn (events_of seen ++ p.event ∷ [])
     → StandsUnbroken next drawn (events_of (seen ++ p ∷ []))
 judge_goes_on notes next sheet drawn seen p s none a d =
     subst (StandsUnbroken next drawn) (sym (events_push seen p))
     (record {
-      unbroken = none_push 16 12 (events_of seen) p.event s.unbroken (keeps (events_of seen) p.event none);
+      unbroken = none_push 16 last_rule (events_of seen) p.event s.unbroken (keeps (events_of seen) p.event none);
       notes_are = a;
       sheet_is = d;
       coloured = coloured_push notes (events_of seen) p.event s.notes_are none s.coloured;

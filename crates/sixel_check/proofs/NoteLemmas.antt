@@ -24,14 +24,14 @@ use Rattle.sixel_picture.proofs.PositionLemmas.{latest_push}
 use Rattle.sixel_picture.proofs.RuleLemmas.{Keeps, none_keeps}
 use Rattle.sixel_picture.proofs.StepLemmas.{band_push, column_push, definition_push, painted_in_push}
 use Rattle.sixel_check.specs.declared.notes.Notes.{Notes}
-use Rattle.sixel_check.specs.Breaches.{NoneBelow}
+use Rattle.sixel_check.specs.Breaches.{BreaksNoRule}
 use Rattle.sixel_check.specs.Judging.{AreNotesAfter, IsGood}
 use Rattle.sixel_check.specs.Notes.{IsBelow, colour_within, known_in, next_band, next_column, next_named, next_painted}
 use Rattle.sixel_check.specs.Notes.{next_palette, next_selected}
 use Rattle.sixel_check.specs.Verdicts.{capped}
 
 -- an event that breaks none of the rules keeps each
-pub keeps : (before : List Event) (e : Event) → NoneBelow 13 before e → Keeps 16 before e
+pub keeps : (before : List Event) (e : Event) → BreaksNoRule before e → Keeps 16 before e
 keeps before e none = none_keeps 16 before e (λ n le. none n (omega (arith, le)))
 
 -- a column that stops at the greatest
@@ -161,7 +161,7 @@ notes_start palette h = record {
 }
 
 -- the notes after one event more, which breaks no rule
-pub notes_push : (n : Notes) (before : List Event) (e : Event) → AreNotesAfter n before → NoneBelow 13 before e
+pub notes_push : (n : Notes) (before : List Event) (e : Event) → AreNotesAfter n before → BreaksNoRule before e
     → AreNotesAfter (record {
       column = next_column n e;
       band = next_band n e;

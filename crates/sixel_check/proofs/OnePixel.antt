@@ -15,6 +15,7 @@ use Rattle.sixel_picture.specs.Rules.{breaks_redefined, breaks_register, breaks_
 use Rattle.sixel_picture.specs.Rules.{breaks_unselected}
 use Rattle.sixel_picture.specs.Rules.{definition_of, is_covered, is_painted_in, known, raster_before}
 use Rattle.sixel_picture.proofs.RuleLemmas.{Keeps, none_of_none, none_push}
+use Rattle.sixel_picture.specs.RuleNumbers.{last_rule}
 use Rattle.sixel_check.specs.Laws.{OnePixelBreaksNone, one_pixel}
 use Rattle.sixel_check.proofs.DrawnLemmas.{idle_falls}
 
@@ -189,14 +190,14 @@ finish_keeps = record {
   uncovered = λ h. none_blank ((h.1).0) ((h.1).1) ((h.1).2);
 }
 
-unbroken : BreaksNone 16 12 one_pixel
+unbroken : BreaksNone 16 last_rule one_pixel
 unbroken =
-    none_push 16 12 (start ∷ raster ∷ define ∷ select ∷ sixel ∷ []) (Finish false)
-    (none_push 16 12 (start ∷ raster ∷ define ∷ select ∷ []) sixel
-    (none_push 16 12 (start ∷ raster ∷ define ∷ []) select
-    (none_push 16 12 (start ∷ raster ∷ []) define
-    (none_push 16 12 (start ∷ []) raster
-    (none_push 16 12 [] start (none_of_none 16 12) start_keeps)
+    none_push 16 last_rule (start ∷ raster ∷ define ∷ select ∷ sixel ∷ []) (Finish false)
+    (none_push 16 last_rule (start ∷ raster ∷ define ∷ select ∷ []) sixel
+    (none_push 16 last_rule (start ∷ raster ∷ define ∷ []) select
+    (none_push 16 last_rule (start ∷ raster ∷ []) define
+    (none_push 16 last_rule (start ∷ []) raster
+    (none_push 16 last_rule [] start (none_of_none 16 last_rule) start_keeps)
     raster_keeps) define_keeps) select_keeps) sixel_keeps) finish_keeps
 
 pub one_pixel_breaks_none : OnePixelBreaksNone

@@ -7,11 +7,12 @@ use Rattle.sixel_grammar.specs.declared.command.Event.{Event}
 use Rattle.sixel_picture.specs.Events.{Attributes, is_finish}
 use Rattle.sixel_picture.specs.Rules.{Breaks, BreaksUncovered, FallsOutside, StaysBlank, raster_before}
 use Rattle.sixel_picture.specs.Sheets.{Sheet}
+use Rattle.sixel_picture.specs.RuleNumbers.{outside_rule, uncovered_rule}
 use Rattle.sixel_check.specs.declared.breach.Breach.{Breach}
 use Rattle.sixel_check.specs.declared.notes.Notes.{Notes}
 use Rattle.sixel_check.specs.declared.rule.Rule.{Rule}
 use Rattle.sixel_check.specs.declared.rule.Rule.TheVariants.{Outside, Uncovered}
-use Rattle.sixel_check.specs.Breaches.{IsBreach, IsBreachOf, NoneBelow, rule_in}
+use Rattle.sixel_check.specs.Breaches.{IsBreach, IsBreachOf, BreaksNoRule, NoneBelow, rule_in}
 use Rattle.sixel_check.specs.Judging.{AreNotesAfter, IsDrawn, IsSheetAfter, IsUndrawn, box_of}
 use Rattle.sixel_check.specs.Outside.{IsFirstIfAny}
 use Rattle.sixel_check.proofs.BreachLemmas.{IsLeast, IsLeastOf, least_rule, none_more}
@@ -24,7 +25,7 @@ pub breach_plain : (before : List Event) (e : Event) (rule : Rule) → IsLeast b
 breach_plain before e rule l = record { broken = l.broken; none_smaller = l.none_smaller; pixel = l.no_pixel }
 
 pub breach_outside : (before : List Event) (e : Event) (s : Sheet) (pixel : ℕ × ℕ) → IsDrawn s before
-    → NoneBelow 11 before e → IsFirstIfAny (FallsOutside before e (box_of s)) (Some pixel)
+    → NoneBelow outside_rule before e → IsFirstIfAny (FallsOutside before e (box_of s)) (Some pixel)
     → IsBreach before e (record { rule = Outside; pixel = Some pixel })
 unfolding Breaks
 breach_outside before e s pixel d none first = record {
@@ -33,14 +34,14 @@ breach_outside before e s pixel d none first = record {
   pixel = first_in_box (FallsOutside before e) (raster_before before) (box_of s) pixel d.box first;
 }
 
-pub none_outside : (before : List Event) (e : Event) (s : Sheet) → IsDrawn s before → NoneBelow 11 before e
-    → IsFirstIfAny (FallsOutside before e (box_of s)) None → NoneBelow 12 before e
+pub none_outside : (before : List Event) (e : Event) (s : Sheet) → IsDrawn s before → NoneBelow outside_rule before e
+    → IsFirstIfAny (FallsOutside before e (box_of s)) None → NoneBelow uncovered_rule before e
 unfolding Breaks
-none_outside before e s d none first = none_more before e 11 none (keeps_inside before e (box_of s) d.box first)
+none_outside before e s d none first = none_more before e outside_rule none (keeps_inside before e (box_of s) d.box first)
 
 pub breach_uncovered : (before : List Event) (e : Event) (s : Sheet) (pixel : ℕ × ℕ) → is_finish e ≡ true
     → IsDrawn s before
-    → NoneBelow 12 before e → IsFirstIfAny (StaysBlank before (box_of s)) (Some pixel)
+    → NoneBelow uncovered_rule before e → IsFirstIfAny (StaysBlank before (box_of s)) (Some pixel)
     → IsBreach before e (record { rule = Uncovered; pixel = Some pixel })
 unfolding Breaks
 breach_uncovered before e s pixel end d none first = record {
@@ -49,27 +50,27 @@ breach_uncovered before e s pixel end d none first = record {
   pixel = first_in_box (StaysBlank before) (raster_before before) (box_of s) pixel d.box first;
 }
 
-pub none_uncovered : (before : List Event) (e : Event) (s : Sheet) → IsDrawn s before → NoneBelow 12 before e
-    → IsFirstIfAny (StaysBlank before (box_of s)) None → NoneBelow 13 before e
+pub none_uncovered : (before : List Event) (e : Event) (s : Sheet) → IsDrawn s before → NoneBelow uncovered_rule before e
+    → IsFirstIfAny (StaysBlank before (box_of s)) None → BreaksNoRule before e
 unfolding Breaks
-none_uncovered before e s d none first = none_more before e 12 none (keeps_covered before e (box_of s) d.box first)
+none_uncovered before e s d none first = none_more before e uncovered_rule none (keeps_covered before e (box_of s) d.box first)
 
 not_end : (before : List Event) (e : Event) → is_finish e ≡ false → ¬ BreaksUncovered before e
 unfolding BreaksUncovered
 not_end before e goes_on h = let yes : is_finish e ≡ true = h.0 in cc
 
 -- an event that isn't the end leaves nothing uncovered
-pub none_before_end : (before : List Event) (e : Event) → is_finish e ≡ false → NoneBelow 12 before e
-    → NoneBelow 13 before e
+pub none_before_end : (before : List Event) (e : Event) → is_finish e ≡ false → NoneBelow uncovered_rule before e
+    → BreaksNoRule before e
 unfolding Breaks
-none_before_end before e goes_on none = none_more before e 12 none (not_end before e goes_on)
+none_before_end before e goes_on none = none_more before e uncovered_rule none (not_end before e goes_on)
 
 -- without a box no pixel is looked at
-pub none_without_box : (before : List Event) (e : Event) → raster_before before ≡ None → NoneBelow 11 before e
-    → NoneBelow 13 before e
+pub none_without_box : (before : List Event) (e : Event) → raster_before before ≡ None → NoneBelow outside_rule before e
+    → BreaksNoRule before e
 unfolding Breaks
 none_without_box before e is none =
-    none_more before e 12 (none_more before e 11 none (no_box_outside before e is)) (no_box_uncovered before e is)
+    none_more before e uncovered_rule (none_more before e outside_rule none (no_box_outside before e is)) (no_box_uncovered before e is)
 
 -- there is a sheet exactly where there is a box
 pub box_there : (sheet : Option Sheet) (before : List Event) → IsSheetAfter sheet before

@@ -20,6 +20,7 @@ use Rattle.sixel_picture.specs.Rules.{register_at}
 use Rattle.sixel_picture.proofs.LastLemmas.{IsLast, at_there, is_last, item_there, last_is, passes_there, some_last}
 use Rattle.sixel_picture.proofs.RuleLemmas.{Keeps, keeps_at}
 use Rattle.sixel_picture.proofs.SheetLemmas.{get_rows}
+use Rattle.sixel_picture.specs.RuleNumbers.{last_rule}
 use Rattle.sixel_terminal.specs.Displays.{Display, registers_of}
 use Rattle.sixel_terminal.specs.Drawing.{inked_on, map_on, paint_at, paints_on, selected_on, shown_on, touches_on}
 use Rattle.sixel_terminal.proofs.PaintLemmas.{none_filled}
@@ -97,7 +98,7 @@ last_painting events x y r found =
     }
 
 -- a covered pixel has a register
-has_register : (n : ℕ) (events : List Event) (x y : ℕ) → BreaksNone n 12 events → is_covered events x y ≡ true
+has_register : (n : ℕ) (events : List Event) (x y : ℕ) → BreaksNone n last_rule events → is_covered events x y ≡ true
     → IsSome (register_at events x y)
 unfolding is_covered any_at register_at last_at
 has_register n events x y none covered =
@@ -147,14 +148,14 @@ unfolding falls
 falls_data before e x y h = touches_data 0 1 before e x y h
 
 -- the box stands before what paints a point
-box_at_painting : (n : ℕ) (events : List Event) (x y r : ℕ) → BreaksNone n 12 events → (p : IsLastPainting events x y r)
+box_at_painting : (n : ℕ) (events : List Event) (x y r : ℕ) → BreaksNone n last_rule events → (p : IsLastPainting events x y r)
     → IsSome (raster_before (take p.at events))
 box_at_painting n events x y r none p =
     box_at_data n (take p.at events) p.event (keeps_at n events none p.at p.event p.here)
     (falls_data (take p.at events) p.event x y p.fell)
 
 -- the last painting of a pixel is in its register
-paint_last : (n : ℕ) (t : Display) (events : List Event) (x y r : ℕ) → BreaksNone n 12 events → n ≤ registers_of t
+paint_last : (n : ℕ) (t : Display) (events : List Event) (x y r : ℕ) → BreaksNone n last_rule events → n ≤ registers_of t
     → (p : IsLastPainting events x y r) → paint_at t (take p.at events) p.event x y ≡ Some r
 paint_last n t events x y r none enough p =
     let same : touches_on t (take p.at events) p.event x y ≡ true
@@ -166,7 +167,7 @@ paint_last n t events x y r none enough p =
     rw (same, selected) refl
 
 -- and no event after it paints the pixel
-paint_after : (n : ℕ) (t : Display) (events : List Event) (x y r : ℕ) → BreaksNone n 12 events
+paint_after : (n : ℕ) (t : Display) (events : List Event) (x y r : ℕ) → BreaksNone n last_rule events
     → (p : IsLastPainting events x y r) (j : ℕ) (e : Event) → p.at < j → slice_get events j ≡ Some e
     → paint_at t (take j events) e x y ≡ None
 paint_after n t events x y r none p j e lt here =
@@ -185,7 +186,7 @@ colour_either n t events i r true h = h.at_showing
 colour_either n t events i r false h = h.at_painting
 
 -- what is inked at the last painting, and after it
-inked_at : (n : ℕ) (t : Display) (events : List Event) (x y r : ℕ) → BreaksNone n 12 events → n ≤ registers_of t
+inked_at : (n : ℕ) (t : Display) (events : List Event) (x y r : ℕ) → BreaksNone n last_rule events → n ≤ registers_of t
     → (p : IsLastPainting events x y r)
     → IsLast (at_position (inked_on t events (t.choices.origin_x + x) (t.choices.origin_y + y)) events) (length events)
     (map_on t (if t.choices.binds_at_showing then events else take p.at events) r)
@@ -205,7 +206,7 @@ inked_at n t events x y r none enough p =
     }
 
 -- a terminal shows the colour of the register that is left at the pixel
-shown_is : (n : ℕ) (t : Display) (events : List Event) (x y r : ℕ) → BreaksNone n 12 events → n ≤ registers_of t
+shown_is : (n : ℕ) (t : Display) (events : List Event) (x y r : ℕ) → BreaksNone n last_rule events → n ≤ registers_of t
     → register_at events x y ≡ Some r
     → palette_at (picture_left n events).palette r
     ≡ Some (shown_on t events (t.choices.origin_x + x) (t.choices.origin_y + y))
@@ -230,7 +231,7 @@ register_left n events a x y r box p q found =
 
 -- each terminal with enough registers shows it in the box
 shows_left : (n : ℕ) (t : Display) (events : List Event) (a : Attributes) (x y : ℕ) → AreWhole events
-    → BreaksNone n 12 events → n ≤ registers_of t → raster_before events ≡ Some a → x < a.width → y < a.height
+    → BreaksNone n last_rule events → n ≤ registers_of t → raster_before events ≡ Some a → x < a.width → y < a.height
     → palette_at (picture_left n events).palette (register_of (picture_left n events) x y)
     ≡ Some (shown_on t events (t.choices.origin_x + x) (t.choices.origin_y + y))
 shows_left n t events a x y whole none enough box p q =
@@ -245,7 +246,7 @@ size_left : (n : ℕ) (events : List Event) (a : Attributes) → raster_before e
 unfolding picture_left
 size_left n events a box = rw box (refl, refl)
 
-box_is_portable : (n : ℕ) (events : List Event) (a : Attributes) → AreWhole events → BreaksNone n 12 events
+box_is_portable : (n : ℕ) (events : List Event) (a : Attributes) → AreWhole events → BreaksNone n last_rule events
     → raster_before events ≡ Some a → IsPortable n events (picture_left n events)
 box_is_portable n events a whole none box =
     let w : (picture_left n events).width ≡ a.width = (size_left n events a box).0 in

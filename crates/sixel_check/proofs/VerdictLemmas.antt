@@ -11,6 +11,9 @@ use Rattle.sixel_picture.specs.Positions.{HoldsAtPosition}
 use Rattle.sixel_picture.specs.Rules.{Breaks, BreaksNone, FallsOutside, IsFirstBroken, IsFirstPoint, StaysBlank}
 use Rattle.sixel_picture.specs.Rules.{is_before, raster_before}
 use Rattle.sixel_picture.proofs.RuleLemmas.{nowhere}
+use Rattle.sixel_picture.specs.RuleNumbers.{raster_first_rule, raster_twice_rule, ratio_rule, box_size_rule}
+use Rattle.sixel_picture.specs.RuleNumbers.{register_rule, colour_value_rule, repeat_zero_rule, unselected_rule}
+use Rattle.sixel_picture.specs.RuleNumbers.{undefined_rule, redefined_rule, outside_rule}
 use Rattle.sixel_check.specs.declared.rule.Rule.{Rule}
 use Rattle.sixel_check.specs.declared.rule.Rule.TheVariants.{RasterFirst, RasterTwice, Ratio, BoxSize, Register, ColourValue}
 use Rattle.sixel_check.specs.declared.rule.Rule.TheVariants.{RepeatZero, Unselected, Undefined, Redefined, Outside, Uncovered}
@@ -24,17 +27,17 @@ use Rattle.sixel_check.specs.Verdicts.{IsFinding, IsFirstPixel, IsPixel, IsVerdi
 -- the rule of a number
 abbrev numbered : ℕ → Rule
 numbered n =
-    if n == 1 then RasterFirst
-    else if n == 2 then RasterTwice
-    else if n == 3 then Ratio
-    else if n == 4 then BoxSize
-    else if n == 5 then Register
-    else if n == 6 then ColourValue
-    else if n == 7 then RepeatZero
-    else if n == 8 then Unselected
-    else if n == 9 then Undefined
-    else if n == 10 then Redefined
-    else if n == 11 then Outside
+    if n == raster_first_rule then RasterFirst
+    else if n == raster_twice_rule then RasterTwice
+    else if n == ratio_rule then Ratio
+    else if n == box_size_rule then BoxSize
+    else if n == register_rule then Register
+    else if n == colour_value_rule then ColourValue
+    else if n == repeat_zero_rule then RepeatZero
+    else if n == unselected_rule then Unselected
+    else if n == undefined_rule then Undefined
+    else if n == redefined_rule then Redefined
+    else if n == outside_rule then Outside
     else Uncovered
 
 numbered_is : (r : Rule) → numbered (number_of r) ≡ r

@@ -24,6 +24,7 @@ use Rattle.sixel_picture.proofs.LeftLemmas.{left_at}
 use Rattle.sixel_picture.proofs.PositionLemmas.{holds_end, option_or_none}
 use Rattle.sixel_picture.proofs.RuleLemmas.{nowhere}
 use Rattle.sixel_picture.proofs.StepLemmas.{raster_push}
+use Rattle.sixel_picture.specs.RuleNumbers.{raster_first_rule, uncovered_rule, last_rule}
 use Rattle.sixel_check.specs.Judging.{AreColoured, AreNotesAfter, IsDrawn, IsGood, IsUndrawn, StandsUnbroken, box_of}
 use Rattle.sixel_check.specs.Outside.{IsFirstIfAny}
 use Rattle.sixel_check.specs.declared.notes.Notes.{Notes}
@@ -67,32 +68,32 @@ pub box_before : (before : List Event) (eight : Bool)
     → raster_before (before ++ Finish eight ∷ []) ≡ raster_before before
 box_before before eight = raster_push before (Finish eight) ∙ option_or_none (raster_before before)
 
-no_box_at_end : (front : List Event) (eight : Bool) → raster_before front ≡ None → Breaks 16 1 front (Finish eight)
+no_box_at_end : (front : List Event) (eight : Bool) → raster_before front ≡ None → Breaks 16 raster_first_rule front (Finish eight)
 unfolding Breaks breaks_raster_first
 no_box_at_end front eight h = rw h refl
 
 -- an end without a box breaks a rule
-box_at_end : (front : List Event) (eight : Bool) → BreaksNone 16 12 (front ++ Finish eight ∷ [])
+box_at_end : (front : List Event) (eight : Bool) → BreaksNone 16 last_rule (front ++ Finish eight ∷ [])
     → raster_before (front ++ Finish eight ∷ []) ≡ None → ⊥
 box_at_end front eight none bare =
-    nowhere 16 1 (length front) (front ++ Finish eight ∷ []) none
-    (holds_end (Breaks 16 1) front (Finish eight) (no_box_at_end front eight (sym (box_before front eight) ∙ bare)))
+    nowhere 16 raster_first_rule (length front) (front ++ Finish eight ∷ []) none
+    (holds_end (Breaks 16 raster_first_rule) front (Finish eight) (no_box_at_end front eight (sym (box_before front eight) ∙ bare)))
 
-pub has_box : (events : List Event) → AreWhole events → BreaksNone 16 12 events → raster_before events ≡ None → ⊥
+pub has_box : (events : List Event) → AreWhole events → BreaksNone 16 last_rule events → raster_before events ≡ None → ⊥
 has_box events whole none bare =
     let end = whole_ends events whole in
-    box_at_end end.front end.eight (subst (BreaksNone 16 12) end.is none)
+    box_at_end end.front end.eight (subst (BreaksNone 16 last_rule) end.is none)
     (subst (λ (es : List Event). raster_before es ≡ None) end.is bare)
 
 -- ---- no pixel is blank
 
 blank_at_end : (front : List Event) (eight : Bool) (a : Attributes) (x y : ℕ) → raster_before front ≡ Some a
-    → StaysBlank front a x y → Breaks 16 12 front (Finish eight)
+    → StaysBlank front a x y → Breaks 16 uncovered_rule front (Finish eight)
 unfolding Breaks BreaksUncovered
 blank_at_end front eight a x y is blank = (refl, rw is (x, y, blank))
 
 full_at_end : (s : Sheet) (front : List Event) (eight : Bool) (o : Option (ℕ × ℕ))
-    → BreaksNone 16 12 (front ++ Finish eight ∷ []) → raster_before (front ++ Finish eight ∷ []) ≡ Some (box_of s)
+    → BreaksNone 16 last_rule (front ++ Finish eight ∷ []) → raster_before (front ++ Finish eight ∷ []) ≡ Some (box_of s)
     → IsFirstIfAny (StaysBlank (front ++ Finish eight ∷ []) (box_of s)) o → o ≡ None
 full_at_end s front eight None none box first = refl
 full_at_end s front eight (Some pixel) none box first =
@@ -103,15 +104,15 @@ full_at_end s front eight (Some pixel) none box first =
       inside = point.inside;
       blank = sym (idle_covered front (Finish eight) first.0 first.1 refl) ∙ point.blank;
     } in
-    absurd (nowhere 16 12 (length front) (front ++ Finish eight ∷ []) none
-    (holds_end (Breaks 16 12) front (Finish eight)
+    absurd (nowhere 16 uncovered_rule (length front) (front ++ Finish eight ∷ []) none
+    (holds_end (Breaks 16 uncovered_rule) front (Finish eight)
     (blank_at_end front eight (box_of s) first.0 first.1 (sym (box_before front eight) ∙ box) blank)))
 
-pub full_sheet : (s : Sheet) (events : List Event) → AreWhole events → BreaksNone 16 12 events → IsDrawn s events
+pub full_sheet : (s : Sheet) (events : List Event) → AreWhole events → BreaksNone 16 last_rule events → IsDrawn s events
     → IsFull s
 full_sheet s events whole none d =
     let end = whole_ends events whole in
-    full_at_end s end.front end.eight (first_blank s) (subst (BreaksNone 16 12) end.is none)
+    full_at_end s end.front end.eight (first_blank s) (subst (BreaksNone 16 last_rule) end.is none)
     (subst (λ (es : List Event). raster_before es ≡ Some (box_of s)) end.is d.box)
     (subst (λ (es : List Event). IsFirstIfAny (StaysBlank es (box_of s)) (first_blank s)) end.is (first_blank_drawn s events d))
 

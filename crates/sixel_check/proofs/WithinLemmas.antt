@@ -14,6 +14,7 @@ use Rattle.sixel_picture.specs.Rules.{BreaksNone, BreaksOutside, breaks_ratio, b
 use Rattle.sixel_picture.proofs.FirstLemmas.{earliest_all, earliest_there}
 use Rattle.sixel_picture.proofs.LatestLemmas.{each_from_positions}
 use Rattle.sixel_picture.proofs.RuleLemmas.{Keeps, keeps_at}
+use Rattle.sixel_picture.specs.RuleNumbers.{last_rule}
 use Rattle.sixel_terminal.specs.declared.choices.Ground.{Ground}
 use Rattle.sixel_terminal.specs.declared.choices.Ground.TheVariants.{Kept, Filled}
 use Rattle.sixel_terminal.specs.Displays.{Display}
@@ -54,7 +55,7 @@ good_count : (e : Event) → IsFalse (breaks_repeat_zero e) → IsFalse (is_repe
 unfolding breaks_repeat_zero
 good_count e h = h
 
-pub plain : (n : ℕ) (events : List Event) → BreaksNone n 12 events → IsPlain events
+pub plain : (n : ℕ) (events : List Event) → BreaksNone n last_rule events → IsPlain events
 plain n events none = record {
   no_repeat_of_zero = each_from_positions (λ e. IsFalse (is_repeat_of_zero e)) events
       (λ j e here. good_count e (keeps_at n events none j e here).repeat_zero);
@@ -88,7 +89,7 @@ inside_box before e a x y k box fell =
 
 -- what a data command paints on a terminal lies in the box
 data_inside : (n : ℕ) (t : Display) (events : List Event) (a : Attributes) (i : ℕ) (e : Event) (x y : ℕ)
-    → BreaksNone n 12 events → raster_before events ≡ Some a → slice_get events i ≡ Some e
+    → BreaksNone n last_rule events → raster_before events ≡ Some a → slice_get events i ≡ Some e
     → touches_on t (take i events) e x y ≡ true → is_in_box a x y ≡ true
 unfolding touches_on
 data_inside n t events a i e x y none box here touched =
@@ -108,7 +109,7 @@ inside_if r false s = cc
 
 -- what a ground fills lies in the box
 filled_inside : (n : ℕ) (ground : Ground) (events : List Event) (a : Attributes) (i : ℕ) (e : Event) (x y : ℕ)
-    → BreaksNone n 12 events → raster_before events ≡ Some a → slice_get events i ≡ Some e
+    → BreaksNone n last_rule events → raster_before events ≡ Some a → slice_get events i ≡ Some e
     → IsSome (filled_on ground e x y) → is_in_box a x y ≡ true
 filled_inside n Kept events a i e x y none box here f = cc
 filled_inside n (Filled r) events a i e x y none box here f = of_attributes (raster_of e) refl f
@@ -124,7 +125,7 @@ filled_inside n (Filled r) events a i e x y none box here f = of_attributes (ras
         rw (← same) (inside_if r _ s)
 
 paint_inside : (n : ℕ) (t : Display) (events : List Event) (a : Attributes) (i : ℕ) (e : Event) (x y : ℕ)
-    → BreaksNone n 12 events → raster_before events ≡ Some a → slice_get events i ≡ Some e
+    → BreaksNone n last_rule events → raster_before events ≡ Some a → slice_get events i ≡ Some e
     → IsSome (paint_at t (take i events) e x y) → is_in_box a x y ≡ true
 paint_inside n t events a i e x y none box here p = split (touches_on t (take i events) e x y) refl p
   where

@@ -11,6 +11,7 @@ use Rattle.sixel_grammar.specs.declared.command.Event.TheVariants.{Step}
 use Rattle.sixel_grammar.specs.declared.command.Placed.{Placed}
 use Rattle.sixel_grammar.specs.declared.fault.InputFault.{InputFault}
 use Rattle.sixel_grammar.specs.declared.reader.Reader.{Reader}
+use Rattle.sixel_picture.specs.Pictures.{register_count}
 use Rattle.sixel_check.specs.Growth.{GrowsFor, MayGrowAmong}
 use Rattle.sixel_check.specs.Portable.{IsShownEverywhere}
 use Rattle.sixel_check.specs.Standing.{CheckerValue, StandsAfter, expects}
@@ -21,8 +22,8 @@ use Rattle.sixel_check.specs.declared.verdict.Verdict.{Verdict}
 -- the grammar is that of the bytes
 abbrev pub Answers : Result Verdict InputFault → List ℕ → Type 0
 Answers (Ok verdict) bytes =
-    (events : List Placed) × Document events bytes × IsVerdict 16 events verdict
-    × IsShownEverywhere 16 (events_of events) verdict
+    (events : List Placed) × Document events bytes × IsVerdict register_count events verdict
+    × IsShownEverywhere register_count (events_of events) verdict
 Answers (Err fault) bytes = Explains fault bytes
 
 -- the reader stands after these bytes, and the checker after the events that are complete in them

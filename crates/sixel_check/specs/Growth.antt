@@ -9,12 +9,14 @@ use Rattle.sixel_grammar.specs.Prefix.{CompleteIn}
 use Rattle.sixel_picture.specs.Events.{raster_of}
 use Rattle.sixel_picture.specs.Positions.{HoldsAtPosition}
 use Rattle.sixel_picture.specs.Rules.{BreaksNone, raster_before}
+use Rattle.sixel_picture.specs.RuleNumbers.{last_rule}
+use Rattle.sixel_picture.specs.Pictures.{register_count}
 
 -- the event is the first raster attributes, and no rule is broken before it or by it
 pub record MayGrow (before : List Event) (e : Event) : Type 0 where
   pub declares : IsSome (raster_of e)
   pub first : raster_before before ≡ None
-  pub unbroken : BreaksNone 16 12 (before ++ e ∷ [])
+  pub unbroken : BreaksNone register_count last_rule (before ++ e ∷ [])
 
 -- such raster attributes are among the events
 abbrev pub MayGrowAmong : List Placed → Type 0

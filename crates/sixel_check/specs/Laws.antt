@@ -8,8 +8,9 @@ use Rattle.sixel_grammar.specs.Document.{AreWhole, events_of}
 use Rattle.sixel_grammar.specs.Prefix.{CompleteIn}
 use Rattle.sixel_picture.specs.Colours.{palette_at}
 use Rattle.sixel_picture.specs.Events.{Attributes, is_data_command, is_in_box, is_painting, raster_of}
-use Rattle.sixel_picture.specs.Pictures.{PictureValue}
+use Rattle.sixel_picture.specs.Pictures.{PictureValue, register_count}
 use Rattle.sixel_picture.specs.Rules.{BreaksNone, is_covered, known, picture_left, raster_before}
+use Rattle.sixel_picture.specs.RuleNumbers.{last_rule}
 use Rattle.sixel_terminal.specs.Displays.{Display, registers_of}
 use Rattle.sixel_terminal.specs.Drawing.{IsPainted, map_on}
 use Rattle.sixel_check.specs.declared.verdict.Verdict.{Verdict}
@@ -28,37 +29,37 @@ pub record HasColourLeft (registers : ℕ) (t : Display) (events : List Event) (
 abbrev pub PaintedColourIsLeft : ℕ → Type 0
 PaintedColourIsLeft registers =
     (t : Display) (events : List Event) (i : ℕ) (e : Event) (r : ℕ) → registers ≤ registers_of t
-    → BreaksNone registers 12 events → slice_get events i ≡ Some e → IsTrue (is_painting e)
+    → BreaksNone registers last_rule events → slice_get events i ≡ Some e → IsTrue (is_painting e)
     → known (take i events) ≡ Some r → HasColourLeft registers t events i r
 
 -- where no rule is broken, no raster attributes stand after a data command
 abbrev pub FilledFirst : ℕ → Type 0
 FilledFirst registers =
-    (events : List Event) (i j : ℕ) (d e : Event) → BreaksNone registers 12 events → i < j
+    (events : List Event) (i j : ℕ) (d e : Event) → BreaksNone registers last_rule events → i < j
     → slice_get events i ≡ Some d → IsTrue (is_data_command d) → slice_get events j ≡ Some e → raster_of e ≡ None
 
 -- where no rule is broken in a whole list, some event paints each pixel of the box
 abbrev pub AllCovered : ℕ → Type 0
 AllCovered registers =
-    (events : List Event) (a : Attributes) (x y : ℕ) → AreWhole events → BreaksNone registers 12 events
+    (events : List Event) (a : Attributes) (x y : ℕ) → AreWhole events → BreaksNone registers last_rule events
     → raster_before events ≡ Some a → IsTrue (is_in_box a x y) → IsTrue (is_covered events x y)
 
 -- where no rule is broken, no event paints a pixel outside the box, on any terminal
 abbrev pub NonePaintedOutside : ℕ → Type 0
 NonePaintedOutside registers =
-    (t : Display) (events : List Event) (a : Attributes) (x y : ℕ) → BreaksNone registers 12 events
+    (t : Display) (events : List Event) (a : Attributes) (x y : ℕ) → BreaksNone registers last_rule events
     → raster_before events ≡ Some a → ¬ IsInBoxOn t a.width a.height x y → ¬ IsPainted t events x y
 
 -- where no rule is broken in a whole list, the picture that is left is portable
 abbrev pub LeftIsPortable : ℕ → Type 0
 LeftIsPortable registers =
-    (events : List Event) → AreWhole events → BreaksNone registers 12 events
+    (events : List Event) → AreWhole events → BreaksNone registers last_rule events
     → IsPortable registers events (picture_left registers events)
 
 -- where no rule is broken, the verdict is the picture that is left, and no other
 abbrev pub VerdictIsLeft : ℕ → Type 0
 VerdictIsLeft registers =
-    (placed : List Placed) (p : PictureValue) → BreaksNone registers 12 (events_of placed)
+    (placed : List Placed) (p : PictureValue) → BreaksNone registers last_rule (events_of placed)
     → p ≡ picture_left registers (events_of placed)
     → IsVerdict registers placed (Portable p) × ((v : Verdict) → IsVerdict registers placed v → v ≡ Portable p)
 
@@ -85,4 +86,4 @@ one_pixel =
 
 -- it is a whole list, and breaks no rule: the laws on such lists speak of some
 abbrev pub OnePixelBreaksNone : Type 0
-OnePixelBreaksNone = AreWhole one_pixel × BreaksNone 16 12 one_pixel
+OnePixelBreaksNone = AreWhole one_pixel × BreaksNone register_count last_rule one_pixel

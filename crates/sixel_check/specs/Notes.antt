@@ -9,6 +9,7 @@ use Rattle.sixel_picture.specs.declared.colour.Parts.{Parts}
 use Rattle.sixel_picture.specs.Colours.{colour_in, is_colour}
 use Rattle.sixel_picture.specs.Events.{columns_of, is_next_line, is_painting, is_return, named_by, select_of}
 use Rattle.sixel_picture.specs.Rules.{known_by}
+use Rattle.sixel_picture.specs.Pictures.{register_count}
 use Rattle.sixel_check.specs.declared.notes.Notes.{Notes}
 use Rattle.sixel_check.specs.Verdicts.{capped}
 
@@ -18,7 +19,7 @@ colour_within system x y z = option_and_then (λ c. if is_colour c then Some c e
 
 -- the selected register is one of the 16
 abbrev pub IsBelow : Notes → Type 0
-IsBelow n = IfSome n.selected (λ r. r < 16)
+IsBelow n = IfSome n.selected (λ r. r < register_count)
 
 abbrev pub known_in : Notes → Option ℕ
 known_in n = known_by n.selected n.named
@@ -37,7 +38,7 @@ next_named n e = option_or (named_by e) n.named
 
 abbrev pub next_palette : Notes → Event → List (Option Parts)
 next_palette n (Step (Define register system x y z)) =
-    if nat_lt register 16
+    if nat_lt register register_count
     then option_map_or (λ c. slice_set n.palette register (Some c)) (colour_within system x y z) n.palette
     else n.palette
 next_palette n _ = n.palette

@@ -7,6 +7,9 @@ use Rattle.sixel_grammar.specs.Document.{events_of}
 use Rattle.sixel_picture.specs.Positions.{HoldsAtPosition}
 use Rattle.sixel_picture.specs.Rules.{BreaksNone, FallsOutside, IsFirstBroken, IsFirstPoint, StaysBlank, picture_left}
 use Rattle.sixel_picture.specs.Rules.{raster_before}
+use Rattle.sixel_picture.specs.RuleNumbers.{raster_first_rule, raster_twice_rule, ratio_rule, box_size_rule}
+use Rattle.sixel_picture.specs.RuleNumbers.{register_rule, colour_value_rule, repeat_zero_rule, unselected_rule}
+use Rattle.sixel_picture.specs.RuleNumbers.{undefined_rule, redefined_rule, outside_rule, uncovered_rule, last_rule}
 use Rattle.sixel_check.specs.declared.rule.Rule.{Rule}
 use Rattle.sixel_check.specs.declared.rule.Rule.TheVariants.{RasterFirst, RasterTwice, Ratio, BoxSize, Register}
 use Rattle.sixel_check.specs.declared.rule.Rule.TheVariants.{ColourValue}
@@ -17,18 +20,18 @@ use Rattle.sixel_check.specs.declared.verdict.Verdict.{Verdict}
 use Rattle.sixel_check.specs.declared.verdict.Verdict.TheVariants.{Portable, Broken}
 
 abbrev pub number_of : Rule → ℕ
-number_of RasterFirst = 1
-number_of RasterTwice = 2
-number_of Ratio = 3
-number_of BoxSize = 4
-number_of Register = 5
-number_of ColourValue = 6
-number_of RepeatZero = 7
-number_of Unselected = 8
-number_of Undefined = 9
-number_of Redefined = 10
-number_of Outside = 11
-number_of Uncovered = 12
+number_of RasterFirst = raster_first_rule
+number_of RasterTwice = raster_twice_rule
+number_of Ratio = ratio_rule
+number_of BoxSize = box_size_rule
+number_of Register = register_rule
+number_of ColourValue = colour_value_rule
+number_of RepeatZero = repeat_zero_rule
+number_of Unselected = unselected_rule
+number_of Undefined = undefined_rule
+number_of Redefined = redefined_rule
+number_of Outside = outside_rule
+number_of Uncovered = uncovered_rule
 
 -- the number, or the largest of 64 bits
 abbrev pub capped : ℕ → ℕ
@@ -55,5 +58,5 @@ pub record IsFinding (registers : ℕ) (placed : List Placed) (f : Finding) (i :
 -- the verdict: the first broken rule, or where none is broken the picture that is left
 abbrev pub IsVerdict : ℕ → List Placed → Verdict → Type 0
 IsVerdict registers placed (Portable picture) =
-    BreaksNone registers 12 (events_of placed) × (picture ≡ picture_left registers (events_of placed))
+    BreaksNone registers last_rule (events_of placed) × (picture ≡ picture_left registers (events_of placed))
 IsVerdict registers placed (Broken finding) = (i : ℕ) × IsFinding registers placed finding i

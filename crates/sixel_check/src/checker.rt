@@ -4,6 +4,7 @@ ghost use Rattle.std.specs.Prelude.{◌≡◌, ◌++◌, ◌∷◌, [], List, If
 ghost use Rattle.sixel_grammar.specs.Document.{events_of};
 ghost use Rattle.sixel_grammar.specs.declared.command.Placed.{Placed as PlacedValue};
 ghost use Rattle.sixel_grammar.specs.Spelling.{IsSpellable};
+ghost use Rattle.sixel_picture.specs.Pictures.{register_count};
 ghost use Rattle.sixel_check.specs.Growth.{MayGrow};
 ghost use Rattle.sixel_check.specs.Portable.{IsShownEverywhere};
 ghost use Rattle.sixel_check.specs.Standing.{StandsAfter, expects, is_whole};
@@ -90,9 +91,9 @@ impl<P: Plane> Checker<P> {
     pub fn finish(self) -> Result<Verdict, AllocError>
         requires whole { (seen : List PlacedValue) × StandsAfter self seen × IsTrue (is_whole seen) }
         ensures verdict { IfOk result (λ verdict. (seen : List PlacedValue) → StandsAfter self seen
-            → IsVerdict 16 seen verdict) }
+            → IsVerdict register_count seen verdict) }
         ensures everywhere { IfOk result (λ verdict. (seen : List PlacedValue) → StandsAfter self seen
-            → IsShownEverywhere 16 (events_of seen) verdict) }
+            → IsShownEverywhere register_count (events_of seen) verdict) }
         ensures always { IsOk result }
     {
         Ok(self.judge.verdict())

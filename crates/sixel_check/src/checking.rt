@@ -13,12 +13,11 @@ ghost use Rattle.sixel_check.specs.Standing.{StandsAfter};
 
 use crate::checker::Checker;
 use crate::verdict::Verdict;
-use sixel_grammar::{Command, Completed, Event, InputFault, Placed, Plain, Reader, Source};
+use sixel_grammar::{
+    Command, Completed, Event, InputFault, PIECE, Placed, Plain, Reader, Source,
+};
 use sixel_picture::{BandPlane, Plane};
 use std::alloc::{AllocError, Global};
-
-/// How many bytes are asked of a source at once.
-const PIECE: usize = 65_536;
 
 /// Pushes an event, if there is one.
 fn keep_one<P: Plane>(checker: &mut Checker<P>, placed: Option<Placed>) -> Result<(), AllocError>

@@ -5,6 +5,7 @@ ghost use Rattle.std.specs.Option.{option_map};
 ghost use Rattle.sixel_grammar.specs.declared.command.Placed.{Placed as PlacedValue};
 ghost use Rattle.sixel_grammar.specs.Document.{AreWhole, events_of};
 ghost use Rattle.sixel_grammar.specs.Spelling.{IsSpellable};
+ghost use Rattle.sixel_picture.specs.Pictures.{register_count};
 ghost use Rattle.sixel_check.specs.Growth.{MayGrow};
 ghost use Rattle.sixel_check.specs.Judging.{JudgesAfter};
 ghost use Rattle.sixel_check.specs.Verdicts.{IsVerdict};
@@ -78,7 +79,7 @@ impl<P: Plane> Judge<P> {
         requires { (seen : List PlacedValue) × JudgesAfter self.finding self.notes (option_map P.sheet self.plane) seen
             × AreWhole (events_of seen) }
         ensures { (seen : List PlacedValue) → JudgesAfter self.finding self.notes (option_map P.sheet self.plane) seen
-            → IsVerdict 16 seen result }
+            → IsVerdict register_count seen result }
     {
         let Judge {
             finding,

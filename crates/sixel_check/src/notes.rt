@@ -2,12 +2,13 @@
 
 ghost use Rattle.std.specs.Prelude.{◌≡◌, ◌<◌, ◌++◌, ◌∷◌, [], List, IfSome, replicate, None, false};
 ghost use Rattle.sixel_grammar.specs.declared.command.Event.{Event as EventValue};
+ghost use Rattle.sixel_picture.specs.Pictures.{register_count};
 ghost use Rattle.sixel_check.specs.Breaches.{NoneBelow};
 
 use crate::colours::colour_in;
 use crate::events::{columns_of, is_next_line, is_painting, is_return, named_by, select_of};
 use sixel_grammar::{Command, Event};
-use sixel_picture::Palette;
+use sixel_picture::{Palette, REGISTERS};
 
 /// What the rules ask of the events before, but the pixels, as long as no rule is broken.
 #[derive(Clone, Copy, Debug)]
@@ -23,7 +24,7 @@ pub(crate) struct Notes {
     /// The last colour of each register.
     pub palette: Palette,
     /// For each register whether a command painted in it.
-    pub painted: [bool; 16],
+    pub painted: [bool; REGISTERS],
 }
 
 impl Notes {
@@ -41,7 +42,7 @@ impl Notes {
             selected: None,
             named: None,
             palette: Palette::new(),
-            painted: [false; 16],
+            painted: [false; REGISTERS],
         }
     }
 
@@ -50,7 +51,7 @@ impl Notes {
     pub(crate) fn known(&self) -> Option<u8>
         requires { IsBelow self.now }
         ensures value { result ≡ known_in self.now }
-        ensures below { IfSome result (λ r. r < 16) }
+        ensures below { IfSome result (λ r. r < register_count) }
     {
         match (self.selected, self.named) {
             (Some(selected), Some(named)) if named == selected => Some(selected as u8),
@@ -114,7 +115,7 @@ impl Notes {
                 z,
             },
         ) = event
-            && *register < 16
+            && (*register as usize) < REGISTERS
             && let Some(colour) = colour_in(*system, *x, *y, *z)
         {
             self.palette.set(*register as u8, colour);

@@ -7,6 +7,7 @@ ghost use Rattle.sixel_grammar.specs.Spelling.{IsSpellable};
 ghost use Rattle.sixel_picture.specs.Events.{raster_of};
 ghost use Rattle.sixel_picture.specs.Rules.{FallsOutside, StaysBlank, palette_left, picture_left};
 ghost use Rattle.sixel_picture.specs.Sheets.{IsFull};
+ghost use Rattle.sixel_picture.specs.Pictures.{register_count};
 ghost use Rattle.sixel_check.specs.Breaches.{IsBreachOf, NoneBelow};
 ghost use Rattle.sixel_check.specs.Judging.{AreNotesAfter, IsDrawn, IsSheetAfter, IsUndrawn, StandsUnbroken, box_of};
 ghost use Rattle.sixel_check.specs.Outside.{IsFirstIfAny};
@@ -162,7 +163,7 @@ pub(crate) fn draw<P: Plane>(
 
 /// The palette that is left: the colour of each register whose definition stands.
 fn left_palette(notes: &Notes) -> Palette
-    ensures { (events : List EventValue) → AreNotesAfter notes.now events → result ≡ palette_left 16 events }
+    ensures { (events : List EventValue) → AreNotesAfter notes.now events → result ≡ palette_left register_count events }
 {
     notes.palette
 }
@@ -172,7 +173,7 @@ pub(crate) fn picture_of<P: Plane>(notes: &Notes, plane: P) -> Picture
     requires full { IsFull (P.sheet plane) }
     requires stands { (events : List EventValue) × StandsUnbroken notes.now (Some (P.sheet plane)) events }
     ensures { (events : List EventValue) → StandsUnbroken notes.now (Some (P.sheet plane)) events
-        → result ≡ picture_left 16 events }
+        → result ≡ picture_left register_count events }
 {
     let width = plane.width();
     let height = plane.height();

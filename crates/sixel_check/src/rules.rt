@@ -2,6 +2,7 @@
 
 ghost use Rattle.std.specs.Prelude.{◌≡◌};
 ghost use Rattle.sixel_picture.specs.Rules as of;
+ghost use Rattle.sixel_picture.specs.Pictures.{register_count};
 ghost use Rattle.sixel_check.specs.Breaches as noted;
 ghost use Rattle.sixel_check.specs.Notes.{IsBelow};
 
@@ -12,6 +13,10 @@ use crate::events::{
 use crate::notes::Notes;
 use crate::rule::Rule;
 use sixel_grammar::{Command, Event};
+use sixel_picture::REGISTERS;
+
+/// The greatest side of a box, in pixels.
+const MOST_SIDE: u16 = 2048;
 
 /// A data command, a return or an end before all raster attributes.
 fn breaks_raster_first(has_box: bool, event: &Event) -> bool
@@ -45,7 +50,7 @@ fn breaks_box_size(event: &Event) -> bool
 {
     match event {
         Event::Step(Command::Raster { width, height, .. }) => {
-            !(*width >= 1 && *width <= 2048 && (*height >= 1 && *height <= 2048))
+            !(*width >= 1 && *width <= MOST_SIDE && (*height >= 1 && *height <= MOST_SIDE))
         }
         _ => false,
     }
@@ -54,10 +59,10 @@ fn breaks_box_size(event: &Event) -> bool
 /// A register above 15.
 #[tactic(auto, unfolding(sixel_picture::specs::Rules::breaks_register))]
 fn breaks_register(event: &Event) -> bool
-    ensures { result ≡ of.breaks_register 16 event.now }
+    ensures { result ≡ of.breaks_register register_count event.now }
 {
     match named_by(event) {
-        Some(register) => register >= 16,
+        Some(register) => register as usize >= REGISTERS,
         None => false,
     }
 }
@@ -128,7 +133,7 @@ fn breaks_redefined(notes: &Notes, event: &Event) -> bool
                 z,
             },
         ) => {
-            if *register >= 16 || !notes.painted[*register as usize] {
+            if *register as usize >= REGISTERS || !notes.painted[*register as usize] {
                 return false;
             }
             match notes.palette.get(*register as u8) {

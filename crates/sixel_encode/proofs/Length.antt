@@ -22,7 +22,8 @@ use Rattle.sixel_grammar.proofs.Lengths.{decimal_within}
 use Rattle.sixel_picture.specs.declared.colour.Parts.{Parts}
 use Rattle.sixel_picture.specs.declared.colour.Parts.TheVariants.{Rgb, Hls}
 use Rattle.sixel_picture.specs.Colours.{palette_at, IsColour}
-use Rattle.sixel_picture.specs.Pictures.{PictureValue}
+use Rattle.sixel_picture.specs.Pictures.{PictureValue, most_side}
+use Rattle.sixel_encode.specs.Canon.{most_bands}
 use Rattle.sixel_encode.specs.Canon.{Run, all_columns, band_columns, band_commands, band_registers, bands, below}
 use Rattle.sixel_encode.specs.Canon.{canon_commands}
 use Rattle.sixel_encode.specs.Canon.{canon_start, canon_text, column_bits, commands_text, define_command}
@@ -121,7 +122,7 @@ unfolding band_columns
 columns_length p band r =
     omega (arith, without_length (all_columns p band r), length-map-range_with_len (column_bits p band r) 0 p.width)
 
-register_size : (p : PictureValue) (band r : ℕ) → r < 1000 → p.width ≤ 2048
+register_size : (p : PictureValue) (band r : ℕ) → r < 1000 → p.width ≤ most_side
     → size (register_commands p band r) ≤ p.width + 4
 unfolding register_commands
 register_size p band r h w =
@@ -139,7 +140,7 @@ return_size cs = size_cons CarriageReturn cs
 next_size : (cs : List Command) → size (NextLine ∷ cs) ≡ 1 + size cs
 next_size cs = size_cons NextLine cs
 
-others_size : (rs : List ℕ) (registers : ℕ) (p : PictureValue) (band : ℕ) → registers ≤ 1000 → p.width ≤ 2048
+others_size : (rs : List ℕ) (registers : ℕ) (p : PictureValue) (band : ℕ) → registers ≤ 1000 → p.width ≤ most_side
     → AllByRecursion (IsUsed registers p) rs
     → size (flat_map (λ r. CarriageReturn ∷ register_commands p band r) rs) ≤ length rs * (p.width + 5)
 others_size [] registers p band n w h = omega (arith, size_none)
@@ -154,7 +155,7 @@ others_size (r ∷ rs) registers p band n w h =
     ∙ ap (λ m. 1 + m) (size_append (register_commands p band r) others) in
     rw (suc-mul (length rs) (p.width + 5)) (omega arith)
 
-registers_size : (rs : List ℕ) (registers : ℕ) (p : PictureValue) (band : ℕ) → registers ≤ 1000 → p.width ≤ 2048
+registers_size : (rs : List ℕ) (registers : ℕ) (p : PictureValue) (band : ℕ) → registers ≤ 1000 → p.width ≤ most_side
     → AllByRecursion (IsUsed registers p) rs → 1 ≤ length rs
     → size (join_by (register_commands p band) (CarriageReturn ∷ []) rs) + 1 ≤ length rs * (p.width + 5)
 registers_size [] registers p band n w h k = absurd (omega arith)
@@ -267,7 +268,7 @@ entries_size registers p n h =
 
 -- ---- the whole
 
-raster_size : (w h : ℕ) → w ≤ 2048 → h ≤ 2048 → length (fixed_command (Raster 1 1 w h)) ≤ 14
+raster_size : (w h : ℕ) → w ≤ most_side → h ≤ most_side → length (fixed_command (Raster 1 1 w h)) ≤ 14
 raster_size w h l m =
     let one : length (decimal 1) ≤ 1 = length-decimal-le 1 1 (lit< tt) (lit< tt) (lit< tt) in
     omega (
@@ -311,21 +312,21 @@ texts_are_short registers n p picture =
     omega (arith, parts_size p, raster_size p.width p.height h.most_width h.most_height, entries_size registers p n h)
 
 -- a bound for any picture
-most_of : (bands k w registers : ℕ) → bands ≤ 342 → k ≤ registers → w ≤ 2048
-    → 22 + 18 * k + bands * k * (w + 5) ≤ 22 + 18 * registers + 342 * registers * 2053
+most_of : (bands k w registers : ℕ) → bands ≤ most_bands → k ≤ registers → w ≤ most_side
+    → 22 + 18 * k + bands * k * (w + 5) ≤ 22 + 18 * registers + most_bands * registers * 2053
 most_of bands k w registers a b c =
-    let d : bands * k ≤ 342 * registers = mul-le-mul a b in
+    let d : bands * k ≤ most_bands * registers = mul-le-mul a b in
     let e : w + 5 ≤ 2053 = omega arith in
-    let f : bands * k * (w + 5) ≤ 342 * registers * 2053 = mul-le-mul d e in
+    let f : bands * k * (w + 5) ≤ most_bands * registers * 2053 = mul-le-mul d e in
     omega arith
 
-pub texts_have_at_most : (most registers : ℕ) → registers ≤ 1000 → 22 + 18 * registers + 342 * registers * 2053 ≤ most
+pub texts_have_at_most : (most registers : ℕ) → registers ≤ 1000 → 22 + 18 * registers + most_bands * registers * 2053 ≤ most
     → TextsHaveAtMost most registers
 texts_have_at_most most registers n l p picture =
     let h : Parted registers p = parted registers p picture in
     let long : length p.palette ≡ registers = h.entries in
     let k : entries_of p ≤ length p.palette = count_by-le-length is_some p.palette in
-    let high : p.height ≤ 2048 = h.most_height in
-    let b : bands p ≤ 342 = omega arith in
+    let high : p.height ≤ most_side = h.most_height in
+    let b : bands p ≤ most_bands = omega arith in
     le_trans (le_trans (texts_are_short registers n p picture)
     (most_of (bands p) (entries_of p) p.width registers b (omega arith) h.most_width)) l

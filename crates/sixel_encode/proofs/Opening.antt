@@ -14,7 +14,7 @@ use Rattle.sixel_grammar.specs.declared.command.Command.TheVariants.{Raster, Def
 use Rattle.sixel_picture.specs.declared.colour.Parts.{Parts}
 use Rattle.sixel_picture.specs.declared.colour.Parts.TheVariants.{Rgb, Hls}
 use Rattle.sixel_picture.specs.Colours.{palette_at, IsColour}
-use Rattle.sixel_picture.specs.Pictures.{PictureValue}
+use Rattle.sixel_picture.specs.Pictures.{PictureValue, most_side}
 use Rattle.sixel_picture.specs.Positions.{latest, earliest, since, any_at, last_at, any_below, last_below}
 use Rattle.sixel_picture.specs.Events.{Definition, bits_of, has_sides}
 use Rattle.sixel_picture.specs.Geometry.{band, column, falls}
@@ -242,8 +242,8 @@ start_keeps registers = record {
 
 has_sides_of : (registers : ℕ) (p : PictureValue) → Parted registers p → has_sides (box_of p) ≡ true
 has_sides_of registers p h =
-    and_from _ _ (and_from _ _ (le-leb 1 p.width h.some_width) (le-leb p.width 2048 h.most_width))
-    (and_from _ _ (le-leb 1 p.height h.some_height) (le-leb p.height 2048 h.most_height))
+    and_from _ _ (and_from _ _ (le-leb 1 p.width h.some_width) (le-leb p.width most_side h.most_width))
+    (and_from _ _ (le-leb 1 p.height h.some_height) (le-leb p.height most_side h.most_height))
 
 pub raster_keeps : (registers : ℕ) (p : PictureValue) → Parted registers p
     → Keeps registers (canon_start ∷ []) (raster p)

@@ -8,7 +8,7 @@ use Rattle.std.proofs.lemmas.List.Folds.{list_all_at}
 use Rattle.std.proofs.lemmas.Nat.{mul-add-lt}
 use Rattle.sixel_picture.specs.declared.picture.PictureReason.TheVariants.{Size, Count, Register, NoColour}
 use Rattle.sixel_picture.specs.Colours.{palette_at, IsColour}
-use Rattle.sixel_picture.specs.Pictures.{PictureValue, IsPicture, is_side, register_of}
+use Rattle.sixel_picture.specs.Pictures.{PictureValue, IsPicture, is_side, register_of, most_side}
 
 no_fault : (a b c d : Bool)
     → (if not a then Some Size else if not b then Some Count else if not c then Some Register else if not d then Some
@@ -28,9 +28,9 @@ pub record IsUsed (registers : ℕ) (p : PictureValue) (r : ℕ) : Type 0 where
 -- the parts of a picture, one by one
 pub record Parted (registers : ℕ) (p : PictureValue) : Type 0 where
   pub some_width : 1 ≤ p.width
-  pub most_width : p.width ≤ 2048
+  pub most_width : p.width ≤ most_side
   pub some_height : 1 ≤ p.height
-  pub most_height : p.height ≤ 2048
+  pub most_height : p.height ≤ most_side
   pub count : length p.registers ≡ p.width * p.height
   pub within : list_all (λ r. nat_lt r registers) p.registers ≡ true
   pub coloured : list_all (λ r. is_some (palette_at p.palette r)) p.registers ≡ true
@@ -43,13 +43,13 @@ parted registers p h =
     (list_all (λ r. nat_lt r registers) p.registers) (list_all (λ r. is_some (palette_at p.palette r)) p.registers)
     h.accepted in
     let sides = and_parts (is_side p.width) (is_side p.height) tests.0 in
-    let wide = and_parts (nat_le 1 p.width) (nat_le p.width 2048) sides.0 in
-    let high = and_parts (nat_le 1 p.height) (nat_le p.height 2048) sides.1 in
+    let wide = and_parts (nat_le 1 p.width) (nat_le p.width most_side) sides.0 in
+    let high = and_parts (nat_le 1 p.height) (nat_le p.height most_side) sides.1 in
     record {
       some_width = leb-true 1 p.width wide.0;
-      most_width = leb-true p.width 2048 wide.1;
+      most_width = leb-true p.width most_side wide.1;
       some_height = leb-true 1 p.height high.0;
-      most_height = leb-true p.height 2048 high.1;
+      most_height = leb-true p.height most_side high.1;
       count = eqb-true (length p.registers) (p.width * p.height) tests.1;
       within = tests.2;
       coloured = tests.3;

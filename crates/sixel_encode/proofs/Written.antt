@@ -16,7 +16,7 @@ use Rattle.sixel_grammar.proofs.FixedText.{fixed_document}
 use Rattle.sixel_picture.specs.declared.colour.Parts.{Parts}
 use Rattle.sixel_picture.specs.declared.colour.Parts.TheVariants.{Rgb, Hls}
 use Rattle.sixel_picture.specs.Colours.{palette_at, IsColour}
-use Rattle.sixel_picture.specs.Pictures.{PictureValue}
+use Rattle.sixel_picture.specs.Pictures.{PictureValue, most_side}
 use Rattle.sixel_encode.specs.Canon.{Run, all_columns, band_columns, band_commands, band_registers, bands, below}
 use Rattle.sixel_encode.specs.Canon.{canon, canon_commands}
 use Rattle.sixel_encode.specs.Canon.{column_bits, define_command, define_commands, has_bits, picture_commands}
@@ -100,7 +100,7 @@ columns_within p band r =
     without_each _ (all_columns p band r)
     (map_each (λ c. c ≤ 63) (column_bits p band r) (below p.width) (column_most p band r))
 
-register_writable : (p : PictureValue) (band r : ℕ) → r ≤ 65535 → p.width ≤ 2048
+register_writable : (p : PictureValue) (band r : ℕ) → r ≤ 65535 → p.width ≤ most_side
     → AreWritable (register_commands p band r)
 unfolding register_commands
 register_writable p band r l w =
@@ -186,8 +186,8 @@ pub events_can_be_written : (registers : ℕ) → registers ≤ 65535 → Events
 unfolding canon canon_commands
 events_can_be_written registers n p picture =
     let h : Parted registers p = parted registers p picture in
-    let u : p.width ≤ 2048 = h.most_width in
-    let v : p.height ≤ 2048 = h.most_height in
+    let u : p.width ≤ most_side = h.most_width in
+    let v : p.height ≤ most_side = h.most_height in
     let defines = entries_writable registers p n h in
     let bits = bands_writable registers p n h in (
       record { is_event = (lit≤ tt, (lit≤ tt, (lit≤ tt, tt))); spellable = omega arith },

@@ -13,7 +13,7 @@ use Rattle.sixel_grammar.specs.FixedText.{fixed_text}
 use Rattle.sixel_picture.specs.declared.colour.Parts.{Parts}
 use Rattle.sixel_picture.specs.declared.colour.Parts.TheVariants.{Rgb, Hls}
 use Rattle.sixel_picture.specs.Colours.{palette_at}
-use Rattle.sixel_picture.specs.Pictures.{PictureValue, register_of}
+use Rattle.sixel_picture.specs.Pictures.{PictureValue, register_of, most_side}
 
 -- the numbers below n, in increasing order
 abbrev pub below : ℕ → List ℕ
@@ -106,6 +106,10 @@ define_commands palette =
 -- the raster attributes, and the definitions, of entries that no pixel uses too
 abbrev pub opening_commands : PictureValue → List Command
 opening_commands p = Raster 1 1 p.width p.height ∷ define_commands p.palette
+
+-- the bands of the tallest picture
+abbrev pub most_bands : ℕ
+most_bands = (most_side + 5) / 6
 
 -- the bands, with a next line between two
 unfoldable pub picture_commands : PictureValue → List Command

@@ -5,6 +5,7 @@ use Rattle.sixel_grammar.specs.Document.{AreWhole, Document}
 use Rattle.sixel_grammar.specs.FixedText.{CanWrite, fixed_places}
 use Rattle.sixel_picture.specs.Pictures.{PictureValue, IsPicture}
 use Rattle.sixel_picture.specs.Rules.{BreaksNone, picture_left}
+use Rattle.sixel_picture.specs.RuleNumbers.{last_rule}
 use Rattle.sixel_encode.specs.Canon.{Run, runs, bands, canon, canon_text}
 
 -- ---- runs
@@ -60,7 +61,7 @@ TextsAreDocuments registers = (p : PictureValue) → IsPicture registers p
 
 -- the canonical list of a picture breaks no rule
 abbrev pub ListsBreakNoRule : ℕ → Type 0
-ListsBreakNoRule registers = (p : PictureValue) → IsPicture registers p → BreaksNone registers 12 (canon p)
+ListsBreakNoRule registers = (p : PictureValue) → IsPicture registers p → BreaksNone registers last_rule (canon p)
 
 -- and what it leaves is the picture
 abbrev pub ListsLeaveTheirPicture : ℕ → Type 0

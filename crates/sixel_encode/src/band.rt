@@ -5,12 +5,13 @@ ghost use Rattle.std.specs.Int.{bit_at};
 ghost use Rattle.sixel_grammar.specs.Blocks.{PutsAllOrNone, TakesMore, in_all};
 ghost use Rattle.sixel_grammar.specs.Devices.{CountsFailure, NeverFlushes, Puts};
 ghost use Rattle.sixel_grammar.specs.Spelling.{IsSpellable};
+ghost use Rattle.sixel_picture.specs.Pictures.{register_count};
 ghost use Rattle.sixel_encode.specs.Canon.{band_columns, band_commands, commands_text, register_commands};
-ghost use Rattle.sixel_encode.specs.Canon.{run_commands, runs};
+ghost use Rattle.sixel_encode.specs.Canon.{run_commands, runs, most_bands};
 
 use crate::columns::{band_registers, column_bits};
 use sixel_grammar::{Block, Command, DeviceFault, Event, Sink};
-use sixel_picture::Picture;
+use sixel_picture::{Picture, REGISTERS};
 
 /// The fewest columns of the same bits that are a repeat.
 const LEAST_REPEAT: u16 = 4;
@@ -25,7 +26,7 @@ pub(crate) fn put_band<K: Sink>(
     band: u32,
     out: &mut K,
 ) -> Result<(), DeviceFault>
-    requires { band < 342 }
+    requires { band < most_bands }
     ensures bytes { Puts result (in_all (K.taken out.old) text.old) (in_all (K.taken out.new) text.new)
         (commands_text (band_commands picture.now band)) }
     ensures taken { TakesMore (K.taken out.old) (K.taken out.new) }
@@ -34,7 +35,7 @@ pub(crate) fn put_band<K: Sink>(
 {
     let registers = band_registers(picture, band);
     let mut is_first = true;
-    for register in 0..16 {
+    for register in 0..REGISTERS as u8 {
         if has(registers, register) {
             put_next(text, picture, band, register, is_first, out)?;
             is_first = false;
@@ -46,7 +47,7 @@ pub(crate) fn put_band<K: Sink>(
 /// Whether the mask has the register.
 #[inline]
 fn has(registers: u16, register: u8) -> bool
-    requires { register < 16 }
+    requires { register < register_count }
     ensures { result ≡ (bit_at registers register == 1) }
 {
     registers >> register & 1 == 1
@@ -61,7 +62,7 @@ fn put_next<K: Sink>(
     is_first: bool,
     out: &mut K,
 ) -> Result<(), DeviceFault>
-    requires { band < 342 }
+    requires { band < most_bands }
     ensures bytes { Puts result (in_all (K.taken out.old) text.old) (in_all (K.taken out.new) text.new)
         (commands_text ((if is_first then [] else Command.CarriageReturn ∷ [])
         ++ register_commands picture.now band register)) }
@@ -118,7 +119,7 @@ fn put_register<K: Sink>(
     register: u8,
     out: &mut K,
 ) -> Result<(), DeviceFault>
-    requires { band < 342 }
+    requires { band < most_bands }
     ensures bytes { Puts result (in_all (K.taken out.old) text.old) (in_all (K.taken out.new) text.new)
         (commands_text (register_commands picture.now band register)) }
     ensures taken { TakesMore (K.taken out.old) (K.taken out.new) }
@@ -143,7 +144,7 @@ fn put_columns<K: Sink>(
     register: u8,
     out: &mut K,
 ) -> Result<(), DeviceFault>
-    requires { band < 342 }
+    requires { band < most_bands }
     ensures bytes { Puts result (in_all (K.taken out.old) text.old) (in_all (K.taken out.new) text.new)
         (commands_text (flat_map run_commands (runs (band_columns picture.now band register)))) }
     ensures taken { TakesMore (K.taken out.old) (K.taken out.new) }

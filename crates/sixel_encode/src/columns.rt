@@ -2,18 +2,18 @@
 
 ghost use Rattle.std.specs.Prelude.{◌≡◌, ◌==◌, ◌<◌, ◌≤◌, ◌||◌, ℕ, not};
 ghost use Rattle.std.specs.Int.{bit_at};
-ghost use Rattle.sixel_picture.specs.Pictures.{IsPicture};
-ghost use Rattle.sixel_encode.specs.Canon.{column_bits, has_pixel, occurs};
+ghost use Rattle.sixel_picture.specs.Pictures.{IsPicture, register_count};
+ghost use Rattle.sixel_encode.specs.Canon.{column_bits, has_pixel, occurs, most_bands};
 
 use sixel_picture::Picture;
 
-/// The rows of a band. A picture has at most 2,048 rows, and so 342 bands.
+/// The rows of a band.
 pub(crate) const ROWS: u32 = 6;
 
 /// Whether the pixel of this column and this row of a band lies in the picture, and is of the register.
 #[inline]
 fn has_pixel(picture: &Picture, band: u32, register: u8, x: u32, row: u32) -> bool
-    requires band { band < 342 }
+    requires band { band < most_bands }
     requires x { x < picture.now.width }
     requires row { row < 6 }
     ensures { result ≡ has_pixel picture.now band register x row }
@@ -26,7 +26,7 @@ fn has_pixel(picture: &Picture, band: u32, register: u8, x: u32, row: u32) -> bo
 #[inline]
 #[tactic(auto, unfolding(crate::specs::Canon::column_bits))]
 pub(crate) fn column_bits(picture: &Picture, band: u32, register: u8, x: u32) -> u8
-    requires band { band < 342 }
+    requires band { band < most_bands }
     requires x { x < picture.now.width }
     ensures value { result ≡ column_bits picture.now band register x }
     ensures small { result ≤ 63 }
@@ -42,10 +42,10 @@ pub(crate) fn column_bits(picture: &Picture, band: u32, register: u8, x: u32) ->
 
 /// The registers that occur in a band, as a mask: bit 0 is register 0.
 pub(crate) fn band_registers(picture: &Picture, band: u32) -> u16
-    requires { band < 342 }
-    ensures value { (register : ℕ) → register < 16 →
+    requires { band < most_bands }
+    ensures value { (register : ℕ) → register < register_count →
         (bit_at result register == 1) ≡ occurs picture.now band register }
-    ensures picture { IsPicture 16 picture.now }
+    ensures picture { IsPicture register_count picture.now }
 {
     let mut registers = 0;
     for x in 0..picture.width() {
@@ -57,9 +57,9 @@ pub(crate) fn band_registers(picture: &Picture, band: u32) -> u16
 /// The registers, and those of a column of a band.
 #[inline]
 fn with_column(registers: u16, picture: &Picture, band: u32, x: u32) -> u16
-    requires band { band < 342 }
+    requires band { band < most_bands }
     requires x { x < picture.now.width }
-    ensures { (register : ℕ) → register < 16 → (bit_at result register == 1)
+    ensures { (register : ℕ) → register < register_count → (bit_at result register == 1)
         ≡ ((bit_at registers register == 1) || not (column_bits picture.now band register x == 0)) }
 {
     let mut result = registers;
@@ -72,10 +72,10 @@ fn with_column(registers: u16, picture: &Picture, band: u32, x: u32) -> u16
 /// The registers, and that of a pixel if it lies in the picture.
 #[inline]
 fn with_pixel(registers: u16, picture: &Picture, band: u32, x: u32, row: u32) -> u16
-    requires band { band < 342 }
+    requires band { band < most_bands }
     requires x { x < picture.now.width }
     requires row { row < 6 }
-    ensures { (register : ℕ) → register < 16 → (bit_at result register == 1)
+    ensures { (register : ℕ) → register < register_count → (bit_at result register == 1)
         ≡ ((bit_at registers register == 1) || has_pixel picture.now band register x row) }
 {
     let y = ROWS * band + row;

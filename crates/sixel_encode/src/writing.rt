@@ -7,12 +7,13 @@ ghost use Rattle.sixel_grammar.specs.Devices.{CountsFailure, NeverFlushes, Puts}
 ghost use Rattle.sixel_picture.specs.Colours.{palette_at};
 ghost use Rattle.sixel_encode.specs.Canon.{band_commands, canon_commands, canon_start, canon_text, commands_text};
 ghost use Rattle.sixel_encode.specs.Canon.{define_command, define_commands, opening_commands, picture_commands};
+ghost use Rattle.sixel_encode.specs.Canon.{most_bands};
 
 use crate::band::{Text, put_band, put_between, put_command};
 use crate::columns::ROWS;
 use arrayvec::ArrayVec;
 use sixel_grammar::{Command, DeviceFault, Event, Sink};
-use sixel_picture::{Palette, Parts, Picture};
+use sixel_picture::{Palette, Parts, Picture, REGISTERS};
 
 /// Why a picture was not written to its end.
 #[derive(Clone, Copy, Debug, PartialEq, Eq)]
@@ -118,7 +119,7 @@ fn put_definitions<K: Sink>(
     ensures failures { CountsFailure result (K.failure_count out.old) (K.failure_count out.new) }
 {
     let palette = picture.palette();
-    for register in 0..16 {
+    for register in 0..REGISTERS as u8 {
         put_definition(text, palette, register, out)?;
     }
     Ok(())
@@ -185,7 +186,7 @@ fn put_next_band<K: Sink>(
     band: u32,
     out: &mut K,
 ) -> Result<(), DeviceFault>
-    requires { band < 342 }
+    requires { band < most_bands }
     ensures bytes { Puts result (in_all (K.taken out.old) text.old) (in_all (K.taken out.new) text.new)
         (commands_text ((if band == 0 then [] else Command.NextLine ∷ []) ++ band_commands picture.now band)) }
     ensures taken { TakesMore (K.taken out.old) (K.taken out.new) }

@@ -18,7 +18,7 @@ mod writing;
 
 pub use block::Block;
 pub use command::{Command, Completed, Event, Placed, Plain};
-pub use device::{DeviceFault, Sink, Source, put_all};
+pub use device::{DeviceFault, PIECE, Sink, Source, put_all};
 pub use fault::{Fault, InputFault, Reason};
 pub use from_read::FromRead;
 pub use reader::Reader;

@@ -9,13 +9,10 @@ ghost use Rattle.sixel_grammar.specs.declared.fault.InputFault.TheVariants.{Read
 ghost use Rattle.sixel_grammar.specs.Standing.{StandsAfter, completions};
 
 use crate::command::{Completed, Placed};
-use crate::device::Source;
+use crate::device::{PIECE, Source};
 use crate::fault::InputFault;
 use crate::reader::Reader;
 use std::alloc::{AllocError, Global};
-
-/// How many bytes are asked of a source at once.
-const PIECE: usize = 65_536;
 
 /// The events of the whole document that the source gives, each with its place.
 pub fn read_all<S: Source>(alloc: Global, input: &mut S) -> Result<Vec<Placed>, InputFault>

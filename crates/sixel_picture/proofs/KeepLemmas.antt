@@ -5,6 +5,7 @@ use Rattle.sixel_grammar.specs.declared.command.Event.{Event}
 use Rattle.sixel_picture.specs.Positions.{HoldsAtPosition}
 use Rattle.sixel_picture.specs.Rules.{Breaks, BreaksNone}
 use Rattle.sixel_picture.proofs.RuleLemmas.{Keeps, keeps_none}
+use Rattle.sixel_picture.specs.RuleNumbers.{last_rule}
 
 -- each event of the list keeps the rules, where so many events stand before it
 unfoldable pub KeepEach : ℕ → List Event → List Event → Type 0
@@ -40,7 +41,7 @@ none_after registers n (suc i) before (x ∷ xs) h k =
     (record { item = k.item; here = k.here; holds = rw (append_assoc before (x ∷ []) (take i xs)) k.holds })
 
 -- where each keeps them, none is broken
-pub keep_none : (registers : ℕ) (events : List Event) → KeepEach registers [] events → BreaksNone registers 12 events
+pub keep_none : (registers : ℕ) (events : List Event) → KeepEach registers [] events → BreaksNone registers last_rule events
 unfolding BreaksNone
 keep_none registers events h n le i k = none_after registers n i [] events h
     (record { item = k.item; here = k.here; holds = k.holds })

@@ -16,7 +16,7 @@ use Rattle.std.proofs.lemmas.Str.{digit_value_digit}
 use Rattle.std.proofs.lemmas.Str.Parse.{digit_from_value}
 use Rattle.sixel_grammar.specs.Bytes.{is_digit}
 use Rattle.sixel_picture.specs.Colours.{is_same}
-use Rattle.sixel_picture.specs.Pictures.{PictureValue}
+use Rattle.sixel_picture.specs.Pictures.{PictureValue, most_side}
 use Rattle.sixel_picture.specs.PpmFiles.{IsFiller, IsFillerPiece, IsHeader, IsNumberText, IsPictureFile}
 use Rattle.sixel_picture.specs.PpmFiles.{colours_of_samples}
 use Rattle.sixel_picture.specs.PpmReading.{◌>>=◌, Head, after_digits, after_filler, begins_filler, colour_of, distinct}
@@ -243,20 +243,20 @@ maxval_read width height maxval at b filler text rest f is range space lt =
     rw read (rw ended refl)
 
 height_read : (width height at place b : ℕ) (filler text after rest : List ℕ) → after ≡ b ∷ rest
-    → begins_filler b ≡ true → IsFiller filler → IsNumberText height text → IsInRange 1 2048 height
+    → begins_filler b ≡ true → IsFiller filler → IsNumberText height text → IsInRange 1 most_side height
     → place ≡ past at filler text → place < 65536
     → height_on width at (filler ++ (text ++ after)) ≡ maxval_on width height place after
 height_read width height at place b filler text after rest is begins f number range e lt =
-    let read = filled_read begins_filler Size 2048 height at place b filler text after rest is f number range begins
+    let read = filled_read begins_filler Size most_side height at place b filler text after rest is f number range begins
     (filler_no_digit b begins) e lt in
     rw read refl
 
 width_read : (width at place b : ℕ) (filler text after rest : List ℕ) → after ≡ b ∷ rest
-    → begins_filler b ≡ true → IsFiller filler → IsNumberText width text → IsInRange 1 2048 width
+    → begins_filler b ≡ true → IsFiller filler → IsNumberText width text → IsInRange 1 most_side width
     → place ≡ past at filler text → place < 65536
     → width_on at (filler ++ (text ++ after)) ≡ height_on width place after
 width_read width at place b filler text after rest is begins f number range e lt =
-    let read = filled_read begins_filler Size 2048 width at place b filler text after rest is f number range begins
+    let read = filled_read begins_filler Size most_side width at place b filler text after rest is f number range begins
     (filler_no_digit b begins) e lt in
     rw read refl
 

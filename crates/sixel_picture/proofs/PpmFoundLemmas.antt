@@ -6,7 +6,7 @@ use Rattle.std.specs.List.{AllByRecursion}
 use Rattle.std.proofs.lemmas.Bool.Decides.{nat_tests}
 use Rattle.std.proofs.lemmas.List.{append-nil}
 use Rattle.sixel_picture.specs.Laws.{PictureFilesAreRead}
-use Rattle.sixel_picture.specs.Pictures.{PictureValue}
+use Rattle.sixel_picture.specs.Pictures.{PictureValue, most_side}
 use Rattle.sixel_picture.specs.PpmFiles.{IsHeader, IsPictureFile, colours_of_samples}
 use Rattle.sixel_picture.specs.PpmReading.{Head, at_fault, begins_filler, colour_of, coloured, distinct, filled_number}
 use Rattle.sixel_picture.specs.PpmReading.{head_of, is_space, picture_of, pixels, ppm_read, sample, wanted}
@@ -33,7 +33,7 @@ length-grouped a b c d e f g = simp length-append
 
 head_with : (bytes : List ℕ) (letter version end : ℕ × List ℕ) (width height maxval : ℕ × ℕ × List ℕ)
     → Taken (λ b. b == 80) 0 bytes letter → Taken (λ b. b == 54) letter.0 letter.1 version
-    → FilledFound 2048 version.0 version.1 width → FilledFound 2048 width.1 width.2 height
+    → FilledFound most_side version.0 version.1 width → FilledFound most_side width.1 width.2 height
     → FilledFound 255 height.1 height.2 maxval → Taken is_space maxval.1 maxval.2 end
     → HeadFound bytes (record {
       width = width.0;
@@ -85,10 +85,10 @@ head_found bytes =
     (wanted_found (λ b. b == 80) 0 bytes) (λ letter l.
     if_then (wanted (λ b. b == 54) letter.0 letter.1) _ (Taken (λ b. b == 54) letter.0 letter.1) (HeadFound bytes)
     (wanted_found (λ b. b == 54) letter.0 letter.1) (λ version v.
-    if_then (filled_number begins_filler Size 2048 version.0 version.1) _ (FilledFound 2048 version.0 version.1)
-    (HeadFound bytes) (filled_found begins_filler Size 2048 version.0 version.1) (λ width w.
-    if_then (filled_number begins_filler Size 2048 width.1 width.2) _ (FilledFound 2048 width.1 width.2)
-    (HeadFound bytes) (filled_found begins_filler Size 2048 width.1 width.2) (λ height h.
+    if_then (filled_number begins_filler Size most_side version.0 version.1) _ (FilledFound most_side version.0 version.1)
+    (HeadFound bytes) (filled_found begins_filler Size most_side version.0 version.1) (λ width w.
+    if_then (filled_number begins_filler Size most_side width.1 width.2) _ (FilledFound most_side width.1 width.2)
+    (HeadFound bytes) (filled_found begins_filler Size most_side width.1 width.2) (λ height h.
     if_then (filled_number is_space reason.Maxval 255 height.1 height.2) _ (FilledFound 255 height.1 height.2)
     (HeadFound bytes) (filled_found is_space reason.Maxval 255 height.1 height.2) (λ maxval m.
     if_then (wanted is_space maxval.1 maxval.2) _ (Taken is_space maxval.1 maxval.2) (HeadFound bytes)

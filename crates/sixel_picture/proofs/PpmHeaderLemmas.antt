@@ -4,7 +4,7 @@ use Rattle.std.proofs.Common.{List, [], ◌∷◌, refl, arith}
 use Rattle.std.specs.Prelude.{IfOk, if◌then◌else◌}
 use Rattle.std.proofs.lemmas.Bool.Decides.{nat_tests}
 use Rattle.sixel_grammar.specs.Bytes.{is_digit}
-use Rattle.sixel_picture.specs.Pictures.{is_side}
+use Rattle.sixel_picture.specs.Pictures.{is_side, most_side}
 use Rattle.sixel_picture.specs.PpmReading.{◌>>=◌, Head, after_digits, after_filler, at_fault, begins_filler}
 use Rattle.sixel_picture.specs.PpmReading.{filled_number, head_of, height_on, is_space, judged, maxval_on}
 use Rattle.sixel_picture.specs.PpmReading.{most_header, wanted}
@@ -116,7 +116,7 @@ maxval_begun p b rest false false i s h = simp (i, s, h)
 above : (v most : ℕ) → most < v → is_within v most ≡ false
 above v most lt = grind (arith, nat_tests)
 
-most_is_small : (field : Field) → most_of field ≤ 2048
+most_is_small : (field : Field) → most_of field ≤ most_side
 most_is_small Width = omega arith
 most_is_small Height = omega arith
 most_is_small Maxval = omega arith
@@ -131,7 +131,7 @@ judged_alike field p (Ok end) n m e f = rw (e, f) refl
 judged_alike field p (Err fault) n m e f = refl
 
 -- two values above all limits are judged alike, whatever digits follow them
-large_alike : (field : Field) (p : Progress) (v w at : ℕ) (rest : List ℕ) → 2048 < v → 2048 < w
+large_alike : (field : Field) (p : Progress) (v w at : ℕ) (rest : List ℕ) → most_side < v → most_side < w
     → digits_on field p (after_digits v at rest) ≡ digits_on field p (after_digits w at rest)
 large_alike field p v w at [] a b =
     judged_alike field p (wanted (ends field) at []) (v, at, []) (w, at, [])
@@ -148,22 +148,22 @@ large_alike field p v w at (d ∷ rest) a b =
     ]
 
 -- a value and the one that the header keeps of it are judged alike
-grown_alike : (field : Field) (p : Progress) (v b at : ℕ) (rest : List ℕ) (t : Bool) → nat_lt 2048 v ≡ t
+grown_alike : (field : Field) (p : Progress) (v b at : ℕ) (rest : List ℕ) (t : Bool) → nat_lt most_side v ≡ t
     → digits_on field p (after_digits (10 * v + (b - 48)) at rest)
     ≡ digits_on field p (after_digits (grown v b) at rest)
 grown_alike field p v b at rest true t =
-    let lt : 2048 < v = grind (arith, nat_tests) in
+    let lt : most_side < v = grind (arith, nat_tests) in
     rw t (large_alike field p (10 * v + (b - 48)) v at rest (omega arith) lt)
 grown_alike field p v b at rest false t = rw t refl
 
 digit_read : (field : Field) (p : Progress) (b : ℕ) (rest : List ℕ) → InHeader p → is_digit b ≡ true
     → Reads (Digits field) p b rest
 digit_read Width p b rest i d = simp (i, d)
-    (grown_alike Width p p.value b (p.place + 1) rest (nat_lt 2048 p.value) refl)
+    (grown_alike Width p p.value b (p.place + 1) rest (nat_lt most_side p.value) refl)
 digit_read Height p b rest i d = simp (i, d)
-    (grown_alike Height p p.value b (p.place + 1) rest (nat_lt 2048 p.value) refl)
+    (grown_alike Height p p.value b (p.place + 1) rest (nat_lt most_side p.value) refl)
 digit_read Maxval p b rest i d = simp (i, d)
-    (grown_alike Maxval p p.value b (p.place + 1) rest (nat_lt 2048 p.value) refl)
+    (grown_alike Maxval p p.value b (p.place + 1) rest (nat_lt most_side p.value) refl)
 
 -- a byte that may not follow the last digit
 unended_read : (field : Field) (p : Progress) (b : ℕ) (rest : List ℕ) → InHeader p → is_digit b ≡ false
@@ -238,8 +238,8 @@ filler_moves : (p : Progress) (field : Field) (b : ℕ) → MovesByOne p (in_fil
 filler_moves p field b = one_of p (is_space b) _ _ refl (one_of p (b == 35) _ _ refl tt)
 
 ended_moves : (p : Progress) (field : Field) (b : ℕ) → MovesByOne p (ended p field b)
-ended_moves p Width b = one_of p (is_within p.value 2048) _ _ (filler_moves (record p { width = p.value }) Height b) tt
-ended_moves p Height b = one_of p (is_within p.value 2048) _ _
+ended_moves p Width b = one_of p (is_within p.value most_side) _ _ (filler_moves (record p { width = p.value }) Height b) tt
+ended_moves p Height b = one_of p (is_within p.value most_side) _ _
     (filler_moves (record p { height = p.value }) Maxval b) tt
 ended_moves p Maxval b = one_of p (is_within p.value 255) _ _ tt tt
 
@@ -324,10 +324,10 @@ head_in_range bytes =
     if_then (wanted (λ b. b == 80) 0 bytes) _ StandsWithin IsInRange (wanted_within (λ b. b == 80) 0 bytes) (λ letter h.
     if_then (wanted (λ b. b == 54) letter.0 letter.1) _ StandsWithin IsInRange
     (wanted_within (λ b. b == 54) letter.0 letter.1) (λ digit h.
-    if_then (filled_number begins_filler Size 2048 digit.0 digit.1) _ (WithinMost 2048) IsInRange
-    (filled_within begins_filler Size 2048 digit.0 digit.1) (λ width w.
-    if_then (filled_number begins_filler Size 2048 width.1 width.2) _ (WithinMost 2048) IsInRange
-    (filled_within begins_filler Size 2048 width.1 width.2) (λ height k.
+    if_then (filled_number begins_filler Size most_side digit.0 digit.1) _ (WithinMost most_side) IsInRange
+    (filled_within begins_filler Size most_side digit.0 digit.1) (λ width w.
+    if_then (filled_number begins_filler Size most_side width.1 width.2) _ (WithinMost most_side) IsInRange
+    (filled_within begins_filler Size most_side width.1 width.2) (λ height k.
     if_then (filled_number is_space reason.Maxval 255 height.1 height.2) _ (WithinMost 255) IsInRange
     (filled_within is_space reason.Maxval 255 height.1 height.2) (λ maxval m.
     if_then (wanted is_space maxval.1 maxval.2) _ StandsWithin IsInRange (wanted_within is_space maxval.1 maxval.2)

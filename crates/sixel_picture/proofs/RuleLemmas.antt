@@ -12,6 +12,9 @@ use Rattle.sixel_picture.specs.Rules.{breaks_raster_twice}
 use Rattle.sixel_picture.specs.Rules.{breaks_redefined, breaks_register, breaks_repeat_zero, breaks_undefined}
 use Rattle.sixel_picture.specs.Rules.{breaks_unselected}
 use Rattle.sixel_picture.proofs.PositionLemmas.{holds_before, holds_end, holds_push, holds_within}
+use Rattle.sixel_picture.specs.RuleNumbers.{raster_first_rule, raster_twice_rule, ratio_rule, box_size_rule}
+use Rattle.sixel_picture.specs.RuleNumbers.{register_rule, colour_value_rule, repeat_zero_rule, unselected_rule}
+use Rattle.sixel_picture.specs.RuleNumbers.{undefined_rule, redefined_rule, outside_rule, uncovered_rule, last_rule}
 
 -- the event breaks none of the twelve rules
 pub record Keeps (registers : ℕ) (before : List Event) (e : Event) : Type 0 where
@@ -45,40 +48,40 @@ pub keeps_none : (registers n : ℕ) (before : List Event) (e : Event) → Keeps
     → ¬ Breaks registers n before e
 unfolding Breaks
 keeps_none registers n before e k =
-    neither (n == 1) (not_true _ k.raster_first)
-    (neither (n == 2) (not_true _ k.raster_twice)
-    (neither (n == 3) (not_true _ k.ratio)
-    (neither (n == 4) (not_true _ k.box_size)
-    (neither (n == 5) (not_true _ k.register)
-    (neither (n == 6) (not_true _ k.colour_value)
-    (neither (n == 7) (not_true _ k.repeat_zero)
-    (neither (n == 8) (not_true _ k.unselected)
-    (neither (n == 9) (not_true _ k.undefined)
-    (neither (n == 10) (not_true _ k.redefined)
-    (neither (n == 11) k.outside
-    (neither (n == 12) k.uncovered (λ h. h))))))))))))
+    neither (n == raster_first_rule) (not_true _ k.raster_first)
+    (neither (n == raster_twice_rule) (not_true _ k.raster_twice)
+    (neither (n == ratio_rule) (not_true _ k.ratio)
+    (neither (n == box_size_rule) (not_true _ k.box_size)
+    (neither (n == register_rule) (not_true _ k.register)
+    (neither (n == colour_value_rule) (not_true _ k.colour_value)
+    (neither (n == repeat_zero_rule) (not_true _ k.repeat_zero)
+    (neither (n == unselected_rule) (not_true _ k.unselected)
+    (neither (n == undefined_rule) (not_true _ k.undefined)
+    (neither (n == redefined_rule) (not_true _ k.redefined)
+    (neither (n == outside_rule) k.outside
+    (neither (n == uncovered_rule) k.uncovered (λ h. h))))))))))))
 
 -- and an event that breaks none of the twelve keeps each
-pub none_keeps : (registers : ℕ) (before : List Event) (e : Event) → ((n : ℕ) → n ≤ 12 → ¬ Breaks registers n before e)
+pub none_keeps : (registers : ℕ) (before : List Event) (e : Event) → ((n : ℕ) → n ≤ last_rule → ¬ Breaks registers n before e)
     → Keeps registers before e
 unfolding Breaks
 none_keeps registers before e h = record {
-  raster_first = is_false _ (h 1 (lit≤ tt));
-  raster_twice = is_false _ (h 2 (lit≤ tt));
-  ratio = is_false _ (h 3 (lit≤ tt));
-  box_size = is_false _ (h 4 (lit≤ tt));
-  register = is_false _ (h 5 (lit≤ tt));
-  colour_value = is_false _ (h 6 (lit≤ tt));
-  repeat_zero = is_false _ (h 7 (lit≤ tt));
-  unselected = is_false _ (h 8 (lit≤ tt));
-  undefined = is_false _ (h 9 (lit≤ tt));
-  redefined = is_false _ (h 10 (lit≤ tt));
-  outside = h 11 (lit≤ tt);
-  uncovered = h 12 (lit≤ tt);
+  raster_first = is_false _ (h raster_first_rule (lit≤ tt));
+  raster_twice = is_false _ (h raster_twice_rule (lit≤ tt));
+  ratio = is_false _ (h ratio_rule (lit≤ tt));
+  box_size = is_false _ (h box_size_rule (lit≤ tt));
+  register = is_false _ (h register_rule (lit≤ tt));
+  colour_value = is_false _ (h colour_value_rule (lit≤ tt));
+  repeat_zero = is_false _ (h repeat_zero_rule (lit≤ tt));
+  unselected = is_false _ (h unselected_rule (lit≤ tt));
+  undefined = is_false _ (h undefined_rule (lit≤ tt));
+  redefined = is_false _ (h redefined_rule (lit≤ tt));
+  outside = h outside_rule (lit≤ tt);
+  uncovered = h uncovered_rule (lit≤ tt);
 }
 
 -- in a list in which no rule is broken each event keeps each
-pub keeps_at : (registers : ℕ) (events : List Event) → BreaksNone registers 12 events → (i : ℕ) (e : Event)
+pub keeps_at : (registers : ℕ) (events : List Event) → BreaksNone registers last_rule events → (i : ℕ) (e : Event)
     → slice_get events i ≡ Some e → Keeps registers (take i events) e
 unfolding BreaksNone
 keeps_at registers events none i e here =
@@ -115,33 +118,33 @@ past P Q false h q m = q m
 beyond : (P Q : Type 0) (n k : ℕ) → k < n → ¬ Q → ¬ MatchBool (n == k) P Q
 beyond P Q n k lt q = past P Q (n == k) (λ e. let same : n ≡ k = eqb-true n k e in absurd (omega (arith, same, lt))) q
 
--- no rule has a number above 12
-pub no_more_rules : (registers n : ℕ) (before : List Event) (e : Event) → 12 < n → ¬ Breaks registers n before e
+-- no rule has a number above the last
+pub no_more_rules : (registers n : ℕ) (before : List Event) (e : Event) → last_rule < n → ¬ Breaks registers n before e
 unfolding Breaks
 no_more_rules registers n before e lt h =
-    beyond _ _ n 1 (omega (arith, lt))
-    (beyond _ _ n 2 (omega (arith, lt))
-    (beyond _ _ n 3 (omega (arith, lt))
-    (beyond _ _ n 4 (omega (arith, lt))
-    (beyond _ _ n 5 (omega (arith, lt))
-    (beyond _ _ n 6 (omega (arith, lt))
-    (beyond _ _ n 7 (omega (arith, lt))
-    (beyond _ _ n 8 (omega (arith, lt))
-    (beyond _ _ n 9 (omega (arith, lt))
-    (beyond _ _ n 10 (omega (arith, lt))
-    (beyond _ _ n 11 (omega (arith, lt))
-    (beyond _ _ n 12 (omega (arith, lt)) (λ f. f)))))))))))) h
+    beyond _ _ n raster_first_rule (omega (arith, lt))
+    (beyond _ _ n raster_twice_rule (omega (arith, lt))
+    (beyond _ _ n ratio_rule (omega (arith, lt))
+    (beyond _ _ n box_size_rule (omega (arith, lt))
+    (beyond _ _ n register_rule (omega (arith, lt))
+    (beyond _ _ n colour_value_rule (omega (arith, lt))
+    (beyond _ _ n repeat_zero_rule (omega (arith, lt))
+    (beyond _ _ n unselected_rule (omega (arith, lt))
+    (beyond _ _ n undefined_rule (omega (arith, lt))
+    (beyond _ _ n redefined_rule (omega (arith, lt))
+    (beyond _ _ n outside_rule (omega (arith, lt))
+    (beyond _ _ n uncovered_rule (omega (arith, lt)) (λ f. f)))))))))))) h
 
 -- an event that breaks none of the twelve breaks none
-pub nowhere : (registers m i : ℕ) (events : List Event) → BreaksNone registers 12 events
+pub nowhere : (registers m i : ℕ) (events : List Event) → BreaksNone registers last_rule events
     → ¬ HoldsAtPosition (Breaks registers m) events i
 unfolding BreaksNone
 nowhere registers m i events none h =
-    split (nat_le m 12) refl
+    split (nat_le m last_rule) refl
   where
-    split : (b : Bool) → nat_le m 12 ≡ b → ⊥
-    split true e = none m (leb-true m 12 e) i h
-    split false e = no_more_rules registers m (take i events) h.item (leb-false m 12 e) h.holds
+    split : (b : Bool) → nat_le m last_rule ≡ b → ⊥
+    split true e = none m (leb-true m last_rule e) i h
+    split false e = no_more_rules registers m (take i events) h.item (leb-false m last_rule e) h.holds
 
 -- the first broken rule stays the first
 pub first_push : (registers n i : ℕ) (before : List Event) (e : Event) → IsFirstBroken registers before n i
@@ -161,7 +164,7 @@ first_push registers n i before e f =
     }
 
 -- where no rule was broken, the least rule that the event breaks is the first
-pub first_there : (registers n : ℕ) (before : List Event) (e : Event) → BreaksNone registers 12 before
+pub first_there : (registers n : ℕ) (before : List Event) (e : Event) → BreaksNone registers last_rule before
     → Breaks registers n before e → ((m : ℕ) → m < n → ¬ Breaks registers m before e)
     → IsFirstBroken registers (before ++ e ∷ []) n (length before)
 first_there registers n before e none b least = record {

@@ -3,7 +3,7 @@ use Rattle.std.proofs.Common.{◌≡◌, ◌+◌, ◌≤◌, ◌∙◌, ℕ, zer
 use Rattle.std.proofs.Common.{refl, ap, arith}
 use Rattle.std.specs.Prelude.{Some, None, codes, replicate}
 use Rattle.std.specs.List.{flat_map, range_with_len}
-use Rattle.sixel_picture.specs.Pictures.{picture_of_parts}
+use Rattle.sixel_picture.specs.Pictures.{picture_of_parts, most_side}
 use Rattle.sixel_picture.specs.PpmReading.{◌>>=◌, Head, after_filler, at_fault, begins_filler, head_of, height_on}
 use Rattle.sixel_picture.specs.PpmReading.{most_header, number, picture_of, ppm_read}
 use Rattle.sixel_picture.specs.declared.colour.Parts.TheVariants.{Rgb}
@@ -91,7 +91,7 @@ spaces_pass (suc n) at rest le =
 -- what the number after `P6` and n + 1 spaces says, where it begins within the limit
 abbrev numbered_after : ℕ → List ℕ → Result Head PpmFault
 numbered_after at rest = do
-  n ← number begins_filler Size 2048 (after_filler false at rest).0 (after_filler false at rest).1
+  n ← number begins_filler Size most_side (after_filler false at rest).0 (after_filler false at rest).1
   height_on n.0 n.1 n.2
 
 after_spaces : (n : ℕ) (rest : List ℕ) → 3 + n ≤ 65536

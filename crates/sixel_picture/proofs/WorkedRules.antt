@@ -10,6 +10,9 @@ use Rattle.sixel_picture.specs.Positions.{latest, earliest, since, any_below, la
 use Rattle.sixel_picture.specs.Positions.{last_at, any_at, HoldsAtPosition}
 use Rattle.sixel_picture.specs.Rules
 use Rattle.sixel_picture.specs.Sheets.{row_by_row}
+use Rattle.sixel_picture.specs.RuleNumbers.{raster_first_rule, raster_twice_rule, ratio_rule, box_size_rule}
+use Rattle.sixel_picture.specs.RuleNumbers.{register_rule, colour_value_rule, repeat_zero_rule, unselected_rule}
+use Rattle.sixel_picture.specs.RuleNumbers.{undefined_rule, redefined_rule, outside_rule, uncovered_rule}
 
 abbrev start : Event
 start = Start false (record { items = 0 ∷ [] })
@@ -23,7 +26,7 @@ covered_there : Rules.is_covered uncovered 0 0 ≡ true
 unfolding Rules.is_covered any_at any_below passes_at falls touches covers column band since
 covered_there = refl
 
-uncovered_there : HoldsAtPosition (Rules.Breaks 16 12) uncovered 5
+uncovered_there : HoldsAtPosition (Rules.Breaks 16 uncovered_rule) uncovered 5
 unfolding Rules.Breaks Rules.BreaksUncovered Rules.raster_before earliest Rules.is_covered any_at any_below passes_at
     falls touches covers column band since
 uncovered_there = record {
@@ -38,7 +41,7 @@ abbrev uncovered_row : List Event
 uncovered_row =
     start ∷ Step (Raster 1 1 1 2) ∷ Step (Define 0 2 0 0 0) ∷ Step (Select 0) ∷ Step (Sixel 1) ∷ Finish false ∷ []
 
-uncovered_row_there : HoldsAtPosition (Rules.Breaks 16 12) uncovered_row 5
+uncovered_row_there : HoldsAtPosition (Rules.Breaks 16 uncovered_rule) uncovered_row 5
 unfolding Rules.Breaks Rules.BreaksUncovered Rules.raster_before earliest Rules.is_covered any_at any_below passes_at
     falls touches covers column band since
 uncovered_row_there =
@@ -48,7 +51,7 @@ uncovered_row_there =
 abbrev unselected : List Event
 unselected = start ∷ Step (Raster 1 1 1 1) ∷ Step (Define 0 2 0 0 0) ∷ Step (Sixel 1) ∷ Finish false ∷ []
 
-unselected_there : HoldsAtPosition (Rules.Breaks 16 8) unselected 3
+unselected_there : HoldsAtPosition (Rules.Breaks 16 unselected_rule) unselected 3
 unfolding Rules.Breaks Rules.breaks_unselected Rules.known latest
 unselected_there = record { item = Step (Sixel 1); here = refl; holds = refl }
 
@@ -59,7 +62,7 @@ named =
     ∷ Step (Sixel 1)
     ∷ Finish false ∷ []
 
-named_there : HoldsAtPosition (Rules.Breaks 16 8) named 5
+named_there : HoldsAtPosition (Rules.Breaks 16 unselected_rule) named 5
 unfolding Rules.Breaks Rules.breaks_unselected Rules.known latest
 named_there = record { item = Step (Sixel 1); here = refl; holds = refl }
 
@@ -90,7 +93,7 @@ left_there = refl
 abbrev undefined : List Event
 undefined = start ∷ Step (Raster 1 1 1 1) ∷ Step (Select 0) ∷ Step (Sixel 1) ∷ Finish false ∷ []
 
-undefined_there : HoldsAtPosition (Rules.Breaks 16 9) undefined 3
+undefined_there : HoldsAtPosition (Rules.Breaks 16 undefined_rule) undefined 3
 unfolding Rules.Breaks Rules.breaks_undefined Rules.definition_of Rules.known latest
 undefined_there = record { item = Step (Sixel 1); here = refl; holds = refl }
 
@@ -101,7 +104,7 @@ redefined =
     ∷ Step (Sixel 1)
     ∷ Step (Select 1) ∷ Step (Sixel 1) ∷ Step (Define 0 2 1 0 0) ∷ Finish false ∷ []
 
-redefined_there : HoldsAtPosition (Rules.Breaks 16 10) redefined 8
+redefined_there : HoldsAtPosition (Rules.Breaks 16 redefined_rule) redefined 8
 unfolding Rules.Breaks Rules.breaks_redefined Rules.is_painted_in any_at any_below passes_at Rules.known latest
     Rules.definition_of
 redefined_there = record { item = Step (Define 0 2 1 0 0); here = refl; holds = refl }
@@ -116,7 +119,7 @@ defined_again = refl
 abbrev below : List Event
 below = start ∷ Step (Raster 1 1 1 1) ∷ Step (Define 0 2 0 0 0) ∷ Step (Select 0) ∷ Step (Sixel 2) ∷ Finish false ∷ []
 
-below_there : HoldsAtPosition (Rules.Breaks 16 11) below 4
+below_there : HoldsAtPosition (Rules.Breaks 16 outside_rule) below 4
 unfolding Rules.Breaks Rules.BreaksOutside Rules.raster_before earliest falls touches covers column band since any_below
 below_there = record { item = Step (Sixel 2); here = refl; holds = (0, 1, record { painted = refl; outside = refl }) }
 
@@ -125,7 +128,7 @@ abbrev outside : List Event
 outside = start ∷ Step (Raster 1 1 1 1) ∷ Step (Define 0 2 0 0 0) ∷ Step (Select 0) ∷ Step (Repeat 2 1) ∷ Finish false
     ∷ []
 
-outside_there : HoldsAtPosition (Rules.Breaks 16 11) outside 4
+outside_there : HoldsAtPosition (Rules.Breaks 16 outside_rule) outside 4
 unfolding Rules.Breaks Rules.BreaksOutside Rules.raster_before earliest falls touches covers column band since any_below
 outside_there = record {
   item = Step (Repeat 2 1);
@@ -138,16 +141,16 @@ outside_there = record {
 abbrev empty : List Event
 empty = start ∷ Finish false ∷ []
 
-empty_there : HoldsAtPosition (Rules.Breaks 16 1) empty 1
+empty_there : HoldsAtPosition (Rules.Breaks 16 raster_first_rule) empty 1
 unfolding Rules.Breaks Rules.breaks_raster_first Rules.raster_before earliest
 empty_there = record { item = Finish false; here = refl; holds = refl }
 
 -- !0@, #16, #0;3;0;0;0, #0;2;101;0;0
-repeat_there : Rules.Breaks 16 7 (start ∷ []) (Step (Repeat 0 1))
+repeat_there : Rules.Breaks 16 repeat_zero_rule (start ∷ []) (Step (Repeat 0 1))
 unfolding Rules.Breaks Rules.breaks_repeat_zero
 repeat_there = refl
 
-register_there : Rules.Breaks 16 5 (start ∷ []) (Step (Select 16))
+register_there : Rules.Breaks 16 register_rule (start ∷ []) (Step (Select 16))
 unfolding Rules.Breaks Rules.breaks_register
 register_there = refl
 
@@ -155,11 +158,11 @@ last_register : Rules.breaks_register 16 (Step (Select 15)) ≡ false
 unfolding Rules.breaks_register
 last_register = refl
 
-system_there : Rules.Breaks 16 6 (start ∷ []) (Step (Define 0 3 0 0 0))
+system_there : Rules.Breaks 16 colour_value_rule (start ∷ []) (Step (Define 0 3 0 0 0))
 unfolding Rules.Breaks Rules.breaks_colour_value
 system_there = refl
 
-percent_there : Rules.Breaks 16 6 (start ∷ []) (Step (Define 0 2 101 0 0))
+percent_there : Rules.Breaks 16 colour_value_rule (start ∷ []) (Step (Define 0 2 101 0 0))
 unfolding Rules.Breaks Rules.breaks_colour_value
 percent_there = refl
 
@@ -168,23 +171,23 @@ unfolding Rules.breaks_colour_value
 hue_in_range = refl
 
 -- "2;1;0;1 and "1;1;0;1 and "1;1;2049;1 and "1;1
-ratio_there : Rules.Breaks 16 3 (start ∷ []) (Step (Raster 2 1 0 1))
+ratio_there : Rules.Breaks 16 ratio_rule (start ∷ []) (Step (Raster 2 1 0 1))
 unfolding Rules.Breaks Rules.breaks_ratio
 ratio_there = refl
 
-no_width_there : Rules.Breaks 16 4 (start ∷ []) (Step (Raster 1 1 0 1))
+no_width_there : Rules.Breaks 16 box_size_rule (start ∷ []) (Step (Raster 1 1 0 1))
 unfolding Rules.Breaks Rules.breaks_box_size
 no_width_there = refl
 
-wide_there : Rules.Breaks 16 4 (start ∷ []) (Step (Raster 1 1 2049 1))
+wide_there : Rules.Breaks 16 box_size_rule (start ∷ []) (Step (Raster 1 1 2049 1))
 unfolding Rules.Breaks Rules.breaks_box_size
 wide_there = refl
 
-no_sides_there : Rules.Breaks 16 4 (start ∷ []) (Step (Raster 1 1 0 0))
+no_sides_there : Rules.Breaks 16 box_size_rule (start ∷ []) (Step (Raster 1 1 0 0))
 unfolding Rules.Breaks Rules.breaks_box_size
 no_sides_there = refl
 
 -- "1;1;1;1"1;1;1;1
-twice_there : Rules.Breaks 16 2 (start ∷ Step (Raster 1 1 1 1) ∷ []) (Step (Raster 1 1 1 1))
+twice_there : Rules.Breaks 16 raster_twice_rule (start ∷ Step (Raster 1 1 1 1) ∷ []) (Step (Raster 1 1 1 1))
 unfolding Rules.Breaks Rules.breaks_raster_twice Rules.raster_before earliest
 twice_there = refl

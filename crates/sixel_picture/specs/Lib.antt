@@ -7,6 +7,7 @@ pub mod Sheets
 pub mod BytePlanes
 pub mod BandPlanes
 pub mod Lanes
+pub mod RuleNumbers
 pub mod Rules
 pub mod Ppm
 pub mod PpmReading

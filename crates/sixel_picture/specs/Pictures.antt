@@ -22,9 +22,17 @@ picture_of_parts width height palette registers =
 abbrev pub register_of : PictureValue → ℕ → ℕ → ℕ
 register_of p x y = slice_index p.registers (y * p.width + x)
 
+-- how many colour registers a picture has
+abbrev pub register_count : ℕ
+register_count = 16
+
+-- the greatest side of a picture, in pixels
+abbrev pub most_side : ℕ
+most_side = 2048
+
 -- a side of a picture
 abbrev pub is_side : ℕ → Bool
-is_side n = nat_le 1 n && nat_le n 2048
+is_side n = nat_le 1 n && nat_le n most_side
 
 -- the first reason why the parts make no picture of a palette of so many registers
 abbrev pub picture_fault : ℕ → ℕ → ℕ → List (Option Parts) → List ℕ → Option PictureReason

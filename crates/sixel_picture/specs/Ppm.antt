@@ -35,9 +35,13 @@ ppm_text width height colours = ppm_header width height ++ flat_map samples_of c
 abbrev pub colours_of : PictureValue → List Parts
 colours_of p = filter_map (palette_at p.palette) p.registers
 
+-- the greatest side of a picture file that is written, in pixels
+abbrev pub most_file_side : ℕ
+most_file_side = 4096
+
 -- a side of a picture file that is written
 abbrev pub is_file_side : ℕ → Bool
-is_file_side n = nat_le 1 n && nat_le n 4096
+is_file_side n = nat_le 1 n && nat_le n most_file_side
 
 -- all colours are red, green and blue, and the text was appended; or they are, and a front of it was
 -- appended; or one isn't, and nothing was appended. Writing answers no other fault

@@ -6,7 +6,7 @@ use Rattle.std.specs.Prelude.{◌≡◌, ◌≢◌, ◌⊎◌, ℕ, ◌*◌, ◌
 use Rattle.std.specs.Int.{IsInRange}
 use Rattle.std.specs.List.{AllByRecursion, concat}
 use Rattle.std.specs.Str.Parse.{IsNumeral, digits_value}
-use Rattle.sixel_picture.specs.Pictures.{PictureValue}
+use Rattle.sixel_picture.specs.Pictures.{PictureValue, most_side}
 use Rattle.sixel_picture.specs.PpmReading.{colour_of, distinct, is_space, most_header, picture_of}
 use Rattle.sixel_picture.specs.declared.colour.Parts.{Parts}
 
@@ -53,8 +53,8 @@ pub record IsHeader (width height maxval : ℕ) (bytes : List ℕ) : Type 0 wher
   pub third_filler : IsFiller before_maxval
   pub maxval_is : IsNumberText maxval maxval_text
   pub end_is : IsTrue (is_space end)
-  pub wide : IsInRange 1 2048 width
-  pub high : IsInRange 1 2048 height
+  pub wide : IsInRange 1 most_side width
+  pub high : IsInRange 1 most_side height
   pub scaled : IsInRange 1 255 maxval
   pub short : length bytes ≤ most_header
 

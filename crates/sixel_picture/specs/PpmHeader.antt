@@ -16,6 +16,7 @@ use Rattle.sixel_picture.specs.declared.ppm.header.Part.TheVariants.{Digits}
 use Rattle.sixel_picture.specs.declared.ppm.header.Progress.{Progress}
 use Rattle.sixel_picture.specs.declared.ppm.header.Next.{Next}
 use Rattle.sixel_picture.specs.declared.ppm.header.Next.TheVariants.{More, Whole, Refused}
+use Rattle.sixel_picture.specs.Pictures.{most_side}
 
 -- ---- the step
 
@@ -39,7 +40,7 @@ abbrev pub in_comment : Progress → Field → ℕ → Next
 in_comment p field b = if b == 10 then advanced p (Filler field) else advanced p (Comment field)
 
 abbrev pub grown : ℕ → ℕ → ℕ
-grown value b = if nat_lt 2048 value then value else 10 * value + (b - 48)
+grown value b = if nat_lt most_side value then value else 10 * value + (b - 48)
 
 abbrev pub filled : Progress → Field → ℕ → Next
 filled p field b =
@@ -57,9 +58,9 @@ is_within value most = nat_le 1 value && nat_le value most
 
 abbrev pub ended : Progress → Field → ℕ → Next
 ended p Width b =
-    if is_within p.value 2048 then in_filler (record p { width = p.value }) Height b else Refused reason.Size p.first
+    if is_within p.value most_side then in_filler (record p { width = p.value }) Height b else Refused reason.Size p.first
 ended p Height b =
-    if is_within p.value 2048 then in_filler (record p { height = p.value }) Maxval b else Refused reason.Size p.first
+    if is_within p.value most_side then in_filler (record p { height = p.value }) Maxval b else Refused reason.Size p.first
 ended p Maxval b =
     if is_within p.value 255
     then Whole (record { width = p.width; height = p.height; maxval = p.value; place = p.place + 1 })
@@ -89,8 +90,8 @@ fault_of Height = reason.Size
 fault_of Maxval = reason.Maxval
 
 abbrev pub most_of : Field → ℕ
-most_of Width = 2048
-most_of Height = 2048
+most_of Width = most_side
+most_of Height = most_side
 most_of Maxval = 255
 
 -- after a number

@@ -11,7 +11,7 @@ use Rattle.std.specs.List.{list_any, position_from}
 use Rattle.sixel_grammar.specs.Bytes.{is_digit}
 use Rattle.sixel_grammar.specs.Devices.{one_more}
 use Rattle.sixel_picture.specs.Colours.{is_same}
-use Rattle.sixel_picture.specs.Pictures.{PictureValue, picture_of_parts}
+use Rattle.sixel_picture.specs.Pictures.{PictureValue, picture_of_parts, most_side, register_count}
 use Rattle.sixel_picture.specs.declared.colour.Parts.{Parts}
 use Rattle.sixel_picture.specs.declared.colour.Parts.TheVariants.{Rgb}
 use Rattle.sixel_picture.specs.declared.ppm.PpmFault.{PpmFault}
@@ -100,12 +100,12 @@ maxval_on width height at rest = do
 
 abbrev pub height_on : ℕ → ℕ → List ℕ → Result Head PpmFault
 height_on width at rest = do
-  height ← filled_number begins_filler Size 2048 at rest
+  height ← filled_number begins_filler Size most_side at rest
   maxval_on width height.0 height.1 height.2
 
 abbrev pub width_on : ℕ → List ℕ → Result Head PpmFault
 width_on at rest = do
-  width ← filled_number begins_filler Size 2048 at rest
+  width ← filled_number begins_filler Size most_side at rest
   height_on width.0 width.1 width.2
 
 -- `P6`, filler, the width, filler, the height, filler, the maximum, one whitespace byte
@@ -194,8 +194,8 @@ HasWholeHeader bytes = IsOk (head_of bytes)
 -- an answer is what the bytes say; memory is wanting only after a whole header without a fault, and the answer of a
 -- device that failed says nothing of the bytes
 abbrev pub ReadsPpm : Result PictureValue PpmFault → List ℕ → Type 0
-ReadsPpm (Ok picture) bytes = ppm_read 16 bytes ≡ Ok picture
-ReadsPpm (Err (Format reason place)) bytes = ppm_read 16 bytes ≡ at_fault reason place
+ReadsPpm (Ok picture) bytes = ppm_read register_count bytes ≡ Ok picture
+ReadsPpm (Err (Format reason place)) bytes = ppm_read register_count bytes ≡ at_fault reason place
 ReadsPpm (Err OutOfMemory) bytes = HasWholeHeader bytes
 ReadsPpm (Err Read) bytes = Unit {0}
 ReadsPpm (Err NotRgb) bytes = ⊥

@@ -3,7 +3,7 @@ use Rattle.std.specs.Prelude.{◌≡◌, ◌≤◌, ◌<◌, ℕ, ◌+◌, ◌-�
 use Rattle.std.specs.Prelude.{map, Result, Ok}
 use Rattle.std.specs.List.{list_any}
 use Rattle.sixel_picture.specs.Colours.{is_same}
-use Rattle.sixel_picture.specs.Pictures.{PictureValue}
+use Rattle.sixel_picture.specs.Pictures.{PictureValue, register_count}
 use Rattle.sixel_picture.specs.PpmColours.{Fills}
 use Rattle.sixel_picture.specs.PpmHeld.{held_samples}
 use Rattle.sixel_picture.specs.PpmReading.{◌>>=◌, at_fault, colour_of, distinct, picture_of, pixels, register_among}
@@ -92,13 +92,13 @@ abbrev pub TooMany : Samples → ℕ → ℕ → ℕ → PpmFault → Type 0
 TooMany old red green blue fault =
     (fault ≡ Format TooManyColours old.place)
     × ((colours : List Parts) → Holds old colours
-    → 16 < length (with_colour (distinct colours) (colour_of old.maxval red green blue)))
+    → register_count < length (with_colour (distinct colours) (colour_of old.maxval red green blue)))
 
 -- what the bytes to come make of the pixels that have these colours
 abbrev pub pixels_on : Samples → List Parts → List ℕ → Result PictureValue PpmFault
 pixels_on s colours rest = do
-  all ← pixels 16 s.maxval s.left colours s.place rest
-  Ok (picture_of 16 s.width s.height all)
+  all ← pixels register_count s.maxval s.left colours s.place rest
+  Ok (picture_of register_count s.width s.height all)
 
 -- the same, with the samples that are held
 abbrev pub samples_on : Samples → List Parts → List ℕ → Result PictureValue PpmFault

@@ -21,6 +21,9 @@ use Rattle.sixel_picture.specs.Geometry.{falls}
 use Rattle.sixel_picture.specs.Pictures.{PictureValue, picture_of_parts}
 use Rattle.sixel_picture.specs.Positions.{HoldsAtPosition, HoldsNowhere, any_at, earliest, last_at, latest}
 use Rattle.sixel_picture.specs.Sheets.{row_by_row}
+use Rattle.sixel_picture.specs.RuleNumbers.{raster_first_rule, raster_twice_rule, ratio_rule, box_size_rule}
+use Rattle.sixel_picture.specs.RuleNumbers.{register_rule, colour_value_rule, repeat_zero_rule, unselected_rule}
+use Rattle.sixel_picture.specs.RuleNumbers.{undefined_rule, redefined_rule, outside_rule, uncovered_rule}
 
 -- ---- what stands before an event
 
@@ -138,18 +141,18 @@ BreaksUncovered before e =
 -- the event breaks the rule of this number, where there are so many registers
 unfoldable pub Breaks : ℕ → ℕ → List Event → Event → Type 0
 Breaks registers n before e =
-    MatchBool (n == 1) (IsTrue (breaks_raster_first before e))
-    (MatchBool (n == 2) (IsTrue (breaks_raster_twice before e))
-    (MatchBool (n == 3) (IsTrue (breaks_ratio e))
-    (MatchBool (n == 4) (IsTrue (breaks_box_size e))
-    (MatchBool (n == 5) (IsTrue (breaks_register registers e))
-    (MatchBool (n == 6) (IsTrue (breaks_colour_value e))
-    (MatchBool (n == 7) (IsTrue (breaks_repeat_zero e))
-    (MatchBool (n == 8) (IsTrue (breaks_unselected before e))
-    (MatchBool (n == 9) (IsTrue (breaks_undefined before e))
-    (MatchBool (n == 10) (IsTrue (breaks_redefined before e))
-    (MatchBool (n == 11) (BreaksOutside before e)
-    (MatchBool (n == 12) (BreaksUncovered before e) ⊥)))))))))))
+    MatchBool (n == raster_first_rule) (IsTrue (breaks_raster_first before e))
+    (MatchBool (n == raster_twice_rule) (IsTrue (breaks_raster_twice before e))
+    (MatchBool (n == ratio_rule) (IsTrue (breaks_ratio e))
+    (MatchBool (n == box_size_rule) (IsTrue (breaks_box_size e))
+    (MatchBool (n == register_rule) (IsTrue (breaks_register registers e))
+    (MatchBool (n == colour_value_rule) (IsTrue (breaks_colour_value e))
+    (MatchBool (n == repeat_zero_rule) (IsTrue (breaks_repeat_zero e))
+    (MatchBool (n == unselected_rule) (IsTrue (breaks_unselected before e))
+    (MatchBool (n == undefined_rule) (IsTrue (breaks_undefined before e))
+    (MatchBool (n == redefined_rule) (IsTrue (breaks_redefined before e))
+    (MatchBool (n == outside_rule) (BreaksOutside before e)
+    (MatchBool (n == uncovered_rule) (BreaksUncovered before e) ⊥)))))))))))
 
 -- ---- the first broken rule
 

@@ -2,10 +2,11 @@
 
 ghost use Rattle.sixel_picture.specs.Laws.{BlankSheetsAreBlank, PictureFilesAreRead, PixelsHaveColours};
 ghost use Rattle.sixel_picture.specs.Laws.{RunsPaintTheirPixels};
+ghost use Rattle.sixel_picture.specs.Pictures.{register_count};
 
 /// Each pixel of a picture has a colour, so that the text of its PPM leaves no pixel out.
 pub fn pixels_have_colours()
-    ensures { PixelsHaveColours 16 }
+    ensures { PixelsHaveColours register_count }
 {}
 
 /// No pixel of a blank plane has a register.
@@ -21,5 +22,5 @@ pub fn runs_paint_their_pixels()
 /// The reading of a PPM agrees with the grammar of picture files: each file of a picture is read as that picture, and
 /// what is read is a file of it.
 pub fn picture_files_are_read()
-    ensures { PictureFilesAreRead 16 }
+    ensures { PictureFilesAreRead register_count }
 {}

@@ -16,7 +16,7 @@ pub use band_plane::BandPlane;
 pub use bits::is_set;
 pub use byte_plane::BytePlane;
 pub use colour::{Colour, Parts};
-pub use palette::Palette;
+pub use palette::{Palette, REGISTERS};
 pub use picture::{Picture, PictureFault, PictureReason};
 pub use plane::Plane;
 pub use ppm::{PpmFault, PpmReason, read_ppm, write_ppm, write_ppm_colours};

@@ -3,9 +3,13 @@
 ghost use Rattle.std.specs.Prelude.{◌≡◌, ◌<◌, None, Some, MatchResult, nat_lt};
 ghost use Rattle.std.specs.List.{list_all};
 ghost use Rattle.sixel_picture.specs.Pictures.{IsPicture, picture_fault, picture_of_parts, register_of};
+ghost use Rattle.sixel_picture.specs.Pictures.{register_count};
 
-use crate::palette::{Palette, greatest};
+use crate::palette::{Palette, REGISTERS, greatest};
 use std::marker::Model;
+
+/// The greatest side of a picture, in pixels.
+pub(crate) const MOST_SIDE: u32 = 2048;
 
 /// A picture of 1 to 2,048 by 1 to 2,048 pixels, each in a register that has a colour.
 ///
@@ -20,13 +24,13 @@ pub struct Picture {
 }
 
 impl Model for Picture {
-    ghost use Rattle.sixel_picture.specs.Pictures.{IsPicture, PictureValue, picture_of_parts};
+    ghost use Rattle.sixel_picture.specs.Pictures.{IsPicture, PictureValue, picture_of_parts, register_count};
 
     ghost Value = { PictureValue };
 
     ghost view = { λ p. picture_of_parts p.width p.height p.palette p.registers.items };
 
-    ghost invariant = { λ p. IsPicture 16 (picture_of_parts p.width p.height p.palette p.registers.items) };
+    ghost invariant = { λ p. IsPicture register_count (picture_of_parts p.width p.height p.palette p.registers.items) };
 }
 
 /// Why parts make no picture. Where several reasons apply, the first of them in this order is answered.
@@ -52,16 +56,16 @@ pub struct PictureFault {
 
 /// Whether each register is below 16.
 fn all_below(registers: &[u8]) -> bool
-    ensures { result ≡ list_all (λ r. nat_lt r 16) registers.now }
+    ensures { result ≡ list_all (λ r. nat_lt r register_count) registers.now }
 {
-    greatest(registers) < 16
+    (greatest(registers) as usize) < REGISTERS
 }
 
 /// The first reason why these parts make no picture.
 fn reason_of(width: u32, height: u32, palette: &Palette, registers: &[u8]) -> Option<PictureReason>
-    ensures { result ≡ picture_fault 16 width height palette.now registers.now }
+    ensures { result ≡ picture_fault register_count width height palette.now registers.now }
 {
-    if width < 1 || width > 2048 || height < 1 || height > 2048 {
+    if width < 1 || width > MOST_SIDE || height < 1 || height > MOST_SIDE {
         Some(PictureReason::Size)
     } else if registers.len() != (width * height) as usize {
         Some(PictureReason::Count)
@@ -83,8 +87,8 @@ impl Picture {
         registers: Vec<u8>,
     ) -> Result<Picture, PictureFault>
         ensures reason { MatchResult result
-            (λ p. picture_fault 16 width height palette registers.items ≡ None)
-            (λ f. picture_fault 16 width height palette registers.items ≡ Some f.reason) }
+            (λ p. picture_fault register_count width height palette registers.items ≡ None)
+            (λ f. picture_fault register_count width height palette registers.items ≡ Some f.reason) }
         ensures parts { MatchResult result
             (λ p. p ≡ picture_of_parts width height palette registers.items)
             (λ f. (f.palette ≡ palette) × (f.registers ≡ registers)) }
@@ -106,7 +110,7 @@ impl Picture {
 
     /// The picture of parts that make one, which aren't looked at again.
     pub(crate) fn of_parts(width: u32, height: u32, palette: Palette, registers: Vec<u8>) -> Picture
-        requires { picture_fault 16 width height palette registers.items ≡ None }
+        requires { picture_fault register_count width height palette registers.items ≡ None }
         ensures { result ≡ picture_of_parts width height palette registers.items }
     {
         // A call that does nothing: its contract says that the colours are in range.
@@ -122,7 +126,7 @@ impl Picture {
     /// The width in pixels.
     pub fn width(&self) -> u32
         ensures same { result ≡ self.now.width }
-        ensures picture { IsPicture 16 self.now }
+        ensures picture { IsPicture register_count self.now }
     {
         self.width
     }
@@ -130,7 +134,7 @@ impl Picture {
     /// The height in pixels.
     pub fn height(&self) -> u32
         ensures same { result ≡ self.now.height }
-        ensures picture { IsPicture 16 self.now }
+        ensures picture { IsPicture register_count self.now }
     {
         self.height
     }
@@ -138,7 +142,7 @@ impl Picture {
     /// The colours of the registers.
     pub fn palette(&self) -> &Palette
         ensures same { result.now ≡ self.now.palette }
-        ensures picture { IsPicture 16 self.now }
+        ensures picture { IsPicture register_count self.now }
     {
         &self.palette
     }
@@ -148,7 +152,7 @@ impl Picture {
         requires inside_x { x < self.now.width }
         requires inside_y { y < self.now.height }
         ensures same { result ≡ register_of self.now x y }
-        ensures picture { IsPicture 16 self.now }
+        ensures picture { IsPicture register_count self.now }
     {
         self.registers[y as usize * self.width as usize + x as usize]
     }
@@ -156,7 +160,7 @@ impl Picture {
     /// The registers of the pixels, row by row.
     pub(crate) fn registers(&self) -> &[u8]
         ensures same { result.now ≡ self.now.registers }
-        ensures picture { IsPicture 16 self.now }
+        ensures picture { IsPicture register_count self.now }
     {
         &self.registers
     }

@@ -3,7 +3,7 @@
 ghost use Rattle.std.specs.Prelude.{◌≡◌, ◌<◌, ◌≤◌, ◌+◌, ◌*◌, ℕ, Some, IfOk, IsTrue, map};
 ghost use Rattle.std.specs.Int.{bit_at};
 ghost use Rattle.sixel_picture.specs.Sheets.{Sheet, IsFull, blank_sheet, cell, first_blank, painted_sheet};
-ghost use Rattle.sixel_picture.specs.Pictures.{is_side};
+ghost use Rattle.sixel_picture.specs.Pictures.{is_side, register_count};
 
 use std::alloc::{AllocError, Global};
 
@@ -34,7 +34,7 @@ pub trait Plane: Drop {
     /// set. A band is six rows, band 0 at the top, and bit 0 is its uppermost row.
     fn paint_run(&mut self, column: u32, band: u32, count: u32, bits: u8, register: u8)
         requires bits { bits ≤ 63 }
-        requires register { register < 16 }
+        requires register { register < register_count }
         requires columns { column + count ≤ (sheet self.old).width }
         requires rows { (k : ℕ) → k < 6 → bit_at bits k ≡ 1 → 6 * band + k < (sheet self.old).height }
         ensures { sheet self.new ≡ painted_sheet (sheet self.old) column band count bits register };

@@ -8,13 +8,13 @@ use Rattle.sixel_terminal.specs.declared.choices.Choices.{Choices}
 use Rattle.sixel_terminal.specs.declared.choices.Ground.{Ground}
 use Rattle.sixel_terminal.specs.declared.choices.Ground.TheVariants.{Kept, Filled}
 use Rattle.sixel_terminal.specs.Displays.{Display, IsGroundBelow, IsInClass, registers_of}
-use Rattle.sixel_terminal.specs.Limits.{display_of, is_ground_below, is_screen_side, terminal_fault}
+use Rattle.sixel_terminal.specs.Limits.{display_of, is_ground_below, is_screen_side, terminal_fault, most_screen_side}
 
 -- it is in the class, and its screen is no larger than a terminal that runs may have
 pub record Runs (t : Display) : Type 0 where
   pub in_class : IsInClass 16 t
-  pub width : t.choices.screen_width ≤ 4096
-  pub height : t.choices.screen_height ≤ 4096
+  pub width : t.choices.screen_width ≤ most_screen_side
+  pub height : t.choices.screen_height ≤ most_screen_side
 
 passed : {A : Type 0} (b : Bool) (x : A) (o : Option A) → (if not b then Some x else o) ≡ None
     → (b ≡ true) × (o ≡ None)
@@ -48,8 +48,8 @@ runs choices colours screen h =
     let sides = and_parts (is_screen_side choices.screen_width && is_screen_side choices.screen_height)
     (length screen == choices.screen_width * choices.screen_height) pixels.0 in
     let both = and_parts (is_screen_side choices.screen_width) (is_screen_side choices.screen_height) sides.0 in
-    let across = and_parts (nat_le 1 choices.screen_width) (nat_le choices.screen_width 4096) both.0 in
-    let down = and_parts (nat_le 1 choices.screen_height) (nat_le choices.screen_height 4096) both.1 in
+    let across = and_parts (nat_le 1 choices.screen_width) (nat_le choices.screen_width most_screen_side) both.0 in
+    let down = and_parts (nat_le 1 choices.screen_height) (nat_le choices.screen_height most_screen_side) both.1 in
     let at = and_parts (nat_lt choices.origin_x choices.screen_width)
     (nat_lt choices.origin_y choices.screen_height) origin.0 in
     record {

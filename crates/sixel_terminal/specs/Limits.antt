@@ -2,6 +2,7 @@
 use Rattle.std.specs.Prelude.{◌==◌, ◌&&◌, ℕ, ◌*◌, Bool, true, not, nat_le, nat_lt, Option, Some, None}
 use Rattle.std.specs.Prelude.{List, length, if◌then◌else◌}
 use Rattle.sixel_picture.specs.declared.colour.Parts.{Parts}
+use Rattle.sixel_picture.specs.Ppm.{most_file_side}
 use Rattle.sixel_terminal.specs.declared.choices.Choices.{Choices}
 use Rattle.sixel_terminal.specs.declared.choices.Ground.{Ground}
 use Rattle.sixel_terminal.specs.declared.choices.Ground.TheVariants.{Kept, Filled}
@@ -19,8 +20,12 @@ abbrev pub is_ground_below : ℕ → Ground → Bool
 is_ground_below registers Kept = true
 is_ground_below registers (Filled register) = nat_lt register registers
 
+-- the greatest side of a screen, in pixels: a screen can be written as a file
+abbrev pub most_screen_side : ℕ
+most_screen_side = most_file_side
+
 abbrev pub is_screen_side : ℕ → Bool
-is_screen_side n = nat_le 1 n && nat_le n 4096
+is_screen_side n = nat_le 1 n && nat_le n most_screen_side
 
 -- the sides are in range, and there is one colour for each pixel
 abbrev pub is_screen : Choices → List Parts → Bool

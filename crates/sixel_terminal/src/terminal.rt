@@ -12,6 +12,9 @@ use crate::choices::{Choices, Ground};
 use sixel_picture::Colour;
 use std::marker::Model;
 
+/// The greatest side of a screen, in pixels.
+const MOST_SCREEN_SIDE: u32 = 4096;
+
 /// Why parts make no terminal, in the order of checking.
 #[derive(Clone, Copy, Debug, PartialEq, Eq)]
 pub enum TerminalReason {
@@ -91,9 +94,9 @@ fn fault_of(choices: Choices, colours: &[Colour], screen: &[Colour]) -> Option<T
         return Some(TerminalReason::Tall);
     }
     let sides = choices.screen_width >= 1
-        && choices.screen_width <= 4096
+        && choices.screen_width <= MOST_SCREEN_SIDE
         && choices.screen_height >= 1
-        && choices.screen_height <= 4096;
+        && choices.screen_height <= MOST_SCREEN_SIDE;
     if !sides || screen.len() != (choices.screen_width * choices.screen_height) as usize {
         return Some(TerminalReason::Screen);
     }

@@ -14,10 +14,7 @@ ghost use Rattle.sixel.specs.Texts.{list_text};
 use crate::fault::RunFault;
 use crate::lines::event_line;
 use crate::task::Status;
-use sixel_grammar::{Block, Completed, DeviceFault, Placed, Reader, Sink, Source};
-
-/// How many bytes are read at a time.
-const PIECE: usize = 65_536;
+use sixel_grammar::{Block, Completed, DeviceFault, PIECE, Placed, Reader, Sink, Source};
 
 /// Room for 12 bytes of lines a byte read. A data byte gives up to 19, so a piece of them leaves in two writes.
 type Lines = Block<786_432>;

@@ -6,7 +6,7 @@ ghost use Rattle.sixel_picture.specs.PpmReading.{with_colour};
 ghost use Rattle.sixel_picture.specs.PpmColours.{Fills, Numbers};
 
 use crate::colour::Colour;
-use crate::palette::Palette;
+use crate::palette::{Palette, REGISTERS};
 
 /// The colours seen so far: they have the registers from 0 on.
 #[derive(Clone, Copy, Debug, PartialEq, Eq)]
@@ -34,7 +34,7 @@ impl Colours {
             return Some(index as u8);
         }
         let register = self.count;
-        if register >= 16 {
+        if register as usize >= REGISTERS {
             return None;
         }
         self.palette.set(register, colour);

@@ -6,6 +6,7 @@ ghost use Rattle.sixel_picture.specs.PpmReading.{is_space};
 ghost use Rattle.sixel_picture.specs.PpmHeader.{advanced, begun, ended, ends, filled, grown, in_comment, in_digits};
 ghost use Rattle.sixel_picture.specs.PpmHeader.{in_filler, is_within, refused, step, wanted_byte};
 
+use crate::picture::MOST_SIDE;
 use crate::ppm::PpmReason;
 
 /// How many bytes a header has at most.
@@ -197,12 +198,12 @@ impl Progress {
     {
         let value = self.value;
         match field {
-            Field::Width if is_within(value, 2048) => Progress {
+            Field::Width if is_within(value, MOST_SIDE) => Progress {
                 width: value,
                 ..self
             }
             .in_filler(Field::Height, byte),
-            Field::Height if is_within(value, 2048) => Progress {
+            Field::Height if is_within(value, MOST_SIDE) => Progress {
                 height: value,
                 ..self
             }
@@ -242,7 +243,7 @@ fn grown(value: u32, digit: u8) -> u32
     requires { IsTrue (is_digit digit) }
     ensures { result ≡ grown value digit }
 {
-    if value > 2048 {
+    if value > MOST_SIDE {
         value
     } else {
         10 * value + (digit - b'0') as u32

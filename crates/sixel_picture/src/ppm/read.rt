@@ -10,11 +10,8 @@ use crate::picture::Picture;
 use crate::ppm::header::{Frame, Next, Progress};
 use crate::ppm::samples::Samples;
 use crate::ppm::{PpmFault, PpmReason};
-use sixel_grammar::Source;
+use sixel_grammar::{PIECE, Source};
 use std::alloc::Global;
-
-/// How many bytes are asked of a source at once.
-const PIECE: usize = 65_536;
 
 /// What a piece makes of a header.
 #[derive(Clone, Copy, Debug, PartialEq, Eq)]
