@@ -13,7 +13,7 @@ use Rattle.sixel_grammar.specs.FixedText.{CanWrite, CanWriteAll}
 use Rattle.sixel_grammar.specs.Reading.{Explains, ExplainsAlways, failures_after}
 use Rattle.sixel_grammar.specs.declared.fault.InputFault.{InputFault}
 use Rattle.sixel_grammar.specs.declared.fault.InputFault.TheVariants.{Grammar, OutOfMemory, Read}
-use Rattle.sixel_grammar.specs.Prefix.{CompleteIn}
+use Rattle.sixel_grammar.specs.Fronts.{CompleteIn}
 use Rattle.sixel_grammar.specs.Spelling.{IsSpellable}
 use Rattle.sixel_grammar.specs.Standing as grammar
 use Rattle.sixel_grammar.specs.declared.command.Completed.{Completed}

@@ -5,7 +5,7 @@ use Rattle.sixel_grammar.specs.declared.command.Placed.{Placed}
 use Rattle.sixel_grammar.specs.declared.fault.InputFault.{InputFault}
 use Rattle.sixel_grammar.specs.declared.fault.InputFault.TheVariants.{Grammar, OutOfMemory, Read}
 use Rattle.sixel_grammar.specs.Document.{events_of}
-use Rattle.sixel_grammar.specs.Prefix.{CompleteIn}
+use Rattle.sixel_grammar.specs.Fronts.{CompleteIn}
 use Rattle.sixel_picture.specs.Events.{raster_of}
 use Rattle.sixel_picture.specs.Positions.{HoldsAtPosition}
 use Rattle.sixel_picture.specs.Rules.{BreaksNone, raster_before}

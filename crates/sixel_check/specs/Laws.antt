@@ -5,7 +5,7 @@ use Rattle.sixel_grammar.specs.declared.command.Event.{Event}
 use Rattle.sixel_grammar.specs.declared.command.Event.TheVariants.{Start, Step, Finish}
 use Rattle.sixel_grammar.specs.declared.command.Placed.{Placed}
 use Rattle.sixel_grammar.specs.Document.{AreWhole, events_of}
-use Rattle.sixel_grammar.specs.Prefix.{CompleteIn}
+use Rattle.sixel_grammar.specs.Fronts.{CompleteIn}
 use Rattle.sixel_picture.specs.Colours.{palette_at}
 use Rattle.sixel_picture.specs.Events.{Attributes, is_data_command, is_in_box, is_painting, raster_of}
 use Rattle.sixel_picture.specs.Pictures.{PictureValue, register_count}

@@ -1,4 +1,4 @@
-pub mod Rows
+pub mod WorkedTexts
 pub mod Ranges
 pub mod Bits
 pub mod Parted

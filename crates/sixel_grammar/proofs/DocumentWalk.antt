@@ -14,7 +14,7 @@ use Rattle.sixel_grammar.specs.Bytes.{is_filler, is_data, introducer}
 use Rattle.sixel_grammar.specs.Number.{Fields}
 use Rattle.sixel_grammar.specs.Spelling.{Spells, SpellsCommand, is_open_ended}
 use Rattle.sixel_grammar.specs.Document.{AreFiller, Piece, IsPiece, bytes_of, joined, events_in, AreRest, AreWhole, Parses}
-use Rattle.sixel_grammar.specs.Prefix.{completed_at, IsViable}
+use Rattle.sixel_grammar.specs.Fronts.{completed_at, IsViable}
 use Rattle.sixel_grammar.specs.Faults.{Form, NothingYet, Introducing, Parameters, LastSeparator, NoCommand, RepeatNumber, RasterFields, ColourFields, Terminating, Ended, EndsIn, AreSteps, AreBegun, IsClosed}
 use Rattle.sixel_grammar.specs.Next.{begin, within, next_of}
 use Rattle.sixel_grammar.proofs.Walk.{Stamp, stamp, State, state, after, walk, walk-none, walk-then, idle, within-some, number_walk, fields_walk, repeat-digits, raster-digits, raster-separators, colour-digits, colour-separators, parameters-digits, parameters-separators, is_data-bits, Ready, Rests, command-reaches}

@@ -1,10 +1,10 @@
--- Each front of a viable prefix is viable.
+-- Each front of what is viable is viable.
 use Rattle.std.proofs.Common.{◌≡◌, ℕ, ◌+◌, List, [], ◌∷◌, ◌++◌, length, Option, Some, None, refl, sym, ap, subst, ◌∙◌, append_assoc, inl, inr}
 use Rattle.std.specs.Prelude.{◌⊎◌}
 use Rattle.std.proofs.lemmas.List.{append-nil}
 use Rattle.sixel_grammar.specs.declared.command.Event.{Event}
 use Rattle.sixel_grammar.specs.declared.command.Placed.{Placed}
-use Rattle.sixel_grammar.specs.Prefix.{IsViable}
+use Rattle.sixel_grammar.specs.Fronts.{IsViable}
 use Rattle.sixel_grammar.specs.Faults.{Form, NothingYet, EndsIn}
 use Rattle.sixel_grammar.specs.Next.{next_of}
 use Rattle.sixel_grammar.proofs.Advance.{GoesTo, advances}

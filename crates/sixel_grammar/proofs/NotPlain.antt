@@ -10,7 +10,7 @@ use Rattle.sixel_grammar.specs.Bytes.{is_filler, is_data, is_digit}
 use Rattle.sixel_grammar.specs.Faults.{Form, NothingYet, Introducing, Parameters, LastSeparator, NoCommand, RepeatNumber, RasterFields, ColourFields, Terminating, Ended, EndsIn}
 use Rattle.sixel_grammar.specs.Next.{with_digit, number_next, begin, within, settled, chosen, next_of, only_grown, makes_columns}
 use Rattle.sixel_grammar.specs.Pending.{form_of}
-use Rattle.sixel_grammar.specs.Prefix.{CompleteIn}
+use Rattle.sixel_grammar.specs.Fronts.{CompleteIn}
 use Rattle.sixel_grammar.specs.Standing.{StandsAfter, are_plain, is_columns, opened_after}
 use Rattle.sixel_grammar.proofs.Advance.{GoesTo, advances}
 use Rattle.sixel_grammar.proofs.Stands.{completed_events, handed, read_complete}

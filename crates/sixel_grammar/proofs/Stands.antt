@@ -13,7 +13,7 @@ use Rattle.sixel_grammar.specs.declared.fault.Reason.{Reason}
 use Rattle.sixel_grammar.specs.declared.fault.Reason.TheVariants.{Truncated, TooLong}
 use Rattle.sixel_grammar.specs.declared.reader.Reader.{Reader}
 use Rattle.sixel_grammar.specs.Document.{IsDocument}
-use Rattle.sixel_grammar.specs.Prefix.{CompleteIn, IsViable}
+use Rattle.sixel_grammar.specs.Fronts.{CompleteIn, IsViable}
 use Rattle.sixel_grammar.specs.Faults.{Form, NothingYet, Introducing, Parameters, LastSeparator, NoCommand, RepeatNumber, RasterFields, ColourFields, Terminating, Ended, EndsIn, IsFaultOf, refusal, is_idle}
 use Rattle.sixel_grammar.specs.Next.{begin, within, chosen, next_of}
 use Rattle.sixel_grammar.specs.Bytes.{is_data}

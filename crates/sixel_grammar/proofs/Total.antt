@@ -9,7 +9,7 @@ use Rattle.sixel_grammar.specs.declared.command.Placed.{Placed}
 use Rattle.sixel_grammar.specs.declared.fault.Fault.{Fault}
 use Rattle.sixel_grammar.specs.declared.fault.Reason.TheVariants.{Truncated, TooLong}
 use Rattle.sixel_grammar.specs.Document.{Piece, bytes_of, events_in, events_of, placed_from, AreWhole, Document, IsDocument}
-use Rattle.sixel_grammar.specs.Prefix.{CompleteIn, IsViable}
+use Rattle.sixel_grammar.specs.Fronts.{CompleteIn, IsViable}
 use Rattle.sixel_grammar.specs.Faults.{Form, NothingYet, Introducing, Parameters, LastSeparator, NoCommand, RepeatNumber, RasterFields, ColourFields, Terminating, Ended, AreFront, EndsIn, IsFaultOf, Precede, refusal}
 use Rattle.sixel_grammar.specs.Next.{next_of}
 use Rattle.sixel_grammar.proofs.Advance.{GoesTo, advances}

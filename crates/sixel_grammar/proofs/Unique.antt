@@ -11,7 +11,7 @@ use Rattle.sixel_grammar.specs.declared.command.Placed.{Placed}
 use Rattle.sixel_grammar.specs.declared.fault.Reason.{Reason}
 use Rattle.sixel_grammar.specs.declared.fault.Fault.{Fault}
 use Rattle.sixel_grammar.specs.Document.{Piece, bytes_of, joined, events_in, placed_from, AreRest, AreWhole, Parses, Document, IsDocument}
-use Rattle.sixel_grammar.specs.Prefix.{completed_at, complete_from, CompleteIn, IsViable}
+use Rattle.sixel_grammar.specs.Fronts.{completed_at, complete_from, CompleteIn, IsViable}
 use Rattle.sixel_grammar.specs.declared.command.Event.TheVariants.{Start, Step, Finish}
 use Rattle.sixel_grammar.specs.Spelling.{is_open_ended}
 use Rattle.sixel_grammar.specs.Faults.{Form, NothingYet, Ended, EndsIn, IsClosed, refusal, Stops, IsTooLong, IsRefused, IsFaultOf}

@@ -12,7 +12,7 @@ use Rattle.sixel_grammar.specs.declared.command.Placed.{Placed}
 use Rattle.sixel_grammar.specs.Bytes.{introducer}
 use Rattle.sixel_grammar.specs.Spelling.{Spells, is_open_ended}
 use Rattle.sixel_grammar.specs.Document.{AreFiller, Piece, IsPiece, bytes_of, joined, events_in, placed_from, AreWhole}
-use Rattle.sixel_grammar.specs.Prefix.{tails, completed_at, complete_from, CompleteIn}
+use Rattle.sixel_grammar.specs.Fronts.{tails, completed_at, complete_from, CompleteIn}
 use Rattle.sixel_grammar.specs.Faults.{Form, NothingYet, Introducing, Parameters, LastSeparator, NoCommand, RepeatNumber, RasterFields, ColourFields, Terminating, Ended, EndsIn, IsClosed, AreBegun}
 use Rattle.sixel_grammar.proofs.Numbers.{no_digits, fields-separator}
 use Rattle.sixel_grammar.proofs.Pieces.{joined-append, said-append, all-append, begun-step, begun-finish, start_of}

@@ -11,9 +11,9 @@ use Rattle.sixel_grammar.specs.Bytes.{is_digit, is_body, escape, separator, repe
 use Rattle.sixel_grammar.specs.Number.{NumberText, Fields}
 use Rattle.sixel_grammar.specs.Spelling.{is_open_ended}
 use Rattle.sixel_grammar.specs.Document.{AreFiller, Piece, IsPiece, joined, events_in, placed_from, AreWhole, IsDocument, most_bytes}
-use Rattle.sixel_grammar.specs.Prefix.{IsViable}
+use Rattle.sixel_grammar.specs.Fronts.{IsViable}
 
--- what is open where a viable prefix ends; of fields, the numbers before the last `;` and the one after it
+-- what is open where a viable front ends; of fields, the numbers before the last `;` and the one after it
 pub data Form : Type 0 where
   -- nothing yet
   NothingYet : Form

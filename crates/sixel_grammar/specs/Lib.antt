@@ -2,7 +2,7 @@ pub mod Bytes
 pub mod Number
 pub mod Spelling
 pub mod Document
-pub mod Prefix
+pub mod Fronts
 pub mod Faults
 pub mod Devices
 pub mod Blocks

@@ -10,7 +10,7 @@ ghost use Rattle.sixel_grammar.specs.Document.{AreWhole, Document, IsDocument, P
 ghost use Rattle.sixel_grammar.specs.Faults.{AreFront, IsFaultOf};
 ghost use Rattle.sixel_grammar.specs.FixedText.{CanWrite, CanWriteAll, fixed_places, fixed_text};
 ghost use Rattle.sixel_grammar.specs.Lengths.{most_length};
-ghost use Rattle.sixel_grammar.specs.Prefix.{CompleteIn, IsViable};
+ghost use Rattle.sixel_grammar.specs.Fronts.{CompleteIn, IsViable};
 ghost use Rattle.sixel_grammar.specs.Spelling.{IsEvent, IsSpellable, Spells, fixed_spelling};
 ghost use Rattle.sixel_grammar.specs.Standing.{StandsAfter};
 
