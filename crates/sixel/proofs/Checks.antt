@@ -100,7 +100,8 @@ checked_unwritten (Some bytes) v had has given put = verdict_unwritten bytes v h
 
 -- a check that was refused for want of memory had a box to make
 pub grown : (told : Option (List ℕ)) (fault : InputFault) (y : RunFault) (r : Result Status RunFault)
-    → IfSome told (λ bytes. (let k : Result Verdict InputFault = Err fault in k) ≡ Err input.OutOfMemory → MayGrowIn bytes)
+    → IfSome told
+    (λ bytes. (let k : Result Verdict InputFault = Err fault in k) ≡ Err input.OutOfMemory → MayGrowIn bytes)
     → r ≡ Err y → y ≡ of_input fault → r ≡ Err OutOfMemory → IfSome told MayGrowIn
 grown None fault y r h e f o = tt
 grown (Some bytes) (input.Grammar k) y r h e f o = cc

@@ -1,5 +1,6 @@
 -- What an entry's getters read.
-use Rattle.std.proofs.Common.{◌||◌, ◌≡◌, ◌∙◌, ◌≤◌, ℕ, Bool, false, List, [], Option, Some, None, arith, codes, refl, slice_index, subst, sym, ap, ap₂}
+use Rattle.std.proofs.Common.{◌||◌, ◌≡◌, ◌∙◌, ◌≤◌, ℕ, Bool, false, List, [], Option, Some, None, arith, codes, refl}
+use Rattle.std.proofs.Common.{slice_index, subst, sym, ap, ap₂}
 use Rattle.std.specs.Prelude.{option_map, Box, IfSome, Result, Ok, Err}
 use Rattle.std.specs.Box.{box_value}
 use Rattle.std.specs.Str.Parse.{ParsesUnsigned}

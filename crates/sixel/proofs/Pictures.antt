@@ -1,5 +1,6 @@
 -- What a run of `render` owes.
-use Rattle.std.proofs.Common.{◌≡◌, ◌∙◌, ◌⊎◌, ℕ, Bool, true, false, List, [], take, drop, Option, Some, None, refl, sym, ap, inl, inr}
+use Rattle.std.proofs.Common.{◌≡◌, ◌∙◌, ◌⊎◌, ℕ, Bool, true, false, List, [], take, drop, Option, Some, None, refl, sym}
+use Rattle.std.proofs.Common.{ap, inl, inr}
 use Rattle.std.specs.Prelude.{Result, Ok, Err, IfSome}
 use Rattle.std.proofs.lemmas.List.{take-append-drop}
 use Rattle.sixel_grammar.specs.declared.command.Placed.{Placed}
@@ -57,8 +58,10 @@ either bytes text (Err NotRgb) g =
     inr (record { events = g.0; document = g.1; verdict = g.2.0; is = g.2.1; output = g.2.2 })
 either bytes text (Err OutOfMemory) g =
     inr (record { events = g.0; document = g.1; verdict = g.2.0; is = g.2.1; output = g.2.2 })
-either bytes text (Err Read) g = inr (record { events = g.0; document = g.1; verdict = g.2.0; is = g.2.1; output = g.2.2 })
-either bytes text (Err Write) g = inr (record { events = g.0; document = g.1; verdict = g.2.0; is = g.2.1; output = g.2.2 })
+either bytes text (Err Read) g = inr
+    (record { events = g.0; document = g.1; verdict = g.2.0; is = g.2.1; output = g.2.2 })
+either bytes text (Err Write) g = inr
+    (record { events = g.0; document = g.1; verdict = g.2.0; is = g.2.1; output = g.2.2 })
 
 both_refuse : (bytes : List ℕ) (first second : Text) (a b : Result Status RunFault) → Refuses bytes first a
     → Refuses bytes second b → (first ≡ second) × (a ≡ b)
@@ -114,7 +117,8 @@ render-gives bytes =
 
 -- ---- what is written
 
-picture_rendered : (bytes : List ℕ) (p : PictureValue) (had has : Option (List ℕ)) → CheckAnswers (Ok (Portable p)) bytes
+picture_rendered : (bytes : List ℕ) (p : PictureValue) (had has : Option (List ℕ))
+    → CheckAnswers (Ok (Portable p)) bytes
     → WritesPpm {A = Unit {0}} (Ok tt) had has p.width p.height (colours_of p)
     → WroteBy (RenderGives bytes) WroteNothing (Ok Done) had has
 picture_rendered bytes p had has given put =
@@ -154,7 +158,8 @@ unrendered None p fault had has given put = tt
 unrendered (Some bytes) p fault had has given put = picture_unrendered bytes p fault had has given put
 
 -- nothing is written of a broken picture
-pub broken_rendered : (a : Option (List ℕ)) (f : Finding) (had : Option (List ℕ)) → IfSome a (CheckAnswers (Ok (Broken f)))
+pub broken_rendered : (a : Option (List ℕ)) (f : Finding) (had : Option (List ℕ))
+    → IfSome a (CheckAnswers (Ok (Broken f)))
     → IfSome a (λ bytes. WroteBy (RenderGives bytes) WroteNothing (Ok (status.Broken f)) had had)
 broken_rendered None f had given = tt
 broken_rendered (Some bytes) f had given =

@@ -75,7 +75,8 @@ gives-once Encode bytes first second a b g h = encode-once bytes first second a 
 gives-once (Show showing fill selects width height) bytes first second a b g h =
     show-once (show_terminal (show_choices showing fill selects width height)) bytes first second a b g h
 
-pub gives : (task : Task) (bytes : List ℕ) → (text : Text) × (answer : Result Status RunFault) × Gives task bytes text answer
+pub gives : (task : Task) (bytes : List ℕ)
+    → (text : Text) × (answer : Result Status RunFault) × Gives task bytes text answer
 gives Listing bytes = list-gives bytes
 gives Check bytes = check-gives bytes
 gives Render bytes = render-gives bytes

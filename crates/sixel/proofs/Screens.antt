@@ -1,5 +1,6 @@
 -- What a run of `show` owes.
-use Rattle.std.proofs.Common.{◌≡◌, ◌∙◌, ℕ, ◌+◌, ◌*◌, Bool, true, false, List, [], ◌∷◌, ◌++◌, length, map, take, drop, Option, arith, refl, sym, ap, subst, inl, inr}
+use Rattle.std.proofs.Common.{◌≡◌, ◌∙◌, ℕ, ◌+◌, ◌*◌, Bool, true, false, List, [], ◌∷◌, ◌++◌, length, map, take, drop}
+use Rattle.std.proofs.Common.{Option, arith, refl, sym, ap, subst, inl, inr}
 use Rattle.std.specs.Prelude.{Result, Ok, Err, IsTrue, IsFalse}
 use Rattle.std.specs.Io.KnownBytes.{Appends}
 use Rattle.std.specs.List.{range_with_len}
@@ -45,13 +46,17 @@ show-once t bytes first second (Ok s) (Ok r) g h = (
 )
 show-once t bytes first second (Ok s) (Err (Grammar f)) g h = absurd (fault_no_document bytes f h.1 (g.1.0, g.1.1))
 show-once t bytes first second (Ok s) (Err NotRgb) g h =
-    absurd (not-both _ _ (ap (λ es. are_rgb (screen_on t es)) (same-screen t bytes g.1.0 h.1.0 g.1.1 h.1.1)) g.1.2 h.1.2)
+    absurd (not-both _ _
+    (ap (λ es. are_rgb (screen_on t es)) (same-screen t bytes g.1.0 h.1.0 g.1.1 h.1.1)) g.1.2 h.1.2)
 show-once t bytes first second (Err NotRgb) (Ok s) g h =
-    absurd (not-both _ _ (ap (λ es. are_rgb (screen_on t es)) (same-screen t bytes h.1.0 g.1.0 h.1.1 g.1.1)) h.1.2 g.1.2)
+    absurd (not-both _ _
+    (ap (λ es. are_rgb (screen_on t es)) (same-screen t bytes h.1.0 g.1.0 h.1.1 g.1.1)) h.1.2 g.1.2)
 show-once t bytes first second (Err NotRgb) (Err NotRgb) g h = (g.0 ∙ sym h.0, refl)
-show-once t bytes first second (Err NotRgb) (Err (Grammar f)) g h = absurd (fault_no_document bytes f h.1 (g.1.0, g.1.1))
+show-once t bytes first second (Err NotRgb) (Err (Grammar f)) g h = absurd
+    (fault_no_document bytes f h.1 (g.1.0, g.1.1))
 show-once t bytes first second (Err (Grammar f)) (Ok s) g h = absurd (fault_no_document bytes f g.1 (h.1.0, h.1.1))
-show-once t bytes first second (Err (Grammar f)) (Err NotRgb) g h = absurd (fault_no_document bytes f g.1 (h.1.0, h.1.1))
+show-once t bytes first second (Err (Grammar f)) (Err NotRgb) g h = absurd
+    (fault_no_document bytes f g.1 (h.1.0, h.1.1))
 show-once t bytes first second (Err (Grammar f)) (Err (Grammar e)) g h =
     (g.0 ∙ sym h.0, ap (λ (k : Fault). Err (Grammar k)) (fault_once bytes f e g.1 h.1))
 show-once t bytes first second (Err (Ppm reason place)) b g h = absurd g
@@ -104,7 +109,8 @@ written-begins : (t : Display) (bytes : List ℕ) (d : List Placed) (n : ℕ) �
     → IsTrue (are_rgb (screen_on t (events_of d))) → (text : Text) (answer : Result Status RunFault)
     → ShowGives t bytes text answer → BeginsWith text (take n (screen_text t (events_of d)))
 written-begins t bytes d n doc rgb text answer g =
-    let same = (show-once t bytes text (screen_text t (events_of d)) answer (Ok Done) g (refl, (d, doc, rgb, refl))).0 in (
+    let same = (show-once t bytes text (screen_text t (events_of d)) answer (Ok Done) g
+    (refl, (d, doc, rgb, refl))).0 in (
       drop n (screen_text t (events_of d)),
       same ∙ sym (take-append-drop n (screen_text t (events_of d))),
     )

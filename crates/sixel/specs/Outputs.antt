@@ -1,5 +1,6 @@
 -- What a run writes and answers.
-use Rattle.std.specs.Prelude.{◌≡◌, ◌⊎◌, ℕ, List, [], ◌≤◌, length, take, Option, Some, IfSome, IsTrue, IsFalse, Result, Ok, Err, if◌then◌else◌}
+use Rattle.std.specs.Prelude.{◌≡◌, ◌⊎◌, ℕ, List, [], ◌≤◌, length, take, Option, Some, IfSome, IsTrue, IsFalse, Result}
+use Rattle.std.specs.Prelude.{Ok, Err, if◌then◌else◌}
 use Rattle.std.specs.Io.KnownBytes.{Appends, Consumes}
 use Rattle.sixel_grammar.specs.declared.command.Placed.{Placed}
 use Rattle.sixel_grammar.specs.Devices.{one_more}
@@ -63,7 +64,8 @@ status_of (Broken finding) = status.Broken finding
 abbrev pub CheckGives : List ℕ → Text → Result Status RunFault → Type 0
 CheckGives bytes text (Ok status) =
     (events : List Placed) × Document events bytes
-    × ((verdict : Verdict) × IsVerdict register_count events verdict × (text ≡ verdict_line verdict) × (status ≡ status_of verdict))
+    × ((verdict : Verdict) × IsVerdict register_count events verdict × (text ≡ verdict_line verdict)
+    × (status ≡ status_of verdict))
 CheckGives bytes text (Err (Grammar fault)) = (text ≡ []) × IsFaultOf bytes fault
 CheckGives bytes text (Err (Ppm reason place)) = ⊥
 CheckGives bytes text (Err NotRgb) = ⊥

@@ -1,7 +1,7 @@
 -- The first blank pixel of a sheet that follows the events, and the registers of one without a blank pixel.
-use Rattle.std.proofs.Common.{◌≡◌, ◌==◌, ℕ, zero, suc, ◌+◌, ◌*◌, ◌/◌, ◌%◌, ◌<◌, ◌≤◌, true, false, ◌&&◌, cond}
-use Rattle.std.proofs.Common.{Option, Some, None, List, [], ◌∷◌, length, get_or, map, nat_le, nat_lt}
-use Rattle.std.proofs.Common.{inl, inr, refl, sym, ap, ap₂, ◌∙◌, arith}
+use Rattle.std.proofs.Common.{◌≡◌, ◌==◌, ℕ, zero, suc, ◌+◌, ◌*◌, ◌/◌, ◌%◌, ◌<◌, ◌≤◌, true, false, ◌&&◌, cond, Option}
+use Rattle.std.proofs.Common.{Some, None, List, [], ◌∷◌, length, get_or, map, nat_le, nat_lt, inl, inr, refl, sym, ap}
+use Rattle.std.proofs.Common.{ap₂, ◌∙◌, arith}
 use Rattle.std.specs.Prelude.{IsTrue, is_none, is_some, unwrap_or}
 use Rattle.std.specs.List.{position_from}
 use Rattle.std.specs.Option.{option_flatten, option_map}
@@ -13,8 +13,8 @@ use Rattle.std.proofs.lemmas.Option.{slice_get-get_or}
 use Rattle.sixel_grammar.specs.declared.command.Event.{Event}
 use Rattle.sixel_picture.specs.Events.{Attributes, is_in_box}
 use Rattle.sixel_picture.specs.Pictures.{is_side, picture_of_parts, most_side}
-use Rattle.sixel_picture.specs.Rules.{IsFirstPoint, StaysBlank, is_before, is_covered}
-use Rattle.sixel_picture.specs.Rules.{palette_left, picture_left, register_at}
+use Rattle.sixel_picture.specs.Rules.{IsFirstPoint, StaysBlank, is_before, is_covered, palette_left, picture_left}
+use Rattle.sixel_picture.specs.Rules.{register_at}
 use Rattle.sixel_picture.specs.Sheets.{Sheet, cell, first_blank, row_by_row}
 use Rattle.sixel_picture.proofs.SheetLemmas.{rows_from_index}
 use Rattle.sixel_check.specs.Judging.{IsDrawn, box_of}
@@ -163,7 +163,8 @@ blank_place s before i d f =
     )
 
 pub small : (n : ℕ) → IsTrue (is_side n) → n < 18446744073709551615
-small n h = let le : n ≤ most_side = leb-true n most_side (and_parts (nat_le 1 n) (nat_le n most_side) h).1 in omega arith
+small n h = let le : n ≤ most_side = leb-true n most_side
+    (and_parts (nat_le 1 n) (nat_le n most_side) h).1 in omega arith
 
 -- the first blank pixel is the first point of the box that no event paints, if there is any
 pub first_blank_drawn : (s : Sheet) (before : List Event) → IsDrawn s before

@@ -1,7 +1,6 @@
 -- On the rules that look at no pixel, and on the least that is broken.
 use Rattle.std.proofs.Common.{◌≡◌, ◌≢◌, ℕ, zero, suc, ◌<◌, ◌≤◌, ◌==◌, ◌&&◌, ◌⊎◌, inl, inr, Bool, true, false, Option}
-use Rattle.std.proofs.Common.{Some, None, IsTrue, IsFalse}
-use Rattle.std.proofs.Common.{List, length, get_or, refl, sym, ap, ◌∙◌, subst, arith}
+use Rattle.std.proofs.Common.{Some, None, IsTrue, IsFalse, List, length, get_or, refl, sym, ap, ◌∙◌, subst, arith}
 use Rattle.std.specs.Prelude.{IfSome, not, nat_lt, is_none, is_some, slice_get, if◌then◌else◌}
 use Rattle.std.specs.Bool.{MatchBool, then_some}
 use Rattle.std.specs.Option.{option_and_then, option_flatten, option_map_or}
@@ -16,20 +15,17 @@ use Rattle.sixel_picture.specs.declared.colour.Parts.TheVariants.{Rgb, Hls}
 use Rattle.sixel_picture.specs.Colours.{colour_in, is_colour, palette_at}
 use Rattle.sixel_picture.specs.Events.{Definition, is_painting, is_same_definition}
 use Rattle.sixel_picture.specs.Rules.{Breaks, breaks_raster_first, breaks_raster_twice, breaks_ratio, breaks_box_size}
-use Rattle.sixel_picture.specs.Rules.{breaks_register}
-use Rattle.sixel_picture.specs.Rules.{breaks_colour_value, breaks_repeat_zero, breaks_unselected, breaks_undefined}
-use Rattle.sixel_picture.specs.Rules.{breaks_redefined}
-use Rattle.sixel_picture.specs.Rules.{colour_by, colour_of, definition_of, gives_colour, is_painted_in, known, known_by}
-use Rattle.sixel_picture.specs.Rules.{palette_left, raster_before}
+use Rattle.sixel_picture.specs.Rules.{breaks_register, breaks_colour_value, breaks_repeat_zero, breaks_unselected}
+use Rattle.sixel_picture.specs.Rules.{breaks_undefined, breaks_redefined, colour_by, colour_of, definition_of}
+use Rattle.sixel_picture.specs.Rules.{gives_colour, is_painted_in, known, known_by, palette_left, raster_before}
 use Rattle.sixel_picture.proofs.LeftLemmas.{left_at, length_left}
 use Rattle.sixel_picture.proofs.PositionLemmas.{and_false}
 use Rattle.sixel_picture.specs.RuleNumbers.{raster_first_rule, outside_rule}
 use Rattle.sixel_check.specs.declared.notes.Notes.{Notes}
 use Rattle.sixel_check.specs.declared.rule.Rule.{Rule}
 use Rattle.sixel_check.specs.declared.rule.Rule.TheVariants.{RasterFirst, RasterTwice, Ratio, BoxSize, Register}
-use Rattle.sixel_check.specs.declared.rule.Rule.TheVariants.{ColourValue}
-use Rattle.sixel_check.specs.declared.rule.Rule.TheVariants.{RepeatZero, Unselected, Undefined, Redefined, Outside}
-use Rattle.sixel_check.specs.declared.rule.Rule.TheVariants.{Uncovered}
+use Rattle.sixel_check.specs.declared.rule.Rule.TheVariants.{ColourValue, RepeatZero, Unselected, Undefined, Redefined}
+use Rattle.sixel_check.specs.declared.rule.Rule.TheVariants.{Outside, Uncovered}
 use Rattle.sixel_check.specs.Breaches.{NoneBelow, is_colour_of, raster_first_in, raster_twice_in, redefined_in, rule_in}
 use Rattle.sixel_check.specs.Breaches.{undefined_in, unselected_in}
 use Rattle.sixel_check.specs.Judging.{AreNotesAfter, IsGood}

@@ -1,6 +1,6 @@
 -- On the colours that definitions give on terminals, where no rule is broken.
-use Rattle.std.proofs.Common.{◌≡◌, ◌<◌, ◌≤◌, ℕ, Bool, true, false, cond, Option, Some, None, List, [], ◌∷◌, take}
-use Rattle.std.proofs.Common.{refl, arith}
+use Rattle.std.proofs.Common.{◌≡◌, ◌<◌, ◌≤◌, ℕ, Bool, true, false, cond, Option, Some, None, List, [], ◌∷◌, take, refl}
+use Rattle.std.proofs.Common.{arith}
 use Rattle.std.specs.Prelude.{◌==◌, nat_le, unwrap_or, IfSome, IsFalse, IsSome}
 use Rattle.std.specs.List.{AllByRecursion}
 use Rattle.std.specs.Option.{option_and_then, option_map_or}
@@ -15,8 +15,7 @@ use Rattle.sixel_picture.specs.Colours.{is_colour}
 use Rattle.sixel_picture.specs.Events.{Definition, definition_where, named_by}
 use Rattle.sixel_picture.specs.Positions.{latest}
 use Rattle.sixel_picture.specs.Rules.{BreaksNone, breaks_colour_value, breaks_register, colour_by, colour_of}
-use Rattle.sixel_picture.specs.Rules.{definition_of}
-use Rattle.sixel_picture.specs.Rules.{gives_colour, known}
+use Rattle.sixel_picture.specs.Rules.{definition_of, gives_colour, known}
 use Rattle.sixel_picture.proofs.KnownLemmas.{each_before, each_there, known_is, latest_each}
 use Rattle.sixel_picture.proofs.LatestLemmas.{Gives, each_from_positions, latest_gives, latest_same, latest_then}
 use Rattle.sixel_picture.proofs.RuleLemmas.{Keeps, keeps_at}
@@ -43,7 +42,8 @@ below_count n e h = split (named_by e) h
     split (Some r) h = leb-false n r h
 
 -- a known register was named, so it is below n
-pub known_in_range : (n r i : ℕ) (events : List Event) → BreaksNone n last_rule events → known (take i events) ≡ Some r → r < n
+pub known_in_range : (n r i : ℕ) (events : List Event) → BreaksNone n last_rule events
+    → known (take i events) ≡ Some r → r < n
 known_in_range n r i events none k =
     let before : List Event = take i events in
     let g : Gives named_by before r = latest_gives named_by before r (known_is before r k).named in

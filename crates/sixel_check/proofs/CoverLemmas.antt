@@ -1,7 +1,6 @@
 -- On the box, where no rule is broken: it stands before all data, and is covered.
 use Rattle.std.proofs.Common.{◌≡◌, ◌≤◌, ℕ, Bool, true, false, ◌&&◌, ◌||◌, Option, Some, None, List, [], ◌∷◌, ◌++◌}
-use Rattle.std.proofs.Common.{length}
-use Rattle.std.proofs.Common.{take, refl, sym, ◌∙◌, arith}
+use Rattle.std.proofs.Common.{length, take, refl, sym, ◌∙◌, arith}
 use Rattle.std.specs.Prelude.{is_none, is_some, IsSome}
 use Rattle.std.proofs.lemmas.Bool.{or_right, true_from_ne_false}
 use Rattle.std.proofs.Math.Seq.{take-append_seam}
@@ -103,7 +102,8 @@ box_at_end n before eight none =
     rw (box_before before eight) (box_if_end (raster_before before) (keeps_end n before eight none).raster_first)
 
 -- a whole list in which no rule is broken has a box
-pub box_there : (n : ℕ) (events : List Event) → AreWhole events → BreaksNone n last_rule events → IsSome (raster_before events)
+pub box_there : (n : ℕ) (events : List Event) → AreWhole events → BreaksNone n last_rule events
+    → IsSome (raster_before events)
 box_there n events whole none =
     let e : EndsIn events = whole_ends events whole in
     let is : events ≡ e.front ++ Finish e.eight ∷ [] = e.is in

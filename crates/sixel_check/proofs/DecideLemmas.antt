@@ -1,6 +1,6 @@
 -- A list has some verdict: a rule is broken, or none is.
-use Rattle.std.proofs.Common.{◌≡◌, ◌==◌, ◌<◌, ◌≤◌, ◌+◌, ◌*◌, ◌⊎◌, ℕ, zero, suc, Bool, true, false, ◌&&◌, nat_lt, inl, inr}
-use Rattle.std.proofs.Common.{Option, Some, None, List, [], ◌∷◌, length, take, refl, sym, ap, subst, ◌∙◌, arith}
+use Rattle.std.proofs.Common.{◌≡◌, ◌==◌, ◌<◌, ◌≤◌, ◌+◌, ◌*◌, ◌⊎◌, ℕ, zero, suc, Bool, true, false, ◌&&◌, nat_lt, inl}
+use Rattle.std.proofs.Common.{inr, Option, Some, None, List, [], ◌∷◌, length, take, refl, sym, ap, subst, ◌∙◌, arith}
 use Rattle.std.specs.Prelude.{IsSomeAnd, IsTrue, IsFalse, slice_get}
 use Rattle.std.specs.Bool.{MatchBool}
 use Rattle.std.specs.Option.{option_map}
@@ -12,8 +12,8 @@ use Rattle.sixel_grammar.specs.Document.{events_of}
 use Rattle.sixel_picture.specs.Events.{Attributes, bits_of, columns_of, is_finish, is_in_box}
 use Rattle.sixel_picture.specs.Geometry.{band, column, falls, touches}
 use Rattle.sixel_picture.specs.Positions.{HoldsAtPosition}
-use Rattle.sixel_picture.specs.Rules.{Breaks, BreaksNone, BreaksOutside, BreaksUncovered, FallsOutside, IsFirstBroken, IsFirstPoint}
-use Rattle.sixel_picture.specs.Rules.{StaysBlank, is_before, is_covered, picture_left, raster_before}
+use Rattle.sixel_picture.specs.Rules.{Breaks, BreaksNone, BreaksOutside, BreaksUncovered, FallsOutside, IsFirstBroken}
+use Rattle.sixel_picture.specs.Rules.{IsFirstPoint, StaysBlank, is_before, is_covered, picture_left, raster_before}
 use Rattle.sixel_picture.proofs.CoverLemmas.{lies_under}
 use Rattle.sixel_picture.proofs.PositionLemmas.{holds_within}
 use Rattle.sixel_picture.proofs.RuleLemmas.{no_more_rules}
@@ -21,13 +21,15 @@ use Rattle.sixel_picture.specs.RuleNumbers.{raster_first_rule, raster_twice_rule
 use Rattle.sixel_picture.specs.RuleNumbers.{register_rule, colour_value_rule, repeat_zero_rule, unselected_rule}
 use Rattle.sixel_picture.specs.RuleNumbers.{undefined_rule, redefined_rule, outside_rule, uncovered_rule, last_rule}
 use Rattle.sixel_check.specs.declared.rule.Rule.{Rule}
-use Rattle.sixel_check.specs.declared.rule.Rule.TheVariants.{RasterFirst, RasterTwice, Ratio, BoxSize, Register, ColourValue}
-use Rattle.sixel_check.specs.declared.rule.Rule.TheVariants.{RepeatZero, Unselected, Undefined, Redefined, Outside, Uncovered}
+use Rattle.sixel_check.specs.declared.rule.Rule.TheVariants.{RasterFirst, RasterTwice, Ratio, BoxSize, Register}
+use Rattle.sixel_check.specs.declared.rule.Rule.TheVariants.{ColourValue, RepeatZero, Unselected, Undefined, Redefined}
+use Rattle.sixel_check.specs.declared.rule.Rule.TheVariants.{Outside, Uncovered}
 use Rattle.sixel_check.specs.declared.verdict.Finding.{Finding}
 use Rattle.sixel_check.specs.declared.verdict.Verdict.{Verdict}
 use Rattle.sixel_check.specs.declared.verdict.Verdict.TheVariants.{Portable, Broken}
 use Rattle.sixel_check.specs.Verdicts.{IsFinding, IsPixel, IsVerdict, capped, number_of}
-use Rattle.sixel_check.proofs.SearchLemmas.{Decided, LeastBelow, Searchable, decide_either, decide_true, first_point, least_below}
+use Rattle.sixel_check.proofs.SearchLemmas.{Decided, LeastBelow, Searchable, decide_either, decide_true, first_point}
+use Rattle.sixel_check.proofs.SearchLemmas.{least_below}
 
 -- ---- the two rules on points
 
@@ -292,12 +294,14 @@ verdict_exists registers placed =
           let held : HoldsAtPosition (Breaks registers f.holds.number) events i = f.holds.holds in
           let pixel = pixel_of registers rule.0 (take i events) held.item
           (subst (λ (n : ℕ). Breaks registers n (take i events) held.item) (sym rule.1) held.holds) in
-          let place = place_of placed i (subst (λ (n : ℕ). i < n) (length-map placed (λ (p : Placed). p.event)) f.below) in (
+          let place = place_of placed i
+          (subst (λ (n : ℕ). i < n) (length-map placed (λ (p : Placed). p.event)) f.below) in (
             Broken (record { rule = rule.0; place = place.0; pixel = pixel.0 }),
             (
               i,
               record {
-                first = subst (λ (n : ℕ). IsFirstBroken registers events n i) (sym rule.1) (first_broken registers events f);
+                first = subst (λ (n : ℕ). IsFirstBroken registers events n i) (sym rule.1)
+                    (first_broken registers events f);
                 place = place.1;
                 pixel = record { item = held.item; here = held.here; holds = pixel.1 };
               },

@@ -1,7 +1,7 @@
 -- On what is drawn of an event that breaks no rule.
-use Rattle.std.proofs.Common.{◌≡◌, ◌≢◌, ◌==◌, ◌&&◌, ◌+◌, ◌%◌, ℕ, zero, suc, ◌<◌, ◌≤◌, Bool, true, false, not, Option, Some}
-use Rattle.std.proofs.Common.{None, IsTrue, IsFalse}
-use Rattle.std.proofs.Common.{List, [], ◌∷◌, ◌++◌, arith, sym, ◌∙◌, ap, ap₂, subst, refl, ◌||◌}
+use Rattle.std.proofs.Common.{◌≡◌, ◌≢◌, ◌==◌, ◌&&◌, ◌+◌, ◌%◌, ℕ, zero, suc, ◌<◌, ◌≤◌, Bool, true, false, not, Option}
+use Rattle.std.proofs.Common.{Some, None, IsTrue, IsFalse, List, [], ◌∷◌, ◌++◌, arith, sym, ◌∙◌, ap, ap₂, subst, refl}
+use Rattle.std.proofs.Common.{◌||◌}
 use Rattle.std.specs.Prelude.{IfSome, IsSome, is_none, is_some, nat_le, if◌then◌else◌}
 use Rattle.std.specs.Option.{option_map, option_map_or, option_or}
 use Rattle.std.proofs.lemmas.Bool.{and_parts, eqb-true, eqb-false, leb-true, ne_eqb, not-false}
@@ -229,15 +229,19 @@ pub coloured_push : (n : Notes) (before : List Event) (e : Event) → AreNotesAf
     → AreColoured before → AreColoured (before ++ e ∷ [])
 coloured_push n before e a none c x y r is =
     let there =
-    coloured_there n before e x y r a none c (falls before e x y) refl (sym (register_push before e x y) ∙ is) in
-    (there.0, rw (definition_push before e r) (some_stays (definition_where (λ q. q == r) e) (definition_of before r) there.1))
+    coloured_there n before e x y r a none c (falls before e x y) refl (sym (register_push before e x y) ∙ is) in (
+      there.0,
+      rw (definition_push before e r)
+          (some_stays (definition_where (λ q. q == r) e) (definition_of before r) there.1),
+    )
 
 -- a run that fits begins at small numbers
 pub narrow : (column band count bits width height : ℕ) → IsTrue (is_side width) → IsTrue (is_side height)
     → RunFits column band count bits width height → (column < 4294967296) × (band < 4294967296)
 narrow column band count bits width height w h fits =
     let wide : width ≤ most_side = leb-true width most_side (and_parts (nat_le 1 width) (nat_le width most_side) w).1 in
-    let high : height ≤ most_side = leb-true height most_side (and_parts (nat_le 1 height) (nat_le height most_side) h).1 in
+    let high : height ≤ most_side = leb-true height most_side
+    (and_parts (nat_le 1 height) (nat_le height most_side) h).1 in
     let columns : column + count ≤ width = fits.columns in
     let low : band < height = fits.low in
     (omega (arith, wide, columns), omega (arith, high, low))

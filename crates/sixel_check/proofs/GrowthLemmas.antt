@@ -78,7 +78,8 @@ grows_among seen [] g = subst MayGrowAmong (sym (append-nil seen)) g
 grows_among seen (p ∷ ps) g =
     subst MayGrowAmong (append_assoc seen (p ∷ []) ps) (grows_among (seen ++ p ∷ []) ps (grows_before seen p g))
 
-pub grows_longer : (seen : List Placed) (o : Option Placed) → MayGrowAmong seen → MayGrowAmong (seen ++ option_to_list o)
+pub grows_longer : (seen : List Placed) (o : Option Placed) → MayGrowAmong seen
+    → MayGrowAmong (seen ++ option_to_list o)
 grows_longer seen None g = subst MayGrowAmong (sym (append-nil seen)) g
 grows_longer seen (Some p) g = grows_before seen p g
 

@@ -1,7 +1,7 @@
 -- What is noted after one event more.
 use Rattle.std.proofs.Common.{◌≡◌, ℕ, ◌+◌, ◌<◌, ◌≤◌, ◌==◌, ◌&&◌, ◌||◌, Bool, true, false, cond, min, Option, Some, None}
-use Rattle.std.proofs.Common.{IsTrue, IsFalse}
-use Rattle.std.proofs.Common.{List, [], ◌∷◌, ◌++◌, length, get_or, set, refl, sym, ap, ◌∙◌, subst, arith, replicate}
+use Rattle.std.proofs.Common.{IsTrue, IsFalse, List, [], ◌∷◌, ◌++◌, length, get_or, set, refl, sym, ap, ◌∙◌, subst}
+use Rattle.std.proofs.Common.{arith, replicate}
 use Rattle.std.specs.Prelude.{IfSome, nat_lt, nat_le, if◌then◌else◌}
 use Rattle.std.specs.Bool.{then_some}
 use Rattle.std.specs.Option.{option_and_then, option_map_or, option_or}
@@ -187,11 +187,13 @@ notes_push n before e s none =
       named_is = ap (option_or (named_by e)) s.named_is ∙ sym (latest_push named_by before e);
       palette_is = palette_push n before e s.palette_is k.register k.colour_value;
       in_range = λ r. subst (λ (o : Option Definition). IfSome o (IsGood r)) (sym (definition_push before e r))
-          (or_each (IsGood r) (definition_where (λ q. q == r) e) (definition_of before r) (defined_good e r k.register k.colour_value) (s.in_range r));
+          (or_each (IsGood r) (definition_where (λ q. q == r) e) (definition_of before r)
+          (defined_good e r k.register k.colour_value) (s.in_range r));
       registers = length_painted (is_painting e) (known_in n) n.painted ∙ s.registers;
       painted_is = λ r lt.
           painted_is (is_painting e) (known_in n) r n.painted
-          (subst (λ (m : ℕ). IfSome (known_in n) (λ q. q < m)) (sym s.registers) (known_below n.selected n.named 16 s.selected_below))
+          (subst (λ (m : ℕ). IfSome (known_in n) (λ q. q < m)) (sym s.registers)
+          (known_below n.selected n.named 16 s.selected_below))
           ∙ ap (λ (o : Option ℕ). (is_painting e && is_that r o) || get_or n.painted r false) (known_is n before s)
           ∙ ap (λ (b : Bool). (is_painting e && is_that r (known before)) || b) (s.painted_is r lt)
           ∙ sym (painted_in_push before e r);

@@ -10,10 +10,9 @@ use Rattle.sixel_picture.specs.Geometry.{band, column, covers, falls, touches}
 use Rattle.sixel_picture.specs.Positions.{any_at, any_below, earliest, latest, passes_at, since}
 use Rattle.sixel_picture.specs.Rules.{BreaksNone, BreaksOutside, BreaksUncovered, FallsOutside, StaysBlank}
 use Rattle.sixel_picture.specs.Rules.{breaks_box_size, breaks_colour_value, breaks_ratio, breaks_raster_first}
-use Rattle.sixel_picture.specs.Rules.{breaks_raster_twice}
-use Rattle.sixel_picture.specs.Rules.{breaks_redefined, breaks_register, breaks_repeat_zero, breaks_undefined}
-use Rattle.sixel_picture.specs.Rules.{breaks_unselected}
-use Rattle.sixel_picture.specs.Rules.{definition_of, is_covered, is_painted_in, known, raster_before}
+use Rattle.sixel_picture.specs.Rules.{breaks_raster_twice, breaks_redefined, breaks_register, breaks_repeat_zero}
+use Rattle.sixel_picture.specs.Rules.{breaks_undefined, breaks_unselected, definition_of, is_covered, is_painted_in}
+use Rattle.sixel_picture.specs.Rules.{known, raster_before}
 use Rattle.sixel_picture.proofs.RuleLemmas.{Keeps, none_of_none, none_push}
 use Rattle.sixel_picture.specs.RuleNumbers.{last_rule}
 use Rattle.sixel_check.specs.Laws.{OnePixelBreaksNone, one_pixel}

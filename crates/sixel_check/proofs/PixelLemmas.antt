@@ -37,7 +37,8 @@ breach_outside before e s pixel d none first = record {
 pub none_outside : (before : List Event) (e : Event) (s : Sheet) → IsDrawn s before → NoneBelow outside_rule before e
     → IsFirstIfAny (FallsOutside before e (box_of s)) None → NoneBelow uncovered_rule before e
 unfolding Breaks
-none_outside before e s d none first = none_more before e outside_rule none (keeps_inside before e (box_of s) d.box first)
+none_outside before e s d none first = none_more before e outside_rule none
+    (keeps_inside before e (box_of s) d.box first)
 
 pub breach_uncovered : (before : List Event) (e : Event) (s : Sheet) (pixel : ℕ × ℕ) → is_finish e ≡ true
     → IsDrawn s before
@@ -50,10 +51,12 @@ breach_uncovered before e s pixel end d none first = record {
   pixel = first_in_box (StaysBlank before) (raster_before before) (box_of s) pixel d.box first;
 }
 
-pub none_uncovered : (before : List Event) (e : Event) (s : Sheet) → IsDrawn s before → NoneBelow uncovered_rule before e
+pub none_uncovered : (before : List Event) (e : Event) (s : Sheet) → IsDrawn s before
+    → NoneBelow uncovered_rule before e
     → IsFirstIfAny (StaysBlank before (box_of s)) None → BreaksNoRule before e
 unfolding Breaks
-none_uncovered before e s d none first = none_more before e uncovered_rule none (keeps_covered before e (box_of s) d.box first)
+none_uncovered before e s d none first = none_more before e uncovered_rule none
+    (keeps_covered before e (box_of s) d.box first)
 
 not_end : (before : List Event) (e : Event) → is_finish e ≡ false → ¬ BreaksUncovered before e
 unfolding BreaksUncovered
@@ -70,7 +73,8 @@ pub none_without_box : (before : List Event) (e : Event) → raster_before befor
     → BreaksNoRule before e
 unfolding Breaks
 none_without_box before e is none =
-    none_more before e uncovered_rule (none_more before e outside_rule none (no_box_outside before e is)) (no_box_uncovered before e is)
+    none_more before e uncovered_rule (none_more before e outside_rule none (no_box_outside before e is))
+    (no_box_uncovered before e is)
 
 -- there is a sheet exactly where there is a box
 pub box_there : (sheet : Option Sheet) (before : List Event) → IsSheetAfter sheet before

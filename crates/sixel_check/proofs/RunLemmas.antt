@@ -1,16 +1,16 @@
 -- What the first point outside tells of a command: whether it breaks a rule, and that its run may be painted.
-use Rattle.std.proofs.Common.{◌≡◌, ◌≢◌, ◌==◌, ℕ, ◌+◌, ◌*◌, ◌-◌, ◌^◌, ◌<◌, ◌≤◌, true, ◌&&◌, not}
-use Rattle.std.proofs.Common.{Option, Some, None, List, [], ◌∷◌, ◌++◌, nat_lt, refl, sym, subst, min, ◌∙◌, arith}
+use Rattle.std.proofs.Common.{◌≡◌, ◌≢◌, ◌==◌, ℕ, ◌+◌, ◌*◌, ◌-◌, ◌^◌, ◌<◌, ◌≤◌, true, ◌&&◌, not, Option, Some, None}
+use Rattle.std.proofs.Common.{List, [], ◌∷◌, ◌++◌, nat_lt, refl, sym, subst, min, ◌∙◌, arith}
 use Rattle.std.specs.Prelude.{IsSomeAnd}
 use Rattle.std.specs.Int.{bit_at}
-use Rattle.std.proofs.lemmas.Bool.{agree_below_at, and_parts, eqb-true, ltb-true, ne_eqb}
-use Rattle.std.proofs.lemmas.Bool.{not_from_false, true_from_ne_false}
+use Rattle.std.proofs.lemmas.Bool.{agree_below_at, and_parts, eqb-true, ltb-true, ne_eqb, not_from_false}
+use Rattle.std.proofs.lemmas.Bool.{true_from_ne_false}
 use Rattle.sixel_grammar.specs.declared.command.Event.{Event}
 use Rattle.sixel_picture.specs.Events.{Attributes, bits_of, columns_of, is_finish}
 use Rattle.sixel_picture.specs.Geometry.{band, column, falls, touches}
 use Rattle.sixel_picture.specs.Positions.{any_below}
-use Rattle.sixel_picture.specs.Rules.{BreaksOutside, BreaksUncovered, FallsOutside, IsFirstPoint, StaysBlank}
-use Rattle.sixel_picture.specs.Rules.{known, raster_before}
+use Rattle.sixel_picture.specs.Rules.{BreaksOutside, BreaksUncovered, FallsOutside, IsFirstPoint, StaysBlank, known}
+use Rattle.sixel_picture.specs.Rules.{raster_before}
 use Rattle.sixel_picture.specs.Sheets.{Sheet, painted_sheet}
 use Rattle.sixel_picture.proofs.CoverLemmas.{covers_under, passes_below}
 use Rattle.sixel_check.specs.Judging.{IsDrawn}

@@ -1,7 +1,6 @@
 -- On what terminals show, where no rule is broken: the picture that is left.
 use Rattle.std.proofs.Common.{◌≡◌, ◌<◌, ◌≤◌, ◌+◌, ◌-◌, ◌*◌, ◌%◌, ℕ, Bool, true, false, ◌&&◌, cond, Option, Some, None}
-use Rattle.std.proofs.Common.{List, length}
-use Rattle.std.proofs.Common.{take, refl, sym, ap, ◌∙◌, arith}
+use Rattle.std.proofs.Common.{List, length, take, refl, sym, ap, ◌∙◌, arith}
 use Rattle.std.specs.Prelude.{◌==◌, if◌then◌else◌, is_none, slice_get, slice_index_or, unwrap_or, IsSome}
 use Rattle.std.specs.Option.{option_flatten, option_map}
 use Rattle.std.proofs.lemmas.Bool.{and_from, eqb-true, false_from_ne_true, le-leb, lt-ltb, not_from_false}
@@ -148,14 +147,16 @@ unfolding falls
 falls_data before e x y h = touches_data 0 1 before e x y h
 
 -- the box stands before what paints a point
-box_at_painting : (n : ℕ) (events : List Event) (x y r : ℕ) → BreaksNone n last_rule events → (p : IsLastPainting events x y r)
+box_at_painting : (n : ℕ) (events : List Event) (x y r : ℕ) → BreaksNone n last_rule events
+    → (p : IsLastPainting events x y r)
     → IsSome (raster_before (take p.at events))
 box_at_painting n events x y r none p =
     box_at_data n (take p.at events) p.event (keeps_at n events none p.at p.event p.here)
     (falls_data (take p.at events) p.event x y p.fell)
 
 -- the last painting of a pixel is in its register
-paint_last : (n : ℕ) (t : Display) (events : List Event) (x y r : ℕ) → BreaksNone n last_rule events → n ≤ registers_of t
+paint_last : (n : ℕ) (t : Display) (events : List Event) (x y r : ℕ) → BreaksNone n last_rule events
+    → n ≤ registers_of t
     → (p : IsLastPainting events x y r) → paint_at t (take p.at events) p.event x y ≡ Some r
 paint_last n t events x y r none enough p =
     let same : touches_on t (take p.at events) p.event x y ≡ true

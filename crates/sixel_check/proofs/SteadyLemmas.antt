@@ -1,7 +1,6 @@
 -- On registers in which was painted: where no rule is broken, they keep their colours.
 use Rattle.std.proofs.Common.{◌≡◌, ◌<◌, ◌≤◌, ◌+◌, ◌-◌, ℕ, zero, suc, Bool, true, false, ◌&&◌, cond, not, Option, Some}
-use Rattle.std.proofs.Common.{None}
-use Rattle.std.proofs.Common.{List, [], ◌∷◌, ◌++◌, length, take, refl, ap, ◌∙◌, arith, add-zero, add-suc}
+use Rattle.std.proofs.Common.{None, List, [], ◌∷◌, ◌++◌, length, take, refl, ap, ◌∙◌, arith, add-zero, add-suc}
 use Rattle.std.specs.Prelude.{◌==◌, is_none, slice_get, IsFalse}
 use Rattle.std.specs.List.{AllByRecursion}
 use Rattle.std.specs.Option.{option_or}
@@ -15,8 +14,7 @@ use Rattle.sixel_grammar.specs.declared.command.Event.TheVariants.{Start, Step, 
 use Rattle.sixel_picture.specs.Colours.{palette_at}
 use Rattle.sixel_picture.specs.Events.{Definition, definition_where, is_painting, is_same_definition}
 use Rattle.sixel_picture.specs.Rules.{BreaksNone, breaks_redefined, breaks_undefined, colour_of, definition_of}
-use Rattle.sixel_picture.specs.Rules.{is_painted_in}
-use Rattle.sixel_picture.specs.Rules.{is_that, known, palette_left, picture_left}
+use Rattle.sixel_picture.specs.Rules.{is_painted_in, is_that, known, palette_left, picture_left}
 use Rattle.sixel_picture.proofs.KnownLemmas.{each_before}
 use Rattle.sixel_picture.proofs.LastLemmas.{item_there}
 use Rattle.sixel_picture.proofs.LatestLemmas.{take_one_more}

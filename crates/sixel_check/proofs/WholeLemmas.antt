@@ -1,7 +1,7 @@
 -- On whole lists of events in which no rule is broken.
 use Rattle.std.proofs.Common.{◌≡◌, ◌==◌, ◌&&◌, ◌||◌, ◌+◌, ◌*◌, ◌/◌, ◌%◌, ℕ, zero, suc, ◌<◌, ◌≤◌, Bool, true, false, not}
-use Rattle.std.proofs.Common.{Option, Some, None, IsTrue}
-use Rattle.std.proofs.Common.{List, [], ◌∷◌, ◌++◌, length, get_or, map, arith, sym, ◌∙◌, ap, subst, refl}
+use Rattle.std.proofs.Common.{Option, Some, None, IsTrue, List, [], ◌∷◌, ◌++◌, length, get_or, map, arith, sym, ◌∙◌, ap}
+use Rattle.std.proofs.Common.{subst, refl}
 use Rattle.std.specs.Prelude.{IfSome, IsSome, is_some, nat_lt, if◌then◌else◌}
 use Rattle.std.specs.List.{list_all, list_any}
 use Rattle.std.specs.Option.{option_map, option_map_or, option_and_then}
@@ -68,7 +68,8 @@ pub box_before : (before : List Event) (eight : Bool)
     → raster_before (before ++ Finish eight ∷ []) ≡ raster_before before
 box_before before eight = raster_push before (Finish eight) ∙ option_or_none (raster_before before)
 
-no_box_at_end : (front : List Event) (eight : Bool) → raster_before front ≡ None → Breaks 16 raster_first_rule front (Finish eight)
+no_box_at_end : (front : List Event) (eight : Bool) → raster_before front ≡ None
+    → Breaks 16 raster_first_rule front (Finish eight)
 unfolding Breaks breaks_raster_first
 no_box_at_end front eight h = rw h refl
 
@@ -77,7 +78,8 @@ box_at_end : (front : List Event) (eight : Bool) → BreaksNone 16 last_rule (fr
     → raster_before (front ++ Finish eight ∷ []) ≡ None → ⊥
 box_at_end front eight none bare =
     nowhere 16 raster_first_rule (length front) (front ++ Finish eight ∷ []) none
-    (holds_end (Breaks 16 raster_first_rule) front (Finish eight) (no_box_at_end front eight (sym (box_before front eight) ∙ bare)))
+    (holds_end (Breaks 16 raster_first_rule) front (Finish eight)
+    (no_box_at_end front eight (sym (box_before front eight) ∙ bare)))
 
 pub has_box : (events : List Event) → AreWhole events → BreaksNone 16 last_rule events → raster_before events ≡ None → ⊥
 has_box events whole none bare =
@@ -93,7 +95,8 @@ unfolding Breaks BreaksUncovered
 blank_at_end front eight a x y is blank = (refl, rw is (x, y, blank))
 
 full_at_end : (s : Sheet) (front : List Event) (eight : Bool) (o : Option (ℕ × ℕ))
-    → BreaksNone 16 last_rule (front ++ Finish eight ∷ []) → raster_before (front ++ Finish eight ∷ []) ≡ Some (box_of s)
+    → BreaksNone 16 last_rule (front ++ Finish eight ∷ [])
+    → raster_before (front ++ Finish eight ∷ []) ≡ Some (box_of s)
     → IsFirstIfAny (StaysBlank (front ++ Finish eight ∷ []) (box_of s)) o → o ≡ None
 full_at_end s front eight None none box first = refl
 full_at_end s front eight (Some pixel) none box first =
@@ -114,7 +117,8 @@ full_sheet s events whole none d =
     let end = whole_ends events whole in
     full_at_end s end.front end.eight (first_blank s) (subst (BreaksNone 16 last_rule) end.is none)
     (subst (λ (es : List Event). raster_before es ≡ Some (box_of s)) end.is d.box)
-    (subst (λ (es : List Event). IsFirstIfAny (StaysBlank es (box_of s)) (first_blank s)) end.is (first_blank_drawn s events d))
+    (subst (λ (es : List Event). IsFirstIfAny (StaysBlank es (box_of s)) (first_blank s)) end.is
+    (first_blank_drawn s events d))
 
 -- ---- the picture has all its parts
 

@@ -1,13 +1,13 @@
 -- On what is painted, where no rule is broken: all of it lies in the box.
-use Rattle.std.proofs.Common.{◌≡◌, ◌<◌, ◌≤◌, ◌+◌, ◌-◌, ℕ, Bool, true, false, ◌&&◌, cond, not, Option, Some, None, List, take}
-use Rattle.std.proofs.Common.{refl, sym, ap, ◌∙◌, arith}
+use Rattle.std.proofs.Common.{◌≡◌, ◌<◌, ◌≤◌, ◌+◌, ◌-◌, ℕ, Bool, true, false, ◌&&◌, cond, not, Option, Some, None, List}
+use Rattle.std.proofs.Common.{take, refl, sym, ap, ◌∙◌, arith}
 use Rattle.std.specs.Prelude.{nat_le, nat_lt, slice_get, IfSome, IsFalse, IsSome, IsTrue}
 use Rattle.std.specs.Bool.{then_some}
 use Rattle.std.specs.Option.{option_and_then, option_map_or}
 use Rattle.std.proofs.lemmas.Bool.{and_parts, leb-true, ltb-true, not-false, true_from_ne_false}
 use Rattle.sixel_grammar.specs.declared.command.Event.{Event}
-use Rattle.sixel_picture.specs.Events.{Attributes, columns_of, is_data_command, is_in_box, is_repeat_of_zero}
-use Rattle.sixel_picture.specs.Events.{is_square, raster_of}
+use Rattle.sixel_picture.specs.Events.{Attributes, columns_of, is_data_command, is_in_box, is_repeat_of_zero, is_square}
+use Rattle.sixel_picture.specs.Events.{raster_of}
 use Rattle.sixel_picture.specs.Geometry.{band, column, covers, falls, touches}
 use Rattle.sixel_picture.specs.Positions.{HoldsAtPosition, any_below}
 use Rattle.sixel_picture.specs.Rules.{BreaksNone, BreaksOutside, breaks_ratio, breaks_repeat_zero, raster_before}

@@ -58,7 +58,8 @@ pub record AreNotesAfter (notes : Notes) (events : List Event) : Type 0 where
 
 -- each register in which a pixel was painted last is one of the 16, and has a definition
 abbrev pub AreColoured : List Event → Type 0
-AreColoured events = (x y r : ℕ) → register_at events x y ≡ Some r → (r < register_count) × IsSome (definition_of events r)
+AreColoured events = (x y r : ℕ) → register_at events x y ≡ Some r
+    → (r < register_count) × IsSome (definition_of events r)
 
 -- no rule is broken, and the notes and the sheet are those after the events
 pub record StandsUnbroken (notes : Notes) (sheet : Option Sheet) (events : List Event) : Type 0 where

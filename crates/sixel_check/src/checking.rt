@@ -13,9 +13,7 @@ ghost use Rattle.sixel_check.specs.Standing.{StandsAfter};
 
 use crate::checker::Checker;
 use crate::verdict::Verdict;
-use sixel_grammar::{
-    Command, Completed, Event, InputFault, PIECE, Placed, Plain, Reader, Source,
-};
+use sixel_grammar::{Command, Completed, Event, InputFault, PIECE, Placed, Plain, Reader, Source};
 use sixel_picture::{BandPlane, Plane};
 use std::alloc::{AllocError, Global};
 

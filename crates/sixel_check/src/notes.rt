@@ -29,8 +29,8 @@ pub(crate) struct Notes {
 
 impl Notes {
     ghost use Rattle.sixel_check.specs.Judging.{AreNotesAfter};
-    ghost use Rattle.sixel_check.specs.Notes.{IsBelow, known_in, next_band, next_column, next_named};
-    ghost use Rattle.sixel_check.specs.Notes.{next_painted, next_palette, next_selected};
+    ghost use Rattle.sixel_check.specs.Notes.{IsBelow, known_in, next_band, next_column, next_named, next_painted};
+    ghost use Rattle.sixel_check.specs.Notes.{next_palette, next_selected};
 
     /// What stands before any event.
     pub(crate) fn new() -> Notes

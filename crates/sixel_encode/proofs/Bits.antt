@@ -1,7 +1,6 @@
 -- The bits of a column, and the mask of a band's registers.
 use Rattle.std.proofs.Common.{◌≡◌, ℕ, zero, suc, List, [], ◌∷◌, map, ◌+◌, ◌*◌, ◌%◌, ◌^◌, ◌<◌, ◌≤◌, Bool, true, false}
-use Rattle.std.proofs.Common.{not, ◌&&◌, ◌||◌, cond, refl, sym, ap, ◌∙◌}
-use Rattle.std.proofs.Common.{add-one, arith}
+use Rattle.std.proofs.Common.{not, ◌&&◌, ◌||◌, cond, refl, sym, ap, ◌∙◌, add-one, arith}
 use Rattle.std.specs.Prelude.{◌==◌, nat_le, bit_or, sum_by, if◌then◌else◌}
 use Rattle.std.specs.Int.{bit_at, w16}
 use Rattle.std.specs.List.{list_any}

@@ -1,11 +1,9 @@
 -- Each pixel of a band lies in the columns of a register that occurs there, and each pixel in a band.
-use Rattle.std.proofs.Common.{◌≡◌, ℕ, zero, suc, ◌+◌, ◌/◌, ◌<◌, Bool, true, false, not, ◌&&◌, ◌||◌}
-use Rattle.std.proofs.Common.{List, [], ◌∷◌, ◌++◌, map, length, refl, ap, ◌∙◌, arith}
-use Rattle.std.proofs.Common.{◌-◌}
+use Rattle.std.proofs.Common.{◌≡◌, ℕ, zero, suc, ◌+◌, ◌/◌, ◌<◌, Bool, true, false, not, ◌&&◌, ◌||◌, List, [], ◌∷◌, ◌++◌}
+use Rattle.std.proofs.Common.{map, length, refl, ap, ◌∙◌, arith, ◌-◌}
 use Rattle.std.specs.Prelude.{◌==◌, nat_lt, flat_map}
 use Rattle.std.specs.List.{list_any, range_with_len, join_by}
-use Rattle.std.proofs.lemmas.Bool.{ltb-true, eqb-true, eq-eqb, and_from, and_parts, not_from_false}
-use Rattle.std.proofs.lemmas.Bool.{false_from_ne_true}
+use Rattle.std.proofs.lemmas.Bool.{ltb-true, eqb-true, eq-eqb, and_from, and_parts, not_from_false, false_from_ne_true}
 use Rattle.std.proofs.lemmas.Bool.Decides.{nat_tests}
 use Rattle.std.proofs.lemmas.List.{map-append}
 use Rattle.sixel_grammar.specs.declared.command.Event.{Event}

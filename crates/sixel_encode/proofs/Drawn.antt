@@ -1,7 +1,7 @@
 -- The data commands of a register.
-use Rattle.std.proofs.Common.{◌≡◌, ℕ, zero, suc, ◌+◌, ◌<◌, ◌≤◌, Bool, true, false, ◌||◌, Option, Some, None}
-use Rattle.std.proofs.Common.{List, [], ◌∷◌, ◌++◌, map, length, replicate, refl, sym, ap, ◌∙◌, subst, arith}
-use Rattle.std.proofs.Common.{append_assoc, append-nil}
+use Rattle.std.proofs.Common.{◌≡◌, ℕ, zero, suc, ◌+◌, ◌<◌, ◌≤◌, Bool, true, false, ◌||◌, Option, Some, None, List, []}
+use Rattle.std.proofs.Common.{◌∷◌, ◌++◌, map, length, replicate, refl, sym, ap, ◌∙◌, subst, arith, append_assoc}
+use Rattle.std.proofs.Common.{append-nil}
 use Rattle.std.specs.Prelude.{◌==◌, if◌then◌else◌, nat_le, flat_map, is_some, is_none}
 use Rattle.std.specs.Option.{option_map}
 use Rattle.std.proofs.Math.Bool.{and-false}
@@ -12,12 +12,11 @@ use Rattle.sixel_grammar.specs.declared.command.Event.TheVariants.{Step}
 use Rattle.sixel_grammar.specs.declared.command.Command.TheVariants.{Sixel, Repeat}
 use Rattle.sixel_picture.specs.Colours.{palette_at}
 use Rattle.sixel_picture.specs.Pictures.{PictureValue, register_of}
-use Rattle.sixel_picture.specs.Events.{columns_of, bits_of, is_return, is_next_line, is_finish, is_in_box}
-use Rattle.sixel_picture.specs.Events.{is_painting, is_repeat_of_zero, raster_of, select_of, named_by}
-use Rattle.sixel_picture.specs.Events.{definition_where}
+use Rattle.sixel_picture.specs.Events.{columns_of, bits_of, is_return, is_next_line, is_finish, is_in_box, is_painting}
+use Rattle.sixel_picture.specs.Events.{is_repeat_of_zero, raster_of, select_of, named_by, definition_where}
 use Rattle.sixel_picture.specs.Geometry.{column, covers, touches, falls}
-use Rattle.sixel_picture.specs.Rules.{known, breaks_colour_value, breaks_redefined, breaks_register}
-use Rattle.sixel_picture.specs.Rules.{breaks_repeat_zero, breaks_undefined, breaks_unselected}
+use Rattle.sixel_picture.specs.Rules.{known, breaks_colour_value, breaks_redefined, breaks_register, breaks_repeat_zero}
+use Rattle.sixel_picture.specs.Rules.{breaks_undefined, breaks_unselected}
 use Rattle.sixel_picture.proofs.StepLemmas.{column_push}
 use Rattle.sixel_picture.proofs.RuleLemmas.{Keeps}
 use Rattle.sixel_encode.specs.Canon.{Run, run_commands}

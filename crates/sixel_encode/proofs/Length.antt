@@ -1,7 +1,6 @@
 -- How long a picture's text is at most.
-use Rattle.std.proofs.Common.{◌≡◌, ℕ, zero, suc, ◌+◌, ◌*◌, ◌<◌, ◌≤◌, Bool, true, false, cond, Option, Some, None}
-use Rattle.std.proofs.Common.{List, [], ◌∷◌, ◌++◌, length, replicate, decimal, refl, ap, ◌∙◌, arith, lit<, lit≤}
-use Rattle.std.proofs.Common.{le_trans}
+use Rattle.std.proofs.Common.{◌≡◌, ℕ, zero, suc, ◌+◌, ◌*◌, ◌<◌, ◌≤◌, Bool, true, false, cond, Option, Some, None, List}
+use Rattle.std.proofs.Common.{[], ◌∷◌, ◌++◌, length, replicate, decimal, refl, ap, ◌∙◌, arith, lit<, lit≤, le_trans}
 use Rattle.std.proofs.Common.{length-append, mul-le-mul_right, mul_assoc, mul-le-mul, suc-mul}
 use Rattle.std.specs.Fmt.{digits}
 use Rattle.std.specs.Prelude.{nat_lt, nat_le, flat_map, filter_map, if◌then◌else◌, IfSome, is_some}
@@ -23,12 +22,10 @@ use Rattle.sixel_picture.specs.declared.colour.Parts.{Parts}
 use Rattle.sixel_picture.specs.declared.colour.Parts.TheVariants.{Rgb, Hls}
 use Rattle.sixel_picture.specs.Colours.{palette_at, IsColour}
 use Rattle.sixel_picture.specs.Pictures.{PictureValue, most_side}
-use Rattle.sixel_encode.specs.Canon.{most_bands}
-use Rattle.sixel_encode.specs.Canon.{Run, all_columns, band_columns, band_commands, band_registers, bands, below}
-use Rattle.sixel_encode.specs.Canon.{canon_commands}
-use Rattle.sixel_encode.specs.Canon.{canon_start, canon_text, column_bits, commands_text, define_command}
-use Rattle.sixel_encode.specs.Canon.{define_commands, has_bits}
-use Rattle.sixel_encode.specs.Canon.{picture_commands, register_commands, run_commands, runs, without_blanks}
+use Rattle.sixel_encode.specs.Canon.{most_bands, Run, all_columns, band_columns, band_commands, band_registers, bands}
+use Rattle.sixel_encode.specs.Canon.{below, canon_commands, canon_start, canon_text, column_bits, commands_text}
+use Rattle.sixel_encode.specs.Canon.{define_command, define_commands, has_bits, picture_commands, register_commands}
+use Rattle.sixel_encode.specs.Canon.{run_commands, runs, without_blanks}
 use Rattle.sixel_encode.specs.Laws.{TextsAreShort, TextsHaveAtMost, entries_of, items_of}
 use Rattle.sixel_encode.proofs.Longest.{runs_joined}
 use Rattle.sixel_encode.proofs.Occurs.{band_length, band_some, band_used, entries, entries_are}
@@ -320,7 +317,8 @@ most_of bands k w registers a b c =
     let f : bands * k * (w + 5) ≤ most_bands * registers * 2053 = mul-le-mul d e in
     omega arith
 
-pub texts_have_at_most : (most registers : ℕ) → registers ≤ 1000 → 22 + 18 * registers + most_bands * registers * 2053 ≤ most
+pub texts_have_at_most : (most registers : ℕ) → registers ≤ 1000
+    → 22 + 18 * registers + most_bands * registers * 2053 ≤ most
     → TextsHaveAtMost most registers
 texts_have_at_most most registers n l p picture =
     let h : Parted registers p = parted registers p picture in

@@ -1,7 +1,6 @@
 -- The start, the raster attributes and the definitions of a canonical list, and what a picture says of its parts.
-use Rattle.std.proofs.Common.{◌≡◌, ℕ, zero, suc, ◌+◌, ◌<◌, ◌≤◌, Bool, true, false, not, Option, Some, None}
-use Rattle.std.proofs.Common.{List, [], ◌∷◌, ◌++◌, map, length, refl, sym, ap, ◌∙◌, subst, arith, append_assoc}
-use Rattle.std.proofs.Common.{append-nil}
+use Rattle.std.proofs.Common.{◌≡◌, ℕ, zero, suc, ◌+◌, ◌<◌, ◌≤◌, Bool, true, false, not, Option, Some, None, List, []}
+use Rattle.std.proofs.Common.{◌∷◌, ◌++◌, map, length, refl, sym, ap, ◌∙◌, subst, arith, append_assoc, append-nil}
 use Rattle.std.specs.Prelude.{◌==◌, if◌then◌else◌, nat_lt, IfSome}
 use Rattle.std.specs.Option.{option_map, option_or, option_flatten}
 use Rattle.std.specs.List.{cons_option}
@@ -19,11 +18,9 @@ use Rattle.sixel_picture.specs.Positions.{latest, earliest, since, any_at, last_
 use Rattle.sixel_picture.specs.Events.{Definition, bits_of, has_sides}
 use Rattle.sixel_picture.specs.Geometry.{band, column, falls}
 use Rattle.sixel_picture.specs.Rules.{BreaksOutside, BreaksUncovered, definition_of, gives_colour, is_covered}
-use Rattle.sixel_picture.specs.Rules.{is_painted_in, raster_before, register_at}
-use Rattle.sixel_picture.specs.Rules.{breaks_box_size, breaks_colour_value, breaks_ratio, breaks_raster_first}
-use Rattle.sixel_picture.specs.Rules.{breaks_raster_twice}
-use Rattle.sixel_picture.specs.Rules.{breaks_redefined, breaks_register, breaks_repeat_zero, breaks_undefined}
-use Rattle.sixel_picture.specs.Rules.{breaks_unselected}
+use Rattle.sixel_picture.specs.Rules.{is_painted_in, raster_before, register_at, breaks_box_size, breaks_colour_value}
+use Rattle.sixel_picture.specs.Rules.{breaks_ratio, breaks_raster_first, breaks_raster_twice, breaks_redefined}
+use Rattle.sixel_picture.specs.Rules.{breaks_register, breaks_repeat_zero, breaks_undefined, breaks_unselected}
 use Rattle.sixel_picture.proofs.StepLemmas.{band_push, column_push, raster_push, definition_push, painted_in_push}
 use Rattle.sixel_picture.proofs.StepLemmas.{register_push, covered_push}
 use Rattle.sixel_picture.proofs.RuleLemmas.{Keeps}

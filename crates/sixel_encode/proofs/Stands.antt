@@ -1,6 +1,6 @@
 -- What stands before an event of a canonical list.
-use Rattle.std.proofs.Common.{◌≡◌, ℕ, ◌+◌, Bool, true, false, ◌||◌, cond, Option, Some, None, List, [], ◌∷◌, ◌++◌}
-use Rattle.std.proofs.Common.{refl, sym, ap, ◌∙◌}
+use Rattle.std.proofs.Common.{◌≡◌, ℕ, ◌+◌, Bool, true, false, ◌||◌, cond, Option, Some, None, List, [], ◌∷◌, ◌++◌, refl}
+use Rattle.std.proofs.Common.{sym, ap, ◌∙◌}
 use Rattle.std.specs.Prelude.{◌==◌, if◌then◌else◌}
 use Rattle.std.specs.Option.{option_map}
 use Rattle.std.proofs.lemmas.Bool.{eq-eqb}
@@ -11,15 +11,13 @@ use Rattle.sixel_picture.specs.declared.colour.Parts.{Parts}
 use Rattle.sixel_picture.specs.declared.colour.Parts.TheVariants.{Rgb, Hls}
 use Rattle.sixel_picture.specs.Colours.{palette_at}
 use Rattle.sixel_picture.specs.Pictures.{PictureValue, register_of}
-use Rattle.sixel_picture.specs.Events.{Definition, Attributes, columns_of, bits_of, is_next_line, is_finish}
-use Rattle.sixel_picture.specs.Events.{raster_of, select_of, named_by, definition_where, is_in_box}
+use Rattle.sixel_picture.specs.Events.{Definition, Attributes, columns_of, bits_of, is_next_line, is_finish, raster_of}
+use Rattle.sixel_picture.specs.Events.{select_of, named_by, definition_where, is_in_box}
 use Rattle.sixel_picture.specs.Geometry.{band, column, touches, falls}
 use Rattle.sixel_picture.specs.Rules.{known, definition_of, raster_before, register_at, is_covered, BreaksOutside}
-use Rattle.sixel_picture.specs.Rules.{BreaksUncovered}
-use Rattle.sixel_picture.specs.Rules.{breaks_box_size, breaks_colour_value, breaks_ratio, breaks_raster_first}
-use Rattle.sixel_picture.specs.Rules.{breaks_raster_twice}
-use Rattle.sixel_picture.specs.Rules.{breaks_redefined, breaks_register, breaks_repeat_zero, breaks_undefined}
-use Rattle.sixel_picture.specs.Rules.{breaks_unselected}
+use Rattle.sixel_picture.specs.Rules.{BreaksUncovered, breaks_box_size, breaks_colour_value, breaks_ratio}
+use Rattle.sixel_picture.specs.Rules.{breaks_raster_first, breaks_raster_twice, breaks_redefined, breaks_register}
+use Rattle.sixel_picture.specs.Rules.{breaks_repeat_zero, breaks_undefined, breaks_unselected}
 use Rattle.sixel_picture.proofs.PositionLemmas.{latest_push}
 use Rattle.sixel_picture.proofs.StepLemmas.{band_push, raster_push, definition_push, register_push, covered_push}
 use Rattle.sixel_picture.proofs.RuleLemmas.{Keeps}
@@ -67,7 +65,8 @@ stands_push p before e line next done f s raster define move fall own = record {
   has_box = raster_push before e ∙ rw (s.has_box) refl;
   defines = λ r. definition_push before e r ∙ rw (define r) (s.defines r);
   paints = λ x y. register_push before e x y ∙ rw (fall x y)
-      (paints_step (f x y) (done x y) (known before) (register_at before x y) (register_of p x y) (own x y) (s.paints x y));
+      (paints_step (f x y) (done x y) (known before) (register_at before x y) (register_of p x y) (own x y)
+      (s.paints x y));
   covers_done = λ x y. covered_push before e x y ∙ rw (fall x y) (ap (λ d. f x y || d) (s.covers_done x y));
 }
 

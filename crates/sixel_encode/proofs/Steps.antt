@@ -18,9 +18,8 @@ use Rattle.sixel_picture.specs.declared.colour.Parts.{Parts}
 use Rattle.sixel_picture.specs.Colours.{palette_at}
 use Rattle.sixel_picture.specs.Pictures.{PictureValue}
 use Rattle.sixel_encode.specs.Canon.{all_columns, band_columns, band_commands, band_registers, bands, below, canon}
-use Rattle.sixel_encode.specs.Canon.{canon_commands}
-use Rattle.sixel_encode.specs.Canon.{canon_start, canon_text, commands_text, define_command, define_commands, occurs}
-use Rattle.sixel_encode.specs.Canon.{picture_commands, register_commands, run_commands, runs}
+use Rattle.sixel_encode.specs.Canon.{canon_commands, canon_start, canon_text, commands_text, define_command}
+use Rattle.sixel_encode.specs.Canon.{define_commands, occurs, picture_commands, register_commands, run_commands, runs}
 use Rattle.sixel_encode.proofs.Ranges.{below_then}
 use Rattle.sixel_encode.proofs.Texts.{columns_text, text-append}
 

@@ -1,7 +1,7 @@
 -- The canonical list of a picture breaks no rule, and leaves the picture.
-use Rattle.std.proofs.Common.{◌≡◌, ℕ, ◌+◌, ◌-◌, ◌*◌, ◌/◌, ◌%◌, ◌<◌, Bool, true, false, Option, Some, None, List}
-use Rattle.std.proofs.Common.{[], ◌∷◌, ◌++◌, map, length, get_or, refl, sym, ap, ◌∙◌, arith, mul_comm}
-use Rattle.std.proofs.Common.{div-lt_iff_lt-mul, div-add-mod'}
+use Rattle.std.proofs.Common.{◌≡◌, ℕ, ◌+◌, ◌-◌, ◌*◌, ◌/◌, ◌%◌, ◌<◌, Bool, true, false, Option, Some, None, List, []}
+use Rattle.std.proofs.Common.{◌∷◌, ◌++◌, map, length, get_or, refl, sym, ap, ◌∙◌, arith, mul_comm, div-lt_iff_lt-mul}
+use Rattle.std.proofs.Common.{div-add-mod'}
 use Rattle.std.specs.Prelude.{nat_lt, unwrap_or}
 use Rattle.std.specs.Option.{option_map, option_and_then, option_flatten}
 use Rattle.std.specs.List.{join_by}
@@ -20,11 +20,9 @@ use Rattle.sixel_picture.specs.Geometry.{falls}
 use Rattle.sixel_picture.specs.Sheets.{row_by_row}
 use Rattle.sixel_picture.specs.Events.{is_in_box}
 use Rattle.sixel_picture.specs.Rules.{BreaksOutside, BreaksUncovered, colour_by, colour_of, is_covered, palette_left}
-use Rattle.sixel_picture.specs.Rules.{picture_left, raster_before, register_at}
-use Rattle.sixel_picture.specs.Rules.{breaks_box_size, breaks_colour_value, breaks_ratio, breaks_raster_first}
-use Rattle.sixel_picture.specs.Rules.{breaks_raster_twice}
-use Rattle.sixel_picture.specs.Rules.{breaks_redefined, breaks_register, breaks_repeat_zero, breaks_undefined}
-use Rattle.sixel_picture.specs.Rules.{breaks_unselected}
+use Rattle.sixel_picture.specs.Rules.{picture_left, raster_before, register_at, breaks_box_size, breaks_colour_value}
+use Rattle.sixel_picture.specs.Rules.{breaks_ratio, breaks_raster_first, breaks_raster_twice, breaks_redefined}
+use Rattle.sixel_picture.specs.Rules.{breaks_register, breaks_repeat_zero, breaks_undefined, breaks_unselected}
 use Rattle.sixel_picture.proofs.RuleLemmas.{Keeps}
 use Rattle.sixel_picture.proofs.SheetLemmas.{rows_from_index}
 use Rattle.sixel_encode.specs.Canon.{below, bands, band_commands, define_commands, picture_commands, canon_commands}

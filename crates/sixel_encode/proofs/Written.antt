@@ -1,7 +1,6 @@
 -- Each event of a canonical list can be written.
 use Rattle.std.proofs.Common.{◌≡◌, ℕ, zero, suc, ◌+◌, ◌<◌, ◌≤◌, Bool, true, false, Option, Some, None, List, [], ◌∷◌}
-use Rattle.std.proofs.Common.{◌++◌}
-use Rattle.std.proofs.Common.{map, length, replicate, refl, sym, ap, ◌∙◌, subst, arith, lit≤, length-append}
+use Rattle.std.proofs.Common.{◌++◌, map, length, replicate, refl, sym, ap, ◌∙◌, subst, arith, lit≤, length-append}
 use Rattle.std.specs.Prelude.{nat_le, flat_map, if◌then◌else◌, IfSome}
 use Rattle.std.specs.Option.{option_map}
 use Rattle.std.specs.List.{join_by, cons_option, AllByRecursion}
@@ -17,11 +16,9 @@ use Rattle.sixel_picture.specs.declared.colour.Parts.{Parts}
 use Rattle.sixel_picture.specs.declared.colour.Parts.TheVariants.{Rgb, Hls}
 use Rattle.sixel_picture.specs.Colours.{palette_at, IsColour}
 use Rattle.sixel_picture.specs.Pictures.{PictureValue, most_side}
-use Rattle.sixel_encode.specs.Canon.{Run, all_columns, band_columns, band_commands, band_registers, bands, below}
-use Rattle.sixel_encode.specs.Canon.{canon, canon_commands}
-use Rattle.sixel_encode.specs.Canon.{column_bits, define_command, define_commands, has_bits, picture_commands}
-use Rattle.sixel_encode.specs.Canon.{register_commands}
-use Rattle.sixel_encode.specs.Canon.{run_commands, runs, without_blanks}
+use Rattle.sixel_encode.specs.Canon.{Run, all_columns, band_columns, band_commands, band_registers, bands, below, canon}
+use Rattle.sixel_encode.specs.Canon.{canon_commands, column_bits, define_command, define_commands, has_bits}
+use Rattle.sixel_encode.specs.Canon.{picture_commands, register_commands, run_commands, runs, without_blanks}
 use Rattle.sixel_encode.specs.Laws.{EventsCanBeWritten, ListsAreWhole, TextsAreDocuments, TextsHaveAtMost, items_of}
 use Rattle.sixel_encode.proofs.Bits.{column_most}
 use Rattle.sixel_encode.proofs.Length.{columns_length, defines_from, entry_colour}

@@ -1,7 +1,6 @@
 -- The canonical list of events of a picture.
-use Rattle.std.specs.Prelude.{◌==◌, ◌&&◌, ◌+◌, ◌*◌, ◌/◌, ◌^◌, ℕ, Bool, false, Option, List, [], ◌∷◌, ◌++◌, length}
-use Rattle.std.specs.Prelude.{map, replicate}
-use Rattle.std.specs.Prelude.{sum_by, filter, flat_map, filter_map, nat_lt, nat_le, not, if◌then◌else◌}
+use Rattle.std.specs.Prelude.{◌==◌, ◌&&◌, ◌+◌, ◌*◌, ◌/◌, ◌^◌, ℕ, Bool, false, Option, List, [], ◌∷◌, ◌++◌, length, map}
+use Rattle.std.specs.Prelude.{replicate, sum_by, filter, flat_map, filter_map, nat_lt, nat_le, not, if◌then◌else◌}
 use Rattle.std.specs.Option.{option_map}
 use Rattle.std.specs.List.{range_with_len, list_any, join_by}
 use Rattle.sixel_grammar.specs.declared.command.Command.{Command}

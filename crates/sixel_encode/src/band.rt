@@ -6,8 +6,8 @@ ghost use Rattle.sixel_grammar.specs.Blocks.{PutsAllOrNone, TakesMore, in_all};
 ghost use Rattle.sixel_grammar.specs.Devices.{CountsFailure, NeverFlushes, Puts};
 ghost use Rattle.sixel_grammar.specs.Spelling.{IsSpellable};
 ghost use Rattle.sixel_picture.specs.Pictures.{register_count};
-ghost use Rattle.sixel_encode.specs.Canon.{band_columns, band_commands, commands_text, register_commands};
-ghost use Rattle.sixel_encode.specs.Canon.{run_commands, runs, most_bands};
+ghost use Rattle.sixel_encode.specs.Canon.{band_columns, band_commands, commands_text, register_commands, run_commands};
+ghost use Rattle.sixel_encode.specs.Canon.{runs, most_bands};
 
 use crate::columns::{band_registers, column_bits};
 use sixel_grammar::{Block, Command, DeviceFault, Event, Sink};

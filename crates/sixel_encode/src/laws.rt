@@ -3,7 +3,8 @@
 ghost use Rattle.sixel_grammar.specs.Document.{most_bytes};
 ghost use Rattle.sixel_picture.specs.Pictures.{register_count};
 ghost use Rattle.sixel_encode.specs.Laws.{EventsCanBeWritten, ListsAreWhole, ListsBreakNoRule, ListsLeaveTheirPicture};
-ghost use Rattle.sixel_encode.specs.Laws.{RunsAreLongest, RunsGiveTheirRow, TextsAreDocuments, TextsAreShort, TextsHaveAtMost};
+ghost use Rattle.sixel_encode.specs.Laws.{RunsAreLongest, RunsGiveTheirRow, TextsAreDocuments, TextsAreShort};
+ghost use Rattle.sixel_encode.specs.Laws.{TextsHaveAtMost};
 
 /// The runs of a row give the row back, and each is as long as it can be.
 pub fn runs_are_longest()

@@ -1,15 +1,18 @@
 -- What a front ends in after one byte more.
-use Rattle.std.proofs.Common.{◌≡◌, ℕ, ◌+◌, ◌-◌, ◌<◌, ◌≤◌, true, false, eqb, leb, ltb, List, [], ◌∷◌, ◌++◌, length, Option, Some, None, refl, ap, ◌∙◌, arith, inl, inr, append_assoc, length-append}
+use Rattle.std.proofs.Common.{◌≡◌, ℕ, ◌+◌, ◌-◌, ◌<◌, ◌≤◌, true, false, eqb, leb, ltb, List, [], ◌∷◌, ◌++◌, length}
+use Rattle.std.proofs.Common.{Option, Some, None, refl, ap, ◌∙◌, arith, inl, inr, append_assoc, length-append}
 use Rattle.std.specs.Prelude.{◌&&◌, if◌then◌else◌}
 use Rattle.std.proofs.lemmas.Bool.{cond_both, eqb-true, leb-true, ltb-true, ltb-false}
 use Rattle.std.proofs.lemmas.Bool.Decides.{nat_tests}
-use Rattle.sixel_grammar.specs.declared.command.Command.TheVariants.{Sixel, Repeat, Raster, Select, Define, CarriageReturn, NextLine}
+use Rattle.sixel_grammar.specs.declared.command.Command.TheVariants.{Sixel, Repeat, Raster, Select, Define}
+use Rattle.sixel_grammar.specs.declared.command.Command.TheVariants.{CarriageReturn, NextLine}
 use Rattle.sixel_grammar.specs.declared.command.Event.{Event}
 use Rattle.sixel_grammar.specs.declared.command.Event.TheVariants.{Start, Step, Finish}
 use Rattle.sixel_grammar.specs.declared.command.Placed.{Placed}
 use Rattle.sixel_grammar.specs.Bytes.{is_filler, is_data, is_digit, introducer}
 use Rattle.sixel_grammar.specs.Document.{events_in}
-use Rattle.sixel_grammar.specs.Faults.{Form, NothingYet, Introducing, Parameters, LastSeparator, NoCommand, RepeatNumber, RasterFields, ColourFields, Terminating, Ended, EndsIn, is_idle}
+use Rattle.sixel_grammar.specs.Faults.{Form, NothingYet, Introducing, Parameters, LastSeparator, NoCommand}
+use Rattle.sixel_grammar.specs.Faults.{RepeatNumber, RasterFields, ColourFields, Terminating, Ended, EndsIn, is_idle}
 use Rattle.sixel_grammar.specs.Next.{with_digit, begin, within, settled, chosen, next_of}
 use Rattle.sixel_grammar.proofs.Numbers.{no_digits, number-more, fields-more, fields-separator}
 use Rattle.sixel_grammar.proofs.Pieces.{Loose, loosen, grow, fill, close, settle, begun-step, begun-finish}
@@ -48,9 +51,11 @@ begins {events} {opened} {bytes} e b =
     (λ _. cond_both (eqb b 33) _ _ P
     (λ t. grow e b (RepeatNumber 0) ([], no_digits, at_end e.open_bytes b 33 none (eqb-true b 33 t)) e.before)
     (λ _. cond_both (eqb b 34) _ _ P
-    (λ t. grow e b (RasterFields [] 0) ([], no_digits, omega arith, at_end e.open_bytes b 34 none (eqb-true b 34 t)) e.before)
+    (λ t. grow e b (RasterFields [] 0)
+    ([], no_digits, omega arith, at_end e.open_bytes b 34 none (eqb-true b 34 t)) e.before)
     (λ _. cond_both (eqb b 35) _ _ P
-    (λ t. grow e b (ColourFields [] 0) ([], no_digits, omega arith, at_end e.open_bytes b 35 none (eqb-true b 35 t)) e.before)
+    (λ t. grow e b (ColourFields [] 0)
+    ([], no_digits, omega arith, at_end e.open_bytes b 35 none (eqb-true b 35 t)) e.before)
     (λ _. cond_both (eqb b 36) _ _ P
     (λ t.
     close e b (Step CarriageReturn) NoCommand (at_end e.open_bytes b 36 none (eqb-true b 36 t)) refl refl
@@ -82,7 +87,8 @@ goes_on NothingYet {events} {opened} {bytes} e b =
     let P : Option (Form × Option Event) → Type 0 = Goes events opened bytes b in
     cond_both (is_filler b) _ _ P
     (λ t. fill e b NothingYet none t refl e.before)
-    (λ _. cond_both (eqb b 27) _ _ P (λ t. grow e b Introducing (at_end e.open_bytes b 27 none (eqb-true b 27 t)) e.before)
+    (λ _. cond_both (eqb b 27) _ _ P
+    (λ t. grow e b Introducing (at_end e.open_bytes b 27 none (eqb-true b 27 t)) e.before)
     (λ _.
     cond_both (eqb b 144) _ _ P
     (λ t.

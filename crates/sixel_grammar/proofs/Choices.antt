@@ -11,7 +11,8 @@ grown-is None f h = cc
 grown-is (Some (g, None)) f h = cc
 grown-is (Some (g, Some e)) f h = cc
 
-pub whole-is : (w : Option (Form × Option Event)) (f : Form) (e : Event) → only_whole w ≡ Some (f, e) → w ≡ Some (f, Some e)
+pub whole-is : (w : Option (Form × Option Event)) (f : Form) (e : Event) → only_whole w ≡ Some (f, e)
+    → w ≡ Some (f, Some e)
 whole-is None f e h = cc
 whole-is (Some (g, None)) f e h = cc
 whole-is (Some (g, Some d)) f e h = ap (option_map (λ (x : Form × Event). (x.0, Some x.1))) h
@@ -33,7 +34,8 @@ stops f b h k grown whole = by_settled (settled f) grown whole
   where
     by_settled : (s : Option Event) → OnSome s (only_grown (begin b) ≡ None)
         → OnSome s (only_whole (begin b) ≡ None) → chosen (within f b) s (begin b) ≡ None
-    by_settled None g w = ap (λ (v : Option (Form × Option Event)). chosen v None (begin b)) (neither-is (within f b) h k)
+    by_settled None g w = ap (λ (v : Option (Form × Option Event)). chosen v None (begin b))
+        (neither-is (within f b) h k)
     by_settled (Some e) g w = ap (λ (v : Option (Form × Option Event)). chosen v (Some e) (begin b))
         (neither-is (within f b) h k)
         ∙ ap (λ (v : Option (Form × Option Event)). chosen None (Some e) v) (neither-is (begin b) g w)

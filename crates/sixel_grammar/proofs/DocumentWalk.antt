@@ -1,5 +1,6 @@
 -- Whole documents and their fronts are walked in one way alone.
-use Rattle.std.proofs.Common.{◌≡◌, ℕ, ◌+◌, ◌<◌, ◌≤◌, Bool, true, false, ltb, List, [], ◌∷◌, ◌++◌, length, Option, Some, None, refl, sym, ap, subst, ◌∙◌, append_assoc, arith, length-append, inl, inr}
+use Rattle.std.proofs.Common.{◌≡◌, ℕ, ◌+◌, ◌<◌, ◌≤◌, Bool, true, false, ltb, List, [], ◌∷◌, ◌++◌, length, Option, Some}
+use Rattle.std.proofs.Common.{None, refl, sym, ap, subst, ◌∙◌, append_assoc, arith, length-append, inl, inr}
 use Rattle.std.specs.Prelude.{◌⊎◌, IsTrue}
 use Rattle.std.specs.List.{AllByRecursion}
 use Rattle.std.proofs.lemmas.List.{append-nil}
@@ -8,22 +9,30 @@ use Rattle.std.proofs.lemmas.Bool.Decides.{nat_tests}
 use Rattle.sixel_grammar.specs.declared.command.Event.{Event}
 use Rattle.sixel_grammar.specs.declared.command.Placed.{Placed}
 use Rattle.sixel_grammar.specs.declared.command.Command.{Command}
-use Rattle.sixel_grammar.specs.declared.command.Command.TheVariants.{Sixel, Repeat, Raster, Select, Define, CarriageReturn, NextLine}
+use Rattle.sixel_grammar.specs.declared.command.Command.TheVariants.{Sixel, Repeat, Raster, Select, Define}
+use Rattle.sixel_grammar.specs.declared.command.Command.TheVariants.{CarriageReturn, NextLine}
 use Rattle.sixel_grammar.specs.declared.command.Event.TheVariants.{Start, Step, Finish}
 use Rattle.sixel_grammar.specs.Bytes.{is_filler, is_data, introducer}
 use Rattle.sixel_grammar.specs.Number.{Fields}
 use Rattle.sixel_grammar.specs.Spelling.{Spells, SpellsCommand, is_open_ended}
-use Rattle.sixel_grammar.specs.Document.{AreFiller, Piece, IsPiece, bytes_of, joined, events_in, AreRest, AreWhole, Parses}
+use Rattle.sixel_grammar.specs.Document.{AreFiller, Piece, IsPiece, bytes_of, joined, events_in, AreRest, AreWhole}
+use Rattle.sixel_grammar.specs.Document.{Parses}
 use Rattle.sixel_grammar.specs.Fronts.{completed_at, IsViable}
-use Rattle.sixel_grammar.specs.Faults.{Form, NothingYet, Introducing, Parameters, LastSeparator, NoCommand, RepeatNumber, RasterFields, ColourFields, Terminating, Ended, EndsIn, AreSteps, AreBegun, IsClosed}
+use Rattle.sixel_grammar.specs.Faults.{Form, NothingYet, Introducing, Parameters, LastSeparator, NoCommand}
+use Rattle.sixel_grammar.specs.Faults.{RepeatNumber, RasterFields, ColourFields, Terminating, Ended, EndsIn, AreSteps}
+use Rattle.sixel_grammar.specs.Faults.{AreBegun, IsClosed}
 use Rattle.sixel_grammar.specs.Next.{begin, within, next_of}
-use Rattle.sixel_grammar.proofs.Walk.{Stamp, stamp, State, state, after, walk, walk-none, walk-then, idle, within-some, number_walk, fields_walk, repeat-digits, raster-digits, raster-separators, colour-digits, colour-separators, parameters-digits, parameters-separators, is_data-bits, Ready, Rests, command-reaches}
+use Rattle.sixel_grammar.proofs.Walk.{Stamp, stamp, State, state, after, walk, walk-none, walk-then, idle, within-some}
+use Rattle.sixel_grammar.proofs.Walk.{number_walk, fields_walk, repeat-digits, raster-digits, raster-separators}
+use Rattle.sixel_grammar.proofs.Walk.{colour-digits, colour-separators, parameters-digits, parameters-separators}
+use Rattle.sixel_grammar.proofs.Walk.{is_data-bits, Ready, Rests, command-reaches}
 use Rattle.sixel_grammar.proofs.Pieces.{start_of}
 
 -- the events of pieces that stand from n on, each with the number of bytes with which it is complete
 abbrev pub stamped_from : ℕ → List Piece → List Stamp
 stamped_from n [] = []
-stamped_from n (p ∷ ps) = stamp (completed_at n p) (n + length p.filler) p.event ∷ stamped_from (n + length (bytes_of p)) ps
+stamped_from n (p ∷ ps) = stamp (completed_at n p) (n + length p.filler) p.event ∷ stamped_from
+    (n + length (bytes_of p)) ps
 
 abbrev pub start : Option State
 start = Some (state NothingYet 0 [])
@@ -86,7 +95,8 @@ ready-then : (n m : ℕ) (st : State) (s : List Stamp) (filler text : List ℕ) 
     → walk n (Some st) (filler ++ text) ≡ u
 ready-then n m st s filler text u r k h e w =
     ready-walk n st s (filler ++ text) r (filler-begins filler text k h)
-    ∙ walk-then n m (idle n s) (idle m s) u filler text e (idle-filler n s filler k ∙ ap (λ (j : ℕ). idle j s) (sym e)) w
+    ∙ walk-then n m (idle n s) (idle m s) u filler text e
+    (idle-filler n s filler k ∙ ap (λ (j : ℕ). idle j s) (sym e)) w
 
 data-begins : (bits : ℕ) → bits ≤ 63 → Begins ((63 + bits) ∷ [])
 data-begins bits h = (_, cond-true (is_data (63 + bits)) _ _ (is_data-bits bits h))
@@ -114,7 +124,8 @@ step_piece n st s filler text (Start eight ps) r k spells more h = absurd h
 step_piece n st s filler text (Step c) r k spells more h =
     let m : ℕ = n + length filler in
     let g = command-reaches (n + length filler) s c text spells in
-    let e : n + length filler + length text ≡ n + length (filler ++ text) = omega (arith, length-append filler text) in (
+    let e : n + length filler + length text ≡ n + length (filler ++ text) = omega
+    (arith, length-append filler text) in (
       (
         g.0,
         ready-then n (n + length filler) st s filler text (Some g.0) r k (inr (command-begins c text spells)) refl g.1,
@@ -191,10 +202,13 @@ finish_piece n st s p eight is r h =
     let spells : Spells (Finish eight) p.text = subst (λ (e : Event). Spells e p.text) is h.spells in
     let m : ℕ = n + length p.filler in
     let w = finish_walk (n + length p.filler) s eight p.text spells in
-    let e : n + length p.filler + length p.text ≡ n + length (bytes_of p) = omega (arith, length-append p.filler p.text) in
-    let d : n + length p.filler + length p.text ≡ completed_at n p = rw is (omega (arith, length-append p.filler p.text)) in
+    let e : n + length p.filler + length p.text ≡ n + length (bytes_of p) = omega
+    (arith, length-append p.filler p.text) in
+    let d : n + length p.filler + length p.text ≡ completed_at n p = rw is
+    (omega (arith, length-append p.filler p.text)) in
     ap (walk n (Some st)) (append-nil (bytes_of p))
-    ∙ ready-then n (n + length p.filler) st s p.filler p.text _ r h.filler_is (inr (finish-begins eight p.text spells)) refl w
+    ∙ ready-then n (n + length p.filler) st s p.filler p.text _ r h.filler_is
+    (inr (finish-begins eight p.text spells)) refl w
     ∙ ap (λ (j : ℕ).
     Some (state Ended (n + length p.filler + length p.text) (s ++ stamp j (n + length p.filler) (Finish eight) ∷ []))) d
     ∙ ap (λ (j : ℕ). Some (state Ended j (s ++ stamp (completed_at n p) (n + length p.filler) (Finish eight) ∷ [])))
@@ -206,7 +220,8 @@ finish_piece n st s p eight is r h =
 -- a piece of the rest of a document is a step or the finish, and then no more follow
 rest_piece : (n : ℕ) (st : State) (s : List Stamp) (p : Piece) (event : Event) → p.event ≡ event → Ready n st s
     → IsPiece p → (more : List Event) → AreRest (event ∷ more)
-    → (PieceReaches n st s p × AreRest more) ⊎ ((walk n (Some st) (joined (p ∷ [])) ≡ finished n s (p ∷ [])) × (more ≡ []))
+    → (PieceReaches n st s p × AreRest more) ⊎
+    ((walk n (Some st) (joined (p ∷ [])) ≡ finished n s (p ∷ [])) × (more ≡ []))
 rest_piece n st s p (Start eight ps) is r k more h = absurd h
 rest_piece n st s p (Step c) is r k more h =
     inl (
@@ -235,9 +250,11 @@ pub rest_walk : (ps : List Piece) (n : ℕ) (st : State) (s : List Stamp) → Re
 rest_walk [] n st s r each h = absurd h
 rest_walk (p ∷ ps) n st s r each h =
     elim (rest_piece n st s p p.event refl r each.0 (events_in ps) h) [
-      | inl g ↦ finished-more ps p n s (Some st) g.0.0 g.0.1 (rest_walk ps (n + length (bytes_of p)) g.0.0 _ g.0.2.0 each.1 g.1)
+      | inl g ↦ finished-more ps p n s (Some st) g.0.0 g.0.1
+          (rest_walk ps (n + length (bytes_of p)) g.0.0 _ g.0.2.0 each.1 g.1)
       | inr g ↦
-          subst (λ (qs : List Piece). walk n (Some st) (joined (p ∷ qs)) ≡ finished n s (p ∷ qs)) (sym (none_said ps g.1)) g.0
+          subst (λ (qs : List Piece). walk n (Some st) (joined (p ∷ qs)) ≡ finished n s (p ∷ qs))
+          (sym (none_said ps g.1)) g.0
     ]
 
 -- ---- the start
@@ -267,7 +284,8 @@ last_walk n m eight ns k last le h =
           cond-true (ltb (length ns) 3) _ _ (lt-ltb (length ns) 3 (omega arith)) in
           ap (walk n (Some (state (Parameters eight ns k) m []))) e
           ∙ within-some n m [] (Parameters eight ns k) NoCommand 113 (Some (start_of eight (ns ++ k ∷ []))) w
-          ∙ ap (λ (t : List ℕ). idle (n + length t) (stamp (n + length t) m (start_of eight (ns ++ k ∷ [])) ∷ [])) (sym e)
+          ∙ ap (λ (t : List ℕ). idle (n + length t) (stamp (n + length t) m (start_of eight (ns ++ k ∷ [])) ∷ []))
+          (sym e)
       | inr e ↦
           let ge : (length ns ≡ 2) = omega (arith, e.1, length-append ns (k ∷ [])) in
           let w : within (Parameters eight ns k) 59 ≡ Some (LastSeparator eight (ns ++ k ∷ []), None) = rw ge refl in
@@ -276,7 +294,8 @@ last_walk n m eight ns k last le h =
           ∙ ap (λ (t : Option State). walk (n + 1) t (113 ∷ []))
           (within-some n m [] (Parameters eight ns k) (LastSeparator eight (ns ++ k ∷ [])) 59 None w)
           ∙ ap (λ (j : ℕ). idle j (stamp j m (start_of eight (ns ++ k ∷ [])) ∷ [])) z
-          ∙ ap (λ (t : List ℕ). idle (n + length t) (stamp (n + length t) m (start_of eight (ns ++ k ∷ [])) ∷ [])) (sym e.0)
+          ∙ ap (λ (t : List ℕ). idle (n + length t) (stamp (n + length t) m (start_of eight (ns ++ k ∷ [])) ∷ []))
+          (sym e.0)
     ]
 
 abbrev pub begun : ℕ → ℕ → Event → Option State
@@ -302,7 +321,8 @@ start_text : (m : ℕ) (eight : Bool) (ns : List ℕ) (text fields last : List �
     → walk m (Some (state NothingYet m [])) text ≡ begun (m + length text) m (start_of eight ns)
 start_text m eight [] text fields last f le l e = absurd f
 start_text m eight (a ∷ []) text fields last f le l e = one_start m eight [] a text fields last f (omega arith) l e
-start_text m eight (a ∷ b ∷ []) text fields last f le l e = one_start m eight (a ∷ []) b text fields last f (omega arith) l e
+start_text m eight (a ∷ b ∷ []) text fields last f le l e = one_start m eight (a ∷ []) b text fields last f
+    (omega arith) l e
 start_text m eight (a ∷ b ∷ c ∷ []) text fields last f le l e =
     one_start m eight (a ∷ b ∷ []) c text fields last f (omega arith) l e
 start_text m eight (a ∷ b ∷ c ∷ d ∷ ns) text fields last f le l e = absurd (omega arith)
@@ -314,14 +334,16 @@ first_piece : (p : Piece) (eight : Bool) (ns : List ℕ) → p.event ≡ start_o
 first_piece p eight ns is h =
     let spells : Spells (start_of eight ns) p.text = subst (λ (e : Event). Spells e p.text) is h.spells in
     let w = start_text (0 + length p.filler) eight ns p.text spells.0 spells.1 spells.2 spells.3 spells.4 spells.5 in
-    let e : 0 + length p.filler + length p.text ≡ 0 + length (bytes_of p) = omega (arith, length-append p.filler p.text) in
+    let e : 0 + length p.filler + length p.text ≡ 0 + length (bytes_of p) = omega
+    (arith, length-append p.filler p.text) in
     let d : 0 + length (bytes_of p) ≡ completed_at 0 p = rw is (omega arith) in
     walk-then 0 (0 + length p.filler) start
     (Some (state NothingYet (0 + length p.filler) [])) _ p.filler p.text refl
     (outside-filler 0 p.filler h.filler_is) w
     ∙ ap (λ (j : ℕ). begun j (0 + length p.filler) (start_of eight ns)) e
     ∙ ap (λ (j : ℕ). idle (0 + length (bytes_of p)) (stamp j (0 + length p.filler) (start_of eight ns) ∷ [])) d
-    ∙ ap (λ (v : Event). idle (0 + length (bytes_of p)) (stamp (completed_at 0 p) (0 + length p.filler) v ∷ [])) (sym is)
+    ∙ ap (λ (v : Event). idle (0 + length (bytes_of p)) (stamp (completed_at 0 p) (0 + length p.filler) v ∷ []))
+    (sym is)
 
 begun_piece : (event : Event) (more : List Event) → AreBegun (event ∷ more)
     → (eight : Bool) × (ns : List ℕ) × (event ≡ start_of eight ns) × AreSteps more × (is_open_ended event ≡ false)
@@ -392,7 +414,11 @@ settles-then n m u s ps filler text v l k h closed e w =
           (idle-filler n s filler k ∙ ap (λ (j : ℕ). idle j s) (sym e)) w
       | inr f ↦
           let some = f (length filler + length text) closed in
-          let b : (0 < length filler) ⊎ Begins text = elim h [ inl none ↦ inl (omega (arith, ap length none)) | inr t ↦ inr t ] in
+          let b : (0 < length filler) ⊎ Begins text = elim h [
+            | inl none ↦ inl
+                (omega (arith, ap length none))
+            | inr t ↦ inr t
+          ] in
           ready-then n m u s filler text v l.0 k b e w
     ]
 
@@ -405,7 +431,8 @@ late f {opened = opened} e before h w =
     let l = begun_walk e.pieces e.each before in
     let z : opened ≡ 0 + length (joined e.pieces) + length e.filler = omega (arith, e.opened_is) in
     ap (walk 0 start) (e.bytes_are ∙ append_assoc (joined e.pieces) e.filler e.open_bytes)
-    ∙ walk-then 0 (0 + length (joined e.pieces)) start (Some l.0) _ (joined e.pieces) (e.filler ++ e.open_bytes) refl l.1
+    ∙ walk-then 0 (0 + length (joined e.pieces)) start (Some l.0) _ (joined e.pieces)
+    (e.filler ++ e.open_bytes) refl l.1
     (settles-then (0 + length (joined e.pieces)) opened l.0
     (stamped_from 0 e.pieces) e.pieces e.filler e.open_bytes _ l.2 e.filler_is h e.closed z
     (w opened (stamped_from 0 e.pieces)))
@@ -457,7 +484,8 @@ ends_walk Ended {events} {opened} {bytes} e =
     let none : e.open_bytes ≡ [] = e.opens in
     let z : 0 + length (joined e.pieces) + length e.filler ≡ opened = omega (arith, e.opened_is) in
     ap (walk 0 start)
-    (e.bytes_are ∙ ap (λ (t : List ℕ). joined e.pieces ++ e.filler ++ t) none ∙ append-nil (joined e.pieces ++ e.filler))
+    (e.bytes_are ∙ ap (λ (t : List ℕ). joined e.pieces ++ e.filler ++ t) none
+    ∙ append-nil (joined e.pieces ++ e.filler))
     ∙ walk-then 0 (0 + length (joined e.pieces)) start (finished 0 [] e.pieces) _ (joined e.pieces) e.filler refl
     (whole_walk e.pieces e.each e.before)
     (ended-filler (0 + length (joined e.pieces)) (stamped_from 0 e.pieces) e.filler e.filler_is)

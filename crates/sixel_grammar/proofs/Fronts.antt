@@ -1,5 +1,6 @@
 -- Each front of what is viable is viable.
-use Rattle.std.proofs.Common.{◌≡◌, ℕ, ◌+◌, List, [], ◌∷◌, ◌++◌, length, Option, Some, None, refl, sym, ap, subst, ◌∙◌, append_assoc, inl, inr}
+use Rattle.std.proofs.Common.{◌≡◌, ℕ, ◌+◌, List, [], ◌∷◌, ◌++◌, length, Option, Some, None, refl, sym, ap, subst, ◌∙◌}
+use Rattle.std.proofs.Common.{append_assoc, inl, inr}
 use Rattle.std.specs.Prelude.{◌⊎◌}
 use Rattle.std.proofs.lemmas.List.{append-nil}
 use Rattle.sixel_grammar.specs.declared.command.Event.{Event}
@@ -34,7 +35,8 @@ leads (b ∷ more) f events opened bytes e =
         | inl r ↦ inl (subst Ends (append_assoc bytes (b ∷ []) more) r)
         | inr w ↦
             inr (λ n o s.
-            ap (λ (t : Option (Option Event × Form × Option Event)). walk (n + 1) (after n o s t) more) is ∙ w (n + 1) _ _)
+            ap (λ (t : Option (Option Event × Form × Option Event)). walk (n + 1) (after n o s t) more) is
+            ∙ w (n + 1) _ _)
       ]
     ] refl (advances f e b)
 
@@ -62,7 +64,8 @@ front_ends front rest v =
           let d = document_walk v.1.pieces ((front ++ rest) ++ v.1.tail) v.1.parses in
           let n : walk 0 start ((front ++ rest) ++ v.1.tail) ≡ None =
           walk-then 0 (0 + length (front ++ rest)) start None None (front ++ rest) v.1.tail refl
-          (walk-then 0 (0 + length front) start None None front rest refl (w 0 0 []) (walk-none (0 + length front) rest))
+          (walk-then 0 (0 + length front) start None None front rest refl (w 0 0 [])
+          (walk-none (0 + length front) rest))
           (walk-none (0 + length (front ++ rest)) v.1.tail) in
           absurd cc
     ]

@@ -1,9 +1,11 @@
 -- A fixed spelling is no longer than its bound.
-use Rattle.std.proofs.Common.{◌≡◌, ℕ, ◌+◌, ◌^◌, ◌<◌, ◌≤◌, Bool, true, false, List, [], ◌∷◌, ◌++◌, length, decimal, refl, arith, lit<, lit≤, length-append, lt_of_le_of_lt}
+use Rattle.std.proofs.Common.{◌≡◌, ℕ, ◌+◌, ◌^◌, ◌<◌, ◌≤◌, Bool, true, false, List, [], ◌∷◌, ◌++◌, length, decimal, refl}
+use Rattle.std.proofs.Common.{arith, lit<, lit≤, length-append, lt_of_le_of_lt}
 use Rattle.std.specs.Prelude.{nat_lt, if◌then◌else◌}
 use Rattle.std.proofs.lemmas.Bool.{ltb-true}
 use Rattle.std.proofs.lemmas.Fmt.{length-decimal-le}
-use Rattle.sixel_grammar.specs.declared.command.Command.TheVariants.{Sixel, Repeat, Raster, Select, Define, CarriageReturn, NextLine}
+use Rattle.sixel_grammar.specs.declared.command.Command.TheVariants.{Sixel, Repeat, Raster, Select, Define}
+use Rattle.sixel_grammar.specs.declared.command.Command.TheVariants.{CarriageReturn, NextLine}
 use Rattle.sixel_grammar.specs.declared.command.Event.{Event}
 use Rattle.sixel_grammar.specs.declared.command.Event.TheVariants.{Start, Step, Finish}
 use Rattle.sixel_grammar.specs.Bytes.{introducer, terminator}
@@ -33,7 +35,13 @@ fields_within : (ns : List ℕ) → AreNumbers ns → length (fixed_fields ns) �
 fields_within [] h = omega arith
 fields_within (n ∷ []) h = decimal_within n h.0
 fields_within (n ∷ m ∷ ns) h =
-    omega (arith, decimal_within n h.0, fields_within (m ∷ ns) h.1, length-append (decimal n) (59 ∷ fixed_fields (m ∷ ns)))
+    omega (
+      arith,
+      decimal_within n h.0,
+      fields_within (m ∷ ns) h.1,
+      length-append (decimal n)
+          (59 ∷ fixed_fields (m ∷ ns)),
+    )
 
 introducer_within : (eight : Bool) → length (introducer eight) ≤ 2
 introducer_within true = lit≤ tt
@@ -55,9 +63,11 @@ spelling_within (Start eight parameters) is =
 spelling_within (Step (Sixel bits)) is = lit≤ tt
 spelling_within (Step (Repeat count bits)) is =
     omega (arith, decimal_within count is.0, length-append (decimal count) ((63 + bits) ∷ []))
-spelling_within (Step (Raster pan pad width height)) is = omega (arith, fields_within (pan ∷ pad ∷ width ∷ height ∷ []) is)
+spelling_within (Step (Raster pan pad width height)) is = omega
+    (arith, fields_within (pan ∷ pad ∷ width ∷ height ∷ []) is)
 spelling_within (Step (Select register)) is = omega (arith, decimal_within register is)
-spelling_within (Step (Define register system x y z)) is = omega (arith, fields_within (register ∷ system ∷ x ∷ y ∷ z ∷ []) is)
+spelling_within (Step (Define register system x y z)) is = omega
+    (arith, fields_within (register ∷ system ∷ x ∷ y ∷ z ∷ []) is)
 spelling_within (Step CarriageReturn) is = lit≤ tt
 spelling_within (Step NextLine) is = lit≤ tt
 spelling_within (Finish eight) is = terminator_within eight

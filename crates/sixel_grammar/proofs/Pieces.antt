@@ -1,6 +1,7 @@
 -- Pieces with one more at the end, and what a front that ends in a form is after one byte more. Nothing here knows
 -- which bytes spell which event.
-use Rattle.std.proofs.Common.{◌≡◌, ℕ, ◌+◌, ◌<◌, ◌≤◌, Bool, false, List, [], ◌∷◌, ◌++◌, length, refl, sym, ap, ◌∙◌, append_assoc, arith, length-append}
+use Rattle.std.proofs.Common.{◌≡◌, ℕ, ◌+◌, ◌<◌, ◌≤◌, Bool, false, List, [], ◌∷◌, ◌++◌, length, refl, sym, ap, ◌∙◌}
+use Rattle.std.proofs.Common.{append_assoc, arith, length-append}
 use Rattle.std.specs.Prelude.{IsTrue}
 use Rattle.std.specs.List.{AllByRecursion}
 use Rattle.std.proofs.lemmas.List.{append-nil}
@@ -10,7 +11,8 @@ use Rattle.sixel_grammar.specs.declared.command.Event.TheVariants.{Start, Step, 
 use Rattle.sixel_grammar.specs.declared.command.Placed.{Placed}
 use Rattle.sixel_grammar.specs.Bytes.{is_filler}
 use Rattle.sixel_grammar.specs.Spelling.{Spells, is_open_ended}
-use Rattle.sixel_grammar.specs.Document.{AreFiller, Piece, IsPiece, bytes_of, joined, events_in, placed_from, AreRest, AreWhole}
+use Rattle.sixel_grammar.specs.Document.{AreFiller, Piece, IsPiece, bytes_of, joined, events_in, placed_from, AreRest}
+use Rattle.sixel_grammar.specs.Document.{AreWhole}
 use Rattle.sixel_grammar.specs.Faults.{Form, NoCommand, Opens, Precede, AreSteps, AreBegun, IsClosed, EndsIn}
 
 pub joined-more : (ps : List Piece) (p : Piece) → joined (ps ++ p ∷ []) ≡ joined ps ++ bytes_of p
@@ -78,7 +80,8 @@ closed-more [] n m h le = tt
 closed-more (p ∷ []) n m h le = λ t. let k = h t in omega arith
 closed-more (p ∷ q ∷ ps) n m h le = closed-more (q ∷ ps) n m h le
 
-pub closed-at : (ps : List Piece) (p : Piece) (n : ℕ) → (IsTrue (is_open_ended p.event) → 0 < n) → IsClosed (ps ++ p ∷ []) n
+pub closed-at : (ps : List Piece) (p : Piece) (n : ℕ) → (IsTrue (is_open_ended p.event) → 0 < n)
+    → IsClosed (ps ++ p ∷ []) n
 closed-at [] p n h = h
 closed-at (q ∷ []) p n h = h
 closed-at (q ∷ r ∷ ps) p n h = closed-at (r ∷ ps) p n h
@@ -125,7 +128,8 @@ grow e b g opens before = record {
   pieces = e.pieces;
   filler = e.filler;
   open_bytes = e.open_bytes ++ b ∷ [];
-  bytes_are = ap (λ (t : List ℕ). t ++ b ∷ []) e.bytes_are ∙ append_assoc (joined e.pieces ++ e.filler) e.open_bytes (b ∷ []);
+  bytes_are = ap (λ (t : List ℕ). t ++ b ∷ []) e.bytes_are
+      ∙ append_assoc (joined e.pieces ++ e.filler) e.open_bytes (b ∷ []);
   each = e.each;
   filler_is = e.filler_is;
   opens = opens;
@@ -159,7 +163,8 @@ fill {bytes} e b g none is opens before =
       before = before;
       closed = closed-some e.pieces (length (e.filler ++ b ∷ []) + 0) (omega (arith, length-append e.filler (b ∷ [])));
       events_are = e.events_are;
-      opened_is = omega (arith, ap length whole, length-append (joined e.pieces) e.filler, length-append e.filler (b ∷ []));
+      opened_is = omega
+          (arith, ap length whole, length-append (joined e.pieces) e.filler, length-append e.filler (b ∷ []));
     }
 
 -- the open piece is whole with the byte
@@ -170,21 +175,24 @@ pub close : {f : Form} {events : List Placed} {opened : ℕ} {bytes : List ℕ} 
     → EndsIn g (events ++ record { place = opened; event = event } ∷ []) (length bytes + 1) (bytes ++ b ∷ [])
 close {events = events} {opened = opened} {bytes = bytes} e b event g spells shut opens before =
     let p : Piece = record { filler = e.filler; text = e.open_bytes ++ b ∷ []; event = event } in
-    let j : joined (e.pieces ++ p ∷ []) ≡ joined e.pieces ++ (e.filler ++ (e.open_bytes ++ b ∷ [])) = joined-more e.pieces p in
+    let j : joined (e.pieces ++ p ∷ []) ≡ joined e.pieces ++
+    (e.filler ++ (e.open_bytes ++ b ∷ [])) = joined-more e.pieces p in
     let whole : bytes ++ b ∷ [] ≡ joined (e.pieces ++ p ∷ []) =
     ap (λ (t : List ℕ). t ++ b ∷ []) e.bytes_are ∙ simp append_assoc (sym j) in
     record {
       pieces = e.pieces ++ p ∷ [];
       filler = [];
       open_bytes = [];
-      bytes_are = whole ∙ sym (append-nil (joined (e.pieces ++ p ∷ []))) ∙ sym (append-nil (joined (e.pieces ++ p ∷ []) ++ []));
+      bytes_are = whole ∙ sym (append-nil (joined (e.pieces ++ p ∷ [])))
+          ∙ sym (append-nil (joined (e.pieces ++ p ∷ []) ++ []));
       each = all-append IsPiece e.pieces (p ∷ []) e.each (record { filler_is = e.filler_is; spells = spells }, tt);
       filler_is = tt;
       opens = opens;
       before = rw said-append before;
       closed = closed-at e.pieces p 0 (λ t. absurd cc);
       events_are = ap (λ (es : List Placed). es ++ record { place = opened; event = event } ∷ []) e.events_are
-          ∙ ap (λ (k : ℕ). placed_from 0 e.pieces ++ record { place = k; event = event } ∷ []) (omega (arith, e.opened_is))
+          ∙ ap (λ (k : ℕ). placed_from 0 e.pieces ++ record { place = k; event = event } ∷ [])
+          (omega (arith, e.opened_is))
           ∙ sym (placed-more 0 e.pieces p);
       opened_is = omega (arith, ap length whole, length-append bytes (b ∷ []));
     }
@@ -203,13 +211,15 @@ settle {events = events} {opened = opened} {bytes = bytes} e event spells before
       pieces = e.pieces ++ p ∷ [];
       filler = [];
       open_bytes = [];
-      bytes_are = whole ∙ sym (append-nil (joined (e.pieces ++ p ∷ []))) ∙ sym (append-nil (joined (e.pieces ++ p ∷ []) ++ []));
+      bytes_are = whole ∙ sym (append-nil (joined (e.pieces ++ p ∷ [])))
+          ∙ sym (append-nil (joined (e.pieces ++ p ∷ []) ++ []));
       each = all-append IsPiece e.pieces (p ∷ []) e.each (record { filler_is = e.filler_is; spells = spells }, tt);
       filler_is = tt;
       opens = refl;
       before = rw said-append before;
       events_are = ap (λ (es : List Placed). es ++ record { place = opened; event = event } ∷ []) e.events_are
-          ∙ ap (λ (k : ℕ). placed_from 0 e.pieces ++ record { place = k; event = event } ∷ []) (omega (arith, e.opened_is))
+          ∙ ap (λ (k : ℕ). placed_from 0 e.pieces ++ record { place = k; event = event } ∷ [])
+          (omega (arith, e.opened_is))
           ∙ sym (placed-more 0 e.pieces p);
       opened_is = omega (arith, ap length whole);
     }

@@ -1,12 +1,11 @@
 -- On what was put into a block, and on what the sink behind it took.
-use Rattle.std.proofs.Common.{◌≡◌, ℕ, zero, suc, ◌+◌, ◌-◌, ◌<◌, ◌≤◌, Option, Some, None, Result, Ok, Err, List, []}
-use Rattle.std.proofs.Common.{◌∷◌, ◌++◌}
-use Rattle.std.proofs.Common.{length, take, drop, get_or, refl, sym, ap, subst, ◌∙◌, append_assoc, arith}
+use Rattle.std.proofs.Common.{◌≡◌, ℕ, zero, suc, ◌+◌, ◌-◌, ◌<◌, ◌≤◌, Option, Some, None, Result, Ok, Err, List, [], ◌∷◌}
+use Rattle.std.proofs.Common.{◌++◌, length, take, drop, get_or, refl, sym, ap, subst, ◌∙◌, append_assoc, arith}
 use Rattle.std.specs.Prelude.{OnOk}
 use Rattle.std.specs.Io.KnownBytes.{Appends, Keeps, append_known}
 use Rattle.std.proofs.KnownBytes.{Appends-trans}
-use Rattle.std.proofs.lemmas.List.{append-nil, append_cancel_left, length-append, length-take}
-use Rattle.std.proofs.lemmas.List.{take-append-drop, take_all, take_at, take_more, take-take}
+use Rattle.std.proofs.lemmas.List.{append-nil, append_cancel_left, length-append, length-take, take-append-drop}
+use Rattle.std.proofs.lemmas.List.{take_all, take_at, take_more, take-take}
 use Rattle.std.proofs.Math.Seq.{take-append-add}
 use Rattle.sixel_grammar.specs.Blocks.{PutsAllOrNone, TakesMore, in_all}
 use Rattle.sixel_grammar.specs.Devices.{Puts}

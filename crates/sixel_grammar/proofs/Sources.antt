@@ -1,5 +1,6 @@
 -- Reading a source to its end.
-use Rattle.std.proofs.Common.{◌≡◌, ℕ, zero, suc, get_or, ◌+◌, ◌<◌, ◌≤◌, List, [], ◌∷◌, ◌++◌, length, take, drop, Option, Some, None, refl, sym, ap, subst, ◌∙◌, append_assoc, arith}
+use Rattle.std.proofs.Common.{◌≡◌, ℕ, zero, suc, get_or, ◌+◌, ◌<◌, ◌≤◌, List, [], ◌∷◌, ◌++◌, length, take, drop, Option}
+use Rattle.std.proofs.Common.{Some, None, refl, sym, ap, subst, ◌∙◌, append_assoc, arith}
 use Rattle.std.specs.Prelude.{IfSome}
 use Rattle.std.specs.Io.KnownBytes.{Consumes, IsAtEnd, Keeps}
 use Rattle.std.proofs.lemmas.List.{append-nil, take_more, take-append-drop}
@@ -21,14 +22,16 @@ refuses-more (Grammar f) bytes rest whole e h =
 refuses-more OutOfMemory bytes rest whole e h = tt
 refuses-more Read bytes rest whole e h = h
 
-pub consumes-then : (a b c : Option (List ℕ)) (xs ys : List ℕ) → Consumes a b xs → Consumes b c ys → Consumes a c (xs ++ ys)
+pub consumes-then : (a b c : Option (List ℕ)) (xs ys : List ℕ) → Consumes a b xs → Consumes b c ys
+    → Consumes a c (xs ++ ys)
 consumes-then None b c xs ys p q = tt
 consumes-then (Some a) None c xs ys p q = absurd p
 consumes-then (Some a) (Some b) None xs ys p q = absurd q
 consumes-then (Some a) (Some b) (Some c) xs ys p q = p ∙ ap (λ (t : List ℕ). xs ++ t) q ∙ sym (append_assoc xs ys c)
 
 -- at the end the bytes that were read are all
-pub all_read : (a b : Option (List ℕ)) (xs : List ℕ) (P : List ℕ → Type 0) → Consumes a b xs → IsAtEnd b → P xs → IfSome a P
+pub all_read : (a b : Option (List ℕ)) (xs : List ℕ) (P : List ℕ → Type 0) → Consumes a b xs → IsAtEnd b → P xs
+    → IfSome a P
 all_read None b xs P c end h = tt
 all_read (Some a) None xs P c end h = absurd c
 all_read (Some a) (Some b) xs P c end h = subst P (sym (c ∙ ap (λ (t : List ℕ). xs ++ t) end ∙ append-nil xs)) h
@@ -43,13 +46,20 @@ refused_early (Some a) (Some b) OutOfMemory xs c h = tt
 refused_early (Some a) (Some b) Read xs c h = absurd h
 
 -- a reader that stands after all that was given found no fault in it, and a call that fails gives nothing
-pub no_fault_before : (a b c : Option (List ℕ)) (r : Reader) (events : List Placed) (given : List ℕ) → StandsAfter r events given
+pub no_fault_before : (a b c : Option (List ℕ)) (r : Reader) (events : List Placed) (given : List ℕ)
+    → StandsAfter r events given
     → Consumes a b given → Keeps b c → IfSome a (NoFaultBefore c)
 no_fault_before None b c r events given s u k = tt
 no_fault_before (Some a) None c r events given s u k = absurd u
 no_fault_before (Some a) (Some b) None r events given s u k = absurd k
-no_fault_before (Some a) (Some b) (Some c) r events given s u k =
-    (given, u ∙ ap (λ (t : List ℕ). given ++ t) (sym k), read_short r events given s, (events, read_complete r events given s))
+no_fault_before (Some a) (Some b) (Some c) r events given s u k = (
+  given,
+  u
+      ∙ ap (λ (t : List ℕ). given ++ t)
+      (sym k),
+  read_short r events given s,
+  (events, read_complete r events given s),
+)
 
 pub take_none : (n : ℕ) (xs : List ℕ) → n ≡ 0 → take n xs ≡ []
 take_none n [] e = rw e refl

@@ -1,5 +1,7 @@
 -- What a reader that stands after some bytes owes at the next one.
-use Rattle.std.proofs.Common.{◌≡◌, ℕ, ◌+◌, ◌-◌, ◌<◌, ◌≤◌, Bool, true, false, cond, List, [], ◌∷◌, ◌++◌, length, take, Option, Some, None, refl, sym, ap, subst, ◌∙◌, append_assoc, arith, inl, inr, length-append}
+use Rattle.std.proofs.Common.{◌≡◌, ℕ, ◌+◌, ◌-◌, ◌<◌, ◌≤◌, Bool, true, false, cond, List, [], ◌∷◌, ◌++◌, length, take}
+use Rattle.std.proofs.Common.{Option, Some, None, refl, sym, ap, subst, ◌∙◌, append_assoc, arith, inl, inr}
+use Rattle.std.proofs.Common.{length-append}
 use Rattle.std.specs.Prelude.{slice_get}
 use Rattle.std.proofs.lemmas.Bool.{cases_lt, cond-true}
 use Rattle.std.proofs.lemmas.List.{append-nil}
@@ -14,7 +16,9 @@ use Rattle.sixel_grammar.specs.declared.fault.Reason.TheVariants.{Truncated, Too
 use Rattle.sixel_grammar.specs.declared.reader.Reader.{Reader}
 use Rattle.sixel_grammar.specs.Document.{IsDocument}
 use Rattle.sixel_grammar.specs.Fronts.{CompleteIn, IsViable}
-use Rattle.sixel_grammar.specs.Faults.{Form, NothingYet, Introducing, Parameters, LastSeparator, NoCommand, RepeatNumber, RasterFields, ColourFields, Terminating, Ended, EndsIn, IsFaultOf, refusal, is_idle}
+use Rattle.sixel_grammar.specs.Faults.{Form, NothingYet, Introducing, Parameters, LastSeparator, NoCommand}
+use Rattle.sixel_grammar.specs.Faults.{RepeatNumber, RasterFields, ColourFields, Terminating, Ended, EndsIn, IsFaultOf}
+use Rattle.sixel_grammar.specs.Faults.{refusal, is_idle}
 use Rattle.sixel_grammar.specs.Next.{begin, within, chosen, next_of}
 use Rattle.sixel_grammar.specs.Bytes.{is_data}
 use Rattle.sixel_grammar.specs.declared.command.Command.TheVariants.{Sixel}
@@ -64,7 +68,8 @@ opened-next false n o k h = sym (h refl)
 pub accepted : (r q : Reader) (events : List Placed) (bytes : List ℕ) (b o : ℕ) (first second : Option Event)
     (c : Completed)
     → StandsAfter r events bytes
-    → 0 < r.left → next_of (form_of r.pending) b ≡ Some (first, form_of q.pending, second) → o ≡ opened_after (length bytes) r
+    → 0 < r.left → next_of (form_of r.pending) b ≡ Some (first, form_of q.pending, second)
+    → o ≡ opened_after (length bytes) r
     → completions c ≡ completed_events o (length bytes) first second → q.fault ≡ r.fault → q.left ≡ r.left - 1
     → (is_idle (form_of q.pending) ≡ false → q.opened ≡ moved o (length bytes) first)
     → StandsAfter q (events ++ completions c) (bytes ++ b ∷ [])
@@ -77,13 +82,16 @@ accepted r q events bytes b o first second c s lt e at out fault left opened =
     let len : length (bytes ++ b ∷ []) ≡ length bytes + 1 = length-append bytes (b ∷ []) in
     let place : cond (is_idle (form_of q.pending)) (length bytes + 1) (second_place o bytes first)
     ≡ opened_after (length (bytes ++ b ∷ [])) q =
-    ap (λ (k : ℕ). cond (is_idle (form_of q.pending)) (length bytes + 1) k) (second-same o (length bytes) bytes first refl)
+    ap (λ (k : ℕ). cond (is_idle (form_of q.pending)) (length bytes + 1) k)
+    (second-same o (length bytes) bytes first refl)
     ∙ opened-next (is_idle (form_of q.pending)) (length bytes + 1) q.opened (moved o (length bytes) first) opened
     ∙ ap (λ (k : ℕ). cond (is_idle (form_of q.pending)) k q.opened) (sym len) in
     record {
       no_fault = fault ∙ s.no_fault;
       left = omega (arith, s.left, left, len);
-      ends = subst (λ (es : List Placed). EndsIn (form_of q.pending) es (opened_after (length (bytes ++ b ∷ [])) q) (bytes ++ b ∷ []))
+      ends = subst
+          (λ (es : List Placed). EndsIn (form_of q.pending) es (opened_after (length (bytes ++ b ∷ [])) q)
+          (bytes ++ b ∷ []))
           same (subst (λ (k : ℕ).
           EndsIn (form_of q.pending) (with_done (with_done events o first) (second_place o bytes first) second) k
           (bytes ++ b ∷ [])) place went);
@@ -195,12 +203,14 @@ ended r q events bytes b event s lt e opened fault left =
     let unfinished = ends-unfinished (form_of r.pending) b event (form_of q.pending) None e in
     accepted r q events bytes b r.opened (Some event) None
     (record { first = Some (record { place = r.opened; event = event }); second = None }) s lt e
-    (ap (λ (i : Bool). cond i (length bytes) r.opened) (sym unfinished)) refl fault left (λ i. opened ∙ omega (arith, s.left))
+    (ap (λ (i : Bool). cond i (length bytes) r.opened) (sym unfinished)) refl fault left
+    (λ i. opened ∙ omega (arith, s.left))
 
 -- a byte that ends a command, and makes an event whole itself
 pub both : (r q : Reader) (events : List Placed) (bytes : List ℕ) (b o : ℕ) (first second : Event) (c : Completed)
     → StandsAfter r events bytes → 0 < r.left
-    → next_of (form_of r.pending) b ≡ Some (Some first, form_of q.pending, Some second) → o ≡ opened_after (268435456 - r.left) r
+    → next_of (form_of r.pending) b ≡ Some (Some first, form_of q.pending, Some second)
+    → o ≡ opened_after (268435456 - r.left) r
     → c
     ≡ record {
       first = Some (record { place = o; event = first });
@@ -314,8 +324,10 @@ nothing_read r fault left form = record {
 
 -- ---- what a reader that stands after some bytes says of them
 
-pub read_complete : (r : Reader) (events : List Placed) (bytes : List ℕ) → StandsAfter r events bytes → CompleteIn events bytes
+pub read_complete : (r : Reader) (events : List Placed) (bytes : List ℕ) → StandsAfter r events bytes
+    → CompleteIn events bytes
 read_complete r events bytes s = complete (form_of r.pending) s.ends
 
-pub read_short : (r : Reader) (events : List Placed) (bytes : List ℕ) → StandsAfter r events bytes → length bytes ≤ 268435456
+pub read_short : (r : Reader) (events : List Placed) (bytes : List ℕ) → StandsAfter r events bytes
+    → length bytes ≤ 268435456
 read_short r events bytes s = omega (arith, s.left)

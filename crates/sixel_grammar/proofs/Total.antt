@@ -1,5 +1,6 @@
 -- Bytes are a document or have a fault, and the events complete in them are a document's first.
-use Rattle.std.proofs.Common.{take, ◌-◌, ◌≡◌, ℕ, ◌+◌, ◌≤◌, List, [], ◌∷◌, ◌++◌, length, Some, None, refl, sym, ap, subst, ◌∙◌, append_assoc, arith, length-append, inl, inr}
+use Rattle.std.proofs.Common.{take, ◌-◌, ◌≡◌, ℕ, ◌+◌, ◌≤◌, List, [], ◌∷◌, ◌++◌, length, Some, None, refl, sym, ap}
+use Rattle.std.proofs.Common.{subst, ◌∙◌, append_assoc, arith, length-append, inl, inr}
 use Rattle.std.specs.Prelude.{◌⊎◌}
 use Rattle.std.proofs.lemmas.List.{append-nil}
 use Rattle.std.proofs.lemmas.Bool.{cases_lt}
@@ -8,9 +9,12 @@ use Rattle.sixel_grammar.specs.declared.command.Event.{Event}
 use Rattle.sixel_grammar.specs.declared.command.Placed.{Placed}
 use Rattle.sixel_grammar.specs.declared.fault.Fault.{Fault}
 use Rattle.sixel_grammar.specs.declared.fault.Reason.TheVariants.{Truncated, TooLong}
-use Rattle.sixel_grammar.specs.Document.{Piece, bytes_of, events_in, events_of, placed_from, AreWhole, Document, IsDocument}
+use Rattle.sixel_grammar.specs.Document.{Piece, bytes_of, events_in, events_of, placed_from, AreWhole, Document}
+use Rattle.sixel_grammar.specs.Document.{IsDocument}
 use Rattle.sixel_grammar.specs.Fronts.{CompleteIn, IsViable}
-use Rattle.sixel_grammar.specs.Faults.{Form, NothingYet, Introducing, Parameters, LastSeparator, NoCommand, RepeatNumber, RasterFields, ColourFields, Terminating, Ended, AreFront, EndsIn, IsFaultOf, Precede, refusal}
+use Rattle.sixel_grammar.specs.Faults.{Form, NothingYet, Introducing, Parameters, LastSeparator, NoCommand}
+use Rattle.sixel_grammar.specs.Faults.{RepeatNumber, RasterFields, ColourFields, Terminating, Ended, AreFront, EndsIn}
+use Rattle.sixel_grammar.specs.Faults.{IsFaultOf, Precede, refusal}
 use Rattle.sixel_grammar.specs.Next.{next_of}
 use Rattle.sixel_grammar.proofs.Advance.{GoesTo, advances}
 use Rattle.sixel_grammar.proofs.Fronts.{nothing, front_ends}
@@ -23,7 +27,8 @@ placed-events n [] = refl
 placed-events n (p ∷ ps) = ap (λ (es : List Event). p.event ∷ es) (placed-events (n + length (bytes_of p)) ps)
 
 pub document_whole : (events : List Placed) (bytes : List ℕ) → Document events bytes → AreWhole (events_of events)
-document_whole events bytes d = subst AreWhole (sym (ap events_of d.events_are ∙ placed-events 0 d.pieces)) d.parses.whole
+document_whole events bytes d = subst AreWhole
+    (sym (ap events_of d.events_are ∙ placed-events 0 d.pieces)) d.parses.whole
 
 -- ---- fronts
 
@@ -46,7 +51,8 @@ complete_front events bytes c =
     (subst (λ (t : List ℕ). (es : List Placed) × CompleteIn es t) (sym (append-nil bytes)) (events, c)) in
     let e = v.3 in
     let same : events ≡ placed_from 0 e.pieces = complete_once bytes events v.1 c (complete v.0 e) ∙ e.events_are in
-    subst AreFront (sym (ap events_of same ∙ placed-events 0 e.pieces)) (precede_front v.0 (events_in e.pieces) e.before)
+    subst AreFront (sym (ap events_of same ∙ placed-events 0 e.pieces))
+    (precede_front v.0 (events_in e.pieces) e.before)
 
 -- ---- a document, or a fault
 
@@ -61,7 +67,8 @@ ended_document {events = events} {bytes = bytes} e short = (
     pieces = e.pieces;
     parses = record {
       after = e.filler;
-      bytes_are = let none : e.open_bytes ≡ [] = e.opens in e.bytes_are ∙ ap (λ (t : List ℕ). t) (rw none (append-nil _));
+      bytes_are = let none : e.open_bytes ≡ [] = e.opens in e.bytes_are
+          ∙ ap (λ (t : List ℕ). t) (rw none (append-nil _));
       each = e.each;
       whole = e.before;
       after_is = e.filler_is;
@@ -103,7 +110,8 @@ then_fault bytes more b fault h at =
 
 from_here : (more : List ℕ) (f : Form) (events : List Placed) (opened : ℕ) (bytes : List ℕ)
     → EndsIn f events opened bytes → length bytes ≤ 268435456 → Judged (bytes ++ more)
-from_here [] f events opened bytes e short = subst Judged (sym (append-nil bytes)) (at_end f events opened bytes e short)
+from_here [] f events opened bytes e short = subst Judged (sym (append-nil bytes))
+    (at_end f events opened bytes e short)
 from_here (b ∷ more) f events opened bytes e short =
     elim (cases_lt (length bytes) 268435456) [
       | inr full ↦

@@ -1,5 +1,7 @@
 -- What is said of bytes is said in one way alone: events, complete events, faults.
-use Rattle.std.proofs.Common.{◌≡◌, ℕ, zero, suc, ◌+◌, ◌-◌, ◌<◌, ◌≤◌, Bool, true, false, cond, leb, List, [], ◌∷◌, ◌++◌, length, take, drop, Option, Some, None, refl, sym, ap, subst, ◌∙◌, append_assoc, arith, length-append, inl, inr}
+use Rattle.std.proofs.Common.{◌≡◌, ℕ, zero, suc, ◌+◌, ◌-◌, ◌<◌, ◌≤◌, Bool, true, false, cond, leb, List, [], ◌∷◌, ◌++◌}
+use Rattle.std.proofs.Common.{length, take, drop, Option, Some, None, refl, sym, ap, subst, ◌∙◌, append_assoc, arith}
+use Rattle.std.proofs.Common.{length-append, inl, inr}
 use Rattle.std.specs.Prelude.{IsTrue, slice_get}
 use Rattle.std.specs.List.{AllByRecursion}
 use Rattle.std.proofs.lemmas.List.{append-nil, take-append-le}
@@ -10,13 +12,16 @@ use Rattle.sixel_grammar.specs.declared.command.Event.{Event}
 use Rattle.sixel_grammar.specs.declared.command.Placed.{Placed}
 use Rattle.sixel_grammar.specs.declared.fault.Reason.{Reason}
 use Rattle.sixel_grammar.specs.declared.fault.Fault.{Fault}
-use Rattle.sixel_grammar.specs.Document.{Piece, bytes_of, joined, events_in, placed_from, AreRest, AreWhole, Parses, Document, IsDocument}
+use Rattle.sixel_grammar.specs.Document.{Piece, bytes_of, joined, events_in, placed_from, AreRest, AreWhole, Parses}
+use Rattle.sixel_grammar.specs.Document.{Document, IsDocument}
 use Rattle.sixel_grammar.specs.Fronts.{completed_at, complete_from, CompleteIn, IsViable}
 use Rattle.sixel_grammar.specs.declared.command.Event.TheVariants.{Start, Step, Finish}
 use Rattle.sixel_grammar.specs.Spelling.{is_open_ended}
-use Rattle.sixel_grammar.specs.Faults.{Form, NothingYet, Ended, EndsIn, IsClosed, refusal, Stops, IsTooLong, IsRefused, IsFaultOf}
+use Rattle.sixel_grammar.specs.Faults.{Form, NothingYet, Ended, EndsIn, IsClosed, refusal, Stops, IsTooLong, IsRefused}
+use Rattle.sixel_grammar.specs.Faults.{IsFaultOf}
 use Rattle.sixel_grammar.specs.Next.{next_of}
-use Rattle.sixel_grammar.proofs.Walk.{Stamp, stamp, State, state, with_stamp, moved, after, walk, walk-none, walk-append, walk-then}
+use Rattle.sixel_grammar.proofs.Walk.{Stamp, stamp, State, state, with_stamp, moved, after, walk, walk-none}
+use Rattle.sixel_grammar.proofs.Walk.{walk-append, walk-then}
 use Rattle.sixel_grammar.proofs.DocumentWalk.{start, stamped_from, document_walk, ends_walk}
 use Rattle.sixel_grammar.proofs.Stands.{fault_at, form_at}
 use Rattle.sixel_grammar.proofs.Viable.{complete}
@@ -47,7 +52,8 @@ events_walk events bytes d =
     ∙ sym (placed-stamped 0 d.pieces)
     ∙ ap (λ (s : Option State). placed_of (so_far_at s)) (sym (document_walk d.pieces bytes d.parses))
 
-pub document_once : (bytes : List ℕ) (first second : List Placed) → Document first bytes → Document second bytes → first ≡ second
+pub document_once : (bytes : List ℕ) (first second : List Placed) → Document first bytes → Document second bytes
+    → first ≡ second
 document_once bytes first second a b = events_walk first bytes a ∙ sym (events_walk second bytes b)
 
 -- ---- events come at the byte that completes them
@@ -75,11 +81,13 @@ adds n o k s (Some e) (Some d) = (
 abbrev Grows : ℕ → ℕ → List Stamp → List Stamp → Type 0
 Grows n m old new = (later : List Stamp) × (new ≡ old ++ later) × CameIn n m later
 
-grows : (more : List ℕ) (n : ℕ) (s u : State) → walk n (Some s) more ≡ Some u → Grows n (n + length more) s.so_far u.so_far
+grows : (more : List ℕ) (n : ℕ) (s u : State) → walk n (Some s) more ≡ Some u
+    → Grows n (n + length more) s.so_far u.so_far
 grows [] n s u h = ([], ap so_far_at (sym h) ∙ sym (append-nil s.so_far), tt)
 grows (b ∷ more) n s u h = by_next (λ v k. grows more (n + 1) v u k) (next_of s.form b) h
   where
-    by_next : ((v : State) → walk (n + 1) (Some v) more ≡ Some u → Grows (n + 1) (n + 1 + length more) v.so_far u.so_far)
+    by_next : ((v : State) → walk (n + 1) (Some v) more ≡ Some u
+        → Grows (n + 1) (n + 1 + length more) v.so_far u.so_far)
         → (x : Option (Option Event × Form × Option Event)) → walk (n + 1) (after n s.opened s.so_far x) more ≡ Some u
         → Grows n (n + length (b ∷ more)) s.so_far u.so_far
     by_next go None k = absurd (let none = walk-none (n + 1) more in cc)
@@ -103,7 +111,8 @@ cond-placed : (b : Bool) (t : Stamp) (xs : List Placed) (ts : List Stamp) → xs
 cond-placed true t xs ts h = ap (λ (k : List Placed). t.placed ∷ k) h
 cond-placed false t xs ts h = refl
 
-complete-early : (held n : ℕ) (ps : List Piece) → complete_from held n ps ≡ placed_of (early_of held (stamped_from n ps))
+complete-early : (held n : ℕ) (ps : List Piece)
+    → complete_from held n ps ≡ placed_of (early_of held (stamped_from n ps))
 complete-early held n [] = refl
 complete-early held n (p ∷ ps) =
     cond-placed (leb (completed_at n p) held) (stamp (completed_at n p) (n + length p.filler) p.event) _ _
@@ -133,7 +142,8 @@ viable_walks events front c = by_state (walk 0 start front) refl
         let z : 0 + length front ≡ length front = omega arith in
         let d = document_walk c.pieces (front ++ c.tail) c.parses in
         let g1 = grows front 0 (state NothingYet 0 []) u h in
-        let w2 : walk (length front) (Some u) c.tail ≡ Some (state _ (length (front ++ c.tail)) (stamped_from 0 c.pieces)) =
+        let w2 : walk (length front) (Some u) c.tail ≡ Some
+        (state _ (length (front ++ c.tail)) (stamped_from 0 c.pieces)) =
         ap (λ (s : Option State). walk (length front) s c.tail) (sym h)
         ∙ sym (walk-append 0 (length front) start front c.tail (sym z))
         ∙ d in

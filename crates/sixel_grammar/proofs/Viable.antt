@@ -1,11 +1,13 @@
 -- What ends in a form is the front of a document, and the events before what is open are those that are complete.
-use Rattle.std.proofs.Common.{◌≡◌, ℕ, ◌+◌, ◌<◌, ◌≤◌, Bool, true, false, cond, List, [], ◌∷◌, ◌++◌, length, refl, sym, ap, subst, ◌∙◌, append_assoc, arith, length-append, inl, inr}
+use Rattle.std.proofs.Common.{◌≡◌, ℕ, ◌+◌, ◌<◌, ◌≤◌, Bool, true, false, cond, List, [], ◌∷◌, ◌++◌, length, refl, sym}
+use Rattle.std.proofs.Common.{ap, subst, ◌∙◌, append_assoc, arith, length-append, inl, inr}
 use Rattle.std.specs.Prelude.{Contains, ◌⊎◌}
 use Rattle.std.specs.List.{AllByRecursion}
 use Rattle.std.proofs.lemmas.List.{append-nil}
 use Rattle.std.proofs.lemmas.Bool.{le-leb, lt-leb}
 use Rattle.sixel_grammar.specs.declared.command.Command.{Command}
-use Rattle.sixel_grammar.specs.declared.command.Command.TheVariants.{Sixel, CarriageReturn, NextLine, Repeat, Raster, Select, Define}
+use Rattle.sixel_grammar.specs.declared.command.Command.TheVariants.{Sixel, CarriageReturn, NextLine, Repeat, Raster}
+use Rattle.sixel_grammar.specs.declared.command.Command.TheVariants.{Select, Define}
 use Rattle.sixel_grammar.specs.declared.command.Event.{Event}
 use Rattle.sixel_grammar.specs.declared.command.Event.TheVariants.{Start, Step, Finish}
 use Rattle.sixel_grammar.specs.declared.command.Placed.{Placed}
@@ -13,7 +15,9 @@ use Rattle.sixel_grammar.specs.Bytes.{introducer}
 use Rattle.sixel_grammar.specs.Spelling.{Spells, is_open_ended}
 use Rattle.sixel_grammar.specs.Document.{AreFiller, Piece, IsPiece, bytes_of, joined, events_in, placed_from, AreWhole}
 use Rattle.sixel_grammar.specs.Fronts.{tails, completed_at, complete_from, CompleteIn}
-use Rattle.sixel_grammar.specs.Faults.{Form, NothingYet, Introducing, Parameters, LastSeparator, NoCommand, RepeatNumber, RasterFields, ColourFields, Terminating, Ended, EndsIn, IsClosed, AreBegun}
+use Rattle.sixel_grammar.specs.Faults.{Form, NothingYet, Introducing, Parameters, LastSeparator, NoCommand}
+use Rattle.sixel_grammar.specs.Faults.{RepeatNumber, RasterFields, ColourFields, Terminating, Ended, EndsIn, IsClosed}
+use Rattle.sixel_grammar.specs.Faults.{AreBegun}
 use Rattle.sixel_grammar.proofs.Numbers.{no_digits, fields-separator}
 use Rattle.sixel_grammar.proofs.Pieces.{joined-append, said-append, all-append, begun-step, begun-finish, start_of}
 
@@ -40,7 +44,8 @@ complete-short : (held n : ℕ) (ps : List Piece) → IsShort held n ps → comp
 complete-short held n [] h = refl
 complete-short held n (p ∷ ps) h =
     ap (λ (t : Bool).
-    cond t (record { place = n + length p.filler; event = p.event } ∷ complete_from held (n + length (bytes_of p)) ps) [])
+    cond t (record { place = n + length p.filler; event = p.event } ∷ complete_from held
+    (n + length (bytes_of p)) ps) [])
     (lt-leb (completed_at n p) held h)
 
 complete-first : (held n : ℕ) (p : Piece) (ps : List Piece) → completed_at n p ≤ held
@@ -48,7 +53,8 @@ complete-first : (held n : ℕ) (p : Piece) (ps : List Piece) → completed_at n
     ≡ record { place = n + length p.filler; event = p.event } ∷ complete_from held (n + length (bytes_of p)) ps
 complete-first held n p ps h =
     ap (λ (t : Bool).
-    cond t (record { place = n + length p.filler; event = p.event } ∷ complete_from held (n + length (bytes_of p)) ps) [])
+    cond t (record { place = n + length p.filler; event = p.event } ∷ complete_from held
+    (n + length (bytes_of p)) ps) [])
     (le-leb (completed_at n p) held h)
 
 one_more : (t : Bool) (k : ℕ) → (t ≡ true → 0 < k) → cond t 1 0 ≤ k
@@ -62,7 +68,8 @@ at_most_one false = omega arith
 pub complete-front : (held n k : ℕ) (ps qs : List Piece) → AllByRecursion IsPiece ps
     → n + length (joined ps) + k ≤ held → IsClosed ps k → IsShort held (n + length (joined ps)) qs
     → complete_from held n (ps ++ qs) ≡ placed_from n ps
-complete-front held n k [] qs each le closed short = let e : n + 0 ≡ n = omega arith in complete-short held n qs (rw e at short)
+complete-front held n k [] qs each le closed short = let e : n + 0 ≡ n = omega arith in complete-short held n qs
+    (rw e at short)
 complete-front held n k (p ∷ []) qs each le closed short =
     let m = one_more (is_open_ended p.event) k closed in
     let j : length (bytes_of p ++ []) ≡ length (bytes_of p) = ap length (append-nil (bytes_of p)) in
@@ -209,7 +216,8 @@ complete (LastSeparator eight ns) e =
 complete NoCommand e =
     let o : e.open_bytes ≡ [] = e.opens in
     goes_on e (27 ∷ 92 ∷ []) (finish_piece e.filler ∷ []) [] (3, omega arith, refl)
-    (rw o (simp append_assoc)) (is_finish e.filler e.filler_is, tt) tt (begun-finish (events_in e.pieces) false e.before)
+    (rw o (simp append_assoc)) (is_finish e.filler e.filler_is, tt) tt
+    (begun-finish (events_in e.pieces) false e.before)
     (omega (
       arith,
       ap length e.bytes_are,
@@ -269,7 +277,8 @@ complete (ColourFields (a ∷ b ∷ c ∷ d ∷ k ∷ ns) n) e = let o = e.opens
 complete Terminating e =
     let o : e.open_bytes ≡ 27 ∷ [] = e.opens in
     goes_on e (92 ∷ []) (finish_piece e.filler ∷ []) [] (8, omega arith, refl)
-    (rw o (simp append_assoc)) (is_finish e.filler e.filler_is, tt) tt (begun-finish (events_in e.pieces) false e.before)
+    (rw o (simp append_assoc)) (is_finish e.filler e.filler_is, tt) tt
+    (begun-finish (events_in e.pieces) false e.before)
     (omega (
       arith,
       ap length e.bytes_are,

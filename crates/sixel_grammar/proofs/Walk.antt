@@ -1,5 +1,7 @@
 -- A byte list is walked in one way alone: states, numbers, fields and commands.
-use Rattle.std.proofs.Common.{◌≡◌, ℕ, ◌+◌, ◌-◌, ◌*◌, ◌<◌, ◌≤◌, Bool, true, false, cond, eqb, ltb, leb, List, [], ◌∷◌, ◌++◌, length, Option, Some, None, refl, sym, ap, subst, ◌∙◌, append_assoc, arith, length-append, inl, inr}
+use Rattle.std.proofs.Common.{◌≡◌, ℕ, ◌+◌, ◌-◌, ◌*◌, ◌<◌, ◌≤◌, Bool, true, false, cond, eqb, ltb, leb, List, [], ◌∷◌}
+use Rattle.std.proofs.Common.{◌++◌, length, Option, Some, None, refl, sym, ap, subst, ◌∙◌, append_assoc, arith}
+use Rattle.std.proofs.Common.{length-append, inl, inr}
 use Rattle.std.specs.Prelude.{◌&&◌, ◌⊎◌, IsTrue}
 use Rattle.std.specs.Char.{digit_value}
 use Rattle.std.specs.Str.Parse.{AllDigits, digits_value_after}
@@ -9,7 +11,8 @@ use Rattle.std.proofs.lemmas.Bool.Decides.{nat_tests}
 use Rattle.sixel_grammar.specs.declared.command.Event.{Event}
 use Rattle.sixel_grammar.specs.declared.command.Placed.{Placed}
 use Rattle.sixel_grammar.specs.declared.command.Command.{Command}
-use Rattle.sixel_grammar.specs.declared.command.Command.TheVariants.{Sixel, Repeat, Raster, Select, Define, CarriageReturn, NextLine}
+use Rattle.sixel_grammar.specs.declared.command.Command.TheVariants.{Sixel, Repeat, Raster, Select, Define}
+use Rattle.sixel_grammar.specs.declared.command.Command.TheVariants.{CarriageReturn, NextLine}
 use Rattle.sixel_grammar.specs.declared.command.Event.TheVariants.{Step}
 use Rattle.sixel_grammar.specs.Bytes.{is_filler, is_digit, is_data}
 use Rattle.sixel_grammar.specs.Number.{NumberText, Fields}
@@ -111,7 +114,8 @@ begin-not_digit b x h = by_test (is_digit b) (λ t. absurd (let n = begin-digit 
     by_test false f = refl
 
 pub begin-not_separator : (b : ℕ) (x : Form × Option Event) → begin b ≡ Some x → eqb b 59 ≡ false
-begin-not_separator b x h = ne_eqb b 59 (λ e. let n : begin 59 ≡ Some x = subst (λ (k : ℕ). begin k ≡ Some x) e h in absurd cc)
+begin-not_separator b x h = ne_eqb b 59
+    (λ e. let n : begin 59 ≡ Some x = subst (λ (k : ℕ). begin k ≡ Some x) e h in absurd cc)
 
 -- ---- numbers
 
@@ -238,13 +242,15 @@ settled-ready n o s f e is w b x h =
     ∙ ap (λ (v : Option (Form × Option Event)). after n o s (chosen None (Some e) v)) h
     ∙ sym (ap (λ (v : Option (Form × Option Event)). after n n (s ++ stamp (n + 1) o e ∷ []) (chosen v None v)) h)
 
-raster-within : (ns : List ℕ) (m b : ℕ) (x : Form × Option Event) → begin b ≡ Some x → within (RasterFields ns m) b ≡ None
+raster-within : (ns : List ℕ) (m b : ℕ) (x : Form × Option Event) → begin b ≡ Some x
+    → within (RasterFields ns m) b ≡ None
 raster-within ns m b x h =
     cond-false (is_digit b) _ _ (begin-not_digit b x h)
     ∙ cond-false (eqb b 59 && ltb (length ns) 3) _ _
     (ap (λ (t : Bool). t && ltb (length ns) 3) (begin-not_separator b x h))
 
-colour-within : (ns : List ℕ) (m b : ℕ) (x : Form × Option Event) → begin b ≡ Some x → within (ColourFields ns m) b ≡ None
+colour-within : (ns : List ℕ) (m b : ℕ) (x : Form × Option Event) → begin b ≡ Some x
+    → within (ColourFields ns m) b ≡ None
 colour-within ns m b x h =
     cond-false (is_digit b) _ _ (begin-not_digit b x h)
     ∙ cond-false (eqb b 59 && ltb (length ns) 4) _ _
@@ -349,7 +355,8 @@ raster-cases m s pan pad width height text fields (a ∷ b ∷ c ∷ d ∷ []) f
     raster-reaches m s _ text fields (a ∷ b ∷ c ∷ []) d refl e f (omega arith) t
 raster-cases m s pan pad width height text fields (a ∷ b ∷ c ∷ d ∷ i ∷ ns) f le four t = absurd (omega arith)
 
-pub command-reaches : (m : ℕ) (s : List Stamp) (c : Command) (text : List ℕ) → SpellsCommand c text → Reaches m s (Step c) text
+pub command-reaches : (m : ℕ) (s : List Stamp) (c : Command) (text : List ℕ) → SpellsCommand c text
+    → Reaches m s (Step c) text
 command-reaches m s (Sixel bits) text h =
     byte-reaches m s (Step (Sixel bits)) text (63 + bits) refl h.1
     (cond-true (is_data (63 + bits)) _ _ (is_data-bits bits h.0)
@@ -358,8 +365,10 @@ command-reaches m s (Repeat count bits) text h =
     shut-reaches m (m + 1 + length h.0 + 1) s (Step (Repeat count bits)) text refl
     (rw h.3 (omega (arith, length-append h.0 ((63 + bits) ∷ []))))
     (ap (walk m (idle m s)) h.3 ∙ repeat-walk m s count bits h.0 h.1 h.2)
-command-reaches m s (Raster pan pad width height) text h = raster-cases m s pan pad width height text h.1 h.0 h.2 h.3 h.4 h.5
-command-reaches m s (Select r) text h = colour-reaches m s (Step (Select r)) text h.0 [] r refl refl h.1 (omega arith) h.2
+command-reaches m s
+    (Raster pan pad width height) text h = raster-cases m s pan pad width height text h.1 h.0 h.2 h.3 h.4 h.5
+command-reaches m s (Select r) text h = colour-reaches m s (Step (Select r)) text h.0 [] r refl refl h.1
+    (omega arith) h.2
 command-reaches m s (Define r k x y z) text h =
     colour-reaches m s (Step (Define r k x y z)) text h.0 (r ∷ k ∷ x ∷ y ∷ []) z refl refl h.1 (omega arith) h.2
 command-reaches m s CarriageReturn text h = byte-reaches m s (Step CarriageReturn) text 36 refl h refl

@@ -1,7 +1,8 @@
 -- What some bytes spell can be written: its numbers are in range, its bits are six, a start has a parameter.
 use Rattle.std.proofs.Common.{ℕ, ◌+◌, ◌<◌, ◌≤◌, Bool, true, false, cond, leb, List, [], ◌∷◌, length, sym, subst, arith}
 use Rattle.std.specs.List.{AllByRecursion}
-use Rattle.sixel_grammar.specs.declared.command.Command.TheVariants.{Sixel, Repeat, Raster, Select, Define, CarriageReturn, NextLine}
+use Rattle.sixel_grammar.specs.declared.command.Command.TheVariants.{Sixel, Repeat, Raster, Select, Define}
+use Rattle.sixel_grammar.specs.declared.command.Command.TheVariants.{CarriageReturn, NextLine}
 use Rattle.sixel_grammar.specs.declared.command.Event.{Event}
 use Rattle.sixel_grammar.specs.declared.command.Event.TheVariants.{Start, Step, Finish}
 use Rattle.sixel_grammar.specs.declared.command.Placed.{Placed}
@@ -47,7 +48,8 @@ spelled_can (Step CarriageReturn) text h = can (Step CarriageReturn) tt tt
 spelled_can (Step NextLine) text h = can (Step NextLine) tt tt
 spelled_can (Finish eight) text h = can (Finish eight) tt tt
 
-first_can : (b : Bool) (p : Placed) (ps : List Placed) → CanWrite p.event → CanWriteAll ps → CanWriteAll (cond b (p ∷ ps) [])
+first_can : (b : Bool) (p : Placed) (ps : List Placed) → CanWrite p.event → CanWriteAll ps
+    → CanWriteAll (cond b (p ∷ ps) [])
 first_can true p ps h k = (h, k)
 first_can false p ps h k = tt
 

@@ -1,5 +1,6 @@
 -- What a call of a device does to its count of failures, and what a call that puts bytes appends.
-use Rattle.std.specs.Prelude.{◌≡◌, ℕ, ◌+◌, ◌-◌, ◌^◌, min, List, take, Result, Option, Bool, IsTrue, is_ok, MatchResult, if◌then◌else◌}
+use Rattle.std.specs.Prelude.{◌≡◌, ℕ, ◌+◌, ◌-◌, ◌^◌, min, List, take, Result, Option, Bool, IsTrue, is_ok, MatchResult}
+use Rattle.std.specs.Prelude.{if◌then◌else◌}
 use Rattle.std.specs.Io.KnownBytes.{Appends}
 
 -- one more; a count stays at the greatest `u64`

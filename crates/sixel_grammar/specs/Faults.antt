@@ -1,16 +1,21 @@
 -- Where bytes stop being the front of a document, and why.
-use Rattle.std.specs.Prelude.{◌≡◌, ℕ, ◌+◌, ◌<◌, ◌≤◌, ◌⊎◌, IsTrue, List, [], ◌∷◌, ◌++◌, length, take, slice_get, Option, Some, None, min, Bool, true, false, ◌||◌, ◌==◌, if◌then◌else◌}
+use Rattle.std.specs.Prelude.{◌≡◌, ℕ, ◌+◌, ◌<◌, ◌≤◌, ◌⊎◌, IsTrue, List, [], ◌∷◌, ◌++◌, length, take, slice_get, Option}
+use Rattle.std.specs.Prelude.{Some, None, min, Bool, true, false, ◌||◌, ◌==◌, if◌then◌else◌}
 use Rattle.std.specs.List.{AllByRecursion}
 use Rattle.sixel_grammar.specs.declared.command.Event.{Event}
 use Rattle.sixel_grammar.specs.declared.command.Event.TheVariants.{Start, Step, Finish}
 use Rattle.sixel_grammar.specs.declared.command.Placed.{Placed}
 use Rattle.sixel_grammar.specs.declared.fault.Reason.{Reason}
-use Rattle.sixel_grammar.specs.declared.fault.Reason.TheVariants.{NotSixel, BadByte, NumberTooLarge, FieldCount, BadRepeat, BadTerminator, Truncated, TooLong, Trailing}
+use Rattle.sixel_grammar.specs.declared.fault.Reason.TheVariants.{NotSixel, BadByte, NumberTooLarge, FieldCount}
+use Rattle.sixel_grammar.specs.declared.fault.Reason.TheVariants.{BadRepeat, BadTerminator, Truncated, TooLong}
+use Rattle.sixel_grammar.specs.declared.fault.Reason.TheVariants.{Trailing}
 use Rattle.sixel_grammar.specs.declared.fault.Fault.{Fault}
-use Rattle.sixel_grammar.specs.Bytes.{is_digit, is_body, escape, separator, repeat_sign, raster_sign, colour_sign, introducer}
+use Rattle.sixel_grammar.specs.Bytes.{is_digit, is_body, escape, separator, repeat_sign, raster_sign, colour_sign}
+use Rattle.sixel_grammar.specs.Bytes.{introducer}
 use Rattle.sixel_grammar.specs.Number.{NumberText, Fields}
 use Rattle.sixel_grammar.specs.Spelling.{is_open_ended}
-use Rattle.sixel_grammar.specs.Document.{AreFiller, Piece, IsPiece, joined, events_in, placed_from, AreWhole, IsDocument, most_bytes}
+use Rattle.sixel_grammar.specs.Document.{AreFiller, Piece, IsPiece, joined, events_in, placed_from, AreWhole}
+use Rattle.sixel_grammar.specs.Document.{IsDocument, most_bytes}
 use Rattle.sixel_grammar.specs.Fronts.{IsViable}
 
 -- what is open where a viable front ends; of fields, the numbers before the last `;` and the one after it

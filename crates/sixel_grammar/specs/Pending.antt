@@ -9,7 +9,8 @@ use Rattle.sixel_grammar.specs.declared.pending.Open.TheVariants as kind
 use Rattle.sixel_grammar.specs.declared.pending.Pending.{Pending}
 use Rattle.sixel_grammar.specs.declared.pending.WholeEvent.{WholeEvent}
 use Rattle.sixel_grammar.specs.declared.pending.WholeEvent.TheVariants.{Start, Step, Finish}
-use Rattle.sixel_grammar.specs.Faults.{Form, NothingYet, Introducing, Parameters, LastSeparator, NoCommand, RepeatNumber, RasterFields, ColourFields, Terminating, Ended}
+use Rattle.sixel_grammar.specs.Faults.{Form, NothingYet, Introducing, Parameters, LastSeparator, NoCommand}
+use Rattle.sixel_grammar.specs.Faults.{RepeatNumber, RasterFields, ColourFields, Terminating, Ended}
 use Rattle.sixel_grammar.specs.Next.{only_grown, only_whole}
 
 -- what is open, with its numbers

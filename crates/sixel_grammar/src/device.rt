@@ -3,7 +3,8 @@
 //! A device tells its bytes, so that a contract can name them, or it doesn't: a file or a terminal never does. One that
 //! tells goes on telling, after a failure too. Counts of failures, and whether a sink is flushed, are always known.
 
-ghost use Rattle.std.specs.Prelude.{◌≡◌, ◌<◌, ◌≤◌, ℕ, Bool, true, false, List, Option, length, IfOk, OnOk, is_ok, if◌then◌else◌};
+ghost use Rattle.std.specs.Prelude.{◌≡◌, ◌<◌, ◌≤◌, ℕ, Bool, true, false, List, Option, length, IfOk, OnOk, is_ok};
+ghost use Rattle.std.specs.Prelude.{if◌then◌else◌};
 ghost use Rattle.std.specs.Io.KnownBytes.{Keeps, ReadConsumes, WriteAppends};
 ghost use Rattle.sixel_grammar.specs.Devices.{CountsFailure, NeverFlushes, Puts};
 

@@ -1,11 +1,16 @@
 //! What is open after the bytes of a document so far, and how one byte goes on with it.
 
-ghost use Rattle.std.specs.Prelude.{◌≡◌, ◌<◌, ◌+◌, ◌-◌, IsTrue, true, false, if◌then◌else◌, length, List, [], ◌∷◌, ◌++◌, IsNone, IsSome, IfSome, OnSome, Some, None, nat_le, ◌↔◌};
+ghost use Rattle.std.specs.Prelude.{◌≡◌, ◌<◌, ◌+◌, ◌-◌, IsTrue, true, false, if◌then◌else◌, length, List, [], ◌∷◌};
+ghost use Rattle.std.specs.Prelude.{◌++◌, IsNone, IsSome, IfSome, OnSome, Some, None, nat_le, ◌↔◌};
 ghost use Rattle.std.specs.Option.{option_map};
 ghost use Rattle.sixel_grammar.specs.declared.command.Event.TheVariants.{Step as step_of};
-ghost use Rattle.sixel_grammar.specs.Bytes.{is_filler as filler_test, is_digit as digit_test, is_data as data_test, is_body as body_test};
-ghost use Rattle.sixel_grammar.specs.Faults.{NothingYet as NothingForm, NoCommand as NoCommandForm, RepeatNumber as RepeatForm, RasterFields as RasterForm, ColourFields as ColourForm, Ended as EndedForm, refusal, is_idle};
-ghost use Rattle.sixel_grammar.specs.Next.{begin as begin_of, within as within_of, only_grown, only_whole, settled as settled_of, next_of, with_digit, ends_repeat};
+ghost use Rattle.sixel_grammar.specs.Bytes.{is_filler as filler_test, is_digit as digit_test, is_data as data_test};
+ghost use Rattle.sixel_grammar.specs.Bytes.{is_body as body_test};
+ghost use Rattle.sixel_grammar.specs.Faults.{NothingYet as NothingForm, NoCommand as NoCommandForm};
+ghost use Rattle.sixel_grammar.specs.Faults.{RepeatNumber as RepeatForm, RasterFields as RasterForm};
+ghost use Rattle.sixel_grammar.specs.Faults.{ColourFields as ColourForm, Ended as EndedForm, refusal, is_idle};
+ghost use Rattle.sixel_grammar.specs.Next.{begin as begin_of, within as within_of, only_grown, only_whole};
+ghost use Rattle.sixel_grammar.specs.Next.{settled as settled_of, next_of, with_digit, ends_repeat};
 ghost use Rattle.sixel_grammar.specs.Standing.{is_columns};
 ghost use Rattle.sixel_grammar.specs.Pending.{Grows, MakesWhole, event_of, form_of, takes_digits};
 

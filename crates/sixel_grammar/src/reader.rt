@@ -1,11 +1,13 @@
 //! Reads a document byte by byte.
 
-ghost use Rattle.std.specs.Prelude.{◌≡◌, ◌↔◌, ◌<◌, ◌≤◌, ◌+◌, ◌-◌, IsTrue, true, false, length, List, [], ◌∷◌, ◌++◌, ℕ, Option, Some, None, IfSome, IfOk, IfErr, MatchResult, IsNone, IsSome, OnSome, Err};
+ghost use Rattle.std.specs.Prelude.{◌≡◌, ◌↔◌, ◌<◌, ◌≤◌, ◌+◌, ◌-◌, IsTrue, true, false, length, List, [], ◌∷◌, ◌++◌, ℕ};
+ghost use Rattle.std.specs.Prelude.{Option, Some, None, IfSome, IfOk, IfErr, MatchResult, IsNone, IsSome, OnSome, Err};
 ghost use Rattle.sixel_grammar.specs.declared.command.Placed.{Placed as PlacedEvent};
 ghost use Rattle.sixel_grammar.specs.Bytes.{is_data as data_test, is_digit as digit_test};
 ghost use Rattle.sixel_grammar.specs.Document.{Document};
 ghost use Rattle.sixel_grammar.specs.Faults.{IsFaultOf, NoCommand as NoCommandForm};
-ghost use Rattle.sixel_grammar.specs.Next.{begin as begin_of, settled as settled_of, within as within_of, only_grown, ends_repeat, makes_columns};
+ghost use Rattle.sixel_grammar.specs.Next.{begin as begin_of, settled as settled_of, within as within_of, only_grown};
+ghost use Rattle.sixel_grammar.specs.Next.{ends_repeat, makes_columns};
 ghost use Rattle.sixel_grammar.specs.Pending.{form_of};
 ghost use Rattle.sixel_grammar.specs.Plain.{plain_of};
 ghost use Rattle.sixel_grammar.specs.declared.command.Plain.TheVariants.{Command as plain_command};
@@ -38,7 +40,8 @@ pub struct Reader {
 }
 
 impl Reader {
-    ghost use Rattle.sixel_grammar.specs.Standing.{IsNotPlain, Refuses, StandsAfter, Takes, are_plain, completions, fault_of, opened_after};
+    ghost use Rattle.sixel_grammar.specs.Standing.{IsNotPlain, Refuses, StandsAfter, Takes, are_plain, completions};
+    ghost use Rattle.sixel_grammar.specs.Standing.{fault_of, opened_after};
 
     /// A reader that has read nothing.
     pub fn new() -> Reader

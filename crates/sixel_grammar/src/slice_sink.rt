@@ -1,6 +1,7 @@
 //! A slice as a sink, for tests: it takes few bytes a call, and fails at a call of one's choice.
 
-ghost use Rattle.std.specs.Prelude.{◌≡◌, ◌<◌, ◌≤◌, Some, true, false, length, min, not, ◌||◌, ◌==◌, ◌-◌, IfOk, is_ok, [], if◌then◌else◌};
+ghost use Rattle.std.specs.Prelude.{◌≡◌, ◌<◌, ◌≤◌, Some, true, false, length, min, not, ◌||◌, ◌==◌, ◌-◌, IfOk, is_ok};
+ghost use Rattle.std.specs.Prelude.{[], if◌then◌else◌};
 ghost use Rattle.std.specs.Io.KnownBytes.{Keeps, WriteAppends};
 ghost use Rattle.sixel_grammar.specs.Devices.{CountsFailure, one_more};
 ghost use Rattle.sixel_grammar.specs.SliceDevices.{fails_at};

@@ -1,9 +1,7 @@
 -- the words on positions over a list in two parts
-use Rattle.std.proofs.Common.{◌≡◌, ℕ, zero, suc, ◌+◌, Option, List, [], ◌∷◌, ◌++◌, length}
-use Rattle.std.proofs.Common.{sym, ap, ◌∙◌, arith}
+use Rattle.std.proofs.Common.{◌≡◌, ℕ, zero, suc, ◌+◌, Option, List, [], ◌∷◌, ◌++◌, length, sym, ap, ◌∙◌, arith}
 use Rattle.std.specs.Option.{option_or}
-use Rattle.sixel_picture.specs.Positions.{last_below, at_position, last_at}
-use Rattle.sixel_picture.specs.Positions.{HoldsAtPosition}
+use Rattle.sixel_picture.specs.Positions.{last_below, at_position, last_at, HoldsAtPosition}
 use Rattle.sixel_picture.proofs.PositionLemmas.{option_or_assoc, option_or_none}
 
 last_below_shift : {A : Type 0} (n : ℕ) (f : ℕ → Option A)

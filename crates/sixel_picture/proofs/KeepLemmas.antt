@@ -41,7 +41,8 @@ none_after registers n (suc i) before (x ∷ xs) h k =
     (record { item = k.item; here = k.here; holds = rw (append_assoc before (x ∷ []) (take i xs)) k.holds })
 
 -- where each keeps them, none is broken
-pub keep_none : (registers : ℕ) (events : List Event) → KeepEach registers [] events → BreaksNone registers last_rule events
+pub keep_none : (registers : ℕ) (events : List Event) → KeepEach registers [] events
+    → BreaksNone registers last_rule events
 unfolding BreaksNone
 keep_none registers events h n le i k = none_after registers n i [] events h
     (record { item = k.item; here = k.here; holds = k.holds })

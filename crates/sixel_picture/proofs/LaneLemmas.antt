@@ -1,7 +1,6 @@
 -- On bytes in a row, and on groups of them taken at once.
-use Rattle.std.proofs.Common.{◌≡◌, ◌==◌, ℕ, ◌+◌, ◌*◌, ◌%◌, ◌^◌, ◌<◌, ◌≤◌, Bool, not, cond}
-use Rattle.std.proofs.Common.{Option, Some, None, List, length, get_or, map, replicate, w8, inl, inr}
-use Rattle.std.proofs.Common.{◌≢◌, refl, sym, ap, ap₂, ◌∙◌, arith, ◌-◌}
+use Rattle.std.proofs.Common.{◌≡◌, ◌==◌, ℕ, ◌+◌, ◌*◌, ◌%◌, ◌^◌, ◌<◌, ◌≤◌, Bool, not, cond, Option, Some, None, List}
+use Rattle.std.proofs.Common.{length, get_or, map, replicate, w8, inl, inr, ◌≢◌, refl, sym, ap, ap₂, ◌∙◌, arith, ◌-◌}
 use Rattle.std.specs.Int.{bit_at}
 use Rattle.std.specs.Int.Bits.{bit_and, bit_or}
 use Rattle.std.specs.List.{prefix_len}
@@ -11,11 +10,9 @@ use Rattle.std.proofs.lemmas.List.{length-map}
 use Rattle.std.proofs.lemmas.Nat.Bits.{and_pow, bit_at-lt}
 use Rattle.std.proofs.lemmas.Nat.{one_shl, pow_pos}
 use Rattle.std.proofs.lemmas.Simd.{length-put_chunk, get_or-put_chunk_below, get_or-put_chunk_at}
-use Rattle.std.proofs.lemmas.Simd.{get_or-put_chunk_above}
-use Rattle.std.proofs.lemmas.Simd.{length-replicate, get_or-replicate, length-chunk, get_or-chunk, length-zip2}
-use Rattle.std.proofs.lemmas.Simd.{get_or-zip2}
-use Rattle.std.proofs.lemmas.Simd.{zip2_splat, bitmask_splat, first_set_mask_l, map-map, run_in_chunk_fails}
-use Rattle.std.proofs.lemmas.Simd.{run_in_chunk_stops}
+use Rattle.std.proofs.lemmas.Simd.{get_or-put_chunk_above, length-replicate, get_or-replicate, length-chunk}
+use Rattle.std.proofs.lemmas.Simd.{get_or-chunk, length-zip2, get_or-zip2, zip2_splat, bitmask_splat, first_set_mask_l}
+use Rattle.std.proofs.lemmas.Simd.{map-map, run_in_chunk_fails, run_in_chunk_stops}
 use lib.Count.{count_trailing_zeros}
 use lib.Lanes.{chunk, put_chunk, mask_l, top, zip2}
 use Rattle.sixel_picture.specs.Lanes.{AreChanged, NonePasses, IsFirstAt, IsFirst}

@@ -1,7 +1,6 @@
 -- On the last position that gives something, as a fact.
 use Rattle.std.proofs.Common.{◌≡◌, ◌<◌, ℕ, zero, suc, Bool, true, false, ◌||◌, inl, inr, Option, Some, None, List, []}
-use Rattle.std.proofs.Common.{◌∷◌, length}
-use Rattle.std.proofs.Common.{take, refl, ◌∙◌, arith}
+use Rattle.std.proofs.Common.{◌∷◌, length, take, refl, ◌∙◌, arith}
 use Rattle.std.specs.Prelude.{IsSome, slice_get}
 use Rattle.std.specs.Option.{option_or}
 use Rattle.std.proofs.lemmas.Bool.{cases_lt}

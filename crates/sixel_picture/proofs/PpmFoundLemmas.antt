@@ -85,7 +85,8 @@ head_found bytes =
     (wanted_found (λ b. b == 80) 0 bytes) (λ letter l.
     if_then (wanted (λ b. b == 54) letter.0 letter.1) _ (Taken (λ b. b == 54) letter.0 letter.1) (HeadFound bytes)
     (wanted_found (λ b. b == 54) letter.0 letter.1) (λ version v.
-    if_then (filled_number begins_filler Size most_side version.0 version.1) _ (FilledFound most_side version.0 version.1)
+    if_then (filled_number begins_filler Size most_side version.0 version.1) _
+    (FilledFound most_side version.0 version.1)
     (HeadFound bytes) (filled_found begins_filler Size most_side version.0 version.1) (λ width w.
     if_then (filled_number begins_filler Size most_side width.1 width.2) _ (FilledFound most_side width.1 width.2)
     (HeadFound bytes) (filled_found begins_filler Size most_side width.1 width.2) (λ height h.

@@ -6,8 +6,8 @@ use Rattle.std.proofs.lemmas.Bool.Decides.{nat_tests}
 use Rattle.sixel_grammar.specs.Bytes.{is_digit}
 use Rattle.sixel_picture.specs.Pictures.{is_side, most_side}
 use Rattle.sixel_picture.specs.PpmReading.{◌>>=◌, Head, after_digits, after_filler, at_fault, begins_filler}
-use Rattle.sixel_picture.specs.PpmReading.{filled_number, head_of, height_on, is_space, judged, maxval_on}
-use Rattle.sixel_picture.specs.PpmReading.{most_header, wanted}
+use Rattle.sixel_picture.specs.PpmReading.{filled_number, head_of, height_on, is_space, judged, maxval_on, most_header}
+use Rattle.sixel_picture.specs.PpmReading.{wanted}
 use Rattle.sixel_picture.specs.PpmHeader.{after_field, begun, digits_on, ended, ends, fault_of, grown, header_after}
 use Rattle.sixel_picture.specs.PpmHeader.{header_in, header_on, in_filler, is_within, most_of, refused, step, step_in}
 use Rattle.sixel_picture.specs.declared.ppm.PpmFault.{PpmFault}
@@ -238,7 +238,8 @@ filler_moves : (p : Progress) (field : Field) (b : ℕ) → MovesByOne p (in_fil
 filler_moves p field b = one_of p (is_space b) _ _ refl (one_of p (b == 35) _ _ refl tt)
 
 ended_moves : (p : Progress) (field : Field) (b : ℕ) → MovesByOne p (ended p field b)
-ended_moves p Width b = one_of p (is_within p.value most_side) _ _ (filler_moves (record p { width = p.value }) Height b) tt
+ended_moves p Width b = one_of p (is_within p.value most_side) _ _
+    (filler_moves (record p { width = p.value }) Height b) tt
 ended_moves p Height b = one_of p (is_within p.value most_side) _ _
     (filler_moves (record p { height = p.value }) Maxval b) tt
 ended_moves p Maxval b = one_of p (is_within p.value 255) _ _ tt tt

@@ -1,7 +1,7 @@
 -- The parts of a header that were read are those of a picture file.
-use Rattle.std.proofs.Common.{◌≡◌, ◌≢◌, ◌==◌, ◌+◌, ◌-◌, ◌*◌, ◌<◌, ℕ, Bool, true, false, ◌&&◌, not}
-use Rattle.std.proofs.Common.{nat_le, nat_lt, Result, Ok, Err, List, [], ◌∷◌, ◌++◌, length, refl, sym, ap, subst, ◌∙◌}
-use Rattle.std.proofs.Common.{append_assoc, arith, inl, inr, eq-eqb, length-append}
+use Rattle.std.proofs.Common.{◌≡◌, ◌≢◌, ◌==◌, ◌+◌, ◌-◌, ◌*◌, ◌<◌, ℕ, Bool, true, false, ◌&&◌, not, nat_le, nat_lt}
+use Rattle.std.proofs.Common.{Result, Ok, Err, List, [], ◌∷◌, ◌++◌, length, refl, sym, ap, subst, ◌∙◌, append_assoc}
+use Rattle.std.proofs.Common.{arith, inl, inr, eq-eqb, length-append}
 use Rattle.std.specs.Prelude.{IfOk, if◌then◌else◌}
 use Rattle.std.specs.Char.{digit_value}
 use Rattle.std.specs.Int.{IsInRange}
@@ -11,8 +11,8 @@ use Rattle.std.proofs.lemmas.Bool.Decides.{nat_tests}
 use Rattle.sixel_grammar.specs.Bytes.{is_digit}
 use Rattle.sixel_grammar.proofs.Numbers.{digit_range, digit_value-is}
 use Rattle.sixel_picture.specs.PpmFiles.{IsFiller, IsFillerPiece, IsNumberText}
-use Rattle.sixel_picture.specs.PpmReading.{after_digits, after_filler, at_fault, begins_filler, filled_number}
-use Rattle.sixel_picture.specs.PpmReading.{is_space, judged, most_header, number, wanted}
+use Rattle.sixel_picture.specs.PpmReading.{after_digits, after_filler, at_fault, begins_filler, filled_number, is_space}
+use Rattle.sixel_picture.specs.PpmReading.{judged, most_header, number, wanted}
 use Rattle.sixel_picture.specs.declared.ppm.PpmFault.{PpmFault}
 use Rattle.sixel_picture.specs.declared.ppm.PpmReason.{PpmReason}
 use Rattle.sixel_picture.specs.declared.ppm.PpmReason.TheVariants.{Header}

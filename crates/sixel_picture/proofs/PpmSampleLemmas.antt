@@ -15,8 +15,8 @@ use Rattle.sixel_picture.specs.PpmColours.{Fills}
 use Rattle.sixel_picture.specs.PpmHeld.{held_samples, is_good}
 use Rattle.sixel_picture.specs.PpmReading.{◌>>=◌, at_fault, colour_of, distinct, palette_of, picture_of, pixels}
 use Rattle.sixel_picture.specs.PpmReading.{register_among, with_colour}
-use Rattle.sixel_picture.specs.PpmSamples.{AllSeen, Fails, FailsOn, HasRead, HoldsPixels, KeepsPixels, KnowsLast}
-use Rattle.sixel_picture.specs.PpmSamples.{Leads, LeadsOn, PutsPixel, Refuses, Registers, TooMany, budget, pixels_on}
+use Rattle.sixel_picture.specs.PpmSamples.{AllSeen, Fails, FailsOn, HasRead, HoldsPixels, KeepsPixels, KnowsLast, Leads}
+use Rattle.sixel_picture.specs.PpmSamples.{LeadsOn, PutsPixel, Refuses, Registers, TooMany, budget, pixels_on}
 use Rattle.sixel_picture.specs.PpmSamples.{samples_on}
 use Rattle.sixel_picture.specs.declared.colour.Parts.{Parts}
 use Rattle.sixel_picture.specs.declared.ppm.PpmFault.{PpmFault}

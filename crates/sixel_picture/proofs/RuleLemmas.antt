@@ -8,9 +8,8 @@ use Rattle.sixel_grammar.specs.declared.command.Event.{Event}
 use Rattle.sixel_picture.specs.Positions.{HoldsAtPosition}
 use Rattle.sixel_picture.specs.Rules.{Breaks, BreaksNone, BreaksOutside, BreaksUncovered, IsFirstBroken}
 use Rattle.sixel_picture.specs.Rules.{breaks_box_size, breaks_colour_value, breaks_ratio, breaks_raster_first}
-use Rattle.sixel_picture.specs.Rules.{breaks_raster_twice}
-use Rattle.sixel_picture.specs.Rules.{breaks_redefined, breaks_register, breaks_repeat_zero, breaks_undefined}
-use Rattle.sixel_picture.specs.Rules.{breaks_unselected}
+use Rattle.sixel_picture.specs.Rules.{breaks_raster_twice, breaks_redefined, breaks_register, breaks_repeat_zero}
+use Rattle.sixel_picture.specs.Rules.{breaks_undefined, breaks_unselected}
 use Rattle.sixel_picture.proofs.PositionLemmas.{holds_before, holds_end, holds_push, holds_within}
 use Rattle.sixel_picture.specs.RuleNumbers.{raster_first_rule, raster_twice_rule, ratio_rule, box_size_rule}
 use Rattle.sixel_picture.specs.RuleNumbers.{register_rule, colour_value_rule, repeat_zero_rule, unselected_rule}
@@ -62,7 +61,8 @@ keeps_none registers n before e k =
     (neither (n == uncovered_rule) k.uncovered (λ h. h))))))))))))
 
 -- and an event that breaks none of the twelve keeps each
-pub none_keeps : (registers : ℕ) (before : List Event) (e : Event) → ((n : ℕ) → n ≤ last_rule → ¬ Breaks registers n before e)
+pub none_keeps : (registers : ℕ) (before : List Event) (e : Event)
+    → ((n : ℕ) → n ≤ last_rule → ¬ Breaks registers n before e)
     → Keeps registers before e
 unfolding Breaks
 none_keeps registers before e h = record {

@@ -1,7 +1,6 @@
 -- How registers, and a byte of painted rows for each column and band, stand for a sheet. A band is six rows.
 use Rattle.std.specs.Prelude.{◌≡◌, ◌==◌, ℕ, ◌+◌, ◌*◌, ◌/◌, ◌%◌, ◌<◌, Bool, true, false, IsTrue, Option, Some, None}
-use Rattle.std.specs.Prelude.{List}
-use Rattle.std.specs.Prelude.{length, slice_index, if◌then◌else◌}
+use Rattle.std.specs.Prelude.{List, length, slice_index, if◌then◌else◌}
 use Rattle.std.specs.Int.{bit_at, div_ceil}
 use Rattle.std.specs.Option.{MatchOption}
 use Rattle.sixel_picture.specs.Pictures.{is_side}

@@ -1,6 +1,6 @@
 -- A picture, as contracts see it.
-use Rattle.std.specs.Prelude.{◌≡◌, ◌==◌, ◌&&◌, ℕ, ◌+◌, ◌*◌, Bool, Option, Some, None, IfSome, List, All}
-use Rattle.std.specs.Prelude.{length, not, nat_le, nat_lt, is_some, slice_index, if◌then◌else◌}
+use Rattle.std.specs.Prelude.{◌≡◌, ◌==◌, ◌&&◌, ℕ, ◌+◌, ◌*◌, Bool, Option, Some, None, IfSome, List, All, length, not}
+use Rattle.std.specs.Prelude.{nat_le, nat_lt, is_some, slice_index, if◌then◌else◌}
 use Rattle.std.specs.List.{list_all}
 use Rattle.sixel_picture.specs.Colours.{IsColour, palette_at}
 use Rattle.sixel_picture.specs.declared.colour.Parts.{Parts}

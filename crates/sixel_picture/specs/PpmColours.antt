@@ -14,4 +14,5 @@ pub record Fills (c : Colours) (seen : List Parts) : Type 0 where
 -- the register of a colour among those that are seen with it, or there are too many
 abbrev pub Numbers : Option ℕ → Colours → List Parts → Parts → Type 0
 Numbers result new seen colour =
-    MatchOption result (register_count < length seen) (λ register. (register ≡ register_among seen colour) × Fills new seen)
+    MatchOption result (register_count < length seen)
+    (λ register. (register ≡ register_among seen colour) × Fills new seen)

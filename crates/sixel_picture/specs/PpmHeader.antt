@@ -2,9 +2,8 @@
 use Rattle.std.specs.Prelude.{ℕ, ◌+◌, ◌-◌, ◌*◌, ◌==◌, Bool, true, false, ◌&&◌, nat_le, nat_lt, if◌then◌else◌, List}
 use Rattle.std.specs.Prelude.{Result, Ok}
 use Rattle.sixel_grammar.specs.Bytes.{is_digit}
-use Rattle.sixel_picture.specs.PpmReading.{◌>>=◌, Head, after_digits, after_filler, at_fault, begins_filler}
-use Rattle.sixel_picture.specs.PpmReading.{height_on, is_space, judged, maxval_on, most_header, number, wanted}
-use Rattle.sixel_picture.specs.PpmReading.{width_on}
+use Rattle.sixel_picture.specs.PpmReading.{◌>>=◌, Head, after_digits, after_filler, at_fault, begins_filler, height_on}
+use Rattle.sixel_picture.specs.PpmReading.{is_space, judged, maxval_on, most_header, number, wanted, width_on}
 use Rattle.sixel_picture.specs.declared.ppm.PpmFault.{PpmFault}
 use Rattle.sixel_picture.specs.declared.ppm.PpmReason.{PpmReason}
 use Rattle.sixel_picture.specs.declared.ppm.PpmReason.TheVariants as reason
@@ -58,9 +57,11 @@ is_within value most = nat_le 1 value && nat_le value most
 
 abbrev pub ended : Progress → Field → ℕ → Next
 ended p Width b =
-    if is_within p.value most_side then in_filler (record p { width = p.value }) Height b else Refused reason.Size p.first
+    if is_within p.value most_side then in_filler
+    (record p { width = p.value }) Height b else Refused reason.Size p.first
 ended p Height b =
-    if is_within p.value most_side then in_filler (record p { height = p.value }) Maxval b else Refused reason.Size p.first
+    if is_within p.value most_side then in_filler
+    (record p { height = p.value }) Maxval b else Refused reason.Size p.first
 ended p Maxval b =
     if is_within p.value 255
     then Whole (record { width = p.width; height = p.height; maxval = p.value; place = p.place + 1 })

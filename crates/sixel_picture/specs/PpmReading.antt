@@ -4,9 +4,8 @@
 -- there on. It says what is wanted there, and gives where the reading stands after it. The first part that doesn't get
 -- what it wants is at fault: so the bytes are judged one after the other.
 use Rattle.std.specs.Prelude.{◌≡◌, ℕ, zero, suc, ◌+◌, ◌-◌, ◌*◌, ◌/◌, ◌==◌, Bool, true, false, ◌&&◌, ◌||◌, not, nat_le}
-use Rattle.std.specs.Prelude.{nat_lt}
-use Rattle.std.specs.Prelude.{if◌then◌else◌, List, [], ◌∷◌, ◌++◌, length, map, fold, Option, Some, None, unwrap_or}
-use Rattle.std.specs.Prelude.{Result, Ok, Err, IsOk}
+use Rattle.std.specs.Prelude.{nat_lt, if◌then◌else◌, List, [], ◌∷◌, ◌++◌, length, map, fold, Option, Some, None}
+use Rattle.std.specs.Prelude.{unwrap_or, Result, Ok, Err, IsOk}
 use Rattle.std.specs.List.{list_any, position_from}
 use Rattle.sixel_grammar.specs.Bytes.{is_digit}
 use Rattle.sixel_grammar.specs.Devices.{one_more}

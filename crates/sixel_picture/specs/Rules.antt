@@ -1,8 +1,7 @@
 -- The rules of a portable picture, the first that is broken, and the picture that is left where none is.
 --
 -- Each word takes the events before an event, and that event. The box is that of the first raster attributes before it.
-use Rattle.std.specs.Prelude.{◌==◌, ◌<◌, ◌≤◌, ◌&&◌, ◌||◌, ℕ, Bool, true, false, not, nat_le, nat_lt, is_none}
-use Rattle.std.specs.Prelude.{is_some}
+use Rattle.std.specs.Prelude.{◌==◌, ◌<◌, ◌≤◌, ◌&&◌, ◌||◌, ℕ, Bool, true, false, not, nat_le, nat_lt, is_none, is_some}
 use Rattle.std.specs.Prelude.{Option, Some, None, IsTrue, IsFalse, IsSomeAnd, List, map, unwrap_or, if◌then◌else◌}
 use Rattle.std.specs.Bool.{MatchBool, then_some}
 use Rattle.std.specs.List.{range_with_len}
@@ -13,10 +12,8 @@ use Rattle.sixel_grammar.specs.declared.command.Command.TheVariants.{Define}
 use Rattle.sixel_picture.specs.declared.colour.Parts.{Parts}
 use Rattle.sixel_picture.specs.Colours.{colour_in, is_colour}
 use Rattle.sixel_picture.specs.Events.{Attributes, Definition, definition_where, has_sides, is_data_command, is_finish}
-use Rattle.sixel_picture.specs.Events.{is_in_box}
-use Rattle.sixel_picture.specs.Events.{is_painting, is_repeat_of_zero, is_return, is_same_definition, is_square}
-use Rattle.sixel_picture.specs.Events.{named_by}
-use Rattle.sixel_picture.specs.Events.{raster_of, select_of}
+use Rattle.sixel_picture.specs.Events.{is_in_box, is_painting, is_repeat_of_zero, is_return, is_same_definition}
+use Rattle.sixel_picture.specs.Events.{is_square, named_by, raster_of, select_of}
 use Rattle.sixel_picture.specs.Geometry.{falls}
 use Rattle.sixel_picture.specs.Pictures.{PictureValue, picture_of_parts}
 use Rattle.sixel_picture.specs.Positions.{HoldsAtPosition, HoldsNowhere, any_at, earliest, last_at, latest}

@@ -1,7 +1,7 @@
 //! A plane of one byte a pixel.
 
-ghost use Rattle.std.specs.Prelude.{◌≡◌, ◌==◌, ◌<◌, ◌≤◌, ◌+◌, ◌&&◌, nat_le, nat_lt};
-ghost use Rattle.std.specs.Prelude.{EachIndex, IfSome, length, position, slice_index, if◌then◌else◌};
+ghost use Rattle.std.specs.Prelude.{◌≡◌, ◌==◌, ◌<◌, ◌≤◌, ◌+◌, ◌&&◌, nat_le, nat_lt, EachIndex, IfSome, length};
+ghost use Rattle.std.specs.Prelude.{position, slice_index, if◌then◌else◌};
 
 use crate::bits::is_set;
 use crate::plane::Plane;

@@ -2,8 +2,7 @@
 
 ghost use Rattle.std.specs.Prelude.{◌≡◌, ◌<◌, None, Some, MatchResult, nat_lt};
 ghost use Rattle.std.specs.List.{list_all};
-ghost use Rattle.sixel_picture.specs.Pictures.{IsPicture, picture_fault, picture_of_parts, register_of};
-ghost use Rattle.sixel_picture.specs.Pictures.{register_count};
+ghost use Rattle.sixel_picture.specs.Pictures.{IsPicture, picture_fault, picture_of_parts, register_of, register_count};
 
 use crate::palette::{Palette, REGISTERS, greatest};
 use std::marker::Model;

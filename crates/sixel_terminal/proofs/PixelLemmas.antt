@@ -1,6 +1,6 @@
 -- A pen paints the pixels of the screen that the definitions name.
-use Rattle.std.proofs.Common.{◌≡◌, ◌==◌, ℕ, ◌+◌, ◌-◌, ◌*◌, ◌<◌, ◌≤◌, Bool, true, false, ◌&&◌, cond, min}
-use Rattle.std.proofs.Common.{Option, Some, None, List, nat_le, nat_lt, refl, ap₂, arith}
+use Rattle.std.proofs.Common.{◌≡◌, ◌==◌, ℕ, ◌+◌, ◌-◌, ◌*◌, ◌<◌, ◌≤◌, Bool, true, false, ◌&&◌, cond, min, Option, Some}
+use Rattle.std.proofs.Common.{None, List, nat_le, nat_lt, refl, ap₂, arith}
 use Rattle.std.specs.Prelude.{if◌then◌else◌}
 use Rattle.std.specs.Int.{bit_at}
 use Rattle.std.specs.Option.{option_map_or}

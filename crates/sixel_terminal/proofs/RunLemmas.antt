@@ -1,6 +1,6 @@
 -- What is known of a terminal that runs.
-use Rattle.std.proofs.Common.{◌≡◌, ◌==◌, ℕ, zero, suc, ◌*◌, ◌≤◌, Bool, true, false, ◌&&◌, not, nat_le, nat_lt}
-use Rattle.std.proofs.Common.{Option, Some, None, List, length, refl, subst, arith}
+use Rattle.std.proofs.Common.{◌≡◌, ◌==◌, ℕ, zero, suc, ◌*◌, ◌≤◌, Bool, true, false, ◌&&◌, not, nat_le, nat_lt, Option}
+use Rattle.std.proofs.Common.{Some, None, List, length, refl, subst, arith}
 use Rattle.std.specs.Prelude.{if◌then◌else◌}
 use Rattle.std.proofs.lemmas.Bool.{and_parts, eqb-true, leb-true, ltb-true}
 use Rattle.sixel_picture.specs.declared.colour.Parts.{Parts}

@@ -1,12 +1,12 @@
 -- What a terminal that draws keeps after one event more.
-use Rattle.std.proofs.Common.{◌≡◌, ℕ, ◌+◌, ◌*◌, ◌%◌, ◌<◌, Bool, true, false, cond, min}
-use Rattle.std.proofs.Common.{Option, Some, None, List, [], ◌∷◌, ◌++◌, get_or, refl, sym, ap, ◌∙◌, arith}
+use Rattle.std.proofs.Common.{◌≡◌, ℕ, ◌+◌, ◌*◌, ◌%◌, ◌<◌, Bool, true, false, cond, min, Option, Some, None, List, []}
+use Rattle.std.proofs.Common.{◌∷◌, ◌++◌, get_or, refl, sym, ap, ◌∙◌, arith}
 use Rattle.std.specs.Prelude.{unwrap_or, if◌then◌else◌}
 use Rattle.std.specs.Option.{option_or, option_map_or}
 use Rattle.std.proofs.lemmas.Nat.{mod_below}
 use Rattle.sixel_grammar.specs.declared.command.Event.{Event}
-use Rattle.sixel_picture.specs.Events.{Attributes, columns_of, is_next_line, is_return, is_square}
-use Rattle.sixel_picture.specs.Events.{named_by, raster_of, select_of}
+use Rattle.sixel_picture.specs.Events.{Attributes, columns_of, is_next_line, is_return, is_square, named_by, raster_of}
+use Rattle.sixel_picture.specs.Events.{select_of}
 use Rattle.sixel_picture.specs.Geometry.{band, column}
 use Rattle.sixel_picture.specs.Positions.{last_at, latest}
 use Rattle.sixel_picture.proofs.PositionLemmas.{latest_push, last_at_push}

@@ -1,6 +1,6 @@
 -- What a terminal that runs is made of. Its limits on the screen and on the registers are no limits of the class.
-use Rattle.std.specs.Prelude.{◌==◌, ◌&&◌, ℕ, ◌*◌, Bool, true, not, nat_le, nat_lt, Option, Some, None}
-use Rattle.std.specs.Prelude.{List, length, if◌then◌else◌}
+use Rattle.std.specs.Prelude.{◌==◌, ◌&&◌, ℕ, ◌*◌, Bool, true, not, nat_le, nat_lt, Option, Some, None, List, length}
+use Rattle.std.specs.Prelude.{if◌then◌else◌}
 use Rattle.sixel_picture.specs.declared.colour.Parts.{Parts}
 use Rattle.sixel_picture.specs.Ppm.{most_file_side}
 use Rattle.sixel_terminal.specs.declared.choices.Choices.{Choices}
@@ -8,8 +8,8 @@ use Rattle.sixel_terminal.specs.declared.choices.Ground.{Ground}
 use Rattle.sixel_terminal.specs.declared.choices.Ground.TheVariants.{Kept, Filled}
 use Rattle.sixel_terminal.specs.declared.terminal.TerminalReason.{TerminalReason}
 use Rattle.sixel_terminal.specs.declared.terminal.TerminalReason.TheVariants.{Registers, Selected}
-use Rattle.sixel_terminal.specs.declared.terminal.TerminalReason.TheVariants.{Ground as GroundReason}
-use Rattle.sixel_terminal.specs.declared.terminal.TerminalReason.TheVariants.{Zero, Tall, Screen, Origin}
+use Rattle.sixel_terminal.specs.declared.terminal.TerminalReason.TheVariants.{Ground as GroundReason, Zero, Tall}
+use Rattle.sixel_terminal.specs.declared.terminal.TerminalReason.TheVariants.{Screen, Origin}
 use Rattle.sixel_terminal.specs.Displays.{Display}
 
 abbrev pub display_of : Choices → List Parts → List Parts → Display

@@ -1,7 +1,7 @@
 -- What a terminal that draws keeps after a list of events. Private contracts alone cite these words: what a terminal
 -- shows is said in Drawing.
-use Rattle.std.specs.Prelude.{◌≡◌, ◌<◌, ℕ, ◌+◌, ◌*◌, ◌/◌, ◌%◌, List, Option, length, min}
-use Rattle.std.specs.Prelude.{slice_index_or, unwrap_or, if◌then◌else◌}
+use Rattle.std.specs.Prelude.{◌≡◌, ◌<◌, ℕ, ◌+◌, ◌*◌, ◌/◌, ◌%◌, List, Option, length, min, slice_index_or, unwrap_or}
+use Rattle.std.specs.Prelude.{if◌then◌else◌}
 use Rattle.std.specs.Option.{option_map}
 use Rattle.sixel_grammar.specs.declared.command.Event.{Event}
 use Rattle.sixel_picture.specs.declared.colour.Parts.{Parts}

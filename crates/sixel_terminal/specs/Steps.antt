@@ -6,8 +6,8 @@ use Rattle.std.specs.Option.{option_map, option_map_or}
 use Rattle.sixel_grammar.specs.declared.command.Event.{Event}
 use Rattle.sixel_picture.specs.declared.colour.Parts.{Parts}
 use Rattle.sixel_picture.specs.declared.colour.Parts.TheVariants.{Rgb}
-use Rattle.sixel_picture.specs.Events.{Attributes, bits_of, columns_of, is_next_line, is_return, is_square}
-use Rattle.sixel_picture.specs.Events.{named_by, raster_of, select_of}
+use Rattle.sixel_picture.specs.Events.{Attributes, bits_of, columns_of, is_next_line, is_return, is_square, named_by}
+use Rattle.sixel_picture.specs.Events.{raster_of, select_of}
 use Rattle.sixel_picture.specs.Geometry.{covers}
 use Rattle.sixel_terminal.specs.declared.canvas.Ink.{Ink}
 use Rattle.sixel_terminal.specs.declared.canvas.Ink.TheVariants.{Fixed, Bound}

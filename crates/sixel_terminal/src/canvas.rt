@@ -1,7 +1,7 @@
 //! The pixels of a screen while it is drawn on.
 
-ghost use Rattle.std.specs.Prelude.{◌≡◌, ◌≤◌, ◌<◌, ◌+◌, ◌*◌, ◌/◌, ◌%◌, ◌&&◌, ◌^◌, nat_le, nat_lt};
-ghost use Rattle.std.specs.Prelude.{EachIndex, length, slice_index_or, if◌then◌else◌};
+ghost use Rattle.std.specs.Prelude.{◌≡◌, ◌≤◌, ◌<◌, ◌+◌, ◌*◌, ◌/◌, ◌%◌, ◌&&◌, ◌^◌, nat_le, nat_lt, EachIndex, length};
+ghost use Rattle.std.specs.Prelude.{slice_index_or, if◌then◌else◌};
 ghost use Rattle.sixel_terminal.specs.Canvases.{black, is_in_span, span_of};
 
 use sixel_picture::Colour;

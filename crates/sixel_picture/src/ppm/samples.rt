@@ -88,8 +88,7 @@ fn fault(reason: PpmReason, place: u64) -> PpmFault
 impl Samples {
     ghost use Rattle.sixel_picture.specs.PpmSamples.{Begins, Fails, FailsOn, IsLast, IsNextHeld, KeepsPixels, Leads};
     ghost use Rattle.sixel_picture.specs.PpmSamples.{LeadsOn, HasRead, PutsPixel, Refuses, Registers, TooMany, budget};
-    ghost use Rattle.sixel_picture.specs.PpmSamples.{samples_on};
-    ghost use Rattle.sixel_picture.specs.PpmSamples.{Holds};
+    ghost use Rattle.sixel_picture.specs.PpmSamples.{samples_on, Holds};
     ghost use Rattle.sixel_picture.specs.declared.colour.Parts.{Parts};
 
     /// No sample has come. This is the one growth of a reading.

@@ -1,7 +1,6 @@
 //! Painting on a screen.
 
-ghost use Rattle.std.specs.Prelude.{◌≡◌, ◌<◌, ◌+◌, ◌*◌, ◌/◌, ◌%◌};
-ghost use Rattle.std.specs.Prelude.{EachIndex, length, slice_index_or, if◌then◌else◌};
+ghost use Rattle.std.specs.Prelude.{◌≡◌, ◌<◌, ◌+◌, ◌*◌, ◌/◌, ◌%◌, EachIndex, length, slice_index_or, if◌then◌else◌};
 ghost use Rattle.sixel_terminal.specs.Canvases.{black, span_of};
 ghost use Rattle.sixel_terminal.specs.Steps.{box_covers, pen_covers};
 

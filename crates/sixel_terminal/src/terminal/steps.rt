@@ -1,7 +1,7 @@
 //! What one command does.
 
-ghost use Rattle.std.specs.Prelude.{◌≡◌, ◌==◌, ◌<◌, ◌*◌, ◌/◌, ◌%◌};
-ghost use Rattle.std.specs.Prelude.{EachIndex, length, slice_index_or, unwrap_or, if◌then◌else◌};
+ghost use Rattle.std.specs.Prelude.{◌≡◌, ◌==◌, ◌<◌, ◌*◌, ◌/◌, ◌%◌, EachIndex, length, slice_index_or, unwrap_or};
+ghost use Rattle.std.specs.Prelude.{if◌then◌else◌};
 ghost use Rattle.std.specs.Option.{option_and_then, option_map_or};
 ghost use Rattle.sixel_grammar.specs.declared.command.Event.TheVariants.{Step};
 ghost use Rattle.sixel_picture.specs.declared.colour.Parts.TheVariants.{Rgb, Hls};

@@ -29,7 +29,9 @@ returns-clause-app c =
     c.in_ok-arg-3.ensures.shape c.flag_arg-selects.ensures.local ∙ ap₂ with_rule a2 c.flag_arg-selects.ensures.rule in
     let a4 : app_of c.in_ok-arg-4.field-0 ≡ four =
     c.in_ok-arg-4.ensures.shape c.side_arg-width.ensures.local ∙ ap₂ with_rule a3 c.side_arg-width.ensures.rule in
-    IfOk-weaker c.arg-5.result _ _ (λ r h. h.shape c.side_arg-height.ensures.local ∙ ap₂ with_rule a4 c.side_arg-height.ensures.rule) c.arg-5.ensures
+    IfOk-weaker c.arg-5.result _ _
+    (λ r h. h.shape c.side_arg-height.ensures.local
+    ∙ ap₂ with_rule a4 c.side_arg-height.ensures.rule) c.arg-5.ensures
 
 pub returns-clause-local : goal.returns-clause-local
 returns-clause-local c =

@@ -21,7 +21,8 @@ returns-in_default-clause-none c = λ none n h.
     number_refused (one_text f id)
     (λ bs r. ParsesUnsigned 32 10 bs r × ExplainsUnsignedError 10 bs r × HasUnsignedDigitsIfOk bs r)
     (Some c.in-Some.number) (λ t r g. g.0) c.in-Some.ensures.value
-    (λ least most. let yes : true ≡ c.is_side.result = sym (c.is_side.ensures.1 (least, most)) in let bad : true ≡ false = yes ∙ c.if-is_side.false in cc)
+    (λ least most. let yes : true ≡ c.is_side.result = sym
+    (c.is_side.ensures.1 (least, most)) in let bad : true ≡ false = yes ∙ c.if-is_side.false in cc)
     n (subst (λ (o : Option Text). HasNumber o n) (sym (one_text-rows f id)) h)
 
 pub returns-in_default-2-clause-none : goal.returns-in_default-2-clause-none

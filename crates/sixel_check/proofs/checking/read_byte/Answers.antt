@@ -32,7 +32,8 @@ returns-in_ok-keep_command-in-Some-Command-clause-read g c = λ front a.
     let plain = Command c.in-Some-Command.place c.in-Some-Command.command in
     let takes = λ (p : Plain). Takes c.args.reader.now c.feed_plain.new.self c.args.byte (completions (plain_of p)) in
     let accepted : takes plain = subst takes c.in-Some-Command.field-0-is c.in-Some-Command.ensures.accepted in
-    after_byte c.args.reader.now c.feed_plain.new.self c.args.checker.now c.keep_command.new.checker (plain_of plain) front
+    after_byte c.args.reader.now c.feed_plain.new.self c.args.checker.now c.keep_command.new.checker
+    (plain_of plain) front
     c.args.byte accepted c.in_ok-keep_command-in-Some-Command.ensures.kept a
 
 pub returns-in_err-keep_command-in-Some-Command-clause-memory : goal.returns-in_err-keep_command-in-Some-Command-clause-memory

@@ -23,7 +23,8 @@ returns-in_err-read_byte-clause-refused g c =
 pub loop-byte-preserved : goal.loop-byte-preserved
 loop-byte-preserved g c = λ front a.
     let h =
-    c.in_ok-read_byte.ensures.read (front ++ take c.loop-byte.byte-index c.args.piece.now) (c.loop-byte.invariant front a) in
+    c.in_ok-read_byte.ensures.read (front ++ take c.loop-byte.byte-index c.args.piece.now)
+    (c.loop-byte.invariant front a) in
     subst (λ (t : List ℕ). AreAfter c.read_byte.new.reader c.read_byte.new.checker t)
     (one_past front c.args.piece.now c.loop-byte.byte-index (omega arith)) h
 

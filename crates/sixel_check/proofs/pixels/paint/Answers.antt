@@ -52,7 +52,8 @@ returns-in-Some g c = λ before a d none.
     let spellable = c.requires.4 in
     let is : known_in c.args.notes.now ≡ Some c.in-Some.register = search rules in
     rw (c.paint_run.ensures, c.columns_of.ensures, c.bits_of.ensures.value)
-    (drawn_paint c.args.notes.now (g.P.Plane.sheet c.args.plane.now) before c.args.event.now c.in-Some.register a d none spellable paints is)
+    (drawn_paint c.args.notes.now
+    (g.P.Plane.sheet c.args.plane.now) before c.args.event.now c.in-Some.register a d none spellable paints is)
 
 pub returns-in-None : goal.returns-in-None
 returns-in-None g c = λ before a d none.

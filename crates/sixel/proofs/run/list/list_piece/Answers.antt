@@ -21,5 +21,6 @@ returns-in-Err-clause-fed g c = λ events bytes h.
     fed-stopped c.feed_all-fed.result c.feed_all-fed.new.reader _ (g.K.Sink.taken c.args.out.now)
     (g.K.Sink.taken c.feed_all-fed.new.out) (g.K.Sink.taken c.drain.new.out) c.args.lines.now
     c.feed_all-fed.new.lines c.drain.new.self events bytes
-    c.requires c.in-Err.ensures.bytes (TakesMore-then _ _ _ c.feed_all-fed.ensures.more (front-more _ _ _ _ _ c.in-Err.ensures.front))
+    c.requires c.in-Err.ensures.bytes
+    (TakesMore-then _ _ _ c.feed_all-fed.ensures.more (front-more _ _ _ _ _ c.in-Err.ensures.front))
     (c.feed_all-fed.ensures.fed events bytes h)

@@ -9,7 +9,8 @@ invariant-loop-self g l = record {
   front : (n : ℕ) × Appends (g.K.Sink.taken l.fn.out) (g.K.Sink.taken l.out) (take n l.fn.self)
       × (drop l.self-inside.start l.self-inside.text.items ≡ drop n l.fn.self);
   unflushed : NeverFlushes (g.K.Sink.is_flushed l.fn.out) (g.K.Sink.is_flushed l.out);
-  held : length (drop l.self-inside.start l.self-inside.text.items) < length l.fn.self → g.K.Sink.is_flushed l.out ≡ false;
+  held : length (drop l.self-inside.start l.self-inside.text.items) < length l.fn.self
+      → g.K.Sink.is_flushed l.out ≡ false;
   failures : g.K.Sink.failure_count l.out ≡ g.K.Sink.failure_count l.fn.out;
 }
 

@@ -21,7 +21,8 @@ returns-then-try_grow-clause-accepted c = λ events bytes s.
 
 pub returns-clause-accepted : goal.returns-clause-accepted
 returns-clause-accepted c =
-    let same : c.try_grow.new.self ≡ c.args.self.now = c.if-try_grow.ensures.kept refl ∙ c.in_default.ensures.kept refl in
+    let same : c.try_grow.new.self ≡ c.args.self.now = c.if-try_grow.ensures.kept refl
+    ∙ c.in_default.ensures.kept refl in
     let from =
     λ (r : Reader).
     IfOk c.feed_slowly.result (λ (done : Completed). Takes r c.feed_slowly.new.self c.args.byte (completions done)) in
@@ -29,6 +30,7 @@ returns-clause-accepted c =
 
 pub returns-clause-refused : goal.returns-clause-refused
 returns-clause-refused c =
-    let same : c.try_grow.new.self ≡ c.args.self.now = c.if-try_grow.ensures.kept refl ∙ c.in_default.ensures.kept refl in
+    let same : c.try_grow.new.self ≡ c.args.self.now = c.if-try_grow.ensures.kept refl
+    ∙ c.in_default.ensures.kept refl in
     let from = λ (r : Reader). IfErr c.feed_slowly.result (Refuses r c.feed_slowly.new.self c.args.byte) in
     subst from same c.feed_slowly.ensures.refused

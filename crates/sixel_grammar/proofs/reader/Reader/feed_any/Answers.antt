@@ -37,7 +37,8 @@ returns-in-Some-make_whole-clause-accepted c = λ events bytes s.
 pub returns-in-Some-end_and_make_whole-clause-accepted : goal.returns-in-Some-end_and_make_whole-clause-accepted
 returns-in-Some-end_and_make_whole-clause-accepted c = λ events bytes s.
     let same : c.make_whole.new.self ≡ c.args.self.now.pending = c.in_default-make_whole.ensures.refused refl in
-    both c.args.self.now _ events bytes c.args.byte c.opened_at-opened.result (Step c.in-Some-end_and_make_whole.both.ended)
+    both c.args.self.now _ events bytes c.args.byte c.opened_at-opened.result
+    (Step c.in-Some-end_and_make_whole.both.ended)
     (event_of c.in-Some-end_and_make_whole.both.whole c.end_and_make_whole.new.self) c.of_two.result s
     (omega (arith, c.if-self-eq0.false))
     (ap (λ (p : Pending). next_of (form_of p) c.args.byte) (sym same) ∙ c.in-Some-end_and_make_whole.ensures.ended)
@@ -61,7 +62,8 @@ returns-in-None-clause-refused c = λ events bytes s.
     (c.in-None.ensures.not_ended refl)) in
     let f = refused_at c.args.self.now events bytes c.args.byte s lt stop in
     let reason : c.reason_for-reason.result ≡ refusal (form_of c.args.self.now.pending) c.args.byte =
-    c.reason_for-reason.ensures ∙ ap (λ (p : Pending). refusal (form_of p) c.args.byte) (c.in-None.ensures.refused refl ∙ same) in
+    c.reason_for-reason.ensures
+    ∙ ap (λ (p : Pending). refusal (form_of p) c.args.byte) (c.in-None.ensures.refused refl ∙ same) in
     let answer : c.refuse-in-None.result
     ≡ fault_at (refusal (form_of c.args.self.now.pending) c.args.byte) (268435456 - c.args.self.now.left) =
     c.refuse-in-None.ensures.answer ∙ ap (λ (r : Reason). fault_at r (268435456 - c.args.self.now.left)) reason in (

@@ -9,7 +9,8 @@ pub returns-then-is_sixel-clause-accepted : goal.returns-then-is_sixel-clause-ac
 returns-then-is_sixel-clause-accepted c = λ events bytes s.
     let is = c.if-is_sixel.ensures.0 refl in
     sixel c.args.self.now c.take_sixel.new.self events bytes c.args.byte (plain_of c.take_sixel.result) s is.1 is.0 is.2
-    c.take_sixel.ensures.pending (ap plain_of c.take_sixel.ensures.completed) c.take_sixel.ensures.fault c.take_sixel.ensures.left
+    c.take_sixel.ensures.pending
+    (ap plain_of c.take_sixel.ensures.completed) c.take_sixel.ensures.fault c.take_sixel.ensures.left
 
 pub returns-then-byte-eq59-clause-accepted : goal.returns-then-byte-eq59-clause-accepted
 returns-then-byte-eq59-clause-accepted c =

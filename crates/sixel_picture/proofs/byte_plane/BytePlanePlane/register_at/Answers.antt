@@ -1,6 +1,6 @@
 use Rattle.std.specs.Bool.{then_some}
-use Rattle.std.proofs.Common.{◌==◌, ℕ, true, false, not, cond, refl, Option, Some, None}
-use Rattle.std.proofs.Common.{◌≡◌, ◌+◌, ◌*◌, ◌<◌, length, sym, ap, ◌∙◌, arith, rules}
+use Rattle.std.proofs.Common.{◌==◌, ℕ, true, false, not, cond, refl, Option, Some, None, ◌≡◌, ◌+◌, ◌*◌, ◌<◌, length}
+use Rattle.std.proofs.Common.{sym, ap, ◌∙◌, arith, rules}
 use Rattle.std.proofs.lemmas.Nat.{rows}
 use Rattle.std.proofs.lemmas.List.{get_or_read}
 use Rattle.sixel_picture.specs.Sheets.{Sheet, cell}

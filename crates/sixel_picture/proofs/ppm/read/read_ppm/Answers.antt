@@ -1,7 +1,7 @@
 use Rattle.std.proofs.Common.{ℕ, []}
 use Rattle.std.proofs.lemmas.Result.{err_from_is_err_and}
-use Rattle.sixel_picture.proofs.PpmReadLemmas.{between, ppm_finished, ppm_refused, samples_fault_counts}
-use Rattle.sixel_picture.proofs.PpmReadLemmas.{started_scaled, started_sides, started_within}
+use Rattle.sixel_picture.proofs.PpmReadLemmas.{between, ppm_finished, ppm_refused, samples_fault_counts, started_scaled}
+use Rattle.sixel_picture.proofs.PpmReadLemmas.{started_sides, started_within}
 use Rattle.sixel_picture.proofs.ppm.read.read_ppm.Goals as goal
 
 pub new-requires-clause-sides : goal.new-requires-clause-sides
