@@ -16,7 +16,8 @@ pub enum Command {
         count: u16,
         bits: u8,
     },
-    /// Raster attributes: the pixel aspect ratio `pan` to `pad`, and the picture's size in pixels. What is missing is 0.
+    /// Raster attributes: the pixel aspect ratio `pan` to `pad`, and the picture's size in pixels. What is missing
+    /// is 0.
     Raster {
         pan: u16,
         pad: u16,

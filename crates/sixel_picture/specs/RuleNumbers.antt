@@ -1,4 +1,5 @@
--- The number of each rule of a portable picture, by its name: of the rules that one event breaks, the one of the least number is named.
+-- The number of each rule of a portable picture, by its name: of the rules that one event breaks, the one of the least
+-- number is named.
 use Rattle.std.specs.Prelude.{ℕ}
 
 abbrev pub raster_first_rule : ℕ
