@@ -57,11 +57,11 @@ is_within value most = nat_le 1 value && nat_le value most
 
 abbrev pub ended : Progress → Field → ℕ → Next
 ended p Width b =
-    if is_within p.value most_side then in_filler
-    (record p { width = p.value }) Height b else Refused reason.Size p.first
+    if is_within p.value most_side then in_filler (record p { width = p.value }) Height b
+    else Refused reason.Size p.first
 ended p Height b =
-    if is_within p.value most_side then in_filler
-    (record p { height = p.value }) Maxval b else Refused reason.Size p.first
+    if is_within p.value most_side then in_filler (record p { height = p.value }) Maxval b
+    else Refused reason.Size p.first
 ended p Maxval b =
     if is_within p.value 255
     then Whole (record { width = p.width; height = p.height; maxval = p.value; place = p.place + 1 })
