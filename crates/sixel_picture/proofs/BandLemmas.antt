@@ -1,24 +1,22 @@
 -- On registers and a byte of painted rows for each column and band, that stand for a sheet.
 use Rattle.std.proofs.Common.{◌≡◌, ◌==◌, ◌≢◌, ℕ, zero, suc, ◌+◌, ◌*◌, ◌/◌, ◌%◌, ◌<◌, ◌≤◌, Bool, true, false, ◌&&◌, ◌||◌}
-use Rattle.std.proofs.Common.{cond, Option, Some, None, List, length, get_or, replicate, nat_le, nat_lt, if◌then◌else◌}
-use Rattle.std.proofs.Common.{inl, inr, refl, sym, ap, ap₂, ◌∙◌, arith, max, mul_comm}
+use Rattle.std.proofs.Common.{cond, List, length, get_or, replicate, nat_le, nat_lt, if◌then◌else◌, inl, inr, refl, sym}
+use Rattle.std.proofs.Common.{ap, ◌∙◌, arith, max}
 use Rattle.std.specs.Int.{bit_at, div_ceil}
 use Rattle.std.specs.Int.Bits.{bit_or, or_zero_r}
-use Rattle.sixel_picture.specs.Positions.{any_below}
-use Rattle.std.specs.Option.{option_flatten}
 use Rattle.std.proofs.lemmas.Bool.{and_parts, and_from, leb-true, ltb-true, le-leb, lt-ltb, eqb-true, eq-eqb, cases_eq}
 use Rattle.std.proofs.lemmas.List.{get_or-replicate}
-use Rattle.std.proofs.lemmas.Nat.{div-add-mod', div_below, mod_below, div-mul-add, mod-mul-add, mul-add-lt}
-use Rattle.std.proofs.lemmas.Nat.{row_fits_turned}
+use Rattle.std.proofs.lemmas.Nat.{div-add-mod', mod_below, div-mul-add, mod-mul-add, mul-add-lt, row_fits_turned}
 use Rattle.std.proofs.lemmas.Nat.Bits.{bit_at_or, bit_at-lt, bit_at-zero, same_from_bits_below}
+use Rattle.sixel_picture.specs.BandPlanes.{is_covered, sheet_of_bands}
 use Rattle.sixel_picture.specs.Geometry.{covers}
 use Rattle.sixel_picture.specs.Lanes.{AreChanged}
-use Rattle.sixel_picture.specs.Sheets.{blank_sheet, cell, painted_sheet, row_by_row}
-use Rattle.sixel_picture.specs.BandPlanes.{is_painted, cell_of_bands, sheet_of_bands}
-use Rattle.sixel_picture.proofs.SheetLemmas.{length_rows, get_index, at_rows, rows_from_index}
+use Rattle.sixel_picture.specs.Positions.{any_below}
+use Rattle.sixel_picture.specs.Sheets.{blank_sheet, painted_sheet}
 use Rattle.sixel_picture.proofs.CoverLemmas.{lies_under, covers_under, PassesBelow, passes_below, any_below_at}
-use Rattle.sixel_picture.proofs.ByteLemmas.{IsRunBelow, in_row_at, run_more, same_test}
+use Rattle.sixel_picture.proofs.PaintedLemmas.{blank_unpainted, sheet_after_run}
 use Rattle.sixel_picture.proofs.PaintLemmas.{painted_same}
+use Rattle.sixel_picture.proofs.RunLemmas.{IsRunBelow, in_row_at, run_more, same_test}
 
 -- ---- places
 
@@ -30,41 +28,17 @@ band_below h y lt = omega arith
 pub band_fits : (w h x y : ℕ) → x < w → y < h → y / 6 * w + x < w * div_ceil h 6
 band_fits w h x y inside_x inside_y = mul-add-lt (y / 6) w x (div_ceil h 6) (band_below h y inside_y) inside_x
 
-pub row_below : (i w h : ℕ) → 0 < w → i < w * h → i / w < h
-row_below i w h some lt = div_below i w h some (omega (arith, mul_comm w h))
-
-pub place_fits : (w h x y : ℕ) → x < w → y < h → y * w + x < w * h
-place_fits w h x y inside_x inside_y = mul-add-lt y w x h inside_y inside_x
-
--- two lists with the same pixels
-pub same_rows : {A : Type 0} (w h : ℕ) (f g : ℕ → ℕ → A) (d : A) → 0 < w
-    → ((x y : ℕ) → x < w → y < h → f x y ≡ g x y) → row_by_row w h f ≡ row_by_row w h g
-same_rows w h f g d some same =
-    rows_from_index w h g (row_by_row w h f) d (length_rows w h f)
-    (λ i lt. get_index w h f i d lt ∙ same (i % w) (i / w) (mod_below i w some) (row_below i w h some lt))
-
--- the pixel of registers and bytes of bands
-pub cell_at_bands : (w h : ℕ) (registers coverage : List ℕ) (x y : ℕ) → x < w → y < h
-    → cell (sheet_of_bands w h registers coverage) x y ≡ cell_of_bands w registers coverage x y
-unfolding cell
-cell_at_bands w h registers coverage x y inside_x inside_y =
-    ap option_flatten (at_rows w h (cell_of_bands w registers coverage) x y inside_x inside_y)
-
 -- ---- a blank plane
 
 pub blank_bands : (w h : ℕ) (registers coverage : List ℕ) → 0 < w → coverage ≡ replicate (w * div_ceil h 6) 0
     → sheet_of_bands w h registers coverage ≡ blank_sheet w h
-unfolding blank_sheet
 blank_bands w h registers coverage some blank =
-    ap (λ (cells : List (Option ℕ)). record { width = w; height = h; cells = cells })
-    (same_rows w h (cell_of_bands w registers coverage) (λ x y. None) None some
+    blank_unpainted w h registers (is_covered w coverage) some
     (λ x y inside_x inside_y.
     let byte : get_or coverage (y / 6 * w + x) 0 ≡ 0 =
     ap (λ (l : List ℕ). get_or l (y / 6 * w + x) 0) blank
     ∙ get_or-replicate (w * div_ceil h 6) (y / 6 * w + x) 0 0 (band_fits w h x y inside_x inside_y) in
-    let clear : bit_at (get_or coverage (y / 6 * w + x) 0) (y % 6) ≡ 0 =
-    ap (λ b. bit_at b (y % 6)) byte ∙ bit_at-zero (y % 6) in
-    ap (λ n. cond (n == 1) (Some (get_or registers (y * w + x) 0)) None) clear))
+    ap (λ n. n == 1) (ap (λ b. bit_at b (y % 6)) byte ∙ bit_at-zero (y % 6)))
 
 -- ---- painting
 
@@ -117,13 +91,6 @@ or_bit_of old bits k =
     ap (λ n. n == 1) (bit_at_or old bits k) ∙ greater (bit_at old k) (bit_at bits k) (bit_at-lt old k)
     (bit_at-lt bits k)
 
--- after all six bits the pixels that the run covers have the register
-pub covered_rows : (w left count band bits register : ℕ) (old new : List ℕ)
-    → IsRunBelow 6 w left count band bits register old new → (i : ℕ) → i < length old
-    → get_or new i 0 ≡ cond (covers left count band 1 bits (i % w) (i / w)) register (get_or old i 0)
-unfolding covers
-covered_rows w left count band bits register old new painted = painted.pixels
-
 same_either : (t : Bool) (x : ℕ) → cond t x x ≡ x
 same_either true x = refl
 same_either false x = refl
@@ -131,11 +98,11 @@ same_either false x = refl
 -- a pixel that is written to, whether it is painted or not
 pub painted_put : (t : Bool) (k w left band bits register start : ℕ) (old mid new : List ℕ) → 0 < w → left + 1 ≤ w
     → start ≡ (6 * band + k) * w + left → t ≡ (bit_at bits k == 1)
-    → IsRunBelow k w left 1 band bits register old mid
+    → IsRunBelow k w left 1 band bits register 0 old mid
     → AreChanged start (start + 1) (λ r. if t then register else r) mid new
-    → IsRunBelow (k + 1) w left 1 band bits register old new
+    → IsRunBelow (k + 1) w left 1 band bits register 0 old new
 painted_put true k w left band bits register start old mid new some fits at set before c =
-    run_more k w left 1 band bits register start old mid new some fits at (sym set) before c.long c.changed
+    run_more k w left 1 band bits start register 0 old mid new some fits at (sym set) before c.long c.changed
 painted_put false k w left band bits register start old mid new some fits at clear before c =
     painted_same k band 1 bits _ _ register 0 old mid new (sym clear) before c.long
     (λ i lt. c.changed i lt ∙ same_either (nat_le start i && nat_lt i (start + 1)) (get_or mid i 0))
@@ -146,17 +113,11 @@ or_bit : (t : Bool) (old bits k : ℕ)
 or_bit true old bits k = or_bit_of old bits k
 or_bit false old bits k = refl
 
--- a painted pixel over what was there before
-over : (t b : Bool) (r o : ℕ)
-    → cond (t || b) (Some (cond t r o)) None ≡ cond t (Some r) (cond b (Some o) None)
-over true b r o = refl
-over false b r o = refl
-
 -- the bytes after a run say which pixels are painted
 painted_bit : (w left count band bits : ℕ) (old new : List ℕ) (x y : ℕ) → x < w → left + count ≤ w
     → y / 6 * w + x < length old
     → AreChanged (band * w + left) (band * w + left + count) (λ b. bit_or b bits) old new
-    → is_painted w new x y ≡ (covers left count band 1 bits x y || is_painted w old x y)
+    → is_covered w new x y ≡ (covers left count band 1 bits x y || is_covered w old x y)
 painted_bit w left count band bits old new x y inside fits there changed =
     let byte = changed.changed (y / 6 * w + x) there in
     let place = in_row_at w band (y / 6) x left count inside fits in
@@ -173,26 +134,14 @@ pub painted_bands : (w h left count band bits register : ℕ) (registers coverag
     ≡ cond (covers left count band 1 bits (i % w) (i / w)) register (get_or registers i 0))
     → sheet_of_bands w h registers_after coverage_after
     ≡ painted_sheet (sheet_of_bands w h registers coverage) left band count bits register
-unfolding painted_sheet
 painted_bands w h left count band bits register registers coverage registers_after coverage_after
     some fits whole bands changed written =
-    ap (λ (cells : List (Option ℕ)). record { width = w; height = h; cells = cells })
-    (same_rows w h (cell_of_bands w registers_after coverage_after)
-    (λ x y. cond (covers left count band 1 bits x y) (Some register) (cell (sheet_of_bands w h registers coverage) x y))
-    None some
+    sheet_after_run w h left count band bits register registers registers_after (is_covered w coverage)
+    (is_covered w coverage_after) some whole
     (λ x y inside_x inside_y.
-    let there : y / 6 * w + x < length coverage = rw bands (band_fits w h x y inside_x inside_y) in
-    let pixel : y * w + x < length registers = rw whole (place_fits w h x y inside_x inside_y) in
-    let t : Bool = covers left count band 1 bits x y in
-    let register_now : get_or registers_after (y * w + x) 0 ≡ cond t register (get_or registers (y * w + x) 0) =
-    written (y * w + x) pixel
-    ∙ ap₂ (λ a b. cond (covers left count band 1 bits a b) register (get_or registers (y * w + x) 0))
-    (mod-mul-add y w x inside_x) (div-mul-add y w x inside_x) in
-    ap₂ (λ (b : Bool) n. cond b (Some n) None)
-    (painted_bit w left count band bits coverage coverage_after x y inside_x fits there changed) register_now
-    ∙ over t (is_painted w coverage x y) register (get_or registers (y * w + x) 0)
-    ∙ ap (λ (o : Option ℕ). cond t (Some register) o)
-    (sym (cell_at_bands w h registers coverage x y inside_x inside_y))))
+    painted_bit w left count band bits coverage coverage_after x y inside_x fits
+    (rw bands (band_fits w h x y inside_x inside_y)) changed)
+    written
 
 unchanged : (t : Bool) (bits o : ℕ) → bits ≡ 0 → o ≡ cond t (bit_or o bits) o
 unchanged true bits o none = sym (ap (bit_or o) none ∙ or_zero_r o)

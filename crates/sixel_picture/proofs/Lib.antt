@@ -2,9 +2,10 @@ pub mod SheetLemmas
 pub mod PictureLemmas
 pub mod LaneLemmas
 pub mod PaintLemmas
+pub mod PaintedLemmas
+pub mod RunLemmas
 pub mod ByteLemmas
 pub mod BandLemmas
-pub mod BandBlankLemmas
 pub mod PpmLemmas
 pub mod PositionLemmas
 pub mod StepLemmas

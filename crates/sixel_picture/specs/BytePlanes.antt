@@ -1,19 +1,18 @@
--- How bytes, one a pixel, stand for a sheet.
-use Rattle.std.specs.Prelude.{◌≡◌, ◌==◌, ℕ, ◌*◌, IsTrue, Option, Some, None, List, length, map, if◌then◌else◌}
+-- How a register and a mark for each pixel stand for a sheet.
+use Rattle.std.specs.Prelude.{◌≡◌, ℕ, ◌+◌, ◌*◌, Bool, false, IsTrue, List, length, slice_index_or}
 use Rattle.sixel_picture.specs.Pictures.{is_side}
-use Rattle.sixel_picture.specs.declared.byte_plane.TheConstants.{BLANK}
-use Rattle.sixel_picture.specs.Sheets.{Sheet}
+use Rattle.sixel_picture.specs.Sheets.{Sheet, sheet_of_painted}
 
--- the register of a byte, which is none for a blank pixel
-abbrev pub register_of_byte : ℕ → Option ℕ
-register_of_byte b = if b == BLANK then None else Some b
+-- the pixel's mark is set
+abbrev pub is_marked : ℕ → List Bool → ℕ → ℕ → Bool
+is_marked width marks x y = slice_index_or marks (y * width + x) false
 
-abbrev pub sheet_of_bytes : ℕ → ℕ → List ℕ → Sheet
-sheet_of_bytes width height pixels =
-    record { width = width; height = height; cells = map register_of_byte pixels }
+abbrev pub sheet_of_marks : ℕ → ℕ → List ℕ → List Bool → Sheet
+sheet_of_marks width height registers marks = sheet_of_painted width height registers (is_marked width marks)
 
--- the bytes of the rows of a plane
-pub record AreRows (width height : ℕ) (pixels : List ℕ) : Type 0 where
+-- the registers and the marks of the rows of a plane
+pub record AreMarked (width height : ℕ) (registers : List ℕ) (marks : List Bool) : Type 0 where
   pub width_in_range : IsTrue (is_side width)
   pub height_in_range : IsTrue (is_side height)
-  pub whole : length pixels ≡ width * height
+  pub each_register : length registers ≡ width * height
+  pub each_mark : length marks ≡ width * height

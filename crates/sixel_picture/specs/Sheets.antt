@@ -1,7 +1,7 @@
 -- A plane, as contracts see it.
-use Rattle.std.specs.Prelude.{◌≡◌, ℕ, ◌+◌, ◌*◌, ◌/◌, ◌%◌, Option, Some, None, List, is_none, map, slice_get}
-use Rattle.std.specs.Prelude.{if◌then◌else◌}
-use Rattle.std.specs.Option.{option_flatten, option_map}
+use Rattle.std.specs.Prelude.{◌≡◌, ℕ, ◌+◌, ◌*◌, ◌/◌, ◌%◌, ◌<◌, Bool, true, false, Option, Some, None, List, is_none, map}
+use Rattle.std.specs.Prelude.{slice_get, slice_index, if◌then◌else◌}
+use Rattle.std.specs.Option.{MatchOption, option_flatten, option_map}
 use Rattle.std.specs.List.{range_with_len, position_from}
 use Rattle.sixel_picture.specs.Geometry.{covers}
 
@@ -37,3 +37,30 @@ first_blank s = option_map (λ i. (i % s.width, i / s.width)) (position_from is_
 -- no pixel is blank
 abbrev pub IsFull : Sheet → Type 0
 IsFull s = first_blank s ≡ None
+
+-- the register of a pixel, if it is painted
+abbrev pub painted_cell : ℕ → List ℕ → (ℕ → ℕ → Bool) → ℕ → ℕ → Option ℕ
+painted_cell width registers is_painted x y =
+    if is_painted x y then Some (slice_index registers (y * width + x)) else None
+
+-- the sheet of a register for each pixel, row by row, and of which of the pixels are painted
+abbrev pub sheet_of_painted : ℕ → ℕ → List ℕ → (ℕ → ℕ → Bool) → Sheet
+sheet_of_painted width height registers is_painted =
+    record { width = width; height = height; cells = row_by_row width height (painted_cell width registers is_painted) }
+
+-- all pixels of the rows before are painted
+abbrev pub RowsArePainted : ℕ → (ℕ → ℕ → Bool) → ℕ → Type 0
+RowsArePainted width is_painted row = (x y : ℕ) → x < width → y < row → is_painted x y ≡ true
+
+-- the pixel isn't painted, and all before it in row order are
+pub record IsFirstUnpainted (width height : ℕ) (is_painted : ℕ → ℕ → Bool) (pixel : ℕ × ℕ) : Type 0 where
+  pub inside_x : pixel.0 < width
+  pub inside_y : pixel.1 < height
+  pub unpainted : is_painted pixel.0 pixel.1 ≡ false
+  pub rows_before : RowsArePainted width is_painted pixel.1
+  pub columns_before : (x : ℕ) → x < pixel.0 → is_painted x pixel.1 ≡ true
+
+-- the first pixel in row order that isn't painted, if there is one
+abbrev pub FirstUnpainted : ℕ → ℕ → (ℕ → ℕ → Bool) → Option (ℕ × ℕ) → Type 0
+FirstUnpainted width height is_painted found =
+    MatchOption found (RowsArePainted width is_painted height) (IsFirstUnpainted width height is_painted)

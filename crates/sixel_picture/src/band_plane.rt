@@ -3,9 +3,10 @@
 ghost use Rattle.std.specs.Prelude.{◌≡◌, ◌==◌, ◌<◌, ◌≤◌, ◌+◌, ◌*◌, ◌⊎◌, ℕ, EachIndex, bit_or, length, slice_index};
 ghost use Rattle.std.specs.Prelude.{if◌then◌else◌, ◌%◌, ◌/◌};
 ghost use Rattle.std.specs.Int.{bit_at, div_ceil};
-ghost use Rattle.sixel_picture.specs.BandPlanes.{FirstUnpainted};
+ghost use Rattle.sixel_picture.specs.BandPlanes.{is_covered};
 ghost use Rattle.sixel_picture.specs.Geometry.{covers};
 ghost use Rattle.sixel_picture.specs.Lanes.{AreChanged};
+ghost use Rattle.sixel_picture.specs.Sheets.{FirstUnpainted};
 
 use crate::bits::is_set;
 use crate::lanes::{fill, first_without, or_into};
@@ -192,7 +193,7 @@ fn put(registers: &mut [u8], index: usize, is_painted: bool, register: u8)
 /// The column and the row of the first pixel that isn't painted, in row order.
 fn first_unpainted(coverage: &[u8], width: u32, height: u32) -> Option<(u32, u32)>
     requires { length coverage.now ≡ width * div_ceil height 6 }
-    ensures { FirstUnpainted width height coverage.now result }
+    ensures { FirstUnpainted width height (is_covered width coverage.now) result }
 {
     let columns = width as usize;
     for row in 0..height {

@@ -1,22 +1,22 @@
-//! A plane of one byte a pixel.
+//! A plane of a register and a mark for each pixel.
 
-ghost use Rattle.std.specs.Prelude.{◌≡◌, ◌==◌, ◌<◌, ◌≤◌, ◌+◌, ◌&&◌, nat_le, nat_lt, EachIndex, IfSome, length};
-ghost use Rattle.std.specs.Prelude.{position, slice_index, if◌then◌else◌};
+ghost use Rattle.std.specs.Prelude.{◌≡◌, ◌<◌, ◌≤◌, ◌+◌, ◌&&◌, false, true, nat_le, nat_lt, not, EachIndex, IfSome, length};
+ghost use Rattle.std.specs.Prelude.{position, slice_index, slice_index_or, if◌then◌else◌};
 
 use crate::bits::is_set;
 use crate::plane::Plane;
 use std::alloc::{AllocError, Global};
 use std::marker::Model;
 
-/// The byte of a blank pixel, which is no register.
-const BLANK: u8 = 255;
-
-/// A plane that keeps one byte a pixel, and so hands out its registers as they lie.
+/// A plane that keeps a register a pixel, which it hands out as they lie, and a mark where a pixel is painted.
+///
+/// What the register of a blank pixel is doesn't matter.
 #[derive(Debug, Drop)]
 pub struct BytePlane {
     width: u32,
     height: u32,
-    pixels: Vec<u8>,
+    registers: Vec<u8>,
+    marks: Vec<bool>,
 }
 
 impl Model for BytePlane {
@@ -24,22 +24,25 @@ impl Model for BytePlane {
 
     ghost Value = { Sheet };
 
-    ghost use Rattle.sixel_picture.specs.BytePlanes.{sheet_of_bytes, AreRows};
+    ghost use Rattle.sixel_picture.specs.BytePlanes.{sheet_of_marks, AreMarked};
 
-    ghost view = { λ p. sheet_of_bytes p.width p.height p.pixels.items };
+    ghost view = { λ p. sheet_of_marks p.width p.height p.registers.items p.marks.items };
 
-    ghost invariant = { λ p. AreRows p.width p.height p.pixels.items };
+    ghost invariant = { λ p. AreMarked p.width p.height p.registers.items p.marks.items };
 }
 
 impl Plane for BytePlane {
     ghost sheet = { λ p. p };
 
     fn blank(alloc: Global, width: u32, height: u32) -> Result<BytePlane, AllocError> {
-        let pixels = vec![in alloc; BLANK; (width * height) as usize]?;
+        let pixels = (width * height) as usize;
+        let registers = vec![in alloc; 0; pixels]?;
+        let marks = vec![in alloc; false; pixels]?;
         Ok(BytePlane {
             width,
             height,
-            pixels,
+            registers,
+            marks,
         })
     }
 
@@ -56,18 +59,19 @@ impl Plane for BytePlane {
             if is_set(bits, bit) {
                 let row = 6 * band + bit;
                 let start = row as usize * self.width as usize + column as usize;
-                paint_row(&mut self.pixels, start, count as usize, register);
+                paint_row(&mut self.registers, start, count as usize, register);
+                mark_row(&mut self.marks, start, count as usize);
             }
         }
     }
 
     fn register_at(&self, x: u32, y: u32) -> Option<u8> {
-        let pixel = self.pixels[y as usize * self.width as usize + x as usize];
-        (pixel != BLANK).then_some(pixel)
+        let index = y as usize * self.width as usize + x as usize;
+        self.marks[index].then_some(self.registers[index])
     }
 
     fn first_blank(&self) -> Option<(u32, u32)> {
-        let index = blank_index(&self.pixels)?;
+        let index = blank_index(&self.marks)?;
         let width = self.width as usize;
         Some(((index % width) as u32, (index / width) as u32))
     }
@@ -76,26 +80,37 @@ impl Plane for BytePlane {
         let BytePlane {
             width: _,
             height: _,
-            pixels,
+            registers,
+            marks: _,
         } = self;
-        pixels
+        registers
     }
 }
 
-/// The index of the first blank pixel.
-fn blank_index(pixels: &[u8]) -> Option<usize>
-    ensures value { result ≡ position (λ b. b == BLANK) pixels.now }
-    ensures within { IfSome result (λ i. i < length pixels.now) }
+/// The index of the first pixel without a mark.
+fn blank_index(marks: &[bool]) -> Option<usize>
+    ensures value { result ≡ position not marks.now }
+    ensures within { IfSome result (λ i. i < length marks.now) }
 {
-    pixels.iter().position(|pixel| *pixel == BLANK)
+    marks.iter().position(|is_painted| !*is_painted)
 }
 
 /// Gives so many pixels from `start` on a register.
-fn paint_row(pixels: &mut [u8], start: usize, count: usize, register: u8)
-    requires { start + count ≤ length pixels.old }
-    ensures { EachIndex pixels.old (λ i. slice_index pixels.new i
-        ≡ (if nat_le start i && nat_lt i (start + count) then register else slice_index pixels.old i)) }
+fn paint_row(registers: &mut [u8], start: usize, count: usize, register: u8)
+    requires { start + count ≤ length registers.old }
+    ensures { EachIndex registers.old (λ i. slice_index registers.new i
+        ≡ (if nat_le start i && nat_lt i (start + count) then register else slice_index registers.old i)) }
 {
     let end = start + count;
-    pixels[start..end].fill(register);
+    registers[start..end].fill(register);
+}
+
+/// Sets the marks of so many pixels from `start` on.
+fn mark_row(marks: &mut [bool], start: usize, count: usize)
+    requires { start + count ≤ length marks.old }
+    ensures { EachIndex marks.old (λ i. slice_index_or marks.new i false
+        ≡ (if nat_le start i && nat_lt i (start + count) then true else slice_index_or marks.old i false)) }
+{
+    let end = start + count;
+    marks[start..end].fill(true);
 }

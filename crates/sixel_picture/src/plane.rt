@@ -3,7 +3,7 @@
 ghost use Rattle.std.specs.Prelude.{◌≡◌, ◌<◌, ◌≤◌, ◌+◌, ◌*◌, ℕ, Some, IfOk, IsTrue, map};
 ghost use Rattle.std.specs.Int.{bit_at};
 ghost use Rattle.sixel_picture.specs.Sheets.{Sheet, IsFull, blank_sheet, cell, first_blank, painted_sheet};
-ghost use Rattle.sixel_picture.specs.Pictures.{is_side, register_count};
+ghost use Rattle.sixel_picture.specs.Pictures.{is_side};
 
 use std::alloc::{AllocError, Global};
 
@@ -30,11 +30,11 @@ pub trait Plane: Drop {
     fn height(&self) -> u32
         ensures { result ≡ (sheet self.now).height };
 
-    /// Paints so many columns from `column` on in a register, in those rows of the band whose bits are
-    /// set. A band is six rows, band 0 at the top, and bit 0 is its uppermost row.
+    /// Paints so many columns from `column` on in a register, any of the 256 that a byte names, in those
+    /// rows of the band whose bits are set. A band is six rows, band 0 at the top, and bit 0 is its
+    /// uppermost row.
     fn paint_run(&mut self, column: u32, band: u32, count: u32, bits: u8, register: u8)
         requires bits { bits ≤ 63 }
-        requires register { register < register_count }
         requires columns { column + count ≤ (sheet self.old).width }
         requires rows { (k : ℕ) → k < 6 → bit_at bits k ≡ 1 → 6 * band + k < (sheet self.old).height }
         ensures { sheet self.new ≡ painted_sheet (sheet self.old) column band count bits register };

@@ -153,7 +153,7 @@ fn pictures_keep_their_parts(rt: HostRuntime) -> Result<(), Fail> {
     Ok(())
 }
 
-/// `rt try --test --fail-alloc 1` refuses the only growth of the first plane.
+/// Under `rt try --test --fail-alloc N` the N-th growth is refused: those of the first plane are 1 and 2.
 #[test]
 fn a_refused_growth_is_answered(rt: HostRuntime) {
     assert!(rt; planes::one_is_blank::<BytePlane>(rt.alloc()));

@@ -45,7 +45,7 @@ fn paint<P: Plane>(plane: &mut P, run: Run) -> bool {
     let width = plane.width();
     let height = plane.height();
     let in_columns = column <= width && count <= width - column;
-    if in_columns && bits <= 63 && register < 16 && band < 1000 && rows_fit(bits, band, height) {
+    if in_columns && bits <= 63 && band < 1000 && rows_fit(bits, band, height) {
         plane.paint_run(column, band, count, bits, register);
         return true;
     }
@@ -259,6 +259,33 @@ fn is_painted_by_runs<P: Plane>(alloc: Global) -> Result<bool, AllocError> {
         return Ok(false);
     }
     Ok(plane.into_registers().as_slice() == FILLED.as_slice())
+}
+
+/// Whether a plane of one pixel takes register 255, the greatest, as any other.
+fn takes_the_greatest_register<P: Plane>(alloc: Global) -> Result<bool, AllocError> {
+    let mut plane = P::blank(alloc, 1, 1)?;
+    let run = Run {
+        column: 0,
+        band: 0,
+        count: 1,
+        bits: 1,
+        register: 255,
+    };
+    let is_painted = paint(&mut plane, run);
+    Ok(is_painted && plane.first_blank().is_none() && pixel(&plane, 0, 0) == Some(255))
+}
+
+#[test]
+fn each_byte_is_a_register(rt: HostRuntime) -> Result<(), Fail> {
+    assert!(rt;
+        takes_the_greatest_register::<BytePlane>(rt.alloc())?,
+        "bytes"
+    );
+    assert!(rt;
+        takes_the_greatest_register::<BandPlane>(rt.alloc())?,
+        "bands"
+    );
+    Ok(())
 }
 
 #[test]

@@ -1,6 +1,7 @@
 use Rattle.std.proofs.Common.{◌≡◌, refl, arith}
 use Rattle.sixel_picture.proofs.PaintLemmas.{painted_none}
-use Rattle.sixel_picture.proofs.BandLemmas.{covered_rows, painted_put}
+use Rattle.sixel_picture.proofs.BandLemmas.{painted_put}
+use Rattle.sixel_picture.proofs.RunLemmas.{covered_rows}
 use Rattle.sixel_picture.proofs.band_plane.fill_column.Goals as goal
 
 pub loop-bit-init : goal.loop-bit-init
@@ -16,5 +17,5 @@ loop-bit-preserved c =
 pub returns : goal.returns
 returns c =
     let done : c.loop-bit.bit ≡ 6 = omega arith in
-    covered_rows c.args.width c.args.column 1 c.args.band c.args.bits c.args.register c.args.registers.now
+    covered_rows c.args.width c.args.column 1 c.args.band c.args.bits c.args.register 0 c.args.registers.now
     c.loop-bit.registers (rw done at c.loop-bit.invariant)

@@ -1,9 +1,8 @@
 use Rattle.std.proofs.Common.{◌≡◌, ◌==◌, refl, sym, true, false, arith}
 use Rattle.std.specs.Int.{bit_at}
 use Rattle.std.proofs.lemmas.Bool.{eqb-true}
-use Rattle.sixel_picture.proofs.ByteLemmas.{run_more}
 use Rattle.sixel_picture.proofs.PaintLemmas.{painted_none, painted_same}
-use Rattle.sixel_picture.proofs.BandLemmas.{covered_rows}
+use Rattle.sixel_picture.proofs.RunLemmas.{covered_rows, run_more}
 use Rattle.sixel_picture.proofs.band_plane.fill_rows.Goals as goal
 use Rattle.sixel_picture.proofs.band_plane.fill_rows.Goals.{then-is_set, else-is_set}
 
@@ -24,7 +23,7 @@ loop-bit-preserved c = elim c.if-is_set.branch [
   | then-is_set w ↦
       let set : (bit_at c.args.bits c.loop-bit.bit == 1) ≡ true = sym w.if-is_set.ensures in
       rw w.registers-is (run_more c.loop-bit.bit c.args.width c.args.column c.args.count c.args.band c.args.bits
-      c.args.register _ c.args.registers.now c.loop-bit.registers _ c.requires.some c.requires.columns refl set
+      _ c.args.register 0 c.args.registers.now c.loop-bit.registers _ c.requires.some c.requires.columns refl set
       c.loop-bit.invariant
       w.fill.ensures.long w.fill.ensures.changed)
   | else-is_set w ↦
@@ -36,5 +35,5 @@ loop-bit-preserved c = elim c.if-is_set.branch [
 pub returns : goal.returns
 returns c =
     let done : c.loop-bit.bit ≡ 6 = omega arith in
-    covered_rows c.args.width c.args.column c.args.count c.args.band c.args.bits c.args.register c.args.registers.now
+    covered_rows c.args.width c.args.column c.args.count c.args.band c.args.bits c.args.register 0 c.args.registers.now
     c.loop-bit.registers (rw done at c.loop-bit.invariant)

@@ -1,12 +1,13 @@
 use Rattle.std.proofs.Common.{◌<◌, ◌∙◌, ap, rules}
+use Rattle.sixel_picture.specs.BandPlanes.{is_covered}
 use Rattle.sixel_picture.specs.Sheets.{first_blank}
-use Rattle.sixel_picture.proofs.BandBlankLemmas.{first_blank_of_bands}
+use Rattle.sixel_picture.proofs.PaintedLemmas.{first_blank_unpainted}
 use Rattle.sixel_picture.proofs.band_plane.BandPlanePlane.first_blank.Goals as goal
 
 pub returns : goal.returns
 returns c =
     let inside = c.self.inside in
     let some : 0 < inside.width = search rules in
-    first_blank_of_bands inside.width inside.height inside.registers.items inside.coverage.items
-    c.first_unpainted.result some (rw c.deref.ensures.value at c.first_unpainted.ensures)
+    first_blank_unpainted inside.width inside.height inside.registers.items
+    (is_covered inside.width inside.coverage.items) c.first_unpainted.result some (rw c.deref.ensures.value at c.first_unpainted.ensures)
     ∙ ap first_blank c.self.view_is

@@ -3,8 +3,9 @@ use Rattle.std.proofs.Common.{sym, ap, ◌∙◌, arith}
 use Rattle.std.specs.Int.{bit_at}
 use Rattle.std.proofs.lemmas.List.{get_or_read}
 use Rattle.sixel_picture.specs.Sheets.{Sheet, cell}
-use Rattle.sixel_picture.specs.BandPlanes.{is_painted}
-use Rattle.sixel_picture.proofs.BandLemmas.{band_fits, place_fits, cell_at_bands}
+use Rattle.sixel_picture.specs.BandPlanes.{is_covered}
+use Rattle.sixel_picture.proofs.BandLemmas.{band_fits}
+use Rattle.sixel_picture.proofs.PaintedLemmas.{place_fits, cell_of_painted}
 use Rattle.sixel_picture.proofs.band_plane.BandPlanePlane.register_at.Goals as goal
 
 painted : (t : Bool) (r n : ℕ) → t ≡ true → r ≡ n → Some r ≡ cond t (Some n) None
@@ -35,12 +36,12 @@ returns-then-is_set c =
     rw c.self.invariant.each_band (band_fits inside.width inside.height c.args.x c.args.y in_x in_y) in
     let pixel : c.args.y * inside.width + c.args.x < length inside.registers.items =
     rw c.self.invariant.each_pixel (place_fits inside.width inside.height c.args.x c.args.y in_x in_y) in
-    let set : is_painted inside.width inside.coverage.items c.args.x c.args.y ≡ true =
+    let set : is_covered inside.width inside.coverage.items c.args.x c.args.y ≡ true =
     ap (λ b. bit_at b (c.args.y % 6) == 1) (sym (get_or_read inside.coverage.items _ _ byte c.index.ensures 0))
     ∙ sym c.if-is_set.ensures in
     painted _ _ _ set (get_or_read inside.registers.items _ _ pixel c.index-then-is_set.ensures 0)
-    ∙ sym (cell_at_bands inside.width inside.height inside.registers.items inside.coverage.items c.args.x c.args.y
-    in_x in_y)
+    ∙ sym (cell_of_painted inside.width inside.height inside.registers.items
+    (is_covered inside.width inside.coverage.items) c.args.x c.args.y in_x in_y)
     ∙ ap (λ (s : Sheet). cell s c.args.x c.args.y) c.self.view_is
 
 pub returns-else-is_set : goal.returns-else-is_set
@@ -52,10 +53,10 @@ returns-else-is_set c =
     let in_y : c.args.y < inside.height = omega (arith, c.requires.inside_y, high) in
     let byte : c.args.y / 6 * inside.width + c.args.x < length inside.coverage.items =
     rw c.self.invariant.each_band (band_fits inside.width inside.height c.args.x c.args.y in_x in_y) in
-    let clear : is_painted inside.width inside.coverage.items c.args.x c.args.y ≡ false =
+    let clear : is_covered inside.width inside.coverage.items c.args.x c.args.y ≡ false =
     ap (λ b. bit_at b (c.args.y % 6) == 1) (sym (get_or_read inside.coverage.items _ _ byte c.index.ensures 0))
     ∙ sym c.if-is_set.ensures in
     blank _ _ clear
-    ∙ sym (cell_at_bands inside.width inside.height inside.registers.items inside.coverage.items c.args.x c.args.y
-    in_x in_y)
+    ∙ sym (cell_of_painted inside.width inside.height inside.registers.items
+    (is_covered inside.width inside.coverage.items) c.args.x c.args.y in_x in_y)
     ∙ ap (λ (s : Sheet). cell s c.args.x c.args.y) c.self.view_is
