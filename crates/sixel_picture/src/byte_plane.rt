@@ -1,7 +1,7 @@
 //! A plane of a register and a mark for each pixel.
 
-ghost use Rattle.std.specs.Prelude.{◌≡◌, ◌<◌, ◌≤◌, ◌+◌, ◌&&◌, false, true, nat_le, nat_lt, not, EachIndex, IfSome, length};
-ghost use Rattle.std.specs.Prelude.{position, slice_index, slice_index_or, if◌then◌else◌};
+ghost use Rattle.std.specs.Prelude.{◌≡◌, ◌<◌, ◌≤◌, ◌+◌, ◌&&◌, nat_le, nat_lt, not, EachIndex, IfSome, length};
+ghost use Rattle.std.specs.Prelude.{position, slice_index_or, if◌then◌else◌};
 
 use crate::bits::is_set;
 use crate::plane::Plane;
@@ -59,8 +59,8 @@ impl Plane for BytePlane {
             if is_set(bits, bit) {
                 let row = 6 * band + bit;
                 let start = row as usize * self.width as usize + column as usize;
-                paint_row(&mut self.registers, start, count as usize, register);
-                mark_row(&mut self.marks, start, count as usize);
+                fill_row(&mut self.registers, start, count as usize, register);
+                fill_row(&mut self.marks, start, count as usize, true);
             }
         }
     }
@@ -95,22 +95,13 @@ fn blank_index(marks: &[bool]) -> Option<usize>
     marks.iter().position(|is_painted| !*is_painted)
 }
 
-/// Gives so many pixels from `start` on a register.
-fn paint_row(registers: &mut [u8], start: usize, count: usize, register: u8)
-    requires { start + count ≤ length registers.old }
-    ensures { EachIndex registers.old (λ i. slice_index registers.new i
-        ≡ (if nat_le start i && nat_lt i (start + count) then register else slice_index registers.old i)) }
+/// Gives so many items from `start` on a value.
+fn fill_row<T: Copy>(items: &mut [T], start: usize, count: usize, value: T)
+    requires { start + count ≤ length items.old }
+    ensures { (d : T) → EachIndex items.old (λ i. slice_index_or items.new i d
+        ≡ (if nat_le start i && nat_lt i (start + count) then value else slice_index_or items.old i d)) }
 {
-    let end = start + count;
-    registers[start..end].fill(register);
-}
-
-/// Sets the marks of so many pixels from `start` on.
-fn mark_row(marks: &mut [bool], start: usize, count: usize)
-    requires { start + count ≤ length marks.old }
-    ensures { EachIndex marks.old (λ i. slice_index_or marks.new i false
-        ≡ (if nat_le start i && nat_lt i (start + count) then true else slice_index_or marks.old i false)) }
-{
-    let end = start + count;
-    marks[start..end].fill(true);
+    for index in start..start + count {
+        items[index] = value;
+    }
 }

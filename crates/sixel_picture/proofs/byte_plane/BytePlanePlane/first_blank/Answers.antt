@@ -1,7 +1,7 @@
 use Rattle.std.proofs.Common.{◌≡◌, ◌%◌, ◌/◌, ◌*◌, ◌<◌, ℕ, Bool, List, Option, Some, None, length, not, position, sym, ap}
 use Rattle.std.proofs.Common.{◌∙◌, rules}
 use Rattle.std.specs.Option.{option_map}
-use Rattle.sixel_picture.specs.BytePlanes.{AreMarked, is_marked, sheet_of_marks}
+use Rattle.sixel_picture.specs.BytePlanes.{is_marked, sheet_of_marks}
 use Rattle.sixel_picture.specs.Sheets.{Sheet, first_blank}
 use Rattle.sixel_picture.proofs.ByteLemmas.{first_unmarked}
 use Rattle.sixel_picture.proofs.PaintedLemmas.{first_blank_unpainted}

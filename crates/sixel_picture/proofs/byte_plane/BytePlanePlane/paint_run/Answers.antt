@@ -1,4 +1,4 @@
-use Rattle.std.proofs.Common.{◌≡◌, ◌==◌, ◌+◌, ◌*◌, ◌<◌, ◌≤◌, ℕ, List, length, refl, sym, ap, ap₂, ◌∙◌, false, arith, rules, true}
+use Rattle.std.proofs.Common.{◌≡◌, ◌==◌, ◌+◌, ◌*◌, ◌<◌, ◌≤◌, ℕ, length, refl, sym, ap, ap₂, ◌∙◌, false, arith, rules, true}
 use Rattle.std.specs.Int.{bit_at}
 use Rattle.std.proofs.lemmas.Bool.{eqb-true}
 use Rattle.std.proofs.lemmas.Nat.{row_fits_turned}
@@ -37,8 +37,8 @@ row_fits w h wide high band k column count same_width same_height columns row =
     let room = row_fits_turned (6 * band + k) w w h (omega (arith, same_height, row)) (omega arith) in
     omega arith
 
-pub paint_row-requires : goal.paint_row-requires
-paint_row-requires c =
+pub fill_row-requires : goal.fill_row-requires
+fill_row-requires c =
     let set : bit_at c.args.bits c.loop-bit.bit ≡ 1 =
     eqb-true (bit_at c.args.bits c.loop-bit.bit) 1 (sym c.if-is_set.ensures) in
     let room = row_fits c.self.inside.width c.self.inside.height c.args.self.now.width c.args.self.now.height c.args.band
@@ -49,8 +49,8 @@ paint_row-requires c =
     ap length c.deref_mut.ensures.value ∙ c.loop-bit.invariant.painted.long ∙ c.self.invariant.each_register in
     rw (stored, c.loop-bit.invariant.same_width) room
 
-pub mark_row-requires : goal.mark_row-requires
-mark_row-requires c =
+pub fill_row-requires-then-is_set : goal.fill_row-requires-then-is_set
+fill_row-requires-then-is_set c =
     let set : bit_at c.args.bits c.loop-bit.bit ≡ 1 =
     eqb-true (bit_at c.args.bits c.loop-bit.bit) 1 (sym c.if-is_set.ensures) in
     let room = row_fits c.self.inside.width c.self.inside.height c.args.self.now.width c.args.self.now.height c.args.band
@@ -65,19 +65,19 @@ pub loop-bit-preserved : goal.loop-bit-preserved
 loop-bit-preserved c = elim c.if-is_set.branch [
   | then-is_set w ↦
       let set : (bit_at c.args.bits c.loop-bit.bit == 1) ≡ true = sym w.if-is_set.ensures in
-      let whole : length w.paint_row.new.registers ≡ c.loop-bit.self-inside.registers.len = omega arith in
-      let registers : c.if-is_set.self-inside.registers.items ≡ w.paint_row.new.registers =
-      ap (λ (s : Inside). s.registers.items) w.self-inside-is ∙ take_at w.paint_row.new.registers _ _ whole in
+      let whole : length w.fill_row.new.items ≡ c.loop-bit.self-inside.registers.len = omega arith in
+      let registers : c.if-is_set.self-inside.registers.items ≡ w.fill_row.new.items =
+      ap (λ (s : Inside). s.registers.items) w.self-inside-is ∙ take_at w.fill_row.new.items _ _ whole in
       let stored : w.deref_mut.result.now ≡ c.loop-bit.self-inside.registers.items = w.deref_mut.ensures.value in
       let long : length c.if-is_set.self-inside.registers.items ≡ length c.loop-bit.self-inside.registers.items =
-      ap length registers ∙ w.paint_row.auto.registers ∙ ap length stored in
-      let whole_marks : length w.mark_row.new.marks ≡ c.loop-bit.self-inside.marks.len = omega arith in
-      let marks : c.if-is_set.self-inside.marks.items ≡ w.mark_row.new.marks =
-      ap (λ (s : Inside). s.marks.items) w.self-inside-is ∙ take_at w.mark_row.new.marks _ _ whole_marks in
+      ap length registers ∙ w.fill_row.auto.items ∙ ap length stored in
+      let whole_marks : length w.fill_row-then-is_set.new.items ≡ c.loop-bit.self-inside.marks.len = omega arith in
+      let marks : c.if-is_set.self-inside.marks.items ≡ w.fill_row-then-is_set.new.items =
+      ap (λ (s : Inside). s.marks.items) w.self-inside-is ∙ take_at w.fill_row-then-is_set.new.items _ _ whole_marks in
       let stored_marks : w.deref_mut-then-is_set.result.now ≡ c.loop-bit.self-inside.marks.items =
       w.deref_mut-then-is_set.ensures.value in
       let long_marks : length c.if-is_set.self-inside.marks.items ≡ length c.loop-bit.self-inside.marks.items =
-      ap length marks ∙ w.mark_row.auto.marks ∙ ap length stored_marks in
+      ap length marks ∙ w.fill_row-then-is_set.auto.items ∙ ap length stored_marks in
       let wide : c.self.inside.width ≡ c.args.self.now.width = ap (λ (s : Sheet). s.width) c.self.view_is in
       let start : (6 * c.args.band + c.loop-bit.bit) * c.loop-bit.self-inside.width + c.args.column
       ≡ (6 * c.args.band + c.loop-bit.bit) * c.self.inside.width + c.args.column =
@@ -90,11 +90,11 @@ loop-bit-preserved c = elim c.if-is_set.branch [
         painted = run_more c.loop-bit.bit c.self.inside.width c.args.column c.args.count c.args.band c.args.bits _
             c.args.register 0 c.self.inside.registers.items c.loop-bit.self-inside.registers.items
             c.if-is_set.self-inside.registers.items
-            some fits start set c.loop-bit.invariant.painted long (rw (registers, ← stored) w.paint_row.ensures);
+            some fits start set c.loop-bit.invariant.painted long (rw (registers, ← stored) (w.fill_row.ensures 0));
         marked = run_more c.loop-bit.bit c.self.inside.width c.args.column c.args.count c.args.band c.args.bits _
             true false c.self.inside.marks.items c.loop-bit.self-inside.marks.items
             c.if-is_set.self-inside.marks.items
-            some fits start set c.loop-bit.invariant.marked long_marks (rw (marks, ← stored_marks) w.mark_row.ensures);
+            some fits start set c.loop-bit.invariant.marked long_marks (rw (marks, ← stored_marks) (w.fill_row-then-is_set.ensures false));
       }
   | else-is_set w ↦
       let clear : (bit_at c.args.bits c.loop-bit.bit == 1) ≡ false = sym w.if-is_set.ensures in

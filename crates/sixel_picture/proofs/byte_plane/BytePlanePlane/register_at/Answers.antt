@@ -1,6 +1,6 @@
 use Rattle.std.specs.Bool.{then_some}
-use Rattle.std.proofs.Common.{◌≡◌, ◌+◌, ◌*◌, ◌<◌, ℕ, Bool, true, false, cond, Option, Some, None, length, refl, sym, ap, ap₂}
-use Rattle.std.proofs.Common.{◌∙◌, arith, rules}
+use Rattle.std.proofs.Common.{◌≡◌, ◌+◌, ◌*◌, ◌<◌, ℕ, Bool, true, false, cond, Some, None, length, refl, sym, ap, ap₂}
+use Rattle.std.proofs.Common.{◌∙◌, arith}
 use Rattle.std.proofs.lemmas.List.{get_or_read}
 use Rattle.sixel_picture.specs.BytePlanes.{is_marked}
 use Rattle.sixel_picture.specs.Sheets.{Sheet, cell}
