@@ -1,23 +1,21 @@
 -- On the rules that look at no pixel, and on the least that is broken.
-use Rattle.std.proofs.Common.{◌≡◌, ◌≢◌, ℕ, zero, suc, ◌<◌, ◌≤◌, ◌==◌, ◌&&◌, ◌⊎◌, inl, inr, Bool, true, false, Option}
-use Rattle.std.proofs.Common.{Some, None, IsTrue, IsFalse, List, length, get_or, refl, sym, ap, ◌∙◌, subst, arith}
-use Rattle.std.specs.Prelude.{IfSome, not, nat_lt, is_none, is_some, slice_get, if◌then◌else◌}
-use Rattle.std.specs.Bool.{MatchBool, then_some}
+use Rattle.std.proofs.Common.{◌≡◌, ◌≢◌, ℕ, zero, suc, ◌<◌, ◌≤◌, ◌==◌, ◌&&◌, Bool, true, false, Option}
+use Rattle.std.proofs.Common.{Some, None, IsTrue, List, length, get_or, refl, sym, ap, ◌∙◌, subst, arith}
+use Rattle.std.specs.Prelude.{IfSome, not, nat_lt, is_none, is_some, if◌then◌else◌}
 use Rattle.std.specs.Option.{option_and_then, option_flatten, option_map_or}
 use Rattle.std.proofs.lemmas.Bool.{eq-eqb, eqb-true, eqb-false, ne_eqb, ltb-true, ltb-false}
 use Rattle.std.proofs.lemmas.Option.{slice_get_past}
-use Rattle.sixel_grammar.specs.declared.command.Command.TheVariants.{Sixel, Repeat, Raster, Select, Define}
-use Rattle.sixel_grammar.specs.declared.command.Command.TheVariants.{CarriageReturn, NextLine}
+use Rattle.sixel_grammar.specs.declared.command.Command.TheVariants.{Define}
 use Rattle.sixel_grammar.specs.declared.command.Event.{Event}
-use Rattle.sixel_grammar.specs.declared.command.Event.TheVariants.{Start, Step, Finish}
+use Rattle.sixel_grammar.specs.declared.command.Event.TheVariants.{Step}
 use Rattle.sixel_picture.specs.declared.colour.Parts.{Parts}
 use Rattle.sixel_picture.specs.declared.colour.Parts.TheVariants.{Rgb, Hls}
-use Rattle.sixel_picture.specs.Colours.{colour_in, is_colour, palette_at}
+use Rattle.sixel_picture.specs.Colours.{palette_at}
 use Rattle.sixel_picture.specs.Events.{Definition, is_painting, is_same_definition}
 use Rattle.sixel_picture.specs.Rules.{Breaks, breaks_raster_first, breaks_raster_twice, breaks_ratio, breaks_box_size}
 use Rattle.sixel_picture.specs.Rules.{breaks_register, breaks_colour_value, breaks_repeat_zero, breaks_unselected}
 use Rattle.sixel_picture.specs.Rules.{breaks_undefined, breaks_redefined, colour_by, colour_of, definition_of}
-use Rattle.sixel_picture.specs.Rules.{gives_colour, is_painted_in, known, known_by, palette_left, raster_before}
+use Rattle.sixel_picture.specs.Rules.{is_painted_in, raster_before}
 use Rattle.sixel_picture.proofs.LeftLemmas.{left_at, length_left}
 use Rattle.sixel_picture.proofs.PositionLemmas.{and_false}
 use Rattle.sixel_picture.specs.RuleNumbers.{raster_first_rule, outside_rule}
@@ -25,13 +23,12 @@ use Rattle.sixel_check.specs.declared.notes.Notes.{Notes}
 use Rattle.sixel_check.specs.declared.rule.Rule.{Rule}
 use Rattle.sixel_check.specs.declared.rule.Rule.TheVariants.{RasterFirst, RasterTwice, Ratio, BoxSize, Register}
 use Rattle.sixel_check.specs.declared.rule.Rule.TheVariants.{ColourValue, RepeatZero, Unselected, Undefined, Redefined}
-use Rattle.sixel_check.specs.declared.rule.Rule.TheVariants.{Outside, Uncovered}
 use Rattle.sixel_check.specs.Breaches.{NoneBelow, is_colour_of, raster_first_in, raster_twice_in, redefined_in, rule_in}
 use Rattle.sixel_check.specs.Breaches.{undefined_in, unselected_in}
 use Rattle.sixel_check.specs.Judging.{AreNotesAfter, IsGood}
 use Rattle.sixel_check.specs.Notes.{known_in}
 use Rattle.sixel_check.specs.Verdicts.{IsPixel, number_of}
-use Rattle.sixel_check.proofs.NoteLemmas.{known_below, known_is}
+use Rattle.sixel_check.proofs.NoteLemmas.{given, known_below, known_is}
 
 -- ---- the least rule
 
@@ -81,10 +78,6 @@ unselected_is : (n : Notes) (before : List Event) (e : Event) → AreNotesAfter 
     → unselected_in n e ≡ breaks_unselected before e
 unfolding breaks_unselected
 unselected_is n before e s = ap (λ (o : Option ℕ). is_painting e && is_none o) (known_is n before s)
-
-given : (o : Option Parts) → option_map_or is_colour o false ≡ true → (c : Parts) × (o ≡ Some c)
-given None h = cc
-given (Some c) h = (c, refl)
 
 defined_none : (r : ℕ) (o : Option Definition) → IfSome o (IsGood r) → is_none (option_and_then colour_by o) ≡ is_none o
 defined_none r None h = refl
@@ -174,15 +167,8 @@ redefined_at n before r s x y z h false e =
 redefined_is : (n : Notes) (before : List Event) (e : Event) → AreNotesAfter n before
     → redefined_in n e ≡ breaks_redefined before e
 unfolding breaks_redefined
-redefined_is n before (Start eight parameters) s = refl
-redefined_is n before (Step (Sixel bits)) s = refl
-redefined_is n before (Step (Repeat count bits)) s = refl
-redefined_is n before (Step (Raster pan pad width height)) s = refl
-redefined_is n before (Step (Select register)) s = refl
 redefined_is n before (Step (Define r k x y z)) s = redefined_at n before r k x y z s (nat_lt r 16) refl
-redefined_is n before (Step CarriageReturn) s = refl
-redefined_is n before (Step NextLine) s = refl
-redefined_is n before (Finish eight) s = refl
+redefined_is n before _ s = refl
 
 -- ---- the first of the ten
 

@@ -4,7 +4,7 @@ use Rattle.std.specs.Prelude.{Err, IfErr, IfSome, Ok, Result}
 use Rattle.std.specs.Io.KnownBytes.{Consumes, IsAtEnd}
 use Rattle.std.proofs.lemmas.List.{append-nil}
 use Rattle.sixel_grammar.specs.Devices.{one_more}
-use Rattle.sixel_grammar.specs.Reading.{Explains, ExplainsAlways, failures_after}
+use Rattle.sixel_grammar.specs.Reading.{ExplainsAlways, failures_after}
 use Rattle.sixel_grammar.specs.declared.fault.InputFault.{InputFault}
 use Rattle.sixel_grammar.specs.declared.fault.InputFault.TheVariants.{Grammar, OutOfMemory, Read}
 use Rattle.sixel_grammar.proofs.Sources.{all_read, consumes-then, refused_early, take_none}

@@ -1,17 +1,14 @@
 -- On the colours that definitions give on terminals, where no rule is broken.
-use Rattle.std.proofs.Common.{◌≡◌, ◌<◌, ◌≤◌, ℕ, Bool, true, false, cond, Option, Some, None, List, [], ◌∷◌, take, refl}
+use Rattle.std.proofs.Common.{◌≡◌, ◌<◌, ◌≤◌, ℕ, Bool, true, false, cond, Option, Some, None, List, [], ◌∷◌, take, refl, ap}
 use Rattle.std.proofs.Common.{arith}
-use Rattle.std.specs.Prelude.{◌==◌, nat_le, unwrap_or, IfSome, IsFalse, IsSome}
+use Rattle.std.specs.Prelude.{◌==◌, is_some, nat_le, unwrap_or, IfSome, IsFalse, IsSome}
 use Rattle.std.specs.List.{AllByRecursion}
 use Rattle.std.specs.Option.{option_and_then, option_map_or}
 use Rattle.std.proofs.lemmas.Bool.{leb-false, not-false}
 use Rattle.std.proofs.Math.Nat.{mod-eq_of_lt}
-use Rattle.sixel_grammar.specs.declared.command.Command.TheVariants.{Sixel, Repeat, Raster, Select, Define}
-use Rattle.sixel_grammar.specs.declared.command.Command.TheVariants.{CarriageReturn, NextLine}
+use Rattle.sixel_grammar.specs.declared.command.Command.TheVariants.{Define}
 use Rattle.sixel_grammar.specs.declared.command.Event.{Event}
-use Rattle.sixel_grammar.specs.declared.command.Event.TheVariants.{Start, Step, Finish}
-use Rattle.sixel_picture.specs.declared.colour.Parts.{Parts}
-use Rattle.sixel_picture.specs.Colours.{is_colour}
+use Rattle.sixel_grammar.specs.declared.command.Event.TheVariants.{Step}
 use Rattle.sixel_picture.specs.Events.{Definition, definition_where, named_by}
 use Rattle.sixel_picture.specs.Positions.{latest}
 use Rattle.sixel_picture.specs.Rules.{BreaksNone, breaks_colour_value, breaks_register, colour_by, colour_of}
@@ -21,7 +18,8 @@ use Rattle.sixel_picture.proofs.LatestLemmas.{Gives, each_from_positions, latest
 use Rattle.sixel_picture.proofs.RuleLemmas.{Keeps, keeps_at}
 use Rattle.sixel_picture.specs.RuleNumbers.{last_rule}
 use Rattle.sixel_terminal.specs.Displays.{Display, registers_of}
-use Rattle.sixel_terminal.specs.Drawing.{defined_on, given_on, map_on, taken_on}
+use Rattle.sixel_terminal.specs.Drawing.{defined_on, given_on, map_on}
+use Rattle.sixel_check.proofs.NoteLemmas.{given}
 
 -- the register that the event names is below n, and its definition gives a colour in range
 pub record IsSound (n : ℕ) (e : Event) : Type 0 where
@@ -54,18 +52,11 @@ known_in_range n r i events none k =
 
 -- a definition in range gives the same colour on each terminal
 given_same : (t : Display) (d : Definition) → gives_colour d ≡ true → given_on t d ≡ colour_by d
-given_same t d h = split (colour_by d) h
-  where
-    split : (o : Option Parts) → option_map_or is_colour o false ≡ true → option_and_then (taken_on t) o ≡ o
-    split None h = refl
-    split (Some c) h = rw h refl
+given_same t d h =
+    let c = given (colour_by d) h in rw (c.1, c.2) refl
 
 some_given : (d : Definition) → gives_colour d ≡ true → IsSome (colour_by d)
-some_given d h = split (colour_by d) h
-  where
-    split : (o : Option Parts) → option_map_or is_colour o false ≡ true → IsSome o
-    split None h = cc
-    split (Some c) h = refl
+some_given d h = ap is_some (given (colour_by d) h).1
 
 abbrev pub made : ℕ → ℕ → ℕ → ℕ → Definition
 made s x y z = record { system = s; x = x; y = y; z = z }
@@ -83,14 +74,7 @@ define_same t n r enough (Step (Define q s x y z)) sound =
     let below : q < n = below_count n (Step (Define q s x y z)) sound.register in
     let small : q < registers_of t = omega arith in
     rw (mod-eq_of_lt small) (define_if t (made s x y z) (q == r) (not-false _ sound.colour))
-define_same t n r enough (Start eight parameters) sound = refl
-define_same t n r enough (Step (Sixel bits)) sound = refl
-define_same t n r enough (Step (Repeat count bits)) sound = refl
-define_same t n r enough (Step (Raster a b c d)) sound = refl
-define_same t n r enough (Step (Select q)) sound = refl
-define_same t n r enough (Step CarriageReturn) sound = refl
-define_same t n r enough (Step NextLine) sound = refl
-define_same t n r enough (Finish eight) sound = refl
+define_same t n r enough _ sound = refl
 
 some_if : (d : Definition) (b : Bool) → gives_colour d ≡ true
     → IfSome (cond b (Some d) None) (λ d. IsSome (colour_by d))
@@ -102,24 +86,12 @@ define_some : (n r : ℕ) (e : Event) → IsSound n e
     → IfSome (definition_where (λ q. q == r) e) (λ d. IsSome (colour_by d))
 unfolding breaks_colour_value
 define_some n r (Step (Define q s x y z)) sound = some_if (made s x y z) (q == r) (not-false _ sound.colour)
-define_some n r (Start eight parameters) sound = tt
-define_some n r (Step (Sixel bits)) sound = tt
-define_some n r (Step (Repeat count bits)) sound = tt
-define_some n r (Step (Raster a b c d)) sound = tt
-define_some n r (Step (Select q)) sound = tt
-define_some n r (Step CarriageReturn) sound = tt
-define_some n r (Step NextLine) sound = tt
-define_some n r (Finish eight) sound = tt
+define_some n r _ sound = tt
 
-each_define_same : (t : Display) (n r : ℕ) → n ≤ registers_of t → (es : List Event) → AllByRecursion (IsSound n) es
-    → AllByRecursion (λ e. defined_on t r e ≡ option_and_then colour_by (definition_where (λ q. q == r) e)) es
-each_define_same t n r enough [] h = tt
-each_define_same t n r enough (e ∷ es) h = (define_same t n r enough e h.0, each_define_same t n r enough es h.1)
-
-each_define_some : (n r : ℕ) (es : List Event) → AllByRecursion (IsSound n) es
-    → AllByRecursion (λ e. IfSome (definition_where (λ q. q == r) e) (λ d. IsSome (colour_by d))) es
-each_define_some n r [] h = tt
-each_define_some n r (e ∷ es) h = (define_some n r e h.0, each_define_some n r es h.1)
+each_then : {X : Type 0} (P Q : X → Type 0) (xs : List X) → ((x : X) → P x → Q x) → AllByRecursion P xs
+    → AllByRecursion Q xs
+each_then P Q [] more h = tt
+each_then P Q (x ∷ xs) more h = (more x h.0, each_then P Q xs more h.1)
 
 some_unwrap : {A : Type 0} (o : Option A) (x : A) → IsSome o → o ≡ Some (unwrap_or o x)
 some_unwrap None x h = cc
@@ -137,9 +109,9 @@ pub map_defined : (t : Display) (n r : ℕ) (before : List Event) (d : Definitio
 unfolding map_on colour_of definition_of
 map_defined t n r before d enough sound defined =
     let gives = λ (e : Event). option_and_then colour_by (definition_where (λ q. q == r) e) in
-    let each = each_define_some n r before sound in
+    let each = each_then (IsSound n) _ before (define_some n r) sound in
     let same : latest (defined_on t r) before ≡ latest gives before
-    = latest_same (defined_on t r) gives before (each_define_same t n r enough before sound) in
+    = latest_same (defined_on t r) gives before (each_then (IsSound n) _ before (define_same t n r enough) sound) in
     let both : latest gives before ≡ option_and_then colour_by (latest (definition_where (λ q. q == r)) before)
     = latest_then (definition_where (λ q. q == r)) colour_by before each in
     let there : IsSome (option_and_then colour_by (latest (definition_where (λ q. q == r)) before))

@@ -1,41 +1,31 @@
 -- On the box, where no rule is broken: it stands before all data, and is covered.
-use Rattle.std.proofs.Common.{◌≡◌, ◌≤◌, ℕ, Bool, true, false, ◌&&◌, ◌||◌, Option, Some, None, List, [], ◌∷◌, ◌++◌}
-use Rattle.std.proofs.Common.{length, take, refl, sym, ◌∙◌, arith}
+use Rattle.std.proofs.Common.{◌≡◌, ◌≤◌, ℕ, Bool, true, false, ◌&&◌, Option, Some, None, List, [], ◌∷◌, ◌++◌}
+use Rattle.std.proofs.Common.{length, take, refl, sym, ap, ◌∙◌, arith}
 use Rattle.std.specs.Prelude.{is_none, is_some, IsSome}
 use Rattle.std.proofs.lemmas.Bool.{or_right, true_from_ne_false}
+use Rattle.std.proofs.Math.Bool.{and-true}
 use Rattle.std.proofs.Math.Seq.{take-append_seam}
 use Rattle.sixel_grammar.specs.declared.command.Event.{Event}
-use Rattle.sixel_grammar.specs.declared.command.Event.TheVariants.{Finish}
-use Rattle.sixel_grammar.specs.Document.{AreWhole}
+use Rattle.sixel_grammar.specs.declared.command.Event.TheVariants.{Start, Step, Finish}
+use Rattle.sixel_grammar.specs.Document.{AreRest, AreWhole}
 use Rattle.sixel_picture.specs.Events.{Attributes, is_data_command, is_in_box, raster_of}
 use Rattle.sixel_picture.specs.Geometry.{falls}
 use Rattle.sixel_picture.specs.Rules.{BreaksNone, BreaksUncovered, breaks_raster_first, breaks_raster_twice, is_covered}
 use Rattle.sixel_picture.specs.Rules.{raster_before}
 use Rattle.sixel_picture.proofs.FirstLemmas.{earliest_later}
-use Rattle.sixel_picture.proofs.PositionLemmas.{get_end}
+use Rattle.sixel_picture.proofs.PositionLemmas.{get_end, option_or_none}
 use Rattle.sixel_picture.proofs.RuleLemmas.{Keeps, keeps_at}
-use Rattle.sixel_picture.proofs.StepLemmas.{covered_push}
+use Rattle.sixel_picture.proofs.StepLemmas.{covered_push, raster_push}
 use Rattle.sixel_picture.specs.RuleNumbers.{last_rule}
 use Rattle.sixel_check.specs.Laws.{AllCovered, FilledFirst}
-use Rattle.sixel_check.proofs.WholeLemmas.{EndsIn, box_before, whole_ends}
-
-pub some_value : {A : Type 0} (o : Option A) → IsSome o → (a : A) × (o ≡ Some a)
-some_value None h = cc
-some_value (Some a) h = (a, refl)
-
-pub none_from : {A : Type 0} (o : Option A) → ¬ IsSome o → o ≡ None
-none_from None h = refl
-none_from (Some a) h = absurd (h refl)
-
-box_if : (o : Option Attributes) (b c d : Bool) → (is_none o && (b || c || d)) ≡ false → b ≡ true → IsSome o
-box_if (Some a) b c d h e = refl
-box_if None b c d h e = let no : true ≡ false = rw e at h in cc
+use Rattle.sixel_check.proofs.OptionLemmas.{some_from}
 
 -- a data command has a box
 pub box_at_data : (n : ℕ) (before : List Event) (e : Event) → Keeps n before e → is_data_command e ≡ true
     → IsSome (raster_before before)
 unfolding breaks_raster_first
-box_at_data n before e k h = box_if (raster_before before) _ _ _ k.raster_first h
+box_at_data n before e k h =
+    some_from (raster_before before) (sym (and-true (is_none (raster_before before))) ∙ rw h at k.raster_first)
 
 no_second : (o p : Option Attributes) → (is_some o && is_some p) ≡ false → IsSome o → p ≡ None
 no_second None p h s = cc
@@ -60,7 +50,32 @@ filled_first n events i j d e none lt at_i is_data at_j =
     = box_at_data n (take i events) d (keeps_at n events none i d at_i) is_data in
     one_box n (take j events) e (keeps_at n events none j e at_j) (box_later i j events (omega arith) there)
 
--- ---- at the end
+-- ---- the end of a whole list
+
+-- the events before the finish
+record EndsIn (events : List Event) : Type 0 where
+  pub front : List Event
+  pub eight : Bool
+  pub is : events ≡ front ++ Finish eight ∷ []
+
+ends_longer : (e : Event) (more : List Event) → EndsIn more → EndsIn (e ∷ more)
+ends_longer e more rest =
+    record { front = e ∷ rest.front; eight = rest.eight; is = ap (λ (es : List Event). e ∷ es) rest.is }
+
+rest_ends : (events : List Event) → AreRest events → EndsIn events
+rest_ends (Step command ∷ more) h = ends_longer (Step command) more (rest_ends more h)
+rest_ends (Finish eight ∷ more) h =
+    record { front = []; eight = eight; is = ap (λ (es : List Event). Finish eight ∷ es) h }
+rest_ends _ h = absurd h
+
+whole_ends : (events : List Event) → AreWhole events → EndsIn events
+whole_ends (Start eight parameters ∷ more) h = ends_longer (Start eight parameters) more (rest_ends more h)
+whole_ends _ h = absurd h
+
+-- an end has no raster attributes
+box_before : (before : List Event) (eight : Bool)
+    → raster_before (before ++ Finish eight ∷ []) ≡ raster_before before
+box_before before eight = raster_push before (Finish eight) ∙ option_or_none (raster_before before)
 
 -- the end of a list in which no rule is broken keeps each rule
 keeps_end : (n : ℕ) (before : List Event) (eight : Bool) → BreaksNone n last_rule (before ++ Finish eight ∷ [])
@@ -91,15 +106,13 @@ all_covered n events a x y whole none box inside =
     let is : events ≡ e.front ++ Finish e.eight ∷ [] = e.is in
     rw is (covered_whole n e.front e.eight a x y (rw is at none) (rw is at box) inside)
 
-box_if_end : (o : Option Attributes) → (is_none o && true) ≡ false → IsSome o
-box_if_end (Some a) h = refl
-box_if_end None h = cc
-
 box_at_end : (n : ℕ) (before : List Event) (eight : Bool) → BreaksNone n last_rule (before ++ Finish eight ∷ [])
     → IsSome (raster_before (before ++ Finish eight ∷ []))
 unfolding breaks_raster_first
 box_at_end n before eight none =
-    rw (box_before before eight) (box_if_end (raster_before before) (keeps_end n before eight none).raster_first)
+    rw (box_before before eight)
+    (some_from (raster_before before)
+    (sym (and-true (is_none (raster_before before))) ∙ (keeps_end n before eight none).raster_first))
 
 -- a whole list in which no rule is broken has a box
 pub box_there : (n : ℕ) (events : List Event) → AreWhole events → BreaksNone n last_rule events
@@ -108,3 +121,8 @@ box_there n events whole none =
     let e : EndsIn events = whole_ends events whole in
     let is : events ≡ e.front ++ Finish e.eight ∷ [] = e.is in
     rw is (box_at_end n e.front e.eight (rw is at none))
+
+pub has_box : (n : ℕ) (events : List Event) → AreWhole events → BreaksNone n last_rule events
+    → raster_before events ≡ None → ⊥
+has_box n events whole none bare =
+    let some : IsSome {T = Attributes} None = rw bare at (box_there n events whole none) in cc

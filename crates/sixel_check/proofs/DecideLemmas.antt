@@ -1,10 +1,9 @@
 -- A list has some verdict: a rule is broken, or none is.
-use Rattle.std.proofs.Common.{◌≡◌, ◌==◌, ◌<◌, ◌≤◌, ◌+◌, ◌*◌, ◌⊎◌, ℕ, zero, suc, Bool, true, false, ◌&&◌, nat_lt, inl}
-use Rattle.std.proofs.Common.{inr, Option, Some, None, List, [], ◌∷◌, length, take, refl, sym, ap, subst, ◌∙◌, arith}
-use Rattle.std.specs.Prelude.{IsSomeAnd, IsTrue, IsFalse, slice_get}
-use Rattle.std.specs.Bool.{MatchBool}
+use Rattle.std.proofs.Common.{◌≡◌, ◌==◌, ◌<◌, ◌≤◌, ◌+◌, ◌*◌, ◌⊎◌, ℕ, zero, suc, Bool, true, false, nat_lt, inl}
+use Rattle.std.proofs.Common.{inr, Option, Some, None, List, length, take, refl, sym, ap, subst, ◌∙◌, arith}
+use Rattle.std.specs.Prelude.{IsSomeAnd, slice_get}
 use Rattle.std.specs.Option.{option_map}
-use Rattle.std.proofs.lemmas.Bool.{and_parts, both_ways, eq-eqb, eqb-false, eqb-true, lt-ltb, ltb-true, or_cases}
+use Rattle.std.proofs.lemmas.Bool.{agree_below_at, and_parts, both_ways, eqb-true, lt-ltb, ltb-true}
 use Rattle.std.proofs.lemmas.List.{length-map}
 use Rattle.sixel_grammar.specs.declared.command.Event.{Event}
 use Rattle.sixel_grammar.specs.declared.command.Placed.{Placed}
@@ -13,23 +12,22 @@ use Rattle.sixel_picture.specs.Events.{Attributes, bits_of, columns_of, is_finis
 use Rattle.sixel_picture.specs.Geometry.{band, column, falls, touches}
 use Rattle.sixel_picture.specs.Positions.{HoldsAtPosition}
 use Rattle.sixel_picture.specs.Rules.{Breaks, BreaksNone, BreaksOutside, BreaksUncovered, FallsOutside, IsFirstBroken}
-use Rattle.sixel_picture.specs.Rules.{IsFirstPoint, StaysBlank, is_before, is_covered, picture_left, raster_before}
+use Rattle.sixel_picture.specs.Rules.{IsFirstPoint, StaysBlank, is_covered, picture_left, raster_before}
 use Rattle.sixel_picture.proofs.CoverLemmas.{lies_under}
+use Rattle.sixel_picture.proofs.LastLemmas.{item_there}
 use Rattle.sixel_picture.proofs.PositionLemmas.{holds_within}
 use Rattle.sixel_picture.proofs.RuleLemmas.{no_more_rules}
 use Rattle.sixel_picture.specs.RuleNumbers.{raster_first_rule, raster_twice_rule, ratio_rule, box_size_rule}
 use Rattle.sixel_picture.specs.RuleNumbers.{register_rule, colour_value_rule, repeat_zero_rule, unselected_rule}
 use Rattle.sixel_picture.specs.RuleNumbers.{undefined_rule, redefined_rule, outside_rule, uncovered_rule, last_rule}
 use Rattle.sixel_check.specs.declared.rule.Rule.{Rule}
-use Rattle.sixel_check.specs.declared.rule.Rule.TheVariants.{RasterFirst, RasterTwice, Ratio, BoxSize, Register}
-use Rattle.sixel_check.specs.declared.rule.Rule.TheVariants.{ColourValue, RepeatZero, Unselected, Undefined, Redefined}
 use Rattle.sixel_check.specs.declared.rule.Rule.TheVariants.{Outside, Uncovered}
-use Rattle.sixel_check.specs.declared.verdict.Finding.{Finding}
 use Rattle.sixel_check.specs.declared.verdict.Verdict.{Verdict}
 use Rattle.sixel_check.specs.declared.verdict.Verdict.TheVariants.{Portable, Broken}
-use Rattle.sixel_check.specs.Verdicts.{IsFinding, IsPixel, IsVerdict, capped, number_of}
+use Rattle.sixel_check.specs.Verdicts.{IsPixel, IsVerdict, capped, number_of}
 use Rattle.sixel_check.proofs.SearchLemmas.{Decided, LeastBelow, Searchable, decide_either, decide_true, first_point}
 use Rattle.sixel_check.proofs.SearchLemmas.{least_below}
+use Rattle.sixel_check.proofs.VerdictLemmas.{numbered}
 
 -- ---- the two rules on points
 
@@ -161,29 +159,14 @@ rule_decided registers n before e =
     (decide_either (n == outside_rule) _ _ (outside_decided before e)
     (decide_either (n == uncovered_rule) _ _ (uncovered_decided before e) (inr (λ none. none)))))))))))))
 
--- the number is that of this rule, or a greater one's
-or_later : (n : ℕ) (r : Rule) → number_of r ≤ n → (suc (number_of r) ≤ n → (q : Rule) × (number_of q ≡ n))
-    → (q : Rule) × (number_of q ≡ n)
-or_later n r from more = elim (decide_true (number_of r == n)) [
-  | inl is ↦ (r, eqb-true _ _ is)
-  | inr not ↦ more (omega (arith, from, (λ (e : number_of r ≡ n). not (eq-eqb _ _ e))))
-]
-
+-- each number up to the last is a rule's
 rule_of : (n : ℕ) → 1 ≤ n → n ≤ last_rule → (r : Rule) × (number_of r ≡ n)
-rule_of n l most =
-    or_later n RasterFirst l (λ l.
-    (or_later n RasterTwice l (λ l.
-    (or_later n Ratio l (λ l.
-    (or_later n BoxSize l (λ l.
-    (or_later n Register l (λ l.
-    (or_later n ColourValue l (λ l.
-    (or_later n RepeatZero l (λ l.
-    (or_later n Unselected l (λ l.
-    (or_later n Undefined l (λ l.
-    (or_later n Redefined l (λ l.
-    (or_later n Outside l (λ l.
-    (or_later n Uncovered l (λ l.
-    absurd (omega (arith, l, most)))))))))))))))))))))))))
+rule_of zero some most = absurd (omega arith)
+rule_of (suc n) some most = (
+  numbered (suc n),
+  eqb-true _ _
+      (agree_below_at (λ k. number_of (numbered (suc k)) == suc k) (λ k. true) last_rule n refl (omega arith)),
+)
 
 no_rule_zero : (registers : ℕ) (before : List Event) (e : Event) → ¬ Breaks registers 0 before e
 unfolding Breaks
@@ -192,16 +175,6 @@ no_rule_zero registers before e h = h
 pixel_of : (registers : ℕ) (r : Rule) (before : List Event) (e : Event) → Breaks registers (number_of r) before e
     → (pixel : Option (ℕ × ℕ)) × IsPixel r pixel before e
 unfolding Breaks BreaksOutside BreaksUncovered
-pixel_of registers RasterFirst before e h = (None, refl)
-pixel_of registers RasterTwice before e h = (None, refl)
-pixel_of registers Ratio before e h = (None, refl)
-pixel_of registers BoxSize before e h = (None, refl)
-pixel_of registers Register before e h = (None, refl)
-pixel_of registers ColourValue before e h = (None, refl)
-pixel_of registers RepeatZero before e h = (None, refl)
-pixel_of registers Unselected before e h = (None, refl)
-pixel_of registers Undefined before e h = (None, refl)
-pixel_of registers Redefined before e h = (None, refl)
 pixel_of registers Outside before e h = elim (outside_first before e) [
   | inl f ↦ (Some (capped f.0, capped f.1), (f.0, f.1, f.2, refl))
   | inr none ↦
@@ -212,6 +185,7 @@ pixel_of registers Uncovered before e h = elim (blank_first before) [
   | inr none ↦
       let p = some_point (raster_before before) (λ a x y. StaysBlank before a x y) h.1 in absurd (none p.0 p.1 p.2)
 ]
+pixel_of registers _ before e h = (None, refl)
 
 -- ---- the first event that breaks a rule
 
@@ -270,18 +244,10 @@ least_rule registers events i f =
     (subst (λ (n : ℕ). Breaks registers n (take i events) f.holds.item) e f.holds.holds) in
     rule_of f.number (omega (arith, not_zero)) (omega (arith, below))
 
-get_some : {X : Type 0} (xs : List X) (i : ℕ) → i < length xs → (x : X) × (slice_get xs i ≡ Some x)
-get_some [] i lt = absurd (omega (arith, lt))
-get_some (x ∷ xs) zero lt = (x, refl)
-get_some (x ∷ xs) (suc i) lt = get_some xs i (omega arith)
-
 place_of : (placed : List Placed) (i : ℕ) → i < length placed
     → (place : ℕ) × (option_map (λ (p : Placed). p.place) (slice_get placed i) ≡ Some place)
-place_of placed i lt = got (slice_get placed i) (get_some placed i lt)
-  where
-    got : (o : Option Placed) → (p : Placed) × (o ≡ Some p)
-        → (place : ℕ) × (option_map (λ (p : Placed). p.place) o ≡ Some place)
-    got o h = (h.0.place, ap (option_map (λ (p : Placed). p.place)) h.1)
+place_of placed i lt =
+    let p = item_there placed i lt in (p.0.place, ap (option_map (λ (p : Placed). p.place)) p.1)
 
 pub verdict_exists : (registers : ℕ) (placed : List Placed) → (v : Verdict) × IsVerdict registers placed v
 unfolding BreaksNone

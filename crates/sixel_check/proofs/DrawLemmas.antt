@@ -1,76 +1,49 @@
 -- On what is drawn of an event that breaks no rule.
-use Rattle.std.proofs.Common.{◌≡◌, ◌≢◌, ◌==◌, ◌&&◌, ◌+◌, ◌%◌, ℕ, zero, suc, ◌<◌, ◌≤◌, Bool, true, false, not, Option}
+use Rattle.std.proofs.Common.{◌≡◌, ◌≢◌, ◌==◌, ◌&&◌, ◌+◌, ◌%◌, ℕ, ◌<◌, ◌≤◌, Bool, true, false, Option}
 use Rattle.std.proofs.Common.{Some, None, IsTrue, IsFalse, List, [], ◌∷◌, ◌++◌, arith, sym, ◌∙◌, ap, ap₂, subst, refl}
 use Rattle.std.proofs.Common.{◌||◌}
-use Rattle.std.specs.Prelude.{IfSome, IsSome, is_none, is_some, nat_le, if◌then◌else◌}
-use Rattle.std.specs.Option.{option_map, option_map_or, option_or}
-use Rattle.std.proofs.lemmas.Bool.{and_parts, eqb-true, eqb-false, leb-true, ne_eqb, not-false}
+use Rattle.std.specs.Prelude.{IfSome, IsSome, is_none, nat_le, if◌then◌else◌}
+use Rattle.std.specs.Option.{option_map, option_or}
+use Rattle.std.proofs.lemmas.Bool.{and_parts, eqb-true, eqb-false, false_from_ne_true, leb-true, not-false}
+use Rattle.std.proofs.lemmas.Bool.{not-true, not_from_false, or_parts}
 use Rattle.sixel_grammar.specs.Spelling.{IsSpellable}
-use Rattle.sixel_grammar.specs.declared.command.Command.TheVariants.{Sixel, Repeat, Raster, Select, Define}
-use Rattle.sixel_grammar.specs.declared.command.Command.TheVariants.{CarriageReturn, NextLine}
+use Rattle.sixel_grammar.specs.declared.command.Command.TheVariants.{Sixel, Repeat}
 use Rattle.sixel_grammar.specs.declared.command.Event.{Event}
-use Rattle.sixel_grammar.specs.declared.command.Event.TheVariants.{Start, Step, Finish}
+use Rattle.sixel_grammar.specs.declared.command.Event.TheVariants.{Step}
 use Rattle.sixel_picture.specs.Events.{Attributes, Definition, bits_of, columns_of, definition_where, has_sides}
 use Rattle.sixel_picture.specs.Events.{is_data_command, is_finish, is_painting, is_return, is_square, raster_of}
 use Rattle.sixel_picture.specs.Pictures.{is_side, most_side}
 use Rattle.sixel_picture.specs.Geometry.{band, column, falls, touches}
 use Rattle.sixel_picture.specs.Rules.{BreaksOutside, breaks_box_size, breaks_raster_first, breaks_ratio}
-use Rattle.sixel_picture.specs.Rules.{breaks_repeat_zero, breaks_undefined, breaks_unselected, definition_of, known}
-use Rattle.sixel_picture.specs.Rules.{raster_before, register_at}
+use Rattle.sixel_picture.specs.Rules.{breaks_repeat_zero, breaks_unselected, definition_of, known}
+use Rattle.sixel_picture.specs.Rules.{register_at}
 use Rattle.sixel_picture.specs.Sheets.{Sheet, blank_sheet, painted_sheet}
-use Rattle.sixel_picture.proofs.RuleLemmas.{Keeps}
 use Rattle.sixel_picture.proofs.StepLemmas.{definition_push, register_push}
 use Rattle.sixel_check.specs.declared.notes.Notes.{Notes}
 use Rattle.sixel_check.specs.Breaches.{BreaksNoRule}
 use Rattle.sixel_check.specs.Judging.{AreColoured, AreNotesAfter, IsDrawn, IsUndrawn}
 use Rattle.sixel_check.specs.Outside.{PaintsOutside}
 use Rattle.sixel_check.specs.Notes.{known_in}
-use Rattle.sixel_check.specs.Verdicts.{capped}
 use Rattle.sixel_check.proofs.BlankLemmas.{small}
 use Rattle.sixel_check.proofs.DrawnLemmas.{drawn_first, drawn_idle, idle_falls, undrawn_push}
 use Rattle.sixel_check.proofs.NoteLemmas.{keeps, known_below, known_is}
 use Rattle.sixel_check.proofs.RunLemmas.{RunFits, run_fits, drawn_capped}
+use Rattle.sixel_check.proofs.SteadyLemmas.{defined_there}
 
 -- ---- a painting command
 
 pub has_columns : (e : Event) → IsFalse (breaks_repeat_zero e) → is_painting e ≡ true → 0 < columns_of 0 e
 unfolding breaks_repeat_zero
-has_columns (Start eight parameters) h p = cc
 has_columns (Step (Sixel bits)) h p = omega arith
 has_columns (Step (Repeat count bits)) h p =
     let some : count ≢ 0 = eqb-false count 0 h in
     rw h (omega (arith, some))
-has_columns (Step (Raster pan pad width height)) h p = cc
-has_columns (Step (Select register)) h p = cc
-has_columns (Step (Define register system x y z)) h p = cc
-has_columns (Step CarriageReturn) h p = cc
-has_columns (Step NextLine) h p = cc
-has_columns (Finish eight) h p = cc
+has_columns _ h p = cc
 
 pub few_bits : (e : Event) → IsSpellable e → bits_of e ≤ 63
-few_bits (Start eight parameters) h = omega arith
 few_bits (Step (Sixel bits)) h = h
 few_bits (Step (Repeat count bits)) h = h
-few_bits (Step (Raster pan pad width height)) h = omega arith
-few_bits (Step (Select register)) h = omega arith
-few_bits (Step (Define register system x y z)) h = omega arith
-few_bits (Step CarriageReturn) h = omega arith
-few_bits (Step NextLine) h = omega arith
-few_bits (Finish eight) h = omega arith
-
-no_bits : (n : ℕ) → not (n == 0) ≡ false → n ≡ 0
-no_bits n h = split (n == 0) refl h
-  where
-    split : (b : Bool) → (n == 0) ≡ b → not b ≡ false → n ≡ 0
-    split true e h = eqb-true n 0 e
-    split false e h = cc
-
-some_bits : (n : ℕ) → not (n == 0) ≡ true → n ≢ 0
-some_bits n h = split (n == 0) refl h
-  where
-    split : (b : Bool) → (n == 0) ≡ b → not b ≡ true → n ≢ 0
-    split true e h = cc
-    split false e h = eqb-false n 0 e
+few_bits _ h = omega arith
 
 -- nothing falls outside the box of a sheet
 inside_alone : (s : Sheet) (before : List Event) (e : Event) → IsDrawn s before → ¬ BreaksOutside before e
@@ -87,7 +60,7 @@ run_fits_in n s before e a d none spellable paints =
     let k = keeps before e none in
     let real = run_fits (column 0 before) (band before) (columns_of 0 e) (bits_of e) s.width s.height
     (inside_alone s before e d k.outside) (has_columns e k.repeat_zero paints) (few_bits e spellable)
-    (λ none. some_bits (bits_of e % 64) paints (ap (λ (n : ℕ). n % 64) none)) in
+    (λ none. eqb-false _ _ (not-true _ paints) (ap (λ (n : ℕ). n % 64) none)) in
     let narrow = small s.width d.width in
     let low = small s.height d.height in
     let column_fits : column 0 before + columns_of 0 e ≤ s.width = real.columns in
@@ -107,7 +80,7 @@ drawn_paint n s before e r a d none spellable paints is =
 -- and without one
 pub drawn_still : (s : Sheet) (before : List Event) (e : Event) → is_painting e ≡ false → IsDrawn s before
     → IsDrawn s (before ++ e ∷ [])
-drawn_still s before e still d = drawn_idle s before e (no_bits (bits_of e % 64) still) d
+drawn_still s before e still d = drawn_idle s before e (eqb-true _ _ (not-false _ still)) d
 
 -- a painting command has a known register
 pub knows : (n : Notes) (before : List Event) (e : Event) → AreNotesAfter n before → BreaksNoRule before e
@@ -122,20 +95,14 @@ knows n before e a none paints is =
 
 -- ---- the box
 
-or_left : (a b : Bool) → (a || b) ≡ false → a ≡ false
-or_left true b h = cc
-or_left false b h = refl
-
 -- no box, and an event that makes none
 pub undrawn_still : (before : List Event) (e : Event) → BreaksNoRule before e → raster_of e ≡ None → IsUndrawn before
     → IsUndrawn (before ++ e ∷ [])
 unfolding breaks_raster_first
 undrawn_still before e none bare u =
     let k = keeps before e none in
-    let kept = rw u.no_box at k.raster_first in
-    let first : (is_data_command e || is_return e) ≡ false =
-    or_left (is_data_command e || is_return e) (is_finish e) kept in
-    undrawn_push before e bare (or_left (is_data_command e) (is_return e) first) u
+    let kept = or_parts (is_data_command e || is_return e) (is_finish e) (rw u.no_box at k.raster_first) in
+    undrawn_push before e bare (or_parts (is_data_command e) (is_return e) kept.0).0 u
 
 square_is : (a : Attributes) → is_square a ≡ true
     → Some a ≡ Some (record { pan = 1; pad = 1; width = a.width; height = a.height })
@@ -197,32 +164,19 @@ pub some_stays : (o p : Option Definition) → IsSome p → IsSome (option_or o 
 some_stays None p h = h
 some_stays (Some d) p h = refl
 
-not_none : {A : Type 0} (o : Option A) → is_none o ≡ false → IsSome o
-not_none None h = cc
-not_none (Some a) h = refl
-
-falls_paint : (before : List Event) (e : Event) (x y : ℕ) (b : Bool) → is_painting e ≡ b → falls before e x y ≡ true
-    → is_painting e ≡ true
-falls_paint before e x y true p f = p
-falls_paint before e x y false p f =
-    let still : falls before e x y ≡ false = idle_falls before e x y (no_bits (bits_of e % 64) p) in
-    cc
-
-known_defined : (before : List Event) (e : Event) (r : ℕ) → BreaksNoRule before e → is_painting e ≡ true
-    → known before ≡ Some r → IsSome (definition_of before r)
-unfolding breaks_undefined
-known_defined before e r none paints is =
-    let k = keeps before e none in
-    not_none (definition_of before r) (rw (paints, is) at k.undefined)
+-- what paints a point has a set bit
+pub falls_paints : (before : List Event) (e : Event) (x y : ℕ) → falls before e x y ≡ true → is_painting e ≡ true
+falls_paints before e x y h = not_from_false _ (false_from_ne_true (bits_of e % 64 == 0) (λ is.
+    let no : true ≡ false = sym h ∙ idle_falls before e x y (eqb-true (bits_of e % 64) 0 is) in cc))
 
 coloured_there : (n : Notes) (before : List Event) (e : Event) (x y r : ℕ) → AreNotesAfter n before
     → BreaksNoRule before e
     → AreColoured before → (b : Bool) → falls before e x y ≡ b
     → (if b then known before else register_at before x y) ≡ Some r → (r < 16) × IsSome (definition_of before r)
 coloured_there n before e x y r a none c true f is =
-    let paints = falls_paint before e x y (is_painting e) refl f in
+    let paints = falls_paints before e x y f in
     let low : IfSome (known_in n) (λ q. q < 16) = known_below n.selected n.named 16 a.selected_below in
-    (rw (known_is n before a, is) at low, known_defined before e r none paints is)
+    (rw (known_is n before a, is) at low, defined_there 16 r before e (keeps before e none) paints is)
 coloured_there n before e x y r a none c false f is = c x y r is
 
 pub coloured_push : (n : Notes) (before : List Event) (e : Event) → AreNotesAfter n before → BreaksNoRule before e

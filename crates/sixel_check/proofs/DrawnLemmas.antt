@@ -7,9 +7,8 @@ use Rattle.std.specs.Option.{option_or}
 use Rattle.std.proofs.lemmas.Bool.{false_from_ne_true}
 use Rattle.std.proofs.lemmas.Nat.Bits.{bit_at_cat_low, bit_at-zero}
 use Rattle.sixel_grammar.specs.declared.command.Event.{Event}
-use Rattle.sixel_grammar.specs.declared.command.Event.TheVariants.{Start, Step, Finish}
-use Rattle.sixel_grammar.specs.declared.command.Command.TheVariants.{Sixel, Repeat, Raster, Select, Define}
-use Rattle.sixel_grammar.specs.declared.command.Command.TheVariants.{CarriageReturn, NextLine}
+use Rattle.sixel_grammar.specs.declared.command.Event.TheVariants.{Step}
+use Rattle.sixel_grammar.specs.declared.command.Command.TheVariants.{Sixel, Repeat}
 use Rattle.sixel_picture.specs.Events.{Attributes, bits_of, columns_of, is_data_command, raster_of}
 use Rattle.sixel_picture.specs.Geometry.{band, column, covers, falls, touches}
 use Rattle.sixel_picture.specs.Pictures.{is_side}
@@ -53,24 +52,12 @@ idle_register before e x y h = register_push before e x y ∙ rw (idle_falls bef
 pub no_data_bits : (e : Event) → is_data_command e ≡ false → bits_of e ≡ 0
 no_data_bits (Step (Sixel bits)) h = cc
 no_data_bits (Step (Repeat count bits)) h = cc
-no_data_bits (Step (Raster a b c d)) h = refl
-no_data_bits (Step (Select r)) h = refl
-no_data_bits (Step (Define r s a b c)) h = refl
-no_data_bits (Step CarriageReturn) h = refl
-no_data_bits (Step NextLine) h = refl
-no_data_bits (Start eight parameters) h = refl
-no_data_bits (Finish eight) h = refl
+no_data_bits _ h = refl
 
 pub raster_bits : (e : Event) (a : Attributes) → raster_of e ≡ Some a → bits_of e ≡ 0
 raster_bits (Step (Sixel bits)) a h = cc
 raster_bits (Step (Repeat count bits)) a h = cc
-raster_bits (Step (Raster p q c d)) a h = refl
-raster_bits (Step (Select r)) a h = refl
-raster_bits (Step (Define r s p q c)) a h = refl
-raster_bits (Step CarriageReturn) a h = refl
-raster_bits (Step NextLine) a h = refl
-raster_bits (Start eight parameters) a h = refl
-raster_bits (Finish eight) a h = refl
+raster_bits _ a h = refl
 
 -- ---- before there is a box
 

@@ -1,14 +1,14 @@
 -- What stands after one event more.
-use Rattle.std.proofs.Common.{◌≡◌, ℕ, ◌<◌, true, false, Option, Some, None, List, [], ◌∷◌, ◌++◌, length, map, arith}
-use Rattle.std.proofs.Common.{sym, ◌∙◌, ap, subst, refl}
+use Rattle.std.proofs.Common.{◌≡◌, ℕ, ◌<◌, true, false, Option, Some, None, List, [], ◌∷◌, ◌++◌, length}
+use Rattle.std.proofs.Common.{sym, ◌∙◌, ap, subst}
 use Rattle.std.specs.Prelude.{is_some, slice_get}
 use Rattle.std.specs.Option.{option_map}
 use Rattle.std.proofs.lemmas.List.{map-append, length-map}
 use Rattle.sixel_grammar.specs.Document.{events_of}
 use Rattle.sixel_grammar.specs.declared.command.Event.{Event}
 use Rattle.sixel_grammar.specs.declared.command.Placed.{Placed}
-use Rattle.sixel_picture.specs.Positions.{HoldsAtPosition, at_position, last_at, last_below}
-use Rattle.sixel_picture.specs.Rules.{Breaks, IsFirstBroken, register_at}
+use Rattle.sixel_picture.specs.Positions.{HoldsAtPosition, last_at, last_below}
+use Rattle.sixel_picture.specs.Rules.{IsFirstBroken, register_at}
 use Rattle.sixel_picture.specs.Sheets.{Sheet}
 use Rattle.sixel_picture.proofs.PositionLemmas.{get_before, get_end, holds_before, holds_end, holds_within}
 use Rattle.sixel_picture.proofs.RuleLemmas.{first_push, first_there, none_of_none, none_push}

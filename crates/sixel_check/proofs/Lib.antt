@@ -22,3 +22,4 @@ pub mod WithinLemmas
 pub mod ShownLemmas
 pub mod AnswerLemmas
 pub mod OnePixel
+pub mod OptionLemmas

@@ -1,23 +1,22 @@
 -- What is noted after one event more.
-use Rattle.std.proofs.Common.{◌≡◌, ℕ, ◌+◌, ◌<◌, ◌≤◌, ◌==◌, ◌&&◌, ◌||◌, Bool, true, false, cond, min, Option, Some, None}
+use Rattle.std.proofs.Common.{◌≡◌, ℕ, ◌+◌, ◌<◌, ◌==◌, ◌&&◌, ◌||◌, Bool, true, false, cond, Option, Some, None}
 use Rattle.std.proofs.Common.{IsTrue, IsFalse, List, [], ◌∷◌, ◌++◌, length, get_or, set, refl, sym, ap, ◌∙◌, subst}
 use Rattle.std.proofs.Common.{arith, replicate}
-use Rattle.std.specs.Prelude.{IfSome, nat_lt, nat_le, if◌then◌else◌}
+use Rattle.std.specs.Prelude.{IfSome, nat_lt, if◌then◌else◌}
 use Rattle.std.specs.Bool.{then_some}
-use Rattle.std.specs.Option.{option_and_then, option_map_or, option_or}
+use Rattle.std.specs.Option.{option_map_or, option_or}
 use Rattle.std.proofs.lemmas.Bool.{eqb-true, eqb-false, leb-false, lt-ltb, not-false}
 use Rattle.std.proofs.lemmas.List.{get_or-replicate, get_or-set_same, get_or-set_other, length-set}
-use Rattle.sixel_grammar.specs.declared.command.Command.TheVariants.{Sixel, Repeat, Raster, Select, Define}
-use Rattle.sixel_grammar.specs.declared.command.Command.TheVariants.{CarriageReturn, NextLine}
+use Rattle.sixel_grammar.specs.declared.command.Command.TheVariants.{Select, Define}
 use Rattle.sixel_grammar.specs.declared.command.Event.{Event}
-use Rattle.sixel_grammar.specs.declared.command.Event.TheVariants.{Start, Step, Finish}
+use Rattle.sixel_grammar.specs.declared.command.Event.TheVariants.{Step}
 use Rattle.sixel_picture.specs.declared.colour.Parts.{Parts}
 use Rattle.sixel_picture.specs.Colours.{colour_in, is_colour}
 use Rattle.sixel_picture.specs.Events.{Definition, columns_of, definition_where, is_next_line, is_painting, is_return}
 use Rattle.sixel_picture.specs.Events.{named_by, select_of}
 use Rattle.sixel_picture.specs.Geometry.{band, column}
-use Rattle.sixel_picture.specs.Positions.{latest, earliest, since, any_at, any_below}
-use Rattle.sixel_picture.specs.Rules.{Breaks, breaks_colour_value, breaks_register, definition_of, gives_colour}
+use Rattle.sixel_picture.specs.Positions.{latest, since, any_at, any_below}
+use Rattle.sixel_picture.specs.Rules.{breaks_colour_value, breaks_register, definition_of, gives_colour}
 use Rattle.sixel_picture.specs.Rules.{is_painted_in, is_that, known, known_by, palette_left, colour_of}
 use Rattle.sixel_picture.proofs.LeftLemmas.{left_define, left_idle}
 use Rattle.sixel_picture.proofs.PositionLemmas.{latest_push}
@@ -26,7 +25,7 @@ use Rattle.sixel_picture.proofs.StepLemmas.{band_push, column_push, definition_p
 use Rattle.sixel_check.specs.declared.notes.Notes.{Notes}
 use Rattle.sixel_check.specs.Breaches.{BreaksNoRule}
 use Rattle.sixel_check.specs.Judging.{AreNotesAfter, IsGood}
-use Rattle.sixel_check.specs.Notes.{IsBelow, colour_within, known_in, next_band, next_column, next_named, next_painted}
+use Rattle.sixel_check.specs.Notes.{known_in, next_band, next_column, next_named, next_painted}
 use Rattle.sixel_check.specs.Notes.{next_palette, next_selected}
 use Rattle.sixel_check.specs.Verdicts.{capped}
 
@@ -45,15 +44,8 @@ stopped_band false n = omega arith
 
 select_below : (e : Event) → IsFalse (breaks_register 16 e) → IfSome (select_of e) (λ r. r < 16)
 unfolding breaks_register
-select_below (Start eight parameters) h = tt
-select_below (Step (Sixel bits)) h = tt
-select_below (Step (Repeat count bits)) h = tt
-select_below (Step (Raster pan pad width height)) h = tt
 select_below (Step (Select register)) h = leb-false 16 register h
-select_below (Step (Define register system x y z)) h = tt
-select_below (Step CarriageReturn) h = tt
-select_below (Step NextLine) h = tt
-select_below (Finish eight) h = tt
+select_below _ h = tt
 
 or_each : {A : Type 0} (P : A → Type 0) (o p : Option A) → IfSome o P → IfSome p P → IfSome (option_or o p) P
 or_each P None p h k = k
@@ -69,44 +61,30 @@ where_good false q r d e lt h = tt
 defined_good : (e : Event) (r : ℕ) → IsFalse (breaks_register 16 e) → IsFalse (breaks_colour_value e)
     → IfSome (definition_where (λ q. q == r) e) (IsGood r)
 unfolding breaks_register breaks_colour_value
-defined_good (Start eight parameters) r h k = tt
-defined_good (Step (Sixel bits)) r h k = tt
-defined_good (Step (Repeat count bits)) r h k = tt
-defined_good (Step (Raster pan pad width height)) r h k = tt
-defined_good (Step (Select register)) r h k = tt
 defined_good (Step (Define register system x y z)) r h k =
     where_good (register == r) register r _ refl (leb-false 16 register h) (not-false _ k)
-defined_good (Step CarriageReturn) r h k = tt
-defined_good (Step NextLine) r h k = tt
-defined_good (Finish eight) r h k = tt
+defined_good _ r h k = tt
 
 -- ---- the palette
 
-within : (o : Option Parts) → option_map_or is_colour o false ≡ true
-    → (c : Parts) × (o ≡ Some c) × (option_and_then (λ c. if is_colour c then Some c else None) o ≡ Some c)
-within None h = cc
-within (Some c) h = (c, refl, ap (λ (b : Bool). if b then Some c else None) h)
+-- a colour in range is a colour
+pub given : (o : Option Parts) → option_map_or is_colour o false ≡ true
+    → (c : Parts) × (o ≡ Some c) × (is_colour c ≡ true)
+given None h = cc
+given (Some c) h = (c, refl, h)
 
 palette_push : (n : Notes) (before : List Event) (e : Event) → n.palette ≡ palette_left 16 before
     → IsFalse (breaks_register 16 e) → IsFalse (breaks_colour_value e)
     → next_palette n e ≡ palette_left 16 (before ++ e ∷ [])
 unfolding breaks_register breaks_colour_value
-palette_push n before (Start eight parameters) s h k = s ∙ left_idle 16 before (Start eight parameters) (λ r. refl)
-palette_push n before (Step (Sixel bits)) s h k = s ∙ left_idle 16 before (Step (Sixel bits)) (λ r. refl)
-palette_push n before (Step (Repeat count bits)) s h k = s ∙ left_idle 16 before (Step (Repeat count bits)) (λ r. refl)
-palette_push n before (Step (Raster pan pad width height)) s h k =
-    s ∙ left_idle 16 before (Step (Raster pan pad width height)) (λ r. refl)
-palette_push n before (Step (Select register)) s h k = s ∙ left_idle 16 before (Step (Select register)) (λ r. refl)
 palette_push n before (Step (Define register system x y z)) s h k =
     let lt : register < 16 = leb-false 16 register h in
-    let found = within (colour_in system x y z) (not-false _ k) in
+    let found = given (colour_in system x y z) (not-false _ k) in
     let is_low : nat_lt register 16 ≡ true = lt-ltb register 16 lt in
-    rw (is_low, found.2)
+    rw (is_low, found.1, found.2)
     (ap (λ (p : List (Option Parts)). set p register (Some found.0)) s
     ∙ left_define 16 register system x y z found.0 before lt found.1)
-palette_push n before (Step CarriageReturn) s h k = s ∙ left_idle 16 before (Step CarriageReturn) (λ r. refl)
-palette_push n before (Step NextLine) s h k = s ∙ left_idle 16 before (Step NextLine) (λ r. refl)
-palette_push n before (Finish eight) s h k = s ∙ left_idle 16 before (Finish eight) (λ r. refl)
+palette_push n before e s h k = s ∙ left_idle 16 before e (λ r. refl)
 
 -- ---- the registers in which was painted
 

@@ -1,19 +1,18 @@
 -- On the rules that look at pixels.
-use Rattle.std.proofs.Common.{◌≡◌, ℕ, ◌<◌, Bool, true, false, Option, Some, None, List, arith, sym, ◌∙◌, ap, subst}
+use Rattle.std.proofs.Common.{◌≡◌, ℕ, Bool, true, false, Option, Some, None, List, sym, ◌∙◌, ap, subst}
 use Rattle.std.proofs.Common.{refl}
-use Rattle.std.specs.Prelude.{IsTrue, is_some}
+use Rattle.std.specs.Prelude.{is_some}
 use Rattle.std.specs.Option.{option_map}
 use Rattle.sixel_grammar.specs.declared.command.Event.{Event}
-use Rattle.sixel_picture.specs.Events.{Attributes, is_finish}
+use Rattle.sixel_picture.specs.Events.{is_finish}
 use Rattle.sixel_picture.specs.Rules.{Breaks, BreaksUncovered, FallsOutside, StaysBlank, raster_before}
 use Rattle.sixel_picture.specs.Sheets.{Sheet}
 use Rattle.sixel_picture.specs.RuleNumbers.{outside_rule, uncovered_rule}
-use Rattle.sixel_check.specs.declared.breach.Breach.{Breach}
 use Rattle.sixel_check.specs.declared.notes.Notes.{Notes}
 use Rattle.sixel_check.specs.declared.rule.Rule.{Rule}
 use Rattle.sixel_check.specs.declared.rule.Rule.TheVariants.{Outside, Uncovered}
-use Rattle.sixel_check.specs.Breaches.{IsBreach, IsBreachOf, BreaksNoRule, NoneBelow, rule_in}
-use Rattle.sixel_check.specs.Judging.{AreNotesAfter, IsDrawn, IsSheetAfter, IsUndrawn, box_of}
+use Rattle.sixel_check.specs.Breaches.{IsBreach, BreaksNoRule, NoneBelow, rule_in}
+use Rattle.sixel_check.specs.Judging.{AreNotesAfter, IsDrawn, IsSheetAfter, box_of}
 use Rattle.sixel_check.specs.Outside.{IsFirstIfAny}
 use Rattle.sixel_check.proofs.BreachLemmas.{IsLeast, IsLeastOf, least_rule, none_more}
 use Rattle.sixel_check.proofs.RunLemmas.{breaks_outside, breaks_uncovered, first_in_box, keeps_covered, keeps_inside}

@@ -1,14 +1,13 @@
 -- On the events that bytes complete, one after another.
-use Rattle.std.proofs.Common.{◌≡◌, ℕ, zero, suc, ◌&&◌, Bool, true, false, not, Option, Some, None, IsTrue, ◌⊎◌, inl}
-use Rattle.std.proofs.Common.{inr, List, [], ◌∷◌, ◌++◌, length, sym, ◌∙◌, ap, subst, refl, append_assoc}
-use Rattle.std.specs.Prelude.{Err, IfSome}
-use Rattle.std.specs.List.{AllByRecursion, list_any}
+use Rattle.std.proofs.Common.{◌≡◌, ℕ, true, false, not, Option, Some, None, IsTrue, ◌⊎◌, inl}
+use Rattle.std.proofs.Common.{inr, List, [], ◌∷◌, ◌++◌, sym, ◌∙◌, ap, subst, refl, append_assoc}
+use Rattle.std.specs.Prelude.{Err}
 use Rattle.std.specs.Option.{option_to_list}
 use Rattle.std.proofs.lemmas.Bool.{and_from}
 use Rattle.std.proofs.lemmas.List.{append-nil, map-append}
 use Rattle.sixel_grammar.specs.Document.{AreRest, AreWhole, events_of}
 use Rattle.sixel_grammar.specs.Faults.{AreBegun, AreFront, AreSteps, IsFaultOf}
-use Rattle.sixel_grammar.specs.FixedText.{CanWrite, CanWriteAll}
+use Rattle.sixel_grammar.specs.FixedText.{CanWriteAll}
 use Rattle.sixel_grammar.specs.Reading.{Explains, ExplainsAlways, failures_after}
 use Rattle.sixel_grammar.specs.declared.fault.InputFault.{InputFault}
 use Rattle.sixel_grammar.specs.declared.fault.InputFault.TheVariants.{Grammar, OutOfMemory, Read}
@@ -23,10 +22,9 @@ use Rattle.sixel_grammar.specs.declared.reader.Reader.{Reader}
 use Rattle.sixel_grammar.proofs.Stands.{read_complete}
 use Rattle.sixel_grammar.proofs.Total.{complete_front}
 use Rattle.sixel_grammar.proofs.Writable.{events_can}
-use Rattle.sixel_picture.specs.Events.{is_finish}
 use Rattle.sixel_check.specs.Checking.{AreAfter, MayCome, MayComplete}
 use Rattle.sixel_check.specs.Standing.{CheckerValue, StandsAfter, expects, is_start, is_whole}
-use Rattle.sixel_check.proofs.StandLemmas.{begun_goes_on, steps_go_on, whole_events}
+use Rattle.sixel_check.proofs.StandLemmas.{begun_goes_on, whole_events}
 
 -- ---- an event of a front may come next
 

@@ -1,5 +1,5 @@
 -- The least number and the first point of which something holds, where they can be looked at one by one.
-use Rattle.std.proofs.Common.{◌≡◌, ◌==◌, ◌<◌, ◌⊎◌, ℕ, zero, suc, Bool, true, false, ◌||◌, nat_lt, inl, inr, refl, subst}
+use Rattle.std.proofs.Common.{◌≡◌, ◌==◌, ◌<◌, ◌⊎◌, ℕ, zero, suc, Bool, true, false, nat_lt, inl, inr, refl, subst}
 use Rattle.std.proofs.Common.{arith}
 use Rattle.std.specs.Prelude.{IsTrue}
 use Rattle.std.specs.Bool.{MatchBool}

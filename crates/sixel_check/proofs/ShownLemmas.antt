@@ -1,16 +1,16 @@
 -- On what terminals show, where no rule is broken: the picture that is left.
-use Rattle.std.proofs.Common.{◌≡◌, ◌<◌, ◌≤◌, ◌+◌, ◌-◌, ◌*◌, ◌%◌, ℕ, Bool, true, false, ◌&&◌, cond, Option, Some, None}
+use Rattle.std.proofs.Common.{◌≡◌, ◌<◌, ◌≤◌, ◌+◌, ◌-◌, ◌*◌, ℕ, Bool, true, false, cond, Option, Some, None}
 use Rattle.std.proofs.Common.{List, length, take, refl, sym, ap, ◌∙◌, arith}
-use Rattle.std.specs.Prelude.{◌==◌, if◌then◌else◌, is_none, slice_get, slice_index_or, unwrap_or, IsSome}
+use Rattle.std.specs.Prelude.{if◌then◌else◌, slice_get, slice_index_or, unwrap_or, IsSome}
 use Rattle.std.specs.Option.{option_flatten, option_map}
-use Rattle.std.proofs.lemmas.Bool.{and_from, eqb-true, false_from_ne_true, le-leb, lt-ltb, not_from_false}
+use Rattle.std.proofs.lemmas.Bool.{and_from, le-leb, lt-ltb}
 use Rattle.std.proofs.lemmas.Option.{slice_get_within}
 use Rattle.sixel_grammar.specs.declared.command.Event.{Event}
 use Rattle.sixel_grammar.specs.Document.{AreWhole}
 use Rattle.sixel_picture.specs.declared.colour.Parts.{Parts}
 use Rattle.sixel_picture.specs.declared.colour.Parts.TheVariants.{Rgb}
 use Rattle.sixel_picture.specs.Colours.{palette_at}
-use Rattle.sixel_picture.specs.Events.{Attributes, bits_of, is_data_command, is_in_box, is_painting, raster_of}
+use Rattle.sixel_picture.specs.Events.{Attributes, is_data_command, is_in_box, raster_of}
 use Rattle.sixel_picture.specs.Geometry.{falls}
 use Rattle.sixel_picture.specs.Pictures.{register_of}
 use Rattle.sixel_picture.specs.Positions.{any_at, at_position, last_at, last_below, passes_at}
@@ -28,40 +28,31 @@ use Rattle.sixel_terminal.proofs.SelectLemmas.{known_is_selected}
 use Rattle.sixel_check.specs.Laws.{HasColourLeft, LeftIsPortable}
 use Rattle.sixel_check.specs.Portable.{IsPortable}
 use Rattle.sixel_check.proofs.ColourLemmas.{known_in_range}
-use Rattle.sixel_check.proofs.CoverLemmas.{all_covered, box_at_data, box_later, box_there, filled_first, some_value}
-use Rattle.sixel_check.proofs.DrawnLemmas.{idle_falls}
+use Rattle.sixel_check.proofs.CoverLemmas.{all_covered, box_at_data, box_later, box_there, filled_first}
+use Rattle.sixel_check.proofs.DrawLemmas.{falls_paints}
+use Rattle.sixel_check.proofs.OptionLemmas.{some_from, some_value}
 use Rattle.sixel_check.proofs.SteadyLemmas.{painted_colour_is_left}
 use Rattle.sixel_check.proofs.WithinLemmas.{none_painted_outside, plain, touches_data}
 
 -- ---- the last painting of a pixel
 
--- what paints a point has a set bit
-falls_paints : (before : List Event) (e : Event) (x y : ℕ) → falls before e x y ≡ true → is_painting e ≡ true
-falls_paints before e x y h = not_from_false _ (false_from_ne_true (bits_of e % 64 == 0) (λ is.
-    let no : true ≡ false = sym h ∙ idle_falls before e x y (eqb-true (bits_of e % 64) 0 is) in cc))
-
-known_if : (b : Bool) (o : Option ℕ) → (b && is_none o) ≡ false → b ≡ true → IsSome o
-known_if b (Some r) h p = refl
-known_if true None h p = cc
-known_if false None h p = cc
-
 -- a command that paints a point knows its register
 falls_known : (n : ℕ) (before : List Event) (e : Event) (x y : ℕ) → Keeps n before e → falls before e x y ≡ true
     → IsSome (known before)
 unfolding breaks_unselected
-falls_known n before e x y k h = known_if (is_painting e) (known before) k.unselected (falls_paints before e x y h)
+falls_known n before e x y k h = some_from (known before) (rw (falls_paints before e x y h) at k.unselected)
 
 -- what is known where an event paints the point
 abbrev known_where : ℕ → ℕ → List Event → Event → Option (Option ℕ)
 known_where x y before e = if falls before e x y then Some (known before) else None
 
--- the last event that paints the point, and the register that it knows
-pub record IsLastPainting (events : List Event) (x y r : ℕ) : Type 0 where
+-- the last event that paints the point, and what it knows
+record IsLastPainting (events : List Event) (x y : ℕ) (o : Option ℕ) : Type 0 where
   pub at : ℕ
   pub event : Event
   pub here : slice_get events at ≡ Some event
   pub fell : falls (take at events) event x y ≡ true
-  pub register : known (take at events) ≡ Some r
+  pub register : known (take at events) ≡ o
   pub after : (j : ℕ) (e : Event) → at < j → slice_get events j ≡ Some e → falls (take j events) e x y ≡ false
 
 fell_if : (b : Bool) (o p : Option ℕ) → cond b (Some o) None ≡ Some p → (b ≡ true) × (o ≡ p)
@@ -72,19 +63,15 @@ not_fell : (b : Bool) (o : Option ℕ) → cond b (Some o) None ≡ None → b �
 not_fell true o h = cc
 not_fell false o h = refl
 
-flat_some : (o : Option (Option ℕ)) (r : ℕ) → option_flatten o ≡ Some r → o ≡ Some (Some r)
-flat_some None r h = cc
-flat_some (Some p) r h = ap (λ (q : Option ℕ). Some q) h
-
-last_painting : (events : List Event) (x y r : ℕ) → register_at events x y ≡ Some r → IsLastPainting events x y r
-unfolding register_at last_at
-last_painting events x y r found =
-    let l : IsLast (at_position (known_where x y) events) (length events) (Some r)
-    = last_is (length events) (at_position (known_where x y) events) (Some r) (flat_some _ r found) in
+last_painting : (events : List Event) (x y : ℕ) (o : Option ℕ)
+    → last_below (length events) (at_position (known_where x y) events) ≡ Some o → IsLastPainting events x y o
+last_painting events x y o found =
+    let l : IsLast (at_position (known_where x y) events) (length events) o
+    = last_is (length events) (at_position (known_where x y) events) o found in
     let e : (e : Event) × (slice_get events l.at ≡ Some e) = item_there events l.at l.below in
     let here : slice_get events l.at ≡ Some (e.0) = e.1 in
-    let both : (falls (take l.at events) (e.0) x y ≡ true) × (known (take l.at events) ≡ Some r)
-    = fell_if (falls (take l.at events) (e.0) x y) (known (take l.at events)) (Some r)
+    let both : (falls (take l.at events) (e.0) x y ≡ true) × (known (take l.at events) ≡ o)
+    = fell_if (falls (take l.at events) (e.0) x y) (known (take l.at events)) o
     (sym (at_there (known_where x y) events l.at (e.0) here) ∙ l.gives) in
     record {
       at = l.at;
@@ -96,6 +83,15 @@ last_painting events x y r found =
           (sym (at_there (known_where x y) events j d is) ∙ l.after j lt (slice_get_within events j d is));
     }
 
+flat_some : (o : Option (Option ℕ)) (r : ℕ) → option_flatten o ≡ Some r → o ≡ Some (Some r)
+flat_some None r h = cc
+flat_some (Some p) r h = ap (λ (q : Option ℕ). Some q) h
+
+register_painting : (events : List Event) (x y r : ℕ) → register_at events x y ≡ Some r
+    → IsLastPainting events x y (Some r)
+unfolding register_at last_at
+register_painting events x y r found = last_painting events x y (Some r) (flat_some _ r found)
+
 -- a covered pixel has a register
 has_register : (n : ℕ) (events : List Event) (x y : ℕ) → BreaksNone n last_rule events → is_covered events x y ≡ true
     → IsSome (register_at events x y)
@@ -104,16 +100,10 @@ has_register n events x y none covered =
     let q : (o : Option ℕ) × (last_below (length events) (at_position (known_where x y) events) ≡ Some o)
     = some_value _ (some_last (length events) (passes_at (λ earlier e. falls earlier e x y) events)
     (at_position (known_where x y) events) at_each covered) in
-    let l : IsLast (at_position (known_where x y) events) (length events) (q.0)
-    = last_is (length events) (at_position (known_where x y) events) (q.0) (q.1) in
-    let e : (e : Event) × (slice_get events l.at ≡ Some e) = item_there events l.at l.below in
-    let here : slice_get events l.at ≡ Some (e.0) = e.1 in
-    let both : (falls (take l.at events) (e.0) x y ≡ true) × (known (take l.at events) ≡ q.0)
-    = fell_if (falls (take l.at events) (e.0) x y) (known (take l.at events)) (q.0)
-    (sym (at_there (known_where x y) events l.at (e.0) here) ∙ l.gives) in
+    let l : IsLastPainting events x y (q.0) = last_painting events x y (q.0) (q.1) in
     let some : IsSome (known (take l.at events))
-    = falls_known n (take l.at events) (e.0) x y (keeps_at n events none l.at (e.0) here) both.0 in
-    rw q.1 (rw both.1 at some)
+    = falls_known n (take l.at events) l.event x y (keeps_at n events none l.at l.event l.here) l.fell in
+    rw q.1 (rw l.register at some)
   where
     at_each : (i : ℕ) → i < length events → passes_at (λ earlier e. falls earlier e x y) events i ≡ true
         → IsSome (at_position (known_where x y) events i)
@@ -148,7 +138,7 @@ falls_data before e x y h = touches_data 0 1 before e x y h
 
 -- the box stands before what paints a point
 box_at_painting : (n : ℕ) (events : List Event) (x y r : ℕ) → BreaksNone n last_rule events
-    → (p : IsLastPainting events x y r)
+    → (p : IsLastPainting events x y (Some r))
     → IsSome (raster_before (take p.at events))
 box_at_painting n events x y r none p =
     box_at_data n (take p.at events) p.event (keeps_at n events none p.at p.event p.here)
@@ -157,7 +147,7 @@ box_at_painting n events x y r none p =
 -- the last painting of a pixel is in its register
 paint_last : (n : ℕ) (t : Display) (events : List Event) (x y r : ℕ) → BreaksNone n last_rule events
     → n ≤ registers_of t
-    → (p : IsLastPainting events x y r) → paint_at t (take p.at events) p.event x y ≡ Some r
+    → (p : IsLastPainting events x y (Some r)) → paint_at t (take p.at events) p.event x y ≡ Some r
 paint_last n t events x y r none enough p =
     let same : touches_on t (take p.at events) p.event x y ≡ true
     = same_points_on_each t events p.at p.event x y (plain n events none) p.here
@@ -169,7 +159,7 @@ paint_last n t events x y r none enough p =
 
 -- and no event after it paints the pixel
 paint_after : (n : ℕ) (t : Display) (events : List Event) (x y r : ℕ) → BreaksNone n last_rule events
-    → (p : IsLastPainting events x y r) (j : ℕ) (e : Event) → p.at < j → slice_get events j ≡ Some e
+    → (p : IsLastPainting events x y (Some r)) (j : ℕ) (e : Event) → p.at < j → slice_get events j ≡ Some e
     → paint_at t (take j events) e x y ≡ None
 paint_after n t events x y r none p j e lt here =
     let still : IsSome (raster_before (take j events))
@@ -188,7 +178,7 @@ colour_either n t events i r false h = h.at_painting
 
 -- what is inked at the last painting, and after it
 inked_at : (n : ℕ) (t : Display) (events : List Event) (x y r : ℕ) → BreaksNone n last_rule events → n ≤ registers_of t
-    → (p : IsLastPainting events x y r)
+    → (p : IsLastPainting events x y (Some r))
     → IsLast (at_position (inked_on t events (t.choices.origin_x + x) (t.choices.origin_y + y)) events) (length events)
     (map_on t (if t.choices.binds_at_showing then events else take p.at events) r)
 inked_at n t events x y r none enough p =
@@ -213,7 +203,7 @@ shown_is : (n : ℕ) (t : Display) (events : List Event) (x y r : ℕ) → Break
     ≡ Some (shown_on t events (t.choices.origin_x + x) (t.choices.origin_y + y))
 unfolding shown_on last_at
 shown_is n t events x y r none enough found =
-    let p : IsLastPainting events x y r = last_painting events x y r found in
+    let p : IsLastPainting events x y (Some r) = register_painting events x y r found in
     let colours : HasColourLeft n t events p.at r
     = painted_colour_is_left n t events p.at p.event r enough none p.here
     (falls_paints (take p.at events) p.event x y p.fell) p.register in

@@ -1,16 +1,15 @@
 -- On registers in which was painted: where no rule is broken, they keep their colours.
-use Rattle.std.proofs.Common.{◌≡◌, ◌<◌, ◌≤◌, ◌+◌, ◌-◌, ℕ, zero, suc, Bool, true, false, ◌&&◌, cond, not, Option, Some}
+use Rattle.std.proofs.Common.{◌≡◌, ◌<◌, ◌≤◌, ◌+◌, ◌-◌, ℕ, zero, suc, Bool, true, false, ◌&&◌, cond, not, Some}
 use Rattle.std.proofs.Common.{None, List, [], ◌∷◌, ◌++◌, length, take, refl, ap, ◌∙◌, arith, add-zero, add-suc}
-use Rattle.std.specs.Prelude.{◌==◌, is_none, slice_get, IsFalse}
+use Rattle.std.specs.Prelude.{◌==◌, slice_get, IsFalse, IsSome}
 use Rattle.std.specs.List.{AllByRecursion}
 use Rattle.std.specs.Option.{option_or}
 use Rattle.std.proofs.lemmas.Bool.{and_parts, eq-eqb, eqb-true, not-false, or_right}
 use Rattle.std.proofs.lemmas.Option.{slice_get_within}
 use Rattle.std.proofs.Math.Seq.{take-length}
-use Rattle.sixel_grammar.specs.declared.command.Command.TheVariants.{Sixel, Repeat, Raster, Select, Define}
-use Rattle.sixel_grammar.specs.declared.command.Command.TheVariants.{CarriageReturn, NextLine}
+use Rattle.sixel_grammar.specs.declared.command.Command.TheVariants.{Define}
 use Rattle.sixel_grammar.specs.declared.command.Event.{Event}
-use Rattle.sixel_grammar.specs.declared.command.Event.TheVariants.{Start, Step, Finish}
+use Rattle.sixel_grammar.specs.declared.command.Event.TheVariants.{Step}
 use Rattle.sixel_picture.specs.Colours.{palette_at}
 use Rattle.sixel_picture.specs.Events.{Definition, definition_where, is_painting, is_same_definition}
 use Rattle.sixel_picture.specs.Rules.{BreaksNone, breaks_redefined, breaks_undefined, colour_of, definition_of}
@@ -25,6 +24,7 @@ use Rattle.sixel_picture.specs.RuleNumbers.{last_rule}
 use Rattle.sixel_terminal.specs.Drawing.{map_on}
 use Rattle.sixel_check.specs.Laws.{PaintedColourIsLeft}
 use Rattle.sixel_check.proofs.ColourLemmas.{IsSound, each_sound, known_in_range, made, map_defined}
+use Rattle.sixel_check.proofs.OptionLemmas.{some_from, some_value}
 
 -- ---- a definition of a register in which was painted
 
@@ -59,14 +59,7 @@ steady_step : (n r : ℕ) (before : List Event) (x : Event) (d : Definition) →
     → option_or (definition_where (λ q. q == r) x) (definition_of before r) ≡ Some d
 steady_step n r before (Step (Define q s x y z)) d k defined painted =
     redefine_step before q r s x y z d (q == r) (eqb-true q r) k.redefined defined painted
-steady_step n r before (Start eight parameters) d k defined painted = defined
-steady_step n r before (Step (Sixel bits)) d k defined painted = defined
-steady_step n r before (Step (Repeat count bits)) d k defined painted = defined
-steady_step n r before (Step (Raster a b c e)) d k defined painted = defined
-steady_step n r before (Step (Select q)) d k defined painted = defined
-steady_step n r before (Step CarriageReturn) d k defined painted = defined
-steady_step n r before (Step NextLine) d k defined painted = defined
-steady_step n r before (Finish eight) d k defined painted = defined
+steady_step n r before _ d k defined painted = defined
 
 -- the last definition of the register, in which was painted
 pub record IsSteady (r : ℕ) (d : Definition) (before : List Event) : Type 0 where
@@ -95,29 +88,16 @@ steady_on n r events d none i (suc k) le s =
 
 -- ---- from a painting on
 
-there_if : (o : Option Definition) → is_none o ≡ false → (d : Definition) × (o ≡ Some d)
-there_if None h = cc
-there_if (Some d) h = (d, refl)
-
 -- the register in which a command paints has a definition
-defined_there : (n r : ℕ) (before : List Event) (e : Event) → Keeps n before e → is_painting e ≡ true
-    → known before ≡ Some r → (d : Definition) × (definition_of before r ≡ Some d)
+pub defined_there : (n r : ℕ) (before : List Event) (e : Event) → Keeps n before e → is_painting e ≡ true
+    → known before ≡ Some r → IsSome (definition_of before r)
 unfolding breaks_undefined
-defined_there n r before e k p h =
-    let some : is_none (definition_of before r) ≡ false = rw (p, h) at k.undefined in
-    there_if (definition_of before r) some
+defined_there n r before e k p h = some_from (definition_of before r) (rw (p, h) at k.undefined)
 
 -- a painting command defines nothing
 painting_defines : (p : ℕ → Bool) (e : Event) → is_painting e ≡ true → definition_where p e ≡ None
 painting_defines p (Step (Define q s x y z)) h = cc
-painting_defines p (Start eight parameters) h = refl
-painting_defines p (Step (Sixel bits)) h = refl
-painting_defines p (Step (Repeat count bits)) h = refl
-painting_defines p (Step (Raster a b c d)) h = refl
-painting_defines p (Step (Select q)) h = refl
-painting_defines p (Step CarriageReturn) h = refl
-painting_defines p (Step NextLine) h = refl
-painting_defines p (Finish eight) h = refl
+painting_defines p _ h = refl
 
 steady_start : (r : ℕ) (before : List Event) (e : Event) (d : Definition) → is_painting e ≡ true → known before ≡ Some r
     → definition_of before r ≡ Some d → IsSteady r d (before ++ e ∷ [])
@@ -159,7 +139,7 @@ painted_colour_is_left n t events i e r enough none here p k =
     let keeps : Keeps n (take i events) e = keeps_at n events none i e here in
     let low : r < n = known_in_range n r i events none k in
     let d : (d : Definition) × (definition_of (take i events) r ≡ Some d)
-    = defined_there n r (take i events) e keeps p k in
+    = some_value _ (defined_there n r (take i events) e keeps p k) in
     let last : IsSteady r (d.0) events = steady_end n r i events e (d.0) none here p k (d.1) in
     let sound : AllByRecursion (IsSound n) events = each_sound n events none in
     let now : colour_of (take i events) r ≡ Some (map_on t (take i events) r)

@@ -1,14 +1,13 @@
 -- A list has one verdict.
-use Rattle.std.proofs.Common.{◌≡◌, ◌==◌, ◌<◌, ◌⊎◌, ℕ, Bool, true, false, ◌&&◌, ◌||◌, nat_lt, inl, inr, Option, Some}
-use Rattle.std.proofs.Common.{None, List, take, refl, sym, ap, subst, ◌∙◌, arith}
+use Rattle.std.proofs.Common.{◌≡◌, ◌==◌, ◌<◌, ◌⊎◌, ℕ, nat_lt, inl, inr, Option, Some}
+use Rattle.std.proofs.Common.{List, take, refl, sym, ap, subst, ◌∙◌, arith}
 use Rattle.std.specs.Prelude.{IsSomeAnd, IsTrue, slice_get, if◌then◌else◌}
-use Rattle.std.specs.Option.{option_map}
 use Rattle.std.proofs.lemmas.Bool.{and_from, eq-eqb, lt-ltb, or_left, or_right}
 use Rattle.sixel_grammar.specs.declared.command.Event.{Event}
 use Rattle.sixel_grammar.specs.declared.command.Placed.{Placed}
 use Rattle.sixel_grammar.specs.Document.{events_of}
 use Rattle.sixel_picture.specs.Positions.{HoldsAtPosition}
-use Rattle.sixel_picture.specs.Rules.{Breaks, BreaksNone, FallsOutside, IsFirstBroken, IsFirstPoint, StaysBlank}
+use Rattle.sixel_picture.specs.Rules.{FallsOutside, IsFirstPoint, StaysBlank}
 use Rattle.sixel_picture.specs.Rules.{is_before, raster_before}
 use Rattle.sixel_picture.proofs.RuleLemmas.{nowhere}
 use Rattle.sixel_picture.specs.RuleNumbers.{raster_first_rule, raster_twice_rule, ratio_rule, box_size_rule}
@@ -22,11 +21,12 @@ use Rattle.sixel_check.specs.declared.verdict.Finding.{Finding}
 use Rattle.sixel_check.specs.declared.verdict.Verdict.{Verdict}
 use Rattle.sixel_check.specs.declared.verdict.Verdict.TheVariants.{Portable, Broken}
 use Rattle.sixel_check.specs.Verdicts.{IsFinding, IsFirstPixel, IsPixel, IsVerdict, capped, number_of}
+use Rattle.sixel_check.proofs.OptionLemmas.{same_value}
 
 -- ---- one rule
 
 -- the rule of a number
-abbrev numbered : ℕ → Rule
+abbrev pub numbered : ℕ → Rule
 numbered n =
     if n == raster_first_rule then RasterFirst
     else if n == raster_twice_rule then RasterTwice
@@ -43,17 +43,7 @@ numbered n =
 
 numbered_is : (r : Rule) → numbered (number_of r) ≡ r
 numbered_is RasterFirst = refl
-numbered_is RasterTwice = refl
-numbered_is Ratio = refl
-numbered_is BoxSize = refl
-numbered_is Register = refl
-numbered_is ColourValue = refl
-numbered_is RepeatZero = refl
-numbered_is Unselected = refl
-numbered_is Undefined = refl
-numbered_is Redefined = refl
-numbered_is Outside = refl
-numbered_is Uncovered = refl
+numbered_is _ = refl
 
 same_rule : (r q : Rule) → number_of r ≡ number_of q → r ≡ q
 same_rule r q e = sym (numbered_is r) ∙ ap numbered e ∙ numbered_is q
@@ -83,31 +73,19 @@ first_pixel_once P p q f g =
 
 pixel_once : (r : Rule) (p q : Option (ℕ × ℕ)) (before : List Event) (e : Event) → IsPixel r p before e
     → IsPixel r q before e → p ≡ q
-pixel_once RasterFirst p q before e f g = f ∙ sym g
-pixel_once RasterTwice p q before e f g = f ∙ sym g
-pixel_once Ratio p q before e f g = f ∙ sym g
-pixel_once BoxSize p q before e f g = f ∙ sym g
-pixel_once Register p q before e f g = f ∙ sym g
-pixel_once ColourValue p q before e f g = f ∙ sym g
-pixel_once RepeatZero p q before e f g = f ∙ sym g
-pixel_once Unselected p q before e f g = f ∙ sym g
-pixel_once Undefined p q before e f g = f ∙ sym g
-pixel_once Redefined p q before e f g = f ∙ sym g
 pixel_once Outside p q before e f g =
     first_pixel_once (λ x y. IsSomeAnd (raster_before before) (λ a. FallsOutside before e a x y)) p q f g
 pixel_once Uncovered p q before e f g =
     first_pixel_once (λ x y. IsSomeAnd (raster_before before) (λ a. StaysBlank before a x y)) p q f g
+pixel_once _ p q before e f g = f ∙ sym g
 
 -- ---- one finding
-
-some_once : {A : Type 0} (x y : A) → Some x ≡ Some y → x ≡ y
-some_once x y e = cc
 
 -- what holds of the rule and pixel of a finding at its event
 pixel_at : (r : Rule) (p q : Option (ℕ × ℕ)) (events : List Event) (i : ℕ) → HoldsAtPosition (IsPixel r p) events i
     → HoldsAtPosition (IsPixel r q) events i → p ≡ q
 pixel_at r p q events i f g =
-    let same : f.item ≡ g.item = some_once f.item g.item (sym f.here ∙ g.here) in
+    let same : f.item ≡ g.item = same_value (slice_get events i) f.item g.item f.here g.here in
     pixel_once r p q (take i events) g.item (subst (IsPixel r p (take i events)) same f.holds) g.holds
 
 make : Rule → ℕ → Option (ℕ × ℕ) → Finding
@@ -121,7 +99,7 @@ found_once registers placed f g i a b =
     let not_less : ¬ (n < m) = λ lt. b.first.none_smaller n lt a.first.broken in
     let not_more : ¬ (m < n) = λ lt. a.first.none_smaller m lt b.first.broken in
     let rule : f.rule ≡ g.rule = same_rule f.rule g.rule (omega (arith, not_less, not_more)) in
-    let place : f.place ≡ g.place = some_once f.place g.place (sym a.place ∙ b.place) in
+    let place : f.place ≡ g.place = same_value _ f.place g.place a.place b.place in
     let pixel : f.pixel ≡ g.pixel =
     pixel_at g.rule f.pixel g.pixel (events_of placed) i
     (subst (λ (r : Rule). HoldsAtPosition (IsPixel r f.pixel) (events_of placed) i) rule a.pixel) b.pixel in

@@ -22,8 +22,9 @@ use Rattle.sixel_terminal.specs.Drawing.{IsPainted, filled_on, paint_at, paints_
 use Rattle.sixel_terminal.specs.Laws.{IsPlain}
 use Rattle.sixel_terminal.proofs.PlainLemmas.{same_points_on_each}
 use Rattle.sixel_check.specs.Laws.{NonePaintedOutside}
-use Rattle.sixel_check.proofs.CoverLemmas.{box_at_data, none_from, one_box, some_value}
+use Rattle.sixel_check.proofs.CoverLemmas.{box_at_data, one_box}
 use Rattle.sixel_check.proofs.DrawnLemmas.{no_data_bits}
+use Rattle.sixel_check.proofs.OptionLemmas.{none_from, same_value, some_value}
 
 covers_blank : (left count line rows x y : ℕ) → covers left count line rows 0 x y ≡ true → ⊥
 unfolding covers any_below
@@ -47,26 +48,16 @@ square_if : (o : Option Attributes) → option_map_or (λ a. not (is_square a)) 
 square_if None h = tt
 square_if (Some a) h = not-false _ h
 
-good_ratio : (e : Event) → IsFalse (breaks_ratio e) → IfSome (raster_of e) (λ a. IsTrue (is_square a))
-unfolding breaks_ratio
-good_ratio e h = square_if (raster_of e) h
-
-good_count : (e : Event) → IsFalse (breaks_repeat_zero e) → IsFalse (is_repeat_of_zero e)
-unfolding breaks_repeat_zero
-good_count e h = h
-
 pub plain : (n : ℕ) (events : List Event) → BreaksNone n last_rule events → IsPlain events
+unfolding breaks_ratio breaks_repeat_zero
 plain n events none = record {
   no_repeat_of_zero = each_from_positions (λ e. IsFalse (is_repeat_of_zero e)) events
-      (λ j e here. good_count e (keeps_at n events none j e here).repeat_zero);
+      (λ j e here. (keeps_at n events none j e here).repeat_zero);
   square = each_from_positions (λ e. IfSome (raster_of e) (λ a. IsTrue (is_square a))) events
-      (λ j e here. good_ratio e (keeps_at n events none j e here).ratio);
+      (λ j e here. square_if (raster_of e) (keeps_at n events none j e here).ratio);
 }
 
 -- ---- what each event paints
-
-same_value : {A : Type 0} (o : Option A) (a b : A) → o ≡ Some a → o ≡ Some b → a ≡ b
-same_value o a b h k = let e : Some a ≡ Some b = sym h ∙ k in cc
 
 -- the box that stands before an event is the box
 box_is : (i : ℕ) (events : List Event) (a b : Attributes) → raster_before (take i events) ≡ Some b

@@ -1,4 +1,4 @@
-use Rattle.std.proofs.Common.{sym, ◌∙◌}
+use Rattle.std.proofs.Common.{sym}
 use Rattle.sixel_check.proofs.DrawLemmas.{drawn_box, no_attributes, sides_good, undrawn_still}
 use Rattle.sixel_picture.specs.Events.{raster_of}
 use Rattle.sixel_check.proofs.GrowthLemmas.{err_says, some_of_map}

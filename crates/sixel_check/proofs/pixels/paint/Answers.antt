@@ -1,8 +1,7 @@
-use Rattle.std.proofs.Common.{◌≡◌, ◌<◌, ◌+◌, ◌≤◌, ℕ, Some, true, false, sym, ◌∙◌, arith, rules}
+use Rattle.std.proofs.Common.{◌≡◌, ◌<◌, Some, true, false, rules}
 use Rattle.sixel_picture.specs.Events.{is_painting}
 use Rattle.sixel_check.specs.Notes.{known_in}
-use Rattle.sixel_check.proofs.BlankLemmas.{small}
-use Rattle.sixel_check.proofs.DrawLemmas.{drawn_paint, drawn_still, few_bits, knows, narrow, run_fits_in}
+use Rattle.sixel_check.proofs.DrawLemmas.{drawn_paint, drawn_still, knows, narrow, run_fits_in}
 use Rattle.sixel_check.proofs.pixels.paint.Goals as goal
 
 pub returns-then-not-is_painting : goal.returns-then-not-is_painting

@@ -1,5 +1,5 @@
 use Rattle.sixel_check.proofs.BlankLemmas.{blank_is, none_blank}
-use Rattle.std.proofs.Common.{sym, ◌∙◌}
+use Rattle.std.proofs.Common.{sym}
 use Rattle.sixel_check.proofs.pixels.pixel_blank.Goals as goal
 
 pub returns-in-Some : goal.returns-in-Some

@@ -1,5 +1,6 @@
 use Rattle.sixel_grammar.specs.Document.{events_of}
-use Rattle.sixel_check.proofs.WholeLemmas.{full_sheet, has_box}
+use Rattle.sixel_check.proofs.CoverLemmas.{has_box}
+use Rattle.sixel_check.proofs.WholeLemmas.{full_sheet}
 use Rattle.sixel_check.proofs.judge.Judge.verdict.Goals as goal
 
 pub picture_of-requires-clause-full : goal.picture_of-requires-clause-full
@@ -10,4 +11,4 @@ picture_of-requires-clause-full g c =
 pub unreachable-requires : goal.unreachable-requires
 unreachable-requires g c =
     let s = rw (c.in-None-None.is-0, c.in-None-None.is-1) at c.requires.1 in
-    has_box (events_of c.requires.0) c.requires.2 s.unbroken s.sheet_is.no_box
+    has_box 16 (events_of c.requires.0) c.requires.2 s.unbroken s.sheet_is.no_box

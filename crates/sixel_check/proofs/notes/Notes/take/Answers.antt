@@ -1,5 +1,3 @@
-use Rattle.std.proofs.Common.{◌++◌, [], ◌∷◌, subst, sym}
-use Rattle.sixel_check.specs.Judging.{AreNotesAfter}
 use Rattle.sixel_check.proofs.NoteLemmas.{notes_push}
 use Rattle.sixel_check.proofs.notes.Notes.take.Goals as goal
 
