@@ -1,7 +1,7 @@
 -- The first blank pixel of a sheet that follows the events, and the registers of one without a blank pixel.
-use Rattle.std.proofs.Common.{◌≡◌, Bool, not, ◌==◌, ℕ, zero, suc, ◌+◌, ◌*◌, ◌/◌, ◌%◌, ◌<◌, ◌≤◌, true, false, ◌&&◌, cond, Option}
-use Rattle.std.proofs.Common.{Some, None, List, length, get_or, map, nat_le, nat_lt, inl, inr, refl, sym, ap}
-use Rattle.std.proofs.Common.{ap₂, ◌∙◌, arith, subst}
+use Rattle.std.proofs.Common.{◌≡◌, Bool, not, ◌==◌, ℕ, zero, suc, ◌+◌, ◌*◌, ◌/◌, ◌%◌, ◌<◌, ◌≤◌, true, false, ◌&&◌}
+use Rattle.std.proofs.Common.{cond, Option, Some, None, List, length, get_or, map, nat_le, nat_lt, inl, inr, refl}
+use Rattle.std.proofs.Common.{sym, ap, ap₂, ◌∙◌, arith, subst}
 use Rattle.std.specs.Prelude.{IsTrue, is_none, is_some, unwrap_or}
 use Rattle.std.specs.List.{position_from, position_or_len}
 use Rattle.std.specs.Option.{option_flatten, option_map}
@@ -32,7 +32,8 @@ first_place : {A : Type 0} (p : A → Bool) (xs : List A) (d : A) (i : ℕ) → 
     → (i < length xs) × (p (get_or xs i d) ≡ true) × ((k : ℕ) → k < i → p (get_or xs k d) ≡ false)
 first_place p xs d i h = split (nat_lt (position_or_len p xs) (length xs)) refl (position_from-zero p xs ∙ h)
   where
-    split : (b : Bool) → nat_lt (position_or_len p xs) (length xs) ≡ b → cond b (Some (position_or_len p xs)) None ≡ Some i
+    split : (b : Bool) → nat_lt (position_or_len p xs) (length xs) ≡ b
+        → cond b (Some (position_or_len p xs)) None ≡ Some i
         → (i < length xs) × (p (get_or xs i d) ≡ true) × ((k : ℕ) → k < i → p (get_or xs k d) ≡ false)
     split true e h =
         let same : position_or_len p xs ≡ i = cc in
@@ -128,7 +129,8 @@ blank_place s before i d found =
         none_before = λ u v earlier blank.
             let point = in_box_place (box_of s) u v blank.inside in
             let lower = place_before s.width u v (i % s.width) (i / s.width) point.0 earlier in
-            not_blank s before u v d point.0 point.1 (first.2 (v * s.width + u) (omega (arith, lower, at.2))) blank.blank;
+            not_blank s before u v d point.0 point.1 (first.2 (v * s.width + u) (omega (arith, lower, at.2)))
+            blank.blank;
       },
     )
 

@@ -3,7 +3,7 @@ use Rattle.std.proofs.Common.{◌≡◌, ◌==◌, ◌<◌, ◌≤◌, ◌+◌, 
 use Rattle.std.proofs.Common.{inr, Option, Some, None, List, length, take, refl, sym, ap, subst, ◌∙◌, arith}
 use Rattle.std.specs.Prelude.{IsSomeAnd, slice_get}
 use Rattle.std.specs.Option.{option_map}
-use Rattle.std.proofs.lemmas.Bool.{agree_below_at, and_parts, both_ways, eqb-true, lt-ltb, ltb-true}
+use Rattle.std.proofs.lemmas.Bool.{agree_below_at, and_parts, eqb-true, lt-ltb, ltb-true}
 use Rattle.std.proofs.lemmas.List.{length-map}
 use Rattle.sixel_grammar.specs.declared.command.Event.{Event}
 use Rattle.sixel_grammar.specs.declared.command.Placed.{Placed}
@@ -31,28 +31,11 @@ use Rattle.sixel_check.proofs.VerdictLemmas.{numbered}
 
 -- ---- the two rules on points
 
-searchable_in : (P : Attributes → ℕ → ℕ → Type 0) (o : Option Attributes) → ((a : Attributes) → Searchable (P a))
-    → Searchable (λ x y. IsSomeAnd o (λ a. P a x y))
-searchable_in P None s = record {
-  width = 0;
-  height = 0;
-  decide = λ x y. inr (λ none. none);
-  left = λ x y none. absurd none;
-  above = λ x y none. absurd none;
-}
-searchable_in P (Some a) s = record {
-  width = (s a).width;
-  height = (s a).height;
-  decide = (s a).decide;
-  left = (s a).left;
-  above = (s a).above;
-}
-
-falls_decided : (before : List Event) (e : Event) (a : Attributes) (x y : ℕ) (b c : Bool) → falls before e x y ≡ b
-    → is_in_box a x y ≡ c → Decided (FallsOutside before e a x y)
-falls_decided before e a x y true false p q = inl (record { painted = p; outside = q })
-falls_decided before e a x y true true p q = inr (λ f. both_ways (is_in_box a x y) f.outside q)
-falls_decided before e a x y false c p q = inr (λ f. both_ways (falls before e x y) p f.painted)
+-- what holds where one test passes and the other fails
+decided_by : (P : Type 0) (b c : Bool) → (b ≡ true → c ≡ false → P) → (P → b ≡ true) → (P → c ≡ false) → Decided P
+decided_by P true false make passes fails = inl (make refl refl)
+decided_by P true true make passes fails = inr (λ p. let no : true ≡ false = fails p in cc)
+decided_by P false c make passes fails = inr (λ p. let no : false ≡ true = passes p in cc)
 
 falls_left : (before : List Event) (e : Event) (x y : ℕ) → falls before e x y ≡ true
     → (x < column 0 before + columns_of 0 e) × (y < 6 * band before + 6)
@@ -67,70 +50,52 @@ falls_searchable : (before : List Event) (e : Event) (a : Attributes) → Search
 falls_searchable before e a = record {
   width = column 0 before + columns_of 0 e;
   height = 6 * band before + 6;
-  decide = λ x y. falls_decided before e a x y (falls before e x y) (is_in_box a x y) refl refl;
+  decide = λ x y. decided_by _ (falls before e x y) (is_in_box a x y) (λ p q. record { painted = p; outside = q })
+      (λ f. f.painted) (λ f. f.outside);
   left = λ x y f. (falls_left before e x y f.painted).0;
   above = λ x y f. (falls_left before e x y f.painted).1;
 }
-
-blank_decided : (before : List Event) (a : Attributes) (x y : ℕ) (b c : Bool) → is_in_box a x y ≡ b
-    → is_covered before x y ≡ c → Decided (StaysBlank before a x y)
-blank_decided before a x y true false p q = inl (record { inside = p; blank = q })
-blank_decided before a x y true true p q = inr (λ f. both_ways (is_covered before x y) f.blank q)
-blank_decided before a x y false c p q = inr (λ f. both_ways (is_in_box a x y) p f.inside)
 
 blank_searchable : (before : List Event) (a : Attributes) → Searchable (StaysBlank before a)
 blank_searchable before a = record {
   width = a.width;
   height = a.height;
-  decide = λ x y. blank_decided before a x y (is_in_box a x y) (is_covered before x y) refl refl;
+  decide = λ x y. decided_by _ (is_in_box a x y) (is_covered before x y) (λ p q. record { inside = p; blank = q })
+      (λ f. f.inside) (λ f. f.blank);
   left = λ x y f. ltb-true x a.width (and_parts (nat_lt x a.width) (nat_lt y a.height) f.inside).0;
   above = λ x y f. ltb-true y a.height (and_parts (nat_lt x a.width) (nat_lt y a.height) f.inside).1;
 }
 
--- a point outside the box that the event paints, and one in it that no event paints
-abbrev IsPointOutside : List Event → Event → ℕ → ℕ → Type 0
-IsPointOutside before e x y = IsSomeAnd (raster_before before) (λ a. FallsOutside before e a x y)
+-- the first point, of those that there are where there is a box
+abbrev FirstOf : (Attributes → ℕ → ℕ → Type 0) → Option Attributes → Type 0
+FirstOf P o =
+    ((x : ℕ) × (y : ℕ) × IsFirstPoint (λ x y. IsSomeAnd o (λ a. P a x y)) x y)
+    × IsSomeAnd o (λ a. (x : ℕ) × (y : ℕ) × P a x y)
 
-abbrev IsPointBlank : List Event → ℕ → ℕ → Type 0
-IsPointBlank before x y = IsSomeAnd (raster_before before) (λ a. StaysBlank before a x y)
+first_of : (P : Attributes → ℕ → ℕ → Type 0) (o : Option Attributes) → ((a : Attributes) → Searchable (P a))
+    → FirstOf P o ⊎ ¬ IsSomeAnd o (λ a. (x : ℕ) × (y : ℕ) × P a x y)
+first_of P None s = inr (λ none. none)
+first_of P (Some a) s = elim (first_point (P a) (s a)) [
+  | inl f ↦ inl (f, (f.0, f.1, f.2.holds))
+  | inr none ↦ inr (λ p. none p.0 p.1 p.2)
+]
 
 outside_first : (before : List Event) (e : Event)
-    → ((x : ℕ) × (y : ℕ) × IsFirstPoint (IsPointOutside before e) x y) ⊎ ((x y : ℕ) → ¬ IsPointOutside before e x y)
-outside_first before e =
-    first_point (IsPointOutside before e)
-    (searchable_in (λ a x y. FallsOutside before e a x y) (raster_before before) (falls_searchable before e))
+    → FirstOf (FallsOutside before e) (raster_before before) ⊎ ¬ BreaksOutside before e
+unfolding BreaksOutside
+outside_first before e = first_of (FallsOutside before e) (raster_before before) (falls_searchable before e)
 
-blank_first : (before : List Event)
-    → ((x : ℕ) × (y : ℕ) × IsFirstPoint (IsPointBlank before) x y) ⊎ ((x y : ℕ) → ¬ IsPointBlank before x y)
-blank_first before =
-    first_point (IsPointBlank before)
-    (searchable_in (λ a x y. StaysBlank before a x y) (raster_before before) (blank_searchable before))
-
-some_point : (o : Option Attributes) (P : Attributes → ℕ → ℕ → Type 0)
-    → IsSomeAnd o (λ a. (x : ℕ) × (y : ℕ) × P a x y) → (x : ℕ) × (y : ℕ) × IsSomeAnd o (λ a. P a x y)
-some_point None P h = absurd h
-some_point (Some a) P h = h
-
-point_some : (o : Option Attributes) (P : Attributes → ℕ → ℕ → Type 0) (x y : ℕ) → IsSomeAnd o (λ a. P a x y)
-    → IsSomeAnd o (λ a. (x : ℕ) × (y : ℕ) × P a x y)
-point_some None P x y h = absurd h
-point_some (Some a) P x y h = (x, y, h)
+blank_first : (before : List Event) → FirstOf (StaysBlank before) (raster_before before)
+    ⊎ ¬ IsSomeAnd (raster_before before) (λ a. (x : ℕ) × (y : ℕ) × StaysBlank before a x y)
+blank_first before = first_of (StaysBlank before) (raster_before before) (blank_searchable before)
 
 outside_decided : (before : List Event) (e : Event) → Decided (BreaksOutside before e)
 unfolding BreaksOutside
-outside_decided before e = elim (outside_first before e) [
-  | inl f ↦ inl (point_some (raster_before before) (λ a x y. FallsOutside before e a x y) f.0 f.1 f.2.holds)
-  | inr none ↦ inr (λ h.
-      let p = some_point (raster_before before) (λ a x y. FallsOutside before e a x y) h in none p.0 p.1 p.2)
-]
+outside_decided before e = elim (outside_first before e) [ inl f ↦ inl f.1 | inr none ↦ inr none ]
 
 blank_somewhere : (before : List Event)
     → Decided (IsSomeAnd (raster_before before) (λ a. (x : ℕ) × (y : ℕ) × StaysBlank before a x y))
-blank_somewhere before = elim (blank_first before) [
-  | inl f ↦ inl (point_some (raster_before before) (λ a x y. StaysBlank before a x y) f.0 f.1 f.2.holds)
-  | inr none ↦ inr (λ h.
-      let p = some_point (raster_before before) (λ a x y. StaysBlank before a x y) h in none p.0 p.1 p.2)
-]
+blank_somewhere before = elim (blank_first before) [ inl f ↦ inl f.1 | inr none ↦ inr none ]
 
 both_decided : (P Q : Type 0) → Decided P → Decided Q → Decided (P × Q)
 both_decided P Q (inl p) (inl q) = inl (p, q)
@@ -176,14 +141,12 @@ pixel_of : (registers : ℕ) (r : Rule) (before : List Event) (e : Event) → Br
     → (pixel : Option (ℕ × ℕ)) × IsPixel r pixel before e
 unfolding Breaks BreaksOutside BreaksUncovered
 pixel_of registers Outside before e h = elim (outside_first before e) [
-  | inl f ↦ (Some (capped f.0, capped f.1), (f.0, f.1, f.2, refl))
-  | inr none ↦
-      let p = some_point (raster_before before) (λ a x y. FallsOutside before e a x y) h in absurd (none p.0 p.1 p.2)
+  | inl f ↦ (Some (capped f.0.0, capped f.0.1), (f.0.0, f.0.1, f.0.2, refl))
+  | inr none ↦ absurd (none h)
 ]
 pixel_of registers Uncovered before e h = elim (blank_first before) [
-  | inl f ↦ (Some (capped f.0, capped f.1), (f.0, f.1, f.2, refl))
-  | inr none ↦
-      let p = some_point (raster_before before) (λ a x y. StaysBlank before a x y) h.1 in absurd (none p.0 p.1 p.2)
+  | inl f ↦ (Some (capped f.0.0, capped f.0.1), (f.0.0, f.0.1, f.0.2, refl))
+  | inr none ↦ absurd (none h.1)
 ]
 pixel_of registers _ before e h = (None, refl)
 

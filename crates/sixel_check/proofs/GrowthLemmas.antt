@@ -17,7 +17,6 @@ use Rattle.sixel_grammar.specs.declared.reader.Reader.{Reader}
 use Rattle.sixel_grammar.proofs.Stands.{read_complete}
 use Rattle.sixel_grammar.proofs.Unique.{complete_stays}
 use Rattle.sixel_picture.specs.Events.{raster_of}
-use Rattle.sixel_picture.specs.Positions.{HoldsAtPosition}
 use Rattle.sixel_picture.specs.Sheets.{Sheet}
 use Rattle.sixel_picture.proofs.PositionLemmas.{holds_before, holds_end, holds_within}
 use Rattle.sixel_picture.proofs.RuleLemmas.{none_push}
@@ -60,15 +59,14 @@ some_of_map f (Some x) a e = refl
 pub grows_end : (seen : List Placed) (p : Placed) → MayGrow (events_of seen) p.event → MayGrowAmong (seen ++ p ∷ [])
 grows_end seen p g = (
   length (events_of seen),
-  subst (λ (es : List Event). HoldsAtPosition MayGrow es (length (events_of seen))) (sym (events_push seen p))
-      (holds_end MayGrow (events_of seen) p.event g),
+  rw (events_push seen p) (holds_end MayGrow (events_of seen) p.event g),
 )
 
 grows_before : (seen : List Placed) (p : Placed) → MayGrowAmong seen → MayGrowAmong (seen ++ p ∷ [])
 grows_before seen p g =
     let i : ℕ = g.0 in (
       i,
-      subst (λ (es : List Event). HoldsAtPosition MayGrow es i) (sym (events_push seen p))
+      rw (events_push seen p)
           (holds_before MayGrow (events_of seen) p.event i (holds_within MayGrow (events_of seen) i g.1) g.1),
     )
 

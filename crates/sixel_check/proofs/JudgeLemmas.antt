@@ -5,10 +5,9 @@ use Rattle.std.specs.Prelude.{is_some, slice_get}
 use Rattle.std.specs.Option.{option_map}
 use Rattle.std.proofs.lemmas.List.{map-append, length-map}
 use Rattle.sixel_grammar.specs.Document.{events_of}
-use Rattle.sixel_grammar.specs.declared.command.Event.{Event}
 use Rattle.sixel_grammar.specs.declared.command.Placed.{Placed}
-use Rattle.sixel_picture.specs.Positions.{HoldsAtPosition, last_at, last_below}
-use Rattle.sixel_picture.specs.Rules.{IsFirstBroken, register_at}
+use Rattle.sixel_picture.specs.Positions.{last_at, last_below}
+use Rattle.sixel_picture.specs.Rules.{register_at}
 use Rattle.sixel_picture.specs.Sheets.{Sheet}
 use Rattle.sixel_picture.proofs.PositionLemmas.{get_before, get_end, holds_before, holds_end, holds_within}
 use Rattle.sixel_picture.proofs.RuleLemmas.{first_push, first_there, none_of_none, none_push}
@@ -45,14 +44,13 @@ judge_broken seen p f found =
     let i : ℕ = found.0 in
     let finding : IsFinding 16 seen f found.0 = found.1 in
     let low : found.0 < length (events_of seen) = holds_within _ (events_of seen) found.0 finding.pixel in
-    let low_seen : found.0 < length seen = subst (λ (n : ℕ). found.0 < n) (length_events seen) low in (
+    let low_seen : found.0 < length seen = rw (length_events seen) at low in (
       found.0,
       record {
-        first = subst (λ (es : List Event). IsFirstBroken 16 es (number_of f.rule) found.0) (sym (events_push seen p))
+        first = rw (events_push seen p)
             (first_push 16 (number_of f.rule) found.0 (events_of seen) p.event finding.first);
         place = ap (option_map (λ (q : Placed). q.place)) (get_before seen (p ∷ []) found.0 low_seen) ∙ finding.place;
-        pixel =
-            subst (λ (es : List Event). HoldsAtPosition (IsPixel f.rule f.pixel) es found.0) (sym (events_push seen p))
+        pixel = rw (events_push seen p)
             (holds_before (IsPixel f.rule f.pixel) (events_of seen) p.event found.0 low finding.pixel);
       },
     )
@@ -64,16 +62,12 @@ pub judge_finds : (notes : Notes) (sheet : Option Sheet) (seen : List Placed) (p
 judge_finds notes sheet seen p b s breach = (
   length (events_of seen),
   record {
-    first =
-        subst (λ (es : List Event). IsFirstBroken 16 es (number_of b.rule) (length (events_of seen)))
-        (sym (events_push seen p))
+    first = rw (events_push seen p)
         (first_there 16 (number_of b.rule) (events_of seen) p.event s.unbroken breach.broken breach.none_smaller);
     place =
         ap (λ (n : ℕ). option_map (λ (q : Placed). q.place) (slice_get (seen ++ p ∷ []) n)) (length_events seen)
         ∙ ap (option_map (λ (q : Placed). q.place)) (get_end seen p);
-    pixel = subst (λ (es : List Event). HoldsAtPosition (IsPixel b.rule b.pixel) es (length (events_of seen)))
-        (sym (events_push seen p))
-        (holds_end (IsPixel b.rule b.pixel) (events_of seen) p.event breach.pixel);
+    pixel = rw (events_push seen p) (holds_end (IsPixel b.rule b.pixel) (events_of seen) p.event breach.pixel);
   },
 )
 

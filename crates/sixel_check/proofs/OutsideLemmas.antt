@@ -1,6 +1,6 @@
 -- On the first point that a run paints outside a box.
-use Rattle.std.proofs.Common.{◌≡◌, ℕ, ◌+◌, ◌*◌, ◌^◌, ◌<◌, ◌≤◌, Bool, true, false, ◌&&◌, ◌==◌, min, max, Some, None}
-use Rattle.std.proofs.Common.{nat_le, nat_lt, refl, ap, ap₂, arith, inl, inr, ◌⊎◌, ◌∙◌}
+use Rattle.std.proofs.Common.{◌≡◌, ℕ, ◌+◌, ◌*◌, ◌<◌, ◌≤◌, Bool, true, false, ◌&&◌, ◌==◌, min, max, Option, Some, None}
+use Rattle.std.proofs.Common.{nat_le, nat_lt, refl, ap, ap₂, arith, inl, inr, ◌⊎◌, ◌∙◌, subst}
 use Rattle.std.specs.Prelude.{if◌then◌else◌}
 use Rattle.std.specs.Int.{bit_at}
 use Rattle.std.proofs.lemmas.Bool.{and_from, and_left, and_parts, and_right, eqb-true, or_cases}
@@ -13,10 +13,10 @@ use Rattle.sixel_check.specs.Verdicts.{capped}
 
 -- a run from a capped column on, in a capped band
 pub record IsCapped (column band left line width height : ℕ) : Type 0 where
-  pub column_is : column ≡ capped left
-  pub band_is : band ≡ capped line
-  pub narrow : width < 2 ^ 32
-  pub low : height < 2 ^ 32
+  pub column_is : column ≡ min left 18446744073709551615
+  pub band_is : band ≡ min line 18446744073709551615
+  pub narrow : width < 4294967296
+  pub low : height < 4294967296
 
 -- no column of the row lies outside
 pub record Fits (left count row width height : ℕ) : Type 0 where
@@ -26,48 +26,28 @@ pub record Fits (left count row width height : ℕ) : Type 0 where
 fits_row : (column band left line width height count k : ℕ) → IsCapped column band left line width height
     → capped (6 * band + k) < height → column + count ≤ width → Fits left count (6 * line + k) width height
 fits_row column band left line width height count k c above within =
-    let column_is : column ≡ min left 18446744073709551615 = c.column_is in
-    let band_is : band ≡ min line 18446744073709551615 = c.band_is in
-    let narrow : width < 4294967296 = c.narrow in
-    let low : height < 4294967296 = c.low in
     let row : min (6 * band + k) 18446744073709551615 < height = above in
     record { within = omega arith; above = omega arith }
-
-no_column : (column count row width height : ℕ) → first_column column count row width height ≡ None
-    → (row < height) × (column + count ≤ width)
-no_column column count row width height h = below (nat_le height row) refl h
-  where
-    across : (b : Bool) → nat_lt width (column + count) ≡ b → row < height
-        → (if b then Some (max column width) else None) ≡ None → (row < height) × (column + count ≤ width)
-    across true e above h = cc
-    across false e above h = (above, ltb-false width (column + count) e)
-
-    below : (b : Bool) → nat_le height row ≡ b
-        → (if b then Some column else if nat_lt width (column + count) then Some (max column width) else None) ≡ None
-        → (row < height) × (column + count ≤ width)
-    below true e h = cc
-    below false e h = across (nat_lt width (column + count)) refl (leb-false height row e) h
 
 -- the columns of a row that has one outside: the row lies below the box, or the columns reach over its right edge
 pub record IsFirstColumn (left count row width height x : ℕ) : Type 0 where
   pub is : ((height ≤ row) × (x ≡ left)) ⊎ ((row < height) × (width < left + count) × (x ≡ max left width))
 
-some_column : (column count row width height x : ℕ) → first_column column count row width height ≡ Some x
-    → IsFirstColumn column count row width height x
-some_column column count row width height x h = below (nat_le height row) refl h
-  where
-    across : (b : Bool) → nat_lt width (column + count) ≡ b → row < height
-        → (if b then Some (max column width) else None) ≡ Some x → IsFirstColumn column count row width height x
-    across true e above h =
-        let same : x ≡ max column width = cc in
-        record { is = inr (above, ltb-true width (column + count) e, same) }
-    across false e above h = cc
+-- the columns of a row, by the first of them that lies outside
+abbrev IsColumnOf : ℕ → ℕ → ℕ → ℕ → ℕ → Option ℕ → Type 0
+IsColumnOf left count row width height None = (row < height) × (left + count ≤ width)
+IsColumnOf left count row width height (Some x) = IsFirstColumn left count row width height x
 
-    below : (b : Bool) → nat_le height row ≡ b
-        → (if b then Some column else if nat_lt width (column + count) then Some (max column width) else None) ≡ Some x
-        → IsFirstColumn column count row width height x
-    below true e h = let same : x ≡ column = cc in record { is = inl (leb-true height row e, same) }
-    below false e h = across (nat_lt width (column + count)) refl (leb-false height row e) h
+column_is : (left count row width height : ℕ)
+    → IsColumnOf left count row width height (first_column left count row width height)
+column_is left count row width height =
+    by_tests (nat_le height row) refl (nat_lt width (left + count)) refl
+  where
+    by_tests : (b : Bool) → nat_le height row ≡ b → (c : Bool) → nat_lt width (left + count) ≡ c
+        → IsColumnOf left count row width height (if b then Some left else if c then Some (max left width) else None)
+    by_tests true e c f = record { is = inl (leb-true height row e, refl) }
+    by_tests false e true f = record { is = inr (leb-false height row e, ltb-true width (left + count) f, refl) }
+    by_tests false e false f = (leb-false height row e, ltb-false width (left + count) f)
 
 -- each set bit below n paints inside the box alone
 pub record AllFit (n left count line bits width height : ℕ) : Type 0 where
@@ -78,7 +58,9 @@ pub all_fit : (n column band left line width height count bits : ℕ) → IsCapp
     → AllFit n left count line bits width height
 all_fit n column band left line width height count bits c h = record {
   fits = λ j lt set.
-      let none = no_column column count (capped (6 * band + j)) width height (h j lt set) in
+      let row : ℕ = capped (6 * band + j) in
+      let none = subst (IsColumnOf column count row width height) (h j lt set)
+      (column_is column count row width height) in
       fits_row column band left line width height count j c none.0 none.1;
 }
 
@@ -86,12 +68,7 @@ all_fit n column band left line width height count bits c h = record {
 pub inside_fits : (column band left line width height count bits : ℕ) → IsCapped column band left line width height
     → column + count ≤ width → 6 * band + 6 ≤ height → AllFit 6 left count line bits width height
 inside_fits column band left line width height count bits c across down = record {
-  fits = λ j lt set.
-      let column_is : column ≡ min left 18446744073709551615 = c.column_is in
-      let band_is : band ≡ min line 18446744073709551615 = c.band_is in
-      let narrow : width < 4294967296 = c.narrow in
-      let low : height < 4294967296 = c.low in
-      record { within = omega arith; above = omega arith };
+  fits = λ j lt set. record { within = omega arith; above = omega arith };
 }
 
 -- where no bit is set
@@ -129,10 +106,6 @@ column_before : (column band left line width height count k c : ℕ) → IsCappe
     → IsFirstColumn column count (capped (6 * band + k)) width height c
     → IsColumnBefore left count (6 * line + k) width height c
 column_before column band left line width height count k c w h =
-    let column_is : column ≡ min left 18446744073709551615 = w.column_is in
-    let band_is : band ≡ min line 18446744073709551615 = w.band_is in
-    let narrow : width < 4294967296 = w.narrow in
-    let low : height < 4294967296 = w.low in
     elim h.is [
       | inl below ↦
           let row : height ≤ min (6 * band + k) 18446744073709551615 = below.0 in
@@ -151,9 +124,7 @@ column_before column band left line width height count k c w h =
 
 same_row : (column band left line width height k : ℕ) → IsCapped column band left line width height
     → capped (6 * band + k) ≡ capped (6 * line + k)
-same_row column band left line width height k w =
-    let band_is : band ≡ min line 18446744073709551615 = w.band_is in
-    omega arith
+same_row column band left line width height k w = omega arith
 
 -- the first column of a row outside lies in the columns, and outside
 first_is_outside : (left count row width height x : ℕ) → IsFirstColumn left count row width height x → 0 < count
@@ -219,7 +190,8 @@ pub first_outside : (column band left line width height count bits k c : ℕ)
     → IsFirstIfAny (PaintsOutside left count line bits width height) (Some (c, capped (6 * band + k)))
 first_outside column band left line width height count bits k c w fit six set some h =
     let found = column_before column band left line width height count k c w
-    (some_column column count (capped (6 * band + k)) width height c h) in
+    (subst (IsColumnOf column count (capped (6 * band + k)) width height) h
+    (column_is column count (capped (6 * band + k)) width height)) in
     let row : capped (6 * band + k) ≡ capped (6 * line + k) = same_row column band left line width height k w in (
       found.x,
       6 * line + k,

@@ -3,9 +3,10 @@ use Rattle.std.proofs.Common.{◌≡◌, ℕ, Bool, true, false, Option, Some, N
 use Rattle.std.proofs.Common.{refl}
 use Rattle.std.specs.Prelude.{is_some}
 use Rattle.std.specs.Option.{option_map}
+use Rattle.std.proofs.lemmas.Bool.{both_ways}
 use Rattle.sixel_grammar.specs.declared.command.Event.{Event}
 use Rattle.sixel_picture.specs.Events.{is_finish}
-use Rattle.sixel_picture.specs.Rules.{Breaks, BreaksUncovered, FallsOutside, StaysBlank, raster_before}
+use Rattle.sixel_picture.specs.Rules.{Breaks, BreaksOutside, BreaksUncovered, FallsOutside, StaysBlank, raster_before}
 use Rattle.sixel_picture.specs.Sheets.{Sheet}
 use Rattle.sixel_picture.specs.RuleNumbers.{outside_rule, uncovered_rule}
 use Rattle.sixel_check.specs.declared.notes.Notes.{Notes}
@@ -15,8 +16,6 @@ use Rattle.sixel_check.specs.Breaches.{IsBreach, BreaksNoRule, NoneBelow, rule_i
 use Rattle.sixel_check.specs.Judging.{AreNotesAfter, IsDrawn, IsSheetAfter, box_of}
 use Rattle.sixel_check.specs.Outside.{IsFirstIfAny}
 use Rattle.sixel_check.proofs.BreachLemmas.{IsLeast, IsLeastOf, least_rule, none_more}
-use Rattle.sixel_check.proofs.RunLemmas.{breaks_outside, breaks_uncovered, first_in_box, keeps_covered, keeps_inside}
-use Rattle.sixel_check.proofs.RunLemmas.{no_box_outside, no_box_uncovered}
 
 -- a breach of a rule that looks at no pixel
 pub breach_plain : (before : List Event) (e : Event) (rule : Rule) → IsLeast before e rule
@@ -26,54 +25,51 @@ breach_plain before e rule l = record { broken = l.broken; none_smaller = l.none
 pub breach_outside : (before : List Event) (e : Event) (s : Sheet) (pixel : ℕ × ℕ) → IsDrawn s before
     → NoneBelow outside_rule before e → IsFirstIfAny (FallsOutside before e (box_of s)) (Some pixel)
     → IsBreach before e (record { rule = Outside; pixel = Some pixel })
-unfolding Breaks
+unfolding Breaks BreaksOutside
 breach_outside before e s pixel d none first = record {
-  broken = breaks_outside before e (box_of s) pixel d.box first;
+  broken = rw d.box (first.0, first.1, (first.2).holds);
   none_smaller = none;
-  pixel = first_in_box (FallsOutside before e) (raster_before before) (box_of s) pixel d.box first;
+  pixel = rw d.box first;
 }
 
 pub none_outside : (before : List Event) (e : Event) (s : Sheet) → IsDrawn s before → NoneBelow outside_rule before e
     → IsFirstIfAny (FallsOutside before e (box_of s)) None → NoneBelow uncovered_rule before e
-unfolding Breaks
+unfolding Breaks BreaksOutside
 none_outside before e s d none first = none_more before e outside_rule none
-    (keeps_inside before e (box_of s) d.box first)
+    (λ broken. let point = rw d.box at broken in first point.0 point.1 point.2)
 
 pub breach_uncovered : (before : List Event) (e : Event) (s : Sheet) (pixel : ℕ × ℕ) → is_finish e ≡ true
     → IsDrawn s before
     → NoneBelow uncovered_rule before e → IsFirstIfAny (StaysBlank before (box_of s)) (Some pixel)
     → IsBreach before e (record { rule = Uncovered; pixel = Some pixel })
-unfolding Breaks
+unfolding Breaks BreaksUncovered
 breach_uncovered before e s pixel end d none first = record {
-  broken = breaks_uncovered before e (box_of s) pixel end d.box first;
+  broken = (end, rw d.box (first.0, first.1, (first.2).holds));
   none_smaller = none;
-  pixel = first_in_box (StaysBlank before) (raster_before before) (box_of s) pixel d.box first;
+  pixel = rw d.box first;
 }
 
 pub none_uncovered : (before : List Event) (e : Event) (s : Sheet) → IsDrawn s before
     → NoneBelow uncovered_rule before e
     → IsFirstIfAny (StaysBlank before (box_of s)) None → BreaksNoRule before e
-unfolding Breaks
+unfolding Breaks BreaksUncovered
 none_uncovered before e s d none first = none_more before e uncovered_rule none
-    (keeps_covered before e (box_of s) d.box first)
-
-not_end : (before : List Event) (e : Event) → is_finish e ≡ false → ¬ BreaksUncovered before e
-unfolding BreaksUncovered
-not_end before e goes_on h = let yes : is_finish e ≡ true = h.0 in cc
+    (λ broken. let point = rw d.box at broken.1 in first point.0 point.1 point.2)
 
 -- an event that isn't the end leaves nothing uncovered
 pub none_before_end : (before : List Event) (e : Event) → is_finish e ≡ false → NoneBelow uncovered_rule before e
     → BreaksNoRule before e
-unfolding Breaks
-none_before_end before e goes_on none = none_more before e uncovered_rule none (not_end before e goes_on)
+unfolding Breaks BreaksUncovered
+none_before_end before e goes_on none = none_more before e uncovered_rule none
+    (λ broken. both_ways (is_finish e) goes_on broken.0)
 
 -- without a box no pixel is looked at
 pub none_without_box : (before : List Event) (e : Event) → raster_before before ≡ None → NoneBelow outside_rule before e
     → BreaksNoRule before e
-unfolding Breaks
+unfolding Breaks BreaksOutside BreaksUncovered
 none_without_box before e is none =
-    none_more before e uncovered_rule (none_more before e outside_rule none (no_box_outside before e is))
-    (no_box_uncovered before e is)
+    none_more before e uncovered_rule (none_more before e outside_rule none (λ broken. rw is at broken))
+    (λ broken. rw is at broken.1)
 
 -- there is a sheet exactly where there is a box
 pub box_there : (sheet : Option Sheet) (before : List Event) → IsSheetAfter sheet before

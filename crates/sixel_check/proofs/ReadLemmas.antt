@@ -30,28 +30,24 @@ use Rattle.sixel_check.proofs.StandLemmas.{begun_goes_on, whole_events}
 
 starts : (e : Event) (more : List Event) → AreBegun (e ∷ more) ⊎ AreWhole (e ∷ more) → is_start e ≡ true
 starts (Start eight parameters) more h = refl
-starts (Step command) more h = elim h [ inl begun ↦ absurd begun | inr whole ↦ absurd whole ]
-starts (Finish eight) more h = elim h [ inl begun ↦ absurd begun | inr whole ↦ absurd whole ]
+starts _ more h = elim h [ inl begun ↦ absurd begun | inr whole ↦ absurd whole ]
 
 some_front : (events : List Event) → (events ≡ [] → ⊥) → AreFront events → AreBegun events ⊎ AreWhole events
 some_front events some h = elim h [ inl none ↦ absurd (some none) | inr rest ↦ rest ]
 
 step_next : (e : Event) (more : List Event) → AreSteps (e ∷ more) → is_start e ≡ false
-step_next (Start eight parameters) more h = absurd h
 step_next (Step command) more h = refl
-step_next (Finish eight) more h = absurd h
+step_next _ more h = absurd h
 
 rest_next : (e : Event) (more : List Event) → AreRest (e ∷ more) → is_start e ≡ false
 rest_next (Start eight parameters) more h = absurd h
-rest_next (Step command) more h = refl
-rest_next (Finish eight) more h = refl
+rest_next _ more h = refl
 
 steps_split : (xs : List Event) (e : Event) (ys : List Event) → AreSteps (xs ++ e ∷ ys)
     → AreSteps xs × (is_start e ≡ false)
 steps_split [] e ys h = (tt, step_next e ys h)
-steps_split (Start eight parameters ∷ xs) e ys h = absurd h
 steps_split (Step command ∷ xs) e ys h = steps_split xs e ys h
-steps_split (Finish eight ∷ xs) e ys h = absurd h
+steps_split _ e ys h = absurd h
 
 not_empty : (xs : List Event) (e : Event) (ys : List Event) → xs ++ e ∷ ys ≡ [] → ⊥
 not_empty [] e ys h = cc
@@ -60,16 +56,15 @@ not_empty (x ∷ xs) e ys h = cc
 rest_split : (xs : List Event) (e : Event) (ys : List Event) → AreRest (xs ++ e ∷ ys)
     → AreSteps xs × (is_start e ≡ false)
 rest_split [] e ys h = (tt, rest_next e ys h)
-rest_split (Start eight parameters ∷ xs) e ys h = absurd h
 rest_split (Step command ∷ xs) e ys h = rest_split xs e ys h
 rest_split (Finish eight ∷ xs) e ys h = absurd (not_empty xs e ys h)
+rest_split _ e ys h = absurd h
 
 begun_split : (x : Event) (xs : List Event) (e : Event) (ys : List Event)
     → AreBegun (x ∷ (xs ++ e ∷ ys)) ⊎ AreWhole (x ∷ (xs ++ e ∷ ys)) → AreBegun (x ∷ xs) × (is_start e ≡ false)
 begun_split (Start eight parameters) xs e ys h =
     elim h [ inl begun ↦ steps_split xs e ys begun | inr whole ↦ rest_split xs e ys whole ]
-begun_split (Step command) xs e ys h = elim h [ inl begun ↦ absurd begun | inr whole ↦ absurd whole ]
-begun_split (Finish eight) xs e ys h = elim h [ inl begun ↦ absurd begun | inr whole ↦ absurd whole ]
+begun_split _ xs e ys h = elim h [ inl begun ↦ absurd begun | inr whole ↦ absurd whole ]
 
 -- what follows in a front is expected
 expected_next : (seen : List Placed) (e : Event) (ys : List Event) → AreFront (events_of seen ++ e ∷ ys)

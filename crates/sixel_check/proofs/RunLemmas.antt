@@ -1,21 +1,19 @@
 -- What the first point outside tells of a command: whether it breaks a rule, and that its run may be painted.
-use Rattle.std.proofs.Common.{◌≡◌, ◌≢◌, ◌==◌, ℕ, ◌+◌, ◌*◌, ◌-◌, ◌^◌, ◌<◌, ◌≤◌, true, ◌&&◌, not, Option, Some, None}
-use Rattle.std.proofs.Common.{List, [], ◌∷◌, ◌++◌, nat_lt, refl, sym, subst, min, ◌∙◌, arith}
-use Rattle.std.specs.Prelude.{IsSomeAnd}
+use Rattle.std.proofs.Common.{◌≡◌, ◌≢◌, ◌==◌, ℕ, ◌+◌, ◌*◌, ◌-◌, ◌^◌, ◌<◌, ◌≤◌, ◌&&◌, not, Option, Some, None}
+use Rattle.std.proofs.Common.{List, [], ◌∷◌, ◌++◌, nat_lt, refl, min, ◌∙◌, arith}
 use Rattle.std.specs.Int.{bit_at}
 use Rattle.std.proofs.lemmas.Bool.{agree_below_at, and_parts, eqb-true, ltb-true, ne_eqb, not_from_false}
 use Rattle.std.proofs.lemmas.Bool.{true_from_ne_false}
 use Rattle.sixel_grammar.specs.declared.command.Event.{Event}
-use Rattle.sixel_picture.specs.Events.{Attributes, bits_of, columns_of, is_finish}
+use Rattle.sixel_picture.specs.Events.{Attributes, bits_of, columns_of}
 use Rattle.sixel_picture.specs.Geometry.{band, column, falls, touches}
 use Rattle.sixel_picture.specs.Positions.{any_below}
-use Rattle.sixel_picture.specs.Rules.{BreaksOutside, BreaksUncovered, FallsOutside, IsFirstPoint, StaysBlank, known}
-use Rattle.sixel_picture.specs.Rules.{raster_before}
+use Rattle.sixel_picture.specs.Rules.{FallsOutside, IsFirstPoint, known}
 use Rattle.sixel_picture.specs.Sheets.{Sheet, painted_sheet}
 use Rattle.sixel_picture.proofs.CoverLemmas.{covers_under, passes_below}
 use Rattle.sixel_check.specs.Judging.{IsDrawn}
 use Rattle.sixel_check.specs.Outside.{IsFirstIfAny, PaintsOutside}
-use Rattle.sixel_check.specs.Verdicts.{IsFirstPixel, capped}
+use Rattle.sixel_check.specs.Verdicts.{capped}
 use Rattle.sixel_check.proofs.BlankLemmas.{small}
 use Rattle.sixel_check.proofs.DrawnLemmas.{drawn_run}
 
@@ -43,42 +41,6 @@ falls_first before e a o h =
     (FallsOutside before e a)
     (λ x y p. record { painted = p.painted; outside = p.outside })
     (λ x y p. record { painted = p.painted; outside = p.outside }) o h
-
--- the first point of a box that is there
-pub first_in_box : (P : Attributes → ℕ → ℕ → Type 0) (box : Option Attributes) (a : Attributes) (pixel : ℕ × ℕ)
-    → box ≡ Some a → IsFirstIfAny (P a) (Some pixel) → IsFirstPixel (λ x y. IsSomeAnd box (λ b. P b x y)) (Some pixel)
-first_in_box P box a pixel is h =
-    subst (λ (o : Option Attributes). IsFirstPixel (λ x y. IsSomeAnd o (λ b. P b x y)) (Some pixel)) (sym is) h
-
--- ---- the rules
-
-pub breaks_outside : (before : List Event) (e : Event) (a : Attributes) (pixel : ℕ × ℕ) → raster_before before ≡ Some a
-    → IsFirstIfAny (FallsOutside before e a) (Some pixel) → BreaksOutside before e
-unfolding BreaksOutside
-breaks_outside before e a pixel is h = rw is (h.0, h.1, (h.2).holds)
-
-pub keeps_inside : (before : List Event) (e : Event) (a : Attributes) → raster_before before ≡ Some a
-    → IsFirstIfAny (FallsOutside before e a) None → BreaksOutside before e → ⊥
-unfolding BreaksOutside
-keeps_inside before e a is h broken = let point = rw is at broken in h (point.0) (point.1) (point.2)
-
-pub no_box_outside : (before : List Event) (e : Event) → raster_before before ≡ None → BreaksOutside before e → ⊥
-unfolding BreaksOutside
-no_box_outside before e is broken = rw is at broken
-
-pub breaks_uncovered : (before : List Event) (e : Event) (a : Attributes) (pixel : ℕ × ℕ) → is_finish e ≡ true
-    → raster_before before ≡ Some a → IsFirstIfAny (StaysBlank before a) (Some pixel) → BreaksUncovered before e
-unfolding BreaksUncovered
-breaks_uncovered before e a pixel end is h = (end, rw is (h.0, h.1, (h.2).holds))
-
-pub keeps_covered : (before : List Event) (e : Event) (a : Attributes) → raster_before before ≡ Some a
-    → IsFirstIfAny (StaysBlank before a) None → BreaksUncovered before e → ⊥
-unfolding BreaksUncovered
-keeps_covered before e a is h broken = let point = rw is at (broken.1) in h (point.0) (point.1) (point.2)
-
-pub no_box_uncovered : (before : List Event) (e : Event) → raster_before before ≡ None → BreaksUncovered before e → ⊥
-unfolding BreaksUncovered
-no_box_uncovered before e is broken = rw is at (broken.1)
 
 -- ---- a run that paints inside the box alone
 

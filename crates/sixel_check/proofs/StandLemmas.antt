@@ -3,10 +3,13 @@ use Rattle.std.proofs.Common.{◌≡◌, ◌||◌, ◌&&◌, Bool, true, false, 
 use Rattle.std.proofs.Common.{List, [], ◌∷◌, ◌++◌, sym, ◌∙◌, ap, subst, refl}
 use Rattle.std.specs.Prelude.{if◌then◌else◌}
 use Rattle.std.specs.List.{AllByRecursion, list_any}
-use Rattle.std.proofs.lemmas.Bool.{and_parts, both_ways}
+use Rattle.std.proofs.lemmas.Bool.{and_parts, both_ways, not-true}
+use Rattle.std.proofs.lemmas.List.Folds.{list_any-append}
+use Rattle.std.proofs.Math.Bool.{or-false}
 use Rattle.sixel_grammar.specs.Document.{AreRest, AreWhole, events_of}
 use Rattle.sixel_grammar.specs.Faults.{AreBegun, AreFront, AreSteps}
 use Rattle.sixel_grammar.specs.Spelling.{IsSpellable}
+use Rattle.sixel_grammar.proofs.Pieces.{all-append}
 use Rattle.sixel_grammar.specs.declared.command.Event.{Event}
 use Rattle.sixel_grammar.specs.declared.command.Event.TheVariants.{Start, Step, Finish}
 use Rattle.sixel_grammar.specs.declared.command.Placed.{Placed}
@@ -22,38 +25,28 @@ use Rattle.sixel_check.proofs.JudgeLemmas.{events_push}
 
 pub steps_go_on : (events : List Event) → AreSteps events → list_any is_finish events ≡ false
 steps_go_on [] m = refl
-steps_go_on (Start eight parameters ∷ more) m = absurd m
 steps_go_on (Step command ∷ more) m = steps_go_on more m
-steps_go_on (Finish eight ∷ more) m = absurd m
+steps_go_on _ m = absurd m
 
 pub begun_goes_on : (events : List Event) → AreBegun events → list_any is_finish events ≡ false
-begun_goes_on [] m = absurd m
 begun_goes_on (Start eight parameters ∷ more) m = steps_go_on more m
-begun_goes_on (Step command ∷ more) m = absurd m
-begun_goes_on (Finish eight ∷ more) m = absurd m
+begun_goes_on _ m = absurd m
 
 rest_ends : (events : List Event) → AreRest events → list_any is_finish events ≡ true
-rest_ends [] m = absurd m
-rest_ends (Start eight parameters ∷ more) m = absurd m
 rest_ends (Step command ∷ more) m = rest_ends more m
 rest_ends (Finish eight ∷ more) m = refl
+rest_ends _ m = absurd m
 
 -- a whole list has its end
 pub whole_ended : (events : List Event) → AreWhole events → list_any is_finish events ≡ true
-whole_ended [] m = absurd m
 whole_ended (Start eight parameters ∷ more) m = rest_ends more m
-whole_ended (Step command ∷ more) m = absurd m
-whole_ended (Finish eight ∷ more) m = absurd m
-
-none_ended : (events : List Event) → events ≡ [] → list_any is_finish events ≡ false
-none_ended [] e = refl
-none_ended (d ∷ ds) e = cc
+whole_ended _ m = absurd m
 
 -- a front in which the end came is whole
 pub front_whole : (events : List Event) → AreFront events → list_any is_finish events ≡ true → AreWhole events
 front_whole events m h =
     elim m [
-      | inl none ↦ absurd (both_ways (list_any is_finish events) (none_ended events none) h)
+      | inl none ↦ absurd (both_ways (list_any is_finish events) (ap (list_any is_finish) none) h)
       | inr some ↦ elim some [
         | inl begun ↦ absurd (both_ways (list_any is_finish events) (begun_goes_on events begun) h)
         | inr whole ↦ whole
@@ -65,16 +58,13 @@ steps_push : (events : List Event) (e : Event) → AreSteps events → is_start 
 steps_push [] (Start eight parameters) m s = cc
 steps_push [] (Step command) m s = inl tt
 steps_push [] (Finish eight) m s = inr refl
-steps_push (Start eight parameters ∷ more) e m s = absurd m
 steps_push (Step command ∷ more) e m s = steps_push more e m s
-steps_push (Finish eight ∷ more) e m s = absurd m
+steps_push _ e m s = absurd m
 
 begun_push : (events : List Event) (e : Event) → AreBegun events → is_start e ≡ false
     → AreBegun (events ++ e ∷ []) ⊎ AreWhole (events ++ e ∷ [])
-begun_push [] e m s = absurd m
 begun_push (Start eight parameters ∷ more) e m s = steps_push more e m s
-begun_push (Step command ∷ more) e m s = absurd m
-begun_push (Finish eight ∷ more) e m s = absurd m
+begun_push _ e m s = absurd m
 
 -- an expected event goes on with the front
 front_push : (events : List Event) (e : Event) → AreFront events → list_any is_finish events ≡ false
@@ -90,31 +80,21 @@ front_push events e m h s some =
 
 front_first : (e : Event) → is_start e ≡ true → AreFront (e ∷ [])
 front_first (Start eight parameters) h = inr (inl tt)
-front_first (Step command) h = cc
-front_first (Finish eight) h = cc
+front_first _ h = cc
 
 -- ---- one event more
-
-spellable_push : (events : List Event) (e : Event) → AllByRecursion IsSpellable events → IsSpellable e
-    → AllByRecursion IsSpellable (events ++ e ∷ [])
-spellable_push [] e each h = (h, tt)
-spellable_push (d ∷ ds) e each h = (each.0, spellable_push ds e each.1 h)
 
 pub whole_events : (seen : List Placed) → list_any is_finish (events_of seen) ≡ is_whole seen
 whole_events [] = refl
 whole_events (p ∷ ps) = ap (λ (b : Bool). is_finish p.event || b) (whole_events ps)
-
-is_not : (b : Bool) → not b ≡ true → b ≡ false
-is_not true h = cc
-is_not false h = refl
 
 front_next : (seen : List Placed) (p : Placed) → AreFront (events_of seen) → IsTrue (expects seen p.event)
     → AreFront (events_of seen ++ p.event ∷ [])
 front_next [] p front h = front_first p.event h
 front_next (q ∷ qs) p front h =
     let parts = and_parts (not (is_whole (q ∷ qs))) (not (is_start p.event)) h in
-    front_push (events_of (q ∷ qs)) p.event front (whole_events (q ∷ qs) ∙ is_not (is_whole (q ∷ qs)) parts.0)
-    (is_not (is_start p.event) parts.1) (λ e. cc)
+    front_push (events_of (q ∷ qs)) p.event front (whole_events (q ∷ qs) ∙ not-true (is_whole (q ∷ qs)) parts.0)
+    (not-true (is_start p.event) parts.1) (λ e. cc)
 
 -- ---- how far the events have come
 
@@ -134,25 +114,16 @@ whole_of : (seen : List Placed) → is_whole_at (progress_of seen) ≡ is_whole 
 whole_of [] = refl
 whole_of (q ∷ qs) = whole_two (is_whole (q ∷ qs))
 
-or_none : (b : Bool) → (b || false) ≡ b
-or_none true = refl
-or_none false = refl
-
-whole_step : (a b c d : Bool) → (a || b) ≡ false → (b ≡ false → c ≡ d) → (a || c) ≡ d
-whole_step true b c d h k = cc
-whole_step false b c d h k = k h
-
 whole_push : (seen : List Placed) (p : Placed) → is_whole seen ≡ false → is_whole (seen ++ p ∷ []) ≡ is_finish p.event
-whole_push [] p h = or_none (is_finish p.event)
-whole_push (q ∷ qs) p h =
-    whole_step (is_finish q.event) (is_whole qs) (is_whole (qs ++ p ∷ [])) (is_finish p.event) h (whole_push qs p)
+whole_push seen p h =
+    list_any-append (λ q. is_finish q.event) seen (p ∷ []) ∙ rw h (or-false (is_finish p.event))
 
 progress_push : (seen : List Placed) (p : Placed) → IsTrue (expects seen p.event)
     → progress_of (seen ++ p ∷ []) ≡ progress_with p.event
 progress_push [] p h = ap (λ (b : Bool). if b then Whole else Begun) (whole_push [] p refl)
 progress_push (q ∷ qs) p h =
     let parts = and_parts (not (is_whole (q ∷ qs))) (not (is_start p.event)) h in
-    ap (λ (b : Bool). if b then Whole else Begun) (whole_push (q ∷ qs) p (is_not (is_whole (q ∷ qs)) parts.0))
+    ap (λ (b : Bool). if b then Whole else Begun) (whole_push (q ∷ qs) p (not-true (is_whole (q ∷ qs)) parts.0))
 
 -- ---- where a checker stands
 
@@ -191,7 +162,7 @@ stands_push old new first seen p f expected spellable s judges far =
       far ∙ sym (progress_push seen p may),
       subst AreFront (sym (events_push seen p)) (front_next seen p s.2 may),
       subst (AllByRecursion IsSpellable) (sym (events_push seen p))
-          (spellable_push (events_of seen) p.event s.3 spellable),
+          (all-append IsSpellable (events_of seen) (p.event ∷ []) s.3 (spellable, tt)),
     )
 
 -- where the end came, the events are whole

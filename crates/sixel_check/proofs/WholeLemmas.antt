@@ -1,7 +1,6 @@
 -- On whole lists of events in which no rule is broken.
-use Rattle.std.proofs.Common.{◌≡◌, ◌==◌, ◌&&◌, ◌*◌, ◌/◌, ◌%◌, ℕ, ◌<◌, Bool, true}
-use Rattle.std.proofs.Common.{Option, Some, None, List, length, get_or, map, ◌∙◌, ap}
-use Rattle.std.proofs.Common.{refl}
+use Rattle.std.proofs.Common.{◌≡◌, ◌==◌, ◌&&◌, ◌*◌, ◌/◌, ◌%◌, ℕ, ◌<◌, Bool, true, Option, Some, None, List, length}
+use Rattle.std.proofs.Common.{get_or, map, ◌∙◌, ap, refl}
 use Rattle.std.specs.Prelude.{IfSome, IsSome, is_some, nat_lt}
 use Rattle.std.specs.List.{list_all}
 use Rattle.std.specs.Option.{option_and_then}
@@ -51,7 +50,8 @@ register_good : (s : Sheet) (events : List Event) (xs : List ℕ) (i : ℕ) → 
 register_good s events xs i d c e lt =
     c (i % s.width) (i / s.width) (get_or xs i 0) (register_there s events xs i d e lt)
 
-coloured : (r : ℕ) (o : Option Definition) → IfSome o (IsGood r) → IsSome o → is_some (option_and_then colour_by o) ≡ true
+coloured : (r : ℕ) (o : Option Definition) → IfSome o (IsGood r) → IsSome o
+    → is_some (option_and_then colour_by o) ≡ true
 coloured r None h k = cc
 coloured r (Some d) h k = ap is_some (given (colour_by d) h.1).1
 

@@ -1,5 +1,5 @@
 -- What a check of bytes answers.
-use Rattle.std.specs.Prelude.{◌≡◌, ◌++◌, ◌∷◌, [], ℕ, List, Option, IfSome, IsTrue, Result, Ok, Err}
+use Rattle.std.specs.Prelude.{◌++◌, ℕ, List, Option, IfSome, IsTrue, Result, Ok, Err}
 use Rattle.std.specs.Option.{option_to_list}
 use Rattle.sixel_grammar.specs.Document.{Document, events_of}
 use Rattle.sixel_grammar.specs.Reading.{Explains, ExplainsAlways}

@@ -1,5 +1,5 @@
 -- What a judge of events knows after those that it has seen, as long as no rule is broken.
-use Rattle.std.specs.Prelude.{◌≡◌, ◌<◌, ◌*◌, ℕ, Bool, false, Option, Some, None, IsTrue, IfSome, IsSome, List, length}
+use Rattle.std.specs.Prelude.{◌≡◌, ◌<◌, ◌*◌, ℕ, false, Option, Some, None, IsTrue, IfSome, IsSome, List, length}
 use Rattle.std.specs.Prelude.{is_some, slice_index_or}
 use Rattle.sixel_grammar.specs.declared.command.Event.{Event}
 use Rattle.sixel_grammar.specs.declared.command.Placed.{Placed}

@@ -1,5 +1,5 @@
 -- What one event that breaks no rule does to the notes.
-use Rattle.std.specs.Prelude.{◌&&◌, ◌+◌, ◌<◌, ℕ, Bool, true, Option, Some, None, List, IfSome, nat_lt, slice_set}
+use Rattle.std.specs.Prelude.{◌+◌, ◌<◌, ℕ, Bool, true, Option, Some, None, List, IfSome, nat_lt, slice_set}
 use Rattle.std.specs.Prelude.{if◌then◌else◌}
 use Rattle.std.specs.Option.{option_and_then, option_map_or, option_or}
 use Rattle.sixel_grammar.specs.declared.command.Event.{Event}
