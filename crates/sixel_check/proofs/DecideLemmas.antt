@@ -32,12 +32,12 @@ use Rattle.sixel_check.proofs.VerdictLemmas.{numbered}
 -- ---- the two rules on points
 
 -- what holds where one test passes and the other fails
-decided_by : (P : Type 0) (b c : Bool) → (b ≡ true → c ≡ false → P) → (P → b ≡ true) → (P → c ≡ false) → Decided P
+unfoldable pub decided_by : (P : Type 0) (b c : Bool) → (b ≡ true → c ≡ false → P) → (P → b ≡ true) → (P → c ≡ false) → Decided P
 decided_by P true false make passes fails = inl (make refl refl)
 decided_by P true true make passes fails = inr (λ p. let no : true ≡ false = fails p in cc)
 decided_by P false c make passes fails = inr (λ p. let no : false ≡ true = passes p in cc)
 
-falls_left : (before : List Event) (e : Event) (x y : ℕ) → falls before e x y ≡ true
+pub falls_left : (before : List Event) (e : Event) (x y : ℕ) → falls before e x y ≡ true
     → (x < column 0 before + columns_of 0 e) × (y < 6 * band before + 6)
 unfolding falls touches
 falls_left before e x y h =
@@ -46,7 +46,7 @@ falls_left before e x y h =
     let bit : under.bit < 6 = under.below in
     (under.to, omega (arith, row, bit))
 
-falls_searchable : (before : List Event) (e : Event) (a : Attributes) → Searchable (FallsOutside before e a)
+unfoldable pub falls_searchable : (before : List Event) (e : Event) (a : Attributes) → Searchable (FallsOutside before e a)
 falls_searchable before e a = record {
   width = column 0 before + columns_of 0 e;
   height = 6 * band before + 6;
@@ -56,7 +56,7 @@ falls_searchable before e a = record {
   above = λ x y f. (falls_left before e x y f.painted).1;
 }
 
-blank_searchable : (before : List Event) (a : Attributes) → Searchable (StaysBlank before a)
+unfoldable pub blank_searchable : (before : List Event) (a : Attributes) → Searchable (StaysBlank before a)
 blank_searchable before a = record {
   width = a.width;
   height = a.height;
@@ -72,7 +72,7 @@ FirstOf P o =
     ((x : ℕ) × (y : ℕ) × IsFirstPoint (λ x y. IsSomeAnd o (λ a. P a x y)) x y)
     × IsSomeAnd o (λ a. (x : ℕ) × (y : ℕ) × P a x y)
 
-first_of : (P : Attributes → ℕ → ℕ → Type 0) (o : Option Attributes) → ((a : Attributes) → Searchable (P a))
+unfoldable pub first_of : (P : Attributes → ℕ → ℕ → Type 0) (o : Option Attributes) → ((a : Attributes) → Searchable (P a))
     → FirstOf P o ⊎ ¬ IsSomeAnd o (λ a. (x : ℕ) × (y : ℕ) × P a x y)
 first_of P None s = inr (λ none. none)
 first_of P (Some a) s = elim (first_point (P a) (s a)) [
@@ -80,35 +80,35 @@ first_of P (Some a) s = elim (first_point (P a) (s a)) [
   | inr none ↦ inr (λ p. none p.0 p.1 p.2)
 ]
 
-outside_first : (before : List Event) (e : Event)
+unfoldable pub outside_first : (before : List Event) (e : Event)
     → FirstOf (FallsOutside before e) (raster_before before) ⊎ ¬ BreaksOutside before e
 unfolding BreaksOutside
 outside_first before e = first_of (FallsOutside before e) (raster_before before) (falls_searchable before e)
 
-blank_first : (before : List Event) → FirstOf (StaysBlank before) (raster_before before)
+unfoldable pub blank_first : (before : List Event) → FirstOf (StaysBlank before) (raster_before before)
     ⊎ ¬ IsSomeAnd (raster_before before) (λ a. (x : ℕ) × (y : ℕ) × StaysBlank before a x y)
 blank_first before = first_of (StaysBlank before) (raster_before before) (blank_searchable before)
 
-outside_decided : (before : List Event) (e : Event) → Decided (BreaksOutside before e)
+unfoldable pub outside_decided : (before : List Event) (e : Event) → Decided (BreaksOutside before e)
 unfolding BreaksOutside
 outside_decided before e = elim (outside_first before e) [ inl f ↦ inl f.1 | inr none ↦ inr none ]
 
-blank_somewhere : (before : List Event)
+unfoldable pub blank_somewhere : (before : List Event)
     → Decided (IsSomeAnd (raster_before before) (λ a. (x : ℕ) × (y : ℕ) × StaysBlank before a x y))
 blank_somewhere before = elim (blank_first before) [ inl f ↦ inl f.1 | inr none ↦ inr none ]
 
-both_decided : (P Q : Type 0) → Decided P → Decided Q → Decided (P × Q)
+unfoldable pub both_decided : (P Q : Type 0) → Decided P → Decided Q → Decided (P × Q)
 both_decided P Q (inl p) (inl q) = inl (p, q)
 both_decided P Q (inl p) (inr q) = inr (λ h. q h.1)
 both_decided P Q (inr p) q = inr (λ h. p h.0)
 
-uncovered_decided : (before : List Event) (e : Event) → Decided (BreaksUncovered before e)
+unfoldable pub uncovered_decided : (before : List Event) (e : Event) → Decided (BreaksUncovered before e)
 unfolding BreaksUncovered
 uncovered_decided before e = both_decided _ _ (decide_true (is_finish e)) (blank_somewhere before)
 
 -- ---- the least rule of an event
 
-rule_decided : (registers n : ℕ) (before : List Event) (e : Event) → Decided (Breaks registers n before e)
+unfoldable pub rule_decided : (registers n : ℕ) (before : List Event) (e : Event) → Decided (Breaks registers n before e)
 unfolding Breaks
 rule_decided registers n before e =
     decide_either (n == raster_first_rule) _ _ (decide_true _)
@@ -156,7 +156,7 @@ pixel_of registers _ before e h = (None, refl)
 abbrev LeastAt : ℕ → List Event → ℕ → Type 0
 LeastAt registers events i = LeastBelow (λ n. HoldsAtPosition (Breaks registers n) events i) (suc last_rule)
 
-held_decided : (registers n : ℕ) (events : List Event) (i : ℕ) (o : Option Event) → slice_get events i ≡ o
+unfoldable pub held_decided : (registers n : ℕ) (events : List Event) (i : ℕ) (o : Option Event) → slice_get events i ≡ o
     → Decided (HoldsAtPosition (Breaks registers n) events i)
 held_decided registers n events i None is = inr (λ h. let bad : Some h.item ≡ None = sym h.here ∙ is in cc)
 held_decided registers n events i (Some e) is = elim (rule_decided registers n (take i events) e) [
@@ -167,7 +167,7 @@ held_decided registers n events i (Some e) is = elim (rule_decided registers n (
       not (subst (Breaks registers n (take i events)) item h.holds))
 ]
 
-position_decided : (registers : ℕ) (events : List Event) (i : ℕ)
+unfoldable pub position_decided : (registers : ℕ) (events : List Event) (i : ℕ)
     → LeastAt registers events i ⊎ ((n : ℕ) → ¬ HoldsAtPosition (Breaks registers n) events i)
 position_decided registers events i =
     elim (least_below (λ n. HoldsAtPosition (Breaks registers n) events i)
@@ -181,7 +181,7 @@ position_decided registers events i =
       ])
     ]
 
-broken_decided : (registers : ℕ) (events : List Event) (i : ℕ) → Decided (LeastAt registers events i)
+unfoldable pub broken_decided : (registers : ℕ) (events : List Event) (i : ℕ) → Decided (LeastAt registers events i)
 broken_decided registers events i = elim (position_decided registers events i) [
   | inl f ↦ inl f
   | inr none ↦ inr (λ f. none f.number f.holds)
@@ -212,11 +212,23 @@ place_of : (placed : List Placed) (i : ℕ) → i < length placed
 place_of placed i lt =
     let p = item_there placed i lt in (p.0.place, ap (option_map (λ (p : Placed). p.place)) p.1)
 
-pub verdict_exists : (registers : ℕ) (placed : List Placed) → (v : Verdict) × IsVerdict registers placed v
+-- the first event that breaks a rule, or none does
+unfoldable pub broken_or_none : (registers : ℕ) (events : List Event)
+    → LeastBelow (LeastAt registers events) (length events) ⊎ BreaksNone registers last_rule events
 unfolding BreaksNone
+broken_or_none registers events =
+    elim (least_below (LeastAt registers events) (broken_decided registers events) (length events)) [
+      | inl f ↦ inl f
+      | inr none ↦ inr (λ n le i h. elim (position_decided registers events i) [
+        | inl g ↦ none i (holds_within (Breaks registers n) events i h) g
+        | inr not ↦ not n h
+      ])
+    ]
+
+pub verdict_exists : (registers : ℕ) (placed : List Placed) → (v : Verdict) × IsVerdict registers placed v
 verdict_exists registers placed =
     let events : List Event = events_of placed in
-    elim (least_below (LeastAt registers events) (broken_decided registers events) (length events)) [
+    elim (broken_or_none registers events) [
       | inl f ↦
           let i : ℕ = f.number in
           let rule = least_rule registers events i f.holds in
@@ -236,14 +248,5 @@ verdict_exists registers placed =
               },
             ),
           )
-      | inr none ↦ (
-        Portable (picture_left registers events),
-        (
-          (λ n le i h. elim (position_decided registers events i) [
-            | inl g ↦ none i (holds_within (Breaks registers n) events i h) g
-            | inr not ↦ not n h
-          ]),
-          refl,
-        ),
-      )
+      | inr none ↦ (Portable (picture_left registers events), (none, refl))
     ]

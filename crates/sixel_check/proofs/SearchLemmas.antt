@@ -12,11 +12,11 @@ use Rattle.sixel_picture.specs.Rules.{IsFirstPoint, is_before}
 abbrev pub Decided : Type 0 → Type 0
 Decided P = P ⊎ ¬ P
 
-pub decide_true : (b : Bool) → Decided (IsTrue b)
+unfoldable pub decide_true : (b : Bool) → Decided (IsTrue b)
 decide_true true = inl refl
 decide_true false = inr (λ h. cc)
 
-pub decide_either : (b : Bool) (P Q : Type 0) → Decided P → Decided Q → Decided (MatchBool b P Q)
+unfoldable pub decide_either : (b : Bool) (P Q : Type 0) → Decided P → Decided Q → Decided (MatchBool b P Q)
 decide_either true P Q p q = p
 decide_either false P Q p q = q
 
@@ -27,7 +27,7 @@ pub record LeastBelow (P : ℕ → Type 0) (k : ℕ) : Type 0 where
   pub holds : P number
   pub least : (m : ℕ) → m < number → ¬ P m
 
-least_here : (P : ℕ → Type 0) (k : ℕ) → ((n : ℕ) → n < k → ¬ P n) → Decided (P k)
+unfoldable pub least_here : (P : ℕ → Type 0) (k : ℕ) → ((n : ℕ) → n < k → ¬ P n) → Decided (P k)
     → LeastBelow P (suc k) ⊎ ((n : ℕ) → n < suc k → ¬ P n)
 least_here P k none (inl p) = inl (record { number = k; below = omega arith; holds = p; least = none })
 least_here P k none (inr not) = inr (λ n lt p. split n lt p (n == k) refl)
@@ -39,14 +39,14 @@ least_here P k none (inr not) = inr (λ n lt p. split n lt p (n == k) refl)
         below : (n : ℕ) → n < suc k → (n == k) ≡ false → n < k
         below n lt e = omega (arith, lt, eqb-false n k e)
 
-least_more : (P : ℕ → Type 0) (k : ℕ) → Decided (P k) → LeastBelow P k ⊎ ((n : ℕ) → n < k → ¬ P n)
+unfoldable pub least_more : (P : ℕ → Type 0) (k : ℕ) → Decided (P k) → LeastBelow P k ⊎ ((n : ℕ) → n < k → ¬ P n)
     → LeastBelow P (suc k) ⊎ ((n : ℕ) → n < suc k → ¬ P n)
 least_more P k here (inl f) =
     let low : f.number < k = f.below in
     inl (record { number = f.number; below = omega arith; holds = f.holds; least = f.least })
 least_more P k here (inr none) = least_here P k none here
 
-pub least_below : (P : ℕ → Type 0) → ((n : ℕ) → Decided (P n)) → (k : ℕ)
+unfoldable pub least_below : (P : ℕ → Type 0) → ((n : ℕ) → Decided (P n)) → (k : ℕ)
     → LeastBelow P k ⊎ ((n : ℕ) → n < k → ¬ P n)
 least_below P decide zero = inr (λ n lt p. omega (arith, lt))
 least_below P decide (suc k) = least_more P k (decide k) (least_below P decide k)
@@ -61,19 +61,19 @@ pub record Searchable (P : ℕ → ℕ → Type 0) : Type 0 where
   pub left : (x y : ℕ) → P x y → x < width
   pub above : (x y : ℕ) → P x y → y < height
 
-in_row : (P : ℕ → ℕ → Type 0) (s : Searchable P) (y : ℕ) → LeastBelow (λ x. P x y) s.width ⊎ ((x : ℕ) → ¬ P x y)
+unfoldable pub in_row : (P : ℕ → ℕ → Type 0) (s : Searchable P) (y : ℕ) → LeastBelow (λ x. P x y) s.width ⊎ ((x : ℕ) → ¬ P x y)
 in_row P s y = elim (least_below (λ x. P x y) (λ x. s.decide x y) s.width) [
   | inl f ↦ inl f
   | inr none ↦ inr (λ x p. none x (s.left x y p) p)
 ]
 
-row_decided : (P : ℕ → ℕ → Type 0) (s : Searchable P) (y : ℕ) → Decided (LeastBelow (λ x. P x y) s.width)
+unfoldable pub row_decided : (P : ℕ → ℕ → Type 0) (s : Searchable P) (y : ℕ) → Decided (LeastBelow (λ x. P x y) s.width)
 row_decided P s y = elim (in_row P s y) [
   | inl f ↦ inl f
   | inr none ↦ inr (λ f. none f.number f.holds)
 ]
 
-none_before : (P : ℕ → ℕ → Type 0) (s : Searchable P) (y : ℕ)
+pub none_before : (P : ℕ → ℕ → Type 0) (s : Searchable P) (y : ℕ)
     → ((v : ℕ) → v < y → ¬ LeastBelow (λ x. P x v) s.width) → (f : LeastBelow (λ x. P x y) s.width)
     → (u v : ℕ) → IsTrue (is_before u v f.number y) → ¬ P u v
 none_before P s y rows f u v earlier p = elim (or_cases (nat_lt v y) _ earlier) [
@@ -86,7 +86,7 @@ none_before P s y rows f u v earlier p = elim (or_cases (nat_lt v y) _ earlier) 
       f.least u (ltb-true u f.number parts.1) (subst (λ (row : ℕ). P u row) (eqb-true v y parts.0) p)
 ]
 
-pub first_point : (P : ℕ → ℕ → Type 0) → Searchable P → ((x : ℕ) × (y : ℕ) × IsFirstPoint P x y) ⊎ ((x y : ℕ) → ¬ P x y)
+unfoldable pub first_point : (P : ℕ → ℕ → Type 0) → Searchable P → ((x : ℕ) × (y : ℕ) × IsFirstPoint P x y) ⊎ ((x y : ℕ) → ¬ P x y)
 first_point P s = elim (least_below (λ y. LeastBelow (λ x. P x y) s.width) (row_decided P s) s.height) [
   | inl f ↦ inl (
     f.holds.number,
