@@ -18,6 +18,7 @@ use Rattle.sixel_picture.specs.Rules.{BreaksOutside, breaks_box_size, breaks_ras
 use Rattle.sixel_picture.specs.Rules.{breaks_repeat_zero, breaks_unselected, definition_of, known}
 use Rattle.sixel_picture.specs.Rules.{register_at}
 use Rattle.sixel_picture.specs.Sheets.{Sheet, blank_sheet, painted_sheet}
+use Rattle.sixel_picture.proofs.CoverLemmas.{idle_falls}
 use Rattle.sixel_picture.proofs.StepLemmas.{definition_push, register_push}
 use Rattle.sixel_check.specs.declared.notes.Notes.{Notes}
 use Rattle.sixel_check.specs.Breaches.{BreaksNoRule}
@@ -25,7 +26,7 @@ use Rattle.sixel_check.specs.Judging.{AreColoured, AreNotesAfter, IsDrawn, IsUnd
 use Rattle.sixel_check.specs.Outside.{PaintsOutside}
 use Rattle.sixel_check.specs.Notes.{known_in}
 use Rattle.sixel_check.proofs.BlankLemmas.{small}
-use Rattle.sixel_check.proofs.DrawnLemmas.{drawn_first, drawn_idle, idle_falls, undrawn_push}
+use Rattle.sixel_check.proofs.DrawnLemmas.{drawn_first, drawn_idle, undrawn_push}
 use Rattle.sixel_check.proofs.NoteLemmas.{keeps, known_below, known_is}
 use Rattle.sixel_check.proofs.RunLemmas.{RunFits, run_fits, drawn_capped}
 use Rattle.sixel_check.proofs.SteadyLemmas.{defined_there}

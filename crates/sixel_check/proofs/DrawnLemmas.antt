@@ -2,10 +2,7 @@
 use Rattle.std.proofs.Common.{◌≡◌, ℕ, ◌+◌, ◌*◌, ◌/◌, ◌%◌, ◌^◌, ◌<◌, Bool, true, false, ◌||◌, arith, Option, Some, None}
 use Rattle.std.proofs.Common.{List, [], ◌∷◌, ◌++◌, refl, sym, ap, ap₂, ◌∙◌}
 use Rattle.std.specs.Prelude.{IsTrue, is_some, if◌then◌else◌}
-use Rattle.std.specs.Int.{bit_at}
 use Rattle.std.specs.Option.{option_or}
-use Rattle.std.proofs.lemmas.Bool.{false_from_ne_true}
-use Rattle.std.proofs.lemmas.Nat.Bits.{bit_at_cat_low, bit_at-zero}
 use Rattle.sixel_grammar.specs.declared.command.Event.{Event}
 use Rattle.sixel_grammar.specs.declared.command.Event.TheVariants.{Step}
 use Rattle.sixel_grammar.specs.declared.command.Command.TheVariants.{Sixel, Repeat}
@@ -15,38 +12,10 @@ use Rattle.sixel_picture.specs.Pictures.{is_side}
 use Rattle.sixel_picture.specs.Positions.{any_at, any_below, earliest, last_at, last_below}
 use Rattle.sixel_picture.specs.Rules.{is_covered, known, raster_before, register_at}
 use Rattle.sixel_picture.specs.Sheets.{Sheet, blank_sheet, cell, painted_sheet}
-use Rattle.sixel_picture.proofs.CoverLemmas.{lies_under}
+use Rattle.sixel_picture.proofs.CoverLemmas.{idle_covered, idle_register}
 use Rattle.sixel_picture.proofs.SheetLemmas.{cell-blank_sheet, cell-painted_sheet, length_rows}
 use Rattle.sixel_picture.proofs.StepLemmas.{covered_push, raster_push, register_push}
 use Rattle.sixel_check.specs.Judging.{IsDrawn, IsUndrawn}
-
--- ---- events that paint nothing
-
-low_clear : (bits k : ℕ) → bits % 64 ≡ 0 → k < 6 → bit_at bits k ≡ 0
-low_clear bits k clear low =
-    let whole : bits ≡ bits / 64 * 2 ^ 6 + 0 = omega arith in
-    ap (λ (n : ℕ). bit_at n k) whole ∙ bit_at_cat_low (bits / 64) 6 0 k low ∙ bit_at-zero k
-
-clear_covers : (left count line bits x y : ℕ) → bits % 64 ≡ 0 → covers left count line 1 bits x y ≡ false
-clear_covers left count line bits x y clear =
-    false_from_ne_true _ (λ h.
-    let u = lies_under left count line bits x y h in
-    let set : bit_at bits u.bit ≡ 1 = u.set in
-    let unset : bit_at bits u.bit ≡ 0 = low_clear bits u.bit clear u.below in
-    absurd (omega arith))
-
--- an event without a set bit of the six paints no point
-pub idle_falls : (before : List Event) (e : Event) (x y : ℕ) → bits_of e % 64 ≡ 0 → falls before e x y ≡ false
-unfolding falls touches
-idle_falls before e x y h = clear_covers (column 0 before) (columns_of 0 e) (band before) (bits_of e) x y h
-
-pub idle_covered : (before : List Event) (e : Event) (x y : ℕ) → bits_of e % 64 ≡ 0
-    → is_covered (before ++ e ∷ []) x y ≡ is_covered before x y
-idle_covered before e x y h = covered_push before e x y ∙ rw (idle_falls before e x y h) refl
-
-pub idle_register : (before : List Event) (e : Event) (x y : ℕ) → bits_of e % 64 ≡ 0
-    → register_at (before ++ e ∷ []) x y ≡ register_at before x y
-idle_register before e x y h = register_push before e x y ∙ rw (idle_falls before e x y h) refl
 
 -- only data commands have set bits
 pub no_data_bits : (e : Event) → is_data_command e ≡ false → bits_of e ≡ 0

@@ -1,10 +1,10 @@
 -- The bits of a column, and the mask of a band's registers.
-use Rattle.std.proofs.Common.{◌≡◌, ℕ, zero, suc, List, [], ◌∷◌, map, ◌+◌, ◌*◌, ◌%◌, ◌^◌, ◌<◌, ◌≤◌, Bool, true, false}
+use Rattle.std.proofs.Common.{◌≡◌, ℕ, List, [], ◌∷◌, map, ◌+◌, ◌*◌, ◌%◌, ◌^◌, ◌<◌, ◌≤◌, Bool, true, false}
 use Rattle.std.proofs.Common.{not, ◌&&◌, ◌||◌, cond, refl, sym, ap, ◌∙◌, add-one, arith}
 use Rattle.std.specs.Prelude.{◌==◌, nat_le, bit_or, sum_by, if◌then◌else◌}
 use Rattle.std.specs.Int.{bit_at, w16}
 use Rattle.std.specs.List.{list_any}
-use Rattle.std.proofs.lemmas.Bool.{and_parts, eqb-true, eqb-false, eq-eqb, leb-true, or_right}
+use Rattle.std.proofs.lemmas.Bool.{agree_below_at, and_parts, eqb-true, eqb-false, eq-eqb, leb-true, or_right}
 use Rattle.std.proofs.Math.Nat.{two-pow-succ}
 use Rattle.std.proofs.lemmas.List.{map-append}
 use Rattle.std.proofs.lemmas.List.Folds.{list_any-append}
@@ -80,13 +80,7 @@ column_has p band register x =
 
 -- the bit of a row, in a byte
 pub weight_is : (k : ℕ) → k < 6 → 1 * 2 ^ k % 256 ≡ 2 ^ k
-weight_is zero h = refl
-weight_is (suc zero) h = refl
-weight_is (suc (suc zero)) h = refl
-weight_is (suc (suc (suc zero))) h = refl
-weight_is (suc (suc (suc (suc zero)))) h = refl
-weight_is (suc (suc (suc (suc (suc zero))))) h = refl
-weight_is (suc (suc (suc (suc (suc (suc k)))))) h = absurd (omega arith)
+weight_is k h = eqb-true _ _ (agree_below_at (λ i. 1 * 2 ^ i % 256 == 2 ^ i) (λ i. true) 6 k refl h)
 
 -- the bits of a register in the first rows of a column
 abbrev pub bits_above : PictureValue → ℕ → ℕ → ℕ → ℕ → ℕ

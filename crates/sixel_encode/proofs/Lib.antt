@@ -13,7 +13,6 @@ pub mod Stands
 pub mod Drawn
 pub mod Pixels
 pub mod Bands
-pub mod Canvas
 pub mod Opening
 pub mod Whole
 pub mod Written

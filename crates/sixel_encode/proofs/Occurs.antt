@@ -47,33 +47,39 @@ band_used registers p band h =
 
 -- ---- at least one
 
+-- the register of a pixel of a band occurs there
+pub pixel_occurs : (p : PictureValue) (band r x k : ℕ) → x < p.width → k < 6 → has_pixel p band r x k ≡ true
+    → occurs p band r ≡ true
+pixel_occurs p band r x k l m here =
+    occurs_is p band r
+    ∙ any_range p.width 0 x (λ u. not (column_bits p band r u == 0)) (omega arith) (omega arith)
+    (sym (column_has p band r x) ∙ any_range 6 0 k (has_pixel p band r x) (omega arith) (omega arith) here)
+
 any_some : (q : ℕ → Bool) (rs : List ℕ) → list_any q rs ≡ true → 1 ≤ length rs
 any_some q [] h = cc h
 any_some q (r ∷ rs) h = omega arith
 
--- the register of the first pixel of a band occurs there
-first_occurs : (p : PictureValue) (band r : ℕ) → 0 < p.width → has_pixel p band r 0 0 ≡ true → occurs p band r ≡ true
-first_occurs p band r some here =
-    occurs_is p band r
-    ∙ any_range p.width 0 0 (λ x. not (column_bits p band r x == 0)) (omega arith) (omega arith)
-    (sym (column_has p band r 0) ∙ any_range 6 0 0 (has_pixel p band r 0) (omega arith) (omega arith) here)
+-- the register of a pixel of a band is among those of the band, with what passes of it
+pub own_listed : (registers : ℕ) (p : PictureValue) (band x k : ℕ) (q : ℕ → Bool) → Parted registers p
+    → x < p.width → k < 6 → 6 * band + k < p.height → q (register_of p x (6 * band + k)) ≡ true
+    → list_any q (band_registers p band) ≡ true
+unfolding band_registers
+own_listed registers p band x k q h l m inside passes =
+    let own = register_of p x (6 * band + k) in
+    let used : own < registers = (pixel_used registers p h x (6 * band + k) l inside).under in
+    let entries : length p.palette ≡ registers = h.entries in
+    any_filter (occurs p band) q (below (length p.palette))
+    ∙ any_range (length p.palette) 0 own (λ r. occurs p band r && q r) (omega arith) (omega arith)
+    (and_from _ _ (pixel_occurs p band own x k l m
+    (and_from _ _ (lt-ltb (6 * band + k) p.height inside) (eq-eqb own own refl))) passes)
 
 -- a register occurs in each band
 pub band_some : (registers : ℕ) (p : PictureValue) (band : ℕ) → Parted registers p → band < bands p
     → 1 ≤ length (band_registers p band)
-unfolding band_registers
 band_some registers p band h l =
-    let own = register_of p 0 (6 * band + 0) in
     let some : 0 < p.width = omega (arith, h.some_width) in
-    let inside : 6 * band + 0 < p.height = omega arith in
-    let here : has_pixel p band own 0 0 ≡ true =
-    and_from _ _ (lt-ltb (6 * band + 0) p.height inside) (eq-eqb own own refl) in
-    let used : own < registers = (pixel_used registers p h 0 (6 * band + 0) some inside).under in
-    let entries : length p.palette ≡ registers = h.entries in
-    any_some (λ r. true) (filter (occurs p band) (below (length p.palette)))
-    (any_filter (occurs p band) (λ r. true) (below (length p.palette))
-    ∙ any_range (length p.palette) 0 own (λ r. occurs p band r && true) (omega arith) (omega arith)
-    (and_from _ _ (first_occurs p band own some here) refl))
+    any_some (λ r. true) (band_registers p band)
+    (own_listed registers p band 0 0 (λ r. true) h some (omega arith) (omega arith) refl)
 
 -- ---- no more than the palette has entries
 

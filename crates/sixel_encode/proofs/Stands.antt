@@ -1,6 +1,6 @@
 -- What stands before an event of a canonical list.
 use Rattle.std.proofs.Common.{◌≡◌, ℕ, ◌+◌, Bool, true, false, ◌||◌, cond, Option, Some, None, List, [], ◌∷◌, ◌++◌, refl}
-use Rattle.std.proofs.Common.{sym, ap, ◌∙◌}
+use Rattle.std.proofs.Common.{sym, ap, ◌∙◌, subst, append_assoc, append-nil}
 use Rattle.std.specs.Prelude.{◌==◌, if◌then◌else◌}
 use Rattle.std.specs.Option.{option_map}
 use Rattle.std.proofs.lemmas.Bool.{eq-eqb}
@@ -11,9 +11,9 @@ use Rattle.sixel_picture.specs.declared.colour.Parts.{Parts}
 use Rattle.sixel_picture.specs.declared.colour.Parts.TheVariants.{Rgb, Hls}
 use Rattle.sixel_picture.specs.Colours.{palette_at}
 use Rattle.sixel_picture.specs.Pictures.{PictureValue, register_of}
-use Rattle.sixel_picture.specs.Events.{Definition, Attributes, columns_of, bits_of, is_next_line, is_finish, raster_of}
+use Rattle.sixel_picture.specs.Events.{Definition, Attributes, bits_of, is_next_line, is_finish, raster_of}
 use Rattle.sixel_picture.specs.Events.{select_of, named_by, definition_where, is_in_box}
-use Rattle.sixel_picture.specs.Geometry.{band, column, touches, falls}
+use Rattle.sixel_picture.specs.Geometry.{band, falls}
 use Rattle.sixel_picture.specs.Rules.{known, definition_of, raster_before, register_at, is_covered, BreaksOutside}
 use Rattle.sixel_picture.specs.Rules.{BreaksUncovered, breaks_box_size, breaks_colour_value, breaks_ratio}
 use Rattle.sixel_picture.specs.Rules.{breaks_raster_first, breaks_raster_twice, breaks_redefined, breaks_register}
@@ -21,7 +21,8 @@ use Rattle.sixel_picture.specs.Rules.{breaks_repeat_zero, breaks_undefined, brea
 use Rattle.sixel_picture.proofs.PositionLemmas.{latest_push}
 use Rattle.sixel_picture.proofs.StepLemmas.{band_push, raster_push, definition_push, register_push, covered_push}
 use Rattle.sixel_picture.proofs.RuleLemmas.{Keeps}
-use Rattle.sixel_picture.proofs.CoverLemmas.{no_bits_cover}
+use Rattle.sixel_picture.proofs.CoverLemmas.{idle_falls}
+use Rattle.sixel_picture.proofs.KeepLemmas.{KeepEach, keep_append, keep_one}
 
 -- ---- the words
 
@@ -42,12 +43,32 @@ pub record Stands (p : PictureValue) (before : List Event) (line : ℕ) (done : 
   pub paints : (x y : ℕ) → register_at before x y ≡ (if done x y then Some (register_of p x y) else None)
   pub covers_done : (x y : ℕ) → is_covered before x y ≡ done x y
 
--- ---- one more event
+-- ---- events that keep the rules, and what is so after them
 
--- an event without bits paints nothing
-pub falls_quiet : (before : List Event) (e : Event) (x y : ℕ) → bits_of e ≡ 0 → falls before e x y ≡ false
-unfolding falls touches
-falls_quiet before e x y h = rw h (no_bits_cover (column 0 before) (columns_of 0 e) (band before) x y)
+pub record Ran (registers : ℕ) (S : List Event → Type 0) (before events : List Event) : Type 0 where
+  pub keeps : KeepEach registers before events
+  pub after : S (before ++ events)
+
+pub ran_none : {registers : ℕ} {S : List Event → Type 0} {before : List Event} → S before → Ran registers S before []
+unfolding KeepEach
+ran_none s = record { keeps = tt; after = rw append-nil s }
+
+pub ran_one : {registers : ℕ} {S : List Event → Type 0} {before : List Event} {e : Event} → Keeps registers before e
+    → S (before ++ e ∷ []) → Ran registers S before (e ∷ [])
+ran_one {registers} {S} {before} {e} k s = record { keeps = keep_one registers before e k; after = s }
+
+pub ran_join : {registers : ℕ} {S T : List Event → Type 0} {before xs ys : List Event} → Ran registers S before xs
+    → Ran registers T (before ++ xs) ys → Ran registers T before (xs ++ ys)
+ran_join {registers} {T = T} {before} {xs} {ys} f g = record {
+  keeps = keep_append registers before xs ys f.keeps g.keeps;
+  after = subst T (append_assoc before xs ys) g.after;
+}
+
+pub ran_as : {registers : ℕ} {S T : List Event → Type 0} {before xs : List Event} → Ran registers S before xs
+    → ((b : List Event) → S b → T b) → Ran registers T before xs
+ran_as {before = before} {xs = xs} f h = record { keeps = f.keeps; after = h (before ++ xs) f.after }
+
+-- ---- one more event
 
 paints_step : (b d : Bool) (k o : Option ℕ) (r : ℕ) → (b ≡ true → k ≡ Some r) → o ≡ (if d then Some r else None)
     → (if b then k else o) ≡ (if b || d then Some r else None)
@@ -77,14 +98,14 @@ pub stands_quiet : (p : PictureValue) (before : List Event) (e : Event) (line ne
     → line + cond (is_next_line e) 1 0 ≡ next →
     Stands p (before ++ e ∷ []) next done
 stands_quiet p before e line next done s bits raster define move =
-    stands_push p before e line next done (λ x y. false) s raster define move (λ x y. falls_quiet before e x y bits)
-    (λ x y h. cc h)
+    stands_push p before e line next done (λ x y. false) s raster define move
+    (λ x y. idle_falls before e x y (rw bits refl)) (λ x y h. cc h)
 
--- the points may be said in another way
-pub stands_same : (p : PictureValue) (before : List Event) (line : ℕ) (done also : ℕ → ℕ → Bool)
-    → Stands p before line done → ((x y : ℕ) → done x y ≡ also x y) → Stands p before line also
-stands_same p before line done also s h = record {
-  at_line = s.at_line;
+-- the line and the points may be said in another way
+pub stands_as : {p : PictureValue} {before : List Event} {l1 l2 : ℕ} {done also : ℕ → ℕ → Bool}
+    → Stands p before l1 done → l1 ≡ l2 → ((x y : ℕ) → done x y ≡ also x y) → Stands p before l2 also
+stands_as s e h = record {
+  at_line = s.at_line ∙ e;
   has_box = s.has_box;
   defines = s.defines;
   paints = λ x y. rw (← h x y) (s.paints x y);
@@ -133,3 +154,32 @@ keeps_in_box registers before e a box raster finish r5 r6 r7 r8 r9 r10 inside = 
       let f : is_in_box a k.0 k.1 ≡ false = (k.2).outside in cc (t, f));
   uncovered = λ h. (let k : false ≡ true = sym finish ∙ h.0 in cc k);
 }
+
+-- the same, where it paints nothing
+pub quiet_keeps : {registers : ℕ} {before : List Event} {e : Event} {a : Attributes} → raster_before before ≡ Some a
+    → bits_of e ≡ 0 → raster_of e ≡ None → is_finish e ≡ false → breaks_register registers e ≡ false
+    → breaks_colour_value e ≡ false → breaks_repeat_zero e ≡ false → breaks_redefined before e ≡ false
+    → Keeps registers before e
+unfolding breaks_unselected breaks_undefined
+quiet_keeps {registers} {before} {e} {a} box bits raster finish r5 r6 r7 r10 =
+    keeps_in_box registers before e a box raster finish r5 r6 r7 (rw bits refl) (rw bits refl) r10
+    (λ x y h. (let n : falls before e x y ≡ false = idle_falls before e x y (rw bits refl) in cc (n, h)))
+
+-- events of a canonical list that keep the rules, and what stands after them
+abbrev pub Passed : ℕ → PictureValue → List Event → List Event → ℕ → (ℕ → ℕ → Bool) → Type 0
+Passed registers p before events line done = Ran registers (λ b. Stands p b line done) before events
+
+pub passed_as : {registers : ℕ} {p : PictureValue} {before events : List Event} {l1 l2 : ℕ} {done also : ℕ → ℕ → Bool}
+    → Passed registers p before events l1 done → l1 ≡ l2 → ((x y : ℕ) → done x y ≡ also x y)
+    → Passed registers p before events l2 also
+passed_as s e h = ran_as s (λ b t. stands_as t e h)
+
+-- one event that paints nothing
+pub quiet_passed : {registers : ℕ} {p : PictureValue} {before : List Event} {e : Event} {line next : ℕ}
+    {done : ℕ → ℕ → Bool} → Stands p before line done → bits_of e ≡ 0 → raster_of e ≡ None → is_finish e ≡ false
+    → breaks_register registers e ≡ false → breaks_colour_value e ≡ false → breaks_repeat_zero e ≡ false
+    → breaks_redefined before e ≡ false → ((r : ℕ) → definition_where (λ q. q == r) e ≡ None)
+    → line + cond (is_next_line e) 1 0 ≡ next → Passed registers p before (e ∷ []) next done
+quiet_passed {p = p} {before} {e} {line} {next} {done} s bits raster finish r5 r6 r7 r10 define move =
+    ran_one (quiet_keeps s.has_box bits raster finish r5 r6 r7 r10)
+    (stands_quiet p before e line next done s bits raster define move)

@@ -28,10 +28,10 @@ use Rattle.sixel_picture.proofs.SheetLemmas.{rows_from_index}
 use Rattle.sixel_encode.specs.Canon.{below, bands, band_commands, define_commands, picture_commands, canon_commands}
 use Rattle.sixel_encode.specs.Canon.{canon_start, canon}
 use Rattle.sixel_encode.specs.Laws.{ListsBreakNoRule, ListsLeaveTheirPicture}
+use Rattle.sixel_picture.proofs.CoverLemmas.{idle_falls}
 use Rattle.sixel_picture.proofs.KeepLemmas.{KeepEach, keep_one, keep_append, keep_none}
-use Rattle.sixel_encode.proofs.Stands.{Stands, definition_by, box_of, stands_quiet, falls_quiet}
-use Rattle.sixel_encode.proofs.Bands.{Passed, passed_join}
-use Rattle.sixel_encode.proofs.Canvas.{is_above, bands_passed}
+use Rattle.sixel_encode.proofs.Stands.{Passed, Stands, box_of, definition_by, ran_as, ran_join, stands_quiet}
+use Rattle.sixel_encode.proofs.Bands.{bands_passed, is_above}
 use Rattle.sixel_encode.proofs.Opening.{Opened, defines_opened, opens_stands, raster, start_keeps, raster_keeps}
 use Rattle.sixel_encode.proofs.Opening.{raster_opens}
 use Rattle.sixel_encode.proofs.Parted.{Parted, parted}
@@ -47,17 +47,11 @@ middle p = map Step (define_commands p.palette ++ join_by (band_commands p) (Nex
 middle_passed : (registers : ℕ) (p : PictureValue) → Parted registers p
     → Passed registers p (front p) (middle p) (bands p - 1) (is_above p (bands p))
 middle_passed registers p h =
-    let opened : Opened registers p (front p) (map Step (define_commands p.palette))
-    (length p.palette) = defines_opened registers p (front p) h (raster_opens p) in
-    let stands : Stands p (front p ++ map Step (define_commands p.palette)) 0 (λ x y. false) = opens_stands p
-    (front p ++ map Step (define_commands p.palette)) opened.opens in
+    let opened : Opened registers p (front p) (map Step (define_commands p.palette)) (length p.palette) =
+    defines_opened registers p (front p) h (raster_opens p) in
+    let stands = ran_as opened (opens_stands p) in
     rw (map-append Step (define_commands p.palette) (join_by (band_commands p) (NextLine ∷ []) (below (bands p))))
-    (passed_join registers p (front p) (map Step (define_commands p.palette))
-    (map Step (join_by (band_commands p) (NextLine ∷ []) (below (bands p)))) 0 (bands p - 1) (λ x y. false)
-    (is_above p (bands p))
-    (record { keeps = opened.keeps; stands = stands })
-    (bands_passed (bands p) registers p (front p ++ map Step (define_commands p.palette))
-    (h) stands opened.opens.at_margin))
+    (ran_join stands (bands_passed (bands p) h stands.after (opened.after).at_margin))
 
 -- each pixel of the box lies in one of the bands
 box_above : (p : PictureValue) (x y : ℕ) → is_in_box (box_of p) x y ≡ true → is_above p (bands p) x y ≡ true
@@ -82,7 +76,7 @@ finish_keeps registers p before band s = record {
   undefined = refl;
   redefined = refl;
   outside = λ h. (let k = rw s.has_box at h in let f : falls before (Finish false) k.0 k.1
-      ≡ false = falls_quiet before (Finish false) k.0 k.1 refl in cc (f, (k.2).painted));
+      ≡ false = idle_falls before (Finish false) k.0 k.1 refl in cc (f, (k.2).painted));
   uncovered = λ h. (let k = rw s.has_box at h.1 in
       let t : is_covered before k.0 k.1 ≡ true = s.covers_done k.0 k.1
       ∙ box_above p k.0 k.1 (k.2).inside in cc (t, (k.2).blank));
@@ -101,7 +95,7 @@ lists_break_no_rule registers p picture =
         raster_keeps registers p h,
         keep_append registers (front p) (middle p) (Finish false ∷ []) m.keeps
             (keep_one registers (front p ++ middle p) (Finish false)
-            (finish_keeps registers p (front p ++ middle p) (bands p - 1) m.stands)),
+            (finish_keeps registers p (front p ++ middle p) (bands p - 1) m.after)),
       ),
     )
 
@@ -115,9 +109,6 @@ colour_back (Some (Hls h l s)) = refl
 
 palette_entry : (xs : List (Option Parts)) (i : ℕ) → i < length xs → get_or xs i None ≡ palette_at xs i
 palette_entry xs i l = sym (ap option_flatten (slice_get-get_or xs i None l))
-
-abbrev make : ℕ → ℕ → List (Option Parts) → List ℕ → PictureValue
-make w h palette registers = record { width = w; height = h; palette = palette; registers = registers }
 
 left_palette : (p : PictureValue) (events : List Event) (band : ℕ) (done : ℕ → ℕ → Bool) → Stands p events band done
     → p.palette ≡ palette_left (length p.palette) events
@@ -167,4 +158,4 @@ lists_leave_their_picture registers p picture =
     (is_above p (bands p)) = middle_passed registers p h in
     stands_left registers p (canon_start ∷ raster p ∷ (middle p ++ Finish false ∷ [])) (bands p - 1) h
     (stands_quiet p (front p ++ middle p) (Finish false) (bands p - 1) (bands p - 1)
-    (is_above p (bands p)) m.stands refl refl (λ q. refl) (omega arith))
+    (is_above p (bands p)) m.after refl refl (λ q. refl) (omega arith))

@@ -1,12 +1,17 @@
--- On the points that a run of columns covers, where a bit has one row.
-use Rattle.std.proofs.Common.{◌≡◌, ◌==◌, ℕ, zero, suc, ◌+◌, ◌*◌, ◌<◌, ◌≤◌, Bool, true, false, ◌&&◌, ◌||◌, nat_le}
-use Rattle.std.proofs.Common.{nat_lt, inl, inr, refl, sym, ap, ◌∙◌, arith}
+-- On the points that a run of columns covers, where a bit has one row, and on events that paint none.
+use Rattle.std.proofs.Common.{◌≡◌, ◌==◌, ℕ, zero, suc, ◌+◌, ◌*◌, ◌/◌, ◌%◌, ◌^◌, ◌<◌, ◌≤◌, Bool, true, false, ◌&&◌, ◌||◌}
+use Rattle.std.proofs.Common.{nat_le, nat_lt, inl, inr, List, [], ◌∷◌, ◌++◌, refl, sym, ap, ◌∙◌, arith}
+use Rattle.std.specs.Prelude.{if◌then◌else◌}
 use Rattle.std.specs.Int.{bit_at}
 use Rattle.std.proofs.lemmas.Bool.{and_from, and_parts, cases_lt, eq-eqb, eqb-true, false_from_ne_true, le-leb}
 use Rattle.std.proofs.lemmas.Bool.{leb-true, lt-ltb, ltb-true, or_left, or_right}
-use Rattle.std.proofs.lemmas.Nat.Bits.{bit_at-zero}
-use Rattle.sixel_picture.specs.Geometry.{covers}
+use Rattle.std.proofs.lemmas.Nat.Bits.{bit_at_cat_low, bit_at-zero}
+use Rattle.sixel_grammar.specs.declared.command.Event.{Event}
+use Rattle.sixel_picture.specs.Events.{bits_of, columns_of}
+use Rattle.sixel_picture.specs.Geometry.{band, column, covers, falls, touches}
 use Rattle.sixel_picture.specs.Positions.{any_below}
+use Rattle.sixel_picture.specs.Rules.{is_covered, register_at}
+use Rattle.sixel_picture.proofs.StepLemmas.{covered_push, register_push}
 
 -- some number below n passes
 pub record PassesBelow (n : ℕ) (p : ℕ → Bool) : Type 0 where
@@ -90,11 +95,27 @@ no_columns_cover left line bits x y =
     let to : x < left + 0 = u.to in
     absurd (omega arith))
 
--- nor does one without a set bit
-pub no_bits_cover : (left count line x y : ℕ) → covers left count line 1 0 x y ≡ false
-no_bits_cover left count line x y =
+-- nor does one without a set bit of the six
+pub no_bits_cover : (left count line bits x y : ℕ) → bits % 64 ≡ 0 → covers left count line 1 bits x y ≡ false
+no_bits_cover left count line bits x y clear =
     false_from_ne_true _ (λ h.
-    let u = lies_under left count line 0 x y h in
-    let set : bit_at 0 u.bit ≡ 1 = u.set in
-    let clear : bit_at 0 u.bit ≡ 0 = bit_at-zero u.bit in
+    let u = lies_under left count line bits x y h in
+    let set : bit_at bits u.bit ≡ 1 = u.set in
+    let whole : bits ≡ bits / 64 * 2 ^ 6 + 0 = omega arith in
+    let unset : bit_at bits u.bit ≡ 0 =
+    ap (λ (n : ℕ). bit_at n u.bit) whole ∙ bit_at_cat_low (bits / 64) 6 0 u.bit u.below ∙ bit_at-zero u.bit in
     absurd (omega arith))
+
+-- ---- events without a set bit of the six
+
+pub idle_falls : (before : List Event) (e : Event) (x y : ℕ) → bits_of e % 64 ≡ 0 → falls before e x y ≡ false
+unfolding falls touches
+idle_falls before e x y h = no_bits_cover (column 0 before) (columns_of 0 e) (band before) (bits_of e) x y h
+
+pub idle_covered : (before : List Event) (e : Event) (x y : ℕ) → bits_of e % 64 ≡ 0
+    → is_covered (before ++ e ∷ []) x y ≡ is_covered before x y
+idle_covered before e x y h = covered_push before e x y ∙ rw (idle_falls before e x y h) refl
+
+pub idle_register : (before : List Event) (e : Event) (x y : ℕ) → bits_of e % 64 ≡ 0
+    → register_at (before ++ e ∷ []) x y ≡ register_at before x y
+idle_register before e x y h = register_push before e x y ∙ rw (idle_falls before e x y h) refl
