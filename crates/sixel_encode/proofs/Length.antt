@@ -1,18 +1,18 @@
 -- How long a picture's text is at most.
 use Rattle.std.proofs.Common.{◌≡◌, ℕ, zero, suc, ◌+◌, ◌*◌, ◌<◌, ◌≤◌, Bool, true, false, cond, Option, Some, None, List}
 use Rattle.std.proofs.Common.{[], ◌∷◌, ◌++◌, length, replicate, decimal, refl, ap, ◌∙◌, arith, lit<, lit≤, le_trans}
-use Rattle.std.proofs.Common.{length-append, mul-le-mul_right, mul_assoc, mul-le-mul, suc-mul}
+use Rattle.std.proofs.Common.{length-append, mul-le-mul_right, mul_assoc, mul-le-mul, subst, suc-mul}
 use Rattle.std.specs.Fmt.{digits}
 use Rattle.std.specs.Prelude.{nat_lt, nat_le, flat_map, filter_map, if◌then◌else◌, IfSome, is_some}
 use Rattle.std.specs.Option.{option_map}
 use Rattle.std.specs.List.{join_by, range_with_len, cons_option, AllByRecursion}
-use Rattle.std.proofs.lemmas.Bool.{leb-true, ltb-false}
+use Rattle.std.proofs.lemmas.Bool.{cond_both, leb-true, ltb-false}
 use Rattle.std.proofs.lemmas.Fmt.{length-decimal-le}
 use Rattle.std.proofs.lemmas.List.{length-replicate}
 use Rattle.std.proofs.lemmas.List.Sums.{count_by-le-length}
-use Rattle.std.proofs.lemmas.List.FromFn.{length-map-range_with_len}
+use Rattle.std.proofs.lemmas.List.FromFn.{length-map-range_with_len, length-range_with_len}
 use Rattle.sixel_grammar.specs.declared.command.Command.{Command}
-use Rattle.sixel_grammar.specs.declared.command.Command.TheVariants.{Sixel, Repeat, Raster, Select, Define}
+use Rattle.sixel_grammar.specs.declared.command.Command.TheVariants.{Repeat, Raster, Select, Define}
 use Rattle.sixel_grammar.specs.declared.command.Command.TheVariants.{CarriageReturn, NextLine}
 use Rattle.sixel_grammar.specs.declared.command.Event.TheVariants.{Finish}
 use Rattle.sixel_grammar.specs.Lengths.{digit_count}
@@ -71,27 +71,19 @@ size_none : size [] ≡ 0
 unfolding commands_text
 size_none = refl
 
-sixels_size : (n b : ℕ) → size (replicate n (Sixel b)) ≡ n
-sixels_size n b = ap length (text-sixels n b) ∙ length-replicate n (63 + b)
-
-repeat_size : (n b : ℕ) → n ≤ 65535 → 4 ≤ n → size (Repeat n b ∷ []) ≤ n
-repeat_size n b h l =
+run_size : (r : Run) → r.count ≤ 65535 → size (run_commands r) ≤ r.count
+run_size r h =
+    cond_both (nat_le 4 r.count) _ _ (λ cs. size cs ≤ r.count)
+    (λ t. let l : 4 ≤ r.count = leb-true 4 r.count t in
     omega (
       arith,
-      size_cons (Repeat n b) [],
+      size_cons (Repeat r.count r.item) [],
       size_none,
-      decimal_within n h,
-      repeat_short n l,
-      length-append (decimal n) ((63 + b) ∷ []),
-    )
-
-run_step : (n b : ℕ) (t : Bool) → n ≤ 65535 → (t ≡ true → 4 ≤ n)
-    → size (if t then Repeat n b ∷ [] else replicate n (Sixel b)) ≤ n
-run_step n b true h l = repeat_size n b h (l refl)
-run_step n b false h l = omega (arith, sixels_size n b)
-
-run_size : (r : Run) → r.count ≤ 65535 → size (run_commands r) ≤ r.count
-run_size r h = run_step r.count r.item (nat_le 4 r.count) h (leb-true 4 r.count)
+      decimal_within r.count h,
+      repeat_short r.count l,
+      length-append (decimal r.count) ((63 + r.item) ∷ []),
+    ))
+    (λ t. omega (arith, ap length (text-sixels r.count r.item), length-replicate r.count (63 + r.item)))
 
 runs_size : (rs : List Run) → length (items_of rs) ≤ 65535 → size (flat_map run_commands rs) ≤ length (items_of rs)
 runs_size [] h = omega (arith, size_none)
@@ -105,14 +97,12 @@ runs_size (r ∷ rs) h =
 
 -- ---- a register
 
-without_step : (b : ℕ) (bs cs : List ℕ) (t : Bool) → length cs ≤ length bs
-    → length (if t then b ∷ cs else []) ≤ suc (length bs)
-without_step b bs cs true h = omega arith
-without_step b bs cs false h = omega arith
-
 without_length : (bs : List ℕ) → length (without_blanks bs) ≤ length bs
 without_length [] = lit≤ tt
-without_length (b ∷ bs) = without_step b bs (without_blanks bs) (has_bits (b ∷ bs)) (without_length bs)
+without_length (b ∷ bs) =
+    let rest : length (without_blanks bs) ≤ length bs = without_length bs in
+    cond_both (has_bits (b ∷ bs)) (b ∷ without_blanks bs) [] (λ cs. length cs ≤ suc (length bs)) (λ t. omega arith)
+    (λ t. omega arith)
 
 pub columns_length : (p : PictureValue) (band r : ℕ) → length (band_columns p band r) ≤ p.width
 unfolding band_columns
@@ -131,74 +121,67 @@ register_size p band r h w =
     let select : length (decimal r) ≤ 3 = three_digits r h in
     omega (arith, size_cons (Select r) (flat_map run_commands (runs columns)))
 
-return_size : (cs : List Command) → size (CarriageReturn ∷ cs) ≡ 1 + size cs
-return_size cs = size_cons CarriageReturn cs
+-- ---- what is joined by a command of one byte
 
-next_size : (cs : List Command) → size (NextLine ∷ cs) ≡ 1 + size cs
-next_size cs = size_cons NextLine cs
+-- of each, with that command, at most w bytes
+abbrev AreShort : (ℕ → List Command) → ℕ → List ℕ → Type 0
+AreShort f w xs = AllByRecursion (λ x. size (f x) + 1 ≤ w) xs
 
-others_size : (rs : List ℕ) (registers : ℕ) (p : PictureValue) (band : ℕ) → registers ≤ 1000 → p.width ≤ most_side
-    → AllByRecursion (IsUsed registers p) rs
-    → size (flat_map (λ r. CarriageReturn ∷ register_commands p band r) rs) ≤ length rs * (p.width + 5)
-others_size [] registers p band n w h = omega (arith, size_none)
-others_size (r ∷ rs) registers p band n w h =
-    let under : r < registers = (h.0).under in
-    let others = flat_map (λ r. CarriageReturn ∷ register_commands p band r) rs in
-    let one : size (register_commands p band r) ≤ p.width + 4 = register_size p band r (omega arith) w in
-    let rest : size others ≤ length rs * (p.width + 5) = others_size rs registers p band n w h.1 in
-    let both : size (CarriageReturn ∷ (register_commands p band r ++ others))
-    ≡ 1 + (size (register_commands p band r) + size others) =
-    return_size (register_commands p band r ++ others)
-    ∙ ap (λ m. 1 + m) (size_append (register_commands p band r) others) in
-    rw (suc-mul (length rs) (p.width + 5)) (omega arith)
+others_size : (f : ℕ → List Command) (c : Command) (w : ℕ) (xs : List ℕ) → length (fixed_command c) ≡ 1
+    → AreShort f w xs → size (flat_map (λ x. c ∷ f x) xs) ≤ length xs * w
+others_size f c w [] e h = omega (arith, size_none)
+others_size f c w (x ∷ xs) e h =
+    let others = flat_map (λ x. c ∷ f x) xs in
+    let one : size (f x) + 1 ≤ w = h.0 in
+    let rest : size others ≤ length xs * w = others_size f c w xs e h.1 in
+    rw (suc-mul (length xs) w) (omega (arith, e, size_cons c (f x ++ others), size_append (f x) others))
 
-registers_size : (rs : List ℕ) (registers : ℕ) (p : PictureValue) (band : ℕ) → registers ≤ 1000 → p.width ≤ most_side
-    → AllByRecursion (IsUsed registers p) rs → 1 ≤ length rs
-    → size (join_by (register_commands p band) (CarriageReturn ∷ []) rs) + 1 ≤ length rs * (p.width + 5)
-registers_size [] registers p band n w h k = absurd (omega arith)
-registers_size (r ∷ rs) registers p band n w h k =
-    let under : r < registers = (h.0).under in
-    let others = flat_map (λ r. CarriageReturn ∷ register_commands p band r) rs in
-    let one : size (register_commands p band r) ≤ p.width + 4 = register_size p band r (omega arith) w in
-    let rest : size others ≤ length rs * (p.width + 5) = others_size rs registers p band n w h.1 in
-    let both : size (register_commands p band r ++ others) ≡ size (register_commands p band r) + size others =
-    size_append (register_commands p band r) others in
-    rw (suc-mul (length rs) (p.width + 5)) (omega arith)
+joined_size : (f : ℕ → List Command) (c : Command) (w : ℕ) (xs : List ℕ) → length (fixed_command c) ≡ 1
+    → AreShort f w xs → 1 ≤ length xs → size (join_by f (c ∷ []) xs) + 1 ≤ length xs * w
+joined_size f c w [] e h k = absurd (omega arith)
+joined_size f c w (x ∷ xs) e h k =
+    let others = flat_map (λ x. c ∷ f x) xs in
+    let one : size (f x) + 1 ≤ w = h.0 in
+    let rest : size others ≤ length xs * w = others_size f c w xs e h.1 in
+    rw (suc-mul (length xs) w) (omega (arith, size_append (f x) others))
 
 -- ---- bands
+
+registers_short : (rs : List ℕ) (registers : ℕ) (p : PictureValue) (band : ℕ) → registers ≤ 1000
+    → p.width ≤ most_side → AllByRecursion (IsUsed registers p) rs
+    → AreShort (register_commands p band) (p.width + 5) rs
+registers_short [] registers p band n w h = tt
+registers_short (r ∷ rs) registers p band n w h =
+    let under : r < registers = (h.0).under in
+    let one : size (register_commands p band r) ≤ p.width + 4 = register_size p band r (omega arith) w in
+    (omega arith, registers_short rs registers p band n w h.1)
 
 band_size : (registers : ℕ) (p : PictureValue) (band : ℕ) → registers ≤ 1000 → Parted registers p → band < bands p
     → size (band_commands p band) + 1 ≤ entries_of p * (p.width + 5)
 unfolding band_commands
 band_size registers p band n h l =
     le_trans
-    (registers_size (band_registers p band) registers p band n h.most_width (band_used registers p band h)
+    (joined_size (register_commands p band) CarriageReturn (p.width + 5) (band_registers p band) refl
+    (registers_short (band_registers p band) registers p band n h.most_width (band_used registers p band h))
     (band_some registers p band h l))
     (mul-le-mul_right (p.width + 5) (band_length registers p band h))
 
-nexts_size : (n a registers : ℕ) (p : PictureValue) → registers ≤ 1000 → Parted registers p → a + n ≤ bands p
-    → size (flat_map (λ l. NextLine ∷ band_commands p l) (range_with_len a n)) ≤ n * (entries_of p * (p.width + 5))
-nexts_size zero a registers p m h l = omega (arith, size_none)
-nexts_size (suc n) a registers p m h l =
-    let under : a < bands p = omega arith in
-    let others = flat_map (λ l. NextLine ∷ band_commands p l) (range_with_len (a + 1) n) in
-    let one : size (band_commands p a) + 1 ≤ entries_of p * (p.width + 5) = band_size registers p a m h under in
-    let rest : size others ≤ n * (entries_of p * (p.width + 5)) = nexts_size n (a + 1) registers p m h (omega arith) in
-    let both : size (NextLine ∷ (band_commands p a ++ others)) ≡ 1 + (size (band_commands p a) + size others) =
-    next_size (band_commands p a ++ others) ∙ ap (λ m. 1 + m) (size_append (band_commands p a) others) in
-    rw (suc-mul n (entries_of p * (p.width + 5))) (omega arith)
+bands_short : (n a registers : ℕ) (p : PictureValue) → registers ≤ 1000 → Parted registers p → a + n ≤ bands p
+    → AreShort (band_commands p) (entries_of p * (p.width + 5)) (range_with_len a n)
+bands_short zero a registers p m h l = tt
+bands_short (suc n) a registers p m h l =
+    (band_size registers p a m h (omega arith), bands_short n (a + 1) registers p m h (omega arith))
 
-bands_size : (n registers : ℕ) (p : PictureValue) → registers ≤ 1000 → Parted registers p → n ≤ bands p
-    → size (join_by (band_commands p) (NextLine ∷ []) (below n)) ≤ n * (entries_of p * (p.width + 5))
-bands_size zero registers p m h l = omega (arith, size_none)
-bands_size (suc n) registers p m h l =
-    let under : 0 < bands p = omega arith in
-    let others = flat_map (λ l. NextLine ∷ band_commands p l) (range_with_len (0 + 1) n) in
-    let one : size (band_commands p 0) + 1 ≤ entries_of p * (p.width + 5) = band_size registers p 0 m h under in
-    let rest : size others ≤ n * (entries_of p * (p.width + 5)) = nexts_size n (0 + 1) registers p m h (omega arith) in
-    let both : size (band_commands p 0 ++ others) ≡ size (band_commands p 0) + size others =
-    size_append (band_commands p 0) others in
-    rw (suc-mul n (entries_of p * (p.width + 5))) (omega arith)
+bands_size : (registers : ℕ) (p : PictureValue) → registers ≤ 1000 → Parted registers p
+    → size (picture_commands p) + 1 ≤ bands p * (entries_of p * (p.width + 5))
+unfolding picture_commands
+bands_size registers p m h =
+    let some : 1 ≤ bands p = omega (arith, h.some_height) in
+    let long : length (below (bands p)) ≡ bands p = length-range_with_len 0 (bands p) in
+    subst (λ n. size (join_by (band_commands p) (NextLine ∷ []) (below (bands p))) + 1
+    ≤ n * (entries_of p * (p.width + 5))) long
+    (joined_size (band_commands p) NextLine (entries_of p * (p.width + 5)) (below (bands p)) refl
+    (bands_short (bands p) 0 registers p m h (omega arith)) (omega arith))
 
 -- ---- definitions
 
@@ -299,11 +282,10 @@ parts_size p =
 
 -- the text of a picture is no longer than the bound
 pub texts_are_short : (registers : ℕ) → registers ≤ 1000 → TextsAreShort registers
-unfolding picture_commands
 texts_are_short registers n p picture =
     let h : Parted registers p = parted registers p picture in
-    let bytes : size (join_by (band_commands p) (NextLine ∷ []) (below (bands p)))
-    ≤ bands p * (entries_of p * (p.width + 5)) = bands_size (bands p) registers p n h (omega arith) in
+    let bytes : size (picture_commands p) + 1 ≤ bands p * (entries_of p * (p.width + 5)) =
+    bands_size registers p n h in
     let times : bands p * entries_of p * (p.width + 5) ≡ bands p * (entries_of p * (p.width + 5)) =
     mul_assoc (bands p) (entries_of p) (p.width + 5) in
     omega (arith, parts_size p, raster_size p.width p.height h.most_width h.most_height, entries_size registers p n h)

@@ -3,7 +3,7 @@ use Rattle.std.proofs.Common.{◌≡◌, ℕ, zero, suc, ◌+◌, ◌<◌, ◌�
 use Rattle.std.proofs.Common.{List, [], ◌∷◌, ◌++◌, refl, ap, ◌∙◌, arith, add-one, eq-or-lt_of_le}
 use Rattle.std.specs.Prelude.{filter}
 use Rattle.std.specs.List.{range_with_len, list_any, AllByRecursion}
-use Rattle.std.proofs.lemmas.Bool.{or_left, or_right}
+use Rattle.std.proofs.lemmas.Bool.{cond_both, or_left, or_right}
 use Rattle.sixel_encode.specs.Canon.{below}
 
 range_then : (a n j : ℕ) → a + n ≡ j → range_with_len a (suc n) ≡ range_with_len a n ++ j ∷ []
@@ -68,15 +68,11 @@ pub any_filter : (p q : ℕ → Bool) (xs : List ℕ) → list_any q (filter p x
 any_filter p q [] = refl
 any_filter p q (x ∷ xs) = any_filter_step (p x) (q x) _ q x (filter p xs) refl (any_filter p q xs)
 
-filter_step : (P : ℕ → Type 0) (x : ℕ) (xs : List ℕ) (t : Bool) → (t ≡ true → P x) → AllByRecursion P xs
-    → AllByRecursion P (cond t (x ∷ xs) xs)
-filter_step P x xs true h k = (h refl, k)
-filter_step P x xs false h k = k
-
 -- what holds of each number below m that passes holds of each that is kept
 pub filter_range : (P : ℕ → Type 0) (p : ℕ → Bool) (n a m : ℕ) → a + n ≤ m → ((r : ℕ) → r < m → p r ≡ true → P r)
     → AllByRecursion P (filter p (range_with_len a n))
 filter_range P p zero a m l h = tt
 filter_range P p (suc n) a m l h =
-    filter_step P a (filter p (range_with_len (a + 1) n)) (p a) (h a (omega arith))
-    (filter_range P p n (a + 1) m (omega arith) h)
+    let rest = filter_range P p n (a + 1) m (omega arith) h in
+    cond_both (p a) (a ∷ filter p (range_with_len (a + 1) n)) (filter p (range_with_len (a + 1) n)) (AllByRecursion P)
+    (λ t. (h a (omega arith) t, rest)) (λ t. rest)

@@ -35,7 +35,8 @@ definition_by (Hls h l s) = record { system = 1; x = h; y = l; z = s }
 abbrev pub box_of : PictureValue → Attributes
 box_of p = record { pan = 1; pad = 1; width = p.width; height = p.height }
 
--- after so many next lines the picture's palette is defined, and of its pixels these are painted, each in its own register
+-- after so many next lines the picture's palette is defined, and of its pixels these are painted, each in its own
+-- register
 pub record Stands (p : PictureValue) (before : List Event) (line : ℕ) (done : ℕ → ℕ → Bool) : Type 0 where
   pub at_line : band before ≡ line
   pub has_box : raster_before before ≡ Some (box_of p)

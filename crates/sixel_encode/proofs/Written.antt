@@ -1,17 +1,18 @@
 -- Each event of a canonical list can be written.
-use Rattle.std.proofs.Common.{◌≡◌, ℕ, zero, suc, ◌+◌, ◌<◌, ◌≤◌, Bool, true, false, Option, Some, None, List, [], ◌∷◌}
+use Rattle.std.proofs.Common.{◌≡◌, ℕ, zero, suc, ◌+◌, ◌<◌, ◌≤◌, false, Option, Some, None, List, [], ◌∷◌}
 use Rattle.std.proofs.Common.{◌++◌, map, length, replicate, refl, sym, ap, ◌∙◌, subst, arith, lit≤, length-append}
-use Rattle.std.specs.Prelude.{nat_le, flat_map, if◌then◌else◌, IfSome}
+use Rattle.std.specs.Prelude.{nat_le, flat_map, IfSome}
 use Rattle.std.specs.Option.{option_map}
 use Rattle.std.specs.List.{join_by, cons_option, AllByRecursion}
-use Rattle.std.proofs.lemmas.Bool.{leb-true}
+use Rattle.std.proofs.lemmas.Bool.{cond_both, leb-true}
 use Rattle.std.proofs.lemmas.List.{length-replicate}
 use Rattle.sixel_grammar.specs.declared.command.Command.{Command}
-use Rattle.sixel_grammar.specs.declared.command.Command.TheVariants.{Sixel, Repeat, CarriageReturn, NextLine}
+use Rattle.sixel_grammar.specs.declared.command.Command.TheVariants.{Sixel, CarriageReturn, NextLine}
 use Rattle.sixel_grammar.specs.declared.command.Event.TheVariants.{Step, Finish}
 use Rattle.sixel_grammar.specs.Document.{AreRest, most_bytes}
 use Rattle.sixel_grammar.specs.FixedText.{CanWrite}
 use Rattle.sixel_grammar.proofs.FixedText.{fixed_document}
+use Rattle.sixel_grammar.proofs.Pieces.{all-append}
 use Rattle.sixel_picture.specs.declared.colour.Parts.{Parts}
 use Rattle.sixel_picture.specs.declared.colour.Parts.TheVariants.{Rgb, Hls}
 use Rattle.sixel_picture.specs.Colours.{palette_at, IsColour}
@@ -29,11 +30,6 @@ use Rattle.sixel_encode.proofs.Parted.{IsUsed, Parted, parted}
 -- each command can be written
 abbrev AreWritable : List Command → Type 0
 AreWritable cs = AllByRecursion (λ c. CanWrite (Step c)) cs
-
-all_append : {X : Type 0} (P : X → Type 0) (xs ys : List X) → AllByRecursion P xs → AllByRecursion P ys
-    → AllByRecursion P (xs ++ ys)
-all_append P [] ys h k = k
-all_append P (x ∷ xs) ys h k = (h.0, all_append P xs ys h.1 k)
 
 first_part : (P : ℕ → Type 0) (xs ys : List ℕ) → AllByRecursion P (xs ++ ys) → AllByRecursion P xs
 first_part P [] ys h = tt
@@ -58,11 +54,13 @@ item_within : (n b : ℕ) → 4 ≤ n → AllByRecursion (λ c. c ≤ 63) (repli
 item_within zero b l h = absurd (omega arith)
 item_within (suc n) b l h = h.0
 
-run_step : (n b : ℕ) (t : Bool) → n ≤ 65535 → AllByRecursion (λ c. c ≤ 63) (replicate n b) → (t ≡ true → 4 ≤ n)
-    → AreWritable (if t then Repeat n b ∷ [] else replicate n (Sixel b))
-run_step n b true l h k =
-    let small : b ≤ 63 = item_within n b (k refl) h in (record { is_event = (l, omega arith); spellable = small }, tt)
-run_step n b false l h k = sixels_writable n b h
+run_writable : (r : Run) → r.count ≤ 65535 → AllByRecursion (λ c. c ≤ 63) (replicate r.count r.item)
+    → AreWritable (run_commands r)
+run_writable r l h =
+    cond_both (nat_le 4 r.count) _ _ AreWritable
+    (λ t. let small : r.item ≤ 63 = item_within r.count r.item (leb-true 4 r.count t) h in
+    (record { is_event = (l, omega arith); spellable = small }, tt))
+    (λ t. sixels_writable r.count r.item h)
 
 runs_writable : (rs : List Run) → length (items_of rs) ≤ 65535 → AllByRecursion (λ c. c ≤ 63) (items_of rs)
     → AreWritable (flat_map run_commands rs)
@@ -71,21 +69,17 @@ runs_writable (r ∷ rs) l h =
     let items = replicate r.count r.item in
     let long : length (items ++ items_of rs) ≡ r.count + length (items_of rs) =
     length-append items (items_of rs) ∙ ap (λ n. n + length (items_of rs)) (length-replicate r.count r.item) in
-    all_append (λ c. CanWrite (Step c)) (run_commands r) (flat_map run_commands rs)
-    (run_step r.count r.item (nat_le 4 r.count) (omega arith) (first_part (λ c. c ≤ 63) items (items_of rs) h)
-    (leb-true 4 r.count))
+    all-append (λ c. CanWrite (Step c)) (run_commands r) (flat_map run_commands rs)
+    (run_writable r (omega arith) (first_part (λ c. c ≤ 63) items (items_of rs) h))
     (runs_writable rs (omega arith) (second_part (λ c. c ≤ 63) items (items_of rs) h))
 
 -- ---- a register
 
-without_step : (P : ℕ → Type 0) (b : ℕ) (cs : List ℕ) (t : Bool) → P b → AllByRecursion P cs
-    → AllByRecursion P (if t then b ∷ cs else [])
-without_step P b cs true h k = (h, k)
-without_step P b cs false h k = tt
-
 without_each : (P : ℕ → Type 0) (bs : List ℕ) → AllByRecursion P bs → AllByRecursion P (without_blanks bs)
 without_each P [] h = tt
-without_each P (b ∷ bs) h = without_step P b (without_blanks bs) (has_bits (b ∷ bs)) h.0 (without_each P bs h.1)
+without_each P (b ∷ bs) h =
+    cond_both (has_bits (b ∷ bs)) (b ∷ without_blanks bs) [] (AllByRecursion P) (λ t. (h.0, without_each P bs h.1))
+    (λ t. tt)
 
 map_each : (P : ℕ → Type 0) (f : ℕ → ℕ) (xs : List ℕ) → ((x : ℕ) → P (f x)) → AllByRecursion P (map f xs)
 map_each P f [] h = tt
@@ -116,7 +110,7 @@ rest_writable : (f : ℕ → List Command) (c : Command) (P : ℕ → Type 0) (r
 rest_writable f c P [] s h k = tt
 rest_writable f c P (r ∷ rs) s h k = (
   s,
-  all_append (λ c. CanWrite (Step c)) (f r) (flat_map (λ r. c ∷ f r) rs) (k r h.0)
+  all-append (λ c. CanWrite (Step c)) (f r) (flat_map (λ r. c ∷ f r) rs) (k r h.0)
       (rest_writable f c P rs s h.1 k),
 )
 
@@ -124,7 +118,7 @@ join_writable : (f : ℕ → List Command) (c : Command) (P : ℕ → Type 0) (r
     → AllByRecursion P rs → ((r : ℕ) → P r → AreWritable (f r)) → AreWritable (join_by f (c ∷ []) rs)
 join_writable f c P [] s h k = tt
 join_writable f c P (r ∷ rs) s h k =
-    all_append (λ c. CanWrite (Step c)) (f r) (flat_map (λ r. c ∷ f r) rs) (k r h.0) (rest_writable f c P rs s h.1 k)
+    all-append (λ c. CanWrite (Step c)) (f r) (flat_map (λ r. c ∷ f r) rs) (k r h.0) (rest_writable f c P rs s h.1 k)
 
 band_writable : (registers : ℕ) (p : PictureValue) (band : ℕ) → registers ≤ 65535 → Parted registers p
     → AreWritable (band_commands p band)
@@ -190,9 +184,9 @@ events_can_be_written registers n p picture =
       record { is_event = (lit≤ tt, (lit≤ tt, (lit≤ tt, tt))); spellable = omega arith },
       (
         record { is_event = (lit≤ tt, (lit≤ tt, (omega arith, (omega arith, tt)))); spellable = tt },
-        all_append CanWrite (map Step (define_commands p.palette ++ picture_commands p)) (Finish false ∷ [])
+        all-append CanWrite (map Step (define_commands p.palette ++ picture_commands p)) (Finish false ∷ [])
             (steps (define_commands p.palette ++ picture_commands p)
-            (all_append (λ c. CanWrite (Step c)) (define_commands p.palette) (picture_commands p) defines bits))
+            (all-append (λ c. CanWrite (Step c)) (define_commands p.palette) (picture_commands p) defines bits))
             (record { is_event = tt; spellable = tt }, tt),
       ),
     )

@@ -1,6 +1,6 @@
 -- Whole documents and their fronts are walked in one way alone.
-use Rattle.std.proofs.Common.{◌≡◌, ℕ, ◌+◌, ◌<◌, ◌≤◌, Bool, true, false, ltb, List, [], ◌∷◌, ◌++◌, length, Option, Some}
-use Rattle.std.proofs.Common.{None, refl, sym, ap, subst, ◌∙◌, append_assoc, arith, length-append, inl, inr}
+use Rattle.std.proofs.Common.{◌≡◌, ℕ, ◌+◌, ◌<◌, ◌≤◌, Bool, true, false, cond, ltb, List, [], ◌∷◌, ◌++◌, length, Option}
+use Rattle.std.proofs.Common.{Some, None, refl, sym, ap, subst, ◌∙◌, append_assoc, arith, length-append, inl, inr}
 use Rattle.std.specs.Prelude.{◌⊎◌, IsTrue}
 use Rattle.std.specs.List.{AllByRecursion}
 use Rattle.std.proofs.lemmas.List.{append-nil}
@@ -20,9 +20,10 @@ use Rattle.sixel_grammar.specs.Document.{Parses}
 use Rattle.sixel_grammar.specs.Fronts.{completed_at, IsViable}
 use Rattle.sixel_grammar.specs.Faults.{Form, NothingYet, Introducing, Parameters, LastSeparator, NoCommand}
 use Rattle.sixel_grammar.specs.Faults.{RepeatNumber, RasterFields, ColourFields, Terminating, Ended, EndsIn, AreSteps}
-use Rattle.sixel_grammar.specs.Faults.{AreBegun, IsClosed}
+use Rattle.sixel_grammar.specs.Faults.{AreBegun, IsClosed, is_idle}
 use Rattle.sixel_grammar.specs.Next.{begin, within, next_of}
-use Rattle.sixel_grammar.proofs.Walk.{Stamp, stamp, State, state, after, walk, walk-none, walk-then, idle, within-some}
+use Rattle.sixel_grammar.proofs.Walk.{Stamp, stamp, State, state, after, idle, walk, walk-append, walk-none, walk-then}
+use Rattle.sixel_grammar.proofs.Walk.{within-some}
 use Rattle.sixel_grammar.proofs.Walk.{number_walk, fields_walk, repeat-digits, raster-digits, raster-separators}
 use Rattle.sixel_grammar.proofs.Walk.{colour-digits, colour-separators, parameters-digits, parameters-separators}
 use Rattle.sixel_grammar.proofs.Walk.{is_data-bits, Ready, Rests, command-reaches}
@@ -45,33 +46,27 @@ filler_not_data b h = grind (arith, nat_tests)
 begin-filler : (b : ℕ) → is_filler b ≡ true → begin b ≡ Some (NoCommand, None)
 begin-filler b h = cond-false (is_data b) _ _ (filler_not_data b h) ∙ cond-true (is_filler b) _ _ h
 
-idle-filler : (n : ℕ) (s : List Stamp) (xs : List ℕ) → AreFiller xs → walk n (idle n s) xs ≡ idle (n + length xs) s
-idle-filler n s [] k = let z : n ≡ n + 0 = omega arith in ap (λ (j : ℕ). idle j s) z
-idle-filler n s (x ∷ xs) k =
+-- filler keeps a form in which nothing is open, and what opens next opens after it
+filler_walk : (f : Form) → is_idle f ≡ true → ((b : ℕ) → is_filler b ≡ true → within f b ≡ Some (f, None))
+    → (n : ℕ) (s : List Stamp) (xs : List ℕ) → AreFiller xs
+    → walk n (Some (state f n s)) xs ≡ Some (state f (n + length xs) s)
+filler_walk f is keeps n s [] k = let z : n ≡ n + 0 = omega arith in ap (λ (j : ℕ). Some (state f j s)) z
+filler_walk f is keeps n s (x ∷ xs) k =
     let z : n + 1 + length xs ≡ n + length (x ∷ xs) = omega arith in
-    ap (λ (w : Option State). walk (n + 1) w xs) (within-some n n s NoCommand NoCommand x None (begin-filler x k.0))
-    ∙ idle-filler (n + 1) s xs k.1
-    ∙ ap (λ (j : ℕ). idle j s) z
+    ap (λ (w : Option State). walk (n + 1) w xs)
+    (within-some n n s f f x None (keeps x k.0) ∙ ap (λ (t : Bool). Some (state f (cond t (n + 1) n) s)) is)
+    ∙ filler_walk f is keeps (n + 1) s xs k.1 ∙ ap (λ (j : ℕ). Some (state f j s)) z
+
+idle-filler : (n : ℕ) (s : List Stamp) (xs : List ℕ) → AreFiller xs → walk n (idle n s) xs ≡ idle (n + length xs) s
+idle-filler n s xs k = filler_walk NoCommand refl begin-filler n s xs k
 
 outside-filler : (n : ℕ) (xs : List ℕ) → AreFiller xs
     → walk n (Some (state NothingYet n [])) xs ≡ Some (state NothingYet (n + length xs) [])
-outside-filler n [] k = let z : n ≡ n + 0 = omega arith in ap (λ (j : ℕ). Some (state NothingYet j [])) z
-outside-filler n (x ∷ xs) k =
-    let z : n + 1 + length xs ≡ n + length (x ∷ xs) = omega arith in
-    ap (λ (w : Option State). walk (n + 1) w xs)
-    (within-some n n [] NothingYet NothingYet x None (cond-true (is_filler x) _ _ k.0))
-    ∙ outside-filler (n + 1) xs k.1
-    ∙ ap (λ (j : ℕ). Some (state NothingYet j [])) z
+outside-filler n xs k = filler_walk NothingYet refl (λ b t. cond-true (is_filler b) _ _ t) n [] xs k
 
 ended-filler : (n : ℕ) (s : List Stamp) (xs : List ℕ) → AreFiller xs
     → walk n (Some (state Ended n s)) xs ≡ Some (state Ended (n + length xs) s)
-ended-filler n s [] k = let z : n ≡ n + 0 = omega arith in ap (λ (j : ℕ). Some (state Ended j s)) z
-ended-filler n s (x ∷ xs) k =
-    let z : n + 1 + length xs ≡ n + length (x ∷ xs) = omega arith in
-    ap (λ (w : Option State). walk (n + 1) w xs)
-    (within-some n n s Ended Ended x None (cond-true (is_filler x) _ _ k.0))
-    ∙ ended-filler (n + 1) s xs k.1
-    ∙ ap (λ (j : ℕ). Some (state Ended j s)) z
+ended-filler n s xs k = filler_walk Ended refl (λ b t. cond-true (is_filler b) _ _ t) n s xs k
 
 -- ---- from a ready state
 
@@ -139,25 +134,31 @@ step_piece n st s filler text (Finish eight) r k spells more h = absurd h
 abbrev pub Settles : List Piece → ℕ → List Stamp → State → Type 0
 Settles ps n s u = Ready n u s × ((Some u ≡ idle n s) ⊎ ((j : ℕ) → IsClosed ps j → 0 < j))
 
-abbrev pub Leads : List Piece → ℕ → List Stamp → Option State → List Piece → Type 0
-Leads all n s w ps =
-    (u : State) × (walk n w (joined ps) ≡ Some u) × Settles all (n + length (joined ps)) (s ++ stamped_from n ps) u
+-- a fact on how many bytes were walked, on the events of pieces and on the state after them
+abbrev pub Fact : Type 1
+Fact = ℕ → List Stamp → Option State → Type 0
+
+abbrev pub HoldsAfter : Fact → ℕ → List Stamp → Option State → List Piece → Type 0
+HoldsAfter F n s w ps = F (n + length (joined ps)) (s ++ stamped_from n ps) (walk n w (joined ps))
 
 -- one piece, and then the others
-leads-more : (all ps : List Piece) (p : Piece) (n : ℕ) (s : List Stamp) (w : Option State) (v : State)
-    → walk n w (bytes_of p) ≡ Some v
-    → Leads all (n + length (bytes_of p)) (s ++ stamp (completed_at n p) (n + length p.filler) p.event ∷ []) (Some v) ps
-    → Leads all n s w (p ∷ ps)
-leads-more all ps p n s w v h l =
+holds-more : (F : Fact) (ps : List Piece) (p : Piece) (n : ℕ) (s : List Stamp) (w v : Option State)
+    → walk n w (bytes_of p) ≡ v
+    → HoldsAfter F (n + length (bytes_of p)) (s ++ stamp (completed_at n p) (n + length p.filler) p.event ∷ []) v ps
+    → HoldsAfter F n s w (p ∷ ps)
+holds-more F ps p n s w v h l =
     let e : n + length (bytes_of p) + length (joined ps) ≡ n + length (bytes_of p ++ joined ps) =
-    omega (arith, length-append (bytes_of p) (joined ps)) in (
-      l.0,
-      walk-then n (n + length (bytes_of p)) w (Some v) (Some l.0) (bytes_of p) (joined ps) refl h l.1,
-      subst (λ (j : ℕ). Settles all j (s ++ stamped_from n (p ∷ ps)) l.0) e
-          (subst (λ (t : List Stamp). Settles all (n + length (bytes_of p) + length (joined ps)) t l.0)
-          (append_assoc s (stamp (completed_at n p) (n + length p.filler) p.event ∷ [])
-          (stamped_from (n + length (bytes_of p)) ps)) l.2),
-    )
+    omega (arith, length-append (bytes_of p) (joined ps)) in
+    rw (walk-append n (n + length (bytes_of p)) w (bytes_of p) (joined ps) refl, h, ← e)
+    (subst (λ t. F (n + length (bytes_of p) + length (joined ps)) t (walk (n + length (bytes_of p)) v (joined ps)))
+    (append_assoc s (stamp (completed_at n p) (n + length p.filler) p.event ∷ [])
+    (stamped_from (n + length (bytes_of p)) ps)) l)
+
+abbrev pub IsLed : List Piece → Fact
+IsLed all m t v = (u : State) × (v ≡ Some u) × Settles all m t u
+
+abbrev pub Leads : List Piece → ℕ → List Stamp → Option State → List Piece → Type 0
+Leads all n s w ps = HoldsAfter (IsLed all) n s w ps
 
 pub steps_walk : (ps : List Piece) (p : Piece) (n : ℕ) (st : State) (s : List Stamp) → Ready n st s
     → ((Some st ≡ idle n s) ⊎ IsTrue (is_open_ended p.event)) → AllByRecursion IsPiece ps → AreSteps (events_in ps)
@@ -173,8 +174,11 @@ steps_walk [] p n st s r shut each h =
     )
 steps_walk (q ∷ ps) p n st s r shut each h =
     let g = step_piece n st s q.filler q.text q.event r each.0.filler_is each.0.spells (events_in ps) h in
-    leads-more (p ∷ q ∷ ps) ps q n s (Some st) g.0.0 g.0.1
+    holds-more (IsLed (q ∷ ps)) ps q n s (Some st) (Some g.0.0) g.0.1
     (steps_walk ps q (n + length (bytes_of q)) g.0.0 _ g.0.2.0 g.0.2.1 each.1 g.1)
+
+abbrev IsFinished : Fact
+IsFinished m t v = v ≡ Some (state Ended m t)
 
 abbrev pub finished : ℕ → List Stamp → List Piece → Option State
 finished n s ps = Some (state Ended (n + length (joined ps)) (s ++ stamped_from n ps))
@@ -196,61 +200,41 @@ none_said : (ps : List Piece) → events_in ps ≡ [] → ps ≡ []
 none_said [] h = refl
 none_said (p ∷ ps) h = absurd cc
 
-finish_piece : (n : ℕ) (st : State) (s : List Stamp) (p : Piece) (eight : Bool) → p.event ≡ Finish eight
-    → Ready n st s → IsPiece p → walk n (Some st) (joined (p ∷ [])) ≡ finished n s (p ∷ [])
-finish_piece n st s p eight is r h =
-    let spells : Spells (Finish eight) p.text = subst (λ (e : Event). Spells e p.text) is h.spells in
-    let m : ℕ = n + length p.filler in
-    let w = finish_walk (n + length p.filler) s eight p.text spells in
-    let e : n + length p.filler + length p.text ≡ n + length (bytes_of p) = omega
-    (arith, length-append p.filler p.text) in
-    let d : n + length p.filler + length p.text ≡ completed_at n p = rw is
-    (omega (arith, length-append p.filler p.text)) in
-    ap (walk n (Some st)) (append-nil (bytes_of p))
-    ∙ ready-then n (n + length p.filler) st s p.filler p.text _ r h.filler_is
-    (inr (finish-begins eight p.text spells)) refl w
-    ∙ ap (λ (j : ℕ).
-    Some (state Ended (n + length p.filler + length p.text) (s ++ stamp j (n + length p.filler) (Finish eight) ∷ []))) d
-    ∙ ap (λ (j : ℕ). Some (state Ended j (s ++ stamp (completed_at n p) (n + length p.filler) (Finish eight) ∷ [])))
-    (e ∙ ap (λ (t : List ℕ). n + length t) (sym (append-nil (bytes_of p))))
-    ∙ ap (λ (v : Event).
-    Some (state Ended (n + length (joined (p ∷ []))) (s ++ stamp (completed_at n p) (n + length p.filler) v ∷ [])))
-    (sym is)
+finish_piece : (n : ℕ) (st : State) (s : List Stamp) (filler text : List ℕ) (eight : Bool) → Ready n st s
+    → AreFiller filler → Spells (Finish eight) text
+    → walk n (Some st) ((filler ++ text) ++ [])
+    ≡ finished n s (record { filler = filler; text = text; event = Finish eight } ∷ [])
+finish_piece n st s filler text eight r k spells =
+    let m : ℕ = n + length filler in
+    let l = length-append filler text in
+    let end : n + length filler + length text ≡ n + length ((filler ++ text) ++ []) =
+    omega (arith, l, length-append (filler ++ text) []) in
+    let done : n + length filler + length text
+    ≡ completed_at n (record { filler = filler; text = text; event = Finish eight }) = omega (arith, l) in
+    ap (walk n (Some st)) (append-nil (filler ++ text))
+    ∙ ready-then n (n + length filler) st s filler text _ r k (inr (finish-begins eight text spells)) refl
+    (finish_walk (n + length filler) s eight text spells)
+    ∙ ap (λ (i : ℕ). Some (state Ended i (s ++ stamp (n + length filler + length text) m (Finish eight) ∷ []))) end
+    ∙ ap (λ (j : ℕ). Some (state Ended (n + length ((filler ++ text) ++ [])) (s ++ stamp j m (Finish eight) ∷ []))) done
 
 -- a piece of the rest of a document is a step or the finish, and then no more follow
-rest_piece : (n : ℕ) (st : State) (s : List Stamp) (p : Piece) (event : Event) → p.event ≡ event → Ready n st s
-    → IsPiece p → (more : List Event) → AreRest (event ∷ more)
-    → (PieceReaches n st s p × AreRest more) ⊎
-    ((walk n (Some st) (joined (p ∷ [])) ≡ finished n s (p ∷ [])) × (more ≡ []))
-rest_piece n st s p (Start eight ps) is r k more h = absurd h
-rest_piece n st s p (Step c) is r k more h =
-    inl (
-      (step_piece n st s p.filler p.text p.event r k.filler_is k.spells []
-          (subst (λ (e : Event). AreSteps (e ∷ [])) (sym is) tt)).0,
-      h,
-    )
-rest_piece n st s p (Finish eight) is r k more h = inr (finish_piece n st s p eight is r k, h)
-
-finished-more : (ps : List Piece) (p : Piece) (n : ℕ) (s : List Stamp) (w : Option State) (v : State)
-    → walk n w (bytes_of p) ≡ Some v
-    → walk (n + length (bytes_of p)) (Some v) (joined ps)
-    ≡ finished (n + length (bytes_of p)) (s ++ stamp (completed_at n p) (n + length p.filler) p.event ∷ []) ps
-    → walk n w (joined (p ∷ ps)) ≡ finished n s (p ∷ ps)
-finished-more ps p n s w v h l =
-    let e : n + length (bytes_of p) + length (joined ps) ≡ n + length (bytes_of p ++ joined ps) =
-    omega (arith, length-append (bytes_of p) (joined ps)) in
-    walk-then n (n + length (bytes_of p)) w (Some v) _ (bytes_of p) (joined ps) refl h l
-    ∙ ap (λ (t : List Stamp). Some (state Ended (n + length (bytes_of p) + length (joined ps)) t))
-    (append_assoc s (stamp (completed_at n p) (n + length p.filler) p.event ∷ [])
-    (stamped_from (n + length (bytes_of p)) ps))
-    ∙ ap (λ (j : ℕ). Some (state Ended j (s ++ stamped_from n (p ∷ ps)))) e
+rest_piece : (n : ℕ) (st : State) (s : List Stamp) (filler text : List ℕ) (event : Event) → Ready n st s
+    → AreFiller filler → Spells event text → (more : List Event) → AreRest (event ∷ more)
+    → (PieceReaches n st s (record { filler = filler; text = text; event = event }) × AreRest more) ⊎
+    ((walk n (Some st) ((filler ++ text) ++ [])
+    ≡ finished n s (record { filler = filler; text = text; event = event } ∷ [])) × (more ≡ []))
+rest_piece n st s filler text (Start eight ps) r k spells more h = absurd h
+rest_piece n st s filler text (Step c) r k spells more h =
+    inl ((step_piece n st s filler text (Step c) r k spells [] tt).0, h)
+rest_piece n st s filler text (Finish eight) r k spells more h =
+    inr (finish_piece n st s filler text eight r k spells, h)
 
 pub rest_walk : (ps : List Piece) (n : ℕ) (st : State) (s : List Stamp) → Ready n st s
     → AllByRecursion IsPiece ps → AreRest (events_in ps) → walk n (Some st) (joined ps) ≡ finished n s ps
 rest_walk [] n st s r each h = absurd h
 rest_walk (p ∷ ps) n st s r each h =
-    elim (rest_piece n st s p p.event refl r each.0 (events_in ps) h) [
-      | inl g ↦ finished-more ps p n s (Some st) g.0.0 g.0.1
+    elim (rest_piece n st s p.filler p.text p.event r each.0.filler_is each.0.spells (events_in ps) h) [
+      | inl g ↦ holds-more IsFinished ps p n s (Some st) (Some g.0.0) g.0.1
           (rest_walk ps (n + length (bytes_of p)) g.0.0 _ g.0.2.0 each.1 g.1)
       | inr g ↦
           subst (λ (qs : List Piece). walk n (Some st) (joined (p ∷ qs)) ≡ finished n s (p ∷ qs))
@@ -361,7 +345,7 @@ pub begun_walk : (ps : List Piece) → AllByRecursion IsPiece ps → AreBegun (e
 begun_walk [] each h = absurd h
 begun_walk (p ∷ ps) each h =
     let g = begun_piece p.event (events_in ps) h in
-    leads-more (p ∷ ps) ps p 0 [] start _ (first_piece p g.0 g.1 g.2 each.0)
+    holds-more (IsLed (p ∷ ps)) ps p 0 [] start _ (first_piece p g.0 g.1 g.2 each.0)
     (steps_walk ps p (0 + length (bytes_of p)) _ _ (λ b x k. refl) (inl refl) each.1 g.3)
 
 pub whole_walk : (ps : List Piece) → AllByRecursion IsPiece ps → AreWhole (events_in ps)
@@ -369,7 +353,7 @@ pub whole_walk : (ps : List Piece) → AllByRecursion IsPiece ps → AreWhole (e
 whole_walk [] each h = absurd h
 whole_walk (p ∷ ps) each h =
     let g = whole_piece p.event (events_in ps) h in
-    finished-more ps p 0 [] start _ (first_piece p g.0 g.1 g.2 each.0)
+    holds-more IsFinished ps p 0 [] start _ (first_piece p g.0 g.1 g.2 each.0)
     (rest_walk ps (0 + length (bytes_of p)) _ _ (λ b x k. refl) each.1 g.3)
 
 pub document_walk : (ps : List Piece) (bytes : List ℕ) → Parses ps bytes
@@ -448,6 +432,23 @@ last_parameters n m eight (a ∷ b ∷ c ∷ []) fields f e =
     (parameters_walk n m eight (a ∷ b ∷ []) c fields f (omega arith)) refl
 last_parameters n m eight (a ∷ b ∷ c ∷ d ∷ ns) fields f e = absurd (omega arith)
 
+-- what ends in a whole document is one
+ended_bytes : {events : List Placed} {opened : ℕ} {bytes : List ℕ} (e : EndsIn Ended events opened bytes)
+    → bytes ≡ joined e.pieces ++ e.filler
+ended_bytes e =
+    let none : e.open_bytes ≡ [] = e.opens in
+    e.bytes_are ∙ ap (λ (t : List ℕ). joined e.pieces ++ e.filler ++ t) none ∙ append-nil (joined e.pieces ++ e.filler)
+
+pub ended_parses : {events : List Placed} {opened : ℕ} {bytes : List ℕ} (e : EndsIn Ended events opened bytes)
+    → Parses e.pieces bytes
+ended_parses e = record {
+  after = e.filler;
+  bytes_are = ended_bytes e;
+  each = e.each;
+  whole = e.before;
+  after_is = e.filler_is;
+}
+
 -- what ends in a form is walked to it
 pub ends_walk : (f : Form) {events : List Placed} {opened : ℕ} {bytes : List ℕ} (e : EndsIn f events opened bytes)
     → walk 0 start bytes ≡ Some (state f opened (stamped_from 0 e.pieces))
@@ -481,15 +482,10 @@ ends_walk (ColourFields ns k) e =
 ends_walk Terminating e =
     late Terminating e e.before (inr (subst Begins (sym e.opens) (_, refl))) (λ m s. ap (walk m (idle m s)) e.opens)
 ends_walk Ended {events} {opened} {bytes} e =
-    let none : e.open_bytes ≡ [] = e.opens in
-    let z : 0 + length (joined e.pieces) + length e.filler ≡ opened = omega (arith, e.opened_is) in
-    ap (walk 0 start)
-    (e.bytes_are ∙ ap (λ (t : List ℕ). joined e.pieces ++ e.filler ++ t) none
-    ∙ append-nil (joined e.pieces ++ e.filler))
-    ∙ walk-then 0 (0 + length (joined e.pieces)) start (finished 0 [] e.pieces) _ (joined e.pieces) e.filler refl
-    (whole_walk e.pieces e.each e.before)
-    (ended-filler (0 + length (joined e.pieces)) (stamped_from 0 e.pieces) e.filler e.filler_is)
-    ∙ ap (λ (j : ℕ). Some (state Ended j (stamped_from 0 e.pieces))) z
+    let long : length bytes ≡ opened =
+    omega (arith, e.opened_is, ap length (ended_bytes e), length-append (joined e.pieces) e.filler) in
+    document_walk e.pieces bytes (ended_parses e)
+    ∙ ap (λ (j : ℕ). Some (state Ended j (stamped_from 0 e.pieces))) long
 
 -- no document goes on with a byte that is not accepted
 pub not_viable : (f : Form) {events : List Placed} {opened : ℕ} {bytes : List ℕ}

@@ -17,6 +17,7 @@ use Rattle.sixel_grammar.specs.Faults.{RepeatNumber, RasterFields, ColourFields,
 use Rattle.sixel_grammar.specs.Faults.{IsFaultOf, Precede, refusal}
 use Rattle.sixel_grammar.specs.Next.{next_of}
 use Rattle.sixel_grammar.proofs.Advance.{GoesTo, advances}
+use Rattle.sixel_grammar.proofs.DocumentWalk.{ended_parses}
 use Rattle.sixel_grammar.proofs.Fronts.{nothing, front_ends}
 use Rattle.sixel_grammar.proofs.Stands.{fault_at, refused, too_long, truncated}
 use Rattle.sixel_grammar.proofs.Unique.{complete_once, fault_stays}
@@ -65,14 +66,7 @@ ended_document {events = events} {bytes = bytes} e short = (
   events,
   record {
     pieces = e.pieces;
-    parses = record {
-      after = e.filler;
-      bytes_are = let none : e.open_bytes ≡ [] = e.opens in e.bytes_are
-          ∙ ap (λ (t : List ℕ). t) (rw none (append-nil _));
-      each = e.each;
-      whole = e.before;
-      after_is = e.filler_is;
-    };
+    parses = ended_parses e;
     events_are = e.events_are;
     short = short;
   },

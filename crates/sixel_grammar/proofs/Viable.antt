@@ -90,6 +90,17 @@ complete-front held n k (p ∷ q ∷ ps) qs each le closed short =
     ∙ ap (λ (es : List Placed). record { place = n + length p.filler; event = p.event } ∷ es)
     (complete-front held (n + length (bytes_of p)) k (q ∷ ps) qs each.1 (omega arith) closed (rw s at short))
 
+-- how many bytes there are
+sizes : {f : Form} {events : List Placed} {opened : ℕ} {bytes : List ℕ} (e : EndsIn f events opened bytes)
+    → length bytes ≡ length (joined e.pieces) + (length e.filler + length e.open_bytes)
+sizes e =
+    omega (
+      arith,
+      ap length e.bytes_are,
+      length-append (joined e.pieces ++ e.filler) e.open_bytes,
+      length-append (joined e.pieces) e.filler,
+    )
+
 -- where the pieces go on so with a tail, the events before them are complete
 pub goes_on : {f : Form} {events : List Placed} {opened : ℕ} {bytes : List ℕ} (e : EndsIn f events opened bytes)
     (tail : List ℕ) (more : List Piece) (after : List ℕ)
@@ -114,12 +125,7 @@ goes_on {bytes = bytes} e tail more after is_tail joins each filler whole short 
   };
   complete = let z : length (joined e.pieces) ≡ 0 + length (joined e.pieces) = omega arith in e.events_are
       ∙ sym (complete-front (length bytes) 0 (length e.filler + length e.open_bytes) e.pieces more e.each
-      (omega (
-        arith,
-        ap length e.bytes_are,
-        length-append (joined e.pieces ++ e.filler) e.open_bytes,
-        length-append (joined e.pieces) e.filler,
-      )) e.closed
+      (omega (arith, sizes e)) e.closed
       (rw z at short));
 }
 
@@ -139,14 +145,7 @@ with_start e eight ns more none is_tail some spells =
     goes_on e (more ++ 27 ∷ 92 ∷ []) (p ∷ finish_piece [] ∷ []) [] is_tail
     (simp (append_assoc, append-nil))
     (record { filler_is = e.filler_is; spells = spells }, (is_finish [] tt, tt)) tt (rw none refl)
-    (omega (
-      arith,
-      ap length e.bytes_are,
-      length-append (joined e.pieces ++ e.filler) e.open_bytes,
-      length-append (joined e.pieces) e.filler,
-      length-append e.filler (e.open_bytes ++ more),
-      length-append e.open_bytes more,
-    ))
+    (omega (arith, sizes e, length-append e.filler (e.open_bytes ++ more), length-append e.open_bytes more))
 
 -- after a start: the tail makes the command whole, if it isn't, and then ends the string
 with_step : {f : Form} {events : List Placed} {opened : ℕ} {bytes : List ℕ} (e : EndsIn f events opened bytes)
@@ -156,27 +155,12 @@ with_step : {f : Form} {events : List Placed} {opened : ℕ} {bytes : List ℕ} 
     → CompleteIn events bytes
 with_step {bytes = bytes} e c more begun is_tail some spells =
     let p : Piece = record { filler = e.filler; text = e.open_bytes ++ more; event = Step c } in
-    let short : length bytes < completed_at (length (joined e.pieces)) p =
-    (elim some [
-      | inl t ↦
-          rw t (omega (
-            arith,
-            ap length e.bytes_are,
-            length-append (joined e.pieces ++ e.filler) e.open_bytes,
-            length-append (joined e.pieces) e.filler,
-            length-append e.filler (e.open_bytes ++ more),
-            length-append e.open_bytes more,
-          ))
-      | inr l ↦
-          omega (
-            arith,
-            ap length e.bytes_are,
-            length-append (joined e.pieces ++ e.filler) e.open_bytes,
-            length-append (joined e.pieces) e.filler,
-            length-append e.filler (e.open_bytes ++ more),
-            length-append e.open_bytes more,
-          )
-    ]) in
+    let whole : length (e.filler ++ (e.open_bytes ++ more)) ≡ length e.filler + (length e.open_bytes + length more) =
+    omega (arith, length-append e.filler (e.open_bytes ++ more), length-append e.open_bytes more) in
+    let short : length bytes < completed_at (length (joined e.pieces)) p = elim some [
+      | inl t ↦ rw t (omega (arith, sizes e, whole))
+      | inr l ↦ omega (arith, sizes e, whole)
+    ] in
     goes_on e (more ++ 27 ∷ 92 ∷ []) (p ∷ finish_piece [] ∷ []) [] is_tail
     (simp (append_assoc, append-nil)) (record { filler_is = e.filler_is; spells = spells }, (is_finish [] tt, tt)) tt
     (subst AreWhole (append_assoc (events_in e.pieces) (Step c ∷ []) (Finish false ∷ []))
@@ -218,14 +202,7 @@ complete NoCommand e =
     goes_on e (27 ∷ 92 ∷ []) (finish_piece e.filler ∷ []) [] (3, omega arith, refl)
     (rw o (simp append_assoc)) (is_finish e.filler e.filler_is, tt) tt
     (begun-finish (events_in e.pieces) false e.before)
-    (omega (
-      arith,
-      ap length e.bytes_are,
-      ap length o,
-      length-append (joined e.pieces ++ e.filler) e.open_bytes,
-      length-append (joined e.pieces) e.filler,
-      length-append e.filler (27 ∷ 92 ∷ []),
-    ))
+    (omega (arith, sizes e, ap length o, length-append e.filler (27 ∷ 92 ∷ [])))
 complete (RepeatNumber n) e =
     let o = e.opens in
     with_step e (Repeat n 63) (126 ∷ []) e.before (4, omega arith, refl) (inr (omega arith))
@@ -279,14 +256,7 @@ complete Terminating e =
     goes_on e (92 ∷ []) (finish_piece e.filler ∷ []) [] (8, omega arith, refl)
     (rw o (simp append_assoc)) (is_finish e.filler e.filler_is, tt) tt
     (begun-finish (events_in e.pieces) false e.before)
-    (omega (
-      arith,
-      ap length e.bytes_are,
-      ap length o,
-      length-append (joined e.pieces ++ e.filler) e.open_bytes,
-      length-append (joined e.pieces) e.filler,
-      length-append e.filler (27 ∷ 92 ∷ []),
-    ))
+    (omega (arith, sizes e, ap length o, length-append e.filler (27 ∷ 92 ∷ [])))
 complete Ended e =
     let o : e.open_bytes ≡ [] = e.opens in
     goes_on e [] [] e.filler (9, omega arith, refl) (rw o (simp append-nil)) tt e.filler_is (rw append-nil e.before) tt
