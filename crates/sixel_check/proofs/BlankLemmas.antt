@@ -18,8 +18,7 @@ use Rattle.sixel_picture.specs.Pictures.{is_side, picture_of_parts, most_side}
 use Rattle.sixel_picture.specs.Rules.{IsFirstPoint, StaysBlank, is_before, is_covered, palette_left, picture_left}
 use Rattle.sixel_picture.specs.Rules.{register_at}
 use Rattle.sixel_picture.specs.Sheets.{Sheet, cell, first_blank, row_by_row}
-use Rattle.sixel_picture.proofs.BandBlankLemmas.{none_passes}
-use Rattle.sixel_picture.proofs.BandLemmas.{row_below}
+use Rattle.sixel_picture.proofs.PaintedLemmas.{none_passes, row_below}
 use Rattle.sixel_picture.proofs.SheetLemmas.{rows_from_index}
 use Rattle.sixel_check.specs.Judging.{IsDrawn, box_of}
 use Rattle.sixel_check.specs.Outside.{IsFirstIfAny}

@@ -16,7 +16,6 @@ use Rattle.sixel_picture.specs.Pictures.{register_of}
 use Rattle.sixel_picture.specs.Positions.{any_at, at_position, last_at, last_below, passes_at}
 use Rattle.sixel_picture.specs.Rules.{BreaksNone, breaks_unselected, is_covered, known, picture_left, raster_before}
 use Rattle.sixel_picture.specs.Rules.{register_at}
-use Rattle.sixel_picture.proofs.CoverLemmas.{idle_falls}
 use Rattle.sixel_picture.proofs.LastLemmas.{IsLast, at_there, is_last, item_there, last_is, passes_there, some_last}
 use Rattle.sixel_picture.proofs.RuleLemmas.{Keeps, keeps_at}
 use Rattle.sixel_picture.proofs.SheetLemmas.{get_rows}

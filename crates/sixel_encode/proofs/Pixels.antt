@@ -10,7 +10,7 @@ use Rattle.std.proofs.lemmas.Bool.{lt-ltb, ltb-true, not-false, or_from, or_part
 use Rattle.std.proofs.lemmas.Bool.Decides.{nat_tests}
 use Rattle.sixel_picture.specs.Pictures.{PictureValue, register_of}
 use Rattle.sixel_picture.specs.Geometry.{covers}
-use Rattle.sixel_picture.proofs.ByteLemmas.{same_test}
+use Rattle.sixel_picture.proofs.RunLemmas.{same_test}
 use Rattle.sixel_picture.proofs.CoverLemmas.{covers_under, lies_under, no_bits_cover}
 use Rattle.sixel_encode.specs.Canon.{band_columns, below, column_bits, has_bits, has_pixel, without_blanks}
 use Rattle.sixel_encode.proofs.Bits.{bits_are, each_six_at, six}

@@ -2,6 +2,7 @@
 use Rattle.std.proofs.Common.{◌≡◌, ℕ, ◌+◌, ◌*◌, ◌/◌, ◌%◌, ◌<◌, Bool, true, false, ◌||◌, cond, not, Option, Some, None, List}
 use Rattle.std.proofs.Common.{length, get_or, replicate, position, refl, sym, ap, ap₂, ◌∙◌, arith, mul_comm}
 use Rattle.std.specs.Option.{option_map}
+use Rattle.std.proofs.lemmas.Bool.{not-false, not-true}
 use Rattle.std.proofs.lemmas.Iterator.Adapters.{position_from-zero}
 use Rattle.std.proofs.lemmas.List.{get_or-replicate}
 use Rattle.std.proofs.lemmas.List.Quantifiers.{position-Some}
@@ -23,24 +24,16 @@ blank_marks w h registers marks some blank =
 
 -- ---- the first pixel without a mark
 
-not_false : (t : Bool) → not t ≡ false → t ≡ true
-not_false true e = refl
-not_false false e = cc
-
-not_true : (t : Bool) → not t ≡ true → t ≡ false
-not_true true e = cc
-not_true false e = refl
-
 unmarked_at : (w h : ℕ) (marks : List Bool) (i : ℕ) → 0 < w → length marks ≡ w * h → position not marks ≡ Some i
     → IsFirstUnpainted w h (is_marked w marks) (i % w, i / w)
 unmarked_at w h marks i some whole found =
     let first = position-Some not marks i false found in
     let place : i / w * w + i % w ≡ i = div-add-mod' i w in
-    let marked : (k : ℕ) → k < i → get_or marks k false ≡ true = λ k lt. not_false _ (first.2 k lt) in
+    let marked : (k : ℕ) → k < i → get_or marks k false ≡ true = λ k lt. not-false _ (first.2 k lt) in
     record {
       inside_x = mod_below i w some;
       inside_y = row_below i w h some (rw (← whole) first.0);
-      unpainted = rw place (not_true _ first.1);
+      unpainted = rw place (not-true _ first.1);
       rows_before = λ x y inside above. marked (y * w + x)
           (omega (arith, mul-add-lt y w x (i / w) above inside, mul_comm w (i / w), place));
       columns_before = λ x before. marked (i / w * w + x) (omega arith);
@@ -51,7 +44,7 @@ pub first_unmarked : (w h : ℕ) (marks : List Bool) (found : Option ℕ) → 0 
     → found ≡ position not marks → FirstUnpainted w h (is_marked w marks) (option_map (λ i. (i % w, i / w)) found)
 first_unmarked w h marks (Some i) some whole found = unmarked_at w h marks i some whole (sym found)
 first_unmarked w h marks None some whole none = λ x y inside above.
-    not_false _ (none_passes not 0 marks false (sym (position_from-zero not marks) ∙ sym none) (y * w + x)
+    not-false _ (none_passes not 0 marks false (sym (position_from-zero not marks) ∙ sym none) (y * w + x)
     (rw whole (place_fits w h x y inside above)))
 
 -- ---- painting
