@@ -1,16 +1,18 @@
 //! Where a run of columns paints outside the box.
 
 ghost use Rattle.std.specs.Prelude.{◌≡◌, ◌≤◌, ◌+◌, ◌*◌, ◌↔◌, ℕ, IsTrue};
+ghost use Rattle.sixel_picture.specs.Geometry.{band_rows};
 ghost use Rattle.sixel_check.specs.Outside.{IsFirstIfAny, PaintsOutside, first_column};
 ghost use Rattle.sixel_check.specs.Verdicts.{capped};
 
-use sixel_picture::is_set;
+use sixel_picture::{BAND_ROWS, is_set};
 
 /// The row of a bit of a band. It stops at `u64::MAX`.
 fn row_of(band: u64, bit: u32) -> u64
-    ensures { result ≡ capped (6 * band + bit) }
+    ensures { result ≡ capped (band_rows * band + bit) }
 {
-    band.saturating_mul(6).saturating_add(bit as u64)
+    band.saturating_mul(BAND_ROWS as u64)
+        .saturating_add(bit as u64)
 }
 
 /// The first of some columns of a row that lies outside a box of this width and height.
@@ -52,9 +54,11 @@ pub(crate) fn outside_pixel(
 /// Whether the columns lie inside the box in all six rows of the band.
 #[inline(always)]
 fn is_inside(column: u64, band: u64, count: u16, width: u32, height: u32) -> bool
-    ensures { IsTrue result ↔ (column + count ≤ width) × (6 * band + 6 ≤ height) }
+    ensures { IsTrue result ↔ (column + count ≤ width) × (band_rows * band + band_rows ≤ height) }
 {
-    column <= width as u64 && count as u64 <= width as u64 - column && band < height as u64 / 6
+    column <= width as u64
+        && count as u64 <= width as u64 - column
+        && band < height as u64 / BAND_ROWS as u64
 }
 
 /// As `outside_pixel`, row by row.
@@ -73,7 +77,7 @@ fn first_outside(
     if count == 0 {
         return None;
     }
-    for bit in 0..6 {
+    for bit in 0..BAND_ROWS {
         if is_set(bits, bit) {
             let row = row_of(band, bit);
             if let Some(x) = outside_column(column, count, row, width, height) {

@@ -58,7 +58,7 @@ box_above : (p : PictureValue) (x y : ℕ) → is_in_box (box_of p) x y ≡ true
 box_above p x y h =
     let parts = and_parts (nat_lt x p.width) (nat_lt y p.height) h in
     let l : y < p.height = ltb-true y p.height parts.1 in
-    and_from _ _ parts.0 (and_from _ _ parts.1 (lt-ltb (y / 6) ((p.height + 5) / 6) (omega arith)))
+    and_from _ _ parts.0 (and_from _ _ parts.1 (lt-ltb (y / 6) (bands p) (omega arith)))
 
 finish_keeps : (registers : ℕ) (p : PictureValue) (before : List Event) (band : ℕ)
     → Stands p before band (is_above p (bands p)) → Keeps registers before (Finish false)

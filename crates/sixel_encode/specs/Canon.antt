@@ -1,6 +1,7 @@
 -- The canonical list of events of a picture.
 use Rattle.std.specs.Prelude.{◌==◌, ◌&&◌, ◌+◌, ◌*◌, ◌/◌, ◌^◌, ℕ, Bool, false, Option, List, [], ◌∷◌, ◌++◌, length, map}
 use Rattle.std.specs.Prelude.{replicate, sum_by, filter, flat_map, filter_map, nat_lt, nat_le, not, if◌then◌else◌}
+use Rattle.std.specs.Int.{div_ceil}
 use Rattle.std.specs.Option.{option_map}
 use Rattle.std.specs.List.{range_with_len, list_any, join_by}
 use Rattle.sixel_grammar.specs.declared.command.Command.{Command}
@@ -12,6 +13,7 @@ use Rattle.sixel_grammar.specs.FixedText.{fixed_text}
 use Rattle.sixel_picture.specs.declared.colour.Parts.{Parts}
 use Rattle.sixel_picture.specs.declared.colour.Parts.TheVariants.{Rgb, Hls}
 use Rattle.sixel_picture.specs.Colours.{palette_at}
+use Rattle.sixel_picture.specs.Geometry.{band_rows}
 use Rattle.sixel_picture.specs.Pictures.{PictureValue, register_of, most_side}
 
 -- the numbers below n, in increasing order
@@ -45,11 +47,11 @@ run_commands r = if nat_le 4 r.count then Repeat r.count r.item ∷ [] else repl
 
 -- the pixel of this column and this row of a band lies in the picture, and is of the register
 abbrev pub has_pixel : PictureValue → ℕ → ℕ → ℕ → ℕ → Bool
-has_pixel p band register x k = nat_lt (6 * band + k) p.height && (register_of p x (6 * band + k) == register)
+has_pixel p band register x k = nat_lt (band_rows * band + k) p.height && (register_of p x (band_rows * band + k) == register)
 
 -- the bits of a register in a column of a band: bit k is row k of the band
 unfoldable pub column_bits : PictureValue → ℕ → ℕ → ℕ → ℕ
-column_bits p band register x = sum_by (λ k. if has_pixel p band register x k then 2 ^ k else 0) (below 6)
+column_bits p band register x = sum_by (λ k. if has_pixel p band register x k then 2 ^ k else 0) (below band_rows)
 
 -- some of the columns has a bit
 abbrev pub has_bits : List ℕ → Bool
@@ -72,7 +74,7 @@ band_columns p band register = without_blanks (all_columns p band register)
 
 -- how many bands of six rows, the last of which may have fewer
 abbrev pub bands : PictureValue → ℕ
-bands p = (p.height + 5) / 6
+bands p = div_ceil p.height band_rows
 
 -- the register occurs in the band
 unfoldable pub occurs : PictureValue → ℕ → ℕ → Bool
@@ -108,7 +110,7 @@ opening_commands p = Raster 1 1 p.width p.height ∷ define_commands p.palette
 
 -- the bands of the tallest picture
 abbrev pub most_bands : ℕ
-most_bands = (most_side + 5) / 6
+most_bands = div_ceil most_side band_rows
 
 -- the bands, with a next line between two
 unfoldable pub picture_commands : PictureValue → List Command

@@ -2,23 +2,21 @@
 
 ghost use Rattle.std.specs.Prelude.{◌≡◌, ◌==◌, ◌<◌, ◌≤◌, ◌||◌, ℕ, not};
 ghost use Rattle.std.specs.Int.{bit_at};
+ghost use Rattle.sixel_picture.specs.Geometry.{band_rows};
 ghost use Rattle.sixel_picture.specs.Pictures.{IsPicture, register_count};
 ghost use Rattle.sixel_encode.specs.Canon.{column_bits, has_pixel, occurs, most_bands};
 
-use sixel_picture::Picture;
-
-/// The rows of a band.
-pub(crate) const ROWS: u32 = 6;
+use sixel_picture::{BAND_ROWS, Picture};
 
 /// Whether the pixel of this column and this row of a band lies in the picture, and is of the register.
 #[inline]
 fn has_pixel(picture: &Picture, band: u32, register: u8, x: u32, row: u32) -> bool
     requires band { band < most_bands }
     requires x { x < picture.now.width }
-    requires row { row < 6 }
+    requires row { row < band_rows }
     ensures { result ≡ has_pixel picture.now band register x row }
 {
-    let y = ROWS * band + row;
+    let y = BAND_ROWS * band + row;
     y < picture.height() && picture.register_at(x, y) == register
 }
 
@@ -32,7 +30,7 @@ pub(crate) fn column_bits(picture: &Picture, band: u32, register: u8, x: u32) ->
     ensures small { result ≤ 63 }
 {
     let mut bits = 0;
-    for row in 0..ROWS {
+    for row in 0..BAND_ROWS {
         if has_pixel(picture, band, register, x, row) {
             bits += 1 << row;
         }
@@ -63,7 +61,7 @@ fn with_column(registers: u16, picture: &Picture, band: u32, x: u32) -> u16
         ≡ ((bit_at registers register == 1) || not (column_bits picture.now band register x == 0)) }
 {
     let mut result = registers;
-    for row in 0..ROWS {
+    for row in 0..BAND_ROWS {
         result = with_pixel(result, picture, band, x, row);
     }
     result
@@ -74,11 +72,11 @@ fn with_column(registers: u16, picture: &Picture, band: u32, x: u32) -> u16
 fn with_pixel(registers: u16, picture: &Picture, band: u32, x: u32, row: u32) -> u16
     requires band { band < most_bands }
     requires x { x < picture.now.width }
-    requires row { row < 6 }
+    requires row { row < band_rows }
     ensures { (register : ℕ) → register < register_count → (bit_at result register == 1)
         ≡ ((bit_at registers register == 1) || has_pixel picture.now band register x row) }
 {
-    let y = ROWS * band + row;
+    let y = BAND_ROWS * band + row;
     if y < picture.height() {
         registers | 1 << picture.register_at(x, y)
     } else {

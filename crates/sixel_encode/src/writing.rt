@@ -10,10 +10,9 @@ ghost use Rattle.sixel_encode.specs.Canon.{define_command, define_commands, open
 ghost use Rattle.sixel_encode.specs.Canon.{most_bands};
 
 use crate::band::{Text, put_band, put_between, put_command};
-use crate::columns::ROWS;
 use arrayvec::ArrayVec;
 use sixel_grammar::{Command, DeviceFault, Event, Sink};
-use sixel_picture::{Palette, Parts, Picture, REGISTERS};
+use sixel_picture::{BAND_ROWS, Palette, Parts, Picture, REGISTERS};
 
 /// Why a picture was not written to its end.
 #[derive(Clone, Copy, Debug, PartialEq, Eq)]
@@ -173,7 +172,7 @@ fn put_bands<K: Sink>(text: &mut Text, picture: &Picture, out: &mut K) -> Result
     ensures unflushed { NeverFlushes (K.is_flushed out.old) (K.is_flushed out.new) }
     ensures failures { CountsFailure result (K.failure_count out.old) (K.failure_count out.new) }
 {
-    for band in 0..picture.height().div_ceil(ROWS) {
+    for band in 0..picture.height().div_ceil(BAND_ROWS) {
         put_next_band(text, picture, band, out)?;
     }
     Ok(())

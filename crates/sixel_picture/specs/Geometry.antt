@@ -5,7 +5,11 @@ use Rattle.sixel_grammar.specs.declared.command.Event.{Event}
 use Rattle.sixel_picture.specs.Events.{bits_of, columns_of, is_next_line, is_return}
 use Rattle.sixel_picture.specs.Positions.{any_below, since}
 
--- the band, a line of six sixel pixels: the number of next lines before
+-- how many rows a band has: a sixel is a column of so many pixels, and each of its bits is one of them
+abbrev pub band_rows : ℕ
+band_rows = 6
+
+-- the band, a line of sixels: the number of next lines before
 unfoldable pub band : List Event → ℕ
 band before = count_by is_next_line before
 
@@ -13,13 +17,14 @@ band before = count_by is_next_line before
 unfoldable pub column : ℕ → List Event → ℕ
 column zero_columns before = sum_by (columns_of zero_columns) (since is_return before)
 
--- the point lies in one of count columns from left on, in the rows of a set bit of a line of six; a bit has so
+-- the point lies in one of count columns from left on, in the rows of a set bit of a line of sixels; a bit has so
 -- many rows, and bit 0 is the uppermost; bits above the six, which no text spells, paint nothing
 unfoldable pub covers : ℕ → ℕ → ℕ → ℕ → ℕ → ℕ → ℕ → Bool
 covers left count line rows bits x y =
     nat_le left x && nat_lt x (left + count)
-    && any_below 6 (λ k.
-    (bit_at bits k == 1) && nat_le ((6 * line + k) * rows) y && nat_lt y ((6 * line + k) * rows + rows))
+    && any_below band_rows (λ k.
+    (bit_at bits k == 1) && nat_le ((band_rows * line + k) * rows) y
+    && nat_lt y ((band_rows * line + k) * rows + rows))
 
 -- the event is a data command that paints the point, where a repeat of 0 has so many columns and a bit so many rows
 unfoldable pub touches : ℕ → ℕ → List Event → Event → ℕ → ℕ → Bool

@@ -8,7 +8,7 @@ ghost use Rattle.sixel_picture.specs.Geometry.{covers};
 ghost use Rattle.sixel_picture.specs.Lanes.{AreChanged};
 ghost use Rattle.sixel_picture.specs.Sheets.{FirstUnpainted};
 
-use crate::bits::is_set;
+use crate::bits::{BAND_ROWS, is_set};
 use crate::lanes::{fill, first_without, or_into};
 use crate::plane::Plane;
 use std::alloc::{AllocError, Global};
@@ -43,7 +43,7 @@ impl Plane for BandPlane {
 
     fn blank(alloc: Global, width: u32, height: u32) -> Result<BandPlane, AllocError> {
         let registers = vec![in alloc; 0; (width * height) as usize]?;
-        let coverage = vec![in alloc; 0; (width * height.div_ceil(6)) as usize]?;
+        let coverage = vec![in alloc; 0; (width * height.div_ceil(BAND_ROWS)) as usize]?;
         Ok(BandPlane {
             width,
             height,
@@ -79,7 +79,10 @@ impl Plane for BandPlane {
     fn register_at(&self, x: u32, y: u32) -> Option<u8> {
         let width = self.width as usize;
         let column = x as usize;
-        if is_set(self.coverage[(y / 6) as usize * width + column], y % 6) {
+        if is_set(
+            self.coverage[(y / BAND_ROWS) as usize * width + column],
+            y % BAND_ROWS,
+        ) {
             Some(self.registers[y as usize * width + column])
         } else {
             None
@@ -129,12 +132,12 @@ fn fill_run(
 )
     requires some { 0 < width }
     requires columns { column + count ≤ width }
-    requires rows { (k : ℕ) → k < 6 → bit_at bits k ≡ 1 → (6 * band + k) * width + width ≤ length registers.old }
+    requires rows { (k : ℕ) → k < BAND_ROWS → bit_at bits k ≡ 1 → (BAND_ROWS * band + k) * width + width ≤ length registers.old }
     requires pixels { length registers.old ≡ width * height }
     ensures { EachIndex registers.old (λ i. slice_index registers.new i
         ≡ (if covers column count band 1 bits (i % width) (i / width) then register else slice_index registers.old i)) }
 {
-    if count == 1 && band < height / 6 {
+    if count == 1 && band < height / BAND_ROWS {
         fill_column(registers, width, column, band, bits, register);
     } else {
         fill_rows(registers, width, column, band, count, bits, register);
@@ -154,13 +157,14 @@ fn fill_rows(
 )
     requires some { 0 < width }
     requires columns { column + count ≤ width }
-    requires rows { (k : ℕ) → k < 6 → bit_at bits k ≡ 1 → (6 * band + k) * width + width ≤ length registers.old }
+    requires rows { (k : ℕ) → k < BAND_ROWS → bit_at bits k ≡ 1 → (BAND_ROWS * band + k) * width + width ≤ length registers.old }
     ensures { EachIndex registers.old (λ i. slice_index registers.new i
         ≡ (if covers column count band 1 bits (i % width) (i / width) then register else slice_index registers.old i)) }
 {
-    for bit in 0..6 {
+    for bit in 0..BAND_ROWS {
         if is_set(bits, bit) {
-            let start = (6 * band as usize + bit as usize) * width + column as usize;
+            let start = (BAND_ROWS as usize * band as usize + bit as usize) * width
+                + column as usize;
             fill(registers, start, start + count as usize, register);
         }
     }
@@ -170,12 +174,12 @@ fn fill_rows(
 fn fill_column(registers: &mut [u8], width: usize, column: u32, band: u32, bits: u8, register: u8)
     requires some { 0 < width }
     requires columns { column + 1 ≤ width }
-    requires rows { (6 * band + 5) * width + width ≤ length registers.old }
+    requires rows { (BAND_ROWS * band + 5) * width + width ≤ length registers.old }
     ensures { EachIndex registers.old (λ i. slice_index registers.new i
         ≡ (if covers column 1 band 1 bits (i % width) (i / width) then register else slice_index registers.old i)) }
 {
-    for bit in 0..6 {
-        let index = (6 * band as usize + bit as usize) * width + column as usize;
+    for bit in 0..BAND_ROWS {
+        let index = (BAND_ROWS as usize * band as usize + bit as usize) * width + column as usize;
         put(registers, index, is_set(bits, bit), register);
     }
 }
@@ -192,13 +196,13 @@ fn put(registers: &mut [u8], index: usize, is_painted: bool, register: u8)
 
 /// The column and the row of the first pixel that isn't painted, in row order.
 fn first_unpainted(coverage: &[u8], width: u32, height: u32) -> Option<(u32, u32)>
-    requires { length coverage.now ≡ width * div_ceil height 6 }
+    requires { length coverage.now ≡ width * div_ceil height BAND_ROWS }
     ensures { FirstUnpainted width height (is_covered width coverage.now) result }
 {
     let columns = width as usize;
     for row in 0..height {
-        let start = (row / 6) as usize * columns;
-        if let Some(index) = first_without(coverage, start, start + columns, row % 6) {
+        let start = (row / BAND_ROWS) as usize * columns;
+        if let Some(index) = first_without(coverage, start, start + columns, row % BAND_ROWS) {
             return Some(((index - start) as u32, row));
         }
     }

@@ -3,7 +3,7 @@
 ghost use Rattle.std.specs.Prelude.{◌≡◌, ◌<◌, ◌≤◌, ◌+◌, ◌&&◌, nat_le, nat_lt, not, EachIndex, IfSome, length};
 ghost use Rattle.std.specs.Prelude.{position, slice_index_or, if◌then◌else◌};
 
-use crate::bits::is_set;
+use crate::bits::{BAND_ROWS, is_set};
 use crate::plane::Plane;
 use std::alloc::{AllocError, Global};
 use std::marker::Model;
@@ -55,9 +55,9 @@ impl Plane for BytePlane {
     }
 
     fn paint_run(&mut self, column: u32, band: u32, count: u32, bits: u8, register: u8) {
-        for bit in 0..6 {
+        for bit in 0..BAND_ROWS {
             if is_set(bits, bit) {
-                let row = 6 * band + bit;
+                let row = BAND_ROWS * band + bit;
                 let start = row as usize * self.width as usize + column as usize;
                 fill_row(&mut self.registers, start, count as usize, register);
                 fill_row(&mut self.marks, start, count as usize, true);

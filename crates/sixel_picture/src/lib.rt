@@ -13,7 +13,7 @@ mod plane;
 mod ppm;
 
 pub use band_plane::BandPlane;
-pub use bits::is_set;
+pub use bits::{BAND_ROWS, is_set};
 pub use byte_plane::BytePlane;
 pub use colour::{Colour, Parts};
 pub use palette::{Palette, REGISTERS};

@@ -3,6 +3,7 @@
 ghost use Rattle.std.specs.Prelude.{◌≡◌, ◌<◌, ◌≤◌, ◌+◌, ◌*◌, ℕ, Some, IfOk, IsTrue, map};
 ghost use Rattle.std.specs.Int.{bit_at};
 ghost use Rattle.sixel_picture.specs.Sheets.{Sheet, IsFull, blank_sheet, cell, first_blank, painted_sheet};
+ghost use Rattle.sixel_picture.specs.Geometry.{band_rows};
 ghost use Rattle.sixel_picture.specs.Pictures.{is_side};
 
 use std::alloc::{AllocError, Global};
@@ -36,7 +37,7 @@ pub trait Plane: Drop {
     fn paint_run(&mut self, column: u32, band: u32, count: u32, bits: u8, register: u8)
         requires bits { bits ≤ 63 }
         requires columns { column + count ≤ (sheet self.old).width }
-        requires rows { (k : ℕ) → k < 6 → bit_at bits k ≡ 1 → 6 * band + k < (sheet self.old).height }
+        requires rows { (k : ℕ) → k < band_rows → bit_at bits k ≡ 1 → band_rows * band + k < (sheet self.old).height }
         ensures { sheet self.new ≡ painted_sheet (sheet self.old) column band count bits register };
 
     /// The register of the pixel in column `x` and row `y`, both from 0 at the top left, or `None` where

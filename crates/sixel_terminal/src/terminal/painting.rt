@@ -1,22 +1,23 @@
 //! Painting on a screen.
 
 ghost use Rattle.std.specs.Prelude.{◌≡◌, ◌<◌, ◌+◌, ◌*◌, ◌/◌, ◌%◌, EachIndex, length, slice_index_or, if◌then◌else◌};
+ghost use Rattle.sixel_picture.specs.Geometry.{band_rows};
 ghost use Rattle.sixel_terminal.specs.Canvases.{black, span_of};
 ghost use Rattle.sixel_terminal.specs.Steps.{box_covers, pen_covers};
 
 use crate::canvas::{Ink, Span, fill};
 use crate::pen::Pen;
 use crate::terminal::Terminal;
-use sixel_picture::is_set;
+use sixel_picture::{BAND_ROWS, is_set};
 
 impl Terminal {
     /// The rows of the screen in which a bit of the pen's band lies.
     fn rows_of(&self, pen: Pen, bit: u32) -> Span
-        requires { bit < 6 }
-        ensures { result ≡ span_of (self.now.choices.origin_y + (6 * pen.band + bit) * pen.height) pen.height
+        requires { bit < band_rows }
+        ensures { result ≡ span_of (self.now.choices.origin_y + (band_rows * pen.band + bit) * pen.height) pen.height
             self.now.choices.screen_height }
     {
-        let row = (6 * pen.band as u64 + bit as u64) * pen.height as u64;
+        let row = (BAND_ROWS as u64 * pen.band as u64 + bit as u64) * pen.height as u64;
         let start = self.choices.origin_y as u64 + row;
         Span::new(start, pen.height as u64, self.choices.screen_height)
     }
@@ -34,7 +35,7 @@ impl Terminal {
         if columns.start == columns.end {
             return;
         }
-        for bit in 0..6 {
+        for bit in 0..BAND_ROWS {
             if is_set(bits, bit) {
                 let rows = self.rows_of(pen, bit);
                 fill(inks, self.choices.screen_width as usize, columns, rows, ink);
