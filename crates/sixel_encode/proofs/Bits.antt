@@ -1,15 +1,14 @@
--- The bits of a column, and the mask of a band's registers.
+-- The bits of a column, and the marks of a band's registers.
 use Rattle.std.proofs.Common.{◌≡◌, ℕ, List, [], ◌∷◌, map, ◌+◌, ◌*◌, ◌%◌, ◌^◌, ◌<◌, ◌≤◌, Bool, true, false}
-use Rattle.std.proofs.Common.{not, ◌&&◌, ◌||◌, cond, refl, sym, ap, ◌∙◌, add-one, arith}
-use Rattle.std.specs.Prelude.{◌==◌, nat_le, bit_or, sum_by, if◌then◌else◌}
-use Rattle.std.specs.Int.{bit_at, w16}
+use Rattle.std.proofs.Common.{not, ◌&&◌, ◌||◌, cond, get_or, length, set, refl, sym, ap, ◌∙◌, add-one, arith}
+use Rattle.std.specs.Prelude.{◌==◌, nat_le, sum_by, if◌then◌else◌}
 use Rattle.std.specs.List.{list_any}
-use Rattle.std.proofs.lemmas.Bool.{agree_below_at, and_parts, eqb-true, eqb-false, eq-eqb, leb-true, or_right}
+use Rattle.std.proofs.lemmas.Bool.{agree_below_at, and_parts, eqb-true, eqb-false, leb-true, or_right}
 use Rattle.std.proofs.Math.Nat.{two-pow-succ}
-use Rattle.std.proofs.lemmas.List.{map-append}
+use Rattle.std.proofs.lemmas.List.{get_or-set_other, map-append}
 use Rattle.std.proofs.lemmas.List.Folds.{list_any-append}
 use Rattle.std.proofs.lemmas.List.Sums.{sum_by_push}
-use Rattle.std.proofs.lemmas.Nat.Bits.{bit_at_set_same, bit_at_set_other}
+use Rattle.std.proofs.lemmas.Grind.{get_or-set_at}
 use Rattle.sixel_picture.specs.Pictures.{PictureValue}
 use Rattle.sixel_encode.specs.Canon.{below, column_bits, has_bits, has_pixel}
 use Rattle.sixel_encode.proofs.Ranges.{below_then}
@@ -118,26 +117,23 @@ row_passed p band register x row bits gone is less =
     let double : 2 ^ (row + 1) ≡ 2 ^ row + 2 ^ row = twice row in
     (omega arith, omega arith)
 
--- ---- a mask
+-- ---- marks
 
 or_nothing : (b : Bool) → b ≡ (b || false)
 or_nothing true = refl
 or_nothing false = refl
 
-added_step : (m r i : ℕ) (t : Bool) → r < 16 → (t ≡ true → r ≡ i) → (t ≡ false → r ≡ i → ⊥)
-    → (bit_at (bit_or m (1 * 2 ^ r % 65536)) i == 1) ≡ ((bit_at m i == 1) || t)
-added_step m r i true small is not_is =
-    let here : bit_at (bit_or m (1 * 2 ^ r % 65536)) r ≡ 1 = bit_at_set_same w16 m r small in
-    rw (← is refl) (eq-eqb _ 1 here ∙ sym (or_right (bit_at m r == 1) true refl))
-added_step m r i false small is not_is =
-    let there : bit_at (bit_or m (1 * 2 ^ r % 65536)) i ≡ bit_at m i =
-    bit_at_set_other w16 m r small i (λ e. not_is refl (sym e)) in
-    ap (λ (n : ℕ). n == 1) there ∙ or_nothing (bit_at m i == 1)
-
--- a register that joins a mask
-pub register_added : (m r i : ℕ) → r < 16
-    → (bit_at (bit_or m (1 * 2 ^ r % 65536)) i == 1) ≡ ((bit_at m i == 1) || (r == i))
-register_added m r i small = added_step m r i (r == i) small (eqb-true r i) (eqb-false r i)
+-- a register that is marked
+pub mark_added : (xs : List Bool) (r i : ℕ) → r < length xs
+    → get_or (set xs r true) i false ≡ (get_or xs i false || (r == i))
+mark_added xs r i within = split (r == i) (eqb-true r i) (eqb-false r i)
+  where
+    split : (t : Bool) → (t ≡ true → r ≡ i) → (t ≡ false → r ≡ i → ⊥)
+        → get_or (set xs r true) i false ≡ (get_or xs i false || t)
+    split true is other =
+        get_or-set_at xs r i true false (sym (is refl)) within ∙ sym (or_right (get_or xs i false) true refl)
+    split false is other =
+        get_or-set_other xs r i true false (λ e. other refl (sym e)) ∙ or_nothing (get_or xs i false)
 
 -- one more number that passes or not
 pub any_then : (f : ℕ → Bool) (n : ℕ) → list_any f (below (n + 1)) ≡ (list_any f (below n) || f n)

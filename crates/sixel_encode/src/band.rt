@@ -1,7 +1,6 @@
 //! Writes a band: six rows of a picture, or fewer in the last one.
 
 ghost use Rattle.std.specs.Prelude.{◌≡◌, ◌==◌, ◌<◌, ◌≤◌, ◌++◌, ◌∷◌, [], flat_map, if◌then◌else◌};
-ghost use Rattle.std.specs.Int.{bit_at};
 ghost use Rattle.sixel_grammar.specs.Blocks.{PutsAllOrNone, TakesMore, in_all};
 ghost use Rattle.sixel_grammar.specs.Devices.{CountsFailure, NeverFlushes, Puts};
 ghost use Rattle.sixel_grammar.specs.Spelling.{IsSpellable};
@@ -33,24 +32,15 @@ pub(crate) fn put_band<K: Sink>(
     ensures unflushed { NeverFlushes (K.is_flushed out.old) (K.is_flushed out.new) }
     ensures failures { CountsFailure result (K.failure_count out.old) (K.failure_count out.new) }
 {
-    let registers = band_registers(picture, band);
+    let occurring = band_registers(picture, band);
     let mut is_first = true;
     for register in 0..REGISTERS as u8 {
-        if has(registers, register) {
+        if occurring[register as usize] {
             put_next(text, picture, band, register, is_first, out)?;
             is_first = false;
         }
     }
     Ok(())
-}
-
-/// Whether the mask has the register.
-#[inline]
-fn has(registers: u16, register: u8) -> bool
-    requires { register < register_count }
-    ensures { result ≡ (bit_at registers register == 1) }
-{
-    registers >> register & 1 == 1
 }
 
 /// Puts a register of a band, after a carriage return if it isn't the first.

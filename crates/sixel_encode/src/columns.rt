@@ -1,12 +1,11 @@
 //! What a register has in a band: six rows of a picture, or fewer in the last one.
 
-ghost use Rattle.std.specs.Prelude.{◌≡◌, ◌==◌, ◌<◌, ◌≤◌, ◌||◌, ℕ, not};
-ghost use Rattle.std.specs.Int.{bit_at};
+ghost use Rattle.std.specs.Prelude.{◌≡◌, ◌==◌, ◌<◌, ◌≤◌, ◌||◌, ℕ, false, get_or, not};
 ghost use Rattle.sixel_picture.specs.Geometry.{band_rows};
 ghost use Rattle.sixel_picture.specs.Pictures.{IsPicture, register_count};
 ghost use Rattle.sixel_encode.specs.Canon.{column_bits, has_pixel, occurs, most_bands};
 
-use sixel_picture::{BAND_ROWS, Picture};
+use sixel_picture::{BAND_ROWS, Picture, REGISTERS};
 
 /// Whether the pixel of this column and this row of a band lies in the picture, and is of the register.
 #[inline]
@@ -38,48 +37,45 @@ pub(crate) fn column_bits(picture: &Picture, band: u32, register: u8, x: u32) ->
     bits
 }
 
-/// The registers that occur in a band, as a mask: bit 0 is register 0.
-pub(crate) fn band_registers(picture: &Picture, band: u32) -> u16
+/// Which registers occur in a band: a place for each.
+pub(crate) fn band_registers(picture: &Picture, band: u32) -> [bool; REGISTERS]
     requires { band < most_bands }
     ensures value { (register : ℕ) → register < register_count →
-        (bit_at result register == 1) ≡ occurs picture.now band register }
+        get_or result register false ≡ occurs picture.now band register }
     ensures picture { IsPicture register_count picture.now }
 {
-    let mut registers = 0;
+    let mut occurring = [false; REGISTERS];
     for x in 0..picture.width() {
-        registers = with_column(registers, picture, band, x);
+        mark_column(&mut occurring, picture, band, x);
     }
-    registers
+    occurring
 }
 
-/// The registers, and those of a column of a band.
+/// Marks the registers of a column of a band.
 #[inline]
-fn with_column(registers: u16, picture: &Picture, band: u32, x: u32) -> u16
+fn mark_column(occurring: &mut [bool; REGISTERS], picture: &Picture, band: u32, x: u32)
     requires band { band < most_bands }
     requires x { x < picture.now.width }
-    ensures { (register : ℕ) → register < register_count → (bit_at result register == 1)
-        ≡ ((bit_at registers register == 1) || not (column_bits picture.now band register x == 0)) }
+    ensures { (register : ℕ) → register < register_count → get_or occurring.new register false
+        ≡ (get_or occurring.old register false || not (column_bits picture.now band register x == 0)) }
 {
-    let mut result = registers;
     for row in 0..BAND_ROWS {
-        result = with_pixel(result, picture, band, x, row);
+        mark_pixel(occurring, picture, band, x, row);
     }
-    result
 }
 
-/// The registers, and that of a pixel if it lies in the picture.
+/// Marks the register of a pixel if it lies in the picture.
 #[inline]
-fn with_pixel(registers: u16, picture: &Picture, band: u32, x: u32, row: u32) -> u16
+fn mark_pixel(occurring: &mut [bool; REGISTERS], picture: &Picture, band: u32, x: u32, row: u32)
     requires band { band < most_bands }
     requires x { x < picture.now.width }
     requires row { row < band_rows }
-    ensures { (register : ℕ) → register < register_count → (bit_at result register == 1)
-        ≡ ((bit_at registers register == 1) || has_pixel picture.now band register x row) }
+    ensures { (register : ℕ) → register < register_count → get_or occurring.new register false
+        ≡ (get_or occurring.old register false || has_pixel picture.now band register x row) }
 {
     let y = BAND_ROWS * band + row;
     if y < picture.height() {
-        registers | 1 << picture.register_at(x, y)
-    } else {
-        registers
+        let register = picture.register_at(x, y) as usize;
+        occurring[register] = true;
     }
 }

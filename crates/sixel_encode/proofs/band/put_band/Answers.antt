@@ -8,7 +8,7 @@ use Rattle.sixel_encode.proofs.Steps.{first-after, first-same, register_step, re
 use Rattle.sixel_encode.proofs.Steps.{registers_above, step-is, step-none}
 use Rattle.sixel_encode.proofs.Texts.{text-none}
 use Rattle.sixel_encode.proofs.band.put_band.Goals as goal
-use Rattle.sixel_encode.proofs.band.put_band.Goals.{then-has+in_ok-put_next, else-has}
+use Rattle.sixel_encode.proofs.band.put_band.Goals.{then-occurring-register+in_ok-put_next, else-occurring-register}
 
 pub loop-register-init : goal.loop-register-init
 loop-register-init g c = record {
@@ -26,9 +26,9 @@ returns-in_err-put_next-clause-bytes g c =
     let register = c.loop-register.register in
     let before = in_all (g.K.Sink.taken c.loop-register.out) c.loop-register.text in
     let here : occurs p c.args.band register ≡ true =
-    sym (c.band_registers-registers.ensures.value register c.loop-register-test.true) ∙ sym c.if-has.ensures in
+    sym (c.band_registers-occurring.ensures.value register c.loop-register-test.true) ∙ c.if-occurring-register.true in
     let front = c.in_err-put_next.ensures.bytes in
-    rw (failed.1, registers-all p c.args.band 16 c.band_registers-registers.ensures.picture.palette.entries)
+    rw (failed.1, registers-all p c.args.band 16 c.band_registers-occurring.ensures.picture.palette.entries)
     (steps-stopped (registers_above p c.args.band) (register_step p c.args.band)
     (registers-then p c.args.band) register 16
     c.loop-register-test.true _ before _ c.loop-register.invariant.bytes (
@@ -42,14 +42,14 @@ returns-in_err-put_next-clause-taken g c =
     TakesMore-then _ (g.K.Sink.taken c.loop-register.out) _ c.loop-register.invariant.taken c.put_next.ensures.taken
 
 pub loop-register-preserved : goal.loop-register-preserved
-loop-register-preserved g c = elim c.if-has.branch [
-  | then-has+in_ok-put_next w ↦
+loop-register-preserved g c = elim c.if-occurring-register.branch [
+  | then-occurring-register+in_ok-put_next w ↦
       let p = c.args.picture.now in
       let register = c.loop-register.register in
       let before = in_all (g.K.Sink.taken c.loop-register.out) c.loop-register.text in
       let after = in_all (g.K.Sink.taken w.put_next.new.out) w.put_next.new.text in
       let here : occurs p c.args.band register ≡ true =
-      sym (c.band_registers-registers.ensures.value register c.loop-register-test.true) ∙ sym w.if-has.ensures in
+      sym (c.band_registers-occurring.ensures.value register c.loop-register-test.true) ∙ w.if-occurring-register.true in
       rw (w.out-is, w.text-is, w.is_first-is)
       (record {
         bytes = steps-put (registers_above p c.args.band) (register_step p c.args.band)
@@ -63,11 +63,11 @@ loop-register-preserved g c = elim c.if-has.branch [
         unflushed = λ t. c.loop-register.invariant.unflushed (w.put_next.ensures.unflushed t);
         failures = cc (w.in_ok-put_next.ensures.failures, c.loop-register.invariant.failures);
       })
-  | else-has w ↦
+  | else-occurring-register w ↦
       let p = c.args.picture.now in
       let register = c.loop-register.register in
       let gone : occurs p c.args.band register ≡ false =
-      sym (c.band_registers-registers.ensures.value register c.loop-register-test.true) ∙ sym w.if-has.ensures in
+      sym (c.band_registers-occurring.ensures.value register c.loop-register-test.true) ∙ w.if-occurring-register.false in
       rw (w.out-is, w.text-is, w.is_first-is)
       (record {
         bytes = put-as _ _ _ _ (step-none p c.args.band register gone) c.loop-register.invariant.bytes;
@@ -84,5 +84,5 @@ returns-clause-bytes g c =
     let done : c.loop-register.register ≡ 16 = omega arith in
     put-as _ _ _ _
     (ap (registers_above p c.args.band) done
-    ∙ sym (registers-all p c.args.band 16 c.band_registers-registers.ensures.picture.palette.entries))
+    ∙ sym (registers-all p c.args.band 16 c.band_registers-occurring.ensures.picture.palette.entries))
     c.loop-register.invariant.bytes

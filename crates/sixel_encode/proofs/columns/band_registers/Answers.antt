@@ -6,7 +6,7 @@ use Rattle.sixel_encode.proofs.columns.band_registers.Goals as goal
 pub loop-x-preserved : goal.loop-x-preserved
 loop-x-preserved c = λ register small.
     let f = column_bits c.args.picture.now c.args.band register in
-    c.with_column-registers.ensures register small
+    c.mark_column.ensures register small
     ∙ ap (λ (t : Bool). t || not (f c.loop-x.x == 0)) (c.loop-x.invariant register small)
     ∙ sym (has_bits_then f c.loop-x.x)
 

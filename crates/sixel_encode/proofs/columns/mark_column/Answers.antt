@@ -1,16 +1,15 @@
-use Rattle.std.proofs.Common.{◌≡◌, ◌==◌, ◌||◌, Bool, ap, ◌∙◌, sym, arith}
-use Rattle.std.specs.Int.{bit_at}
+use Rattle.std.proofs.Common.{◌≡◌, ◌||◌, Bool, false, get_or, ap, ◌∙◌, sym, arith}
 use Rattle.std.specs.List.{list_any}
 use Rattle.std.proofs.Math.Bool.{or_assoc}
 use Rattle.sixel_encode.specs.Canon.{below, has_pixel}
 use Rattle.sixel_encode.proofs.Bits.{any_then, column_has}
-use Rattle.sixel_encode.proofs.columns.with_column.Goals as goal
+use Rattle.sixel_encode.proofs.columns.mark_column.Goals as goal
 
 pub loop-row-preserved : goal.loop-row-preserved
 loop-row-preserved c = λ register small.
     let has = has_pixel c.args.picture.now c.args.band register c.args.x in
-    let before = bit_at c.args.registers register == 1 in
-    c.with_pixel-result.ensures register small
+    let before = get_or c.args.occurring.now register false in
+    c.mark_pixel.ensures register small
     ∙ ap (λ (t : Bool). t || has c.loop-row.row) (c.loop-row.invariant register small)
     ∙ or_assoc before (list_any has (below c.loop-row.row)) (has c.loop-row.row)
     ∙ ap (λ (t : Bool). before || t) (sym (any_then has c.loop-row.row))
@@ -20,5 +19,5 @@ returns c = λ register small.
     let done : c.loop-row.row ≡ 6 = omega arith in
     let stands = c.loop-row.invariant register small in
     (rw done at stands)
-    ∙ ap (λ (t : Bool). (bit_at c.args.registers register == 1) || t)
+    ∙ ap (λ (t : Bool). (get_or c.args.occurring.now register false) || t)
     (column_has c.args.picture.now c.args.band register c.args.x)
