@@ -1,12 +1,13 @@
 -- How long a picture's text is at most.
-use Rattle.std.proofs.Common.{◌≡◌, ℕ, zero, suc, ◌+◌, ◌*◌, ◌<◌, ◌≤◌, Bool, true, false, cond, Option, Some, None, List}
+use Rattle.std.proofs.Common.{◌≡◌, ℕ, zero, suc, ◌+◌, ◌*◌, ◌<◌, ◌≤◌, false, cond, Option, Some, None, List}
 use Rattle.std.proofs.Common.{[], ◌∷◌, ◌++◌, length, replicate, decimal, refl, ap, ◌∙◌, arith, lit<, lit≤, le_trans}
 use Rattle.std.proofs.Common.{length-append, mul-le-mul_right, mul_assoc, mul-le-mul, subst, suc-mul}
 use Rattle.std.specs.Fmt.{digits}
-use Rattle.std.specs.Prelude.{nat_lt, nat_le, flat_map, filter_map, if◌then◌else◌, IfSome, is_some}
+use Rattle.std.specs.Prelude.{nat_le, flat_map, filter_map, IfSome, is_some}
 use Rattle.std.specs.Option.{option_map}
 use Rattle.std.specs.List.{join_by, range_with_len, cons_option, AllByRecursion}
-use Rattle.std.proofs.lemmas.Bool.{cond_both, leb-true, ltb-false}
+use Rattle.std.proofs.lemmas.Bool.{cond_both, leb-true}
+use Rattle.std.proofs.lemmas.Bool.Decides.{nat_tests}
 use Rattle.std.proofs.lemmas.Fmt.{length-decimal-le}
 use Rattle.std.proofs.lemmas.List.{length-replicate}
 use Rattle.std.proofs.lemmas.List.Sums.{count_by-le-length}
@@ -43,17 +44,7 @@ four_digits n h = length-decimal-le 4 n (lit< tt) h (omega arith)
 
 -- a repeat of 4 or more is no longer than its columns
 repeat_short : (n : ℕ) → 4 ≤ n → 2 + digit_count n ≤ n
-repeat_short n h =
-    step (nat_lt n 10) (nat_lt n 100) (nat_lt n 1000) (nat_lt n 10000) (ltb-false n 10) (ltb-false n 100)
-    (ltb-false n 1000)
-  where
-    step : (a b c d : Bool) → (a ≡ false → 10 ≤ n) → (b ≡ false → 100 ≤ n) → (c ≡ false → 1000 ≤ n)
-        → 2 + (if a then 1 else if b then 2 else if c then 3 else if d then 4 else 5) ≤ n
-    step true b c d e f g = omega arith
-    step false true c d e f g = let l : 10 ≤ n = e refl in omega arith
-    step false false true d e f g = let l : 100 ≤ n = f refl in omega arith
-    step false false false true e f g = let l : 1000 ≤ n = g refl in omega arith
-    step false false false false e f g = let l : 1000 ≤ n = g refl in omega arith
+repeat_short n h = grind (arith, nat_tests)
 
 -- ---- commands
 

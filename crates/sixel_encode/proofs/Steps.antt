@@ -172,17 +172,6 @@ unfolding register_commands band_columns
 register-parts p band register =
     text-append (Select register ∷ []) (flat_map run_commands (runs (band_columns p band register)))
 
--- a register that occurs, and what stands before it
-pub next-parts : (p : PictureValue) (band register : ℕ) (is_first : Bool) → next_text p band register is_first
-    ≡ commands_text (if is_first then [] else CarriageReturn ∷ []) ++ commands_text (register_commands p band register)
-next-parts p band register is_first = text-append (if is_first then [] else CarriageReturn ∷ [])
-    (register_commands p band register)
-
--- a band, and what stands before it
-pub band-parts : (p : PictureValue) (band : ℕ) → band_step p band
-    ≡ commands_text (if band == 0 then [] else NextLine ∷ []) ++ commands_text (band_commands p band)
-band-parts p band = text-append (if band == 0 then [] else NextLine ∷ []) (band_commands p band)
-
 -- the step of a register that occurs
 pub step-is : (p : PictureValue) (band register : ℕ) (is_first : Bool) → occurs p band register ≡ true
     → is_first ≡ is_first_of p band register → next_text p band register is_first ≡ register_step p band register

@@ -10,6 +10,7 @@ use Rattle.sixel_grammar.specs.declared.command.Event.{Event}
 use Rattle.sixel_grammar.specs.declared.command.Event.TheVariants.{Start, Step, Finish}
 use Rattle.sixel_grammar.specs.declared.command.Placed.{Placed}
 use Rattle.sixel_grammar.specs.Bytes.{is_filler, is_data, is_digit, introducer}
+use Rattle.sixel_grammar.specs.Number.{Fields}
 use Rattle.sixel_grammar.specs.Document.{events_in}
 use Rattle.sixel_grammar.specs.Faults.{Form, NothingYet, Introducing, Parameters, LastSeparator, NoCommand}
 use Rattle.sixel_grammar.specs.Faults.{RepeatNumber, RasterFields, ColourFields, Terminating, Ended, EndsIn, is_idle}
@@ -79,6 +80,31 @@ both_of b c k m h = grind (arith, nat_tests)
 lead-more : (text lead fields : List ℕ) (b : ℕ) → text ≡ lead ++ fields → text ++ b ∷ [] ≡ lead ++ (fields ++ b ∷ [])
 lead-more text lead fields b e = ap (λ (t : List ℕ). t ++ b ∷ []) e ∙ append_assoc lead fields (b ∷ [])
 
+-- fields behind what begins them, of which the last may grow
+abbrev FieldsOpen : List ℕ → ℕ → List ℕ → ℕ → List ℕ → Type 0
+FieldsOpen lead most ns n bytes =
+    (fields : List ℕ) × Fields (ns ++ n ∷ []) fields × (length ns ≤ most) × (bytes ≡ lead ++ fields)
+
+digit_more : (lead : List ℕ) (most : ℕ) (ns : List ℕ) (n : ℕ) (bytes : List ℕ) (b : ℕ) → is_digit b ≡ true
+    → leb (with_digit n b) 65535 ≡ true → FieldsOpen lead most ns n bytes
+    → FieldsOpen lead most ns (with_digit n b) (bytes ++ b ∷ [])
+digit_more lead most ns n bytes b d t o = (
+  o.0 ++ b ∷ [],
+  fields-more ns n (with_digit n b) o.0 b
+      (λ text h. number-more n text b d (leb-true (with_digit n b) 65535 t) h) o.1,
+  o.2,
+  lead-more bytes lead o.0 b o.3,
+)
+
+separator_more : (lead : List ℕ) (most : ℕ) (ns : List ℕ) (n : ℕ) (bytes : List ℕ) (b : ℕ) → b ≡ 59
+    → length ns < most → FieldsOpen lead most ns n bytes → FieldsOpen lead most (ns ++ n ∷ []) 0 (bytes ++ b ∷ [])
+separator_more lead most ns n bytes b is lt o = (
+  o.0 ++ 59 ∷ [],
+  fields-separator ns n o.0 o.1,
+  omega (arith, length-append ns (n ∷ [])),
+  rw is (lead-more bytes lead o.0 59 o.3),
+)
+
 pub goes_on : (f : Form) {events : List Placed} {opened : ℕ} {bytes : List ℕ} (e : Loose f events opened bytes)
     (b : ℕ)
     → Goes events opened bytes b (within f b)
@@ -108,24 +134,14 @@ goes_on (Parameters eight ns n) {events} {opened} {bytes} e b =
     cond_both (is_digit b) _ _ P
     (λ d. cond_both (leb (with_digit n b) 65535) _ _ P
     (λ t.
-    grow e b (Parameters eight ns (with_digit n b)) (
-      o.0 ++ b ∷ [],
-      fields-more ns n (with_digit n b) o.0 b
-          (λ text h. number-more n text b d (leb-true (with_digit n b) 65535 t) h) o.1,
-      o.2,
-      lead-more e.open_bytes (introducer eight) o.0 b o.3,
-    ) e.before)
+    grow e b (Parameters eight ns (with_digit n b)) (digit_more (introducer eight) 2 ns n e.open_bytes b d t o)
+    e.before)
     (λ _. tt))
     (λ _. cond_both (ltb (length ns) 3) _ _ P (λ _. cond_both (eqb b 59) _ _ P
     (λ t. cond_both (ltb (length ns) 2) _ _ P
     (λ l.
-    let lt = ltb-true (length ns) 2 l in
-    grow e b (Parameters eight (ns ++ n ∷ []) 0) (
-      o.0 ++ 59 ∷ [],
-      fields-separator ns n o.0 o.1,
-      omega (arith, length-append ns (n ∷ [])),
-      rw (eqb-true b 59 t) (lead-more e.open_bytes (introducer eight) o.0 59 o.3),
-    ) e.before)
+    grow e b (Parameters eight (ns ++ n ∷ []) 0)
+    (separator_more (introducer eight) 2 ns n e.open_bytes b (eqb-true b 59 t) (ltb-true (length ns) 2 l) o) e.before)
     (λ l.
     let ge = ltb-false (length ns) 2 l in
     grow e b (LastSeparator eight (ns ++ n ∷ [])) (
@@ -189,48 +205,24 @@ goes_on (RasterFields ns n) {events} {opened} {bytes} e b =
     let P : Option (Form × Option Event) → Type 0 = Goes events opened bytes b in
     cond_both (is_digit b) _ _ P
     (λ d. cond_both (leb (with_digit n b) 65535) _ _ P
-    (λ t.
-    grow e b (RasterFields ns (with_digit n b)) (
-      o.0 ++ b ∷ [],
-      fields-more ns n (with_digit n b) o.0 b
-          (λ text h. number-more n text b d (leb-true (with_digit n b) 65535 t) h) o.1,
-      o.2,
-      lead-more e.open_bytes (34 ∷ []) o.0 b o.3,
-    ) e.before)
+    (λ t. grow e b (RasterFields ns (with_digit n b)) (digit_more (34 ∷ []) 3 ns n e.open_bytes b d t o) e.before)
     (λ _. tt))
     (λ _. cond_both (eqb b 59 && ltb (length ns) 3) _ _ P
     (λ t.
     let r = both_of b 59 (length ns) 3 t in
-    grow e b (RasterFields (ns ++ n ∷ []) 0) (
-      o.0 ++ 59 ∷ [],
-      fields-separator ns n o.0 o.1,
-      omega (arith, length-append ns (n ∷ [])),
-      rw (r.0) (lead-more e.open_bytes (34 ∷ []) o.0 59 o.3),
-    ) e.before)
+    grow e b (RasterFields (ns ++ n ∷ []) 0) (separator_more (34 ∷ []) 3 ns n e.open_bytes b r.0 r.1 o) e.before)
     (λ _. tt))
 goes_on (ColourFields ns n) {events} {opened} {bytes} e b =
     let o = e.opens in
     let P : Option (Form × Option Event) → Type 0 = Goes events opened bytes b in
     cond_both (is_digit b) _ _ P
     (λ d. cond_both (leb (with_digit n b) 65535) _ _ P
-    (λ t.
-    grow e b (ColourFields ns (with_digit n b)) (
-      o.0 ++ b ∷ [],
-      fields-more ns n (with_digit n b) o.0 b
-          (λ text h. number-more n text b d (leb-true (with_digit n b) 65535 t) h) o.1,
-      o.2,
-      lead-more e.open_bytes (35 ∷ []) o.0 b o.3,
-    ) e.before)
+    (λ t. grow e b (ColourFields ns (with_digit n b)) (digit_more (35 ∷ []) 4 ns n e.open_bytes b d t o) e.before)
     (λ _. tt))
     (λ _. cond_both (eqb b 59 && ltb (length ns) 4) _ _ P
     (λ t.
     let r = both_of b 59 (length ns) 4 t in
-    grow e b (ColourFields (ns ++ n ∷ []) 0) (
-      o.0 ++ 59 ∷ [],
-      fields-separator ns n o.0 o.1,
-      omega (arith, length-append ns (n ∷ [])),
-      rw (r.0) (lead-more e.open_bytes (35 ∷ []) o.0 59 o.3),
-    ) e.before)
+    grow e b (ColourFields (ns ++ n ∷ []) 0) (separator_more (35 ∷ []) 4 ns n e.open_bytes b r.0 r.1 o) e.before)
     (λ _. tt))
 goes_on Terminating {events} {opened} {bytes} e b =
     let one : e.open_bytes ≡ 27 ∷ [] = e.opens in

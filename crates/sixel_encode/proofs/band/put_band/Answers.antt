@@ -49,7 +49,8 @@ loop-register-preserved g c = elim c.if-occurring-register.branch [
       let before = in_all (g.K.Sink.taken c.loop-register.out) c.loop-register.text in
       let after = in_all (g.K.Sink.taken w.put_next.new.out) w.put_next.new.text in
       let here : occurs p c.args.band register ≡ true =
-      sym (c.band_registers-occurring.ensures.value register c.loop-register-test.true) ∙ w.if-occurring-register.true in
+      sym (c.band_registers-occurring.ensures.value register c.loop-register-test.true)
+      ∙ w.if-occurring-register.true in
       rw (w.out-is, w.text-is, w.is_first-is)
       (record {
         bytes = steps-put (registers_above p c.args.band) (register_step p c.args.band)
@@ -67,7 +68,8 @@ loop-register-preserved g c = elim c.if-occurring-register.branch [
       let p = c.args.picture.now in
       let register = c.loop-register.register in
       let gone : occurs p c.args.band register ≡ false =
-      sym (c.band_registers-occurring.ensures.value register c.loop-register-test.true) ∙ w.if-occurring-register.false in
+      sym (c.band_registers-occurring.ensures.value register c.loop-register-test.true)
+      ∙ w.if-occurring-register.false in
       rw (w.out-is, w.text-is, w.is_first-is)
       (record {
         bytes = put-as _ _ _ _ (step-none p c.args.band register gone) c.loop-register.invariant.bytes;

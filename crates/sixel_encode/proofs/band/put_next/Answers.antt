@@ -1,14 +1,15 @@
 use Rattle.sixel_grammar.specs.Blocks.{in_all}
 use Rattle.sixel_grammar.proofs.Devices.{TakesMore-then}
 use Rattle.sixel_grammar.proofs.Sinks.{puts-joined}
-use Rattle.sixel_encode.proofs.Steps.{next-parts}
+use Rattle.sixel_encode.specs.Canon.{register_commands}
+use Rattle.sixel_encode.proofs.Texts.{text-append}
 use Rattle.sixel_encode.proofs.band.put_next.Goals as goal
 
 pub returns-clause-bytes : goal.returns-clause-bytes
 returns-clause-bytes g c =
     let before = in_all (g.K.Sink.taken c.put_between.new.out) c.put_between.new.text in
     puts-joined c.put_register.result _ before _ _ _ _
-    (next-parts c.args.picture.now c.args.band c.args.register c.args.is_first)
+    (text-append _ (register_commands c.args.picture.now c.args.band c.args.register))
     c.in_ok-put_between.ensures.bytes c.put_register.ensures.bytes
 
 pub returns-clause-taken : goal.returns-clause-taken

@@ -30,7 +30,8 @@ returns-in_err-count-clause-unread g c = λ is.
 pub returns-in_err-read_piece-clause-refused : goal.returns-in_err-read_piece-clause-refused
 returns-in_err-read_piece-clause-refused g c =
     let i = c.loop-events.invariant in
-    let failed = err_from_is_err_and c.from_residual-in_err-read_piece.result c.from_residual-in_err-read_piece.ensures.1 in
+    let exit = c.from_residual-in_err-read_piece in
+    let failed = err_from_is_err_and exit.result exit.ensures.1 in
     rw (failed.1, failed.2)
     (refused_early _ _ _ (i.0 ++ take c.in_ok-count.count c.fill.new.piece)
     (consumes-then _ _ _ i.0 (take c.in_ok-count.count c.fill.new.piece) i.2 c.in_ok-count.ensures.bytes.0)
