@@ -3,10 +3,9 @@ use Rattle.std.proofs.Common.{◌≡◌, ℕ, Bool, true, false, cond, Option, S
 use Rattle.std.specs.Prelude.{◌==◌, if◌then◌else◌, IfSome, IsFalse, IsSome, IsTrue}
 use Rattle.std.specs.List.{AllByRecursion}
 use Rattle.std.specs.Option.{option_map_or}
-use Rattle.sixel_grammar.specs.declared.command.Command.TheVariants.{Sixel, Repeat, Raster, Select, Define}
-use Rattle.sixel_grammar.specs.declared.command.Command.TheVariants.{CarriageReturn, NextLine}
+use Rattle.sixel_grammar.specs.declared.command.Command.TheVariants.{Repeat}
 use Rattle.sixel_grammar.specs.declared.command.Event.{Event}
-use Rattle.sixel_grammar.specs.declared.command.Event.TheVariants.{Start, Step, Finish}
+use Rattle.sixel_grammar.specs.declared.command.Event.TheVariants.{Step}
 use Rattle.sixel_picture.specs.Events.{Attributes, columns_of, is_repeat_of_zero, is_return, is_square, raster_of}
 use Rattle.sixel_picture.specs.Geometry.{column, falls, touches}
 use Rattle.sixel_picture.specs.Positions.{latest}
@@ -22,15 +21,8 @@ no_zero z count false h = refl
 
 -- an event that is no repeat of 0 has the same columns on each terminal
 columns_same : (z : ℕ) (e : Event) → IsFalse (is_repeat_of_zero e) → columns_of z e ≡ columns_of 0 e
-columns_same z (Start eight parameters) h = refl
-columns_same z (Step (Sixel bits)) h = refl
 columns_same z (Step (Repeat count bits)) h = no_zero z count (count == 0) h
-columns_same z (Step (Raster a b c d)) h = refl
-columns_same z (Step (Select r)) h = refl
-columns_same z (Step (Define r s a b c)) h = refl
-columns_same z (Step CarriageReturn) h = refl
-columns_same z (Step NextLine) h = refl
-columns_same z (Finish eight) h = refl
+columns_same z _ h = refl
 
 each_column : (z : ℕ) (events : List Event) → AllByRecursion (λ e. IsFalse (is_repeat_of_zero e)) events
     → AllByRecursion (λ e. columns_of z e ≡ columns_of 0 e) events

@@ -3,8 +3,7 @@ use Rattle.std.proofs.Common.{◌≡◌, ℕ, Bool, true, false, Some, None, Lis
 use Rattle.std.specs.Prelude.{if◌then◌else◌}
 use Rattle.std.specs.Bool.{then_some}
 use Rattle.sixel_grammar.specs.declared.command.Command.{Command}
-use Rattle.sixel_grammar.specs.declared.command.Command.TheVariants.{Sixel, Repeat, Raster, Select, Define}
-use Rattle.sixel_grammar.specs.declared.command.Command.TheVariants.{CarriageReturn, NextLine}
+use Rattle.sixel_grammar.specs.declared.command.Command.TheVariants.{Select, Define}
 use Rattle.std.proofs.Math.Nat.{mod-eq_of_lt}
 use Rattle.sixel_grammar.specs.declared.command.Event.{Event}
 use Rattle.sixel_grammar.specs.declared.command.Event.TheVariants.{Step}
@@ -28,16 +27,8 @@ pub none_selects : (b : Bool) (command : Command) → ((r : ℕ) → command ≡
     → None ≡ (if b then named_by else select_of) (Step command)
 none_selects b (Select r) no_select no_define = absurd (no_select r refl)
 none_selects b (Define r s x y z) no_select no_define = absurd (no_define r s x y z refl)
-none_selects true (Sixel bits) no_select no_define = refl
-none_selects true (Repeat count bits) no_select no_define = refl
-none_selects true (Raster a b c d) no_select no_define = refl
-none_selects true CarriageReturn no_select no_define = refl
-none_selects true NextLine no_select no_define = refl
-none_selects false (Sixel bits) no_select no_define = refl
-none_selects false (Repeat count bits) no_select no_define = refl
-none_selects false (Raster a b c d) no_select no_define = refl
-none_selects false CarriageReturn no_select no_define = refl
-none_selects false NextLine no_select no_define = refl
+none_selects true _ no_select no_define = refl
+none_selects false _ no_select no_define = refl
 
 last_of_either : (b : Bool) (before : List Event) (r : ℕ) → Known before r
     → latest (if b then named_by else select_of) before ≡ Some r
