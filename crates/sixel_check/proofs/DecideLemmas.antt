@@ -32,7 +32,8 @@ use Rattle.sixel_check.proofs.VerdictLemmas.{numbered}
 -- ---- the two rules on points
 
 -- what holds where one test passes and the other fails
-unfoldable pub decided_by : (P : Type 0) (b c : Bool) → (b ≡ true → c ≡ false → P) → (P → b ≡ true) → (P → c ≡ false) → Decided P
+unfoldable pub decided_by : (P : Type 0) (b c : Bool) → (b ≡ true → c ≡ false → P) → (P → b ≡ true) → (P → c ≡ false)
+    → Decided P
 decided_by P true false make passes fails = inl (make refl refl)
 decided_by P true true make passes fails = inr (λ p. let no : true ≡ false = fails p in cc)
 decided_by P false c make passes fails = inr (λ p. let no : false ≡ true = passes p in cc)
@@ -46,7 +47,8 @@ falls_left before e x y h =
     let bit : under.bit < 6 = under.below in
     (under.to, omega (arith, row, bit))
 
-unfoldable pub falls_searchable : (before : List Event) (e : Event) (a : Attributes) → Searchable (FallsOutside before e a)
+unfoldable pub falls_searchable : (before : List Event) (e : Event) (a : Attributes)
+    → Searchable (FallsOutside before e a)
 falls_searchable before e a = record {
   width = column 0 before + columns_of 0 e;
   height = 6 * band before + 6;
@@ -72,7 +74,8 @@ FirstOf P o =
     ((x : ℕ) × (y : ℕ) × IsFirstPoint (λ x y. IsSomeAnd o (λ a. P a x y)) x y)
     × IsSomeAnd o (λ a. (x : ℕ) × (y : ℕ) × P a x y)
 
-unfoldable pub first_of : (P : Attributes → ℕ → ℕ → Type 0) (o : Option Attributes) → ((a : Attributes) → Searchable (P a))
+unfoldable pub first_of : (P : Attributes → ℕ → ℕ → Type 0) (o : Option Attributes)
+    → ((a : Attributes) → Searchable (P a))
     → FirstOf P o ⊎ ¬ IsSomeAnd o (λ a. (x : ℕ) × (y : ℕ) × P a x y)
 first_of P None s = inr (λ none. none)
 first_of P (Some a) s = elim (first_point (P a) (s a)) [
@@ -108,7 +111,8 @@ uncovered_decided before e = both_decided _ _ (decide_true (is_finish e)) (blank
 
 -- ---- the least rule of an event
 
-unfoldable pub rule_decided : (registers n : ℕ) (before : List Event) (e : Event) → Decided (Breaks registers n before e)
+unfoldable pub rule_decided : (registers n : ℕ) (before : List Event) (e : Event)
+    → Decided (Breaks registers n before e)
 unfolding Breaks
 rule_decided registers n before e =
     decide_either (n == raster_first_rule) _ _ (decide_true _)
@@ -156,7 +160,8 @@ pixel_of registers _ before e h = (None, refl)
 abbrev LeastAt : ℕ → List Event → ℕ → Type 0
 LeastAt registers events i = LeastBelow (λ n. HoldsAtPosition (Breaks registers n) events i) (suc last_rule)
 
-unfoldable pub held_decided : (registers n : ℕ) (events : List Event) (i : ℕ) (o : Option Event) → slice_get events i ≡ o
+unfoldable pub held_decided : (registers n : ℕ) (events : List Event) (i : ℕ) (o : Option Event)
+    → slice_get events i ≡ o
     → Decided (HoldsAtPosition (Breaks registers n) events i)
 held_decided registers n events i None is = inr (λ h. let bad : Some h.item ≡ None = sym h.here ∙ is in cc)
 held_decided registers n events i (Some e) is = elim (rule_decided registers n (take i events) e) [

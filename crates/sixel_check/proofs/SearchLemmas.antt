@@ -61,7 +61,8 @@ pub record Searchable (P : ℕ → ℕ → Type 0) : Type 0 where
   pub left : (x y : ℕ) → P x y → x < width
   pub above : (x y : ℕ) → P x y → y < height
 
-unfoldable pub in_row : (P : ℕ → ℕ → Type 0) (s : Searchable P) (y : ℕ) → LeastBelow (λ x. P x y) s.width ⊎ ((x : ℕ) → ¬ P x y)
+unfoldable pub in_row : (P : ℕ → ℕ → Type 0) (s : Searchable P) (y : ℕ)
+    → LeastBelow (λ x. P x y) s.width ⊎ ((x : ℕ) → ¬ P x y)
 in_row P s y = elim (least_below (λ x. P x y) (λ x. s.decide x y) s.width) [
   | inl f ↦ inl f
   | inr none ↦ inr (λ x p. none x (s.left x y p) p)
@@ -86,7 +87,8 @@ none_before P s y rows f u v earlier p = elim (or_cases (nat_lt v y) _ earlier) 
       f.least u (ltb-true u f.number parts.1) (subst (λ (row : ℕ). P u row) (eqb-true v y parts.0) p)
 ]
 
-unfoldable pub first_point : (P : ℕ → ℕ → Type 0) → Searchable P → ((x : ℕ) × (y : ℕ) × IsFirstPoint P x y) ⊎ ((x y : ℕ) → ¬ P x y)
+unfoldable pub first_point : (P : ℕ → ℕ → Type 0) → Searchable P
+    → ((x : ℕ) × (y : ℕ) × IsFirstPoint P x y) ⊎ ((x y : ℕ) → ¬ P x y)
 first_point P s = elim (least_below (λ y. LeastBelow (λ x. P x y) s.width) (row_decided P s) s.height) [
   | inl f ↦ inl (
     f.holds.number,

@@ -6,6 +6,7 @@ use Rattle.std.proofs.lemmas.Result.{err_from_is_err_and}
 use Rattle.sixel_grammar.specs.Document.{most_bytes}
 use Rattle.sixel_grammar.specs.Reading.{NoFaultBefore}
 use Rattle.sixel_grammar.specs.Standing.{left_of}
+use Rattle.sixel_grammar.specs.declared.fault.InputFault.TheVariants.{Read}
 use Rattle.sixel_grammar.proofs.Sources.{consumes-then, no_fault_before}
 use Rattle.sixel_check.specs.Checking.{Answers}
 use Rattle.sixel_check.proofs.CheckLemmas.{end_counts, end_grows, fault_answers, fault_counts, fault_grows, fault_reads}
@@ -22,29 +23,23 @@ loop-checker-init g c = (
 
 -- ---- a failure of the source
 
-pub returns-in_err-count-clause-answer : goal.returns-in_err-count-clause-answer
-returns-in_err-count-clause-answer g c =
-    let failed = err_from_is_err_and c.from_residual.result c.from_residual.ensures.1 in
-    read_answers (g.S.Source.remaining c.args.input.now) c.from_residual.result (failed.1 ∙ ap Err failed.2)
-
-pub returns-in_err-count-clause-failures : goal.returns-in_err-count-clause-failures
-returns-in_err-count-clause-failures g c =
-    let failed = err_from_is_err_and c.from_residual.result c.from_residual.ensures.1 in
-    read_counts (g.S.Source.failure_count c.args.input.now) (g.S.Source.failure_count c.loop-checker.input)
-    (g.S.Source.failure_count c.fill.new.self) c.from_residual.result (failed.1 ∙ ap Err failed.2)
-    c.in_err-count.ensures.failures c.loop-checker.invariant.3
-
-pub returns-in_err-count-clause-unread : goal.returns-in_err-count-clause-unread
-returns-in_err-count-clause-unread g c = λ is.
+pub returns-in_err-count : goal.returns-in_err-count
+returns-in_err-count g c =
     let i = c.loop-checker.invariant in
-    no_fault_before (g.S.Source.remaining c.args.input.now) (g.S.Source.remaining c.loop-checker.input)
-    (g.S.Source.remaining c.fill.new.self) c.loop-checker.reader i.1.events i.0 i.1.read i.2
-    c.in_err-count.ensures.bytes
-
-pub returns-in_err-count-clause-memory : goal.returns-in_err-count-clause-memory
-returns-in_err-count-clause-memory g c =
-    let failed = err_from_is_err_and c.from_residual.result c.from_residual.ensures.1 in
-    read_grows (g.S.Source.remaining c.args.input.now) c.from_residual.result (failed.1 ∙ ap Err failed.2)
+    let a = g.S.Source.remaining c.args.input.now in
+    let r = c.from_residual.result in
+    let failed = err_from_is_err_and r c.from_residual.ensures.1 in
+    let is : r ≡ Err Read = failed.1 ∙ ap Err failed.2 in
+    record {
+      answer = read_answers a r is;
+      failures = read_counts (g.S.Source.failure_count c.args.input.now)
+          (g.S.Source.failure_count c.loop-checker.input) (g.S.Source.failure_count c.fill.new.self) r is
+          c.in_err-count.ensures.failures i.3;
+      unread = λ e.
+          no_fault_before a (g.S.Source.remaining c.loop-checker.input) (g.S.Source.remaining c.fill.new.self)
+          c.loop-checker.reader i.1.events i.0 i.1.read i.2 c.in_err-count.ensures.bytes;
+      memory = read_grows a r is;
+    }
 
 -- ---- the end of the bytes
 
@@ -78,48 +73,26 @@ returns-then-count-eq0-clause-memory g c =
 pub read_piece-requires : goal.read_piece-requires
 read_piece-requires g c = (c.loop-checker.invariant.0, c.loop-checker.invariant.1)
 
-pub returns-in_err-read_piece-clause-answer : goal.returns-in_err-read_piece-clause-answer
-returns-in_err-read_piece-clause-answer g c =
+pub returns-in_err-read_piece : goal.returns-in_err-read_piece
+returns-in_err-read_piece g c =
     let i = c.loop-checker.invariant in
-    let r = c.from_residual-in_err-read_piece.result in
-    let failed = err_from_is_err_and r c.from_residual-in_err-read_piece.ensures.1 in
     let a = g.S.Source.remaining c.args.input.now in
     let z = g.S.Source.remaining c.fill.new.self in
     let piece = take c.in_ok-count.count c.fill.new.piece in
-    fault_answers a z c.in_err-read_piece.field-0.0 r (i.0 ++ piece) (failed.1 ∙ ap Err failed.2)
-    (consumes-then a (g.S.Source.remaining c.loop-checker.input) z i.0 piece i.2 c.in_ok-count.ensures.bytes.0)
-    (c.in_err-read_piece.ensures.refused i.0 i.1)
-
-pub returns-in_err-read_piece-clause-failures : goal.returns-in_err-read_piece-clause-failures
-returns-in_err-read_piece-clause-failures g c =
-    let i = c.loop-checker.invariant in
+    let fault = c.in_err-read_piece.field-0.0 in
     let r = c.from_residual-in_err-read_piece.result in
     let failed = err_from_is_err_and r c.from_residual-in_err-read_piece.ensures.1 in
-    fault_counts (g.S.Source.failure_count c.args.input.now) (g.S.Source.failure_count c.loop-checker.input)
-    (g.S.Source.failure_count c.fill.new.self) c.in_err-read_piece.field-0.0 r
-    (i.0 ++ take c.in_ok-count.count c.fill.new.piece) (failed.1 ∙ ap Err failed.2)
-    (c.in_err-read_piece.ensures.refused i.0 i.1) c.in_ok-count.ensures.failures i.3
-
-pub returns-in_err-read_piece-clause-unread : goal.returns-in_err-read_piece-clause-unread
-returns-in_err-read_piece-clause-unread g c =
-    let i = c.loop-checker.invariant in
-    let r = c.from_residual-in_err-read_piece.result in
-    let failed = err_from_is_err_and r c.from_residual-in_err-read_piece.ensures.1 in
-    fault_reads (IfSome (g.S.Source.remaining c.args.input.now) (NoFaultBefore (g.S.Source.remaining c.fill.new.self)))
-    c.in_err-read_piece.field-0.0 r (i.0 ++ take c.in_ok-count.count c.fill.new.piece) (failed.1 ∙ ap Err failed.2)
-    (c.in_err-read_piece.ensures.refused i.0 i.1)
-
-pub returns-in_err-read_piece-clause-memory : goal.returns-in_err-read_piece-clause-memory
-returns-in_err-read_piece-clause-memory g c =
-    let i = c.loop-checker.invariant in
-    let r = c.from_residual-in_err-read_piece.result in
-    let failed = err_from_is_err_and r c.from_residual-in_err-read_piece.ensures.1 in
-    let a = g.S.Source.remaining c.args.input.now in
-    let z = g.S.Source.remaining c.fill.new.self in
-    let piece = take c.in_ok-count.count c.fill.new.piece in
-    fault_grows a z c.in_err-read_piece.field-0.0 r (i.0 ++ piece) (failed.1 ∙ ap Err failed.2)
-    (consumes-then a (g.S.Source.remaining c.loop-checker.input) z i.0 piece i.2 c.in_ok-count.ensures.bytes.0)
-    (c.in_err-read_piece.ensures.memory i.0 i.1)
+    let is : r ≡ Err fault = failed.1 ∙ ap Err failed.2 in
+    let told = consumes-then a (g.S.Source.remaining c.loop-checker.input) z i.0 piece i.2 c.in_ok-count.ensures.bytes.0 in
+    let refused = c.in_err-read_piece.ensures.refused i.0 i.1 in
+    record {
+      answer = fault_answers a z fault r (i.0 ++ piece) is told refused;
+      failures = fault_counts (g.S.Source.failure_count c.args.input.now)
+          (g.S.Source.failure_count c.loop-checker.input) (g.S.Source.failure_count c.fill.new.self) fault r
+          (i.0 ++ piece) is refused c.in_ok-count.ensures.failures i.3;
+      unread = fault_reads (IfSome a (NoFaultBefore z)) fault r (i.0 ++ piece) is refused;
+      memory = fault_grows a z fault r (i.0 ++ piece) is told (c.in_err-read_piece.ensures.memory i.0 i.1);
+    }
 
 -- ---- the loop
 

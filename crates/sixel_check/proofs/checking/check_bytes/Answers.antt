@@ -15,26 +15,16 @@ returns-clause-answer c =
     c.conclude.ensures.answer c.args.bytes.now
     (c.in_ok-read_piece.ensures.read [] c.nothing_read-reader.ensures)
 
-pub returns-in_err-read_piece-clause-answer : goal.returns-in_err-read_piece-clause-answer
-returns-in_err-read_piece-clause-answer c =
+pub returns-in_err-read_piece : goal.returns-in_err-read_piece
+returns-in_err-read_piece c =
     let failed = err_from_is_err_and c.from_residual.result c.from_residual.ensures.1 in
-    rw (failed.1, failed.2)
-    (explains_now _ c.args.bytes.now
-    (c.in_err-read_piece.ensures.refused [] c.nothing_read-reader.ensures))
-
-pub returns-in_err-read_piece-clause-never_read : goal.returns-in_err-read_piece-clause-never_read
-returns-in_err-read_piece-clause-never_read c =
-    let failed = err_from_is_err_and c.from_residual.result c.from_residual.ensures.1 in
-    rw (failed.1, failed.2)
-    (never_read _ c.args.bytes.now
-    (c.in_err-read_piece.ensures.refused [] c.nothing_read-reader.ensures))
-
-pub returns-in_err-read_piece-clause-memory : goal.returns-in_err-read_piece-clause-memory
-returns-in_err-read_piece-clause-memory c =
-    let failed = err_from_is_err_and c.from_residual.result c.from_residual.ensures.1 in
-    rw (failed.1, failed.2)
-    (grows_if (Err _) c.args.bytes.now
-    (c.in_err-read_piece.ensures.memory [] c.nothing_read-reader.ensures))
+    let refused = c.in_err-read_piece.ensures.refused [] c.nothing_read-reader.ensures in
+    record {
+      answer = rw (failed.1, failed.2) (explains_now _ c.args.bytes.now refused);
+      never_read = rw (failed.1, failed.2) (never_read _ c.args.bytes.now refused);
+      memory = rw (failed.1, failed.2) (grows_if (Err _) c.args.bytes.now
+          (c.in_err-read_piece.ensures.memory [] c.nothing_read-reader.ensures));
+    }
 
 pub returns-clause-never_read : goal.returns-clause-never_read
 returns-clause-never_read c = end_reads c.conclude.result c.conclude.ensures.never_read
