@@ -22,7 +22,7 @@ use Rattle.sixel_picture.proofs.PaintedLemmas.{none_passes, row_below}
 use Rattle.sixel_picture.proofs.SheetLemmas.{rows_from_index}
 use Rattle.sixel_check.specs.Judging.{IsDrawn, box_of}
 use Rattle.sixel_check.specs.Outside.{IsFirstIfAny}
-use Rattle.sixel_check.specs.Verdicts.{IsFirstPixel, capped}
+use Rattle.sixel_check.specs.Verdicts.{capped}
 
 -- ---- places
 
@@ -155,14 +155,6 @@ first_blank_drawn s before d = of_place (position_from is_none 0 s.cells) refl
         let x_is : i % s.width ≡ capped (i % s.width) = omega arith in
         let y_is : i / s.width ≡ capped (i / s.width) = omega arith in
         (i % s.width, i / s.width, found.2, ap₂ (λ (x y : ℕ). Some (x, y)) x_is y_is)
-
-pub blank_is : (s : Sheet) (before : List Event) (pixel : ℕ × ℕ) → IsDrawn s before → first_blank s ≡ Some pixel
-    → IsFirstPixel (StaysBlank before (box_of s)) (Some pixel)
-blank_is s before pixel d is = rw is at (first_blank_drawn s before d)
-
-pub none_blank : (s : Sheet) (before : List Event) → IsDrawn s before → first_blank s ≡ None
-    → (x y : ℕ) → StaysBlank before (box_of s) x y → ⊥
-none_blank s before d is = rw is at (first_blank_drawn s before d)
 
 -- ---- the registers of a sheet without a blank pixel
 

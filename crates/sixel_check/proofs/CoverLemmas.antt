@@ -85,20 +85,16 @@ keeps_end n before eight none =
     = keeps_at n (before ++ Finish eight ∷ []) none (length before) (Finish eight) (get_end before (Finish eight)) in
     rw take-append_seam at k
 
-covered_at_end : (n : ℕ) (before : List Event) (eight : Bool) (a : Attributes) (x y : ℕ) → Keeps n before (Finish eight)
-    → raster_before before ≡ Some a → is_in_box a x y ≡ true → is_covered before x y ≡ true
-unfolding BreaksUncovered
-covered_at_end n before eight a x y k box inside =
-    true_from_ne_false (is_covered before x y)
-    (λ blank. k.uncovered (refl, rw box (x, y, record { inside = inside; blank = blank })))
-
 covered_whole : (n : ℕ) (before : List Event) (eight : Bool) (a : Attributes) (x y : ℕ)
     → BreaksNone n last_rule (before ++ Finish eight ∷ []) → raster_before (before ++ Finish eight ∷ []) ≡ Some a
     → is_in_box a x y ≡ true → is_covered (before ++ Finish eight ∷ []) x y ≡ true
+unfolding BreaksUncovered
 covered_whole n before eight a x y none box inside =
+    let at : raster_before before ≡ Some a = sym (box_before before eight) ∙ box in
     covered_push before (Finish eight) x y
     ∙ or_right (falls before (Finish eight) x y) _
-    (covered_at_end n before eight a x y (keeps_end n before eight none) (sym (box_before before eight) ∙ box) inside)
+    (true_from_ne_false (is_covered before x y) (λ blank.
+    (keeps_end n before eight none).uncovered (refl, rw at (x, y, record { inside = inside; blank = blank }))))
 
 pub all_covered : (n : ℕ) → AllCovered n
 all_covered n events a x y whole none box inside =

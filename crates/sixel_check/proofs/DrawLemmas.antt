@@ -1,9 +1,8 @@
 -- On what is drawn of an event that breaks no rule.
-use Rattle.std.proofs.Common.{◌≡◌, ◌≢◌, ◌==◌, ◌&&◌, ◌+◌, ◌%◌, ℕ, ◌<◌, ◌≤◌, Bool, true, false, Option}
-use Rattle.std.proofs.Common.{Some, None, IsTrue, IsFalse, List, [], ◌∷◌, ◌++◌, arith, sym, ◌∙◌, ap, ap₂, subst, refl}
-use Rattle.std.proofs.Common.{◌||◌}
-use Rattle.std.specs.Prelude.{IfSome, IsSome, is_none, nat_le, if◌then◌else◌}
-use Rattle.std.specs.Option.{option_map, option_or}
+use Rattle.std.proofs.Common.{not, ◌≡◌, ◌≢◌, ◌==◌, ◌&&◌, ◌+◌, ◌%◌, ℕ, ◌<◌, ◌≤◌, Bool, true, false, Option, Some, None}
+use Rattle.std.proofs.Common.{IsTrue, IsFalse, List, [], ◌∷◌, ◌++◌, arith, sym, ◌∙◌, ap, refl, ◌||◌}
+use Rattle.std.specs.Prelude.{IfSome, IsSome, is_none, nat_le, unwrap_or, if◌then◌else◌}
+use Rattle.std.specs.Option.{option_map, option_map_or, option_or}
 use Rattle.std.proofs.lemmas.Bool.{and_parts, eqb-true, eqb-false, false_from_ne_true, leb-true, not-false}
 use Rattle.std.proofs.lemmas.Bool.{not-true, not_from_false, or_parts}
 use Rattle.sixel_grammar.specs.Spelling.{IsSpellable}
@@ -105,29 +104,6 @@ undrawn_still before e none bare u =
     let kept = or_parts (is_data_command e || is_return e) (is_finish e) (rw u.no_box at k.raster_first) in
     undrawn_push before e bare (or_parts (is_data_command e) (is_return e) kept.0).0 u
 
-square_is : (a : Attributes) → is_square a ≡ true
-    → Some a ≡ Some (record { pan = 1; pad = 1; width = a.width; height = a.height })
-square_is a h =
-    let parts = and_parts (a.pan == 1) (a.pad == 1) h in
-    let pan : a.pan ≡ 1 = eqb-true a.pan 1 parts.0 in
-    let pad : a.pad ≡ 1 = eqb-true a.pad 1 parts.1 in
-    ap₂ (λ (p q : ℕ). Some (record { pan = p; pad = q; width = a.width; height = a.height })) pan pad
-
--- raster attributes that break no rule
-pub good_sides : (before : List Event) (e : Event) (a : Attributes) → BreaksNoRule before e → raster_of e ≡ Some a
-    → IsTrue (is_side a.width) × IsTrue (is_side a.height)
-unfolding breaks_box_size
-good_sides before e a none is =
-    let k = keeps before e none in
-    and_parts (is_side a.width) (is_side a.height) (not-false (has_sides a) (rw is at k.box_size))
-
-pub good_ratio : (before : List Event) (e : Event) (a : Attributes) → BreaksNoRule before e → raster_of e ≡ Some a
-    → raster_of e ≡ Some (record { pan = 1; pad = 1; width = a.width; height = a.height })
-unfolding breaks_ratio
-good_ratio before e a none is =
-    let k = keeps before e none in
-    is ∙ square_is a (not-false (is_square a) (rw is at k.ratio))
-
 abbrev pub sides : Option Attributes → Option (ℕ × ℕ)
 sides o = option_map (λ (a : Attributes). (a.width, a.height)) o
 
@@ -135,29 +111,38 @@ pub no_attributes : (o : Option Attributes) → sides o ≡ None → o ≡ None
 no_attributes None h = refl
 no_attributes (Some a) h = cc
 
-pub attributes_of : (o : Option Attributes) (w h : ℕ) → sides o ≡ Some (w, h)
-    → (a : Attributes) × (o ≡ Some a) × (a.width ≡ w) × (a.height ≡ h)
-attributes_of None w h e = cc
-attributes_of (Some a) w h e =
-    let same : (a.width, a.height) ≡ (w, h) = cc in
-    (a, refl, ap (λ (p : ℕ × ℕ). p.0) same, ap (λ (p : ℕ × ℕ). p.1) same)
+abbrev make : ℕ → ℕ → ℕ → ℕ → Attributes
+make pan pad width height = record { pan = pan; pad = pad; width = width; height = height }
+
+-- raster attributes that break no rule
+good_raster : (before : List Event) (e : Event) (w h : ℕ) → BreaksNoRule before e → sides (raster_of e) ≡ Some (w, h)
+    → (raster_of e ≡ Some (make 1 1 w h)) × IsTrue (is_side w) × IsTrue (is_side h)
+unfolding breaks_box_size breaks_ratio
+good_raster before e w h none is =
+    let k = keeps before e none in of_sides (raster_of e) k.ratio k.box_size is
+  where
+    of_sides : (o : Option Attributes) → option_map_or (λ a. not (is_square a)) o false ≡ false
+        → option_map_or (λ a. not (has_sides a)) o false ≡ false → sides o ≡ Some (w, h)
+        → (o ≡ Some (make 1 1 w h)) × IsTrue (is_side w) × IsTrue (is_side h)
+    of_sides None ratio size e = cc
+    of_sides (Some a) ratio size e =
+        let square = and_parts (a.pan == 1) (a.pad == 1) (not-false _ ratio) in
+        let good = and_parts (is_side a.width) (is_side a.height) (not-false _ size) in
+        let width : a.width ≡ w = ap (λ (o : Option (ℕ × ℕ)). (unwrap_or o (0, 0)).0) e in
+        let height : a.height ≡ h = ap (λ (o : Option (ℕ × ℕ)). (unwrap_or o (0, 0)).1) e in
+        let whole : make a.pan a.pad a.width a.height ≡ make 1 1 w h =
+        cc (eqb-true a.pan 1 square.0, eqb-true a.pad 1 square.1, width, height) in
+        (ap (λ (b : Attributes). Some b) whole, rw width at good.0, rw height at good.1)
 
 pub sides_good : (before : List Event) (e : Event) (w h : ℕ) → BreaksNoRule before e → sides (raster_of e) ≡ Some (w, h)
     → IsTrue (is_side w) × IsTrue (is_side h)
-sides_good before e w h none is =
-    let a = attributes_of (raster_of e) w h is in
-    let good = good_sides before e a.0 none a.1 in
-    (subst (λ (n : ℕ). IsTrue (is_side n)) a.2 good.0, subst (λ (n : ℕ). IsTrue (is_side n)) a.3 good.1)
+sides_good before e w h none is = let good = good_raster before e w h none is in (good.1, good.2)
 
 -- the first box
 pub drawn_box : (before : List Event) (e : Event) (w h : ℕ) → BreaksNoRule before e → sides (raster_of e) ≡ Some (w, h)
     → IsUndrawn before → IsDrawn (blank_sheet w h) (before ++ e ∷ [])
 drawn_box before e w h none is u =
-    let a = attributes_of (raster_of e) w h is in
-    let good = good_sides before e a.0 none a.1 in
-    let first = drawn_first before e a.0.width a.0.height (good_ratio before e a.0 none a.1) good.0 good.1 u in
-    subst (λ (n : ℕ). IsDrawn (blank_sheet n h) (before ++ e ∷ [])) a.2
-    (subst (λ (n : ℕ). IsDrawn (blank_sheet a.0.width n) (before ++ e ∷ [])) a.3 first)
+    let good = good_raster before e w h none is in drawn_first before e w h good.0 good.1 good.2 u
 
 -- ---- the registers that are painted in
 

@@ -128,11 +128,6 @@ after_byte old new kept more c front byte takes keeps a = record {
   checked = keeps a.events a.checked;
 }
 
--- neither has read a byte
-pub after_none : (reader : Reader) (kept : CheckerValue) → grammar.StandsAfter reader [] [] → StandsAfter kept []
-    → AreAfter reader kept []
-after_none reader kept read checked = record { events = []; read = read; checked = checked }
-
 -- a fault of whatever the bytes begin is one of the bytes
 pub explains_now : (fault : InputFault) (bytes : List ℕ) → ExplainsAlways fault bytes → Explains fault bytes
 explains_now (Grammar f) bytes h = subst (λ (t : List ℕ). IsFaultOf t f) (append-nil bytes) (h [])

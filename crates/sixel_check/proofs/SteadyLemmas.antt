@@ -13,7 +13,7 @@ use Rattle.sixel_grammar.specs.declared.command.Event.TheVariants.{Step}
 use Rattle.sixel_picture.specs.Colours.{palette_at}
 use Rattle.sixel_picture.specs.Events.{Definition, definition_where, is_painting, is_same_definition}
 use Rattle.sixel_picture.specs.Rules.{BreaksNone, breaks_redefined, breaks_undefined, colour_of, definition_of}
-use Rattle.sixel_picture.specs.Rules.{is_painted_in, is_that, known, palette_left, picture_left}
+use Rattle.sixel_picture.specs.Rules.{is_painted_in, is_that, known, picture_left}
 use Rattle.sixel_picture.proofs.KnownLemmas.{each_before}
 use Rattle.sixel_picture.proofs.LastLemmas.{item_there}
 use Rattle.sixel_picture.proofs.LatestLemmas.{take_one_more}
@@ -28,17 +28,20 @@ use Rattle.sixel_check.proofs.OptionLemmas.{some_from, some_value}
 
 -- ---- a definition of a register in which was painted
 
-same_fields : (d e : Definition) → d.system ≡ e.system → d.x ≡ e.x → d.y ≡ e.y → d.z ≡ e.z → e ≡ d
-same_fields d e a b c f = let q : made e.system e.x e.y e.z ≡ made d.system d.x d.y d.z = cc in q
-
 same_definition : (d e : Definition) → is_same_definition d e ≡ true → e ≡ d
 same_definition d e h =
     let last : (((d.system == e.system) && (d.x == e.x) && (d.y == e.y)) ≡ true) × ((d.z == e.z) ≡ true)
     = and_parts _ _ h in
     let third : (((d.system == e.system) && (d.x == e.x)) ≡ true) × ((d.y == e.y) ≡ true) = and_parts _ _ last.0 in
     let two : ((d.system == e.system) ≡ true) × ((d.x == e.x) ≡ true) = and_parts _ _ third.0 in
-    same_fields d e (eqb-true d.system e.system two.0) (eqb-true d.x e.x two.1) (eqb-true d.y e.y third.1)
-    (eqb-true d.z e.z last.1)
+    let same : made e.system e.x e.y e.z ≡ made d.system d.x d.y d.z =
+    cc (
+      eqb-true d.system e.system two.0,
+      eqb-true d.x e.x two.1,
+      eqb-true d.y e.y third.1,
+      eqb-true d.z e.z last.1,
+    ) in
+    same
 
 redefine_step : (before : List Event) (q r s x y z : ℕ) (d : Definition) (b : Bool) → (b ≡ true → q ≡ r)
     → IsFalse (breaks_redefined before (Step (Define q s x y z))) → definition_of before r ≡ Some d
@@ -127,12 +130,9 @@ colours_same : (r : ℕ) (xs ys : List Event) (d : Definition) → definition_of
 unfolding colour_of
 colours_same r xs ys d h k = rw (h, k) refl
 
-pub palette_of_left : (n : ℕ) (events : List Event) → (picture_left n events).palette ≡ palette_left n events
-unfolding picture_left
-palette_of_left n events = refl
-
 entry_left : (n r : ℕ) (events : List Event) → r < n → palette_at (picture_left n events).palette r ≡ colour_of events r
-entry_left n r events lt = rw (palette_of_left n events) (left_at n r events lt)
+unfolding picture_left
+entry_left n r events lt = left_at n r events lt
 
 pub painted_colour_is_left : (n : ℕ) → PaintedColourIsLeft n
 painted_colour_is_left n t events i e r enough none here p k =

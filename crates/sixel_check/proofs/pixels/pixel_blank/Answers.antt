@@ -1,10 +1,11 @@
-use Rattle.sixel_check.proofs.BlankLemmas.{blank_is, none_blank}
 use Rattle.std.proofs.Common.{sym}
+use Rattle.sixel_check.proofs.BlankLemmas.{first_blank_drawn}
 use Rattle.sixel_check.proofs.pixels.pixel_blank.Goals as goal
 
 pub returns-in-Some : goal.returns-in-Some
 returns-in-Some g c = λ before d.
-    blank_is (g.P.Plane.sheet c.args.plane.now) before (c.in-Some.x, c.in-Some.y) d (sym c.in-Some.ensures)
+    rw (sym c.in-Some.ensures) at (first_blank_drawn (g.P.Plane.sheet c.args.plane.now) before d)
 
 pub returns-in-None : goal.returns-in-None
-returns-in-None g c = λ before d. none_blank (g.P.Plane.sheet c.args.plane.now) before d (sym c.in-None.ensures)
+returns-in-None g c = λ before d.
+    rw (sym c.in-None.ensures) at (first_blank_drawn (g.P.Plane.sheet c.args.plane.now) before d)
