@@ -174,14 +174,22 @@ fn each_agrees_before(
     Ok(())
 }
 
+/// Each of the second commands has its answer after the first.
+fn each_agrees_after(
+    rt: &(impl AllocGlobal + Abort),
+    first: &str,
+    seconds: &[(&str, &str)],
+) -> Result<(), Fail> {
+    for (second, expected) in seconds {
+        assert!(rt; agree_two(rt, first, second, expected)?, "{second}");
+    }
+    Ok(())
+}
+
 /// The second commands do break their rule.
 #[test]
 fn each_second_rule(rt: HostRuntime) -> Result<(), Fail> {
-    for (second, expected) in SECOND {
-        let agree = agree_two(&rt, "\"1;1;2;1", second, expected)?;
-        assert!(rt; agree, "{second}");
-    }
-    Ok(())
+    each_agrees_after(&rt, "\"1;1;2;1", SECOND)
 }
 
 /// The rule of the first commands is answered, whichever follow. Here are both orders of each two rules but

@@ -231,11 +231,9 @@ fn corner(before: &[Step]) -> (u64, u64) {
     (column, row)
 }
 
-/// Whether the command paints the point.
-fn falls(before: &[Step], command: Option<Command>, x: u64, y: u64) -> bool {
-    let (column, row) = corner(before);
-    let (columns, bits) = data_of(command);
-    let set: u8 = match y.saturating_sub(row) {
+/// The bit of a row of six, from the top; none of a lower one.
+fn bit_of(row: u64) -> u8 {
+    match row {
         0 => 1,
         1 => 2,
         2 => 4,
@@ -243,8 +241,15 @@ fn falls(before: &[Step], command: Option<Command>, x: u64, y: u64) -> bool {
         4 => 16,
         5 => 32,
         _ => 0,
-    };
-    y >= row && x >= column && x < column.saturating_add(columns) && bits & set != 0
+    }
+}
+
+/// Whether the command paints the point.
+fn falls(before: &[Step], command: Option<Command>, x: u64, y: u64) -> bool {
+    let (column, row) = corner(before);
+    let (columns, bits) = data_of(command);
+    let inside = x >= column && x < column.saturating_add(columns);
+    inside && y >= row && bits & bit_of(y.saturating_sub(row)) != 0
 }
 
 /// The register in which the point was painted last.

@@ -5,9 +5,8 @@ ghost use Rattle.sixel_grammar.specs.declared.command.Placed.{Placed as PlacedVa
 ghost use Rattle.sixel_check.specs.Standing.{StandsAfter};
 
 use crate::checker::Checker;
-use crate::tests::documents::DOCUMENTS;
+use crate::tests::documents::documents;
 use crate::tests::{bytes_of, events_of, in_words};
-use arrayvec::ArrayVec;
 use sixel_grammar::{Command, Event, Placed};
 use sixel_picture::{BytePlane, Plane};
 use std::process::Abort;
@@ -50,7 +49,10 @@ fn verdict_of(rt: &impl AllocGlobal, checker: Checker<BytePlane>) -> Result<Stri
 /// The events of the smallest portable picture.
 fn smallest(rt: &impl AllocGlobal) -> Result<Vec<Placed>, Fail> {
     let picture = b"\x1bPq\"1;1;1;1#0;2;0;0;0#0@\x1b\\";
-    Ok(events_of(rt.alloc(), picture).or(Err("no document"))?)
+    match events_of(rt.alloc(), picture) {
+        Ok(events) => Ok(events),
+        Err(_) => Err(Fail::from("no document")),
+    }
 }
 
 /// The verdict on the events of a document, pushed one by one; none where the bytes are no document.
@@ -95,7 +97,7 @@ fn each_agrees(rt: &(impl AllocGlobal + Abort), rows: &[(&str, &str)]) -> Result
 
 #[test]
 fn worked_documents_event_by_event(rt: HostRuntime) -> Result<(), Fail> {
-    each_agrees(&rt, DOCUMENTS)?;
+    each_agrees(&rt, documents())?;
     let eight_bits = b"\x90q\"1;1;1;1#0;2;0;0;0#0@\x9c";
     assert!(rt; agrees_on_events(&rt, eight_bits, "portable 1 1")?);
     Ok(())
@@ -123,13 +125,17 @@ const COMMANDS: [Command; 7] = [
     Command::NextLine,
 ];
 
+/// A start without a parameter.
+fn start_of(eight: bool) -> Event {
+    Event::Start {
+        eight,
+        parameters: Default::default(),
+    }
+}
+
 /// Whether the checker expects such a start or not, and such an end or not.
 fn expects_ends<P: Plane>(checker: &Checker<P>, eight: bool, start: bool, more: bool) -> bool {
-    let event = Event::Start {
-        eight,
-        parameters: ArrayVec::new(),
-    };
-    checker.expects(&event) == start && checker.expects(&Event::Finish { eight }) == more
+    checker.expects(&start_of(eight)) == start && checker.expects(&Event::Finish { eight }) == more
 }
 
 /// Whether it expects commands of any kind or not.
