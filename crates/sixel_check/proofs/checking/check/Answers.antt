@@ -83,7 +83,8 @@ returns-in_err-read_piece g c =
     let r = c.from_residual-in_err-read_piece.result in
     let failed = err_from_is_err_and r c.from_residual-in_err-read_piece.ensures.1 in
     let is : r ≡ Err fault = failed.1 ∙ ap Err failed.2 in
-    let told = consumes-then a (g.S.Source.remaining c.loop-checker.input) z i.0 piece i.2 c.in_ok-count.ensures.bytes.0 in
+    let told =
+    consumes-then a (g.S.Source.remaining c.loop-checker.input) z i.0 piece i.2 c.in_ok-count.ensures.bytes.0 in
     let refused = c.in_err-read_piece.ensures.refused i.0 i.1 in
     record {
       answer = fault_answers a z fault r (i.0 ++ piece) is told refused;

@@ -1,3 +1,4 @@
+use Rattle.std.proofs.Common.{rules}
 use Rattle.sixel_grammar.specs.Document.{events_of}
 use Rattle.sixel_check.proofs.CoverLemmas.{has_box}
 use Rattle.sixel_check.proofs.WholeLemmas.{full_sheet}
@@ -12,3 +13,6 @@ pub unreachable-requires : goal.unreachable-requires
 unreachable-requires g c =
     let s = rw (c.in-None-None.is-0, c.in-None-None.is-1) at c.requires.1 in
     has_box 16 (events_of c.requires.0) c.requires.2 s.unbroken s.sheet_is.no_box
+
+pub returns-in-Some-default : goal.returns-in-Some-default
+returns-in-Some-default g c = search rules
