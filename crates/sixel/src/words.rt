@@ -8,6 +8,7 @@ ghost use Rattle.clap.specs.declared.builder.command.Command.TheViews.{out-Comma
 ghost use Rattle.clap.specs.Matches.{found_of};
 ghost use Rattle.clap.specs.Takes.{takes};
 ghost use Rattle.std.specs.String.{string_bytes};
+ghost use Rattle.sixel_terminal.specs.Limits.{most_screen_side};
 ghost use Rattle.sixel.specs.declared.task.Task.{Task as ATask};
 ghost use Rattle.sixel.specs.Outputs.{HasSides};
 ghost use Rattle.sixel.specs.Words.{HasSide, IsRefusal, IsSortedOut, IsTask, IsTaskOf, flag, is_given, show_app, side};
@@ -17,6 +18,9 @@ use crate::task::Task;
 use clap::error::ErrorKind;
 use clap::{Arg, ArgAction, ArgMatches, Command, Error};
 use std::alloc::{AllocError, Global};
+
+/// The greatest side of a screen, in pixels.
+const MOST_SCREEN_SIDE: u32 = 4096;
 
 /// Why words give no task. `Usage` and `Help` hold the text to show, which ends with a line feed.
 #[derive(Debug, Drop)]
@@ -165,7 +169,7 @@ fn side_arg<'a>(alloc: Global, name: &'a str, fallback: &'a str, help: &'a str) 
     Arg::new(alloc, name)
         .long(name)
         .value_name("N")
-        .value_parser(clap::value_parser!(u32).range(1..=4096))
+        .value_parser(clap::value_parser!(u32).range(1..=MOST_SCREEN_SIDE as i64))
         .default_value(fallback)
         .help(help)
 }
@@ -239,9 +243,9 @@ fn side_of(matches: &ArgMatches<'_>, name: &str) -> Option<u32>
 }
 
 fn is_side(number: u32) -> bool
-    ensures { IsTrue result ↔ (1 ≤ number) × (number ≤ 4096) }
+    ensures { IsTrue result ↔ (1 ≤ number) × (number ≤ most_screen_side) }
 {
-    number >= 1 && number <= 4096
+    number >= 1 && number <= MOST_SCREEN_SIDE
 }
 
 fn sorted_out(error: Error) -> WordsFault
