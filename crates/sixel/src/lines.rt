@@ -1,6 +1,6 @@
 //! The lines that the program writes.
 
-ghost use Rattle.std.specs.Prelude.{◌≡◌, ◌+◌, ◌*◌, ◌≤◌, ◌++◌, ◌∷◌, length, decimal};
+ghost use Rattle.std.specs.Prelude.{◌≡◌, ◌+◌, ◌*◌, ◌≤◌, ◌++◌, ◌∷◌, [], codes, length, decimal};
 ghost use Rattle.arrayvec.specs.ArrayVec.{array_vec_len};
 ghost use Rattle.sixel_grammar.specs.Devices.{CountsFailure, NeverFlushes, Puts};
 ghost use Rattle.sixel.specs.Texts.{event_line, event_parts, fault_line, finding_line, kind_name, numbers, pixel_parts};
@@ -159,6 +159,17 @@ fn ppm_reason_name(reason: PpmReason) -> &'static str
     }
 }
 
+/// A reason, and the place where it was met: at most 38 bytes.
+fn push_reason(line: &mut Line, reason: &str, place: u64)
+    requires { array_vec_len line.old + length reason.now ≤ 72 }
+    ensures items { line.new.items ≡ line.old.items ++ (reason.now ++ spaced (codes "at" ∷ decimal place ∷ [])) }
+    ensures len { array_vec_len line.new ≤ array_vec_len line.old + length reason.now + 24 }
+{
+    push_all(line, reason.as_bytes());
+    push_all(line, b" at");
+    push_number(line, place);
+}
+
 /// The line of a fault.
 pub fn fault_line(fault: &RunFault) -> Line
     ensures { result.items ≡ fault_line fault.now }
@@ -166,16 +177,8 @@ pub fn fault_line(fault: &RunFault) -> Line
     let mut line = ArrayVec::new();
     push_all(&mut line, b"sixel: ");
     match fault {
-        RunFault::Grammar(fault) => {
-            push_all(&mut line, reason_name(fault.reason).as_bytes());
-            push_all(&mut line, b" at");
-            push_number(&mut line, fault.place);
-        }
-        RunFault::Ppm { reason, place } => {
-            push_all(&mut line, ppm_reason_name(*reason).as_bytes());
-            push_all(&mut line, b" at");
-            push_number(&mut line, *place);
-        }
+        RunFault::Grammar(fault) => push_reason(&mut line, reason_name(fault.reason), fault.place),
+        RunFault::Ppm { reason, place } => push_reason(&mut line, ppm_reason_name(*reason), *place),
         RunFault::NotRgb => push_all(&mut line, b"NotRgb"),
         RunFault::OutOfMemory => push_all(&mut line, b"out of memory"),
         RunFault::Read => push_all(&mut line, b"read failed"),

@@ -29,3 +29,6 @@ returns-in-Ok-collect-clause-accepted c =
     (subst (λ ws. IfErr c.parse_words.result (λ refusal. takes sixel_app (map string_bytes ws) ≡ true → (t : ATask)
     → IsTaskOf (map string_bytes ws) t → refusal ≡ fault.OutOfMemory)) (c.as_slice.ensures.value ∙ same)
     c.parse_words.ensures.accepted)
+
+pub returns-in-Err-collect-clause-accepted : goal.returns-in-Err-collect-clause-accepted
+returns-in-Err-collect-clause-accepted c = rw c.in-Ok.is (λ taken t is. refl)
