@@ -118,36 +118,31 @@ fn show_command<'a>(alloc: Global) -> Result<Command<'a>, AllocError>
     ensures app { IfOk result (λ c. app_of c ≡ show_app) }
     ensures local { IfOk result (λ c. (fields_of c).has_globals ≡ false) }
 {
-    let showing = flag_arg(
-        alloc,
-        "showing",
-        "Give each pixel the last colour of its register",
-    );
-    let fill = flag_arg(alloc, "fill", "Fill the declared box with register 0");
-    let selects = flag_arg(
-        alloc,
-        "define-selects",
-        "Let a definition select its register",
-    );
-    let width = side_arg(
-        alloc,
-        "width",
-        "800",
-        "The width of the screen in pixels, 1 to 4096",
-    );
-    let height = side_arg(
-        alloc,
-        "height",
-        "480",
-        "The height of the screen in pixels, 1 to 4096",
-    );
     Command::new(alloc, "show")
         .about("Draws the picture as one terminal would, and writes its screen as a PPM")
-        .arg(showing)?
-        .arg(fill)?
-        .arg(selects)?
-        .arg(width)?
-        .arg(height)
+        .arg(flag_arg(
+            alloc,
+            "showing",
+            "Give each pixel the last colour of its register",
+        ))?
+        .arg(flag_arg(alloc, "fill", "Fill the declared box with register 0"))?
+        .arg(flag_arg(
+            alloc,
+            "define-selects",
+            "Let a definition select its register",
+        ))?
+        .arg(side_arg(
+            alloc,
+            "width",
+            "800",
+            "The width of the screen in pixels, 1 to 4096",
+        ))?
+        .arg(side_arg(
+            alloc,
+            "height",
+            "480",
+            "The height of the screen in pixels, 1 to 4096",
+        ))
 }
 
 /// `--name`, which takes no value.

@@ -22,27 +22,27 @@ pub returns-clause-app : goal.returns-clause-app
 returns-clause-app c =
     let about : app_of c.about.result ≡ new_app (codes "show") = ap app_of_fields c.about.ensures ∙ c.new.ensures.app in
     let a1 : app_of c.in_ok-arg.field-0 ≡ one =
-    c.in_ok-arg.ensures.shape c.flag_arg-showing.ensures.local ∙ ap₂ with_rule about c.flag_arg-showing.ensures.rule in
+    c.in_ok-arg.ensures.shape c.flag_arg.ensures.local ∙ ap₂ with_rule about c.flag_arg.ensures.rule in
     let a2 : app_of c.in_ok-arg-2.field-0 ≡ two =
-    c.in_ok-arg-2.ensures.shape c.flag_arg-fill.ensures.local ∙ ap₂ with_rule a1 c.flag_arg-fill.ensures.rule in
+    c.in_ok-arg-2.ensures.shape c.flag_arg-2.ensures.local ∙ ap₂ with_rule a1 c.flag_arg-2.ensures.rule in
     let a3 : app_of c.in_ok-arg-3.field-0 ≡ three =
-    c.in_ok-arg-3.ensures.shape c.flag_arg-selects.ensures.local ∙ ap₂ with_rule a2 c.flag_arg-selects.ensures.rule in
+    c.in_ok-arg-3.ensures.shape c.flag_arg-3.ensures.local ∙ ap₂ with_rule a2 c.flag_arg-3.ensures.rule in
     let a4 : app_of c.in_ok-arg-4.field-0 ≡ four =
-    c.in_ok-arg-4.ensures.shape c.side_arg-width.ensures.local ∙ ap₂ with_rule a3 c.side_arg-width.ensures.rule in
+    c.in_ok-arg-4.ensures.shape c.side_arg.ensures.local ∙ ap₂ with_rule a3 c.side_arg.ensures.rule in
     IfOk-weaker c.arg-5.result _ _
-    (λ r h. h.shape c.side_arg-height.ensures.local
-    ∙ ap₂ with_rule a4 c.side_arg-height.ensures.rule) c.arg-5.ensures
+    (λ r h. h.shape c.side_arg-2.ensures.local
+    ∙ ap₂ with_rule a4 c.side_arg-2.ensures.rule) c.arg-5.ensures
 
 pub returns-clause-local : goal.returns-clause-local
 returns-clause-local c =
     let about : (fields_of c.about.result).has_globals ≡ false =
     ap (λ f. f.has_globals) c.about.ensures ∙ c.new.ensures.local in
     let g1 : (fields_of c.in_ok-arg.field-0).has_globals ≡ false =
-    neither _ _ _ c.in_ok-arg.ensures.globals about c.flag_arg-showing.ensures.local in
+    neither _ _ _ c.in_ok-arg.ensures.globals about c.flag_arg.ensures.local in
     let g2 : (fields_of c.in_ok-arg-2.field-0).has_globals ≡ false =
-    neither _ _ _ c.in_ok-arg-2.ensures.globals g1 c.flag_arg-fill.ensures.local in
+    neither _ _ _ c.in_ok-arg-2.ensures.globals g1 c.flag_arg-2.ensures.local in
     let g3 : (fields_of c.in_ok-arg-3.field-0).has_globals ≡ false =
-    neither _ _ _ c.in_ok-arg-3.ensures.globals g2 c.flag_arg-selects.ensures.local in
+    neither _ _ _ c.in_ok-arg-3.ensures.globals g2 c.flag_arg-3.ensures.local in
     let g4 : (fields_of c.in_ok-arg-4.field-0).has_globals ≡ false =
-    neither _ _ _ c.in_ok-arg-4.ensures.globals g3 c.side_arg-width.ensures.local in
-    IfOk-weaker c.arg-5.result _ _ (λ r h. neither _ _ _ h.globals g4 c.side_arg-height.ensures.local) c.arg-5.ensures
+    neither _ _ _ c.in_ok-arg-4.ensures.globals g3 c.side_arg.ensures.local in
+    IfOk-weaker c.arg-5.result _ _ (λ r h. neither _ _ _ h.globals g4 c.side_arg-2.ensures.local) c.arg-5.ensures
