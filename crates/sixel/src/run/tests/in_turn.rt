@@ -168,15 +168,16 @@ const SHOWN_FAULT: Case = Case {
 
 /// Runs the task on the bytes, in and out in pieces. Fill number `fill_fails` fails, and take or flush number
 /// `take_fails`.
-fn run_case(
+fn run_in_pieces(
     alloc: Global,
-    case: Case,
+    task: Task,
+    bytes: &[u8],
     piece: usize,
     fill_fails: Option<u64>,
     take_fails: Option<u64>,
     room: &mut [u8],
 ) -> Ran
-    requires { HasSides case.task }
+    requires { HasSides task }
 {
     let limits = Limits {
         piece,
@@ -184,7 +185,7 @@ fn run_case(
         most: piece,
         take_fails,
     };
-    run_watched(alloc, case.task, case.bytes, limits, room)
+    run_watched(alloc, task, bytes, limits, room)
 }
 
 /// The lines of the events that the first bytes of one pixel complete, and of the number that is too large.
@@ -214,7 +215,15 @@ fn stops_at_fill(alloc: Global, case: Case, piece: usize, fill: u64) -> bool
     requires { HasSides case.task }
 {
     let mut room = [0; 128];
-    let ran = run_case(alloc, case, piece, Some(fill), None, &mut room);
+    let ran = run_in_pieces(
+        alloc,
+        case.task,
+        case.bytes,
+        piece,
+        Some(fill),
+        None,
+        &mut room,
+    );
     let text = text_of(case.task, piece.saturating_mul(fill as usize));
     ran.answer == Err(RunFault::Read)
         && room.get(..ran.written) == Some(text)
@@ -234,7 +243,15 @@ fn stops_at_take(alloc: Global, case: Case, piece: usize, take: u64, flushes: u6
     requires { HasSides case.task }
 {
     let mut room = [0; 128];
-    let ran = run_case(alloc, case, piece, None, Some(take), &mut room);
+    let ran = run_in_pieces(
+        alloc,
+        case.task,
+        case.bytes,
+        piece,
+        None,
+        Some(take),
+        &mut room,
+    );
     ran.answer == Err(RunFault::Write)
         && is_front(case, piece, take, ran.written)
         && room.get(..ran.written) == case.text.get(..ran.written)
@@ -248,7 +265,15 @@ fn is_whole(alloc: Global, case: Case, piece: usize, fills: u64, takes: u64) -> 
 {
     let mut room = [0; 128];
     let never = takes.saturating_add(1);
-    let ran = run_case(alloc, case, piece, Some(fills), Some(never), &mut room);
+    let ran = run_in_pieces(
+        alloc,
+        case.task,
+        case.bytes,
+        piece,
+        Some(fills),
+        Some(never),
+        &mut room,
+    );
     ran.answer == case.answer
         && room.get(..ran.written) == Some(case.text)
         && ran.source.fills == fills
@@ -279,7 +304,7 @@ fn fills_room(alloc: Global, case: Case, count: usize) -> bool
 {
     let mut whole = [0; 128];
     let (room, _) = whole.split_at_mut(count.min(128));
-    let ran = run_case(alloc, case, 5, None, None, room);
+    let ran = run_in_pieces(alloc, case.task, case.bytes, 5, None, None, room);
     ran.answer == Err(RunFault::Write)
         && case.text.get(..count) == Some(&*room)
         && ran.sink.flushes == 0
@@ -290,7 +315,15 @@ fn fills_room(alloc: Global, case: Case, count: usize) -> bool
 fn stops_at_both(alloc: Global, case: Case) -> bool
     requires { HasSides case.task }
 {
-    let ran = run_case(alloc, case, 1, Some(0), Some(0), &mut [0; 128]);
+    let ran = run_in_pieces(
+        alloc,
+        case.task,
+        case.bytes,
+        1,
+        Some(0),
+        Some(0),
+        &mut [0; 128],
+    );
     ran.answer == Err(RunFault::Write)
         && ran.written == 0
         && ran.source.fills == 1
