@@ -14,8 +14,8 @@ use Rattle.sixel_grammar.specs.declared.command.Placed.{Placed}
 use Rattle.sixel_grammar.specs.declared.fault.InputFault.{InputFault}
 use Rattle.sixel_grammar.specs.declared.fault.InputFault.TheVariants.{Grammar, OutOfMemory, Read}
 use Rattle.sixel_grammar.specs.declared.reader.Reader.{Reader}
-use Rattle.sixel_grammar.proofs.Stands.{read_complete}
-use Rattle.sixel_grammar.proofs.Unique.{complete_stays}
+use Rattle.sixel_grammar.proofs.StandLemmas.{read_complete}
+use Rattle.sixel_grammar.proofs.UniqueLemmas.{complete_stays}
 use Rattle.sixel_picture.specs.Events.{raster_of}
 use Rattle.sixel_picture.specs.Sheets.{Sheet}
 use Rattle.sixel_picture.proofs.PositionLemmas.{holds_before, holds_end, holds_within}

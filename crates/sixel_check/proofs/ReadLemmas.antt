@@ -19,9 +19,9 @@ use Rattle.sixel_grammar.specs.declared.command.Event.{Event}
 use Rattle.sixel_grammar.specs.declared.command.Event.TheVariants.{Start, Step, Finish}
 use Rattle.sixel_grammar.specs.declared.command.Placed.{Placed}
 use Rattle.sixel_grammar.specs.declared.reader.Reader.{Reader}
-use Rattle.sixel_grammar.proofs.Stands.{read_complete}
-use Rattle.sixel_grammar.proofs.Total.{complete_front}
-use Rattle.sixel_grammar.proofs.Writable.{events_can}
+use Rattle.sixel_grammar.proofs.StandLemmas.{read_complete}
+use Rattle.sixel_grammar.proofs.TotalLemmas.{complete_front}
+use Rattle.sixel_grammar.proofs.WritableLemmas.{events_can}
 use Rattle.sixel_check.specs.Checking.{AreAfter, MayCome, MayComplete}
 use Rattle.sixel_check.specs.Standing.{CheckerValue, StandsAfter, expects, is_start, is_whole}
 use Rattle.sixel_check.proofs.StandLemmas.{begun_goes_on, whole_events}

@@ -9,7 +9,7 @@ use Rattle.std.proofs.Math.Bool.{or-false}
 use Rattle.sixel_grammar.specs.Document.{AreRest, AreWhole, events_of}
 use Rattle.sixel_grammar.specs.Faults.{AreBegun, AreFront, AreSteps}
 use Rattle.sixel_grammar.specs.Spelling.{IsSpellable}
-use Rattle.sixel_grammar.proofs.Pieces.{all-append}
+use Rattle.sixel_grammar.proofs.PieceLemmas.{all-append}
 use Rattle.sixel_grammar.specs.declared.command.Event.{Event}
 use Rattle.sixel_grammar.specs.declared.command.Event.TheVariants.{Start, Step, Finish}
 use Rattle.sixel_grammar.specs.declared.command.Placed.{Placed}

@@ -47,7 +47,8 @@ run_commands r = if nat_le 4 r.count then Repeat r.count r.item ∷ [] else repl
 
 -- the pixel of this column and this row of a band lies in the picture, and is of the register
 abbrev pub has_pixel : PictureValue → ℕ → ℕ → ℕ → ℕ → Bool
-has_pixel p band register x k = nat_lt (band_rows * band + k) p.height && (register_of p x (band_rows * band + k) == register)
+has_pixel p band register x k =
+    nat_lt (band_rows * band + k) p.height && (register_of p x (band_rows * band + k) == register)
 
 -- the bits of a register in a column of a band: bit k is row k of the band
 unfoldable pub column_bits : PictureValue → ℕ → ℕ → ℕ → ℕ

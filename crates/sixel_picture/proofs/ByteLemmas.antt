@@ -1,6 +1,6 @@
 -- On a register and a mark for each pixel, that stand for a sheet.
-use Rattle.std.proofs.Common.{◌≡◌, ℕ, ◌+◌, ◌*◌, ◌/◌, ◌%◌, ◌<◌, Bool, true, false, ◌||◌, cond, not, Option, Some, None, List}
-use Rattle.std.proofs.Common.{length, get_or, replicate, position, refl, sym, ap, ap₂, ◌∙◌, arith, mul_comm}
+use Rattle.std.proofs.Common.{◌≡◌, ℕ, ◌+◌, ◌*◌, ◌/◌, ◌%◌, ◌<◌, Bool, true, false, ◌||◌, cond, not, Option, Some, None}
+use Rattle.std.proofs.Common.{List, length, get_or, replicate, position, refl, sym, ap, ap₂, ◌∙◌, arith, mul_comm}
 use Rattle.std.specs.Option.{option_map}
 use Rattle.std.proofs.lemmas.Bool.{not-false, not-true}
 use Rattle.std.proofs.lemmas.Iterator.Adapters.{position_from-zero}

@@ -1,7 +1,7 @@
 -- On sheets of a register for each pixel and of which pixels are painted.
 use Rattle.std.proofs.Common.{◌≡◌, ℕ, zero, suc, ◌+◌, ◌*◌, ◌/◌, ◌%◌, ◌<◌, Bool, true, false, ◌||◌, cond, Option, Some}
-use Rattle.std.proofs.Common.{None, List, [], ◌∷◌, length, get_or, map, nat_lt, inl, inr, refl, sym, ap, ap₂, ◌∙◌, arith}
-use Rattle.std.proofs.Common.{mul_comm}
+use Rattle.std.proofs.Common.{None, List, [], ◌∷◌, length, get_or, map, nat_lt, inl, inr, refl, sym, ap, ap₂, ◌∙◌}
+use Rattle.std.proofs.Common.{arith, mul_comm}
 use Rattle.std.specs.Prelude.{is_none}
 use Rattle.std.specs.List.{position_from}
 use Rattle.std.specs.Option.{option_flatten, option_map}

@@ -11,7 +11,7 @@ use Rattle.std.proofs.lemmas.List.Elements.{filter_map-append}
 use Rattle.std.proofs.lemmas.Grind.{flat_map-append}
 use Rattle.sixel_grammar.specs.Blocks.{TakesMore, in_all}
 use Rattle.sixel_grammar.specs.Devices.{Puts}
-use Rattle.sixel_grammar.proofs.Devices.{TakesMore-then}
+use Rattle.sixel_grammar.proofs.DeviceLemmas.{TakesMore-then}
 use Rattle.sixel_picture.specs.Colours.{palette_at}
 use Rattle.sixel_picture.specs.Laws.{PixelsHaveColours}
 use Rattle.sixel_picture.specs.Pictures.{PictureValue, is_side}
@@ -19,7 +19,7 @@ use Rattle.sixel_picture.specs.Ppm.{is_rgb, are_rgb, samples_of, colours_of, ppm
 use Rattle.sixel_picture.specs.declared.colour.Parts.{Parts}
 use Rattle.sixel_picture.specs.declared.picture.PictureReason.{PictureReason}
 use Rattle.sixel_picture.specs.declared.picture.PictureReason.TheVariants.{Size, Count, Register, NoColour}
-use Rattle.sixel_grammar.proofs.Sinks.{drained, nothing_put, put_from_empty, sink_front}
+use Rattle.sixel_grammar.proofs.SinkLemmas.{drained, nothing_put, put_from_empty, sink_front}
 
 -- ---- which colours are red, green and blue
 

@@ -9,7 +9,7 @@ use Rattle.std.specs.List.{AllByRecursion, concat}
 use Rattle.std.specs.Str.Parse.{AllDigits, digits_value_after}
 use Rattle.std.proofs.lemmas.Bool.Decides.{nat_tests}
 use Rattle.sixel_grammar.specs.Bytes.{is_digit}
-use Rattle.sixel_grammar.proofs.Numbers.{digit_range, digit_value-is}
+use Rattle.sixel_grammar.proofs.NumberLemmas.{digit_range, digit_value-is}
 use Rattle.sixel_picture.specs.PpmFiles.{IsFiller, IsFillerPiece, IsNumberText}
 use Rattle.sixel_picture.specs.PpmReading.{after_digits, after_filler, at_fault, begins_filler, filled_number, is_space}
 use Rattle.sixel_picture.specs.PpmReading.{judged, most_header, number, wanted}

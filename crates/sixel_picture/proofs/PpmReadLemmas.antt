@@ -6,7 +6,7 @@ use Rattle.std.specs.Prelude.{IfErr, IfOk, IfSome, IsErrAnd, IsOk, MatchResult}
 use Rattle.std.proofs.lemmas.Bool.Decides.{nat_tests}
 use Rattle.std.specs.Io.KnownBytes.{Consumes, IsAtEnd}
 use Rattle.std.proofs.lemmas.List.{append-nil, drop-take, take_more, take-append-drop}
-use Rattle.sixel_grammar.proofs.Sources.{all_read, consumes-then, take_none, take_past}
+use Rattle.sixel_grammar.proofs.SourceLemmas.{all_read, consumes-then, take_none, take_past}
 use Rattle.sixel_picture.specs.Pictures.{PictureValue, is_side}
 use Rattle.sixel_picture.specs.PpmFeeding.{Completes, HasStarted, IsInHeader, IsInSamples, MovesOn, ReadsRest}
 use Rattle.sixel_picture.specs.PpmFeeding.{RefusesHeader, head_with}

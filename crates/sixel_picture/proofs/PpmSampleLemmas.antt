@@ -8,7 +8,7 @@ use Rattle.std.proofs.lemmas.Bool.Decides.{nat_tests}
 use Rattle.std.proofs.lemmas.List.{length-map}
 use Rattle.std.proofs.lemmas.List.Folds.{list_any-append}
 use Rattle.std.proofs.lemmas.List.Sums.{fold-append}
-use Rattle.sixel_grammar.proofs.Sources.{take_past}
+use Rattle.sixel_grammar.proofs.SourceLemmas.{take_past}
 use Rattle.sixel_picture.specs.Colours.{is_same, palette_at}
 use Rattle.sixel_picture.specs.Pictures.{PictureValue, is_side, picture_fault, picture_of_parts}
 use Rattle.sixel_picture.specs.PpmColours.{Fills}

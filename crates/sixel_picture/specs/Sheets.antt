@@ -1,6 +1,6 @@
 -- A plane, as contracts see it.
-use Rattle.std.specs.Prelude.{◌≡◌, ℕ, ◌+◌, ◌*◌, ◌/◌, ◌%◌, ◌<◌, Bool, true, false, Option, Some, None, List, is_none, map}
-use Rattle.std.specs.Prelude.{slice_get, slice_index, if◌then◌else◌}
+use Rattle.std.specs.Prelude.{◌≡◌, ℕ, ◌+◌, ◌*◌, ◌/◌, ◌%◌, ◌<◌, Bool, true, false, Option, Some, None, List, is_none}
+use Rattle.std.specs.Prelude.{map, slice_get, slice_index, if◌then◌else◌}
 use Rattle.std.specs.Option.{MatchOption, option_flatten, option_map}
 use Rattle.std.specs.List.{range_with_len, position_from}
 use Rattle.sixel_picture.specs.Geometry.{covers}

@@ -132,7 +132,8 @@ fn fill_run(
 )
     requires some { 0 < width }
     requires columns { column + count ≤ width }
-    requires rows { (k : ℕ) → k < BAND_ROWS → bit_at bits k ≡ 1 → (BAND_ROWS * band + k) * width + width ≤ length registers.old }
+    requires rows { (k : ℕ) → k < BAND_ROWS → bit_at bits k ≡ 1
+        → (BAND_ROWS * band + k) * width + width ≤ length registers.old }
     requires pixels { length registers.old ≡ width * height }
     ensures { EachIndex registers.old (λ i. slice_index registers.new i
         ≡ (if covers column count band 1 bits (i % width) (i / width) then register else slice_index registers.old i)) }
@@ -157,7 +158,8 @@ fn fill_rows(
 )
     requires some { 0 < width }
     requires columns { column + count ≤ width }
-    requires rows { (k : ℕ) → k < BAND_ROWS → bit_at bits k ≡ 1 → (BAND_ROWS * band + k) * width + width ≤ length registers.old }
+    requires rows { (k : ℕ) → k < BAND_ROWS → bit_at bits k ≡ 1
+        → (BAND_ROWS * band + k) * width + width ≤ length registers.old }
     ensures { EachIndex registers.old (λ i. slice_index registers.new i
         ≡ (if covers column count band 1 bits (i % width) (i / width) then register else slice_index registers.old i)) }
 {

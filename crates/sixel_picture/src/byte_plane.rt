@@ -1,7 +1,7 @@
 //! A plane of a register and a mark for each pixel.
 
-ghost use Rattle.std.specs.Prelude.{◌≡◌, ◌<◌, ◌≤◌, ◌+◌, ◌&&◌, nat_le, nat_lt, not, EachIndex, IfSome, length};
-ghost use Rattle.std.specs.Prelude.{position, slice_index_or, if◌then◌else◌};
+ghost use Rattle.std.specs.Prelude.{◌≡◌, ◌<◌, ◌≤◌, ◌+◌, ◌&&◌, nat_le, nat_lt, not, EachIndex, IfSome, length, position};
+ghost use Rattle.std.specs.Prelude.{slice_index_or, if◌then◌else◌};
 
 use crate::bits::{BAND_ROWS, is_set};
 use crate::plane::Plane;

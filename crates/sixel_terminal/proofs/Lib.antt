@@ -1,4 +1,4 @@
-pub mod Rooms
+pub mod RoomLemmas
 pub mod CanvasLemmas
 pub mod PaintLemmas
 pub mod SelectLemmas

@@ -1,5 +1,5 @@
 use Rattle.std.proofs.Common.{◌∙◌, sym}
-use Rattle.sixel.proofs.Ends.{broken_gives, done_gives}
+use Rattle.sixel.proofs.EndLemmas.{broken_gives, done_gives}
 use Rattle.sixel.proofs.execute.Goals as goal
 
 pub returns-clause-done : goal.returns-clause-done

@@ -107,7 +107,7 @@ fn grey(percent: u8) -> Colour
 }
 
 /// The starting colours of 16 registers.
-#[tactic(auto, using(crate::proofs::Screens::greys_more))]
+#[tactic(auto, using(crate::proofs::ScreenLemmas::greys_more))]
 fn greys(alloc: Global) -> Result<Vec<Colour>, AllocError>
     ensures { IfOk result (λ colours. colours.items ≡ greys) }
 {

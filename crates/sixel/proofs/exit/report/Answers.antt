@@ -1,4 +1,4 @@
-use Rattle.sixel.proofs.Puts.{is_put}
+use Rattle.sixel.proofs.PutLemmas.{is_put}
 use Rattle.sixel.proofs.exit.report.Goals as goal
 
 pub returns : goal.returns

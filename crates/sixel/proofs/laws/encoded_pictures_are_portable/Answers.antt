@@ -1,4 +1,4 @@
-use Rattle.sixel.proofs.RoundTrip.{encoded_answers, encoded_checks, encoded_is_portable}
+use Rattle.sixel.proofs.RoundTripLemmas.{encoded_answers, encoded_checks, encoded_is_portable}
 use Rattle.sixel.proofs.laws.encoded_pictures_are_portable.Goals as goal
 
 pub returns : goal.returns

@@ -1,4 +1,4 @@
-use Rattle.sixel.proofs.Runs.{gives-once}
+use Rattle.sixel.proofs.RunLemmas.{gives-once}
 use Rattle.sixel.proofs.laws.tasks_give_one_output.Goals as goal
 
 pub returns : goal.returns

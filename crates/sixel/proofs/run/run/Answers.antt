@@ -1,5 +1,5 @@
 use Rattle.std.proofs.Common.{◌∙◌}
-use Rattle.sixel.proofs.Runs.{flushed, unflushed}
+use Rattle.sixel.proofs.RunLemmas.{flushed, unflushed}
 use Rattle.sixel.proofs.run.run.Goals as goal
 
 pub returns-in-Ok-clause-flushed : goal.returns-in-Ok-clause-flushed

@@ -5,7 +5,7 @@ use Rattle.clap.specs.Matches.{found_of}
 use Rattle.clap.specs.Takes.{takes}
 use Rattle.clap.specs.Simple.{App, app_of, is_simple, subcommand_of, subcommand_rows_of}
 use Rattle.sixel.specs.Words.{sixel_app}
-use Rattle.sixel.proofs.Matches.{both_parts, name_rows, same_task}
+use Rattle.sixel.proofs.MatchLemmas.{both_parts, name_rows, same_task}
 use Rattle.sixel.proofs.words.parse_words.Goals as goal
 
 pub returns-in-Some-task_of-clause-task : goal.returns-in-Some-task_of-clause-task

@@ -3,7 +3,7 @@ use Rattle.std.proofs.lemmas.Result.{IfOk-weaker}
 use Rattle.clap.specs.Simple.{App, app_of, app_of_fields, new_app, with_rule}
 use Rattle.clap.specs.declared.builder.command.Command.TheViews.{out-Command as fields_of}
 use Rattle.sixel.specs.Words.{flag, side}
-use Rattle.sixel.proofs.Matches.{neither}
+use Rattle.sixel.proofs.MatchLemmas.{neither}
 use Rattle.sixel.proofs.words.show_command.Goals as goal
 
 abbrev one : App

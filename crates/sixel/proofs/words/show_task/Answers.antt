@@ -1,7 +1,7 @@
 use Rattle.std.proofs.Common.{refl}
 use Rattle.clap.specs.Walk.{rows_of}
 use Rattle.clap.specs.Matches.{found_of}
-use Rattle.sixel.proofs.Matches.{without_height, without_width}
+use Rattle.sixel.proofs.MatchLemmas.{without_height, without_width}
 use Rattle.sixel.proofs.words.show_task.Goals as goal
 
 pub returns-in_default-clause-none : goal.returns-in_default-clause-none

@@ -3,7 +3,7 @@ use Rattle.std.specs.Str.Parse.{ParsesUnsigned, ExplainsUnsignedError, HasUnsign
 use Rattle.clap.specs.Walk.{Text}
 use Rattle.clap.specs.Matches.{found_of, one_text}
 use Rattle.clap.proofs.WalkLemmas.{one_text-rows}
-use Rattle.sixel.proofs.Matches.{HasNumber, number_read, number_refused}
+use Rattle.sixel.proofs.MatchLemmas.{HasNumber, number_read, number_refused}
 use Rattle.sixel.proofs.words.side_of.Goals as goal
 
 pub returns-in-Some-clause-some : goal.returns-in-Some-clause-some

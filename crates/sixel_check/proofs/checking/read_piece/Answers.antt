@@ -1,7 +1,7 @@
 use Rattle.std.proofs.Common.{ℕ, ◌+◌, List, ◌++◌, take, drop, subst, arith}
 use Rattle.std.proofs.lemmas.Result.{err_from_is_err_and}
 use Rattle.sixel_check.specs.Checking.{AreAfter}
-use Rattle.sixel_grammar.proofs.Sources.{refuses-more, one_past, split_past, take_past}
+use Rattle.sixel_grammar.proofs.SourceLemmas.{refuses-more, one_past, split_past, take_past}
 use Rattle.sixel_check.proofs.GrowthLemmas.{grows_for_on}
 use Rattle.sixel_check.proofs.checking.read_piece.Goals as goal
 

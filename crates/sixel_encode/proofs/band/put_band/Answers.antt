@@ -1,12 +1,12 @@
 use Rattle.std.proofs.Common.{◌≡◌, true, false, take, refl, sym, ap, ◌∙◌, arith}
 use Rattle.std.proofs.lemmas.Result.{err_from_is_err_and}
 use Rattle.sixel_grammar.specs.Blocks.{in_all}
-use Rattle.sixel_grammar.proofs.Devices.{TakesMore-refl, TakesMore-then}
-use Rattle.sixel_grammar.proofs.Sinks.{Appends-none, put-as, steps-put, steps-stopped}
+use Rattle.sixel_grammar.proofs.DeviceLemmas.{TakesMore-refl, TakesMore-then}
+use Rattle.sixel_grammar.proofs.SinkLemmas.{Appends-none, put-as, steps-put, steps-stopped}
 use Rattle.sixel_encode.specs.Canon.{occurs}
-use Rattle.sixel_encode.proofs.Steps.{first-after, first-same, register_step, registers-all, registers-then}
-use Rattle.sixel_encode.proofs.Steps.{registers_above, step-is, step-none}
-use Rattle.sixel_encode.proofs.Texts.{text-none}
+use Rattle.sixel_encode.proofs.StepLemmas.{first-after, first-same, register_step, registers-all, registers-then}
+use Rattle.sixel_encode.proofs.StepLemmas.{registers_above, step-is, step-none}
+use Rattle.sixel_encode.proofs.TextLemmas.{text-none}
 use Rattle.sixel_encode.proofs.band.put_band.Goals as goal
 use Rattle.sixel_encode.proofs.band.put_band.Goals.{then-occurring-register+in_ok-put_next, else-occurring-register}
 

@@ -1,5 +1,5 @@
-use Rattle.sixel_grammar.proofs.Sinks.{Appends-none}
-use Rattle.sixel_encode.proofs.Texts.{text-none}
+use Rattle.sixel_grammar.proofs.SinkLemmas.{Appends-none}
+use Rattle.sixel_encode.proofs.TextLemmas.{text-none}
 use Rattle.sixel_encode.proofs.band.put_between.Goals as goal
 
 pub returns-then-is_first-clause-bytes : goal.returns-then-is_first-clause-bytes

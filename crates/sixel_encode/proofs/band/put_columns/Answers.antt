@@ -1,12 +1,12 @@
 use Rattle.std.proofs.Common.{◌≡◌, ◌≢◌, ◌++◌, ◌≤◌, ℕ, List, [], map, refl, sym, ap, ◌∙◌, append-nil, arith}
 use Rattle.std.proofs.lemmas.Result.{err_from_is_err_and}
 use Rattle.sixel_grammar.specs.Blocks.{in_all}
-use Rattle.sixel_grammar.proofs.Devices.{Appends-then, TakesMore-refl, TakesMore-then}
-use Rattle.sixel_grammar.proofs.Sinks.{Appends-none, put-as, puts-joined, puts-nothing, puts-stopped, puts-whole}
+use Rattle.sixel_grammar.proofs.DeviceLemmas.{Appends-then, TakesMore-refl, TakesMore-then}
+use Rattle.sixel_grammar.proofs.SinkLemmas.{Appends-none, put-as, puts-joined, puts-nothing, puts-stopped, puts-whole}
 use Rattle.sixel_encode.specs.Canon.{band_columns, below, column_bits}
-use Rattle.sixel_encode.proofs.Bits.{column_most}
-use Rattle.sixel_encode.proofs.Texts.{columns-all, columns-all_blank, columns-front, columns-none, columns-other}
-use Rattle.sixel_encode.proofs.Texts.{columns-same, columns_text, run_text}
+use Rattle.sixel_encode.proofs.BitLemmas.{column_most}
+use Rattle.sixel_encode.proofs.TextLemmas.{columns-all, columns-all_blank, columns-front, columns-none, columns-other}
+use Rattle.sixel_encode.proofs.TextLemmas.{columns-same, columns_text, run_text}
 use Rattle.sixel_encode.proofs.band.put_columns.Goals as goal
 use Rattle.sixel_encode.proofs.band.put_columns.Goals.{then-next-bits, else-next-bits+in_ok-put_run}
 

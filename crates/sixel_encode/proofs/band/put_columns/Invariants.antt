@@ -3,7 +3,7 @@ use Rattle.std.specs.Io.KnownBytes.{Appends}
 use Rattle.sixel_grammar.specs.Blocks.{TakesMore, in_all}
 use Rattle.sixel_grammar.specs.Devices.{NeverFlushes}
 use Rattle.sixel_encode.specs.Canon.{column_bits}
-use Rattle.sixel_encode.proofs.Texts.{StandsBefore}
+use Rattle.sixel_encode.proofs.TextLemmas.{StandsBefore}
 use Rattle.sixel_encode.proofs.band.put_columns.Given as goal
 
 abbrev pub invariant-loop-x : goal.invariant-loop-x

@@ -1,4 +1,4 @@
-use Rattle.sixel_encode.proofs.Texts.{text-one}
+use Rattle.sixel_encode.proofs.TextLemmas.{text-one}
 use Rattle.sixel_encode.proofs.band.put_command.Goals as goal
 
 pub returns-clause-bytes : goal.returns-clause-bytes

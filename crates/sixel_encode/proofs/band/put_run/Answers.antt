@@ -1,7 +1,7 @@
 use Rattle.std.proofs.Common.{◌+◌, ◌≤◌, ℕ, List, sym, subst, ◌∙◌, arith}
 use Rattle.std.proofs.lemmas.List.{take-replicate}
 use Rattle.sixel_grammar.specs.Blocks.{PutsAllOrNone, in_all}
-use Rattle.sixel_encode.proofs.Texts.{run-short}
+use Rattle.sixel_encode.proofs.TextLemmas.{run-short}
 use Rattle.sixel_encode.proofs.band.put_run.Goals as goal
 
 pub returns-clause-bytes : goal.returns-clause-bytes

@@ -1,6 +1,6 @@
 use Rattle.std.proofs.Common.{◌≡◌, ◌==◌, ◌||◌, Bool, ap, ◌∙◌, sym, not, arith}
 use Rattle.sixel_encode.specs.Canon.{column_bits, occurs}
-use Rattle.sixel_encode.proofs.Bits.{has_bits_then}
+use Rattle.sixel_encode.proofs.BitLemmas.{has_bits_then}
 use Rattle.sixel_encode.proofs.columns.band_registers.Goals as goal
 
 pub loop-x-preserved : goal.loop-x-preserved

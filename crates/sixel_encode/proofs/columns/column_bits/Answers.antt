@@ -1,5 +1,5 @@
 use Rattle.std.proofs.Common.{◌∙◌, sym}
-use Rattle.sixel_encode.proofs.Bits.{row_added, row_passed}
+use Rattle.sixel_encode.proofs.BitLemmas.{row_added, row_passed}
 use Rattle.sixel_encode.proofs.columns.column_bits.Goals as goal
 use Rattle.sixel_encode.proofs.columns.column_bits.Goals.{then-has_pixel, else-has_pixel}
 

@@ -1,5 +1,5 @@
 use Rattle.std.proofs.Common.{◌≡◌, ◌^◌, ◌<◌}
-use Rattle.sixel_encode.proofs.Bits.{bits_above}
+use Rattle.sixel_encode.proofs.BitLemmas.{bits_above}
 use Rattle.sixel_encode.proofs.columns.column_bits.Given as goal
 
 abbrev pub invariant-loop-row : goal.invariant-loop-row

@@ -2,7 +2,7 @@ use Rattle.std.proofs.Common.{◌≡◌, ◌||◌, Bool, false, get_or, ap, ◌�
 use Rattle.std.specs.List.{list_any}
 use Rattle.std.proofs.Math.Bool.{or_assoc}
 use Rattle.sixel_encode.specs.Canon.{below, has_pixel}
-use Rattle.sixel_encode.proofs.Bits.{any_then, column_has}
+use Rattle.sixel_encode.proofs.BitLemmas.{any_then, column_has}
 use Rattle.sixel_encode.proofs.columns.mark_column.Goals as goal
 
 pub loop-row-preserved : goal.loop-row-preserved

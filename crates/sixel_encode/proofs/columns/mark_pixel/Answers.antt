@@ -2,8 +2,8 @@ use Rattle.std.proofs.Common.{◌≡◌, ◌==◌, ◌||◌, ◌&&◌, ◌+◌, 
 use Rattle.std.specs.Prelude.{nat_lt}
 use Rattle.std.proofs.lemmas.Bool.{lt-ltb}
 use Rattle.sixel_picture.specs.Pictures.{register_of}
-use Rattle.sixel_encode.proofs.Bits.{mark_added}
-use Rattle.sixel_encode.proofs.Parted.{parted, pixel_used}
+use Rattle.sixel_encode.proofs.BitLemmas.{mark_added}
+use Rattle.sixel_encode.proofs.PartedLemmas.{parted, pixel_used}
 use Rattle.sixel_encode.proofs.columns.mark_pixel.Goals as goal
 
 pub bounds-occurring-register : goal.bounds-occurring-register

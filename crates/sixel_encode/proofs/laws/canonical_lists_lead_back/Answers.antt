@@ -1,5 +1,8 @@
-use Rattle.sixel_encode.proofs.Whole
+use Rattle.sixel_encode.proofs.LeadsBackLemmas
 use Rattle.sixel_encode.proofs.laws.canonical_lists_lead_back.Goals as goal
 
 pub returns : goal.returns
-returns c = record { unbroken = Whole.lists_break_no_rule 16; left = Whole.lists_leave_their_picture 16 }
+returns c = record {
+  unbroken = LeadsBackLemmas.lists_break_no_rule 16;
+  left = LeadsBackLemmas.lists_leave_their_picture 16;
+}

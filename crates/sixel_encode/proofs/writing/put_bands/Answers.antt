@@ -1,11 +1,11 @@
 use Rattle.std.proofs.Common.{◌≡◌, refl, sym, ap, ◌∙◌, arith}
 use Rattle.std.proofs.lemmas.Result.{err_from_is_err_and}
 use Rattle.sixel_grammar.specs.Blocks.{in_all}
-use Rattle.sixel_grammar.proofs.Devices.{TakesMore-refl, TakesMore-then}
-use Rattle.sixel_grammar.proofs.Sinks.{Appends-none, put-as, steps-put, steps-stopped}
+use Rattle.sixel_grammar.proofs.DeviceLemmas.{TakesMore-refl, TakesMore-then}
+use Rattle.sixel_grammar.proofs.SinkLemmas.{Appends-none, put-as, steps-put, steps-stopped}
 use Rattle.sixel_encode.specs.Canon.{bands}
-use Rattle.sixel_encode.proofs.Steps.{band_step, bands-all, bands-then, bands_above}
-use Rattle.sixel_encode.proofs.Texts.{text-none}
+use Rattle.sixel_encode.proofs.StepLemmas.{band_step, bands-all, bands-then, bands_above}
+use Rattle.sixel_encode.proofs.TextLemmas.{text-none}
 use Rattle.sixel_encode.proofs.writing.put_bands.Goals as goal
 
 pub loop-band-init : goal.loop-band-init

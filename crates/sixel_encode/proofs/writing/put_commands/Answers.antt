@@ -1,8 +1,8 @@
 use Rattle.std.proofs.lemmas.Result.{err_from_is_err_and}
 use Rattle.sixel_grammar.specs.Blocks.{in_all}
-use Rattle.sixel_grammar.proofs.Devices.{TakesMore-then}
-use Rattle.sixel_grammar.proofs.Sinks.{puts-cut, puts-joined}
-use Rattle.sixel_encode.proofs.Steps.{commands-parts}
+use Rattle.sixel_grammar.proofs.DeviceLemmas.{TakesMore-then}
+use Rattle.sixel_grammar.proofs.SinkLemmas.{puts-cut, puts-joined}
+use Rattle.sixel_encode.proofs.StepLemmas.{commands-parts}
 use Rattle.sixel_encode.proofs.writing.put_commands.Goals as goal
 
 pub returns-in_err-put_opening-clause-bytes : goal.returns-in_err-put_opening-clause-bytes

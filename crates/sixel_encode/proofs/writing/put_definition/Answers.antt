@@ -1,5 +1,5 @@
-use Rattle.sixel_grammar.proofs.Sinks.{Appends-none}
-use Rattle.sixel_encode.proofs.Texts.{text-none}
+use Rattle.sixel_grammar.proofs.SinkLemmas.{Appends-none}
+use Rattle.sixel_encode.proofs.TextLemmas.{text-none}
 use Rattle.sixel_encode.proofs.writing.put_definition.Goals as goal
 
 pub returns-in-None-clause-bytes : goal.returns-in-None-clause-bytes

@@ -1,10 +1,10 @@
 use Rattle.std.proofs.Common.{◌≡◌, refl, sym, ap, ◌∙◌, arith}
 use Rattle.std.proofs.lemmas.Result.{err_from_is_err_and}
 use Rattle.sixel_grammar.specs.Blocks.{in_all}
-use Rattle.sixel_grammar.proofs.Devices.{TakesMore-refl, TakesMore-then}
-use Rattle.sixel_grammar.proofs.Sinks.{Appends-none, put-as, puts-nothing, steps-put, steps-stopped}
-use Rattle.sixel_encode.proofs.Steps.{entries-all, entries-then, entries_above, entry_step}
-use Rattle.sixel_encode.proofs.Texts.{text-none}
+use Rattle.sixel_grammar.proofs.DeviceLemmas.{TakesMore-refl, TakesMore-then}
+use Rattle.sixel_grammar.proofs.SinkLemmas.{Appends-none, put-as, puts-nothing, steps-put, steps-stopped}
+use Rattle.sixel_encode.proofs.StepLemmas.{entries-all, entries-then, entries_above, entry_step}
+use Rattle.sixel_encode.proofs.TextLemmas.{text-none}
 use Rattle.sixel_encode.proofs.writing.put_definitions.Goals as goal
 
 pub loop-register-init : goal.loop-register-init

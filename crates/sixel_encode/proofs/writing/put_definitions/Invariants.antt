@@ -2,7 +2,7 @@ use Rattle.std.proofs.Common.{◌≡◌}
 use Rattle.std.specs.Io.KnownBytes.{Appends}
 use Rattle.sixel_grammar.specs.Blocks.{TakesMore, in_all}
 use Rattle.sixel_grammar.specs.Devices.{NeverFlushes}
-use Rattle.sixel_encode.proofs.Steps.{entries_above}
+use Rattle.sixel_encode.proofs.StepLemmas.{entries_above}
 use Rattle.sixel_encode.proofs.writing.put_definitions.Given as goal
 
 abbrev pub invariant-loop-register : goal.invariant-loop-register

@@ -1,8 +1,8 @@
 use Rattle.sixel_grammar.specs.Blocks.{in_all}
-use Rattle.sixel_grammar.proofs.Devices.{TakesMore-then}
-use Rattle.sixel_grammar.proofs.Sinks.{puts-joined}
+use Rattle.sixel_grammar.proofs.DeviceLemmas.{TakesMore-then}
+use Rattle.sixel_grammar.proofs.SinkLemmas.{puts-joined}
 use Rattle.sixel_encode.specs.Canon.{band_commands}
-use Rattle.sixel_encode.proofs.Texts.{text-append}
+use Rattle.sixel_encode.proofs.TextLemmas.{text-append}
 use Rattle.sixel_encode.proofs.writing.put_next_band.Goals as goal
 
 pub returns-clause-bytes : goal.returns-clause-bytes

@@ -1,10 +1,10 @@
 use Rattle.std.proofs.Common.{[], ◌∷◌, ap}
 use Rattle.sixel_grammar.specs.declared.command.Command.{Command}
 use Rattle.sixel_grammar.specs.Blocks.{in_all}
-use Rattle.sixel_grammar.proofs.Devices.{TakesMore-then}
-use Rattle.sixel_grammar.proofs.Sinks.{put-as, puts-joined}
+use Rattle.sixel_grammar.proofs.DeviceLemmas.{TakesMore-then}
+use Rattle.sixel_grammar.proofs.SinkLemmas.{put-as, puts-joined}
 use Rattle.sixel_encode.specs.Canon.{commands_text}
-use Rattle.sixel_encode.proofs.Steps.{opening-parts}
+use Rattle.sixel_encode.proofs.StepLemmas.{opening-parts}
 use Rattle.sixel_encode.proofs.writing.put_opening.Goals as goal
 
 pub returns-clause-bytes : goal.returns-clause-bytes

@@ -2,10 +2,10 @@ use Rattle.std.proofs.Common.{refl, ap}
 use Rattle.std.proofs.lemmas.Result.{err_from_is_err_and}
 use Rattle.sixel_grammar.specs.Blocks.{in_all}
 use Rattle.sixel_grammar.specs.Spelling.{fixed_spelling}
-use Rattle.sixel_grammar.proofs.Devices.{Appends-then, TakesMore-then, front-more}
-use Rattle.sixel_grammar.proofs.Sinks.{put-as, puts-joined, puts-stopped, puts-whole}
+use Rattle.sixel_grammar.proofs.DeviceLemmas.{Appends-then, TakesMore-then, front-more}
+use Rattle.sixel_grammar.proofs.SinkLemmas.{put-as, puts-joined, puts-stopped, puts-whole}
 use Rattle.sixel_encode.specs.Canon.{canon_start}
-use Rattle.sixel_encode.proofs.Steps.{canon-parts}
+use Rattle.sixel_encode.proofs.StepLemmas.{canon-parts}
 use Rattle.sixel_encode.proofs.writing.put_text.Goals as goal
 
 pub returns-in_err-put_commands-clause-bytes : goal.returns-in_err-put_commands-clause-bytes

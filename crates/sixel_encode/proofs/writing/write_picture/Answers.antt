@@ -1,7 +1,7 @@
 use Rattle.std.proofs.lemmas.Result.{err_from_is_err_and}
 use Rattle.sixel_grammar.specs.Blocks.{in_all}
-use Rattle.sixel_grammar.proofs.Devices.{TakesMore-then, front-more}
-use Rattle.sixel_grammar.proofs.Sinks.{Appends-keeps, drained, put_from_empty, sink_front}
+use Rattle.sixel_grammar.proofs.DeviceLemmas.{TakesMore-then, front-more}
+use Rattle.sixel_grammar.proofs.SinkLemmas.{Appends-keeps, drained, put_from_empty, sink_front}
 use Rattle.sixel_encode.specs.Canon.{canon_text}
 use Rattle.sixel_encode.proofs.writing.write_picture.Goals as goal
 

@@ -1,8 +1,8 @@
 use Rattle.std.proofs.Common.{◌+◌, ◌-◌, length, take, drop, refl, arith}
 use Rattle.std.proofs.lemmas.List.{length-drop, length-take, take_rest}
 use Rattle.std.proofs.Math.Seq.{take-add}
-use Rattle.sixel_grammar.proofs.Devices.{Appends-then}
-use Rattle.sixel_grammar.proofs.Sinks.{Appends-none}
+use Rattle.sixel_grammar.proofs.DeviceLemmas.{Appends-then}
+use Rattle.sixel_grammar.proofs.SinkLemmas.{Appends-none}
 use Rattle.sixel_grammar.proofs.device.put_all.Goals as goal
 
 pub loop-at-init : goal.loop-at-init

@@ -1,4 +1,4 @@
-use Rattle.sixel_grammar.proofs.Writable.{events_can}
+use Rattle.sixel_grammar.proofs.WritableLemmas.{events_can}
 use Rattle.sixel_grammar.proofs.laws.complete_events_can_be_written.Goals as goal
 
 pub returns : goal.returns

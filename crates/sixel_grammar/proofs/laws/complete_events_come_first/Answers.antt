@@ -1,4 +1,4 @@
-use Rattle.sixel_grammar.proofs.Total.{complete_front}
+use Rattle.sixel_grammar.proofs.TotalLemmas.{complete_front}
 use Rattle.sixel_grammar.proofs.laws.complete_events_come_first.Goals as goal
 
 pub returns : goal.returns

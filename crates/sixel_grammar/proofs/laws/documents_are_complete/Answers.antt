@@ -1,4 +1,4 @@
-use Rattle.sixel_grammar.proofs.Unique.{document_complete}
+use Rattle.sixel_grammar.proofs.UniqueLemmas.{document_complete}
 use Rattle.sixel_grammar.proofs.laws.documents_are_complete.Goals as goal
 
 pub returns : goal.returns

@@ -1,4 +1,4 @@
-use Rattle.sixel_grammar.proofs.Total.{document_whole}
+use Rattle.sixel_grammar.proofs.TotalLemmas.{document_whole}
 use Rattle.sixel_grammar.proofs.laws.documents_are_whole.Goals as goal
 
 pub returns : goal.returns

@@ -1,4 +1,4 @@
-use Rattle.sixel_grammar.proofs.Total.{judged}
+use Rattle.sixel_grammar.proofs.TotalLemmas.{judged}
 use Rattle.sixel_grammar.proofs.laws.documents_or_faults.Goals as goal
 
 pub returns : goal.returns

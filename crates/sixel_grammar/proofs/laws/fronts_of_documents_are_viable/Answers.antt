@@ -1,4 +1,4 @@
-use Rattle.sixel_grammar.proofs.Unique.{parsed_front}
+use Rattle.sixel_grammar.proofs.UniqueLemmas.{parsed_front}
 use Rattle.sixel_grammar.proofs.laws.fronts_of_documents_are_viable.Goals as goal
 
 pub returns : goal.returns

@@ -4,7 +4,7 @@ use Rattle.std.proofs.lemmas.Result.{err_from_is_err_and}
 use Rattle.sixel_grammar.specs.Faults.{IsFaultOf}
 use Rattle.sixel_grammar.specs.Reading.{Explains}
 use Rattle.sixel_grammar.specs.declared.fault.InputFault.TheVariants.{Grammar}
-use Rattle.sixel_grammar.proofs.Sources.{consumes-then, all_read, no_fault_before, refused_early, take_none}
+use Rattle.sixel_grammar.proofs.SourceLemmas.{consumes-then, all_read, no_fault_before, refused_early, take_none}
 use Rattle.sixel_grammar.proofs.reading.read_all.Goals as goal
 
 pub returns-in_err-finish-clause-refused : goal.returns-in_err-finish-clause-refused

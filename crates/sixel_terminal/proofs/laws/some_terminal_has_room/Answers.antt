@@ -1,4 +1,4 @@
-use Rattle.sixel_terminal.proofs.Rooms.{some_has_room}
+use Rattle.sixel_terminal.proofs.RoomLemmas.{some_has_room}
 use Rattle.sixel_terminal.proofs.laws.some_terminal_has_room.Goals as goal
 
 pub returns : goal.returns

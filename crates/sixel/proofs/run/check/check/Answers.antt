@@ -1,5 +1,5 @@
 use Rattle.std.proofs.lemmas.Result.{err_from_is_err_and}
-use Rattle.sixel.proofs.Checks.{checked_unwritten, checked_written, grown}
+use Rattle.sixel.proofs.CheckLemmas.{checked_unwritten, checked_written, grown}
 use Rattle.sixel.proofs.run.check.check.Goals as goal
 
 pub returns-in-Ok-clause-wrote : goal.returns-in-Ok-clause-wrote

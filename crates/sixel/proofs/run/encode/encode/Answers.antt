@@ -1,4 +1,4 @@
-use Rattle.sixel.proofs.Files.{unencoded}
+use Rattle.sixel.proofs.FileLemmas.{unencoded}
 use Rattle.sixel.proofs.run.encode.encode.Goals as goal
 
 pub returns-clause-wrote : goal.returns-clause-wrote

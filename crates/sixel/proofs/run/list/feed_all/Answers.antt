@@ -3,11 +3,11 @@ use Rattle.std.specs.Prelude.{Err}
 use Rattle.std.proofs.lemmas.List.{append-nil, take-append-drop}
 use Rattle.sixel_grammar.specs.Blocks.{in_all}
 use Rattle.sixel_grammar.specs.Standing.{completions}
-use Rattle.sixel_grammar.proofs.Devices.{Appends-then, TakesMore-refl, TakesMore-then}
-use Rattle.sixel_grammar.proofs.Sources.{one_past, split_past, take_past}
+use Rattle.sixel_grammar.proofs.DeviceLemmas.{Appends-then, TakesMore-refl, TakesMore-then}
+use Rattle.sixel_grammar.proofs.SourceLemmas.{one_past, split_past, take_past}
 use Rattle.sixel.specs.Texts.{list_text}
-use Rattle.sixel.proofs.Listing.{list_text-append, stands-as}
-use Rattle.sixel_grammar.proofs.Sinks.{Appends-none, puts-then}
+use Rattle.sixel.proofs.ListingLemmas.{list_text-append, stands-as}
+use Rattle.sixel_grammar.proofs.SinkLemmas.{Appends-none, puts-then}
 use Rattle.sixel.proofs.run.list.feed_all.Goals as goal
 
 pub loop-byte-init : goal.loop-byte-init

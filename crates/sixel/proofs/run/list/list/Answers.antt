@@ -1,11 +1,11 @@
 use Rattle.std.proofs.Common.{◌≡◌, ◌∙◌, ◌++◌, take, sym, arith, length-append}
 use Rattle.std.proofs.lemmas.List.{length-take}
 use Rattle.std.proofs.lemmas.Result.{err_from_is_err_and}
-use Rattle.sixel_grammar.proofs.Devices.{Appends-then}
-use Rattle.sixel_grammar.proofs.Sources.{consumes-then}
+use Rattle.sixel_grammar.proofs.DeviceLemmas.{Appends-then}
+use Rattle.sixel_grammar.proofs.SourceLemmas.{consumes-then}
 use Rattle.sixel.specs.declared.fault.RunFault.TheVariants.{OutOfMemory}
-use Rattle.sixel.proofs.Listing.{list_text-append}
-use Rattle.sixel.proofs.Outputs.{ended-early, ended-well, not-read, stopped, unread, unrefused}
+use Rattle.sixel.proofs.ListingLemmas.{list_text-append}
+use Rattle.sixel.proofs.OutputLemmas.{ended-early, ended-well, not-read, stopped, unread, unrefused}
 use Rattle.sixel.proofs.run.list.list.Goals as goal
 
 pub returns-in-Ok-finish-clause-reads : goal.returns-in-Ok-finish-clause-reads

@@ -1,5 +1,5 @@
-use Rattle.sixel_grammar.proofs.Devices.{Keeps-refl, TakesMore-then, front-more}
-use Rattle.sixel.proofs.Listing.{fed-drained, fed-stopped}
+use Rattle.sixel_grammar.proofs.DeviceLemmas.{Keeps-refl, TakesMore-then, front-more}
+use Rattle.sixel.proofs.ListingLemmas.{fed-drained, fed-stopped}
 use Rattle.sixel.proofs.run.list.list_piece.Goals as goal
 
 pub returns-in-Err-Write-clause-fed : goal.returns-in-Err-Write-clause-fed

@@ -1,8 +1,8 @@
 use Rattle.std.specs.Option.{option_to_list}
 use Rattle.std.proofs.lemmas.Result.{err_from_is_err_and}
-use Rattle.sixel_grammar.proofs.Devices.{TakesMore-then}
-use Rattle.sixel.proofs.Listing.{list_text-append}
-use Rattle.sixel_grammar.proofs.Sinks.{puts-longer, puts-then}
+use Rattle.sixel_grammar.proofs.DeviceLemmas.{TakesMore-then}
+use Rattle.sixel.proofs.ListingLemmas.{list_text-append}
+use Rattle.sixel_grammar.proofs.SinkLemmas.{puts-longer, puts-then}
 use Rattle.sixel.proofs.run.list.put_lines.Goals as goal
 
 pub returns-clause-bytes : goal.returns-clause-bytes

@@ -1,6 +1,6 @@
 use Rattle.std.proofs.lemmas.Result.{err_from_is_err_and}
-use Rattle.sixel.proofs.Checks.{grown}
-use Rattle.sixel.proofs.Pictures.{broken_rendered, unrendered}
+use Rattle.sixel.proofs.CheckLemmas.{grown}
+use Rattle.sixel.proofs.PictureLemmas.{broken_rendered, unrendered}
 use Rattle.sixel.proofs.run.render.render.Goals as goal
 
 pub returns-in_err-write_ppm-in-Portable-clause-wrote : goal.returns-in_err-write_ppm-in-Portable-clause-wrote

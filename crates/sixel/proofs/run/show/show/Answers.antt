@@ -1,7 +1,7 @@
 use Rattle.std.proofs.Common.{◌∙◌, ap, length}
 use Rattle.sixel_grammar.specs.Document.{events_of}
 use Rattle.sixel.specs.Screens.{show_terminal}
-use Rattle.sixel.proofs.Screens.{screen_length}
+use Rattle.sixel.proofs.ScreenLemmas.{screen_length}
 use Rattle.sixel.proofs.run.show.show.Goals as goal
 
 pub write_screen-requires-clause-whole : goal.write_screen-requires-clause-whole

@@ -1,6 +1,6 @@
 use Rattle.std.proofs.lemmas.Result.{err_from_is_err_and}
 use Rattle.sixel.specs.Screens.{show_terminal}
-use Rattle.sixel.proofs.Screens.{unwritten, written}
+use Rattle.sixel.proofs.ScreenLemmas.{unwritten, written}
 use Rattle.sixel.proofs.run.show.write_screen.Goals as goal
 
 pub returns-clause-wrote : goal.returns-clause-wrote

@@ -1,6 +1,6 @@
 use Rattle.std.proofs.Common.{◌≡◌, ◌∙◌, ◌≤◌, length, drop, refl, sym, ap, arith}
 use Rattle.std.proofs.lemmas.List.{drop-drop, length-drop}
-use Rattle.sixel_grammar.proofs.Devices.{takes-further, nothing-taken}
+use Rattle.sixel_grammar.proofs.DeviceLemmas.{takes-further, nothing-taken}
 use Rattle.sixel_grammar.proofs.block.Block.drain.Goals as goal
 
 pub loop-self-init : goal.loop-self-init

@@ -1,7 +1,7 @@
 use Rattle.std.proofs.Common.{◌≡◌, ◌-◌, ◌++◌, ◌∷◌, [], Bool, cond, length, refl, sym, ap, arith}
 use Rattle.sixel_grammar.specs.Plain.{plain_of}
 use Rattle.sixel_grammar.specs.declared.command.Plain.TheVariants.{Nothing}
-use Rattle.sixel_grammar.proofs.Stands.{grown, quiet}
+use Rattle.sixel_grammar.proofs.StandLemmas.{grown, quiet}
 use Rattle.sixel_grammar.proofs.reader.Reader.begin_repeat.Goals as goal
 
 pub returns-then-try_begin_repeat-clause-accepted : goal.returns-then-try_begin_repeat-clause-accepted

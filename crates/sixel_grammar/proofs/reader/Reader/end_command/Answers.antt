@@ -1,6 +1,6 @@
 use Rattle.std.proofs.Common.{refl, arith}
 use Rattle.sixel_grammar.specs.declared.command.Event.TheVariants.{Step}
-use Rattle.sixel_grammar.proofs.Stands.{ended}
+use Rattle.sixel_grammar.proofs.StandLemmas.{ended}
 use Rattle.sixel_grammar.proofs.reader.Reader.end_command.Goals as goal
 
 pub returns-clause-accepted : goal.returns-clause-accepted

@@ -2,7 +2,7 @@ use Rattle.std.proofs.Common.{Bool, cond, length, refl, sym, ap, arith}
 use Rattle.sixel_grammar.specs.declared.command.Event.TheVariants.{Step}
 use Rattle.sixel_grammar.specs.Plain.{plain_of}
 use Rattle.sixel_grammar.specs.declared.command.Plain.TheVariants.{Command}
-use Rattle.sixel_grammar.proofs.Stands.{shut}
+use Rattle.sixel_grammar.proofs.StandLemmas.{shut}
 use Rattle.sixel_grammar.proofs.reader.Reader.end_repeat.Goals as goal
 
 pub returns-clause-accepted : goal.returns-clause-accepted

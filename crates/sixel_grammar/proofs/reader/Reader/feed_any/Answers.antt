@@ -9,8 +9,8 @@ use Rattle.sixel_grammar.specs.Faults.{IsFaultOf, refusal}
 use Rattle.sixel_grammar.specs.Next.{begin, settled, next_of, only_whole}
 use Rattle.sixel_grammar.specs.Pending.{event_of, form_of}
 use Rattle.sixel_grammar.specs.Standing.{opened_after}
-use Rattle.sixel_grammar.proofs.Choices.{whole-is, stops}
-use Rattle.sixel_grammar.proofs.Stands.{whole, both, stopped, refused_at, fault_at}
+use Rattle.sixel_grammar.proofs.ChoiceLemmas.{whole-is, stops}
+use Rattle.sixel_grammar.proofs.StandLemmas.{whole, both, stopped, refused_at, fault_at}
 use Rattle.sixel_grammar.proofs.reader.Reader.feed_any.Goals as goal
 
 pub returns-then-self-eq0-clause-refused : goal.returns-then-self-eq0-clause-refused

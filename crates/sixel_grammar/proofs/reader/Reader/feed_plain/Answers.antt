@@ -3,7 +3,7 @@ use Rattle.sixel_grammar.specs.declared.reader.Reader.{Reader}
 use Rattle.sixel_grammar.specs.Next.{only_grown, within}
 use Rattle.sixel_grammar.specs.Pending.{form_of}
 use Rattle.sixel_grammar.specs.Standing.{StandsAfter}
-use Rattle.sixel_grammar.proofs.NotPlain.{not_plain}
+use Rattle.sixel_grammar.proofs.NotPlainLemmas.{not_plain}
 use Rattle.sixel_grammar.proofs.reader.Reader.feed_plain.Goals as goal
 
 pub returns-in-Some-clause-accepted : goal.returns-in-Some-clause-accepted

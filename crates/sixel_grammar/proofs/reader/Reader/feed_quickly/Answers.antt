@@ -2,7 +2,7 @@ use Rattle.std.proofs.Common.{ℕ, refl, sym, ap, subst}
 use Rattle.std.specs.Prelude.{IfSome}
 use Rattle.sixel_grammar.specs.Plain.{plain_of}
 use Rattle.sixel_grammar.specs.Standing.{Takes, completions}
-use Rattle.sixel_grammar.proofs.Stands.{sixel}
+use Rattle.sixel_grammar.proofs.StandLemmas.{sixel}
 use Rattle.sixel_grammar.proofs.reader.Reader.feed_quickly.Goals as goal
 
 pub returns-then-is_sixel-clause-accepted : goal.returns-then-is_sixel-clause-accepted

@@ -2,7 +2,7 @@ use Rattle.std.proofs.Common.{◌≡◌, ◌-◌, length, sym, subst, arith}
 use Rattle.sixel_grammar.specs.declared.fault.Reason.TheVariants.{Truncated}
 use Rattle.sixel_grammar.specs.Faults.{IsFaultOf, Ended}
 use Rattle.sixel_grammar.specs.Pending.{form_of}
-use Rattle.sixel_grammar.proofs.Stands.{truncated, fault_at}
+use Rattle.sixel_grammar.proofs.StandLemmas.{truncated, fault_at}
 use Rattle.sixel_grammar.proofs.reader.Reader.finish.Goals as goal
 
 pub returns-else-has_ended-clause-answer : goal.returns-else-has_ended-clause-answer

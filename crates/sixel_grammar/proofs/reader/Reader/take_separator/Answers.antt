@@ -1,7 +1,7 @@
 use Rattle.std.proofs.Common.{refl}
 use Rattle.sixel_grammar.specs.Plain.{plain_of}
 use Rattle.sixel_grammar.specs.declared.command.Plain.TheVariants.{Nothing}
-use Rattle.sixel_grammar.proofs.Stands.{inner}
+use Rattle.sixel_grammar.proofs.StandLemmas.{inner}
 use Rattle.sixel_grammar.proofs.reader.Reader.take_separator.Goals as goal
 
 pub returns-then-try_take_separator-clause-accepted : goal.returns-then-try_take_separator-clause-accepted

@@ -1,7 +1,7 @@
 use Rattle.std.proofs.Common.{None, [], ◌∷◌, ◌++◌, ◌≡◌, ◌∙◌, ◌-◌, ℕ, length, refl, sym, ap, arith}
 use Rattle.sixel_grammar.specs.Standing.{opened_after}
-use Rattle.sixel_grammar.proofs.Choices.{grown-is}
-use Rattle.sixel_grammar.proofs.Stands.{grown, quiet}
+use Rattle.sixel_grammar.proofs.ChoiceLemmas.{grown-is}
+use Rattle.sixel_grammar.proofs.StandLemmas.{grown, quiet}
 use Rattle.sixel_grammar.proofs.reader.Reader.try_grow.Goals as goal
 
 pub returns-clause-accepted : goal.returns-clause-accepted

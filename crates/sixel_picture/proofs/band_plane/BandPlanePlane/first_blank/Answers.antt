@@ -9,5 +9,6 @@ returns c =
     let inside = c.self.inside in
     let some : 0 < inside.width = search rules in
     first_blank_unpainted inside.width inside.height inside.registers.items
-    (is_covered inside.width inside.coverage.items) c.first_unpainted.result some (rw c.deref.ensures.value at c.first_unpainted.ensures)
+    (is_covered inside.width inside.coverage.items) c.first_unpainted.result some
+    (rw c.deref.ensures.value at c.first_unpainted.ensures)
     ∙ ap first_blank c.self.view_is

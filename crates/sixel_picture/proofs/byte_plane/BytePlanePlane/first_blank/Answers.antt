@@ -1,5 +1,5 @@
-use Rattle.std.proofs.Common.{◌≡◌, ◌%◌, ◌/◌, ◌*◌, ◌<◌, ℕ, Bool, List, Option, Some, None, length, not, position, sym, ap}
-use Rattle.std.proofs.Common.{◌∙◌, rules}
+use Rattle.std.proofs.Common.{◌≡◌, ◌%◌, ◌/◌, ◌*◌, ◌<◌, ℕ, Bool, List, Option, Some, None, length, not, position, sym}
+use Rattle.std.proofs.Common.{ap, ◌∙◌, rules}
 use Rattle.std.specs.Option.{option_map}
 use Rattle.sixel_picture.specs.BytePlanes.{is_marked, sheet_of_marks}
 use Rattle.sixel_picture.specs.Sheets.{Sheet, first_blank}

@@ -1,4 +1,5 @@
-use Rattle.std.proofs.Common.{◌≡◌, ◌==◌, ◌+◌, ◌*◌, ◌<◌, ◌≤◌, ℕ, length, refl, sym, ap, ap₂, ◌∙◌, false, arith, rules, true}
+use Rattle.std.proofs.Common.{◌≡◌, ◌==◌, ◌+◌, ◌*◌, ◌<◌, ◌≤◌, ℕ, length, refl, sym, ap, ap₂, ◌∙◌, false, arith, rules}
+use Rattle.std.proofs.Common.{true}
 use Rattle.std.specs.Int.{bit_at}
 use Rattle.std.proofs.lemmas.Bool.{eqb-true}
 use Rattle.std.proofs.lemmas.Nat.{row_fits_turned}
@@ -41,8 +42,8 @@ pub fill_row-requires : goal.fill_row-requires
 fill_row-requires c =
     let set : bit_at c.args.bits c.loop-bit.bit ≡ 1 =
     eqb-true (bit_at c.args.bits c.loop-bit.bit) 1 (sym c.if-is_set.ensures) in
-    let room = row_fits c.self.inside.width c.self.inside.height c.args.self.now.width c.args.self.now.height c.args.band
-    c.loop-bit.bit c.args.column c.args.count (ap (λ (s : Sheet). s.width) c.self.view_is)
+    let room = row_fits c.self.inside.width c.self.inside.height c.args.self.now.width c.args.self.now.height
+    c.args.band c.loop-bit.bit c.args.column c.args.count (ap (λ (s : Sheet). s.width) c.self.view_is)
     (ap (λ (s : Sheet). s.height) c.self.view_is) c.requires.columns
     (c.requires.rows c.loop-bit.bit c.loop-bit-test.true set) in
     let stored : length c.deref_mut.result.now ≡ c.self.inside.width * c.self.inside.height =
@@ -53,8 +54,8 @@ pub fill_row-requires-then-is_set : goal.fill_row-requires-then-is_set
 fill_row-requires-then-is_set c =
     let set : bit_at c.args.bits c.loop-bit.bit ≡ 1 =
     eqb-true (bit_at c.args.bits c.loop-bit.bit) 1 (sym c.if-is_set.ensures) in
-    let room = row_fits c.self.inside.width c.self.inside.height c.args.self.now.width c.args.self.now.height c.args.band
-    c.loop-bit.bit c.args.column c.args.count (ap (λ (s : Sheet). s.width) c.self.view_is)
+    let room = row_fits c.self.inside.width c.self.inside.height c.args.self.now.width c.args.self.now.height
+    c.args.band c.loop-bit.bit c.args.column c.args.count (ap (λ (s : Sheet). s.width) c.self.view_is)
     (ap (λ (s : Sheet). s.height) c.self.view_is) c.requires.columns
     (c.requires.rows c.loop-bit.bit c.loop-bit-test.true set) in
     let stored : length c.deref_mut-then-is_set.result.now ≡ c.self.inside.width * c.self.inside.height =
@@ -94,7 +95,8 @@ loop-bit-preserved c = elim c.if-is_set.branch [
         marked = run_more c.loop-bit.bit c.self.inside.width c.args.column c.args.count c.args.band c.args.bits _
             true false c.self.inside.marks.items c.loop-bit.self-inside.marks.items
             c.if-is_set.self-inside.marks.items
-            some fits start set c.loop-bit.invariant.marked long_marks (rw (marks, ← stored_marks) (w.fill_row-then-is_set.ensures false));
+            some fits start set c.loop-bit.invariant.marked long_marks
+            (rw (marks, ← stored_marks) (w.fill_row-then-is_set.ensures false));
       }
   | else-is_set w ↦
       let clear : (bit_at c.args.bits c.loop-bit.bit == 1) ≡ false = sym w.if-is_set.ensures in

@@ -1,6 +1,6 @@
 use Rattle.std.proofs.Common.{ℕ, ◌≡◌, ◌<◌, ◌∙◌, length, refl, take, arith}
 use Rattle.std.proofs.lemmas.Result.{err_from_is_err_and}
-use Rattle.sixel_grammar.proofs.Sources.{take_none}
+use Rattle.sixel_grammar.proofs.SourceLemmas.{take_none}
 use Rattle.sixel_picture.proofs.PpmReadLemmas.{answered, holds_on, in_samples_still, samples_begin}
 use Rattle.sixel_picture.proofs.PpmReadLemmas.{samples_fault_counts, samples_finished, samples_go_on, samples_refused}
 use Rattle.sixel_picture.proofs.ppm.read.read_samples.Goals as goal

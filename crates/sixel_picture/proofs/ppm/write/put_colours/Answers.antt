@@ -4,9 +4,9 @@ use Rattle.std.specs.Io.KnownBytes.{Appends}
 use Rattle.std.proofs.lemmas.Grind.{flat_map-append}
 use Rattle.std.proofs.lemmas.Result.{err_from_is_err_and}
 use Rattle.sixel_grammar.specs.Blocks.{in_all}
-use Rattle.sixel_grammar.proofs.Devices.{TakesMore-then}
+use Rattle.sixel_grammar.proofs.DeviceLemmas.{TakesMore-then}
 use Rattle.sixel_picture.specs.Ppm.{samples_of}
-use Rattle.sixel_grammar.proofs.Sinks.{put_front, put_more}
+use Rattle.sixel_grammar.proofs.SinkLemmas.{put_front, put_more}
 use Rattle.sixel_picture.proofs.ppm.write.put_colours.Goals as goal
 
 pub returns-in_err-put_colour-clause-bytes : goal.returns-in_err-put_colour-clause-bytes

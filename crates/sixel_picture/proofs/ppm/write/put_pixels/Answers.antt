@@ -1,9 +1,9 @@
 use Rattle.std.proofs.Common.{get_or, refl, arith}
 use Rattle.std.proofs.lemmas.Result.{err_from_is_err_and}
 use Rattle.sixel_grammar.specs.Blocks.{in_all}
-use Rattle.sixel_grammar.proofs.Devices.{TakesMore-then}
+use Rattle.sixel_grammar.proofs.DeviceLemmas.{TakesMore-then}
 use Rattle.sixel_picture.proofs.PpmLemmas.{samples_by, samples_by-append}
-use Rattle.sixel_grammar.proofs.Sinks.{put_front, put_more}
+use Rattle.sixel_grammar.proofs.SinkLemmas.{put_front, put_more}
 use Rattle.sixel_picture.proofs.ppm.write.put_pixels.Goals as goal
 
 pub returns-in_err-put_pixel-clause-bytes : goal.returns-in_err-put_pixel-clause-bytes

@@ -26,9 +26,10 @@ use Rattle.sixel_picture.proofs.StepLemmas.{band_push, column_push, raster_push,
 use Rattle.sixel_picture.proofs.RuleLemmas.{Keeps}
 use Rattle.sixel_encode.specs.Canon.{canon_start, define_command, define_commands}
 use Rattle.sixel_picture.proofs.CoverLemmas.{idle_covered, idle_register}
-use Rattle.sixel_encode.proofs.Stands.{Ran, Stands, box_of, definition_by, quiet_keeps, ran_join, ran_none, ran_one}
-use Rattle.sixel_encode.proofs.Length.{defines_from, entry_colour}
-use Rattle.sixel_encode.proofs.Parted.{Parted}
+use Rattle.sixel_encode.proofs.StandLemmas.{Ran, Stands, box_of, definition_by, quiet_keeps, ran_join, ran_none}
+use Rattle.sixel_encode.proofs.StandLemmas.{ran_one}
+use Rattle.sixel_encode.proofs.LengthLemmas.{defines_from, entry_colour}
+use Rattle.sixel_encode.proofs.PartedLemmas.{Parted}
 
 -- a colour's definition gives a colour in range
 in_range_by : (c : Parts) → IsColour c → gives_colour (definition_by c) ≡ true

@@ -18,7 +18,7 @@ use Rattle.sixel_grammar.specs.declared.command.Command.TheVariants.{CarriageRet
 use Rattle.sixel_grammar.specs.declared.command.Event.TheVariants.{Finish}
 use Rattle.sixel_grammar.specs.Lengths.{digit_count}
 use Rattle.sixel_grammar.specs.Spelling.{fixed_command, fixed_fields, fixed_spelling}
-use Rattle.sixel_grammar.proofs.Lengths.{decimal_within}
+use Rattle.sixel_grammar.proofs.LengthLemmas.{decimal_within}
 use Rattle.sixel_picture.specs.declared.colour.Parts.{Parts}
 use Rattle.sixel_picture.specs.declared.colour.Parts.TheVariants.{Rgb, Hls}
 use Rattle.sixel_picture.specs.Colours.{palette_at, IsColour}
@@ -28,11 +28,11 @@ use Rattle.sixel_encode.specs.Canon.{below, canon_commands, canon_start, canon_t
 use Rattle.sixel_encode.specs.Canon.{define_command, define_commands, has_bits, picture_commands, register_commands}
 use Rattle.sixel_encode.specs.Canon.{run_commands, runs, without_blanks}
 use Rattle.sixel_encode.specs.Laws.{TextsAreShort, TextsHaveAtMost, entries_of, items_of}
-use Rattle.sixel_encode.proofs.Longest.{runs_joined}
-use Rattle.sixel_encode.proofs.Occurs.{band_length, band_some, band_used, entries, entries_are}
-use Rattle.sixel_encode.proofs.Parted.{IsUsed, Parted, parted}
-use Rattle.sixel_encode.proofs.Steps.{canon-parts}
-use Rattle.sixel_encode.proofs.Texts.{text-append, text-sixels}
+use Rattle.sixel_encode.proofs.LongestLemmas.{runs_joined}
+use Rattle.sixel_encode.proofs.OccurLemmas.{band_length, band_some, band_used, entries, entries_are}
+use Rattle.sixel_encode.proofs.PartedLemmas.{IsUsed, Parted, parted}
+use Rattle.sixel_encode.proofs.StepLemmas.{canon-parts}
+use Rattle.sixel_encode.proofs.TextLemmas.{text-append, text-sixels}
 
 -- ---- numbers
 

@@ -12,8 +12,8 @@ use Rattle.sixel.specs.declared.fault.RunFault.{RunFault}
 use Rattle.sixel.specs.declared.fault.RunFault.TheVariants.{Grammar, Ppm, NotRgb, OutOfMemory, Read, Write}
 use Rattle.sixel.specs.Feeding.{Feeds, StopsIn}
 use Rattle.sixel.specs.Texts.{BeginsWith, event_line, list_text}
-use Rattle.sixel_grammar.proofs.Sinks.{Appends-keeps}
-use Rattle.sixel.proofs.Puts.{begins-then, cut, drained}
+use Rattle.sixel_grammar.proofs.SinkLemmas.{Appends-keeps}
+use Rattle.sixel.proofs.PutLemmas.{begins-then, cut, drained}
 
 pub list_text-append : (xs ys : List Placed) → list_text (xs ++ ys) ≡ list_text xs ++ list_text ys
 list_text-append xs ys = flat_map-append event_line xs ys

@@ -16,12 +16,12 @@ use Rattle.sixel_grammar.specs.Faults.{Form, NothingYet, Introducing, Parameters
 use Rattle.sixel_grammar.specs.Faults.{RepeatNumber, RasterFields, ColourFields, Terminating, Ended, AreFront, EndsIn}
 use Rattle.sixel_grammar.specs.Faults.{IsFaultOf, Precede, refusal}
 use Rattle.sixel_grammar.specs.Next.{next_of}
-use Rattle.sixel_grammar.proofs.Advance.{GoesTo, advances}
-use Rattle.sixel_grammar.proofs.DocumentWalk.{ended_parses}
-use Rattle.sixel_grammar.proofs.Fronts.{nothing, front_ends}
-use Rattle.sixel_grammar.proofs.Stands.{fault_at, refused, too_long, truncated}
-use Rattle.sixel_grammar.proofs.Unique.{complete_once, fault_stays}
-use Rattle.sixel_grammar.proofs.Viable.{complete}
+use Rattle.sixel_grammar.proofs.AdvanceLemmas.{GoesTo, advances}
+use Rattle.sixel_grammar.proofs.DocumentWalkLemmas.{ended_parses}
+use Rattle.sixel_grammar.proofs.FrontLemmas.{nothing, front_ends}
+use Rattle.sixel_grammar.proofs.StandLemmas.{fault_at, refused, too_long, truncated}
+use Rattle.sixel_grammar.proofs.UniqueLemmas.{complete_once, fault_stays}
+use Rattle.sixel_grammar.proofs.ViableLemmas.{complete}
 
 placed-events : (n : ℕ) (ps : List Piece) → events_of (placed_from n ps) ≡ events_in ps
 placed-events n [] = refl

@@ -10,8 +10,8 @@ use Rattle.sixel_grammar.specs.declared.command.Event.{Event}
 use Rattle.sixel_grammar.specs.declared.command.Placed.{Placed}
 use Rattle.sixel_grammar.specs.declared.fault.Fault.{Fault}
 use Rattle.sixel_grammar.specs.Document.{Document, events_of}
-use Rattle.sixel_grammar.proofs.Total.{judged}
-use Rattle.sixel_grammar.proofs.Unique.{document_once, fault_no_document, fault_once}
+use Rattle.sixel_grammar.proofs.TotalLemmas.{judged}
+use Rattle.sixel_grammar.proofs.UniqueLemmas.{document_once, fault_no_document, fault_once}
 use Rattle.sixel_picture.specs.declared.colour.Parts.{Parts}
 use Rattle.sixel_picture.specs.declared.colour.Parts.TheVariants.{Rgb}
 use Rattle.sixel_picture.specs.declared.ppm.PpmFault.{PpmFault}
@@ -28,7 +28,7 @@ use Rattle.sixel.specs.Conversions.{of_ppm}
 use Rattle.sixel.specs.Outputs.{ShowGives, WroteBy, WroteNothing}
 use Rattle.sixel.specs.Screens.{screen_text}
 use Rattle.sixel.specs.Texts.{Text, BeginsWith}
-use Rattle.sixel_grammar.proofs.Sinks.{Appends-keeps, Appends-none}
+use Rattle.sixel_grammar.proofs.SinkLemmas.{Appends-keeps, Appends-none}
 
 -- two readings of one document are shown in the same colours
 same-screen : (t : Display) (bytes : List ℕ) (d e : List Placed) → Document d bytes → Document e bytes

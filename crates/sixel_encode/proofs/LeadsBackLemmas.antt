@@ -30,11 +30,11 @@ use Rattle.sixel_encode.specs.Canon.{canon_start, canon}
 use Rattle.sixel_encode.specs.Laws.{ListsBreakNoRule, ListsLeaveTheirPicture}
 use Rattle.sixel_picture.proofs.CoverLemmas.{idle_falls}
 use Rattle.sixel_picture.proofs.KeepLemmas.{KeepEach, keep_one, keep_append, keep_none}
-use Rattle.sixel_encode.proofs.Stands.{Passed, Stands, box_of, definition_by, ran_as, ran_join, stands_quiet}
-use Rattle.sixel_encode.proofs.Bands.{bands_passed, is_above}
-use Rattle.sixel_encode.proofs.Opening.{Opened, defines_opened, opens_stands, raster, start_keeps, raster_keeps}
-use Rattle.sixel_encode.proofs.Opening.{raster_opens}
-use Rattle.sixel_encode.proofs.Parted.{Parted, parted}
+use Rattle.sixel_encode.proofs.StandLemmas.{Passed, Stands, box_of, definition_by, ran_as, ran_join, stands_quiet}
+use Rattle.sixel_encode.proofs.BandLemmas.{bands_passed, is_above}
+use Rattle.sixel_encode.proofs.OpeningLemmas.{Opened, defines_opened, opens_stands, raster, start_keeps, raster_keeps}
+use Rattle.sixel_encode.proofs.OpeningLemmas.{raster_opens}
+use Rattle.sixel_encode.proofs.PartedLemmas.{Parted, parted}
 
 -- the start and the raster attributes
 abbrev front : PictureValue → List Event

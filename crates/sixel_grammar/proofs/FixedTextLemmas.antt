@@ -8,7 +8,7 @@ use Rattle.sixel_grammar.specs.declared.command.Placed.{Placed}
 use Rattle.sixel_grammar.specs.Spelling.{fixed_spelling}
 use Rattle.sixel_grammar.specs.Document.{Piece, IsPiece, joined, events_in, placed_from, AreWhole, Document, most_bytes}
 use Rattle.sixel_grammar.specs.FixedText.{fixed_text, fixed_places, CanWrite}
-use Rattle.sixel_grammar.proofs.Spelled.{fixed_spells}
+use Rattle.sixel_grammar.proofs.SpelledLemmas.{fixed_spells}
 
 pub fixed_text-append : (xs ys : List Event) → fixed_text (xs ++ ys) ≡ fixed_text xs ++ fixed_text ys
 fixed_text-append [] ys = refl

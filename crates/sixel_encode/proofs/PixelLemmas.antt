@@ -13,8 +13,8 @@ use Rattle.sixel_picture.specs.Geometry.{covers}
 use Rattle.sixel_picture.proofs.RunLemmas.{same_test}
 use Rattle.sixel_picture.proofs.CoverLemmas.{covers_under, lies_under, no_bits_cover}
 use Rattle.sixel_encode.specs.Canon.{band_columns, below, column_bits, has_bits, has_pixel, without_blanks}
-use Rattle.sixel_encode.proofs.Bits.{bits_are, each_six_at, six}
-use Rattle.sixel_encode.proofs.Strips.{lies, or_and, within_split}
+use Rattle.sixel_encode.proofs.BitLemmas.{bits_are, each_six_at, six}
+use Rattle.sixel_encode.proofs.StripLemmas.{lies, or_and, within_split}
 
 -- ---- bits
 

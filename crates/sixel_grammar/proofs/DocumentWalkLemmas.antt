@@ -22,12 +22,13 @@ use Rattle.sixel_grammar.specs.Faults.{Form, NothingYet, Introducing, Parameters
 use Rattle.sixel_grammar.specs.Faults.{RepeatNumber, RasterFields, ColourFields, Terminating, Ended, EndsIn, AreSteps}
 use Rattle.sixel_grammar.specs.Faults.{AreBegun, IsClosed, is_idle}
 use Rattle.sixel_grammar.specs.Next.{begin, within, next_of}
-use Rattle.sixel_grammar.proofs.Walk.{Stamp, stamp, State, state, after, idle, walk, walk-append, walk-none, walk-then}
-use Rattle.sixel_grammar.proofs.Walk.{within-some}
-use Rattle.sixel_grammar.proofs.Walk.{number_walk, fields_walk, repeat-digits, raster-digits, raster-separators}
-use Rattle.sixel_grammar.proofs.Walk.{colour-digits, colour-separators, parameters-digits, parameters-separators}
-use Rattle.sixel_grammar.proofs.Walk.{is_data-bits, Ready, Rests, command-reaches}
-use Rattle.sixel_grammar.proofs.Pieces.{start_of}
+use Rattle.sixel_grammar.proofs.WalkLemmas.{Stamp, stamp, State, state, after, idle, walk, walk-append, walk-none}
+use Rattle.sixel_grammar.proofs.WalkLemmas.{walk-then}
+use Rattle.sixel_grammar.proofs.WalkLemmas.{within-some}
+use Rattle.sixel_grammar.proofs.WalkLemmas.{number_walk, fields_walk, repeat-digits, raster-digits, raster-separators}
+use Rattle.sixel_grammar.proofs.WalkLemmas.{colour-digits, colour-separators, parameters-digits, parameters-separators}
+use Rattle.sixel_grammar.proofs.WalkLemmas.{is_data-bits, Ready, Rests, command-reaches}
+use Rattle.sixel_grammar.proofs.PieceLemmas.{start_of}
 
 -- the events of pieces that stand from n on, each with the number of bytes with which it is complete
 abbrev pub stamped_from : ℕ → List Piece → List Stamp

@@ -12,11 +12,11 @@ use Rattle.sixel_grammar.specs.Document.{Document, most_bytes}
 use Rattle.sixel_grammar.specs.Fronts.{CompleteIn}
 use Rattle.sixel_grammar.specs.Faults.{IsFaultOf}
 use Rattle.sixel_grammar.specs.Standing.{StandsAfter}
-use Rattle.sixel_grammar.proofs.Devices.{Appends-then}
-use Rattle.sixel_grammar.proofs.Sources.{consumes-then, all_read, take_none}
-use Rattle.sixel_grammar.proofs.Stands.{read_complete, read_short}
-use Rattle.sixel_grammar.proofs.Total.{before_fault, place_past}
-use Rattle.sixel_grammar.proofs.Unique.{complete_stays, document_complete, fault_stays}
+use Rattle.sixel_grammar.proofs.DeviceLemmas.{Appends-then}
+use Rattle.sixel_grammar.proofs.SourceLemmas.{consumes-then, all_read, take_none}
+use Rattle.sixel_grammar.proofs.StandLemmas.{read_complete, read_short}
+use Rattle.sixel_grammar.proofs.TotalLemmas.{before_fault, place_past}
+use Rattle.sixel_grammar.proofs.UniqueLemmas.{complete_stays, document_complete, fault_stays}
 use Rattle.sixel.specs.declared.fault.RunFault.{RunFault}
 use Rattle.sixel.specs.declared.fault.RunFault.TheVariants.{Grammar, Ppm, NotRgb, OutOfMemory, Read, Write}
 use Rattle.sixel.specs.declared.task.Status.{Status}
@@ -25,8 +25,8 @@ use Rattle.sixel.specs.declared.task.Task.TheVariants.{List as Listing}
 use Rattle.sixel.specs.Feeding.{Feeds}
 use Rattle.sixel.specs.Outputs.{ListGives, Wrote, failures_by}
 use Rattle.sixel.specs.Texts.{Text, BeginsWith, list_text}
-use Rattle.sixel.proofs.Listing.{list_text-append}
-use Rattle.sixel.proofs.Puts.{begins-then}
+use Rattle.sixel.proofs.ListingLemmas.{list_text-append}
+use Rattle.sixel.proofs.PutLemmas.{begins-then}
 
 -- what a list gives begins with the lines of the events that are complete in a viable front
 pub gives-begins : (bytes read more : List ℕ) (events : List Placed) → bytes ≡ read ++ more → CompleteIn events read

@@ -11,7 +11,7 @@ use Rattle.sixel_grammar.specs.declared.reader.Reader.{Reader}
 use Rattle.sixel_grammar.specs.Faults.{IsFaultOf}
 use Rattle.sixel_grammar.specs.Reading.{Explains, ExplainsAlways, NoFaultBefore}
 use Rattle.sixel_grammar.specs.Standing.{StandsAfter}
-use Rattle.sixel_grammar.proofs.Stands.{read_complete, read_short}
+use Rattle.sixel_grammar.proofs.StandLemmas.{read_complete, read_short}
 
 pub refuses-more : (fault : InputFault) (bytes rest whole : List ℕ) → whole ≡ bytes ++ rest
     → ExplainsAlways fault bytes → ExplainsAlways fault whole

@@ -15,14 +15,14 @@ use Rattle.sixel_picture.specs.Rules.{breaks_colour_value, breaks_redefined, bre
 use Rattle.sixel_picture.proofs.StepLemmas.{column_push}
 use Rattle.sixel_encode.specs.Canon.{band_columns, band_commands, band_registers, below, register_commands, runs}
 use Rattle.sixel_encode.specs.Laws.{items_of}
-use Rattle.sixel_encode.proofs.Longest.{runs_joined}
-use Rattle.sixel_encode.proofs.Strips.{lies}
-use Rattle.sixel_encode.proofs.Stands.{Passed, Stands, known_select, passed_as, quiet_passed, ran_as, ran_join}
-use Rattle.sixel_encode.proofs.Stands.{ran_none, stands_as}
-use Rattle.sixel_encode.proofs.Drawn.{AreOwn, Draws, IsOwn, or_turn, runs_drawn}
-use Rattle.sixel_encode.proofs.Occurs.{band_used, own_listed}
-use Rattle.sixel_encode.proofs.Parted.{IsUsed, Parted}
-use Rattle.sixel_encode.proofs.Pixels.{is_in_band, lies_owns, owns}
+use Rattle.sixel_encode.proofs.LongestLemmas.{runs_joined}
+use Rattle.sixel_encode.proofs.StripLemmas.{lies}
+use Rattle.sixel_encode.proofs.StandLemmas.{Passed, Stands, known_select, passed_as, quiet_passed, ran_as, ran_join}
+use Rattle.sixel_encode.proofs.StandLemmas.{ran_none, stands_as}
+use Rattle.sixel_encode.proofs.DrawnLemmas.{AreOwn, Draws, IsOwn, or_turn, runs_drawn}
+use Rattle.sixel_encode.proofs.OccurLemmas.{band_used, own_listed}
+use Rattle.sixel_encode.proofs.PartedLemmas.{IsUsed, Parted}
+use Rattle.sixel_encode.proofs.PixelLemmas.{is_in_band, lies_owns, owns}
 
 -- ---- a register
 

@@ -15,11 +15,11 @@ use Rattle.sixel_grammar.specs.Next.{makes_columns}
 use Rattle.sixel_grammar.specs.Pending.{form_of}
 use Rattle.sixel_grammar.specs.Fronts.{CompleteIn}
 use Rattle.sixel_grammar.specs.Standing.{StandsAfter, are_plain, is_columns, opened_after}
-use Rattle.sixel_grammar.proofs.Advance.{GoesTo, advances}
-use Rattle.sixel_grammar.proofs.Stands.{completed_events, handed, read_complete}
-use Rattle.sixel_grammar.proofs.Unique.{complete_once}
-use Rattle.sixel_grammar.proofs.Viable.{complete}
-use Rattle.sixel_grammar.proofs.DocumentWalk.{not_viable}
+use Rattle.sixel_grammar.proofs.AdvanceLemmas.{GoesTo, advances}
+use Rattle.sixel_grammar.proofs.StandLemmas.{completed_events, handed, read_complete}
+use Rattle.sixel_grammar.proofs.UniqueLemmas.{complete_once}
+use Rattle.sixel_grammar.proofs.ViableLemmas.{complete}
+use Rattle.sixel_grammar.proofs.DocumentWalkLemmas.{not_viable}
 
 abbrev whole_columns : Option (Form × Option Event) → Bool
 whole_columns None = false

@@ -7,9 +7,9 @@ use Rattle.sixel_grammar.specs.declared.command.Placed.{Placed}
 use Rattle.sixel_grammar.specs.declared.fault.Fault.{Fault}
 use Rattle.sixel_grammar.specs.Document.{Document}
 use Rattle.sixel_grammar.specs.Faults.{IsFaultOf}
-use Rattle.sixel_grammar.proofs.Sinks.{Appends-none, nothing_put}
-use Rattle.sixel_grammar.proofs.Total.{judged}
-use Rattle.sixel_grammar.proofs.Unique.{fault_no_document, fault_once}
+use Rattle.sixel_grammar.proofs.SinkLemmas.{Appends-none, nothing_put}
+use Rattle.sixel_grammar.proofs.TotalLemmas.{judged}
+use Rattle.sixel_grammar.proofs.UniqueLemmas.{fault_no_document, fault_once}
 use Rattle.sixel_picture.specs.declared.ppm.PpmFault.{PpmFault}
 use Rattle.sixel_picture.specs.declared.ppm.PpmFault.TheVariants as ppm
 use Rattle.sixel_picture.specs.Pictures.{PictureValue}
@@ -28,7 +28,7 @@ use Rattle.sixel.specs.declared.task.Status.TheVariants.{Done}
 use Rattle.sixel.specs.Conversions.{of_ppm}
 use Rattle.sixel.specs.Outputs.{RenderGives, WroteBy, WroteNothing, render_output}
 use Rattle.sixel.specs.Texts.{Text}
-use Rattle.sixel.proofs.Checks.{same_verdict}
+use Rattle.sixel.proofs.CheckLemmas.{same_verdict}
 
 -- ---- one output
 

@@ -11,8 +11,8 @@ use Rattle.sixel_grammar.specs.declared.command.Command.TheVariants.{Sixel, Carr
 use Rattle.sixel_grammar.specs.declared.command.Event.TheVariants.{Step, Finish}
 use Rattle.sixel_grammar.specs.Document.{AreRest, most_bytes}
 use Rattle.sixel_grammar.specs.FixedText.{CanWrite}
-use Rattle.sixel_grammar.proofs.FixedText.{fixed_document}
-use Rattle.sixel_grammar.proofs.Pieces.{all-append}
+use Rattle.sixel_grammar.proofs.FixedTextLemmas.{fixed_document}
+use Rattle.sixel_grammar.proofs.PieceLemmas.{all-append}
 use Rattle.sixel_picture.specs.declared.colour.Parts.{Parts}
 use Rattle.sixel_picture.specs.declared.colour.Parts.TheVariants.{Rgb, Hls}
 use Rattle.sixel_picture.specs.Colours.{palette_at, IsColour}
@@ -21,11 +21,11 @@ use Rattle.sixel_encode.specs.Canon.{Run, all_columns, band_columns, band_comman
 use Rattle.sixel_encode.specs.Canon.{canon_commands, column_bits, define_command, define_commands, has_bits}
 use Rattle.sixel_encode.specs.Canon.{picture_commands, register_commands, run_commands, runs, without_blanks}
 use Rattle.sixel_encode.specs.Laws.{EventsCanBeWritten, ListsAreWhole, TextsAreDocuments, TextsHaveAtMost, items_of}
-use Rattle.sixel_encode.proofs.Bits.{column_most}
-use Rattle.sixel_encode.proofs.Length.{columns_length, defines_from, entry_colour}
-use Rattle.sixel_encode.proofs.Longest.{runs_joined}
-use Rattle.sixel_encode.proofs.Occurs.{band_used}
-use Rattle.sixel_encode.proofs.Parted.{IsUsed, Parted, parted}
+use Rattle.sixel_encode.proofs.BitLemmas.{column_most}
+use Rattle.sixel_encode.proofs.LengthLemmas.{columns_length, defines_from, entry_colour}
+use Rattle.sixel_encode.proofs.LongestLemmas.{runs_joined}
+use Rattle.sixel_encode.proofs.OccurLemmas.{band_used}
+use Rattle.sixel_encode.proofs.PartedLemmas.{IsUsed, Parted, parted}
 
 -- each command can be written
 abbrev AreWritable : List Command → Type 0

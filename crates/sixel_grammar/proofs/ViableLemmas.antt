@@ -18,8 +18,8 @@ use Rattle.sixel_grammar.specs.Fronts.{tails, completed_at, complete_from, Compl
 use Rattle.sixel_grammar.specs.Faults.{Form, NothingYet, Introducing, Parameters, LastSeparator, NoCommand}
 use Rattle.sixel_grammar.specs.Faults.{RepeatNumber, RasterFields, ColourFields, Terminating, Ended, EndsIn, IsClosed}
 use Rattle.sixel_grammar.specs.Faults.{AreBegun}
-use Rattle.sixel_grammar.proofs.Numbers.{no_digits, fields-separator}
-use Rattle.sixel_grammar.proofs.Pieces.{joined-append, said-append, all-append, begun-step, begun-finish, start_of}
+use Rattle.sixel_grammar.proofs.NumberLemmas.{no_digits, fields-separator}
+use Rattle.sixel_grammar.proofs.PieceLemmas.{joined-append, said-append, all-append, begun-step, begun-finish, start_of}
 
 -- no spelling is empty
 pub spells-some : (e : Event) (text : List ℕ) → Spells e text → 0 < length text

@@ -20,12 +20,12 @@ use Rattle.sixel_grammar.specs.Spelling.{is_open_ended}
 use Rattle.sixel_grammar.specs.Faults.{Form, NothingYet, Ended, EndsIn, IsClosed, refusal, Stops, IsTooLong, IsRefused}
 use Rattle.sixel_grammar.specs.Faults.{IsFaultOf}
 use Rattle.sixel_grammar.specs.Next.{next_of}
-use Rattle.sixel_grammar.proofs.Walk.{Stamp, stamp, State, state, with_stamp, moved, after, walk, walk-none}
-use Rattle.sixel_grammar.proofs.Walk.{walk-append, walk-then}
-use Rattle.sixel_grammar.proofs.DocumentWalk.{start, stamped_from, document_walk, ends_walk}
-use Rattle.sixel_grammar.proofs.Stands.{fault_at, form_at}
-use Rattle.sixel_grammar.proofs.Viable.{complete}
-use Rattle.sixel_grammar.proofs.Fronts.{fronts}
+use Rattle.sixel_grammar.proofs.WalkLemmas.{Stamp, stamp, State, state, with_stamp, moved, after, walk, walk-none}
+use Rattle.sixel_grammar.proofs.WalkLemmas.{walk-append, walk-then}
+use Rattle.sixel_grammar.proofs.DocumentWalkLemmas.{start, stamped_from, document_walk, ends_walk}
+use Rattle.sixel_grammar.proofs.StandLemmas.{fault_at, form_at}
+use Rattle.sixel_grammar.proofs.ViableLemmas.{complete}
+use Rattle.sixel_grammar.proofs.FrontLemmas.{fronts}
 
 abbrev placed_of : List Stamp → List Placed
 placed_of [] = []

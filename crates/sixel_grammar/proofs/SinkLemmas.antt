@@ -9,7 +9,7 @@ use Rattle.std.proofs.lemmas.List.{take_all, take_at, take_more, take-take}
 use Rattle.std.proofs.Math.Seq.{take-append-add}
 use Rattle.sixel_grammar.specs.Blocks.{PutsAllOrNone, TakesMore, in_all}
 use Rattle.sixel_grammar.specs.Devices.{Puts}
-use Rattle.sixel_grammar.proofs.Devices.{Appends-then}
+use Rattle.sixel_grammar.proofs.DeviceLemmas.{Appends-then}
 
 -- ---- what the items of a list give, put one after another
 

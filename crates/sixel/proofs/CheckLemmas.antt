@@ -8,8 +8,8 @@ use Rattle.sixel_grammar.specs.declared.fault.Fault.{Fault}
 use Rattle.sixel_grammar.specs.declared.fault.InputFault.{InputFault}
 use Rattle.sixel_grammar.specs.declared.fault.InputFault.TheVariants as input
 use Rattle.sixel_grammar.specs.Document.{Document}
-use Rattle.sixel_grammar.proofs.Total.{judged}
-use Rattle.sixel_grammar.proofs.Unique.{document_once, fault_no_document, fault_once}
+use Rattle.sixel_grammar.proofs.TotalLemmas.{judged}
+use Rattle.sixel_grammar.proofs.UniqueLemmas.{document_once, fault_no_document, fault_once}
 use Rattle.sixel_check.specs.declared.verdict.Verdict.{Verdict}
 use Rattle.sixel_check.specs.Growth.{MayGrowIn}
 use Rattle.sixel_check.specs.Checking.{Answers as CheckAnswers}

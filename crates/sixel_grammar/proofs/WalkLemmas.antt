@@ -19,7 +19,7 @@ use Rattle.sixel_grammar.specs.Number.{NumberText, Fields}
 use Rattle.sixel_grammar.specs.Spelling.{SpellsCommand, is_open_ended, four_of}
 use Rattle.sixel_grammar.specs.Faults.{Form, Parameters, NoCommand, RepeatNumber, RasterFields, ColourFields, is_idle}
 use Rattle.sixel_grammar.specs.Next.{with_digit, number_next, begin, within, settled, chosen, next_of}
-use Rattle.sixel_grammar.proofs.Numbers.{digit_range, digit_value-is}
+use Rattle.sixel_grammar.proofs.NumberLemmas.{digit_range, digit_value-is}
 
 -- an event with its place, and the number of bytes with which it was complete
 pub record Stamp : Type 0 where

@@ -15,8 +15,8 @@ use Rattle.sixel_grammar.specs.Document.{events_in}
 use Rattle.sixel_grammar.specs.Faults.{Form, NothingYet, Introducing, Parameters, LastSeparator, NoCommand}
 use Rattle.sixel_grammar.specs.Faults.{RepeatNumber, RasterFields, ColourFields, Terminating, Ended, EndsIn, is_idle}
 use Rattle.sixel_grammar.specs.Next.{with_digit, begin, within, settled, chosen, next_of}
-use Rattle.sixel_grammar.proofs.Numbers.{no_digits, number-more, fields-more, fields-separator}
-use Rattle.sixel_grammar.proofs.Pieces.{Loose, loosen, grow, fill, close, settle, begun-step, begun-finish}
+use Rattle.sixel_grammar.proofs.NumberLemmas.{no_digits, number-more, fields-more, fields-separator}
+use Rattle.sixel_grammar.proofs.PieceLemmas.{Loose, loosen, grow, fill, close, settle, begun-step, begun-finish}
 
 -- the events, and the one that is done
 abbrev pub with_done : List Placed → ℕ → Option Event → List Placed

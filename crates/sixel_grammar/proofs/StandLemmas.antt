@@ -25,12 +25,12 @@ use Rattle.sixel_grammar.specs.declared.command.Command.TheVariants.{Sixel}
 use Rattle.sixel_grammar.specs.declared.command.Event.TheVariants.{Step}
 use Rattle.sixel_grammar.specs.Pending.{form_of}
 use Rattle.sixel_grammar.specs.Standing.{StandsAfter, completions, opened_after}
-use Rattle.sixel_grammar.proofs.Advance.{GoesTo, with_done, second_place, advances}
-use Rattle.sixel_grammar.proofs.Choices.{goes-on}
-use Rattle.sixel_grammar.proofs.Fronts.{nothing}
-use Rattle.sixel_grammar.proofs.Viable.{complete}
-use Rattle.sixel_grammar.proofs.Walk.{State, moved, walk}
-use Rattle.sixel_grammar.proofs.DocumentWalk.{start, not_viable, document_walk, ends_walk}
+use Rattle.sixel_grammar.proofs.AdvanceLemmas.{GoesTo, with_done, second_place, advances}
+use Rattle.sixel_grammar.proofs.ChoiceLemmas.{goes-on}
+use Rattle.sixel_grammar.proofs.FrontLemmas.{nothing}
+use Rattle.sixel_grammar.proofs.ViableLemmas.{complete}
+use Rattle.sixel_grammar.proofs.WalkLemmas.{State, moved, walk}
+use Rattle.sixel_grammar.proofs.DocumentWalkLemmas.{start, not_viable, document_walk, ends_walk}
 
 abbrev pub fault_at : Reason → ℕ → Fault
 fault_at reason place = record { reason = reason; place = place }

@@ -5,7 +5,7 @@ use Rattle.std.specs.Io.KnownBytes.{Appends, Keeps}
 use Rattle.std.proofs.lemmas.List.{append-nil}
 use Rattle.sixel_grammar.specs.declared.fault.Fault.{Fault}
 use Rattle.sixel_grammar.specs.Fronts.{CompleteIn}
-use Rattle.sixel_grammar.proofs.Unique.{complete_once, document_once, fault_no_document, fault_once}
+use Rattle.sixel_grammar.proofs.UniqueLemmas.{complete_once, document_once, fault_no_document, fault_once}
 use Rattle.sixel.specs.declared.fault.RunFault.{RunFault}
 use Rattle.sixel.specs.declared.fault.RunFault.TheVariants.{Grammar, Ppm, NotRgb, OutOfMemory, Read, Write}
 use Rattle.sixel.specs.declared.task.Status.{Status}
@@ -15,13 +15,13 @@ use Rattle.sixel.specs.declared.task.Task.TheVariants.{List as Listing, Check, R
 use Rattle.sixel.specs.Outputs.{Gives, ListGives, ListsUnread, Wrote, WroteUnread}
 use Rattle.sixel.specs.Screens.{show_choices, show_terminal}
 use Rattle.sixel.specs.Texts.{Text, BeginsWith, list_text}
-use Rattle.sixel.proofs.Outputs.{gives-begins}
-use Rattle.sixel.proofs.Checks.{check-gives, check-once}
-use Rattle.sixel.proofs.Files.{encode-gives, encode-once}
-use Rattle.sixel.proofs.Pictures.{render-gives, render-once}
-use Rattle.sixel.proofs.Screens.{show-gives, show-once}
-use Rattle.sixel_grammar.proofs.Sinks.{Appends-keeps}
-use Rattle.sixel_grammar.proofs.Total.{judged, viable_before}
+use Rattle.sixel.proofs.OutputLemmas.{gives-begins}
+use Rattle.sixel.proofs.CheckLemmas.{check-gives, check-once}
+use Rattle.sixel.proofs.FileLemmas.{encode-gives, encode-once}
+use Rattle.sixel.proofs.PictureLemmas.{render-gives, render-once}
+use Rattle.sixel.proofs.ScreenLemmas.{show-gives, show-once}
+use Rattle.sixel_grammar.proofs.SinkLemmas.{Appends-keeps}
+use Rattle.sixel_grammar.proofs.TotalLemmas.{judged, viable_before}
 
 -- ---- lists
 

@@ -10,10 +10,10 @@ use Rattle.sixel_grammar.specs.declared.command.Command.TheVariants.{Sixel, Repe
 use Rattle.sixel_grammar.specs.declared.command.Event.TheVariants.{Step}
 use Rattle.sixel_grammar.specs.Spelling.{fixed_command}
 use Rattle.sixel_grammar.specs.FixedText.{fixed_text}
-use Rattle.sixel_grammar.proofs.FixedText.{fixed_text-append}
+use Rattle.sixel_grammar.proofs.FixedTextLemmas.{fixed_text-append}
 use Rattle.sixel_encode.specs.Canon.{Run, below, runs, run_commands, without_blanks, commands_text}
-use Rattle.sixel_encode.proofs.Ranges.{below_then, range_split}
-use Rattle.sixel_encode.proofs.Runs.{run_before, run_at_end, without_all}
+use Rattle.sixel_encode.proofs.RangeLemmas.{below_then, range_split}
+use Rattle.sixel_encode.proofs.RunLemmas.{run_before, run_at_end, without_all}
 
 pub text-append : (xs ys : List Command) → commands_text (xs ++ ys) ≡ commands_text xs ++ commands_text ys
 unfolding commands_text

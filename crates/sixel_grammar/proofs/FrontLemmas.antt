@@ -8,10 +8,10 @@ use Rattle.sixel_grammar.specs.declared.command.Placed.{Placed}
 use Rattle.sixel_grammar.specs.Fronts.{IsViable}
 use Rattle.sixel_grammar.specs.Faults.{Form, NothingYet, EndsIn}
 use Rattle.sixel_grammar.specs.Next.{next_of}
-use Rattle.sixel_grammar.proofs.Advance.{GoesTo, advances}
-use Rattle.sixel_grammar.proofs.Viable.{complete}
-use Rattle.sixel_grammar.proofs.Walk.{Stamp, state, after, walk, walk-none, walk-then}
-use Rattle.sixel_grammar.proofs.DocumentWalk.{start, document_walk}
+use Rattle.sixel_grammar.proofs.AdvanceLemmas.{GoesTo, advances}
+use Rattle.sixel_grammar.proofs.ViableLemmas.{complete}
+use Rattle.sixel_grammar.proofs.WalkLemmas.{Stamp, state, after, walk, walk-none, walk-then}
+use Rattle.sixel_grammar.proofs.DocumentWalkLemmas.{start, document_walk}
 
 -- the bytes end in some form
 abbrev pub Ends : List ℕ → Type 0

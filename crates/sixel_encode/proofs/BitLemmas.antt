@@ -11,7 +11,7 @@ use Rattle.std.proofs.lemmas.List.Sums.{sum_by_push}
 use Rattle.std.proofs.lemmas.Grind.{get_or-set_at}
 use Rattle.sixel_picture.specs.Pictures.{PictureValue}
 use Rattle.sixel_encode.specs.Canon.{below, column_bits, has_bits, has_pixel}
-use Rattle.sixel_encode.proofs.Ranges.{below_then}
+use Rattle.sixel_encode.proofs.RangeLemmas.{below_then}
 
 -- ---- facts of six Bools
 

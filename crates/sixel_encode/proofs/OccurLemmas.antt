@@ -10,9 +10,9 @@ use Rattle.sixel_picture.specs.Colours.{palette_at}
 use Rattle.sixel_picture.specs.Pictures.{PictureValue, register_of}
 use Rattle.sixel_encode.specs.Canon.{band_registers, bands, below, column_bits, has_pixel, occurs}
 use Rattle.sixel_encode.specs.Laws.{entries_of}
-use Rattle.sixel_encode.proofs.Bits.{column_has}
-use Rattle.sixel_encode.proofs.Parted.{IsUsed, Parted, pixel_used}
-use Rattle.sixel_encode.proofs.Ranges.{InRange, any_filter, any_range, filter_range, range_any}
+use Rattle.sixel_encode.proofs.BitLemmas.{column_has}
+use Rattle.sixel_encode.proofs.PartedLemmas.{IsUsed, Parted, pixel_used}
+use Rattle.sixel_encode.proofs.RangeLemmas.{InRange, any_filter, any_range, filter_range, range_any}
 
 any_map : (f : ℕ → ℕ) (q : ℕ → Bool) (xs : List ℕ) → list_any q (map f xs) ≡ list_any (λ x. q (f x)) xs
 any_map f q [] = refl
