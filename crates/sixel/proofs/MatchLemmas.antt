@@ -76,18 +76,18 @@ not_encode is = let first : 115 ≡ 101 = ap (λ (t : Text). slice_index t 0) is
 pub without_width : (rows : List Row) (t : Task) → ((n : ℕ) → HasSide (codes "width") rows n → ⊥)
     → IsTask (codes "show") rows t → ⊥
 without_width rows Listing none is = not_list is
-without_width rows Check none is = not_check is
-without_width rows Render none is = not_render is
-without_width rows Encode none is = not_encode is
-without_width rows (Show showing fill selects width height) none is = none width is.4
+without_width rows (Check profile) none is = not_check is.0
+without_width rows (Render profile) none is = not_render is.0
+without_width rows (Encode profile) none is = not_encode is.0
+without_width rows (Show profile showing fill selects width height) none is = none width is.5
 
 pub without_height : (rows : List Row) (t : Task) → ((n : ℕ) → HasSide (codes "height") rows n → ⊥)
     → IsTask (codes "show") rows t → ⊥
 without_height rows Listing none is = not_list is
-without_height rows Check none is = not_check is
-without_height rows Render none is = not_render is
-without_height rows Encode none is = not_encode is
-without_height rows (Show showing fill selects width height) none is = none height is.5
+without_height rows (Check profile) none is = not_check is.0
+without_height rows (Render profile) none is = not_render is.0
+without_height rows (Encode profile) none is = not_encode is.0
+without_height rows (Show profile showing fill selects width height) none is = none height is.6
 
 name_in : Option (Text × List Row) → Text
 name_in None = []

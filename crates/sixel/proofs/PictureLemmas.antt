@@ -33,11 +33,11 @@ use Rattle.sixel.proofs.CheckLemmas.{same_verdict}
 -- ---- one output
 
 -- the text and the answer are those of the verdict on a document
-record Renders (bytes : List ℕ) (text : Text) (answer : Result Status RunFault) : Type 0 where
+record Renders (registers : ℕ) (bytes : List ℕ) (text : Text) (answer : Result Status RunFault) : Type 0 where
   events : List Placed
   document : Document events bytes
   verdict : Verdict
-  is : IsVerdict 16 events verdict
+  is : IsVerdict registers events verdict
   output : (text, answer) ≡ render_output verdict
 
 -- the answer is a fault of the grammar, and nothing is written
@@ -47,20 +47,20 @@ record Refuses (bytes : List ℕ) (text : Text) (answer : Result Status RunFault
   nothing : text ≡ []
   is : IsFaultOf bytes fault
 
-either : (bytes : List ℕ) (text : Text) (answer : Result Status RunFault) → RenderGives bytes text answer
-    → Refuses bytes text answer ⊎ Renders bytes text answer
-either bytes text (Err (Grammar fault)) g =
+either : (registers : ℕ) (bytes : List ℕ) (text : Text) (answer : Result Status RunFault) → RenderGives registers bytes text answer
+    → Refuses bytes text answer ⊎ Renders registers bytes text answer
+either registers bytes text (Err (Grammar fault)) g =
     inl (record { fault = fault; answer_is = refl; nothing = g.0; is = g.1 })
-either bytes text (Ok s) g = inr (record { events = g.0; document = g.1; verdict = g.2.0; is = g.2.1; output = g.2.2 })
-either bytes text (Err (Ppm reason place)) g =
+either registers bytes text (Ok s) g = inr (record { events = g.0; document = g.1; verdict = g.2.0; is = g.2.1; output = g.2.2 })
+either registers bytes text (Err (Ppm reason place)) g =
     inr (record { events = g.0; document = g.1; verdict = g.2.0; is = g.2.1; output = g.2.2 })
-either bytes text (Err NotRgb) g =
+either registers bytes text (Err NotRgb) g =
     inr (record { events = g.0; document = g.1; verdict = g.2.0; is = g.2.1; output = g.2.2 })
-either bytes text (Err OutOfMemory) g =
+either registers bytes text (Err OutOfMemory) g =
     inr (record { events = g.0; document = g.1; verdict = g.2.0; is = g.2.1; output = g.2.2 })
-either bytes text (Err Read) g = inr
+either registers bytes text (Err Read) g = inr
     (record { events = g.0; document = g.1; verdict = g.2.0; is = g.2.1; output = g.2.2 })
-either bytes text (Err Write) g = inr
+either registers bytes text (Err Write) g = inr
     (record { events = g.0; document = g.1; verdict = g.2.0; is = g.2.1; output = g.2.2 })
 
 both_refuse : (bytes : List ℕ) (first second : Text) (a b : Result Status RunFault) → Refuses bytes first a
@@ -70,97 +70,97 @@ both_refuse bytes first second a b g h = (
   g.answer_is ∙ ap (λ (k : Fault). Err (Grammar k)) (fault_once bytes g.fault h.fault g.is h.is) ∙ sym h.answer_is,
 )
 
-both_render : (bytes : List ℕ) (first second : Text) (a b : Result Status RunFault) → Renders bytes first a
-    → Renders bytes second b → (first ≡ second) × (a ≡ b)
-both_render bytes first second a b g h =
-    let same = same_verdict bytes g.events h.events g.verdict h.verdict g.document h.document g.is h.is in
+both_render : (registers : ℕ) (bytes : List ℕ) (first second : Text) (a b : Result Status RunFault) → Renders registers bytes first a
+    → Renders registers bytes second b → (first ≡ second) × (a ≡ b)
+both_render registers bytes first second a b g h =
+    let same = same_verdict _ bytes g.events h.events g.verdict h.verdict g.document h.document g.is h.is in
     let whole : (first, a) ≡ (second, b) = g.output ∙ ap render_output same ∙ sym h.output in
     (ap (λ p. p.0) whole, ap (λ p. p.1) whole)
 
-pub render-once : (bytes : List ℕ) (first second : Text) (a b : Result Status RunFault)
-    → RenderGives bytes first a → RenderGives bytes second b → (first ≡ second) × (a ≡ b)
-render-once bytes first second a b g h = elim (either bytes first a g) [
-  | inl f ↦ elim (either bytes second b h) [
+pub render-once : (registers : ℕ) (bytes : List ℕ) (first second : Text) (a b : Result Status RunFault)
+    → RenderGives registers bytes first a → RenderGives registers bytes second b → (first ≡ second) × (a ≡ b)
+render-once registers bytes first second a b g h = elim (either _ bytes first a g) [
+  | inl f ↦ elim (either _ bytes second b h) [
     | inl e ↦ both_refuse bytes first second a b f e
     | inr r ↦ absurd (fault_no_document bytes f.fault f.is (r.events, r.document))
   ]
-  | inr r ↦ elim (either bytes second b h) [
+  | inr r ↦ elim (either _ bytes second b h) [
     | inl e ↦ absurd (fault_no_document bytes e.fault e.is (r.events, r.document))
-    | inr q ↦ both_render bytes first second a b r q
+    | inr q ↦ both_render _ bytes first second a b r q
   ]
 ]
 
 -- ---- some output
 
-Gives : List ℕ → Type 0
-Gives bytes = (text : Text) × (answer : Result Status RunFault) × RenderGives bytes text answer
+Gives : ℕ → List ℕ → Type 0
+Gives registers bytes = (text : Text) × (answer : Result Status RunFault) × RenderGives registers bytes text answer
 
-of_picture : (bytes : List ℕ) (d : List Placed) (p : PictureValue) → Document d bytes → IsVerdict 16 d (Portable p)
-    → (b : Bool) → are_rgb (colours_of p) ≡ b → Gives bytes
+of_picture : (registers : ℕ) (bytes : List ℕ) (d : List Placed) (p : PictureValue) → Document d bytes → IsVerdict registers d (Portable p)
+    → (b : Bool) → are_rgb (colours_of p) ≡ b → Gives registers bytes
 unfolding Gives
-of_picture bytes d p doc is true e =
+of_picture registers bytes d p doc is true e =
     (ppm_text p.width p.height (colours_of p), Ok Done, (d, doc, (Portable p, is, rw e refl)))
-of_picture bytes d p doc is false e = ([], Err NotRgb, (d, doc, (Portable p, is, rw e refl)))
+of_picture registers bytes d p doc is false e = ([], Err NotRgb, (d, doc, (Portable p, is, rw e refl)))
 
-of_verdict : (bytes : List ℕ) (d : List Placed) (v : Verdict) → Document d bytes → IsVerdict 16 d v → Gives bytes
+of_verdict : (registers : ℕ) (bytes : List ℕ) (d : List Placed) (v : Verdict) → Document d bytes → IsVerdict registers d v → Gives registers bytes
 unfolding Gives
-of_verdict bytes d (Portable p) doc is = of_picture bytes d p doc is (are_rgb (colours_of p)) refl
-of_verdict bytes d (Broken f) doc is = ([], Ok (status.Broken f), (d, doc, (Broken f, is, refl)))
+of_verdict registers bytes d (Portable p) doc is = of_picture _ bytes d p doc is (are_rgb (colours_of p)) refl
+of_verdict registers bytes d (Broken f) doc is = ([], Ok (status.Broken f), (d, doc, (Broken f, is, refl)))
 
-pub render-gives : (bytes : List ℕ) → (text : Text) × (answer : Result Status RunFault) × RenderGives bytes text answer
+pub render-gives : (registers : ℕ) (bytes : List ℕ) → (text : Text) × (answer : Result Status RunFault) × RenderGives registers bytes text answer
 unfolding Gives
-render-gives bytes =
+render-gives registers bytes =
     elim (judged bytes) [
-      | inl d ↦ let v = verdict_exists 16 d.0 in of_verdict bytes d.0 v.0 d.1 v.1
+      | inl d ↦ let v = verdict_exists registers d.0 in of_verdict _ bytes d.0 v.0 d.1 v.1
       | inr f ↦ ([], Err (Grammar f.0), (refl, f.1))
     ]
 
 -- ---- what is written
 
-picture_rendered : (bytes : List ℕ) (p : PictureValue) (had has : Option (List ℕ))
-    → CheckAnswers (Ok (Portable p)) bytes
+picture_rendered : (registers : ℕ) (bytes : List ℕ) (p : PictureValue) (had has : Option (List ℕ))
+    → CheckAnswers registers (Ok (Portable p)) bytes
     → WritesPpm {A = Unit {0}} (Ok tt) had has p.width p.height (colours_of p)
-    → WroteBy (RenderGives bytes) WroteNothing (Ok Done) had has
-picture_rendered bytes p had has given put =
+    → WroteBy (RenderGives registers bytes) WroteNothing (Ok Done) had has
+picture_rendered registers bytes p had has given put =
     (ppm_text p.width p.height (colours_of p), (given.0, given.1, (Portable p, given.2, rw put.0 refl)), put.1)
 
-picture_unrendered : (bytes : List ℕ) (p : PictureValue) (fault : PpmFault) (had has : Option (List ℕ))
-    → CheckAnswers (Ok (Portable p)) bytes
+picture_unrendered : (registers : ℕ) (bytes : List ℕ) (p : PictureValue) (fault : PpmFault) (had has : Option (List ℕ))
+    → CheckAnswers registers (Ok (Portable p)) bytes
     → WritesPpm {A = Unit {0}} (Err fault) had has p.width p.height (colours_of p)
-    → WroteBy (RenderGives bytes) WroteNothing (Err (of_ppm fault)) had has
-picture_unrendered bytes p ppm.Write had has given put =
+    → WroteBy (RenderGives registers bytes) WroteNothing (Err (of_ppm fault)) had has
+picture_unrendered registers bytes p ppm.Write had has given put =
     let whole : Text = ppm_text p.width p.height (colours_of p) in (
       take put.1 whole,
       put.2,
       λ text answer g.
-          let same = (render-once bytes text whole answer (Ok Done) g
+          let same = (render-once _ bytes text whole answer (Ok Done) g
           (given.0, given.1, (Portable p, given.2, rw put.0 refl))).0 in
           (drop put.1 whole, same ∙ sym (take-append-drop put.1 whole)),
     )
-picture_unrendered bytes p ppm.NotRgb had has given put =
+picture_unrendered registers bytes p ppm.NotRgb had has given put =
     ([], (given.0, given.1, (Portable p, given.2, rw put.0 refl)), nothing_put had has put.1)
-picture_unrendered bytes p (ppm.Format reason place) had has given put = absurd put
-picture_unrendered bytes p ppm.OutOfMemory had has given put = absurd put
-picture_unrendered bytes p ppm.Read had has given put = absurd put
+picture_unrendered registers bytes p (ppm.Format reason place) had has given put = absurd put
+picture_unrendered registers bytes p ppm.OutOfMemory had has given put = absurd put
+picture_unrendered registers bytes p ppm.Read had has given put = absurd put
 
-pub rendered : (a : Option (List ℕ)) (p : PictureValue) (had has : Option (List ℕ))
-    → IfSome a (CheckAnswers (Ok (Portable p)))
+pub rendered : (registers : ℕ) (a : Option (List ℕ)) (p : PictureValue) (had has : Option (List ℕ))
+    → IfSome a (CheckAnswers registers (Ok (Portable p)))
     → WritesPpm {A = Unit {0}} (Ok tt) had has p.width p.height (colours_of p)
-    → IfSome a (λ bytes. WroteBy (RenderGives bytes) WroteNothing (Ok Done) had has)
-rendered None p had has given put = tt
-rendered (Some bytes) p had has given put = picture_rendered bytes p had has given put
+    → IfSome a (λ bytes. WroteBy (RenderGives registers bytes) WroteNothing (Ok Done) had has)
+rendered registers None p had has given put = tt
+rendered registers (Some bytes) p had has given put = picture_rendered _ bytes p had has given put
 
-pub unrendered : (a : Option (List ℕ)) (p : PictureValue) (fault : PpmFault) (had has : Option (List ℕ))
-    → IfSome a (CheckAnswers (Ok (Portable p)))
+pub unrendered : (registers : ℕ) (a : Option (List ℕ)) (p : PictureValue) (fault : PpmFault) (had has : Option (List ℕ))
+    → IfSome a (CheckAnswers registers (Ok (Portable p)))
     → WritesPpm {A = Unit {0}} (Err fault) had has p.width p.height (colours_of p)
-    → IfSome a (λ bytes. WroteBy (RenderGives bytes) WroteNothing (Err (of_ppm fault)) had has)
-unrendered None p fault had has given put = tt
-unrendered (Some bytes) p fault had has given put = picture_unrendered bytes p fault had has given put
+    → IfSome a (λ bytes. WroteBy (RenderGives registers bytes) WroteNothing (Err (of_ppm fault)) had has)
+unrendered registers None p fault had has given put = tt
+unrendered registers (Some bytes) p fault had has given put = picture_unrendered _ bytes p fault had has given put
 
 -- nothing is written of a broken picture
-pub broken_rendered : (a : Option (List ℕ)) (f : Finding) (had : Option (List ℕ))
-    → IfSome a (CheckAnswers (Ok (Broken f)))
-    → IfSome a (λ bytes. WroteBy (RenderGives bytes) WroteNothing (Ok (status.Broken f)) had had)
-broken_rendered None f had given = tt
-broken_rendered (Some bytes) f had given =
+pub broken_rendered : (registers : ℕ) (a : Option (List ℕ)) (f : Finding) (had : Option (List ℕ))
+    → IfSome a (CheckAnswers registers (Ok (Broken f)))
+    → IfSome a (λ bytes. WroteBy (RenderGives registers bytes) WroteNothing (Ok (status.Broken f)) had had)
+broken_rendered registers None f had given = tt
+broken_rendered registers (Some bytes) f had given =
     ([], (given.0, given.1, (Broken f, given.2, refl)), Appends-none had)

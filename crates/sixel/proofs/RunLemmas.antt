@@ -69,20 +69,20 @@ list-gives bytes =
 pub gives-once : (task : Task) (bytes : List ℕ) (first second : Text) (a b : Result Status RunFault)
     → Gives task bytes first a → Gives task bytes second b → (first ≡ second) × (a ≡ b)
 gives-once Listing bytes first second a b g h = list-once bytes first second a b g h
-gives-once Check bytes first second a b g h = check-once bytes first second a b g h
-gives-once Render bytes first second a b g h = render-once bytes first second a b g h
-gives-once Encode bytes first second a b g h = encode-once bytes first second a b g h
-gives-once (Show showing fill selects width height) bytes first second a b g h =
-    show-once (show_terminal (show_choices showing fill selects width height)) bytes first second a b g h
+gives-once (Check profile) bytes first second a b g h = check-once _ bytes first second a b g h
+gives-once (Render profile) bytes first second a b g h = render-once _ bytes first second a b g h
+gives-once (Encode profile) bytes first second a b g h = encode-once _ bytes first second a b g h
+gives-once (Show profile showing fill selects width height) bytes first second a b g h =
+    show-once (show_terminal profile (show_choices showing fill selects width height)) bytes first second a b g h
 
 pub gives : (task : Task) (bytes : List ℕ)
     → (text : Text) × (answer : Result Status RunFault) × Gives task bytes text answer
 gives Listing bytes = list-gives bytes
-gives Check bytes = check-gives bytes
-gives Render bytes = render-gives bytes
-gives Encode bytes = encode-gives bytes
-gives (Show showing fill selects width height) bytes =
-    show-gives (show_terminal (show_choices showing fill selects width height)) bytes
+gives (Check profile) bytes = check-gives _ bytes
+gives (Render profile) bytes = render-gives _ bytes
+gives (Encode profile) bytes = encode-gives _ bytes
+gives (Show profile showing fill selects width height) bytes =
+    show-gives (show_terminal profile (show_choices showing fill selects width height)) bytes
 
 begins-all : (first second : Text) → first ≡ second → BeginsWith second first
 begins-all first second e = ([], sym e ∙ sym (append-nil first))
@@ -103,13 +103,13 @@ unflushed-list bytes (Some rest) had mid has w kept = (
 unflushed-unread : (task : Task) (bytes : List ℕ) (left had mid has : Option (List ℕ))
     → WroteUnread task bytes left had mid → Keeps mid has → Wrote task bytes left (Err Write) had has
 unflushed-unread Listing bytes left had mid has w kept = unflushed-list bytes left had mid has w kept
-unflushed-unread Check bytes left had mid has w kept =
+unflushed-unread (Check profile) bytes left had mid has w kept =
     ([], Appends-keeps had mid has [] w kept, λ text answer g. (text, refl))
-unflushed-unread Render bytes left had mid has w kept =
+unflushed-unread (Render profile) bytes left had mid has w kept =
     ([], Appends-keeps had mid has [] w kept, λ text answer g. (text, refl))
-unflushed-unread Encode bytes left had mid has w kept =
+unflushed-unread (Encode profile) bytes left had mid has w kept =
     ([], Appends-keeps had mid has [] w kept, λ text answer g. (text, refl))
-unflushed-unread (Show showing fill selects width height) bytes left had mid has w kept =
+unflushed-unread (Show profile showing fill selects width height) bytes left had mid has w kept =
     ([], Appends-keeps had mid has [] w kept, λ text answer g. (text, refl))
 
 unflushed-text : (task : Task) (bytes : List ℕ) (left had mid has : Option (List ℕ)) (answer : Result Status RunFault)
@@ -142,10 +142,10 @@ flushed-unread : (task : Task) (bytes : List ℕ) (left had mid has : Option (Li
     → WroteUnread task bytes left had mid → Keeps mid has → WroteUnread task bytes left had has
 flushed-unread Listing bytes left had mid has w kept =
     (w.0, w.1, w.2, w.3, Appends-keeps had mid has w.1 w.4 kept)
-flushed-unread Check bytes left had mid has w kept = Appends-keeps had mid has [] w kept
-flushed-unread Render bytes left had mid has w kept = Appends-keeps had mid has [] w kept
-flushed-unread Encode bytes left had mid has w kept = Appends-keeps had mid has [] w kept
-flushed-unread (Show showing fill selects width height) bytes left had mid has w kept =
+flushed-unread (Check profile) bytes left had mid has w kept = Appends-keeps had mid has [] w kept
+flushed-unread (Render profile) bytes left had mid has w kept = Appends-keeps had mid has [] w kept
+flushed-unread (Encode profile) bytes left had mid has w kept = Appends-keeps had mid has [] w kept
+flushed-unread (Show profile showing fill selects width height) bytes left had mid has w kept =
     Appends-keeps had mid has [] w kept
 
 flushed-run : (task : Task) (bytes : List ℕ) (left had mid has : Option (List ℕ)) (answer : Result Status RunFault)

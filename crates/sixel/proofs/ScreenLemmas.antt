@@ -26,7 +26,8 @@ use Rattle.sixel.specs.declared.task.Status.{Status}
 use Rattle.sixel.specs.declared.task.Status.TheVariants.{Done}
 use Rattle.sixel.specs.Conversions.{of_ppm}
 use Rattle.sixel.specs.Outputs.{ShowGives, WroteBy, WroteNothing}
-use Rattle.sixel.specs.Screens.{screen_text}
+use Rattle.sixel_picture.specs.declared.profile.Profile.{Profile}
+use Rattle.sixel.specs.Screens.{grey, percent_at, screen_text}
 use Rattle.sixel.specs.Texts.{Text, BeginsWith}
 use Rattle.sixel_grammar.proofs.SinkLemmas.{Appends-keeps, Appends-none}
 
@@ -93,9 +94,10 @@ show-gives t bytes =
 -- ---- the terminal
 
 -- one register more
-pub greys_more : (n : ℕ) → map (λ k. Rgb (6 * k) (6 * k) (6 * k)) (range_with_len 0 (n + 1))
-    ≡ map (λ k. Rgb (6 * k) (6 * k) (6 * k)) (range_with_len 0 n) ++ Rgb (6 * n) (6 * n) (6 * n) ∷ []
-greys_more n = map-range_with_len_more (λ k. Rgb (6 * k) (6 * k) (6 * k)) 0 n n (omega arith)
+pub greys_more : (profile : Profile) (n : ℕ)
+    → map (λ k. grey (percent_at profile k)) (range_with_len 0 (n + 1))
+    ≡ map (λ k. grey (percent_at profile k)) (range_with_len 0 n) ++ grey (percent_at profile n) ∷ []
+greys_more profile n = map-range_with_len_more (λ k. grey (percent_at profile k)) 0 n n (omega arith)
 
 pub screen_length : (t : Display) (events : List Event)
     → length (screen_on t events) ≡ t.choices.screen_width * t.choices.screen_height

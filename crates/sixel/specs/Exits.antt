@@ -38,7 +38,7 @@ exit_for_words fault.OutOfMemory = Refused
 -- ---- what is said of a run
 
 abbrev pub is_render : Task → Bool
-is_render task.Render = true
+is_render (task.Render profile) = true
 is_render _ = false
 
 -- the line of a refusal, or of the broken rule that kept a picture from being rendered; else none

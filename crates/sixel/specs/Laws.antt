@@ -4,7 +4,7 @@ use Rattle.sixel_grammar.specs.declared.command.Placed.{Placed}
 use Rattle.sixel_grammar.specs.declared.fault.InputFault.{InputFault}
 use Rattle.sixel_grammar.specs.declared.fault.InputFault.TheVariants.{Grammar, OutOfMemory, Read}
 use Rattle.sixel_grammar.specs.Document.{Document, events_of}
-use Rattle.sixel_picture.specs.Pictures.{IsPicture, PictureValue, register_count}
+use Rattle.sixel_picture.specs.Pictures.{IsPicture, PictureValue}
 use Rattle.sixel_check.specs.Checking.{Answers}
 use Rattle.sixel_check.specs.declared.verdict.Verdict.{Verdict}
 use Rattle.sixel_check.specs.declared.verdict.Verdict.TheVariants.{Portable}
@@ -30,10 +30,11 @@ IsPortableAnswer p (Err Read) = ⊤
 IsPortableAnswer p (Err (Grammar fault)) = ⊥
 
 -- whatever a check may answer for that text is that the picture is portable, or want of memory, or a failed read
-abbrev pub EncodedAnswers : Type 0
-EncodedAnswers = (p : PictureValue) (answer : Result Verdict InputFault) → IsPicture register_count p
-    → Answers answer (canon_text p) → IsPortableAnswer p answer
+abbrev pub EncodedAnswers : ℕ → Type 0
+EncodedAnswers registers = (p : PictureValue) (answer : Result Verdict InputFault) → IsPicture registers p
+    → Answers registers answer (canon_text p) → IsPortableAnswer p answer
 
 -- and so a check of it writes that it is portable, with its size
-abbrev pub EncodedChecks : Type 0
-EncodedChecks = (p : PictureValue) → IsPicture register_count p → CheckGives (canon_text p) (portable_line p) (Ok Done)
+abbrev pub EncodedChecks : ℕ → Type 0
+EncodedChecks registers = (p : PictureValue) → IsPicture registers p
+    → CheckGives registers (canon_text p) (portable_line p) (Ok Done)

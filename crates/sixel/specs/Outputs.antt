@@ -8,7 +8,8 @@ use Rattle.sixel_grammar.specs.Document.{Document, events_of, most_bytes}
 use Rattle.sixel_grammar.specs.Fronts.{CompleteIn}
 use Rattle.sixel_grammar.specs.Faults.{IsFaultOf}
 use Rattle.sixel_picture.specs.declared.ppm.PpmFault.{PpmFault}
-use Rattle.sixel_picture.specs.Pictures.{PictureValue, register_count}
+use Rattle.sixel_picture.specs.Pictures.{PictureValue}
+use Rattle.sixel_picture.specs.Profiles.{count_of}
 use Rattle.sixel_picture.specs.Ppm.{are_rgb, colours_of, is_file_side, ppm_text}
 use Rattle.sixel_picture.specs.PpmReading.{HasWholeHeader, ppm_read}
 use Rattle.sixel_terminal.specs.Displays.{Display}
@@ -60,18 +61,18 @@ abbrev pub status_of : Verdict → Status
 status_of (Portable picture) = Done
 status_of (Broken finding) = status.Broken finding
 
--- the line of the verdict on a document; of other bytes their fault, and nothing is written
-abbrev pub CheckGives : List ℕ → Text → Result Status RunFault → Type 0
-CheckGives bytes text (Ok status) =
+-- the line of the verdict on a document, by so many registers; of other bytes their fault, and nothing is written
+abbrev pub CheckGives : ℕ → List ℕ → Text → Result Status RunFault → Type 0
+CheckGives registers bytes text (Ok status) =
     (events : List Placed) × Document events bytes
-    × ((verdict : Verdict) × IsVerdict register_count events verdict × (text ≡ verdict_line verdict)
+    × ((verdict : Verdict) × IsVerdict registers events verdict × (text ≡ verdict_line verdict)
     × (status ≡ status_of verdict))
-CheckGives bytes text (Err (Grammar fault)) = (text ≡ []) × IsFaultOf bytes fault
-CheckGives bytes text (Err (Ppm reason place)) = ⊥
-CheckGives bytes text (Err NotRgb) = ⊥
-CheckGives bytes text (Err OutOfMemory) = ⊥
-CheckGives bytes text (Err Read) = ⊥
-CheckGives bytes text (Err Write) = ⊥
+CheckGives registers bytes text (Err (Grammar fault)) = (text ≡ []) × IsFaultOf bytes fault
+CheckGives registers bytes text (Err (Ppm reason place)) = ⊥
+CheckGives registers bytes text (Err NotRgb) = ⊥
+CheckGives registers bytes text (Err OutOfMemory) = ⊥
+CheckGives registers bytes text (Err Read) = ⊥
+CheckGives registers bytes text (Err Write) = ⊥
 
 -- ---- pictures
 
@@ -85,12 +86,12 @@ abbrev pub render_output : Verdict → Text × Result Status RunFault
 render_output (Portable picture) = picture_output picture
 render_output (Broken finding) = ([], Ok (status.Broken finding))
 
--- what is written of the verdict on a document; of other bytes their fault, and nothing is written
-abbrev pub RenderGives : List ℕ → Text → Result Status RunFault → Type 0
-RenderGives bytes text (Err (Grammar fault)) = (text ≡ []) × IsFaultOf bytes fault
-RenderGives bytes text answer =
+-- what is written of the verdict on a document, by so many registers; of other bytes their fault, and nothing is written
+abbrev pub RenderGives : ℕ → List ℕ → Text → Result Status RunFault → Type 0
+RenderGives registers bytes text (Err (Grammar fault)) = (text ≡ []) × IsFaultOf bytes fault
+RenderGives registers bytes text answer =
     (events : List Placed) × Document events bytes
-    × ((verdict : Verdict) × IsVerdict register_count events verdict × ((text, answer) ≡ render_output verdict))
+    × ((verdict : Verdict) × IsVerdict registers events verdict × ((text, answer) ≡ render_output verdict))
 
 -- ---- picture files
 
@@ -99,8 +100,8 @@ abbrev pub encode_output : Result PictureValue PpmFault → Text × Result Statu
 encode_output (Ok picture) = (canon_text picture, Ok Done)
 encode_output (Err fault) = ([], Err (of_ppm fault))
 
-abbrev pub EncodeGives : List ℕ → Text → Result Status RunFault → Type 0
-EncodeGives bytes text answer = (text, answer) ≡ encode_output (ppm_read register_count bytes)
+abbrev pub EncodeGives : ℕ → List ℕ → Text → Result Status RunFault → Type 0
+EncodeGives registers bytes text answer = (text, answer) ≡ encode_output (ppm_read registers bytes)
 
 -- ---- screens
 
@@ -123,19 +124,19 @@ ShowGives t bytes text (Err Write) = ⊥
 -- the sides of a screen to show are in range
 abbrev pub HasSides : Task → Type 0
 HasSides Listing = Unit {0}
-HasSides Check = Unit {0}
-HasSides Render = Unit {0}
-HasSides Encode = Unit {0}
-HasSides (Show showing fill selects width height) = IsTrue (is_file_side width) × IsTrue (is_file_side height)
+HasSides (Check profile) = Unit {0}
+HasSides (Render profile) = Unit {0}
+HasSides (Encode profile) = Unit {0}
+HasSides (Show profile showing fill selects width height) = IsTrue (is_file_side width) × IsTrue (is_file_side height)
 
 -- what a task writes for these bytes, and its answer, where memory is ample and no device fails
 abbrev pub Gives : Task → List ℕ → Text → Result Status RunFault → Type 0
 Gives Listing bytes text answer = ListGives bytes text answer
-Gives Check bytes text answer = CheckGives bytes text answer
-Gives Render bytes text answer = RenderGives bytes text answer
-Gives Encode bytes text answer = EncodeGives bytes text answer
-Gives (Show showing fill selects width height) bytes text answer =
-    ShowGives (show_terminal (show_choices showing fill selects width height)) bytes text answer
+Gives (Check profile) bytes text answer = CheckGives (count_of profile) bytes text answer
+Gives (Render profile) bytes text answer = RenderGives (count_of profile) bytes text answer
+Gives (Encode profile) bytes text answer = EncodeGives (count_of profile) bytes text answer
+Gives (Show profile showing fill selects width height) bytes text answer =
+    ShowGives (show_terminal profile (show_choices showing fill selects width height)) bytes text answer
 
 -- nothing was appended to what the sink `had`
 abbrev pub WroteNothing : Option (List ℕ) → Option (List ℕ) → Type 0
@@ -144,19 +145,19 @@ WroteNothing had has = Appends had has []
 -- what a task has written to what the sink `had` when reading these bytes fails before `left`
 abbrev pub WroteUnread : Task → List ℕ → Option (List ℕ) → Option (List ℕ) → Option (List ℕ) → Type 0
 WroteUnread Listing bytes left had has = ListsUnread bytes left had has
-WroteUnread Check bytes left had has = WroteNothing had has
-WroteUnread Render bytes left had has = WroteNothing had has
-WroteUnread Encode bytes left had has = WroteNothing had has
-WroteUnread (Show showing fill selects width height) bytes left had has = WroteNothing had has
+WroteUnread (Check profile) bytes left had has = WroteNothing had has
+WroteUnread (Render profile) bytes left had has = WroteNothing had has
+WroteUnread (Encode profile) bytes left had has = WroteNothing had has
+WroteUnread (Show profile showing fill selects width height) bytes left had has = WroteNothing had has
 
 -- a run of the task over these bytes, if they are known, may be refused for want of memory: a check and a picture only
 -- where raster attributes make a box in them, an encode only after a whole header
 abbrev pub TakesMemory : Task → Option (List ℕ) → Type 0
 TakesMemory Listing told = ⊥
-TakesMemory Check told = IfSome told MayGrowIn
-TakesMemory Render told = IfSome told MayGrowIn
-TakesMemory Encode told = IfSome told HasWholeHeader
-TakesMemory (Show showing fill selects width height) told = Unit {0}
+TakesMemory (Check profile) told = IfSome told (MayGrowIn (count_of profile))
+TakesMemory (Render profile) told = IfSome told (MayGrowIn (count_of profile))
+TakesMemory (Encode profile) told = IfSome told HasWholeHeader
+TakesMemory (Show profile showing fill selects width height) told = Unit {0}
 
 -- a run that answered so appended to what the sink `had` the text that is given with the answer, or on `Write` a front
 -- of what is given, or on `Read` what `unread` says, or for want of memory nothing

@@ -1,10 +1,13 @@
 -- The terminal on which a picture is shown, and the picture file of its screen.
-use Rattle.std.specs.Prelude.{ℕ, ◌*◌, Bool, true, List, map, replicate, if◌then◌else◌}
+use Rattle.std.specs.Prelude.{ℕ, ◌*◌, ◌%◌, Bool, true, List, map, replicate, if◌then◌else◌}
 use Rattle.std.specs.List.{range_with_len}
 use Rattle.sixel_grammar.specs.declared.command.Event.{Event}
 use Rattle.sixel_picture.specs.declared.colour.Parts.{Parts}
 use Rattle.sixel_picture.specs.declared.colour.Parts.TheVariants.{Rgb}
 use Rattle.sixel_picture.specs.Ppm.{ppm_text}
+use Rattle.sixel_picture.specs.Profiles.{count_of}
+use Rattle.sixel_picture.specs.declared.profile.Profile.{Profile}
+use Rattle.sixel_picture.specs.declared.profile.Profile.TheVariants.{Registers16, Registers256}
 use Rattle.sixel_terminal.specs.declared.choices.Choices.{Choices}
 use Rattle.sixel_terminal.specs.declared.choices.Ground.{Ground}
 use Rattle.sixel_terminal.specs.declared.choices.Ground.TheVariants.{Kept, Filled}
@@ -29,17 +32,25 @@ show_choices showing fill selects width height = let ground : Ground = if fill t
   origin_y = 0;
 }
 
--- 16 registers, of which register n starts as the grey of 6n percent
-abbrev pub greys : List Parts
-greys = map (λ n. Rgb (6 * n) (6 * n) (6 * n)) (range_with_len 0 16)
+abbrev pub grey : ℕ → Parts
+grey percent = Rgb percent percent percent
+
+-- the percentage of the grey as which a register starts
+abbrev pub percent_at : Profile → ℕ → ℕ
+percent_at Registers16 register = 6 * register
+percent_at Registers256 register = register % 101
+
+-- the colours as which the registers of the profile start
+abbrev pub greys : Profile → List Parts
+greys profile = map (λ register. grey (percent_at profile register)) (range_with_len 0 (count_of profile))
 
 -- every pixel is white
 abbrev pub white_screen : Choices → List Parts
 white_screen choices = replicate (choices.screen_width * choices.screen_height) (Rgb 100 100 100)
 
--- the terminal of these choices
-unfoldable pub show_terminal : Choices → Display
-show_terminal choices = display_of choices greys (white_screen choices)
+-- the terminal of these choices, with the registers of the profile
+unfoldable pub show_terminal : Profile → Choices → Display
+show_terminal profile choices = display_of choices (greys profile) (white_screen choices)
 
 -- the picture file of what the terminal shows after the events
 unfoldable pub screen_text : Display → List Event → Text

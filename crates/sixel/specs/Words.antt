@@ -1,8 +1,10 @@
 -- The command line: what the words say, over the matches that `clap` states.
-use Rattle.std.specs.Prelude.{◌≡◌, ◌≢◌, ◌⊎◌, ◌≤◌, ℕ, Bool, false, true, List, [], ◌∷◌, Some, codes, pos, ⊤}
+use Rattle.std.specs.Prelude.{◌≡◌, ◌≢◌, ◌⊎◌, ◌≤◌, ℕ, Bool, false, true, List, [], ◌∷◌, Some, codes, pos, ⊤, if◌then◌else◌}
 use Rattle.std.specs.Option.{option_map_or}
 use Rattle.std.specs.Str.{bytes_eq}
 use Rattle.std.specs.Str.Parse.{IsNumeral, digits_value, without_leading_plus}
+use Rattle.sixel_picture.specs.declared.profile.Profile.{Profile}
+use Rattle.sixel_picture.specs.declared.profile.Profile.TheVariants.{Registers16, Registers256}
 use Rattle.sixel_terminal.specs.Limits.{most_screen_side}
 use Rattle.clap.specs.Simple.{App, new_app, new_rule, on_top, subcommand_of, with_rule, with_subcommand}
 use Rattle.clap.specs.Values.{kind_of}
@@ -34,10 +36,15 @@ side name fallback = record (new_rule name) {
   parser = Some (parser.Signed (pos 1) (pos most_screen_side));
 }
 
+-- with one subcommand more, which may be told to take the wide profile
+abbrev pub with_profile : App → Text → App
+with_profile a name = with_subcommand a (with_rule (new_app name) (flag (codes "wide"))).top
+
 -- `show`
 abbrev pub show_app : App
 show_app =
-    with_rule (with_rule (with_rule (with_rule (with_rule (new_app (codes "show"))
+    with_rule (with_rule (with_rule (with_rule (with_rule (with_rule (new_app (codes "show"))
+    (flag (codes "wide")))
     (flag (codes "showing")))
     (flag (codes "fill")))
     (flag (codes "define-selects")))
@@ -48,7 +55,7 @@ show_app =
 abbrev pub sixel_app : App
 sixel_app =
     with_subcommand
-    (with_plain (with_plain (with_plain (with_plain
+    (with_profile (with_profile (with_profile (with_plain
     (on_top (λ s. record s { subcommand_required = true }) (new_app (codes "sixel")))
     (codes "list")) (codes "check")) (codes "render")) (codes "encode"))
     show_app.top
@@ -58,6 +65,10 @@ sixel_app =
 -- the flag was given
 abbrev pub is_given : Text → List Row → Bool
 is_given name rows = option_map_or (λ text. bytes_eq text (codes "true")) (first_of name rows) false
+
+-- the wide profile was asked for, or else it is that of 16 registers
+abbrev pub profile_of : List Row → Profile
+profile_of rows = if is_given (codes "wide") rows then Registers256 else Registers16
 
 -- the text is a number from 1 to 4,096, in decimal digits after perhaps a plus
 pub record IsSideText (text : Text) (n : ℕ) : Type 0 where
@@ -73,10 +84,11 @@ HasSide name rows n = (text : Text) × (one_of name rows ≡ Some text) × IsSid
 -- the task of a subcommand's name and of its options' entries
 abbrev pub IsTask : Text → List Row → Task → Type 0
 IsTask name rows task.List = name ≡ codes "list"
-IsTask name rows task.Check = name ≡ codes "check"
-IsTask name rows task.Render = name ≡ codes "render"
-IsTask name rows task.Encode = name ≡ codes "encode"
-IsTask name rows (task.Show showing fill selects width height) = (name ≡ codes "show")
+IsTask name rows (task.Check profile) = (name ≡ codes "check") × (profile_of rows ≡ profile)
+IsTask name rows (task.Render profile) = (name ≡ codes "render") × (profile_of rows ≡ profile)
+IsTask name rows (task.Encode profile) = (name ≡ codes "encode") × (profile_of rows ≡ profile)
+IsTask name rows (task.Show profile showing fill selects width height) = (name ≡ codes "show")
+    × (profile_of rows ≡ profile)
     × (is_given (codes "showing") rows ≡ showing)
     × (is_given (codes "fill") rows ≡ fill)
     × (is_given (codes "define-selects") rows ≡ selects)

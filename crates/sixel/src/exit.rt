@@ -51,7 +51,7 @@ fn complaint(task: Task, answer: &Result<Status, RunFault>) -> Line
     ensures { result.items ≡ complaint task answer.now }
 {
     match answer {
-        Ok(Status::Broken(finding)) if matches!(task, Task::Render) => finding_line(finding),
+        Ok(Status::Broken(finding)) if matches!(task, Task::Render { .. }) => finding_line(finding),
         Ok(_) => Line::new(),
         Err(fault) => fault_line(fault),
     }

@@ -1,7 +1,9 @@
 //! Laws about the definitions. Each function's contract is the law.
 
 ghost use Rattle.std.specs.Prelude.{◌≡◌, ◌∷◌, [], ℕ, List, Result, codes, false, true};
-ghost use Rattle.sixel_picture.specs.Pictures.{register_count};
+ghost use Rattle.sixel_picture.specs.Profiles.{count_of};
+ghost use Rattle.sixel_picture.specs.declared.profile.Profile.{Profile};
+ghost use Rattle.sixel_picture.specs.declared.profile.Profile.TheVariants.{Registers16};
 ghost use Rattle.clap.specs.Takes.{takes};
 ghost use Rattle.sixel.specs.declared.fault.RunFault.{RunFault};
 ghost use Rattle.sixel.specs.declared.task.Status.{Status};
@@ -24,13 +26,14 @@ pub fn tasks_give_one_output()
         Gives task bytes first a → Gives task bytes second b → (first ≡ second) × (a ≡ b) }
 {}
 
-/// The text that `encode` writes of any picture is a document whose verdict is that picture, palette included, and
+/// The text that `encode` writes of any picture is a document whose verdict, in the picture's profile, is that picture,
+/// palette included, and
 /// which each terminal of the class with room shows. Whatever a check may answer for it is that this picture is
 /// portable, or want of memory, or that a read failed; and its line says so.
 pub fn encoded_pictures_are_portable()
-    ensures portable { EncodedIsPortable register_count }
-    ensures answered { EncodedAnswers }
-    ensures checked { EncodedChecks }
+    ensures portable { (profile : Profile) → EncodedIsPortable (count_of profile) }
+    ensures answered { (profile : Profile) → EncodedAnswers (count_of profile) }
+    ensures checked { (profile : Profile) → EncodedChecks (count_of profile) }
 {}
 
 /// The one word `list` after the program's name is taken, and gives the list.
@@ -42,5 +45,5 @@ pub fn the_word_list_gives_a_list()
 /// The one word `show` is taken, and shows as no flag asks, on a screen of 800 by 480 pixels.
 pub fn the_word_show_gives_a_show()
     ensures taken { (program : Text) → takes sixel_app (program ∷ codes "show" ∷ []) ≡ true }
-    ensures task { (program : Text) → IsTaskOf (program ∷ codes "show" ∷ []) (Show false false false 800 480) }
+    ensures task { (program : Text) → IsTaskOf (program ∷ codes "show" ∷ []) (Show Registers16 false false false 800 480) }
 {}

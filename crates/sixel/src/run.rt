@@ -59,10 +59,11 @@ fn perform<S: Source, K: Sink>(
 {
     match task {
         Task::List => list::list(input, output),
-        Task::Check => check::check(alloc, input, output),
-        Task::Render => render::render(alloc, input, output),
-        Task::Encode => encode::encode(alloc, input, output),
+        Task::Check { profile } => check::check(alloc, profile, input, output),
+        Task::Render { profile } => render::render(alloc, profile, input, output),
+        Task::Encode { profile } => encode::encode(alloc, profile, input, output),
         Task::Show {
+            profile,
             showing,
             fill,
             selects,
@@ -70,7 +71,7 @@ fn perform<S: Source, K: Sink>(
             height,
         } => {
             let choices = show::show_choices(showing, fill, selects, width, height);
-            show::show(alloc, choices, input, output)
+            show::show(alloc, profile, choices, input, output)
         }
     }
 }

@@ -1,6 +1,7 @@
 //! What a run is asked for, and how it ends well.
 
 use sixel_check::Finding;
+use sixel_picture::Profile;
 
 /// What is to be done with the input.
 #[derive(Clone, Copy, Debug, PartialEq, Eq)]
@@ -8,14 +9,20 @@ pub enum Task {
     /// A line for each event of a sixel picture (DEC EK-VT3XX-GP, volume 2, the chapter on sixel graphics): its place
     /// in bytes, what it is, and its numbers.
     List,
-    /// A line with the verdict on a sixel picture: `portable` and its size, or `broken`, the first broken rule and its
-    /// place.
-    Check,
-    /// A portable sixel picture as a PPM of Netpbm, with a maximum of 100.
-    Render,
-    /// The screen of one terminal of 16 registers after a sixel picture, written as a PPM of Netpbm. Register n starts
-    /// as the grey of 6n percent, the screen is white, and the picture begins at its top left.
+    /// A line with the verdict on a sixel picture, by the registers of the profile: `portable` and its size, or `broken`,
+    /// the first broken rule and its place.
+    Check {
+        profile: Profile,
+    },
+    /// A sixel picture that is portable in the profile, as a PPM of Netpbm with a maximum of 100.
+    Render {
+        profile: Profile,
+    },
+    /// The screen of one terminal after a sixel picture, written as a PPM of Netpbm. It has the registers of the profile:
+    /// of 16, register n starts as the grey of 6n percent, and of 256 as that of the rest of n by 101. The screen is
+    /// white, and the picture begins at its top left.
     Show {
+        profile: Profile,
         /// A pixel shows the colour that its register has at the end of the string, not at its painting.
         showing: bool,
         /// Raster attributes fill their box with register 0.
@@ -27,8 +34,10 @@ pub enum Task {
         /// Its height, likewise.
         height: u32,
     },
-    /// A PPM of Netpbm, of at most 16 colours, as a portable sixel picture.
-    Encode,
+    /// A PPM of Netpbm, of at most as many colours as the profile has registers, as a portable sixel picture.
+    Encode {
+        profile: Profile,
+    },
 }
 
 /// What came of a task that was not refused.

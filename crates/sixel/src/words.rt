@@ -11,12 +11,14 @@ ghost use Rattle.std.specs.String.{string_bytes};
 ghost use Rattle.sixel_terminal.specs.Limits.{most_screen_side};
 ghost use Rattle.sixel.specs.declared.task.Task.{Task as ATask};
 ghost use Rattle.sixel.specs.Outputs.{HasSides};
-ghost use Rattle.sixel.specs.Words.{HasSide, IsRefusal, IsSortedOut, IsTask, IsTaskOf, flag, is_given, show_app, side};
+ghost use Rattle.sixel.specs.Words.{HasSide, IsRefusal, IsSortedOut, IsTask, IsTaskOf, flag, is_given, profile_of, show_app};
+ghost use Rattle.sixel.specs.Words.{side, with_profile};
 ghost use Rattle.sixel.specs.Words.{sixel_app, with_plain};
 
 use crate::task::Task;
 use clap::error::ErrorKind;
 use clap::{Arg, ArgAction, ArgMatches, Command, Error};
+use sixel_picture::Profile;
 use std::alloc::{AllocError, Global};
 
 /// The greatest side of a screen, in pixels.
@@ -92,19 +94,19 @@ fn sixel_command<'a>(alloc: Global) -> Result<Command<'a>, AllocError>
         "list",
         "Lists what the picture says, a line for each command",
     )?;
-    command = with_plain_command(
+    command = with_profile_command(
         alloc,
         command,
         "check",
         "Says whether the picture is portable, or which rule is broken first",
     )?;
-    command = with_plain_command(
+    command = with_profile_command(
         alloc,
         command,
         "render",
         "Writes a portable picture as a PPM",
     )?;
-    command = with_plain_command(
+    command = with_profile_command(
         alloc,
         command,
         "encode",
@@ -113,13 +115,14 @@ fn sixel_command<'a>(alloc: Global) -> Result<Command<'a>, AllocError>
     command.subcommand(show_command(alloc)?)
 }
 
-/// `show`, which has five options.
+/// `show`, which has six options.
 fn show_command<'a>(alloc: Global) -> Result<Command<'a>, AllocError>
     ensures app { IfOk result (λ c. app_of c ≡ show_app) }
     ensures local { IfOk result (λ c. (fields_of c).has_globals ≡ false) }
 {
     Command::new(alloc, "show")
         .about("Draws the picture as one terminal would, and writes its screen as a PPM")
+        .arg(wide_arg(alloc))?
         .arg(flag_arg(
             alloc,
             "showing",
@@ -181,6 +184,30 @@ fn with_plain_command<'a>(
     command.subcommand(Command::new(alloc, name).about(about))
 }
 
+/// The command with one subcommand more, which may be told to take the wide profile.
+fn with_profile_command<'a>(
+    alloc: Global,
+    command: Command<'a>,
+    name: &'a str,
+    about: &'a str,
+) -> Result<Command<'a>, AllocError>
+    ensures { IfOk result (λ c. app_of c ≡ with_profile (app_of command.entry) name.entry.now) }
+{
+    command.subcommand(Command::new(alloc, name).about(about).arg(wide_arg(alloc))?)
+}
+
+/// `--wide`, which names the profile of 256 registers.
+fn wide_arg<'a>(alloc: Global) -> Arg<'a>
+    ensures rule { rule_of result ≡ flag (codes "wide") }
+    ensures local { result.global ≡ false }
+{
+    flag_arg(
+        alloc,
+        "wide",
+        "Let a picture use 256 colour registers, and not 16",
+    )
+}
+
 /// The task of a subcommand.
 fn task_of(name: &str, matches: &ArgMatches<'_>) -> Option<Task>
     ensures task { IfSome result (IsTask name.now (rows_of (found_of matches.now))) }
@@ -189,9 +216,15 @@ fn task_of(name: &str, matches: &ArgMatches<'_>) -> Option<Task>
 {
     match name {
         "list" => Some(Task::List),
-        "check" => Some(Task::Check),
-        "render" => Some(Task::Render),
-        "encode" => Some(Task::Encode),
+        "check" => Some(Task::Check {
+            profile: profile_of(matches),
+        }),
+        "render" => Some(Task::Render {
+            profile: profile_of(matches),
+        }),
+        "encode" => Some(Task::Encode {
+            profile: profile_of(matches),
+        }),
         "show" => show_task(matches),
         _ => None,
     }
@@ -205,6 +238,7 @@ fn show_task(matches: &ArgMatches<'_>) -> Option<Task>
 {
     match (side_of(matches, "width"), side_of(matches, "height")) {
         (Some(width), Some(height)) => Some(Task::Show {
+            profile: profile_of(matches),
             showing: flag_of(matches, "showing"),
             fill: flag_of(matches, "fill"),
             selects: flag_of(matches, "define-selects"),
@@ -212,6 +246,17 @@ fn show_task(matches: &ArgMatches<'_>) -> Option<Task>
             height,
         }),
         _ => None,
+    }
+}
+
+/// The profile that the options name.
+fn profile_of(matches: &ArgMatches<'_>) -> Profile
+    ensures { profile_of (rows_of (found_of matches.now)) ≡ result }
+{
+    if flag_of(matches, "wide") {
+        Profile::Registers256
+    } else {
+        Profile::Registers16
     }
 }
 

@@ -22,8 +22,9 @@ verdict_everywhere n placed (Portable p) whole k = rw k.1 (left_is_portable n (e
 verdict_everywhere n placed (Broken f) whole k = tt
 
 -- and so is each verdict on the events after which a checker stands
-pub stands_everywhere : (checker : CheckerValue) (first seen : List Placed) (v : Verdict) → StandsAfter checker first
-    → IsTrue (is_whole first) → StandsAfter checker seen → IsVerdict 16 seen v
-    → IsShownEverywhere 16 (events_of seen) v
-stands_everywhere checker first seen v f whole s k =
-    verdict_everywhere 16 seen v (stands_whole checker first seen f whole s) k
+pub stands_everywhere : (others registers : ℕ) (checker : CheckerValue) (first seen : List Placed) (v : Verdict)
+    → StandsAfter others checker first
+    → IsTrue (is_whole first) → StandsAfter registers checker seen → IsVerdict registers seen v
+    → IsShownEverywhere registers (events_of seen) v
+stands_everywhere others registers checker first seen v f whole s k =
+    verdict_everywhere registers seen v (stands_whole _ _ checker first seen f whole s) k

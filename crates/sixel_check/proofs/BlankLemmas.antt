@@ -184,7 +184,7 @@ registers_drawn s before xs d e =
     (sym (register_there s before xs i d e (omega (arith, length_drawn s before xs d e)))))
 
 -- the picture that is left has the size of the sheet and these registers
-pub picture_drawn : (s : Sheet) (before : List Event) (xs : List ℕ) → IsDrawn s before → map Some xs ≡ s.cells
-    → picture_left 16 before ≡ picture_of_parts s.width s.height (palette_left 16 before) xs
+pub picture_drawn : (registers : ℕ) (s : Sheet) (before : List Event) (xs : List ℕ) → IsDrawn s before → map Some xs ≡ s.cells
+    → picture_left registers before ≡ picture_of_parts s.width s.height (palette_left registers before) xs
 unfolding picture_left
-picture_drawn s before xs d e = rw (d.box, registers_drawn s before xs d e) refl
+picture_drawn registers s before xs d e = rw (d.box, registers_drawn s before xs d e) refl

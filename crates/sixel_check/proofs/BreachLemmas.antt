@@ -33,74 +33,74 @@ use Rattle.sixel_check.proofs.NoteLemmas.{given, known_below, known_is}
 -- ---- the least rule
 
 -- the rule is the least that is broken, and has no pixel; or none of the first ten is broken
-pub record IsLeast (before : List Event) (e : Event) (rule : Rule) : Type 0 where
-  pub broken : Breaks 16 (number_of rule) before e
-  pub none_smaller : NoneBelow (number_of rule) before e
+pub record IsLeast (registers : ℕ) (before : List Event) (e : Event) (rule : Rule) : Type 0 where
+  pub broken : Breaks registers (number_of rule) before e
+  pub none_smaller : NoneBelow registers (number_of rule) before e
   pub no_pixel : IsPixel rule None before e
 
-abbrev pub IsLeastOf : List Event → Event → Option Rule → Type 0
-IsLeastOf before e None = NoneBelow outside_rule before e
-IsLeastOf before e (Some rule) = IsLeast before e rule
+abbrev pub IsLeastOf : ℕ → List Event → Event → Option Rule → Type 0
+IsLeastOf registers before e None = NoneBelow registers outside_rule before e
+IsLeastOf registers before e (Some rule) = IsLeast registers before e rule
 
 -- none below a number, and not that number
-pub none_more : (before : List Event) (e : Event) (n : ℕ) → NoneBelow n before e → ¬ Breaks 16 n before e
-    → NoneBelow (suc n) before e
-none_more before e n below none m lt h =
+pub none_more : (registers : ℕ) (before : List Event) (e : Event) (n : ℕ) → NoneBelow registers n before e → ¬ Breaks registers n before e
+    → NoneBelow registers (suc n) before e
+none_more registers before e n below none m lt h =
     split (m == n) refl
   where
     split : (b : Bool) → (m == n) ≡ b → ⊥
-    split true q = let same : m ≡ n = eqb-true m n q in none (subst (λ (k : ℕ). Breaks 16 k before e) same h)
+    split true q = let same : m ≡ n = eqb-true m n q in none (subst (λ (k : ℕ). Breaks registers k before e) same h)
     split false q = let other : m ≢ n = eqb-false m n q in
         let smaller : m < n = omega (arith, lt, other) in
         below m smaller h
 
-find : (before : List Event) (e : Event) (rule : Rule) (o : Option Rule) (b : Bool)
-    → (b ≡ true → Breaks 16 (number_of rule) before e) → (b ≡ false → ¬ Breaks 16 (number_of rule) before e)
-    → IsPixel rule None before e → NoneBelow (number_of rule) before e
-    → (NoneBelow (suc (number_of rule)) before e → IsLeastOf before e o) → IsLeastOf before e
+find : (registers : ℕ) (before : List Event) (e : Event) (rule : Rule) (o : Option Rule) (b : Bool)
+    → (b ≡ true → Breaks registers (number_of rule) before e) → (b ≡ false → ¬ Breaks registers (number_of rule) before e)
+    → IsPixel rule None before e → NoneBelow registers (number_of rule) before e
+    → (NoneBelow registers (suc (number_of rule)) before e → IsLeastOf registers before e o) → IsLeastOf registers before e
     (if b then Some rule else o)
-find before e rule o true holds fails pixel below more =
+find registers before e rule o true holds fails pixel below more =
     record { broken = holds refl; none_smaller = below; no_pixel = pixel }
-find before e rule o false holds fails pixel below more = more (none_more before e (number_of rule) below (fails refl))
+find registers before e rule o false holds fails pixel below more = more (none_more _ before e (number_of rule) below (fails refl))
 
 not_both : (b : Bool) → b ≡ false → ¬ IsTrue b
 not_both true f t = cc
 not_both false f t = cc
 
-none_below_one : (before : List Event) (e : Event) → NoneBelow raster_first_rule before e
+none_below_one : (registers : ℕ) (before : List Event) (e : Event) → NoneBelow registers raster_first_rule before e
 unfolding Breaks
-none_below_one before e zero lt h = h
-none_below_one before e (suc m) lt h = absurd (omega arith)
+none_below_one registers before e zero lt h = h
+none_below_one registers before e (suc m) lt h = absurd (omega arith)
 
 -- ---- each rule, as it is noted
 
-unselected_is : (n : Notes) (before : List Event) (e : Event) → AreNotesAfter n before
+unselected_is : {registers : ℕ} (n : Notes) (before : List Event) (e : Event) → AreNotesAfter registers n before
     → unselected_in n e ≡ breaks_unselected before e
 unfolding breaks_unselected
 unselected_is n before e s = ap (λ (o : Option ℕ). is_painting e && is_none o) (known_is n before s)
 
-defined_none : (r : ℕ) (o : Option Definition) → IfSome o (IsGood r) → is_none (option_and_then colour_by o) ≡ is_none o
-defined_none r None h = refl
-defined_none r (Some d) h = ap is_none (given (colour_by d) h.1).1
+defined_none : (registers : ℕ) (r : ℕ) (o : Option Definition) → IfSome o (IsGood registers r) → is_none (option_and_then colour_by o) ≡ is_none o
+defined_none registers r None h = refl
+defined_none registers r (Some d) h = ap is_none (given (colour_by d) h.1).1
 
-colour_noted : (n : Notes) (before : List Event) (r : ℕ) → AreNotesAfter n before → r < 16
+colour_noted : {registers : ℕ} (n : Notes) (before : List Event) (r : ℕ) → AreNotesAfter registers n before → r < registers
     → palette_at n.palette r ≡ option_and_then colour_by (definition_of before r)
 unfolding colour_of
-colour_noted n before r s lt = ap (λ (p : List (Option Parts)). palette_at p r) s.palette_is ∙ left_at 16 r before lt
+colour_noted {registers} n before r s lt = ap (λ (p : List (Option Parts)). palette_at p r) s.palette_is ∙ left_at registers r before lt
 
-undefined_each : (n : Notes) (before : List Event) → AreNotesAfter n before → (o : Option ℕ) → IfSome o (λ r. r < 16)
+undefined_each : {registers : ℕ} (n : Notes) (before : List Event) → AreNotesAfter registers n before → (o : Option ℕ) → IfSome o (λ r. r < registers)
     → option_map_or (λ r. is_none (palette_at n.palette r)) o false ≡ option_map_or
     (λ r. is_none (definition_of before r)) o false
 undefined_each n before s None lt = refl
 undefined_each n before s (Some r) lt =
-    ap is_none (colour_noted n before r s lt) ∙ defined_none r (definition_of before r) (s.in_range r)
+    ap is_none (colour_noted n before r s lt) ∙ defined_none _ r (definition_of before r) (s.in_range r)
 
-undefined_is : (n : Notes) (before : List Event) (e : Event) → AreNotesAfter n before
+undefined_is : {registers : ℕ} (n : Notes) (before : List Event) (e : Event) → AreNotesAfter registers n before
     → undefined_in n e ≡ breaks_undefined before e
 unfolding breaks_undefined
-undefined_is n before e s =
+undefined_is {registers} n before e s =
     ap (λ (b : Bool). is_painting e && b)
-    (undefined_each n before s (known_in n) (known_below n.selected n.named 16 s.selected_below)
+    (undefined_each n before s (known_in n) (known_below n.selected n.named registers s.selected_below)
     ∙ ap (λ (o : Option ℕ). option_map_or (λ r. is_none (definition_of before r)) o false) (known_is n before s))
 
 eq_turned : (a b : ℕ) (p : Bool) → (a == b) ≡ p → (b == a) ≡ p
@@ -130,70 +130,73 @@ by_system d c s x y z false true e f h =
     (ap (λ (b : Bool). b && (d.x == x) && (d.y == y) && (d.z == z)) (same_system d.system 2 s f))
 by_system d c s x y z false false e f h = cc
 
-redefined_each : (r s x y z : ℕ) (o : Option Definition) → IfSome o (IsGood r)
+redefined_each : (registers : ℕ) (r s x y z : ℕ) (o : Option Definition) → IfSome o (IsGood registers r)
     → option_map_or (λ c. not (is_colour_of c s x y z)) (option_and_then colour_by o) false
     ≡ option_map_or (λ d. not (is_same_definition d (record { system = s; x = x; y = y; z = z }))) o false
-redefined_each r s x y z None h = refl
-redefined_each r s x y z (Some d) h =
+redefined_each registers r s x y z None h = refl
+redefined_each registers r s x y z (Some d) h =
     let c = given (colour_by d) h.1 in
     ap (λ (o : Option Parts). option_map_or (λ c. not (is_colour_of c s x y z)) o false) c.1
     ∙ ap not (by_system d c.0 s x y z (d.system == 1) (d.system == 2) refl refl c.1)
 
-undefined_above : (r : ℕ) (o : Option Definition) → IfSome o (IsGood r) → 16 ≤ r → o ≡ None
+undefined_above : {registers : ℕ} (r : ℕ) (o : Option Definition) → IfSome o (IsGood registers r) → registers ≤ r → o ≡ None
 undefined_above r None h le = refl
 undefined_above r (Some d) h le = absurd (omega (arith, h.0, le))
 
-no_colour_above : (n : Notes) (before : List Event) (r : ℕ) → AreNotesAfter n before → 16 ≤ r
+no_colour_above : {registers : ℕ} (n : Notes) (before : List Event) (r : ℕ) → AreNotesAfter registers n before → registers ≤ r
     → palette_at n.palette r ≡ None
-no_colour_above n before r s le =
-    let long : length n.palette ≤ r = rw (s.palette_is, length_left 16 before) le in
+no_colour_above {registers} n before r s le =
+    let long : length n.palette ≤ r = rw (s.palette_is, length_left registers before) le in
     ap option_flatten (slice_get_past n.palette r long)
 
-redefined_at : (n : Notes) (before : List Event) (r s x y z : ℕ) → AreNotesAfter n before → (b : Bool) → nat_lt r 16 ≡ b
+redefined_at : {registers : ℕ} (n : Notes) (before : List Event) (r s x y z : ℕ) → AreNotesAfter registers n before → (b : Bool) → nat_lt r registers ≡ b
     → redefined_in n (Step (Define r s x y z)) ≡ breaks_redefined before (Step (Define r s x y z))
 unfolding breaks_redefined
-redefined_at n before r s x y z h true e =
-    let lt : r < 16 = ltb-true r 16 e in
+redefined_at {registers} n before r s x y z h true e =
+    let lt : r < registers = ltb-true r registers e in
     ap (λ (b : Bool). b && option_map_or (λ c. not (is_colour_of c s x y z)) (palette_at n.palette r) false)
     (h.painted_is r lt)
     ∙ ap (λ (b : Bool). is_painted_in before r && b)
     (ap (λ (o : Option Parts). option_map_or (λ c. not (is_colour_of c s x y z)) o false) (colour_noted n before r h lt)
-    ∙ redefined_each r s x y z (definition_of before r) (h.in_range r))
-redefined_at n before r s x y z h false e =
-    let le : 16 ≤ r = ltb-false r 16 e in
+    ∙ redefined_each _ r s x y z (definition_of before r) (h.in_range r))
+redefined_at {registers} n before r s x y z h false e =
+    let le : registers ≤ r = ltb-false r registers e in
     rw (no_colour_above n before r h le, undefined_above r (definition_of before r) (h.in_range r) le)
     (and_false (get_or n.painted r false) ∙ sym (and_false (is_painted_in before r)))
 
-redefined_is : (n : Notes) (before : List Event) (e : Event) → AreNotesAfter n before
+redefined_is : {registers : ℕ} (n : Notes) (before : List Event) (e : Event) → AreNotesAfter registers n before
     → redefined_in n e ≡ breaks_redefined before e
 unfolding breaks_redefined
-redefined_is n before (Step (Define r k x y z)) s = redefined_at n before r k x y z s (nat_lt r 16) refl
-redefined_is n before _ s = refl
+redefined_is {registers} n before (Step (Define r k x y z)) s = redefined_at n before r k x y z s (nat_lt r registers) refl
+redefined_is {registers} n before _ s = refl
 
 -- ---- the first of the ten
 
-pub least_rule : (n : Notes) (before : List Event) (e : Event) (has_box : Bool)
+pub least_rule : {registers : ℕ} (n : Notes) (before : List Event) (e : Event) (has_box : Bool)
     → has_box ≡ is_some (raster_before before)
-    → AreNotesAfter n before → IsLeastOf before e (rule_in n has_box e)
+    → AreNotesAfter registers n before → IsLeastOf registers before e (rule_in n has_box e)
 unfolding Breaks breaks_raster_first breaks_raster_twice
-least_rule n before e has_box box s =
+least_rule {registers} n before e has_box box s =
     let first : raster_first_in has_box e ≡ breaks_raster_first before e = ap (λ (b : Bool). raster_first_in b e) box in
     let twice : raster_twice_in has_box e ≡ breaks_raster_twice before e = ap (λ (b : Bool). raster_twice_in b e) box in
+    let long : length n.palette ≡ registers = ap length s.palette_is ∙ length_left registers before in
     let unselected = unselected_is n before e s in
     let undefined = undefined_is n before e s in
     let redefined = redefined_is n before e s in
-    find before e RasterFirst _ (raster_first_in has_box e) (λ h. sym first ∙ h)
-    (λ h. not_both _ (sym first ∙ h)) refl (none_below_one before e) (λ n1.
-    find before e RasterTwice _ (raster_twice_in has_box e) (λ h. sym twice ∙ h)
+    find _ before e RasterFirst _ (raster_first_in has_box e) (λ h. sym first ∙ h)
+    (λ h. not_both _ (sym first ∙ h)) refl (none_below_one _ before e) (λ n1.
+    find _ before e RasterTwice _ (raster_twice_in has_box e) (λ h. sym twice ∙ h)
     (λ h. not_both _ (sym twice ∙ h)) refl n1 (λ n2.
-    find before e Ratio _ (breaks_ratio e) (λ h. h) (λ h. not_both _ h) refl n2 (λ n3.
-    find before e BoxSize _ (breaks_box_size e) (λ h. h) (λ h. not_both _ h) refl n3 (λ n4.
-    find before e Register _ (breaks_register 16 e) (λ h. h) (λ h. not_both _ h) refl n4 (λ n5.
-    find before e ColourValue _ (breaks_colour_value e) (λ h. h) (λ h. not_both _ h) refl n5 (λ n6.
-    find before e RepeatZero _ (breaks_repeat_zero e) (λ h. h) (λ h. not_both _ h) refl n6 (λ n7.
-    find before e Unselected _ (unselected_in n e) (λ h. sym unselected ∙ h)
+    find _ before e Ratio _ (breaks_ratio e) (λ h. h) (λ h. not_both _ h) refl n2 (λ n3.
+    find _ before e BoxSize _ (breaks_box_size e) (λ h. h) (λ h. not_both _ h) refl n3 (λ n4.
+    find _ before e Register _ (breaks_register (length n.palette) e)
+    (λ h. subst (λ (m : ℕ). IsTrue (breaks_register m e)) long h)
+    (λ h. not_both _ (subst (λ (m : ℕ). breaks_register m e ≡ false) long h)) refl n4 (λ n5.
+    find _ before e ColourValue _ (breaks_colour_value e) (λ h. h) (λ h. not_both _ h) refl n5 (λ n6.
+    find _ before e RepeatZero _ (breaks_repeat_zero e) (λ h. h) (λ h. not_both _ h) refl n6 (λ n7.
+    find _ before e Unselected _ (unselected_in n e) (λ h. sym unselected ∙ h)
     (λ h. not_both _ (sym unselected ∙ h)) refl n7 (λ n8.
-    find before e Undefined _ (undefined_in n e) (λ h. sym undefined ∙ h)
+    find _ before e Undefined _ (undefined_in n e) (λ h. sym undefined ∙ h)
     (λ h. not_both _ (sym undefined ∙ h)) refl n8 (λ n9.
-    find before e Redefined None (redefined_in n e) (λ h. sym redefined ∙ h)
+    find _ before e Redefined None (redefined_in n e) (λ h. sym redefined ∙ h)
     (λ h. not_both _ (sym redefined ∙ h)) refl n9 (λ n10. n10))))))))))

@@ -16,19 +16,19 @@ use Rattle.sixel_check.proofs.ReadLemmas.{never_read, not_failed}
 
 -- ---- a failure of the source
 
-pub read_answers : (o : Option (List ℕ)) (r : Result Verdict InputFault) → r ≡ Err Read → IfSome o (Answers r)
-read_answers None r is = tt
-read_answers (Some bytes) r is = subst (λ (t : Result Verdict InputFault). Answers t bytes) (sym is) tt
+pub read_answers : (registers : ℕ) (o : Option (List ℕ)) (r : Result Verdict InputFault) → r ≡ Err Read → IfSome o (Answers registers r)
+read_answers registers None r is = tt
+read_answers registers (Some bytes) r is = subst (λ (t : Result Verdict InputFault). Answers registers t bytes) (sym is) tt
 
 pub read_counts : (old mid new : ℕ) (r : Result Verdict InputFault) → r ≡ Err Read → new ≡ one_more mid → mid ≡ old
     → new ≡ failures_after r old
 read_counts old mid new r is one same =
     one ∙ ap one_more same ∙ ap (λ (t : Result Verdict InputFault). failures_after t old) (sym is)
 
-pub read_grows : (o : Option (List ℕ)) (r : Result Verdict InputFault) → r ≡ Err Read
-    → IfSome o (λ bytes. r ≡ Err OutOfMemory → MayGrowIn bytes)
-read_grows None r is = tt
-read_grows (Some bytes) r is = λ e. absurd (other (sym is ∙ e))
+pub read_grows : (registers : ℕ) (o : Option (List ℕ)) (r : Result Verdict InputFault) → r ≡ Err Read
+    → IfSome o (λ bytes. r ≡ Err OutOfMemory → MayGrowIn registers bytes)
+read_grows registers None r is = tt
+read_grows registers (Some bytes) r is = λ e. absurd (other (sym is ∙ e))
   where
     other : (let r : Result Verdict InputFault = Err Read in r) ≡ Err OutOfMemory → ⊥
     other e = cc
@@ -53,17 +53,17 @@ pub end_reads : (r : Result Verdict InputFault) → r ≢ Err Read → IfErr r (
 end_reads (Ok v) never = tt
 end_reads (Err fault) never = λ e. never (ap (λ (f : InputFault). Err f) e)
 
-pub end_grows : (o : Option (List ℕ)) (r : Result Verdict InputFault) → r ≢ Err OutOfMemory
-    → IfSome o (λ bytes. r ≡ Err OutOfMemory → MayGrowIn bytes)
-end_grows None r other = tt
-end_grows (Some bytes) r other = λ e. absurd (other e)
+pub end_grows : (registers : ℕ) (o : Option (List ℕ)) (r : Result Verdict InputFault) → r ≢ Err OutOfMemory
+    → IfSome o (λ bytes. r ≡ Err OutOfMemory → MayGrowIn registers bytes)
+end_grows registers None r other = tt
+end_grows registers (Some bytes) r other = λ e. absurd (other e)
 
 -- ---- a piece that was refused
 
-pub fault_answers : (a b : Option (List ℕ)) (fault : InputFault) (r : Result Verdict InputFault) (xs : List ℕ)
-    → r ≡ Err fault → Consumes a b xs → ExplainsAlways fault xs → IfSome a (Answers r)
-fault_answers a b fault r xs is c h =
-    subst (λ (t : Result Verdict InputFault). IfSome a (Answers t)) (sym is) (refused_early a b fault xs c h)
+pub fault_answers : (registers : ℕ) (a b : Option (List ℕ)) (fault : InputFault) (r : Result Verdict InputFault) (xs : List ℕ)
+    → r ≡ Err fault → Consumes a b xs → ExplainsAlways fault xs → IfSome a (Answers registers r)
+fault_answers registers a b fault r xs is c h =
+    subst (λ (t : Result Verdict InputFault). IfSome a (Answers registers t)) (sym is) (refused_early a b fault xs c h)
 
 pub fault_counts : (old mid new : ℕ) (fault : InputFault) (r : Result Verdict InputFault) (xs : List ℕ) → r ≡ Err fault
     → ExplainsAlways fault xs → new ≡ mid → mid ≡ old → new ≡ failures_after r old
@@ -78,9 +78,9 @@ fault_reads P fault r xs is h e = absurd (never_read fault xs h (same fault Read
     same : (f k : InputFault) → (let r : Result Verdict InputFault = Err f in r) ≡ Err k → f ≡ k
     same f k e = cc
 
-pub fault_grows : (a b : Option (List ℕ)) (fault : InputFault) (r : Result Verdict InputFault) (xs : List ℕ)
-    → r ≡ Err fault → Consumes a b xs → GrowsFor fault xs
-    → IfSome a (λ bytes. r ≡ Err OutOfMemory → MayGrowIn bytes)
-fault_grows a b fault r xs is c h =
-    subst (λ (t : Result Verdict InputFault). IfSome a (λ bytes. t ≡ Err OutOfMemory → MayGrowIn bytes)) (sym is)
-    (grows_told a b fault xs c h)
+pub fault_grows : (registers : ℕ) (a b : Option (List ℕ)) (fault : InputFault) (r : Result Verdict InputFault) (xs : List ℕ)
+    → r ≡ Err fault → Consumes a b xs → GrowsFor registers fault xs
+    → IfSome a (λ bytes. r ≡ Err OutOfMemory → MayGrowIn registers bytes)
+fault_grows registers a b fault r xs is c h =
+    subst (λ (t : Result Verdict InputFault). IfSome a (λ bytes. t ≡ Err OutOfMemory → MayGrowIn registers bytes)) (sym is)
+    (grows_told _ a b fault xs c h)

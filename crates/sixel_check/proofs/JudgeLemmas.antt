@@ -28,27 +28,27 @@ events_push seen p = map-append (λ (q : Placed). q.event) seen (p ∷ [])
 length_events : (seen : List Placed) → length (events_of seen) ≡ length seen
 length_events seen = length-map seen (λ (q : Placed). q.event)
 
-pub judge_start : (notes : Notes) → AreNotesAfter notes [] → StandsUnbroken notes None []
+pub judge_start : {registers : ℕ} (notes : Notes) → AreNotesAfter registers notes [] → StandsUnbroken registers notes None []
 unfolding register_at last_at last_below
-judge_start notes a = record {
-  unbroken = none_of_none 16 last_rule;
+judge_start {registers} notes a = record {
+  unbroken = none_of_none registers last_rule;
   notes_are = a;
   sheet_is = undrawn_empty;
   coloured = λ x y r h. cc;
 }
 
 -- a finding stays the first
-pub judge_broken : (seen : List Placed) (p : Placed) (f : Finding) → (i : ℕ) × IsFinding 16 seen f i
-    → (i : ℕ) × IsFinding 16 (seen ++ p ∷ []) f i
-judge_broken seen p f found =
+pub judge_broken : {registers : ℕ} (seen : List Placed) (p : Placed) (f : Finding) → (i : ℕ) × IsFinding registers seen f i
+    → (i : ℕ) × IsFinding registers (seen ++ p ∷ []) f i
+judge_broken {registers} seen p f found =
     let i : ℕ = found.0 in
-    let finding : IsFinding 16 seen f found.0 = found.1 in
+    let finding : IsFinding registers seen f found.0 = found.1 in
     let low : found.0 < length (events_of seen) = holds_within _ (events_of seen) found.0 finding.pixel in
     let low_seen : found.0 < length seen = rw (length_events seen) at low in (
       found.0,
       record {
         first = rw (events_push seen p)
-            (first_push 16 (number_of f.rule) found.0 (events_of seen) p.event finding.first);
+            (first_push registers (number_of f.rule) found.0 (events_of seen) p.event finding.first);
         place = ap (option_map (λ (q : Placed). q.place)) (get_before seen (p ∷ []) found.0 low_seen) ∙ finding.place;
         pixel = rw (events_push seen p)
             (holds_before (IsPixel f.rule f.pixel) (events_of seen) p.event found.0 low finding.pixel);
@@ -56,14 +56,14 @@ judge_broken seen p f found =
     )
 
 -- the first finding
-pub judge_finds : (notes : Notes) (sheet : Option Sheet) (seen : List Placed) (p : Placed) (b : Breach)
-    → StandsUnbroken notes sheet (events_of seen) → IsBreach (events_of seen) p.event b
-    → (i : ℕ) × IsFinding 16 (seen ++ p ∷ []) (record { rule = b.rule; place = p.place; pixel = b.pixel }) i
-judge_finds notes sheet seen p b s breach = (
+pub judge_finds : {registers : ℕ} (notes : Notes) (sheet : Option Sheet) (seen : List Placed) (p : Placed) (b : Breach)
+    → StandsUnbroken registers notes sheet (events_of seen) → IsBreach registers (events_of seen) p.event b
+    → (i : ℕ) × IsFinding registers (seen ++ p ∷ []) (record { rule = b.rule; place = p.place; pixel = b.pixel }) i
+judge_finds {registers} notes sheet seen p b s breach = (
   length (events_of seen),
   record {
     first = rw (events_push seen p)
-        (first_there 16 (number_of b.rule) (events_of seen) p.event s.unbroken breach.broken breach.none_smaller);
+        (first_there registers (number_of b.rule) (events_of seen) p.event s.unbroken breach.broken breach.none_smaller);
     place =
         ap (λ (n : ℕ). option_map (λ (q : Placed). q.place) (slice_get (seen ++ p ∷ []) n)) (length_events seen)
         ∙ ap (option_map (λ (q : Placed). q.place)) (get_end seen p);
@@ -72,32 +72,32 @@ judge_finds notes sheet seen p b s breach = (
 )
 
 -- no finding, and an event that breaks no rule
-pub judge_goes_on : (notes next : Notes) (sheet drawn : Option Sheet) (seen : List Placed) (p : Placed)
-    → StandsUnbroken notes sheet (events_of seen) → BreaksNoRule (events_of seen) p.event
-    → AreNotesAfter next (events_of seen ++ p.event ∷ []) → IsSheetAfter drawn (events_of seen ++ p.event ∷ [])
-    → StandsUnbroken next drawn (events_of (seen ++ p ∷ []))
-judge_goes_on notes next sheet drawn seen p s none a d =
-    subst (StandsUnbroken next drawn) (sym (events_push seen p))
+pub judge_goes_on : {registers : ℕ} (notes next : Notes) (sheet drawn : Option Sheet) (seen : List Placed) (p : Placed)
+    → StandsUnbroken registers notes sheet (events_of seen) → BreaksNoRule registers (events_of seen) p.event
+    → AreNotesAfter registers next (events_of seen ++ p.event ∷ []) → IsSheetAfter drawn (events_of seen ++ p.event ∷ [])
+    → StandsUnbroken registers next drawn (events_of (seen ++ p ∷ []))
+judge_goes_on {registers} notes next sheet drawn seen p s none a d =
+    subst (StandsUnbroken registers next drawn) (sym (events_push seen p))
     (record {
-      unbroken = none_push 16 last_rule (events_of seen) p.event s.unbroken (keeps (events_of seen) p.event none);
+      unbroken = none_push registers last_rule (events_of seen) p.event s.unbroken (keeps (events_of seen) p.event none);
       notes_are = a;
       sheet_is = d;
       coloured = coloured_push notes (events_of seen) p.event s.notes_are none s.coloured;
     })
 
 -- where there is a finding
-pub finding_stays : (o : Option Finding) (notes : Notes) (sheet : Option Sheet) (seen : List Placed) (p : Placed)
-    → is_some o ≡ true → JudgesAfter o notes sheet seen → JudgesAfter o notes sheet (seen ++ p ∷ [])
-finding_stays (Some f) notes sheet seen p e j = judge_broken seen p f j
-finding_stays None notes sheet seen p e j = cc
+pub finding_stays : (registers : ℕ) (o : Option Finding) (notes : Notes) (sheet : Option Sheet) (seen : List Placed) (p : Placed)
+    → is_some o ≡ true → JudgesAfter registers o notes sheet seen → JudgesAfter registers o notes sheet (seen ++ p ∷ [])
+finding_stays registers (Some f) notes sheet seen p e j = judge_broken seen p f j
+finding_stays registers None notes sheet seen p e j = cc
 
 -- where there is none
-pub unbroken_of : (o : Option Finding) (notes : Notes) (sheet : Option Sheet) (seen : List Placed)
-    → is_some o ≡ false → JudgesAfter o notes sheet seen → StandsUnbroken notes sheet (events_of seen)
+pub unbroken_of : {registers : ℕ} (o : Option Finding) (notes : Notes) (sheet : Option Sheet) (seen : List Placed)
+    → is_some o ≡ false → JudgesAfter registers o notes sheet seen → StandsUnbroken registers notes sheet (events_of seen)
 unbroken_of (Some f) notes sheet seen e j = cc
 unbroken_of None notes sheet seen e j = j
 
-pub judges_of : (o : Option Finding) (notes : Notes) (sheet : Option Sheet) (seen : List Placed)
-    → is_some o ≡ false → StandsUnbroken notes sheet (events_of seen) → JudgesAfter o notes sheet seen
+pub judges_of : {registers : ℕ} (o : Option Finding) (notes : Notes) (sheet : Option Sheet) (seen : List Placed)
+    → is_some o ≡ false → StandsUnbroken registers notes sheet (events_of seen) → JudgesAfter registers o notes sheet seen
 judges_of (Some f) notes sheet seen e s = cc
 judges_of None notes sheet seen e s = s

@@ -1,5 +1,5 @@
 -- What is noted after one event more.
-use Rattle.std.proofs.Common.{◌≡◌, ℕ, ◌+◌, ◌<◌, ◌==◌, ◌&&◌, ◌||◌, Bool, true, false, cond, Option, Some, None}
+use Rattle.std.proofs.Common.{◌≡◌, ℕ, ◌+◌, ◌<◌, ◌≤◌, ◌==◌, ◌&&◌, ◌||◌, Bool, true, false, cond, Option, Some, None}
 use Rattle.std.proofs.Common.{IsTrue, IsFalse, List, [], ◌∷◌, ◌++◌, length, get_or, set, refl, sym, ap, ◌∙◌, subst}
 use Rattle.std.proofs.Common.{arith, replicate}
 use Rattle.std.specs.Prelude.{IfSome, nat_lt, if◌then◌else◌}
@@ -18,20 +18,20 @@ use Rattle.sixel_picture.specs.Geometry.{band, column}
 use Rattle.sixel_picture.specs.Positions.{latest, since, any_at, any_below}
 use Rattle.sixel_picture.specs.Rules.{breaks_colour_value, breaks_register, definition_of, gives_colour}
 use Rattle.sixel_picture.specs.Rules.{is_painted_in, is_that, known, known_by, palette_left, colour_of}
-use Rattle.sixel_picture.proofs.LeftLemmas.{left_define, left_idle}
+use Rattle.sixel_picture.proofs.LeftLemmas.{left_define, left_idle, left_start, length_left}
 use Rattle.sixel_picture.proofs.PositionLemmas.{latest_push}
 use Rattle.sixel_picture.proofs.RuleLemmas.{Keeps, none_keeps}
 use Rattle.sixel_picture.proofs.StepLemmas.{band_push, column_push, definition_push, painted_in_push}
 use Rattle.sixel_check.specs.declared.notes.Notes.{Notes}
 use Rattle.sixel_check.specs.Breaches.{BreaksNoRule}
 use Rattle.sixel_check.specs.Judging.{AreNotesAfter, IsGood}
-use Rattle.sixel_check.specs.Notes.{known_in, next_band, next_column, next_named, next_painted}
+use Rattle.sixel_check.specs.Notes.{IsBelow, known_in, next_band, next_column, next_named, next_painted}
 use Rattle.sixel_check.specs.Notes.{next_palette, next_selected}
 use Rattle.sixel_check.specs.Verdicts.{capped}
 
 -- an event that breaks none of the rules keeps each
-pub keeps : (before : List Event) (e : Event) → BreaksNoRule before e → Keeps 16 before e
-keeps before e none = none_keeps 16 before e (λ n le. none n (omega (arith, le)))
+pub keeps : {registers : ℕ} (before : List Event) (e : Event) → BreaksNoRule registers before e → Keeps registers before e
+keeps {registers} before e none = none_keeps registers before e (λ n le. none n (omega (arith, le)))
 
 -- a column that stops at the greatest
 stopped : (b : Bool) (c w : ℕ) → cond b 0 (capped (capped c + w)) ≡ capped (cond b 0 (c + w))
@@ -42,10 +42,10 @@ stopped_band : (b : Bool) (n : ℕ) → cond b (capped (capped n + 1)) (capped n
 stopped_band true n = omega arith
 stopped_band false n = omega arith
 
-select_below : (e : Event) → IsFalse (breaks_register 16 e) → IfSome (select_of e) (λ r. r < 16)
+select_below : (registers : ℕ) (e : Event) → IsFalse (breaks_register registers e) → IfSome (select_of e) (λ r. r < registers)
 unfolding breaks_register
-select_below (Step (Select register)) h = leb-false 16 register h
-select_below _ h = tt
+select_below registers (Step (Select register)) h = leb-false registers register h
+select_below registers _ h = tt
 
 or_each : {A : Type 0} (P : A → Type 0) (o p : Option A) → IfSome o P → IfSome p P → IfSome (option_or o p) P
 or_each P None p h k = k
@@ -53,17 +53,17 @@ or_each P (Some x) p h k = h
 
 -- ---- definitions
 
-where_good : (b : Bool) (q r : ℕ) (d : Definition) → (q == r) ≡ b → q < 16 → IsTrue (gives_colour d)
-    → IfSome (if b then Some d else None) (IsGood r)
+where_good : {registers : ℕ} (b : Bool) (q r : ℕ) (d : Definition) → (q == r) ≡ b → q < registers → IsTrue (gives_colour d)
+    → IfSome (if b then Some d else None) (IsGood registers r)
 where_good true q r d e lt h = let same : q ≡ r = eqb-true q r e in (omega (arith, lt, same), h)
 where_good false q r d e lt h = tt
 
-defined_good : (e : Event) (r : ℕ) → IsFalse (breaks_register 16 e) → IsFalse (breaks_colour_value e)
-    → IfSome (definition_where (λ q. q == r) e) (IsGood r)
+defined_good : (registers : ℕ) (e : Event) (r : ℕ) → IsFalse (breaks_register registers e) → IsFalse (breaks_colour_value e)
+    → IfSome (definition_where (λ q. q == r) e) (IsGood registers r)
 unfolding breaks_register breaks_colour_value
-defined_good (Step (Define register system x y z)) r h k =
-    where_good (register == r) register r _ refl (leb-false 16 register h) (not-false _ k)
-defined_good _ r h k = tt
+defined_good registers (Step (Define register system x y z)) r h k =
+    where_good (register == r) register r _ refl (leb-false registers register h) (not-false _ k)
+defined_good registers _ r h k = tt
 
 -- ---- the palette
 
@@ -73,18 +73,19 @@ pub given : (o : Option Parts) → option_map_or is_colour o false ≡ true
 given None h = cc
 given (Some c) h = (c, refl, h)
 
-palette_push : (n : Notes) (before : List Event) (e : Event) → n.palette ≡ palette_left 16 before
-    → IsFalse (breaks_register 16 e) → IsFalse (breaks_colour_value e)
-    → next_palette n e ≡ palette_left 16 (before ++ e ∷ [])
+palette_push : (registers : ℕ) (n : Notes) (before : List Event) (e : Event) → n.palette ≡ palette_left registers before
+    → IsFalse (breaks_register registers e) → IsFalse (breaks_colour_value e)
+    → next_palette n e ≡ palette_left registers (before ++ e ∷ [])
 unfolding breaks_register breaks_colour_value
-palette_push n before (Step (Define register system x y z)) s h k =
-    let lt : register < 16 = leb-false 16 register h in
+palette_push registers n before (Step (Define register system x y z)) s h k =
+    let lt : register < registers = leb-false registers register h in
     let found = given (colour_in system x y z) (not-false _ k) in
-    let is_low : nat_lt register 16 ≡ true = lt-ltb register 16 lt in
+    let long : length n.palette ≡ registers = ap length s ∙ length_left registers before in
+    let is_low : nat_lt register (length n.palette) ≡ true = lt-ltb _ _ (omega (arith, lt, long)) in
     rw (is_low, found.1, found.2)
     (ap (λ (p : List (Option Parts)). set p register (Some found.0)) s
-    ∙ left_define 16 register system x y z found.0 before lt found.1)
-palette_push n before e s h k = s ∙ left_idle 16 before e (λ r. refl)
+    ∙ left_define registers register system x y z found.0 before lt found.1)
+palette_push registers n before e s h k = s ∙ left_idle registers before e (λ r. refl)
 
 -- ---- the registers in which was painted
 
@@ -116,31 +117,38 @@ known_below (Some r) n m h = keep (is_that r n)
     keep true = h
     keep false = tt
 
-pub known_is : (n : Notes) (before : List Event) → AreNotesAfter n before → known_in n ≡ known before
+-- the registers of a byte
+pub in_bytes : {registers : ℕ} (o : Option ℕ) → registers ≤ 256 → IfSome o (λ r. r < registers)
+    → IfSome o (λ r. r < 256)
+in_bytes None few h = tt
+in_bytes (Some r) few h = omega (arith, few, h)
+
+pub known_is : {registers : ℕ} (n : Notes) (before : List Event) → AreNotesAfter registers n before → known_in n ≡ known before
 unfolding known
 known_is n before s = rw (s.selected_is, s.named_is) refl
 
 -- ---- all notes
 
-pub notes_start : (palette : List (Option Parts)) → palette ≡ replicate 16 None
-    → AreNotesAfter
-    (record { column = 0; band = 0; selected = None; named = None; palette = palette; painted = replicate 16 false }) []
+pub notes_start : {registers : ℕ} (palette : List (Option Parts)) → registers ≤ 256 → palette ≡ replicate registers None
+    → AreNotesAfter registers
+    (record { column = 0; band = 0; selected = None; named = None; palette = palette; painted = replicate 256 false }) []
 unfolding column band since latest palette_left colour_of definition_of is_painted_in any_at any_below
-notes_start palette h = record {
+notes_start {registers} palette few h = record {
   column_is = refl;
   band_is = refl;
   selected_is = refl;
   selected_below = tt;
   named_is = refl;
-  palette_is = h;
+  palette_is = h ∙ left_start registers;
   in_range = λ r. tt;
-  registers = refl;
-  painted_is = λ r lt. get_or-replicate 16 r false false lt;
+  bytes = few;
+  marks = refl;
+  painted_is = λ r lt. get_or-replicate 256 r false false (omega (arith, lt, few));
 }
 
 -- the notes after one event more, which breaks no rule
-pub notes_push : (n : Notes) (before : List Event) (e : Event) → AreNotesAfter n before → BreaksNoRule before e
-    → AreNotesAfter (record {
+pub notes_push : {registers : ℕ} (n : Notes) (before : List Event) (e : Event) → AreNotesAfter registers n before → BreaksNoRule registers before e
+    → AreNotesAfter registers (record {
       column = next_column n e;
       band = next_band n e;
       selected = next_selected n e;
@@ -149,7 +157,7 @@ pub notes_push : (n : Notes) (before : List Event) (e : Event) → AreNotesAfter
       painted = next_painted n e;
     }) (before ++ e ∷ [])
 unfolding is_painted_in
-notes_push n before e s none =
+notes_push {registers} n before e s none =
     let k = keeps before e none in
     record {
       column_is =
@@ -161,18 +169,25 @@ notes_push n before e s none =
           ∙ stopped_band (is_next_line e) (band before)
           ∙ ap capped (sym (band_push before e));
       selected_is = ap (option_or (select_of e)) s.selected_is ∙ sym (latest_push select_of before e);
-      selected_below = or_each (λ r. r < 16) (select_of e) n.selected (select_below e k.register) s.selected_below;
+      selected_below = or_each (λ r. r < registers) (select_of e) n.selected (select_below _ e k.register) s.selected_below;
       named_is = ap (option_or (named_by e)) s.named_is ∙ sym (latest_push named_by before e);
-      palette_is = palette_push n before e s.palette_is k.register k.colour_value;
-      in_range = λ r. subst (λ (o : Option Definition). IfSome o (IsGood r)) (sym (definition_push before e r))
-          (or_each (IsGood r) (definition_where (λ q. q == r) e) (definition_of before r)
-          (defined_good e r k.register k.colour_value) (s.in_range r));
-      registers = length_painted (is_painting e) (known_in n) n.painted ∙ s.registers;
+      palette_is = palette_push _ n before e s.palette_is k.register k.colour_value;
+      in_range = λ r. subst (λ (o : Option Definition). IfSome o (IsGood registers r)) (sym (definition_push before e r))
+          (or_each (IsGood registers r) (definition_where (λ q. q == r) e) (definition_of before r)
+          (defined_good _ e r k.register k.colour_value) (s.in_range r));
+      bytes = s.bytes;
+      marks = length_painted (is_painting e) (known_in n) n.painted ∙ s.marks;
       painted_is = λ r lt.
           painted_is (is_painting e) (known_in n) r n.painted
-          (subst (λ (m : ℕ). IfSome (known_in n) (λ q. q < m)) (sym s.registers)
-          (known_below n.selected n.named 16 s.selected_below))
+          (subst (λ (m : ℕ). IfSome (known_in n) (λ q. q < m)) (sym s.marks)
+          (known_below n.selected n.named 256 (in_bytes n.selected s.bytes s.selected_below)))
           ∙ ap (λ (o : Option ℕ). (is_painting e && is_that r o) || get_or n.painted r false) (known_is n before s)
           ∙ ap (λ (b : Bool). (is_painting e && is_that r (known before)) || b) (s.painted_is r lt)
           ∙ sym (painted_in_push before e r);
     }
+
+-- the selected register is one of the palette's
+pub notes_below : {registers : ℕ} (n : Notes) (before : List Event) → AreNotesAfter registers n before → IsBelow n
+notes_below {registers} n before s =
+    let long : length n.palette ≡ registers = ap length s.palette_is ∙ length_left registers before in
+    (subst (λ (m : ℕ). IfSome n.selected (λ r. r < m)) (sym long) s.selected_below, omega (arith, long, s.bytes))

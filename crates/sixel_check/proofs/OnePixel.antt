@@ -14,6 +14,9 @@ use Rattle.sixel_check.proofs.DecideLemmas.{broken_decided, broken_or_none}
 use Rattle.sixel_check.proofs.SearchLemmas.{decide_true, decide_either, least_here, least_more, least_below, in_row}
 use Rattle.sixel_check.proofs.SearchLemmas.{row_decided, first_point}
 use Rattle.sixel_picture.specs.RuleNumbers.{last_rule}
+use Rattle.sixel_picture.specs.Profiles.{count_of}
+use Rattle.sixel_picture.specs.declared.profile.Profile.{Profile}
+use Rattle.sixel_picture.specs.declared.profile.Profile.TheVariants.{Registers16, Registers256}
 use Rattle.sixel_check.specs.Laws.{OnePixelBreaksNone, one_pixel}
 
 abbrev is_second : {A B : Type 0} → A ⊎ B → Bool
@@ -25,7 +28,7 @@ second_of (inl a) h = cc
 second_of (inr b) h = b
 
 -- each rule is looked for at each event, by computing
-unbroken : BreaksNone 16 last_rule one_pixel
+unbroken : (profile : Profile) → BreaksNone (count_of profile) last_rule one_pixel
 unfolding decided_by falls_searchable blank_searchable first_of outside_first blank_first outside_decided
     blank_somewhere both_decided uncovered_decided rule_decided held_decided position_decided broken_decided
     broken_or_none decide_true decide_either least_here least_more least_below in_row row_decided first_point Breaks
@@ -33,7 +36,8 @@ unfolding decided_by falls_searchable blank_searchable first_of outside_first bl
     breaks_raster_twice breaks_redefined breaks_register breaks_repeat_zero breaks_undefined breaks_unselected
     definition_of is_covered is_painted_in known raster_before band column covers falls touches any_at any_below
     earliest latest passes_at since
-unbroken = second_of (broken_or_none 16 one_pixel) refl
+unbroken Registers16 = second_of (broken_or_none 16 one_pixel) refl
+unbroken Registers256 = second_of (broken_or_none 256 one_pixel) refl
 
-pub one_pixel_breaks_none : OnePixelBreaksNone
-one_pixel_breaks_none = (refl, unbroken)
+pub one_pixel_breaks_none : (profile : Profile) → OnePixelBreaksNone (count_of profile)
+one_pixel_breaks_none profile = (refl, unbroken profile)

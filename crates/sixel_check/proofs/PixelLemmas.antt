@@ -18,13 +18,13 @@ use Rattle.sixel_check.specs.Outside.{IsFirstIfAny}
 use Rattle.sixel_check.proofs.BreachLemmas.{IsLeast, IsLeastOf, least_rule, none_more}
 
 -- a breach of a rule that looks at no pixel
-pub breach_plain : (before : List Event) (e : Event) (rule : Rule) → IsLeast before e rule
-    → IsBreach before e (record { rule = rule; pixel = None })
+pub breach_plain : {registers : ℕ} (before : List Event) (e : Event) (rule : Rule) → IsLeast registers before e rule
+    → IsBreach registers before e (record { rule = rule; pixel = None })
 breach_plain before e rule l = record { broken = l.broken; none_smaller = l.none_smaller; pixel = l.no_pixel }
 
-pub breach_outside : (before : List Event) (e : Event) (s : Sheet) (pixel : ℕ × ℕ) → IsDrawn s before
-    → NoneBelow outside_rule before e → IsFirstIfAny (FallsOutside before e (box_of s)) (Some pixel)
-    → IsBreach before e (record { rule = Outside; pixel = Some pixel })
+pub breach_outside : {registers : ℕ} (before : List Event) (e : Event) (s : Sheet) (pixel : ℕ × ℕ) → IsDrawn s before
+    → NoneBelow registers outside_rule before e → IsFirstIfAny (FallsOutside before e (box_of s)) (Some pixel)
+    → IsBreach registers before e (record { rule = Outside; pixel = Some pixel })
 unfolding Breaks BreaksOutside
 breach_outside before e s pixel d none first = record {
   broken = rw d.box (first.0, first.1, (first.2).holds);
@@ -32,16 +32,16 @@ breach_outside before e s pixel d none first = record {
   pixel = rw d.box first;
 }
 
-pub none_outside : (before : List Event) (e : Event) (s : Sheet) → IsDrawn s before → NoneBelow outside_rule before e
-    → IsFirstIfAny (FallsOutside before e (box_of s)) None → NoneBelow uncovered_rule before e
+pub none_outside : (registers : ℕ) (before : List Event) (e : Event) (s : Sheet) → IsDrawn s before → NoneBelow registers outside_rule before e
+    → IsFirstIfAny (FallsOutside before e (box_of s)) None → NoneBelow registers uncovered_rule before e
 unfolding Breaks BreaksOutside
-none_outside before e s d none first = none_more before e outside_rule none
+none_outside registers before e s d none first = none_more _ before e outside_rule none
     (λ broken. let point = rw d.box at broken in first point.0 point.1 point.2)
 
-pub breach_uncovered : (before : List Event) (e : Event) (s : Sheet) (pixel : ℕ × ℕ) → is_finish e ≡ true
+pub breach_uncovered : {registers : ℕ} (before : List Event) (e : Event) (s : Sheet) (pixel : ℕ × ℕ) → is_finish e ≡ true
     → IsDrawn s before
-    → NoneBelow uncovered_rule before e → IsFirstIfAny (StaysBlank before (box_of s)) (Some pixel)
-    → IsBreach before e (record { rule = Uncovered; pixel = Some pixel })
+    → NoneBelow registers uncovered_rule before e → IsFirstIfAny (StaysBlank before (box_of s)) (Some pixel)
+    → IsBreach registers before e (record { rule = Uncovered; pixel = Some pixel })
 unfolding Breaks BreaksUncovered
 breach_uncovered before e s pixel end d none first = record {
   broken = (end, rw d.box (first.0, first.1, (first.2).holds));
@@ -49,26 +49,26 @@ breach_uncovered before e s pixel end d none first = record {
   pixel = rw d.box first;
 }
 
-pub none_uncovered : (before : List Event) (e : Event) (s : Sheet) → IsDrawn s before
-    → NoneBelow uncovered_rule before e
-    → IsFirstIfAny (StaysBlank before (box_of s)) None → BreaksNoRule before e
+pub none_uncovered : (registers : ℕ) (before : List Event) (e : Event) (s : Sheet) → IsDrawn s before
+    → NoneBelow registers uncovered_rule before e
+    → IsFirstIfAny (StaysBlank before (box_of s)) None → BreaksNoRule registers before e
 unfolding Breaks BreaksUncovered
-none_uncovered before e s d none first = none_more before e uncovered_rule none
+none_uncovered registers before e s d none first = none_more _ before e uncovered_rule none
     (λ broken. let point = rw d.box at broken.1 in first point.0 point.1 point.2)
 
 -- an event that isn't the end leaves nothing uncovered
-pub none_before_end : (before : List Event) (e : Event) → is_finish e ≡ false → NoneBelow uncovered_rule before e
-    → BreaksNoRule before e
+pub none_before_end : (registers : ℕ) (before : List Event) (e : Event) → is_finish e ≡ false → NoneBelow registers uncovered_rule before e
+    → BreaksNoRule registers before e
 unfolding Breaks BreaksUncovered
-none_before_end before e goes_on none = none_more before e uncovered_rule none
+none_before_end registers before e goes_on none = none_more _ before e uncovered_rule none
     (λ broken. both_ways (is_finish e) goes_on broken.0)
 
 -- without a box no pixel is looked at
-pub none_without_box : (before : List Event) (e : Event) → raster_before before ≡ None → NoneBelow outside_rule before e
-    → BreaksNoRule before e
+pub none_without_box : (registers : ℕ) (before : List Event) (e : Event) → raster_before before ≡ None → NoneBelow registers outside_rule before e
+    → BreaksNoRule registers before e
 unfolding Breaks BreaksOutside BreaksUncovered
-none_without_box before e is none =
-    none_more before e uncovered_rule (none_more before e outside_rule none (λ broken. rw is at broken))
+none_without_box registers before e is none =
+    none_more _ before e uncovered_rule (none_more _ before e outside_rule none (λ broken. rw is at broken))
     (λ broken. rw is at broken.1)
 
 -- there is a sheet exactly where there is a box
@@ -82,9 +82,9 @@ has_sheet f None = refl
 has_sheet f (Some p) = refl
 
 -- the rule that was found is the least of those that look at no pixel
-pub least_noted : (n : Notes) (sheet : Option Sheet) (before : List Event) (e : Event) (has_box : Bool)
+pub least_noted : {registers : ℕ} (n : Notes) (sheet : Option Sheet) (before : List Event) (e : Event) (has_box : Bool)
     (o : Option Rule)
-    → has_box ≡ is_some sheet → o ≡ rule_in n has_box e → AreNotesAfter n before → IsSheetAfter sheet before
-    → IsLeastOf before e o
-least_noted n sheet before e has_box o box is s d =
-    subst (IsLeastOf before e) (sym is) (least_rule n before e has_box (box ∙ box_there sheet before d) s)
+    → has_box ≡ is_some sheet → o ≡ rule_in n has_box e → AreNotesAfter registers n before → IsSheetAfter sheet before
+    → IsLeastOf registers before e o
+least_noted {registers} n sheet before e has_box o box is s d =
+    subst (IsLeastOf registers before e) (sym is) (least_rule n before e has_box (box ∙ box_there sheet before d) s)

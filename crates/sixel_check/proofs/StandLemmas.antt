@@ -1,5 +1,5 @@
 -- On the events that a checker has seen.
-use Rattle.std.proofs.Common.{◌≡◌, ◌||◌, ◌&&◌, Bool, true, false, not, IsTrue, ◌⊎◌, inl, inr}
+use Rattle.std.proofs.Common.{ℕ, ◌≡◌, ◌||◌, ◌&&◌, Bool, true, false, not, IsTrue, ◌⊎◌, inl, inr}
 use Rattle.std.proofs.Common.{List, [], ◌∷◌, ◌++◌, sym, ◌∙◌, ap, subst, refl}
 use Rattle.std.specs.Prelude.{if◌then◌else◌}
 use Rattle.std.specs.List.{AllByRecursion, list_any}
@@ -127,37 +127,37 @@ progress_push (q ∷ qs) p h =
 
 -- ---- where a checker stands
 
-pub stands_none : (checker : CheckerValue) → JudgesAfter checker.finding checker.notes checker.sheet []
-    → checker.progress ≡ Fresh → StandsAfter checker []
+pub stands_none : (registers : ℕ) (checker : CheckerValue) → JudgesAfter registers checker.finding checker.notes checker.sheet []
+    → checker.progress ≡ Fresh → StandsAfter registers checker []
 unfolding StandsAfter
-stands_none checker judges fresh = (judges, fresh, inl refl, tt)
+stands_none registers checker judges fresh = (judges, fresh, inl refl, tt)
 
 -- what its parts say
-pub judges_inside : (inside checker : CheckerValue) (seen : List Placed) → inside ≡ checker → StandsAfter checker seen
-    → JudgesAfter inside.finding inside.notes inside.sheet seen
+pub judges_inside : (registers : ℕ) (inside checker : CheckerValue) (seen : List Placed) → inside ≡ checker → StandsAfter registers checker seen
+    → JudgesAfter registers inside.finding inside.notes inside.sheet seen
 unfolding StandsAfter
-judges_inside inside checker seen is s =
-    subst (λ (v : CheckerValue). JudgesAfter v.finding v.notes v.sheet seen) (sym is) s.0
+judges_inside registers inside checker seen is s =
+    subst (λ (v : CheckerValue). JudgesAfter registers v.finding v.notes v.sheet seen) (sym is) s.0
 
-pub stands_expects : (checker : CheckerValue) (seen : List Placed) (e : Event) → StandsAfter checker seen
+pub stands_expects : (registers : ℕ) (checker : CheckerValue) (seen : List Placed) (e : Event) → StandsAfter registers checker seen
     → expects_from checker.progress e ≡ expects seen e
 unfolding StandsAfter
-stands_expects checker seen e s = ap (λ (g : Progress). expects_from g e) s.1 ∙ expects_of seen e
+stands_expects registers checker seen e s = ap (λ (g : Progress). expects_from g e) s.1 ∙ expects_of seen e
 
-pub stands_whole_at : (checker : CheckerValue) (seen : List Placed) → StandsAfter checker seen
+pub stands_whole_at : (registers : ℕ) (checker : CheckerValue) (seen : List Placed) → StandsAfter registers checker seen
     → is_whole_at checker.progress ≡ is_whole seen
 unfolding StandsAfter
-stands_whole_at checker seen s = ap is_whole_at s.1 ∙ whole_of seen
+stands_whole_at registers checker seen s = ap is_whole_at s.1 ∙ whole_of seen
 
 -- after one expected event more
-pub stands_push : (old new : CheckerValue) (first seen : List Placed) (p : Placed) → StandsAfter old first
-    → IsTrue (expects first p.event) → IsSpellable p.event → StandsAfter old seen
-    → JudgesAfter new.finding new.notes new.sheet (seen ++ p ∷ []) → new.progress ≡ progress_with p.event
-    → StandsAfter new (seen ++ p ∷ [])
+pub stands_push : (others registers : ℕ) (old new : CheckerValue) (first seen : List Placed) (p : Placed) → StandsAfter others old first
+    → IsTrue (expects first p.event) → IsSpellable p.event → StandsAfter registers old seen
+    → JudgesAfter registers new.finding new.notes new.sheet (seen ++ p ∷ []) → new.progress ≡ progress_with p.event
+    → StandsAfter registers new (seen ++ p ∷ [])
 unfolding StandsAfter
-stands_push old new first seen p f expected spellable s judges far =
+stands_push others registers old new first seen p f expected spellable s judges far =
     let may : IsTrue (expects seen p.event) =
-    sym (stands_expects old seen p.event s) ∙ stands_expects old first p.event f ∙ expected in (
+    sym (stands_expects _ old seen p.event s) ∙ stands_expects _ old first p.event f ∙ expected in (
       judges,
       far ∙ sym (progress_push seen p may),
       subst AreFront (sym (events_push seen p)) (front_next seen p s.2 may),
@@ -166,9 +166,10 @@ stands_push old new first seen p f expected spellable s judges far =
     )
 
 -- where the end came, the events are whole
-pub stands_whole : (checker : CheckerValue) (first seen : List Placed) → StandsAfter checker first
-    → IsTrue (is_whole first) → StandsAfter checker seen → AreWhole (events_of seen)
+pub stands_whole : (others registers : ℕ) (checker : CheckerValue) (first seen : List Placed)
+    → StandsAfter others checker first
+    → IsTrue (is_whole first) → StandsAfter registers checker seen → AreWhole (events_of seen)
 unfolding StandsAfter
-stands_whole checker first seen f whole s =
+stands_whole others registers checker first seen f whole s =
     front_whole (events_of seen) s.2
-    (whole_events seen ∙ sym (stands_whole_at checker seen s) ∙ stands_whole_at checker first f ∙ whole)
+    (whole_events seen ∙ sym (stands_whole_at _ checker seen s) ∙ stands_whole_at _ checker first f ∙ whole)

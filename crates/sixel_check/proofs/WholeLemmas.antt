@@ -27,16 +27,16 @@ use Rattle.sixel_check.proofs.NoteLemmas.{given}
 
 -- ---- no pixel is blank
 
-pub full_sheet : (s : Sheet) (events : List Event) → AreWhole events → BreaksNone 16 last_rule events → IsDrawn s events
+pub full_sheet : (registers : ℕ) (s : Sheet) (events : List Event) → AreWhole events → BreaksNone registers last_rule events → IsDrawn s events
     → IsFull s
-full_sheet s events whole none d = split (first_blank s) (first_blank_drawn s events d)
+full_sheet registers s events whole none d = split (first_blank s) (first_blank_drawn s events d)
   where
     split : (o : Option (ℕ × ℕ)) → IsFirstIfAny (StaysBlank events (box_of s)) o → o ≡ None
     split None first = refl
     split (Some pixel) first =
         let point : StaysBlank events (box_of s) first.0 first.1 = (first.2).holds in
         absurd (both_ways (is_covered events first.0 first.1) point.blank
-        (all_covered 16 events (box_of s) first.0 first.1 whole none d.box point.inside))
+        (all_covered registers events (box_of s) first.0 first.1 whole none d.box point.inside))
 
 -- ---- the picture has all its parts
 
@@ -44,38 +44,38 @@ each_passes : (p : ℕ → Bool) (xs : List ℕ) → ((i : ℕ) → i < length x
 each_passes p xs h = list_all-from_AllPass p xs (All-from_get_or (λ x. p x ≡ true) xs 0 h)
 
 -- the register of each pixel is one of the 16, and has a colour
-register_good : (s : Sheet) (events : List Event) (xs : List ℕ) (i : ℕ) → IsDrawn s events → AreColoured events
+register_good : {registers : ℕ} (s : Sheet) (events : List Event) (xs : List ℕ) (i : ℕ) → IsDrawn s events → AreColoured registers events
     → map (λ r. Some r) xs ≡ s.cells → i < length xs
-    → (get_or xs i 0 < 16) × IsSome (definition_of events (get_or xs i 0))
+    → (get_or xs i 0 < registers) × IsSome (definition_of events (get_or xs i 0))
 register_good s events xs i d c e lt =
     c (i % s.width) (i / s.width) (get_or xs i 0) (register_there s events xs i d e lt)
 
-coloured : (r : ℕ) (o : Option Definition) → IfSome o (IsGood r) → IsSome o
+coloured : (registers r : ℕ) (o : Option Definition) → IfSome o (IsGood registers r) → IsSome o
     → is_some (option_and_then colour_by o) ≡ true
-coloured r None h k = cc
-coloured r (Some d) h k = ap is_some (given (colour_by d) h.1).1
+coloured registers r None h k = cc
+coloured registers r (Some d) h k = ap is_some (given (colour_by d) h.1).1
 
-register_coloured : (n : Notes) (events : List Event) (r : ℕ) → AreNotesAfter n events → r < 16
+register_coloured : {registers : ℕ} (n : Notes) (events : List Event) (r : ℕ) → AreNotesAfter registers n events → r < registers
     → IsSome (definition_of events r)
-    → is_some (palette_at (palette_left 16 events) r) ≡ true
+    → is_some (palette_at (palette_left registers events) r) ≡ true
 unfolding colour_of
-register_coloured n events r a lt has =
-    ap is_some (left_at 16 r events lt) ∙ coloured r (definition_of events r) (a.in_range r) has
+register_coloured {registers} n events r a lt has =
+    ap is_some (left_at registers r events lt) ∙ coloured _ r (definition_of events r) (a.in_range r) has
 
-no_fault : (w h : ℕ) (palette : List (Option Parts)) (xs : List ℕ) → (is_side w && is_side h) ≡ true
-    → (length xs == w * h) ≡ true → list_all (λ r. nat_lt r 16) xs ≡ true
-    → list_all (λ r. is_some (palette_at palette r)) xs ≡ true → picture_fault 16 w h palette xs ≡ None
-no_fault w h palette xs sides long low coloured = rw (sides, long, low, coloured) refl
+no_fault : (registers : ℕ) (w h : ℕ) (palette : List (Option Parts)) (xs : List ℕ) → (is_side w && is_side h) ≡ true
+    → (length xs == w * h) ≡ true → list_all (λ r. nat_lt r registers) xs ≡ true
+    → list_all (λ r. is_some (palette_at palette r)) xs ≡ true → picture_fault registers w h palette xs ≡ None
+no_fault registers w h palette xs sides long low coloured = rw (sides, long, low, coloured) refl
 
 -- the parts of the picture that is left make a picture
-pub picture_fits : (n : Notes) (s : Sheet) (events : List Event) (xs : List ℕ) → AreNotesAfter n events
+pub picture_fits : {registers : ℕ} (n : Notes) (s : Sheet) (events : List Event) (xs : List ℕ) → AreNotesAfter registers n events
     → IsDrawn s events
-    → AreColoured events → map (λ r. Some r) xs ≡ s.cells
-    → picture_fault 16 s.width s.height (palette_left 16 events) xs ≡ None
-picture_fits n s events xs a d c e =
-    no_fault s.width s.height (palette_left 16 events) xs (and_from _ _ d.width d.height)
+    → AreColoured registers events → map (λ r. Some r) xs ≡ s.cells
+    → picture_fault registers s.width s.height (palette_left registers events) xs ≡ None
+picture_fits {registers} n s events xs a d c e =
+    no_fault _ s.width s.height (palette_left registers events) xs (and_from _ _ d.width d.height)
     (eq-eqb _ _ (length_drawn s events xs d e))
-    (each_passes (λ r. nat_lt r 16) xs (λ i lt. lt-ltb _ _ (register_good s events xs i d c e lt).0))
-    (each_passes (λ r. is_some (palette_at (palette_left 16 events) r)) xs (λ i lt.
+    (each_passes (λ r. nat_lt r registers) xs (λ i lt. lt-ltb _ _ (register_good s events xs i d c e lt).0))
+    (each_passes (λ r. is_some (palette_at (palette_left registers events) r)) xs (λ i lt.
     let good = register_good s events xs i d c e lt in
     register_coloured n events (get_or xs i 0) a good.0 good.1))

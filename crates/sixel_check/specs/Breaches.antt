@@ -1,6 +1,6 @@
 -- The least broken rule of an event, as it is looked for.
 use Rattle.std.specs.Prelude.{◌==◌, ◌&&◌, ◌||◌, ◌<◌, ℕ, Bool, false, not, Option, Some, None, List, is_none, is_some}
-use Rattle.std.specs.Prelude.{suc, slice_index_or, if◌then◌else◌}
+use Rattle.std.specs.Prelude.{suc, length, slice_index_or, if◌then◌else◌}
 use Rattle.std.specs.Option.{option_map_or}
 use Rattle.sixel_grammar.specs.declared.command.Event.{Event}
 use Rattle.sixel_grammar.specs.declared.command.Event.TheVariants.{Step}
@@ -12,7 +12,6 @@ use Rattle.sixel_picture.specs.Events.{is_data_command, is_finish, is_painting, 
 use Rattle.sixel_picture.specs.Rules.{Breaks, breaks_box_size, breaks_colour_value, breaks_ratio, breaks_register}
 use Rattle.sixel_picture.specs.Rules.{breaks_repeat_zero}
 use Rattle.sixel_picture.specs.RuleNumbers.{last_rule}
-use Rattle.sixel_picture.specs.Pictures.{register_count}
 use Rattle.sixel_check.specs.declared.breach.Breach.{Breach}
 use Rattle.sixel_check.specs.declared.notes.Notes.{Notes}
 use Rattle.sixel_check.specs.declared.rule.Rule.{Rule}
@@ -54,7 +53,7 @@ rule_in n has_box e =
     else if raster_twice_in has_box e then Some RasterTwice
     else if breaks_ratio e then Some Ratio
     else if breaks_box_size e then Some BoxSize
-    else if breaks_register register_count e then Some Register
+    else if breaks_register (length n.palette) e then Some Register
     else if breaks_colour_value e then Some ColourValue
     else if breaks_repeat_zero e then Some RepeatZero
     else if unselected_in n e then Some Unselected
@@ -65,20 +64,20 @@ rule_in n has_box e =
 -- ---- what is found
 
 -- no rule of a smaller number is broken
-abbrev pub NoneBelow : ℕ → List Event → Event → Type 0
-NoneBelow n before e = (m : ℕ) → m < n → ¬ Breaks register_count m before e
+abbrev pub NoneBelow : ℕ → ℕ → List Event → Event → Type 0
+NoneBelow registers n before e = (m : ℕ) → m < n → ¬ Breaks registers m before e
 
 -- no rule is broken
-abbrev pub BreaksNoRule : List Event → Event → Type 0
-BreaksNoRule before e = NoneBelow (suc last_rule) before e
+abbrev pub BreaksNoRule : ℕ → List Event → Event → Type 0
+BreaksNoRule registers before e = NoneBelow registers (suc last_rule) before e
 
 -- the breach has the least rule that is broken, and its pixel
-pub record IsBreach (before : List Event) (e : Event) (b : Breach) : Type 0 where
-  pub broken : Breaks register_count (number_of b.rule) before e
-  pub none_smaller : NoneBelow (number_of b.rule) before e
+pub record IsBreach (registers : ℕ) (before : List Event) (e : Event) (b : Breach) : Type 0 where
+  pub broken : Breaks registers (number_of b.rule) before e
+  pub none_smaller : NoneBelow registers (number_of b.rule) before e
   pub pixel : IsPixel b.rule b.pixel before e
 
 -- the breach is that of the event, or there is none and no rule is broken
-abbrev pub IsBreachOf : List Event → Event → Option Breach → Type 0
-IsBreachOf before e None = BreaksNoRule before e
-IsBreachOf before e (Some b) = IsBreach before e b
+abbrev pub IsBreachOf : ℕ → List Event → Event → Option Breach → Type 0
+IsBreachOf registers before e None = BreaksNoRule registers before e
+IsBreachOf registers before e (Some b) = IsBreach registers before e b

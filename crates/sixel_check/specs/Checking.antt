@@ -11,7 +11,6 @@ use Rattle.sixel_grammar.specs.declared.command.Event.TheVariants.{Step}
 use Rattle.sixel_grammar.specs.declared.command.Placed.{Placed}
 use Rattle.sixel_grammar.specs.declared.fault.InputFault.{InputFault}
 use Rattle.sixel_grammar.specs.declared.reader.Reader.{Reader}
-use Rattle.sixel_picture.specs.Pictures.{register_count}
 use Rattle.sixel_check.specs.Growth.{GrowsFor, MayGrowAmong}
 use Rattle.sixel_check.specs.Portable.{IsShownEverywhere}
 use Rattle.sixel_check.specs.Standing.{CheckerValue, StandsAfter, expects}
@@ -20,17 +19,17 @@ use Rattle.sixel_check.specs.declared.verdict.Verdict.{Verdict}
 
 -- the bytes are a document, the verdict is that on its events, and a picture that it answers is portable; or a fault of
 -- the grammar is that of the bytes
-abbrev pub Answers : Result Verdict InputFault → List ℕ → Type 0
-Answers (Ok verdict) bytes =
-    (events : List Placed) × Document events bytes × IsVerdict register_count events verdict
-    × IsShownEverywhere register_count (events_of events) verdict
-Answers (Err fault) bytes = Explains fault bytes
+abbrev pub Answers : ℕ → Result Verdict InputFault → List ℕ → Type 0
+Answers registers (Ok verdict) bytes =
+    (events : List Placed) × Document events bytes × IsVerdict registers events verdict
+    × IsShownEverywhere registers (events_of events) verdict
+Answers registers (Err fault) bytes = Explains fault bytes
 
 -- the reader stands after these bytes, and the checker after the events that are complete in them
-pub record AreAfter (reader : Reader) (checker : CheckerValue) (bytes : List ℕ) : Type 0 where
+pub record AreAfter (registers : ℕ) (reader : Reader) (checker : CheckerValue) (bytes : List ℕ) : Type 0 where
   pub events : List Placed
   pub read : grammar.StandsAfter reader events bytes
-  pub checked : StandsAfter checker events
+  pub checked : StandsAfter registers checker events
 
 -- the event may come next, and is spellable
 abbrev pub MayCome : List Placed → Option Placed → Type 0
@@ -45,22 +44,25 @@ command_at place command = record { place = place; event = Step command }
 
 -- where the checker stood after some events, it stands after them and these
 abbrev pub TakesEvents : CheckerValue → CheckerValue → List Placed → Type 0
-TakesEvents old new more = (seen : List Placed) → StandsAfter old seen → StandsAfter new (seen ++ more)
+TakesEvents old new more =
+    (registers : ℕ) (seen : List Placed) → StandsAfter registers old seen → StandsAfter registers new (seen ++ more)
 
 -- where the checker stands after some events, memory may be taken among them and these
 abbrev pub MayGrowOver : CheckerValue → List Placed → Type 0
-MayGrowOver checker more = (seen : List Placed) → StandsAfter checker seen → MayGrowAmong (seen ++ more)
+MayGrowOver checker more =
+    (registers : ℕ) (seen : List Placed) → StandsAfter registers checker seen → MayGrowAmong registers (seen ++ more)
 
 -- where both stood after some bytes, they stand after them and these
 abbrev pub TakesBytes : Reader → CheckerValue → Reader → CheckerValue → List ℕ → Type 0
-TakesBytes reader checker r c more = (front : List ℕ) → AreAfter reader checker front → AreAfter r c (front ++ more)
+TakesBytes reader checker r c more =
+    (registers : ℕ) (front : List ℕ) → AreAfter registers reader checker front → AreAfter registers r c (front ++ more)
 
 -- where both stand after some bytes, the fault is one of whatever they and these begin
 abbrev pub RefusesBytes : Reader → CheckerValue → List ℕ → InputFault → Type 0
 RefusesBytes reader checker more fault =
-    (front : List ℕ) → AreAfter reader checker front → ExplainsAlways fault (front ++ more)
+    (registers : ℕ) (front : List ℕ) → AreAfter registers reader checker front → ExplainsAlways fault (front ++ more)
 
 -- where both stand after some bytes, want of memory is answered for them and these alone
 abbrev pub GrowsForBytes : Reader → CheckerValue → List ℕ → InputFault → Type 0
 GrowsForBytes reader checker more fault =
-    (front : List ℕ) → AreAfter reader checker front → GrowsFor fault (front ++ more)
+    (registers : ℕ) (front : List ℕ) → AreAfter registers reader checker front → GrowsFor registers fault (front ++ more)

@@ -10,29 +10,28 @@ use Rattle.sixel_picture.specs.Events.{raster_of}
 use Rattle.sixel_picture.specs.Positions.{HoldsAtPosition}
 use Rattle.sixel_picture.specs.Rules.{BreaksNone, raster_before}
 use Rattle.sixel_picture.specs.RuleNumbers.{last_rule}
-use Rattle.sixel_picture.specs.Pictures.{register_count}
 
 -- the event is the first raster attributes, and no rule is broken before it or by it
-pub record MayGrow (before : List Event) (e : Event) : Type 0 where
+pub record MayGrow (registers : ℕ) (before : List Event) (e : Event) : Type 0 where
   pub declares : IsSome (raster_of e)
   pub first : raster_before before ≡ None
-  pub unbroken : BreaksNone register_count last_rule (before ++ e ∷ [])
+  pub unbroken : BreaksNone registers last_rule (before ++ e ∷ [])
 
 -- such raster attributes are among the events
-abbrev pub MayGrowAmong : List Placed → Type 0
-MayGrowAmong placed = (i : ℕ) × HoldsAtPosition MayGrow (events_of placed) i
+abbrev pub MayGrowAmong : ℕ → List Placed → Type 0
+MayGrowAmong registers placed = (i : ℕ) × HoldsAtPosition (MayGrow registers) (events_of placed) i
 
 -- such raster attributes are complete in a front of the bytes with which some document begins, its limit aside
-pub record MayGrowIn (bytes : List ℕ) : Type 0 where
+pub record MayGrowIn (registers : ℕ) (bytes : List ℕ) : Type 0 where
   pub front : List ℕ
   pub rest : List ℕ
   pub bytes_are : bytes ≡ front ++ rest
   pub events : List Placed
   pub complete : CompleteIn events front
-  pub grows : MayGrowAmong events
+  pub grows : MayGrowAmong registers events
 
 -- want of memory is answered for such bytes alone
-abbrev pub GrowsFor : InputFault → List ℕ → Type 0
-GrowsFor (Grammar fault) bytes = Unit {0}
-GrowsFor OutOfMemory bytes = MayGrowIn bytes
-GrowsFor Read bytes = Unit {0}
+abbrev pub GrowsFor : ℕ → InputFault → List ℕ → Type 0
+GrowsFor registers (Grammar fault) bytes = Unit {0}
+GrowsFor registers OutOfMemory bytes = MayGrowIn registers bytes
+GrowsFor registers Read bytes = Unit {0}

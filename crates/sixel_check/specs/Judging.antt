@@ -1,12 +1,12 @@
 -- What a judge of events knows after those that it has seen, as long as no rule is broken.
-use Rattle.std.specs.Prelude.{◌≡◌, ◌<◌, ◌*◌, ℕ, false, Option, Some, None, IsTrue, IfSome, IsSome, List, length}
+use Rattle.std.specs.Prelude.{◌≡◌, ◌<◌, ◌≤◌, ◌*◌, ℕ, false, Option, Some, None, IsTrue, IfSome, IsSome, List, length}
 use Rattle.std.specs.Prelude.{is_some, slice_index_or}
 use Rattle.sixel_grammar.specs.declared.command.Event.{Event}
 use Rattle.sixel_grammar.specs.declared.command.Placed.{Placed}
 use Rattle.sixel_grammar.specs.Document.{events_of}
 use Rattle.sixel_picture.specs.Events.{Attributes, Definition, named_by, select_of}
 use Rattle.sixel_picture.specs.Geometry.{band, column}
-use Rattle.sixel_picture.specs.Pictures.{is_side, register_count}
+use Rattle.sixel_picture.specs.Pictures.{is_side}
 use Rattle.sixel_picture.specs.Positions.{latest}
 use Rattle.sixel_picture.specs.Rules.{BreaksNone, definition_of, gives_colour, is_covered, is_painted_in, palette_left}
 use Rattle.sixel_picture.specs.Rules.{raster_before, register_at}
@@ -40,35 +40,36 @@ abbrev pub IsSheetAfter : Option Sheet → List Event → Type 0
 IsSheetAfter None events = IsUndrawn events
 IsSheetAfter (Some s) events = IsDrawn s events
 
--- a definition of a register below 16 that gives a colour in range
-abbrev pub IsGood : ℕ → Definition → Type 0
-IsGood r d = (r < register_count) × IsTrue (gives_colour d)
+-- a definition of one of so many registers that gives a colour in range
+abbrev pub IsGood : ℕ → ℕ → Definition → Type 0
+IsGood registers r d = (r < registers) × IsTrue (gives_colour d)
 
--- the notes after these events, of which none breaks a rule
-pub record AreNotesAfter (notes : Notes) (events : List Event) : Type 0 where
+-- the notes after these events, of which none breaks a rule; there are so many registers, each of a byte
+pub record AreNotesAfter (registers : ℕ) (notes : Notes) (events : List Event) : Type 0 where
   pub column_is : notes.column ≡ capped (column 0 events)
   pub band_is : notes.band ≡ capped (band events)
   pub selected_is : notes.selected ≡ latest select_of events
-  pub selected_below : IfSome notes.selected (λ r. r < register_count)
+  pub selected_below : IfSome notes.selected (λ r. r < registers)
   pub named_is : notes.named ≡ latest named_by events
-  pub palette_is : notes.palette ≡ palette_left register_count events
-  pub in_range : (r : ℕ) → IfSome (definition_of events r) (IsGood r)
-  pub registers : length notes.painted ≡ register_count
-  pub painted_is : (r : ℕ) → r < register_count → slice_index_or notes.painted r false ≡ is_painted_in events r
+  pub palette_is : notes.palette ≡ palette_left registers events
+  pub in_range : (r : ℕ) → IfSome (definition_of events r) (IsGood registers r)
+  pub bytes : registers ≤ 256
+  pub marks : length notes.painted ≡ 256
+  pub painted_is : (r : ℕ) → r < registers → slice_index_or notes.painted r false ≡ is_painted_in events r
 
--- each register in which a pixel was painted last is one of the 16, and has a definition
-abbrev pub AreColoured : List Event → Type 0
-AreColoured events = (x y r : ℕ) → register_at events x y ≡ Some r
-    → (r < register_count) × IsSome (definition_of events r)
+-- each register in which a pixel was painted last is one of so many, and has a definition
+abbrev pub AreColoured : ℕ → List Event → Type 0
+AreColoured registers events = (x y r : ℕ) → register_at events x y ≡ Some r
+    → (r < registers) × IsSome (definition_of events r)
 
 -- no rule is broken, and the notes and the sheet are those after the events
-pub record StandsUnbroken (notes : Notes) (sheet : Option Sheet) (events : List Event) : Type 0 where
-  pub unbroken : BreaksNone register_count last_rule events
-  pub notes_are : AreNotesAfter notes events
+pub record StandsUnbroken (registers : ℕ) (notes : Notes) (sheet : Option Sheet) (events : List Event) : Type 0 where
+  pub unbroken : BreaksNone registers last_rule events
+  pub notes_are : AreNotesAfter registers notes events
   pub sheet_is : IsSheetAfter sheet events
-  pub coloured : AreColoured events
+  pub coloured : AreColoured registers events
 
 -- the finding is the first broken rule; or there is none, and no rule is broken
-abbrev pub JudgesAfter : Option Finding → Notes → Option Sheet → List Placed → Type 0
-JudgesAfter None notes sheet placed = StandsUnbroken notes sheet (events_of placed)
-JudgesAfter (Some finding) notes sheet placed = (i : ℕ) × IsFinding register_count placed finding i
+abbrev pub JudgesAfter : ℕ → Option Finding → Notes → Option Sheet → List Placed → Type 0
+JudgesAfter registers None notes sheet placed = StandsUnbroken registers notes sheet (events_of placed)
+JudgesAfter registers (Some finding) notes sheet placed = (i : ℕ) × IsFinding registers placed finding i

@@ -8,7 +8,7 @@ use Rattle.sixel_grammar.specs.Document.{AreWhole, events_of}
 use Rattle.sixel_grammar.specs.Fronts.{CompleteIn}
 use Rattle.sixel_picture.specs.Colours.{palette_at}
 use Rattle.sixel_picture.specs.Events.{Attributes, is_data_command, is_in_box, is_painting, raster_of}
-use Rattle.sixel_picture.specs.Pictures.{PictureValue, register_count}
+use Rattle.sixel_picture.specs.Pictures.{PictureValue}
 use Rattle.sixel_picture.specs.Rules.{BreaksNone, is_covered, known, picture_left, raster_before}
 use Rattle.sixel_picture.specs.RuleNumbers.{last_rule}
 use Rattle.sixel_terminal.specs.Displays.{Display, registers_of}
@@ -73,10 +73,10 @@ OneVerdict registers =
     (placed : List Placed) (v w : Verdict) → IsVerdict registers placed v → IsVerdict registers placed w → v ≡ w
 
 -- where memory may be taken at an event that is complete in a front of the bytes, it may be at one in each longer front
-abbrev pub GrowthStays : Type 0
-GrowthStays =
+abbrev pub GrowthStays : ℕ → Type 0
+GrowthStays registers =
     (front rest : List ℕ) (first second : List Placed) → CompleteIn first front → CompleteIn second (front ++ rest)
-    → MayGrowAmong first → MayGrowAmong second
+    → MayGrowAmong registers first → MayGrowAmong registers second
 
 -- a box of one pixel, painted in a register that is defined and selected
 abbrev pub one_pixel : List Event
@@ -85,5 +85,5 @@ one_pixel =
     ∷ Step (Sixel 1) ∷ Finish false ∷ []
 
 -- it is a whole list, and breaks no rule: the laws on such lists speak of some
-abbrev pub OnePixelBreaksNone : Type 0
-OnePixelBreaksNone = AreWhole one_pixel × BreaksNone register_count last_rule one_pixel
+abbrev pub OnePixelBreaksNone : ℕ → Type 0
+OnePixelBreaksNone registers = AreWhole one_pixel × BreaksNone registers last_rule one_pixel

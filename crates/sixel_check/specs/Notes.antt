@@ -1,5 +1,5 @@
 -- What one event that breaks no rule does to the notes.
-use Rattle.std.specs.Prelude.{◌+◌, ◌<◌, ℕ, Bool, true, Option, Some, None, List, IfSome, nat_lt, slice_set}
+use Rattle.std.specs.Prelude.{◌+◌, ◌<◌, ◌≤◌, ℕ, Bool, true, Option, Some, None, List, IfSome, length, nat_lt, slice_set}
 use Rattle.std.specs.Prelude.{if◌then◌else◌}
 use Rattle.std.specs.Option.{option_and_then, option_map_or, option_or}
 use Rattle.sixel_grammar.specs.declared.command.Event.{Event}
@@ -9,7 +9,6 @@ use Rattle.sixel_picture.specs.declared.colour.Parts.{Parts}
 use Rattle.sixel_picture.specs.Colours.{colour_in, is_colour}
 use Rattle.sixel_picture.specs.Events.{columns_of, is_next_line, is_painting, is_return, named_by, select_of}
 use Rattle.sixel_picture.specs.Rules.{known_by}
-use Rattle.sixel_picture.specs.Pictures.{register_count}
 use Rattle.sixel_check.specs.declared.notes.Notes.{Notes}
 use Rattle.sixel_check.specs.Verdicts.{capped}
 
@@ -17,9 +16,9 @@ use Rattle.sixel_check.specs.Verdicts.{capped}
 abbrev pub colour_within : ℕ → ℕ → ℕ → ℕ → Option Parts
 colour_within system x y z = option_and_then (λ c. if is_colour c then Some c else None) (colour_in system x y z)
 
--- the selected register is one of the 16
+-- the selected register is one of the palette's, which are registers of a byte
 abbrev pub IsBelow : Notes → Type 0
-IsBelow n = IfSome n.selected (λ r. r < register_count)
+IsBelow n = IfSome n.selected (λ r. r < length n.palette) × (length n.palette ≤ 256)
 
 abbrev pub known_in : Notes → Option ℕ
 known_in n = known_by n.selected n.named
@@ -38,7 +37,7 @@ next_named n e = option_or (named_by e) n.named
 
 abbrev pub next_palette : Notes → Event → List (Option Parts)
 next_palette n (Step (Define register system x y z)) =
-    if nat_lt register register_count
+    if nat_lt register (length n.palette)
     then option_map_or (λ c. slice_set n.palette register (Some c)) (colour_within system x y z) n.palette
     else n.palette
 next_palette n _ = n.palette

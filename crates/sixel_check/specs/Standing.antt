@@ -1,5 +1,5 @@
 -- The events that a checker has seen.
-use Rattle.std.specs.Prelude.{◌≡◌, ◌&&◌, Bool, true, false, not, Option, List, [], ◌∷◌, if◌then◌else◌}
+use Rattle.std.specs.Prelude.{◌≡◌, ℕ, ◌&&◌, Bool, true, false, not, Option, List, [], ◌∷◌, if◌then◌else◌}
 use Rattle.std.specs.List.{AllByRecursion, list_any}
 use Rattle.sixel_grammar.specs.declared.command.Event.{Event}
 use Rattle.sixel_grammar.specs.declared.command.Event.TheVariants.{Start}
@@ -55,8 +55,8 @@ pub record CheckerValue : Type 0 where
   pub sheet : Option Sheet
   pub progress : Progress
 
--- the checker has seen these events, in order: none, or a start and commands, or a start, commands and a finish
-unfoldable pub StandsAfter : CheckerValue → List Placed → Type 0
-StandsAfter checker seen =
-    JudgesAfter checker.finding checker.notes checker.sheet seen × (checker.progress ≡ progress_of seen)
+-- the checker, which judges by so many registers, has seen these events, in order: none, or a start and commands, or a start, commands and a finish
+unfoldable pub StandsAfter : ℕ → CheckerValue → List Placed → Type 0
+StandsAfter registers checker seen =
+    JudgesAfter registers checker.finding checker.notes checker.sheet seen × (checker.progress ≡ progress_of seen)
     × AreFront (events_of seen) × AllByRecursion IsSpellable (events_of seen)

@@ -1,10 +1,10 @@
 //! Checking events as they come.
 
-ghost use Rattle.std.specs.Prelude.{◌≡◌, ◌++◌, ◌∷◌, [], List, IfOk, IsOk, IsTrue, OnErr, OnOk};
+ghost use Rattle.std.specs.Prelude.{◌≡◌, ◌++◌, ◌∷◌, [], ℕ, List, IfOk, IsOk, IsTrue, OnErr, OnOk};
 ghost use Rattle.sixel_grammar.specs.Document.{events_of};
 ghost use Rattle.sixel_grammar.specs.declared.command.Placed.{Placed as PlacedValue};
 ghost use Rattle.sixel_grammar.specs.Spelling.{IsSpellable};
-ghost use Rattle.sixel_picture.specs.Pictures.{register_count};
+ghost use Rattle.sixel_picture.specs.Profiles.{count_of};
 ghost use Rattle.sixel_check.specs.Growth.{MayGrow};
 ghost use Rattle.sixel_check.specs.Portable.{IsShownEverywhere};
 ghost use Rattle.sixel_check.specs.Standing.{StandsAfter, expects, is_whole};
@@ -14,7 +14,7 @@ use crate::judge::Judge;
 use crate::progress::Progress;
 use crate::verdict::Verdict;
 use sixel_grammar::{Event, Placed};
-use sixel_picture::Plane;
+use sixel_picture::{Plane, Profile};
 use std::alloc::{AllocError, Global};
 use std::marker::Model;
 
@@ -43,27 +43,28 @@ impl<P: Plane> Model for Checker<P> {
 }
 
 impl<P: Plane> Checker<P> {
-    /// A checker that has seen no event. It takes no memory; `push` takes it from `alloc`, for the pixels of the box.
-    pub fn new(alloc: Global) -> Checker<P>
-        ensures { StandsAfter result [] }
+    /// A checker that has seen no event, and judges by the registers of the profile. It takes no memory; `push` takes it
+    /// from `alloc`, for the pixels of the box.
+    pub fn new(alloc: Global, profile: Profile) -> Checker<P>
+        ensures { StandsAfter (count_of profile) result [] }
     {
         Checker {
             alloc,
-            judge: Judge::new(),
+            judge: Judge::new(profile),
             progress: Progress::Fresh,
         }
     }
 
     /// Whether the event may come next: a start first, then commands, then one finish, and then nothing.
     pub fn expects(&self, event: &Event) -> bool
-        ensures { (seen : List PlacedValue) → StandsAfter self.now seen → result ≡ expects seen event.now }
+        ensures { (registers : ℕ) (seen : List PlacedValue) → StandsAfter registers self.now seen → result ≡ expects seen event.now }
     {
         self.progress.expects(event)
     }
 
     /// Whether the finish came.
     pub fn is_whole(&self) -> bool
-        ensures { (seen : List PlacedValue) → StandsAfter self.now seen → result ≡ is_whole seen }
+        ensures { (registers : ℕ) (seen : List PlacedValue) → StandsAfter registers self.now seen → result ≡ is_whole seen }
     {
         self.progress.is_whole()
     }
@@ -73,14 +74,14 @@ impl<P: Plane> Checker<P> {
     /// `AllocError` is answered only where a growth was refused, and then nothing has changed.
     #[inline(always)]
     pub fn push(&mut self, placed: &Placed) -> Result<(), AllocError>
-        requires expected { (seen : List PlacedValue) × StandsAfter self.old seen
+        requires expected { (registers : ℕ) × (seen : List PlacedValue) × StandsAfter registers self.old seen
             × IsTrue (expects seen placed.now.event) }
         requires spellable { IsSpellable placed.now.event }
-        ensures ok { OnOk result ((seen : List PlacedValue) → StandsAfter self.old seen
-            → StandsAfter self.new (seen ++ placed.now ∷ [])) }
+        ensures ok { OnOk result ((registers : ℕ) (seen : List PlacedValue) → StandsAfter registers self.old seen
+            → StandsAfter registers self.new (seen ++ placed.now ∷ [])) }
         ensures err { OnErr result (self.new ≡ self.old) }
-        ensures grows { OnErr result ((seen : List PlacedValue) → StandsAfter self.old seen
-            → MayGrow (events_of seen) placed.now.event) }
+        ensures grows { OnErr result ((registers : ℕ) (seen : List PlacedValue) → StandsAfter registers self.old seen
+            → MayGrow registers (events_of seen) placed.now.event) }
     {
         self.judge.step(self.alloc, placed)?;
         self.progress = Progress::with(&placed.event);
@@ -89,11 +90,11 @@ impl<P: Plane> Checker<P> {
 
     /// The verdict on the whole list. It takes no memory, and is always `Ok`.
     pub fn finish(self) -> Result<Verdict, AllocError>
-        requires whole { (seen : List PlacedValue) × StandsAfter self seen × IsTrue (is_whole seen) }
-        ensures verdict { IfOk result (λ verdict. (seen : List PlacedValue) → StandsAfter self seen
-            → IsVerdict register_count seen verdict) }
-        ensures everywhere { IfOk result (λ verdict. (seen : List PlacedValue) → StandsAfter self seen
-            → IsShownEverywhere register_count (events_of seen) verdict) }
+        requires whole { (registers : ℕ) × (seen : List PlacedValue) × StandsAfter registers self seen × IsTrue (is_whole seen) }
+        ensures verdict { IfOk result (λ verdict. (registers : ℕ) (seen : List PlacedValue) → StandsAfter registers self seen
+            → IsVerdict registers seen verdict) }
+        ensures everywhere { IfOk result (λ verdict. (registers : ℕ) (seen : List PlacedValue) → StandsAfter registers self seen
+            → IsShownEverywhere registers (events_of seen) verdict) }
         ensures always { IsOk result }
     {
         Ok(self.judge.verdict())

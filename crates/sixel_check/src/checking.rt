@@ -6,6 +6,7 @@ ghost use Rattle.sixel_grammar.specs.Reading.{NoFaultBefore, failures_after};
 ghost use Rattle.sixel_grammar.specs.declared.fault.InputFault.TheVariants.{Read as ReadFault};
 ghost use Rattle.sixel_grammar.specs.Standing.{completions};
 ghost use Rattle.sixel_grammar.specs.declared.command.Placed.{Placed as PlacedValue};
+ghost use Rattle.sixel_picture.specs.Profiles.{count_of};
 ghost use Rattle.sixel_check.specs.Growth.{MayGrowIn};
 ghost use Rattle.sixel_check.specs.Checking.{Answers, AreAfter, GrowsForBytes, MayCome, MayComplete, MayGrowOver};
 ghost use Rattle.sixel_check.specs.Checking.{RefusesBytes, TakesBytes, TakesEvents, command_at};
@@ -14,12 +15,12 @@ ghost use Rattle.sixel_check.specs.Standing.{StandsAfter};
 use crate::checker::Checker;
 use crate::verdict::Verdict;
 use sixel_grammar::{Command, Completed, Event, InputFault, PIECE, Placed, Plain, Reader, Source};
-use sixel_picture::{BandPlane, Plane};
+use sixel_picture::{BandPlane, Plane, Profile};
 use std::alloc::{AllocError, Global};
 
 /// Pushes an event, if there is one.
 fn keep_one<P: Plane>(checker: &mut Checker<P>, placed: Option<Placed>) -> Result<(), AllocError>
-    requires { (seen : List PlacedValue) × StandsAfter checker.old seen × MayCome seen placed }
+    requires { (registers : ℕ) × (seen : List PlacedValue) × StandsAfter registers checker.old seen × MayCome seen placed }
     ensures kept { OnOk result (TakesEvents checker.old checker.new (option_to_list placed)) }
     ensures grows { OnErr result (MayGrowOver checker.old (option_to_list placed)) }
 {
@@ -31,7 +32,7 @@ fn keep_one<P: Plane>(checker: &mut Checker<P>, placed: Option<Placed>) -> Resul
 
 /// Pushes the events that a byte completed.
 fn keep<P: Plane>(checker: &mut Checker<P>, completed: Completed) -> Result<(), AllocError>
-    requires { (seen : List PlacedValue) × StandsAfter checker.old seen × MayComplete seen completed }
+    requires { (registers : ℕ) × (seen : List PlacedValue) × StandsAfter registers checker.old seen × MayComplete seen completed }
     ensures kept { OnOk result (TakesEvents checker.old checker.new (completions completed)) }
     ensures grows { OnErr result (MayGrowOver checker.old (completions completed)) }
 {
@@ -47,7 +48,7 @@ fn push_command<P: Plane>(
     place: u64,
     command: Command,
 ) -> Result<(), AllocError>
-    requires { (seen : List PlacedValue) × StandsAfter checker.old seen
+    requires { (registers : ℕ) × (seen : List PlacedValue) × StandsAfter registers checker.old seen
         × MayCome seen (Some (command_at place command)) }
     ensures kept { OnOk result (TakesEvents checker.old checker.new (command_at place command ∷ [])) }
     ensures grows { OnErr result (MayGrowOver checker.old (command_at place command ∷ [])) }
@@ -63,7 +64,7 @@ fn keep_command<P: Plane>(
     place: u64,
     command: Command,
 ) -> Result<(), AllocError>
-    requires { (seen : List PlacedValue) × StandsAfter checker.old seen
+    requires { (registers : ℕ) × (seen : List PlacedValue) × StandsAfter registers checker.old seen
         × MayCome seen (Some (command_at place command)) }
     ensures kept { OnOk result (TakesEvents checker.old checker.new (command_at place command ∷ [])) }
     ensures grows { OnErr result (MayGrowOver checker.old (command_at place command ∷ [])) }
@@ -90,7 +91,7 @@ fn read_byte<P: Plane>(
     checker: &mut Checker<P>,
     byte: u8,
 ) -> Result<(), InputFault>
-    requires { (front : List ℕ) × AreAfter reader.old checker.old front }
+    requires { (registers : ℕ) × (front : List ℕ) × AreAfter registers reader.old checker.old front }
     ensures read { OnOk result (TakesBytes reader.old checker.old reader.new checker.new (byte ∷ [])) }
     ensures refused { IfErr result (RefusesBytes reader.old checker.old (byte ∷ [])) }
     ensures memory { IfErr result (GrowsForBytes reader.old checker.old (byte ∷ [])) }
@@ -109,7 +110,7 @@ fn read_slowly<P: Plane>(
     checker: &mut Checker<P>,
     byte: u8,
 ) -> Result<(), InputFault>
-    requires { (front : List ℕ) × AreAfter reader.old checker.old front }
+    requires { (registers : ℕ) × (front : List ℕ) × AreAfter registers reader.old checker.old front }
     ensures read { OnOk result (TakesBytes reader.old checker.old reader.new checker.new (byte ∷ [])) }
     ensures refused { IfErr result (RefusesBytes reader.old checker.old (byte ∷ [])) }
     ensures memory { IfErr result (GrowsForBytes reader.old checker.old (byte ∷ [])) }
@@ -124,7 +125,7 @@ fn read_piece<P: Plane>(
     checker: &mut Checker<P>,
     piece: &[u8],
 ) -> Result<(), InputFault>
-    requires { (front : List ℕ) × AreAfter reader.old checker.old front }
+    requires { (registers : ℕ) × (front : List ℕ) × AreAfter registers reader.old checker.old front }
     ensures read { OnOk result (TakesBytes reader.old checker.old reader.new checker.new piece.now) }
     ensures refused { IfErr result (RefusesBytes reader.old checker.old piece.now) }
     ensures memory { IfErr result (GrowsForBytes reader.old checker.old piece.now) }
@@ -136,16 +137,17 @@ fn read_piece<P: Plane>(
 }
 
 /// A reader and a checker before any byte.
-fn nothing_read(alloc: Global) -> (Reader, Checker<BandPlane>)
-    ensures { AreAfter result.0 result.1 [] }
+fn nothing_read(alloc: Global, profile: Profile) -> (Reader, Checker<BandPlane>)
+    ensures { AreAfter (count_of profile) result.0 result.1 [] }
 {
-    (Reader::new(), Checker::new(alloc))
+    (Reader::new(), Checker::new(alloc, profile))
 }
 
 /// The answer at the end of the bytes.
 fn conclude<P: Plane>(reader: &Reader, checker: Checker<P>) -> Result<Verdict, InputFault>
-    requires { (front : List ℕ) × AreAfter reader.now checker front }
-    ensures answer { (front : List ℕ) → AreAfter reader.now checker front → Answers result front }
+    requires { (registers : ℕ) × (front : List ℕ) × AreAfter registers reader.now checker front }
+    ensures answer { (registers : ℕ) (front : List ℕ) → AreAfter registers reader.now checker front
+        → Answers registers result front }
     ensures never_read { result ≢ Err InputFault.Read }
     ensures memory { result ≢ Err InputFault.OutOfMemory }
 {
@@ -153,21 +155,26 @@ fn conclude<P: Plane>(reader: &Reader, checker: Checker<P>) -> Result<Verdict, I
     Ok(checker.finish()?)
 }
 
-/// The verdict on the document that the source gives.
+/// The verdict on the document that the source gives, by the registers of the profile. A picture that it answers is of
+/// the profile.
 ///
 /// Whatever is met first in one pass over its bytes is answered: a fault of the grammar, a failure of the source, or a
 /// growth that was refused. Only a whole document has a verdict. The source isn't read after a fault or its end.
 ///
 /// Nothing of the input is kept. Memory is taken once, for the pixels of the box, when its raster attributes are
 /// complete.
-pub fn check<S: Source>(alloc: Global, input: &mut S) -> Result<Verdict, InputFault>
-    ensures answer { IfSome (S.remaining input.old) (Answers result) }
+pub fn check<S: Source>(
+    alloc: Global,
+    profile: Profile,
+    input: &mut S,
+) -> Result<Verdict, InputFault>
+    ensures answer { IfSome (S.remaining input.old) (Answers (count_of profile) result) }
     ensures failures { S.failure_count input.new ≡ failures_after result (S.failure_count input.old) }
     ensures unread { result ≡ Err ReadFault → IfSome (S.remaining input.old) (NoFaultBefore (S.remaining input.new)) }
-    ensures memory { IfSome (S.remaining input.old) (λ bytes. result ≡ Err InputFault.OutOfMemory → MayGrowIn bytes) }
+    ensures memory { IfSome (S.remaining input.old) (λ bytes. result ≡ Err InputFault.OutOfMemory → MayGrowIn (count_of profile) bytes) }
 {
     let mut piece = [0u8; PIECE];
-    let (mut reader, mut checker) = nothing_read(alloc);
+    let (mut reader, mut checker) = nothing_read(alloc, profile);
     loop {
         let count = input.fill(&mut piece)?;
         if count == 0 {
@@ -177,14 +184,14 @@ pub fn check<S: Source>(alloc: Global, input: &mut S) -> Result<Verdict, InputFa
     }
 }
 
-/// The verdict on a document; else its fault, or `OutOfMemory` where a growth was refused before the fault was met.
+/// The verdict on a document, by the registers of the profile; else its fault, or `OutOfMemory` where a growth was refused before the fault was met.
 /// Memory is taken as by `check`.
-pub fn check_bytes(alloc: Global, bytes: &[u8]) -> Result<Verdict, InputFault>
-    ensures answer { Answers result bytes.now }
+pub fn check_bytes(alloc: Global, profile: Profile, bytes: &[u8]) -> Result<Verdict, InputFault>
+    ensures answer { Answers (count_of profile) result bytes.now }
     ensures never_read { IfErr result (λ fault. fault ≡ InputFault.Read → ⊥) }
-    ensures memory { result ≡ Err InputFault.OutOfMemory → MayGrowIn bytes.now }
+    ensures memory { result ≡ Err InputFault.OutOfMemory → MayGrowIn (count_of profile) bytes.now }
 {
-    let (mut reader, mut checker) = nothing_read(alloc);
+    let (mut reader, mut checker) = nothing_read(alloc, profile);
     read_piece(&mut reader, &mut checker, bytes)?;
     conclude(&reader, checker)
 }

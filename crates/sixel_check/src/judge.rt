@@ -1,11 +1,11 @@
 //! Judging events one by one.
 
-ghost use Rattle.std.specs.Prelude.{◌≡◌, ◌++◌, ◌∷◌, [], List, OnOk, OnErr};
+ghost use Rattle.std.specs.Prelude.{◌≡◌, ◌++◌, ◌∷◌, [], ℕ, List, OnOk, OnErr};
 ghost use Rattle.std.specs.Option.{option_map};
 ghost use Rattle.sixel_grammar.specs.declared.command.Placed.{Placed as PlacedValue};
 ghost use Rattle.sixel_grammar.specs.Document.{AreWhole, events_of};
 ghost use Rattle.sixel_grammar.specs.Spelling.{IsSpellable};
-ghost use Rattle.sixel_picture.specs.Pictures.{register_count};
+ghost use Rattle.sixel_picture.specs.Profiles.{count_of};
 ghost use Rattle.sixel_check.specs.Growth.{MayGrow};
 ghost use Rattle.sixel_check.specs.Judging.{JudgesAfter};
 ghost use Rattle.sixel_check.specs.Verdicts.{IsVerdict};
@@ -14,7 +14,7 @@ use crate::notes::Notes;
 use crate::pixels::{breach_of, draw, picture_of};
 use crate::verdict::{Finding, Verdict};
 use sixel_grammar::Placed;
-use sixel_picture::Plane;
+use sixel_picture::{Plane, Profile};
 use std::alloc::{AllocError, Global};
 
 /// What stands after some events: the first broken rule; or, as long as none is broken, what the rules ask of them.
@@ -28,12 +28,12 @@ pub(crate) struct Judge<P: Plane> {
 
 impl<P: Plane> Judge<P> {
     /// What stands before any event.
-    pub(crate) fn new() -> Judge<P>
-        ensures { JudgesAfter result.finding result.notes (option_map P.sheet result.plane) [] }
+    pub(crate) fn new(profile: Profile) -> Judge<P>
+        ensures { JudgesAfter (count_of profile) result.finding result.notes (option_map P.sheet result.plane) [] }
     {
         Judge {
             finding: None,
-            notes: Notes::new(),
+            notes: Notes::new(profile),
             plane: None,
         }
     }
@@ -43,17 +43,17 @@ impl<P: Plane> Judge<P> {
     /// What it calls is inlined with it, so that where the kind of the event is known nothing is left of the other kinds.
     #[inline(always)]
     pub(crate) fn step(&mut self, alloc: Global, placed: &Placed) -> Result<(), AllocError>
-        requires stands { (seen : List PlacedValue)
-            × JudgesAfter self.old.finding self.old.notes (option_map P.sheet self.old.plane) seen }
+        requires stands { (registers : ℕ) × (seen : List PlacedValue)
+            × JudgesAfter registers self.old.finding self.old.notes (option_map P.sheet self.old.plane) seen }
         requires spellable { IsSpellable placed.now.event }
-        ensures ok { OnOk result ((seen : List PlacedValue)
-            → JudgesAfter self.old.finding self.old.notes (option_map P.sheet self.old.plane) seen
-            → JudgesAfter self.new.finding self.new.notes (option_map P.sheet self.new.plane)
+        ensures ok { OnOk result ((registers : ℕ) (seen : List PlacedValue)
+            → JudgesAfter registers self.old.finding self.old.notes (option_map P.sheet self.old.plane) seen
+            → JudgesAfter registers self.new.finding self.new.notes (option_map P.sheet self.new.plane)
             (seen ++ placed.now ∷ [])) }
         ensures err { OnErr result (self.new ≡ self.old) }
-        ensures grows { OnErr result ((seen : List PlacedValue)
-            → JudgesAfter self.old.finding self.old.notes (option_map P.sheet self.old.plane) seen
-            → MayGrow (events_of seen) placed.now.event) }
+        ensures grows { OnErr result ((registers : ℕ) (seen : List PlacedValue)
+            → JudgesAfter registers self.old.finding self.old.notes (option_map P.sheet self.old.plane) seen
+            → MayGrow registers (events_of seen) placed.now.event) }
     {
         if self.finding.is_some() {
             return Ok(());
@@ -76,10 +76,10 @@ impl<P: Plane> Judge<P> {
 
     /// The verdict on a whole list.
     pub(crate) fn verdict(self) -> Verdict
-        requires { (seen : List PlacedValue) × JudgesAfter self.finding self.notes (option_map P.sheet self.plane) seen
+        requires { (registers : ℕ) × (seen : List PlacedValue) × JudgesAfter registers self.finding self.notes (option_map P.sheet self.plane) seen
             × AreWhole (events_of seen) }
-        ensures { (seen : List PlacedValue) → JudgesAfter self.finding self.notes (option_map P.sheet self.plane) seen
-            → IsVerdict register_count seen result }
+        ensures { (registers : ℕ) (seen : List PlacedValue) → JudgesAfter registers self.finding self.notes (option_map P.sheet self.plane) seen
+            → IsVerdict registers seen result }
     {
         let Judge {
             finding,
@@ -88,7 +88,7 @@ impl<P: Plane> Judge<P> {
         } = self;
         match (finding, plane) {
             (Some(finding), _) => Verdict::Broken(finding),
-            (None, Some(plane)) => Verdict::Portable(picture_of(&notes, plane)),
+            (None, Some(plane)) => Verdict::Portable(picture_of(notes, plane)),
             (None, None) => unreachable!(),
         }
     }

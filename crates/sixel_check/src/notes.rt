@@ -1,17 +1,17 @@
 //! What a judge remembers of the events, but the pixels.
 
-ghost use Rattle.std.specs.Prelude.{◌≡◌, ◌<◌, ◌++◌, ◌∷◌, [], List, IfSome, replicate, None, false};
+ghost use Rattle.std.specs.Prelude.{◌≡◌, ◌<◌, ◌++◌, ◌∷◌, [], ℕ, List, IfSome, length, replicate, None, false};
 ghost use Rattle.sixel_grammar.specs.declared.command.Event.{Event as EventValue};
-ghost use Rattle.sixel_picture.specs.Pictures.{register_count};
+ghost use Rattle.sixel_picture.specs.Profiles.{count_of};
 ghost use Rattle.sixel_check.specs.Breaches.{NoneBelow};
 
 use crate::colours::colour_in;
 use crate::events::{columns_of, is_next_line, is_painting, is_return, named_by, select_of};
 use sixel_grammar::{Command, Event};
-use sixel_picture::{Palette, REGISTERS};
+use sixel_picture::{MOST_REGISTERS, Palette, Profile};
 
 /// What the rules ask of the events before, but the pixels, as long as no rule is broken.
-#[derive(Clone, Copy, Debug)]
+#[derive(Debug, Drop)]
 pub(crate) struct Notes {
     /// The sum of the widths since the last return. It stops at `u64::MAX`.
     pub column: u64,
@@ -23,8 +23,8 @@ pub(crate) struct Notes {
     pub named: Option<u16>,
     /// The last colour of each register.
     pub palette: Palette,
-    /// For each register whether a command painted in it.
-    pub painted: [bool; REGISTERS],
+    /// For each register of a byte whether a command painted in it.
+    pub painted: [bool; MOST_REGISTERS],
 }
 
 impl Notes {
@@ -33,16 +33,16 @@ impl Notes {
     ghost use Rattle.sixel_check.specs.Notes.{next_palette, next_selected};
 
     /// What stands before any event.
-    pub(crate) fn new() -> Notes
-        ensures { AreNotesAfter result [] }
+    pub(crate) fn new(profile: Profile) -> Notes
+        ensures { AreNotesAfter (count_of profile) result [] }
     {
         Notes {
             column: 0,
             band: 0,
             selected: None,
             named: None,
-            palette: Palette::new(),
-            painted: [false; REGISTERS],
+            palette: Palette::new(profile),
+            painted: [false; MOST_REGISTERS],
         }
     }
 
@@ -51,7 +51,7 @@ impl Notes {
     pub(crate) fn known(&self) -> Option<u8>
         requires { IsBelow self.now }
         ensures value { result ≡ known_in self.now }
-        ensures below { IfSome result (λ r. r < register_count) }
+        ensures below { IfSome result (λ r. r < length self.now.palette) }
     {
         match (self.selected, self.named) {
             (Some(selected), Some(named)) if named == selected => Some(selected as u8),
@@ -115,7 +115,7 @@ impl Notes {
                 z,
             },
         ) = event
-            && (*register as usize) < REGISTERS
+            && *register < self.palette.profile().count()
             && let Some(colour) = colour_in(*system, *x, *y, *z)
         {
             self.palette.set(*register as u8, colour);
@@ -145,8 +145,8 @@ impl Notes {
     #[inline(always)]
     pub(crate) fn take(&mut self, event: &Event)
         requires { IsBelow self.old }
-        ensures { (before : List EventValue) → AreNotesAfter self.old before → NoneBelow 13 before event.now
-            → AreNotesAfter self.new (before ++ event.now ∷ []) }
+        ensures { (registers : ℕ) (before : List EventValue) → AreNotesAfter registers self.old before
+            → NoneBelow registers 13 before event.now → AreNotesAfter registers self.new (before ++ event.now ∷ []) }
     {
         self.mark(event);
         self.move_on(event);

@@ -8,7 +8,6 @@ ghost use Rattle.sixel_grammar.specs.Spelling.{IsSpellable};
 ghost use Rattle.sixel_picture.specs.Events.{raster_of};
 ghost use Rattle.sixel_picture.specs.Rules.{FallsOutside, StaysBlank, palette_left, picture_left};
 ghost use Rattle.sixel_picture.specs.Sheets.{IsFull};
-ghost use Rattle.sixel_picture.specs.Pictures.{register_count};
 ghost use Rattle.sixel_check.specs.Breaches.{IsBreachOf, NoneBelow};
 ghost use Rattle.sixel_check.specs.Judging.{AreNotesAfter, IsDrawn, IsSheetAfter, IsUndrawn, StandsUnbroken, box_of};
 ghost use Rattle.sixel_check.specs.Outside.{IsFirstIfAny};
@@ -27,7 +26,7 @@ use std::alloc::{AllocError, Global};
 /// The first pixel outside the box that the event paints.
 #[inline(always)]
 fn pixel_outside<P: Plane>(notes: &Notes, plane: &P, event: &Event) -> Option<(u64, u64)>
-    ensures { (before : List EventValue) → AreNotesAfter notes.now before
+    ensures { (registers : ℕ) (before : List EventValue) → AreNotesAfter registers notes.now before
         → IsFirstIfAny (FallsOutside before event.now (box_of (P.sheet plane.now))) result }
 {
     outside_pixel(
@@ -53,8 +52,8 @@ fn pixel_blank<P: Plane>(plane: &P) -> Option<(u64, u64)>
 
 /// The breach of an end that leaves a pixel of the box blank.
 fn breach_of_end<P: Plane>(plane: &P, event: &Event) -> Option<Breach>
-    ensures { (before : List EventValue) → IsDrawn (P.sheet plane.now) before → NoneBelow 12 before event.now
-        → IsBreachOf before event.now result }
+    ensures { (registers : ℕ) (before : List EventValue) → IsDrawn (P.sheet plane.now) before
+        → NoneBelow registers 12 before event.now → IsBreachOf registers before event.now result }
 {
     if !is_finish(event) {
         return None;
@@ -71,8 +70,8 @@ fn breach_of_end<P: Plane>(plane: &P, event: &Event) -> Option<Breach>
 /// The breach of one of the rules that look at pixels.
 #[inline(always)]
 fn breach_of_pixels<P: Plane>(notes: &Notes, plane: &P, event: &Event) -> Option<Breach>
-    ensures { (before : List EventValue) → AreNotesAfter notes.now before → IsDrawn (P.sheet plane.now) before
-        → NoneBelow 11 before event.now → IsBreachOf before event.now result }
+    ensures { (registers : ℕ) (before : List EventValue) → AreNotesAfter registers notes.now before → IsDrawn (P.sheet plane.now) before
+        → NoneBelow registers 11 before event.now → IsBreachOf registers before event.now result }
 {
     match pixel_outside(notes, plane, event) {
         Some(pixel) => Some(Breach {
@@ -87,8 +86,8 @@ fn breach_of_pixels<P: Plane>(notes: &Notes, plane: &P, event: &Event) -> Option
 #[inline(always)]
 pub(crate) fn breach_of<P: Plane>(notes: &Notes, plane: &Option<P>, event: &Event) -> Option<Breach>
     requires { IsBelow notes.now }
-    ensures { (before : List EventValue) → AreNotesAfter notes.now before
-        → IsSheetAfter (option_map P.sheet plane.now) before → IsBreachOf before event.now result }
+    ensures { (registers : ℕ) (before : List EventValue) → AreNotesAfter registers notes.now before
+        → IsSheetAfter (option_map P.sheet plane.now) before → IsBreachOf registers before event.now result }
 {
     match (broken_rule(notes, plane.is_some(), event), plane) {
         (Some(rule), _) => Some(Breach { rule, pixel: None }),
@@ -100,10 +99,10 @@ pub(crate) fn breach_of<P: Plane>(notes: &Notes, plane: &Option<P>, event: &Even
 /// Paints the pixels of a data command.
 #[inline(always)]
 fn paint<P: Plane>(notes: &Notes, plane: &mut P, event: &Event)
-    requires { (before : List EventValue) × AreNotesAfter notes.now before × IsDrawn (P.sheet plane.old) before
-        × NoneBelow 13 before event.now × IsSpellable event.now }
-    ensures { (before : List EventValue) → AreNotesAfter notes.now before → IsDrawn (P.sheet plane.old) before
-        → NoneBelow 13 before event.now → IsDrawn (P.sheet plane.new) (before ++ event.now ∷ []) }
+    requires { (registers : ℕ) × (before : List EventValue) × AreNotesAfter registers notes.now before × IsDrawn (P.sheet plane.old) before
+        × NoneBelow registers 13 before event.now × IsSpellable event.now }
+    ensures { (registers : ℕ) (before : List EventValue) → AreNotesAfter registers notes.now before → IsDrawn (P.sheet plane.old) before
+        → NoneBelow registers 13 before event.now → IsDrawn (P.sheet plane.new) (before ++ event.now ∷ []) }
 {
     if !is_painting(event) {
         return;
@@ -122,8 +121,9 @@ fn paint<P: Plane>(notes: &Notes, plane: &mut P, event: &Event)
 
 /// The plane that the first raster attributes make; another event makes none.
 fn first_plane<P: Plane>(alloc: Global, event: &Event) -> Result<Option<P>, AllocError>
-    requires { (before : List EventValue) × NoneBelow 13 before event.now }
-    ensures ok { IfOk result (λ plane. (before : List EventValue) → IsUndrawn before → NoneBelow 13 before event.now
+    requires { (registers : ℕ) × (before : List EventValue) × NoneBelow registers 13 before event.now }
+    ensures ok { IfOk result (λ plane. (registers : ℕ) (before : List EventValue) → IsUndrawn before
+        → NoneBelow registers 13 before event.now
         → IsSheetAfter (option_map P.sheet plane) (before ++ event.now ∷ [])) }
     ensures declares { OnErr result (IsSome (raster_of event.now)) }
 {
@@ -141,10 +141,10 @@ pub(crate) fn draw<P: Plane>(
     plane: &mut Option<P>,
     event: &Event,
 ) -> Result<(), AllocError>
-    requires { (before : List EventValue) × AreNotesAfter notes.now before
-        × IsSheetAfter (option_map P.sheet plane.old) before × NoneBelow 13 before event.now × IsSpellable event.now }
-    ensures ok { OnOk result ((before : List EventValue) → AreNotesAfter notes.now before
-        → IsSheetAfter (option_map P.sheet plane.old) before → NoneBelow 13 before event.now
+    requires { (registers : ℕ) × (before : List EventValue) × AreNotesAfter registers notes.now before
+        × IsSheetAfter (option_map P.sheet plane.old) before × NoneBelow registers 13 before event.now × IsSpellable event.now }
+    ensures ok { OnOk result ((registers : ℕ) (before : List EventValue) → AreNotesAfter registers notes.now before
+        → IsSheetAfter (option_map P.sheet plane.old) before → NoneBelow registers 13 before event.now
         → IsSheetAfter (option_map P.sheet plane.new) (before ++ event.now ∷ [])) }
     ensures err { OnErr result (plane.new ≡ plane.old) }
     ensures first { OnErr result (plane.old ≡ None) }
@@ -163,18 +163,20 @@ pub(crate) fn draw<P: Plane>(
 }
 
 /// The palette that is left: the colour of each register whose definition stands.
-fn left_palette(notes: &Notes) -> Palette
-    ensures { (events : List EventValue) → AreNotesAfter notes.now events → result ≡ palette_left register_count events }
+fn left_palette(notes: Notes) -> Palette
+    ensures { (registers : ℕ) (events : List EventValue) → AreNotesAfter registers notes events
+        → result ≡ palette_left registers events }
 {
     notes.palette
 }
 
 /// The picture of a plane without a blank pixel.
-pub(crate) fn picture_of<P: Plane>(notes: &Notes, plane: P) -> Picture
+pub(crate) fn picture_of<P: Plane>(notes: Notes, plane: P) -> Picture
     requires full { IsFull (P.sheet plane) }
-    requires stands { (events : List EventValue) × StandsUnbroken notes.now (Some (P.sheet plane)) events }
-    ensures { (events : List EventValue) → StandsUnbroken notes.now (Some (P.sheet plane)) events
-        → result ≡ picture_left register_count events }
+    requires stands { (registers : ℕ) × (events : List EventValue)
+        × StandsUnbroken registers notes (Some (P.sheet plane)) events }
+    ensures { (registers : ℕ) (events : List EventValue) → StandsUnbroken registers notes (Some (P.sheet plane)) events
+        → result ≡ picture_left registers events }
 {
     let width = plane.width();
     let height = plane.height();

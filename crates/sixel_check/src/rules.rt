@@ -1,8 +1,7 @@
 //! The rules, one by one.
 
-ghost use Rattle.std.specs.Prelude.{◌≡◌};
+ghost use Rattle.std.specs.Prelude.{◌≡◌, length};
 ghost use Rattle.sixel_picture.specs.Rules as of;
-ghost use Rattle.sixel_picture.specs.Pictures.{register_count};
 ghost use Rattle.sixel_check.specs.Breaches as noted;
 ghost use Rattle.sixel_check.specs.Notes.{IsBelow};
 
@@ -13,7 +12,7 @@ use crate::events::{
 use crate::notes::Notes;
 use crate::rule::Rule;
 use sixel_grammar::{Command, Event};
-use sixel_picture::REGISTERS;
+use sixel_picture::MOST_REGISTERS;
 
 /// The greatest side of a box, in pixels.
 const MOST_SIDE: u16 = 2048;
@@ -56,13 +55,13 @@ fn breaks_box_size(event: &Event) -> bool
     }
 }
 
-/// A register above 15.
+/// A register above those of the palette's profile.
 #[tactic(auto, unfolding(sixel_picture::specs::Rules::breaks_register))]
-fn breaks_register(event: &Event) -> bool
-    ensures { result ≡ of.breaks_register register_count event.now }
+fn breaks_register(notes: &Notes, event: &Event) -> bool
+    ensures { result ≡ of.breaks_register (length notes.now.palette) event.now }
 {
     match named_by(event) {
-        Some(register) => register as usize >= REGISTERS,
+        Some(register) => register >= notes.palette.profile().count(),
         None => false,
     }
 }
@@ -133,7 +132,7 @@ fn breaks_redefined(notes: &Notes, event: &Event) -> bool
                 z,
             },
         ) => {
-            if *register as usize >= REGISTERS || !notes.painted[*register as usize] {
+            if *register as usize >= MOST_REGISTERS || !notes.painted[*register as usize] {
                 return false;
             }
             match notes.palette.get(*register as u8) {
@@ -159,7 +158,7 @@ pub(crate) fn broken_rule(notes: &Notes, has_box: bool, event: &Event) -> Option
         Some(Rule::Ratio)
     } else if breaks_box_size(event) {
         Some(Rule::BoxSize)
-    } else if breaks_register(event) {
+    } else if breaks_register(notes, event) {
         Some(Rule::Register)
     } else if breaks_colour_value(event) {
         Some(Rule::ColourValue)

@@ -14,7 +14,7 @@ mod terminals;
 use crate::checking::check_bytes;
 use crate::verdict::{Finding, Verdict};
 use sixel_grammar::{Fault, InputFault, Placed, SliceSource, read_all};
-use sixel_picture::Picture;
+use sixel_picture::{Picture, Profile};
 use std::alloc::{AllocError, Global};
 use std::process::Abort;
 use std::test::Fail;
@@ -95,7 +95,11 @@ fn is_said(
 /// Whether the answer on a text in which `E` stands for ESC is so.
 fn agrees(rt: &impl AllocGlobal, text: &str, expected: &str) -> Result<bool, Fail> {
     let bytes = bytes_of(rt, text)?;
-    is_said(rt, &check_bytes(rt.alloc(), &bytes), expected)
+    is_said(
+        rt,
+        &check_bytes(rt.alloc(), Profile::Registers16, &bytes),
+        expected,
+    )
 }
 
 /// Each text, in which `E` stands for ESC, has its answer.

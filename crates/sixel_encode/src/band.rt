@@ -4,13 +4,12 @@ ghost use Rattle.std.specs.Prelude.{◌≡◌, ◌==◌, ◌<◌, ◌≤◌, ◌
 ghost use Rattle.sixel_grammar.specs.Blocks.{PutsAllOrNone, TakesMore, in_all};
 ghost use Rattle.sixel_grammar.specs.Devices.{CountsFailure, NeverFlushes, Puts};
 ghost use Rattle.sixel_grammar.specs.Spelling.{IsSpellable};
-ghost use Rattle.sixel_picture.specs.Pictures.{register_count};
 ghost use Rattle.sixel_encode.specs.Canon.{band_columns, band_commands, commands_text, register_commands, run_commands};
 ghost use Rattle.sixel_encode.specs.Canon.{runs, most_bands};
 
 use crate::columns::{band_registers, column_bits};
 use sixel_grammar::{Block, Command, DeviceFault, Event, Sink};
-use sixel_picture::{Picture, REGISTERS};
+use sixel_picture::Picture;
 
 /// The fewest columns of the same bits that are a repeat.
 const LEAST_REPEAT: u16 = 4;
@@ -34,9 +33,9 @@ pub(crate) fn put_band<K: Sink>(
 {
     let occurring = band_registers(picture, band);
     let mut is_first = true;
-    for register in 0..REGISTERS as u8 {
+    for register in 0..picture.profile().count() {
         if occurring[register as usize] {
-            put_next(text, picture, band, register, is_first, out)?;
+            put_next(text, picture, band, register as u8, is_first, out)?;
             is_first = false;
         }
     }

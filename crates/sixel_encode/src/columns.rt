@@ -2,10 +2,10 @@
 
 ghost use Rattle.std.specs.Prelude.{◌≡◌, ◌==◌, ◌<◌, ◌≤◌, ◌||◌, ℕ, false, get_or, not};
 ghost use Rattle.sixel_picture.specs.Geometry.{band_rows};
-ghost use Rattle.sixel_picture.specs.Pictures.{IsPicture, register_count};
+ghost use Rattle.sixel_picture.specs.Pictures.{IsAnyPicture};
 ghost use Rattle.sixel_encode.specs.Canon.{column_bits, has_pixel, occurs, most_bands};
 
-use sixel_picture::{BAND_ROWS, Picture, REGISTERS};
+use sixel_picture::{BAND_ROWS, MOST_REGISTERS, Picture};
 
 /// Whether the pixel of this column and this row of a band lies in the picture, and is of the register.
 #[inline]
@@ -38,13 +38,13 @@ pub(crate) fn column_bits(picture: &Picture, band: u32, register: u8, x: u32) ->
 }
 
 /// Which registers occur in a band: a place for each.
-pub(crate) fn band_registers(picture: &Picture, band: u32) -> [bool; REGISTERS]
+pub(crate) fn band_registers(picture: &Picture, band: u32) -> [bool; MOST_REGISTERS]
     requires { band < most_bands }
-    ensures value { (register : ℕ) → register < register_count →
+    ensures value { (register : ℕ) → register < MOST_REGISTERS →
         get_or result register false ≡ occurs picture.now band register }
-    ensures picture { IsPicture register_count picture.now }
+    ensures picture { IsAnyPicture picture.now }
 {
-    let mut occurring = [false; REGISTERS];
+    let mut occurring = [false; MOST_REGISTERS];
     for x in 0..picture.width() {
         mark_column(&mut occurring, picture, band, x);
     }
@@ -53,10 +53,10 @@ pub(crate) fn band_registers(picture: &Picture, band: u32) -> [bool; REGISTERS]
 
 /// Marks the registers of a column of a band.
 #[inline]
-fn mark_column(occurring: &mut [bool; REGISTERS], picture: &Picture, band: u32, x: u32)
+fn mark_column(occurring: &mut [bool; MOST_REGISTERS], picture: &Picture, band: u32, x: u32)
     requires band { band < most_bands }
     requires x { x < picture.now.width }
-    ensures { (register : ℕ) → register < register_count → get_or occurring.new register false
+    ensures { (register : ℕ) → register < MOST_REGISTERS → get_or occurring.new register false
         ≡ (get_or occurring.old register false || not (column_bits picture.now band register x == 0)) }
 {
     for row in 0..BAND_ROWS {
@@ -66,11 +66,17 @@ fn mark_column(occurring: &mut [bool; REGISTERS], picture: &Picture, band: u32, 
 
 /// Marks the register of a pixel if it lies in the picture.
 #[inline]
-fn mark_pixel(occurring: &mut [bool; REGISTERS], picture: &Picture, band: u32, x: u32, row: u32)
+fn mark_pixel(
+    occurring: &mut [bool; MOST_REGISTERS],
+    picture: &Picture,
+    band: u32,
+    x: u32,
+    row: u32,
+)
     requires band { band < most_bands }
     requires x { x < picture.now.width }
-    requires row { row < band_rows }
-    ensures { (register : ℕ) → register < register_count → get_or occurring.new register false
+    requires row { row < 6 }
+    ensures { (register : ℕ) → register < MOST_REGISTERS → get_or occurring.new register false
         ≡ (get_or occurring.old register false || has_pixel picture.now band register x row) }
 {
     let y = BAND_ROWS * band + row;

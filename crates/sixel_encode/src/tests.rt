@@ -4,7 +4,7 @@ mod plain;
 
 use crate::writing::{EncodeFault, encode};
 use sixel_grammar::SliceSink;
-use sixel_picture::{Colour, Palette, Parts, Picture};
+use sixel_picture::{Colour, Palette, Parts, Picture, Profile};
 use std::alloc::{AllocError, Global};
 use std::test::Fail;
 
@@ -20,7 +20,7 @@ fn colour_of(parts: Parts) -> Result<Colour, Fail> {
 }
 
 fn palette_of(entries: &[Entry]) -> Result<Palette, Fail> {
-    let mut palette = Palette::new();
+    let mut palette = Palette::new(Profile::Registers16);
     for (register, colour) in entries {
         if *register < 16 {
             palette.set(*register, colour_of(*colour)?);

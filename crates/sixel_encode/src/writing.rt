@@ -12,7 +12,7 @@ ghost use Rattle.sixel_encode.specs.Canon.{most_bands};
 use crate::band::{Text, put_band, put_between, put_command};
 use arrayvec::ArrayVec;
 use sixel_grammar::{Command, DeviceFault, Event, Sink};
-use sixel_picture::{BAND_ROWS, Palette, Parts, Picture, REGISTERS};
+use sixel_picture::{BAND_ROWS, Palette, Parts, Picture};
 
 /// Why a picture was not written to its end.
 #[derive(Clone, Copy, Debug, PartialEq, Eq)]
@@ -118,8 +118,8 @@ fn put_definitions<K: Sink>(
     ensures failures { CountsFailure result (K.failure_count out.old) (K.failure_count out.new) }
 {
     let palette = picture.palette();
-    for register in 0..REGISTERS as u8 {
-        put_definition(text, palette, register, out)?;
+    for register in 0..palette.profile().count() {
+        put_definition(text, palette, register as u8, out)?;
     }
     Ok(())
 }

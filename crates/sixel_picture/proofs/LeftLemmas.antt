@@ -1,10 +1,10 @@
 -- On the palette that is left.
 use Rattle.std.proofs.Common.{◌≡◌, ℕ, ◌<◌, ◌==◌, Bool, true, false, Option, Some, None, List, [], ◌∷◌, ◌++◌, length}
-use Rattle.std.proofs.Common.{get_or, set, refl, sym, ap, ◌∙◌, arith}
+use Rattle.std.proofs.Common.{get_or, replicate, set, refl, sym, ap, ◌∙◌, arith}
 use Rattle.std.specs.Option.{option_and_then, option_flatten, option_or}
 use Rattle.std.proofs.lemmas.Bool.{eqb-true, eqb-false}
 use Rattle.std.proofs.lemmas.Option.{slice_get-get_or}
-use Rattle.std.proofs.lemmas.List.{get_or-set_same, get_or-set_other, length-set}
+use Rattle.std.proofs.lemmas.List.{get_or-replicate, get_or-set_same, get_or-set_other, length-replicate, length-set}
 use Rattle.std.proofs.lemmas.List.FromFn.{fill_by_all, get_or-map-range_with_len, length-map-range_with_len}
 use Rattle.sixel_grammar.specs.declared.command.Command.TheVariants.{Define}
 use Rattle.sixel_grammar.specs.declared.command.Event.{Event}
@@ -12,6 +12,7 @@ use Rattle.sixel_grammar.specs.declared.command.Event.TheVariants.{Step}
 use Rattle.sixel_picture.specs.declared.colour.Parts.{Parts}
 use Rattle.sixel_picture.specs.Colours.{colour_in, palette_at}
 use Rattle.sixel_picture.specs.Events.{definition_where}
+use Rattle.sixel_picture.specs.Positions.{latest}
 use Rattle.sixel_picture.specs.Rules.{colour_by, colour_of, definition_of, palette_left}
 use Rattle.sixel_picture.proofs.StepLemmas.{definition_push}
 
@@ -35,6 +36,12 @@ pub left_from_index : (n : ℕ) (events : List Event) (xs : List (Option Parts))
     → ((r : ℕ) → r < n → get_or xs r None ≡ colour_of events r) → xs ≡ palette_left n events
 unfolding palette_left
 left_from_index n events xs long each = fill_by_all (colour_of events) xs n None long each
+
+-- before any event no register has a colour
+pub left_start : (n : ℕ) → replicate n None ≡ palette_left n []
+unfolding colour_of definition_of latest
+left_start n =
+    left_from_index n [] (replicate n None) (length-replicate n None) (λ r lt. get_or-replicate n r None None lt)
 
 pub colour_push : (before : List Event) (e : Event) (r : ℕ) → colour_of (before ++ e ∷ []) r
     ≡ option_and_then colour_by (option_or (definition_where (λ q. q == r) e) (definition_of before r))

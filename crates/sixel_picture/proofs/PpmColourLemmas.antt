@@ -1,6 +1,7 @@
 -- On colours that are numbered as they are first seen.
 use Rattle.std.proofs.Common.{◌≡◌, ◌+◌, ◌<◌, ◌≤◌, ℕ, zero, suc, Bool, true, false, ◌||◌, Option, Some, None, List, []}
 use Rattle.std.proofs.Common.{◌∷◌, ◌++◌, length, cond, refl, sym, ap, ap₂, ◌∙◌, arith, zero-add, length-append}
+use Rattle.std.proofs.Common.{length-set}
 use Rattle.std.specs.Prelude.{is_some, slice_set, position, unwrap_or}
 use Rattle.std.specs.List.{list_any, position_from}
 use Rattle.std.proofs.lemmas.Bool.Decides.{nat_tests}
@@ -96,7 +97,7 @@ same_as_itself (Hls hue lightness saturation) = grind (arith, nat_tests)
 index_among : (c : Colours) (seen : List Parts) (colour : Parts) (o : Option ℕ) → Fills c seen
     → o ≡ position (is_entry colour) c.palette → position_from (is_same colour) 0 seen ≡ o
 index_among c seen colour o fills found =
-    sym (entry_of colour 16 seen 0 fills.few) ∙ ap (position_from (is_entry colour) 0) (sym fills.palette)
+    sym (entry_of colour (length c.palette) seen 0 fills.few) ∙ ap (position_from (is_entry colour) 0) (sym fills.palette)
     ∙ sym (position_from-zero (is_entry colour) c.palette) ∙ sym found
 
 -- a colour that was seen
@@ -115,14 +116,15 @@ new_colour c seen colour o is found fills =
     none_then_any (is_same colour) seen 0 (index_among c seen colour o fills found ∙ is)
 
 pub none_left : (c : Colours) (seen : List Parts) (colour : Parts) (o : Option ℕ) → o ≡ None
-    → o ≡ position (is_entry colour) c.palette → 16 ≤ c.count → Fills c seen → 16 < length (with_colour seen colour)
+    → o ≡ position (is_entry colour) c.palette → length c.palette ≤ c.count → Fills c seen
+    → length c.palette < length (with_colour seen colour)
 none_left c seen colour o is found full fills =
     let none : list_any (is_same colour) seen ≡ false = new_colour c seen colour o is found fills in
     rw none (omega (arith, fills.count, length-append seen (colour ∷ [])))
 
 pub numbered_next : (c : Colours) (palette : List (Option Parts)) (seen : List Parts) (colour : Parts) (o : Option ℕ)
     → o ≡ None
-    → o ≡ position (is_entry colour) c.palette → c.count < 16 → palette ≡ slice_set c.palette c.count (Some colour)
+    → o ≡ position (is_entry colour) c.palette → c.count < length c.palette → palette ≡ slice_set c.palette c.count (Some colour)
     → Fills c seen
     → (c.count ≡ register_among (with_colour seen colour) colour)
     × Fills (record { palette = palette; count = c.count + 1 }) (with_colour seen colour)
@@ -132,10 +134,18 @@ numbered_next c palette seen colour o is found room set fills =
     let long = length-append seen (colour ∷ []) in
     let next : c.count ≡ unwrap_or (position_from (is_same colour) 0 (seen ++ colour ∷ [])) 0 =
     fills.count ∙ sym (ap (λ (o : Option ℕ). unwrap_or o 0) at ∙ zero-add (length seen)) in
-    let whole : palette ≡ palette_of 16 (seen ++ colour ∷ []) =
+    let same : length palette ≡ length c.palette = ap length set ∙ length-set c.palette c.count (Some colour) in
+    let whole : palette ≡ palette_of (length c.palette) (seen ++ colour ∷ []) =
     set ∙ ap₂ (λ (p : List (Option Parts)) (n : ℕ). slice_set p n (Some colour)) fills.palette fills.count
-    ∙ palette_of-set 16 seen colour (omega (arith, fills.count)) in
-    rw none (next, record { palette = whole; count = omega (arith, fills.count); few = omega (arith, fills.count) })
+    ∙ palette_of-set (length c.palette) seen colour (omega (arith, fills.count)) in
+    rw none (
+      next,
+      record {
+        palette = rw same whole;
+        count = omega (arith, fills.count);
+        few = omega (arith, fills.count, same);
+      },
+    )
 
 -- a register below the count of colours has an entry
 pub entry_there : (n : ℕ) (seen : List Parts) (i : ℕ) → i < length seen → length seen ≤ n

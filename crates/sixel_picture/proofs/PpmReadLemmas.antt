@@ -247,40 +247,40 @@ pub started_within : (old new : Option (List ℕ)) (piece : List ℕ) (s : Start
     → s.frame.place ≤ 65536
 started_within old new piece s h = (started_in_range old new piece s h).within
 
-begins_reads : (f : Frame) (s : Samples) (xs : List ℕ) → Begins f s
-    → picture_after 16 (head_with f xs) ≡ samples_on s [] xs
-begins_reads f s xs b = rw (b.maxval, b.left, b.place, b.held, b.width, b.height) refl
+begins_reads : (count : ℕ) (f : Frame) (s : Samples) (xs : List ℕ) → Begins count f s
+    → picture_after count (head_with f xs) ≡ samples_on s [] xs
+begins_reads count f s xs b = rw (b.registers, b.maxval, b.left, b.place, b.held, b.width, b.height) refl
 
 -- what all the bytes say, by the samples
-said : (old new : Option (List ℕ)) (piece : List ℕ) (s : Started) (t : Samples) (rest : List ℕ)
+said : (count : ℕ) (old new : Option (List ℕ)) (piece : List ℕ) (s : Started) (t : Samples) (rest : List ℕ)
     → (h : HasStarted old new piece s)
-    → Begins s.frame t → ppm_read 16 (h.front ++ rest) ≡ samples_on t [] (drop s.start (take s.end piece) ++ rest)
-said old new piece s t rest h b =
-    ap (λ (x : Result Head PpmFault). x >>= picture_after 16) (h.whole rest)
-    ∙ begins_reads s.frame t (drop s.start (take s.end piece) ++ rest) b
+    → Begins count s.frame t → ppm_read count (h.front ++ rest) ≡ samples_on t [] (drop s.start (take s.end piece) ++ rest)
+said count old new piece s t rest h b =
+    ap (λ (x : Result Head PpmFault). x >>= picture_after count) (h.whole rest)
+    ∙ begins_reads count s.frame t (drop s.start (take s.end piece) ++ rest) b
 
 whole_header : (bytes : List ℕ) (h : Head) → head_of bytes ≡ Ok h → HasWholeHeader bytes
 whole_header bytes h e = subst (λ (x : Result Head PpmFault). IsOk x) (sym e) refl
 
-rest_reads : (result : Result PictureValue PpmFault) (bytes : List ℕ) (r : Result PictureValue PpmFault)
-    → ppm_read 16 bytes ≡ r
-    → HasWholeHeader bytes → ReadsRest result r → ReadsPpm result bytes
-rest_reads (Ok p) bytes r e whole h = e ∙ h
-rest_reads (Err (Format reason place)) bytes r e whole h = e ∙ h
-rest_reads (Err OutOfMemory) bytes r e whole h = absurd h
-rest_reads (Err Read) bytes r e whole h = tt
-rest_reads (Err NotRgb) bytes r e whole h = h
-rest_reads (Err Write) bytes r e whole h = h
+rest_reads : (count : ℕ) (result : Result PictureValue PpmFault) (bytes : List ℕ) (r : Result PictureValue PpmFault)
+    → ppm_read count bytes ≡ r
+    → HasWholeHeader bytes → ReadsRest result r → ReadsPpm count result bytes
+rest_reads count (Ok p) bytes r e whole h = e ∙ h
+rest_reads count (Err (Format reason place)) bytes r e whole h = e ∙ h
+rest_reads count (Err OutOfMemory) bytes r e whole h = absurd h
+rest_reads count (Err Read) bytes r e whole h = tt
+rest_reads count (Err NotRgb) bytes r e whole h = h
+rest_reads count (Err Write) bytes r e whole h = h
 
-pub ppm_refused : (old new : Option (List ℕ)) (piece : List ℕ) (s : Started) (t : Samples) (fault : PpmFault)
+pub ppm_refused : (count : ℕ) (old new : Option (List ℕ)) (piece : List ℕ) (s : Started) (t : Samples) (fault : PpmFault)
     (samples : List ℕ)
-    → samples ≡ drop s.start (take s.end piece) → HasStarted old new piece s → Begins s.frame t
+    → samples ≡ drop s.start (take s.end piece) → HasStarted old new piece s → Begins count s.frame t
     → FailsOn t fault samples
-    → IfSome old (ReadsPpm (Err fault))
-ppm_refused old new piece s t fault samples e h b f =
-    all_of old new h.front (ReadsPpm (Err fault)) h.consumed (λ rest.
-    rest_reads (Err fault) (h.front ++ rest) (samples_on t [] (samples ++ rest))
-    (said old new piece s t rest h b ∙ ap (λ (xs : List ℕ). samples_on t [] (xs ++ rest)) (sym e))
+    → IfSome old (ReadsPpm count (Err fault))
+ppm_refused count old new piece s t fault samples e h b f =
+    all_of old new h.front (ReadsPpm count (Err fault)) h.consumed (λ rest.
+    rest_reads count (Err fault) (h.front ++ rest) (samples_on t [] (samples ++ rest))
+    (said count old new piece s t rest h b ∙ ap (λ (xs : List ℕ). samples_on t [] (xs ++ rest)) (sym e))
     (whole_header (h.front ++ rest) _ (h.whole rest))
     (refuses_rest fault (samples_on t [] (samples ++ rest)) (f [] b.holds rest)))
 
@@ -291,18 +291,18 @@ left_reads None new xs P Q c q f = tt
 left_reads (Some a) None xs P Q c q f = absurd c
 left_reads (Some a) (Some b) xs P Q c q f = subst P (sym c) (f b q)
 
-pub ppm_finished : (old new : Option (List ℕ)) (piece : List ℕ) (s : Started) (t u : Samples)
+pub ppm_finished : (count : ℕ) (old new : Option (List ℕ)) (piece : List ℕ) (s : Started) (t u : Samples)
     (result : Result PictureValue PpmFault)
-    (samples : List ℕ) → samples ≡ drop s.start (take s.end piece) → HasStarted old new piece s → Begins s.frame t
+    (samples : List ℕ) → samples ≡ drop s.start (take s.end piece) → HasStarted old new piece s → Begins count s.frame t
     → LeadsOn t u samples
     → ((colours : List Parts) → Holds u colours → IfSome new (λ rest. ReadsRest result (samples_on u colours rest)))
-    → IfSome old (ReadsPpm result)
-ppm_finished old new piece s t u result samples e h b f r =
+    → IfSome old (ReadsPpm count result)
+ppm_finished count old new piece s t u result samples e h b f r =
     let p = f [] b.holds in
-    left_reads old new h.front (ReadsPpm result) (λ rest. ReadsRest result (samples_on u p.0 rest)) h.consumed
+    left_reads old new h.front (ReadsPpm count result) (λ rest. ReadsRest result (samples_on u p.0 rest)) h.consumed
     (r p.0 p.1) (λ rest q.
-    rest_reads result (h.front ++ rest) (samples_on u p.0 rest)
-    (said old new piece s t rest h b ∙ ap (λ (xs : List ℕ). samples_on t [] (xs ++ rest)) (sym e) ∙ p.2 rest)
+    rest_reads count result (h.front ++ rest) (samples_on u p.0 rest)
+    (said count old new piece s t rest h b ∙ ap (λ (xs : List ℕ). samples_on t [] (xs ++ rest)) (sym e) ∙ p.2 rest)
     (whole_header (h.front ++ rest) _ (h.whole rest)) q)
 
 -- a range of a piece

@@ -16,7 +16,7 @@ use Rattle.sixel_picture.specs.PpmHeld.{held_samples, is_good}
 use Rattle.sixel_picture.specs.PpmReading.{◌>>=◌, at_fault, colour_of, distinct, palette_of, picture_of, pixels}
 use Rattle.sixel_picture.specs.PpmReading.{register_among, with_colour}
 use Rattle.sixel_picture.specs.PpmSamples.{AllSeen, Fails, FailsOn, HasRead, HoldsPixels, KeepsPixels, KnowsLast, Leads}
-use Rattle.sixel_picture.specs.PpmSamples.{LeadsOn, PutsPixel, Refuses, Registers, TooMany, budget, pixels_on}
+use Rattle.sixel_picture.specs.PpmSamples.{LeadsOn, PutsPixel, Refuses, Registers, TooMany, budget, pixels_on, registers_in}
 use Rattle.sixel_picture.specs.PpmSamples.{samples_on}
 use Rattle.sixel_picture.specs.declared.colour.Parts.{Parts}
 use Rattle.sixel_picture.specs.declared.ppm.PpmFault.{PpmFault}
@@ -106,59 +106,59 @@ pub below_limit : (v most : ℕ) → v < most → nat_lt v most ≡ true
 below_limit v most lt = grind (arith, nat_tests)
 
 -- a pixel with a colour for which there is a register
-pub pixel_read : (maxval n at r g b : ℕ) (colours : List Parts) (rest : List ℕ) → r ≤ maxval → g ≤ maxval → b ≤ maxval
-    → length (with_colour (distinct colours) (colour_of maxval r g b)) ≤ 16
-    → pixels 16 maxval (suc n) colours at (r ∷ g ∷ b ∷ rest)
-    ≡ pixels 16 maxval n (colours ++ colour_of maxval r g b ∷ []) (at + 3) rest
-pixel_read maxval n at r g b colours rest red green blue few =
+pub pixel_read : (count maxval n at r g b : ℕ) (colours : List Parts) (rest : List ℕ) → r ≤ maxval → g ≤ maxval → b ≤ maxval
+    → length (with_colour (distinct colours) (colour_of maxval r g b)) ≤ count
+    → pixels count maxval (suc n) colours at (r ∷ g ∷ b ∷ rest)
+    ≡ pixels count maxval n (colours ++ colour_of maxval r g b ∷ []) (at + 3) rest
+pixel_read count maxval n at r g b colours rest red green blue few =
     let e₁ = passes r maxval red in
     let e₂ = passes g maxval green in
     let e₃ = passes b maxval blue in
-    let e₄ : nat_le (length (distinct (colours ++ colour_of maxval r g b ∷ []))) 16 ≡ true =
-    passes _ 16 (subst (λ (d : List Parts). length d ≤ 16) (sym (distinct-snoc colours (colour_of maxval r g b)))
+    let e₄ : nat_le (length (distinct (colours ++ colour_of maxval r g b ∷ []))) count ≡ true =
+    passes _ count (subst (λ (d : List Parts). length d ≤ count) (sym (distinct-snoc colours (colour_of maxval r g b)))
     few) in
     simp (e₁, e₂, e₃, e₄)
 
-pub pixel_too_many : (maxval n at r g b : ℕ) (colours : List Parts) (rest : List ℕ) → r ≤ maxval → g ≤ maxval
+pub pixel_too_many : (count maxval n at r g b : ℕ) (colours : List Parts) (rest : List ℕ) → r ≤ maxval → g ≤ maxval
     → b ≤ maxval
-    → 16 < length (with_colour (distinct colours) (colour_of maxval r g b))
-    → pixels 16 maxval (suc n) colours at (r ∷ g ∷ b ∷ rest) ≡ at_fault TooManyColours at
-pixel_too_many maxval n at r g b colours rest red green blue many =
+    → count < length (with_colour (distinct colours) (colour_of maxval r g b))
+    → pixels count maxval (suc n) colours at (r ∷ g ∷ b ∷ rest) ≡ at_fault TooManyColours at
+pixel_too_many count maxval n at r g b colours rest red green blue many =
     let e₁ = passes r maxval red in
     let e₂ = passes g maxval green in
     let e₃ = passes b maxval blue in
-    let e₄ : nat_le (length (distinct (colours ++ colour_of maxval r g b ∷ []))) 16 ≡ false =
-    fails _ 16 (subst (λ (d : List Parts). 16 < length d) (sym (distinct-snoc colours (colour_of maxval r g b)))
+    let e₄ : nat_le (length (distinct (colours ++ colour_of maxval r g b ∷ []))) count ≡ false =
+    fails _ count (subst (λ (d : List Parts). count < length d) (sym (distinct-snoc colours (colour_of maxval r g b)))
     many) in
     simp (e₁, e₂, e₃, e₄)
 
 -- ---- a pixel that is refused
 
-abbrev Refused : ℕ → ℕ → List Parts → ℕ → ℕ → ℕ → List ℕ → PpmReason → ℕ → Type 0
-Refused maxval n colours at width height samples reason place =
-    (pixels 16 maxval n colours at samples >>= (λ all. Ok (picture_of 16 width height all))) ≡ at_fault reason place
+abbrev Refused : ℕ → ℕ → ℕ → List Parts → ℕ → ℕ → ℕ → List ℕ → PpmReason → ℕ → Type 0
+Refused count maxval n colours at width height samples reason place =
+    (pixels count maxval n colours at samples >>= (λ all. Ok (picture_of count width height all))) ≡ at_fault reason place
 
-pub colour_refused : (maxval n at r g b width height : ℕ) (colours : List Parts) (rest : List ℕ) → 0 < n
+pub colour_refused : (count maxval n at r g b width height : ℕ) (colours : List Parts) (rest : List ℕ) → 0 < n
     → r ≤ maxval → g ≤ maxval
-    → b ≤ maxval → 16 < length (with_colour (distinct colours) (colour_of maxval r g b))
-    → Refused maxval n colours at width height (r ∷ g ∷ b ∷ rest) TooManyColours at
-colour_refused maxval zero at r g b width height colours rest some red green blue many = absurd (omega arith)
-colour_refused maxval (suc n) at r g b width height colours rest some red green blue many =
-    rw (pixel_too_many maxval n at r g b colours rest red green blue many) refl
+    → b ≤ maxval → count < length (with_colour (distinct colours) (colour_of maxval r g b))
+    → Refused count maxval n colours at width height (r ∷ g ∷ b ∷ rest) TooManyColours at
+colour_refused count maxval zero at r g b width height colours rest some red green blue many = absurd (omega arith)
+colour_refused count maxval (suc n) at r g b width height colours rest some red green blue many =
+    rw (pixel_too_many count maxval n at r g b colours rest red green blue many) refl
 
 -- a pixel that is read
-pub pixel_led : (maxval n m at next r g b width height : ℕ) (colours : List Parts) (rest : List ℕ) → m + 1 ≡ n
+pub pixel_led : (count maxval n m at next r g b width height : ℕ) (colours : List Parts) (rest : List ℕ) → m + 1 ≡ n
     → next ≡ at + 3
-    → r ≤ maxval → g ≤ maxval → b ≤ maxval → length (with_colour (distinct colours) (colour_of maxval r g b)) ≤ 16
-    → (pixels 16 maxval n colours at (r ∷ g ∷ b ∷ rest) >>= (λ all. Ok (picture_of 16 width height all)))
-    ≡ (pixels 16 maxval m (colours ++ colour_of maxval r g b ∷ []) next rest >>=
-    (λ all. Ok (picture_of 16 width height all)))
-pixel_led maxval zero m at next r g b width height colours rest less e red green blue few = absurd (omega arith)
-pixel_led maxval (suc n) m at next r g b width height colours rest less e red green blue few =
+    → r ≤ maxval → g ≤ maxval → b ≤ maxval → length (with_colour (distinct colours) (colour_of maxval r g b)) ≤ count
+    → (pixels count maxval n colours at (r ∷ g ∷ b ∷ rest) >>= (λ all. Ok (picture_of count width height all)))
+    ≡ (pixels count maxval m (colours ++ colour_of maxval r g b ∷ []) next rest >>=
+    (λ all. Ok (picture_of count width height all)))
+pixel_led count maxval zero m at next r g b width height colours rest less e red green blue few = absurd (omega arith)
+pixel_led count maxval (suc n) m at next r g b width height colours rest less e red green blue few =
     let same : n ≡ m = omega arith in
-    ap (λ (x : Result (List Parts) PpmFault). x >>= (λ all. Ok (picture_of 16 width height all)))
-    (pixel_read maxval n at r g b colours rest red green blue few
-    ∙ ap₂ (λ (k : ℕ) (place : ℕ). pixels 16 maxval k (colours ++ colour_of maxval r g b ∷ []) place rest) same (sym e))
+    ap (λ (x : Result (List Parts) PpmFault). x >>= (λ all. Ok (picture_of count width height all)))
+    (pixel_read count maxval n at r g b colours rest red green blue few
+    ∙ ap₂ (λ (k : ℕ) (place : ℕ). pixels count maxval k (colours ++ colour_of maxval r g b ∷ []) place rest) same (sym e))
 
 -- ---- by the states
 
@@ -171,7 +171,7 @@ pub too_many_fails : (s : Samples) (r g b : ℕ) (fault : PpmFault) → 0 < s.le
     → TooMany s r g b fault → Fails s fault (r ∷ g ∷ b ∷ [])
 too_many_fails s r g b fault some red green blue many = λ colours holds rest.
     subst (λ (f : PpmFault). Refuses f (pixels_on s colours (r ∷ g ∷ b ∷ rest))) (sym many.0)
-    (colour_refused s.maxval s.left s.place r g b s.width s.height colours rest some red green blue
+    (colour_refused (registers_in s) s.maxval s.left s.place r g b s.width s.height colours rest some red green blue
     (many.1 colours holds))
 
 -- a pixel that has its register and was put
@@ -180,6 +180,8 @@ pub pixel_leads : (old mid new : Samples) (r g b register : ℕ) → Registers o
 pixel_leads old mid new r g b register registers kept put = λ colours holds.
     let c = colour_of old.maxval r g b in
     let is = registers colours holds in
+    let same : registers_in new ≡ registers_in old =
+    ap (λ (c : Colours). length c.palette) put.colours ∙ is.same_registers in
     let less : new.left + 1 ≡ old.left = put.left ∙ kept.left in
     let place : new.place ≡ old.place + 3 = put.place ∙ ap (λ (n : ℕ). n + 3) kept.place in
     let maxval : new.maxval ≡ old.maxval = put.maxval ∙ kept.maxval in
@@ -192,54 +194,54 @@ pixel_leads old mid new r g b register registers kept put = λ colours holds.
     register new.left less holds is.fills is.knows_last is.known.register in (
       colours ++ c ∷ [],
       rw (put.colours, put.last, maxval, items, width, height) more,
-      λ rest. rw (maxval, place, width, height)
-          (pixel_led old.maxval old.left new.left old.place (old.place + 3) r g b old.width old.height colours rest
+      λ rest. rw (same, maxval, place, width, height)
+          (pixel_led (registers_in old) old.maxval old.left new.left old.place (old.place + 3) r g b old.width old.height colours rest
           less refl
-          is.known.red is.known.green is.known.blue is.fills.few),
+          is.known.red is.known.green is.known.blue (rw is.same_registers at is.fills.few)),
     )
 
 -- ---- the whole picture
 
-all_below : (seen colours : List Parts) → length seen ≤ 16 → AllSeen seen colours
-    → list_all (λ r. nat_lt r 16) (map (register_among seen) colours) ≡ true
-all_below seen [] few all = refl
-all_below seen (c ∷ colours) few all =
+all_below : (count : ℕ) (seen colours : List Parts) → length seen ≤ count → AllSeen seen colours
+    → list_all (λ r. nat_lt r count) (map (register_among seen) colours) ≡ true
+all_below count seen [] few all = refl
+all_below count seen (c ∷ colours) few all =
     let lt = register_within seen c all.0 in
-    let below : nat_lt (register_among seen c) 16 ≡ true = below_limit (register_among seen c) 16 (omega arith) in
-    ap₂ (λ (a b : Bool). a && b) below (all_below seen colours few all.1)
+    let below : nat_lt (register_among seen c) count ≡ true = below_limit (register_among seen c) count (omega arith) in
+    ap₂ (λ (a b : Bool). a && b) below (all_below count seen colours few all.1)
 
-all_there : (seen colours : List Parts) → length seen ≤ 16 → AllSeen seen colours
-    → list_all (λ r. is_some (palette_at (palette_of 16 seen) r)) (map (register_among seen) colours) ≡ true
-all_there seen [] few all = refl
-all_there seen (c ∷ colours) few all =
-    ap₂ (λ (a b : Bool). a && b) (entry_there 16 seen (register_among seen c) (register_within seen c all.0) few)
-    (all_there seen colours few all.1)
+all_there : (count : ℕ) (seen colours : List Parts) → length seen ≤ count → AllSeen seen colours
+    → list_all (λ r. is_some (palette_at (palette_of count seen) r)) (map (register_among seen) colours) ≡ true
+all_there count seen [] few all = refl
+all_there count seen (c ∷ colours) few all =
+    ap₂ (λ (a b : Bool). a && b) (entry_there count seen (register_among seen c) (register_within seen c all.0) few)
+    (all_there count seen colours few all.1)
 
 -- what is kept of all pixels makes a picture
 pub picture_accepted : (kept : Colours) (last : Option Pixel) (maxval : ℕ) (registers : List ℕ)
     (left width height : ℕ) (colours : List Parts)
     → HoldsPixels kept last maxval registers left (width * height) colours → left ≡ 0
     → (is_side width && is_side height) ≡ true
-    → picture_fault 16 width height kept.palette registers ≡ None
+    → picture_fault (length kept.palette) width height kept.palette registers ≡ None
 picture_accepted kept last maxval registers left width height colours holds none sides =
     let seen = distinct colours in
     let long : length (map (register_among seen) colours) ≡ length colours = simp length-map in
     let whole : length colours ≡ width * height = omega (arith, holds.whole) in
     let many : length registers ≡ width * height = ap (λ (rs : List ℕ). length rs) holds.numbered ∙ long ∙ whole in
     let count : (length registers == width * height) ≡ true = eq-eqb (length registers) (width * height) many in
-    let below : list_all (λ r. nat_lt r 16) registers ≡ true =
-    ap (list_all (λ r. nat_lt r 16)) holds.numbered ∙ all_below seen colours holds.fills.few holds.all_seen in
+    let below : list_all (λ r. nat_lt r (length kept.palette)) registers ≡ true =
+    ap (list_all (λ r. nat_lt r (length kept.palette))) holds.numbered ∙ all_below (length kept.palette) seen colours holds.fills.few holds.all_seen in
     let there : list_all (λ r. is_some (palette_at kept.palette r)) registers ≡ true =
     ap₂ (λ (p : List (Option Parts)) (rs : List ℕ). list_all (λ r. is_some (palette_at p r)) rs) holds.fills.palette
     holds.numbered
-    ∙ all_there seen colours holds.fills.few holds.all_seen in
+    ∙ all_there (length kept.palette) seen colours holds.fills.few holds.all_seen in
     rw (sides, count, below, there) refl
 
 -- the picture is the one that is read
 pub picture_is : (kept : Colours) (last : Option Pixel) (maxval : ℕ) (registers : List ℕ) (left width height : ℕ)
     (colours : List Parts)
     → HoldsPixels kept last maxval registers left (width * height) colours
-    → picture_of_parts width height kept.palette registers ≡ picture_of 16 width height colours
+    → picture_of_parts width height kept.palette registers ≡ picture_of (length kept.palette) width height colours
 picture_is kept last maxval registers left width height colours holds =
     ap₂ (picture_of_parts width height) holds.fills.palette holds.numbered
 
@@ -293,21 +295,21 @@ one_front (x ∷ xs) le = ap (λ (t : List ℕ). x ∷ t) (sym (take_past (lengt
 
 -- ---- samples that are wanting
 
-short_pixel : (maxval n at : ℕ) (colours : List Parts) (held : Held) → 0 < n → is_good held maxval n ≡ true
-    → pixels 16 maxval n colours at (held_samples held ++ []) ≡ at_fault Short (at + length (held_samples held))
-short_pixel maxval zero at colours held some good = absurd (omega arith)
-short_pixel maxval (suc n) at colours Nothing some good = ap (at_fault Short) (omega arith)
-short_pixel maxval (suc n) at colours (Red red) some good =
+short_pixel : (count maxval n at : ℕ) (colours : List Parts) (held : Held) → 0 < n → is_good held maxval n ≡ true
+    → pixels count maxval n colours at (held_samples held ++ []) ≡ at_fault Short (at + length (held_samples held))
+short_pixel count maxval zero at colours held some good = absurd (omega arith)
+short_pixel count maxval (suc n) at colours Nothing some good = ap (at_fault Short) (omega arith)
+short_pixel count maxval (suc n) at colours (Red red) some good =
     let first : nat_le red maxval ≡ true = grind (arith, nat_tests) in
     simp first
-short_pixel maxval (suc n) at colours (RedGreen red green) some good =
+short_pixel count maxval (suc n) at colours (RedGreen red green) some good =
     let first : nat_le red maxval ≡ true = grind (arith, nat_tests) in
     let second : nat_le green maxval ≡ true = grind (arith, nat_tests) in
     simp (first, second)
 
 pub short_fails : (s : Samples) (colours : List Parts) → 0 < s.left → is_good s.held s.maxval s.left ≡ true
     → samples_on s colours [] ≡ at_fault Short (s.place + length (held_samples s.held))
-short_fails s colours some good = rw (short_pixel s.maxval s.left s.place colours s.held some good) refl
+short_fails s colours some good = rw (short_pixel (registers_in s) s.maxval s.left s.place colours s.held some good) refl
 
 pub budget_whole : (s : Samples) → s.held ≡ Nothing → budget s ≡ 3 * s.left
 budget_whole s e = rw e (omega arith)

@@ -1,5 +1,7 @@
 pub mod Colours
+pub mod Profiles
 pub mod Pictures
+pub mod Palettes
 pub mod Positions
 pub mod Events
 pub mod Geometry

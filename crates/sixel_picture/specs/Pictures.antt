@@ -4,8 +4,10 @@ use Rattle.std.specs.Prelude.{nat_le, nat_lt, is_some, slice_index, if◌then◌
 use Rattle.std.specs.List.{list_all}
 use Rattle.sixel_picture.specs.Colours.{IsColour, palette_at}
 use Rattle.sixel_picture.specs.declared.colour.Parts.{Parts}
+use Rattle.sixel_picture.specs.Profiles.{count_of}
 use Rattle.sixel_picture.specs.declared.picture.PictureReason.{PictureReason}
 use Rattle.sixel_picture.specs.declared.picture.PictureReason.TheVariants.{Size, Count, Register, NoColour}
+use Rattle.sixel_picture.specs.declared.profile.Profile.{Profile}
 
 -- the size, an optional colour for each register, and a register for each pixel, row by row
 pub record PictureValue : Type 0 where
@@ -21,10 +23,6 @@ picture_of_parts width height palette registers =
 -- the register of a pixel inside
 abbrev pub register_of : PictureValue → ℕ → ℕ → ℕ
 register_of p x y = slice_index p.registers (y * p.width + x)
-
--- how many colour registers a picture has
-abbrev pub register_count : ℕ
-register_count = 16
 
 -- the greatest side of a picture, in pixels
 abbrev pub most_side : ℕ
@@ -52,3 +50,13 @@ pub record IsPalette (count : ℕ) (palette : List (Option Parts)) : Type 0 wher
 pub record IsPicture (count : ℕ) (p : PictureValue) : Type 0 where
   pub accepted : picture_fault count p.width p.height p.palette p.registers ≡ None
   pub palette : IsPalette count p.palette
+
+-- a palette of a profile
+pub record IsAnyPalette (palette : List (Option Parts)) : Type 0 where
+  pub profile : Profile
+  pub entries : IsPalette (count_of profile) palette
+
+-- a picture of its palette's profile
+pub record IsAnyPicture (p : PictureValue) : Type 0 where
+  pub profile : Profile
+  pub parts : IsPicture (count_of profile) p

@@ -3,16 +3,15 @@ use Rattle.std.specs.Prelude.{◌≡◌, ◌<◌, ◌≤◌, ℕ, List, Option, 
 use Rattle.sixel_picture.specs.PpmReading.{palette_of, register_among}
 use Rattle.sixel_picture.specs.declared.colour.Parts.{Parts}
 use Rattle.sixel_picture.specs.declared.ppm.colours.Colours.{Colours}
-use Rattle.sixel_picture.specs.Pictures.{register_count}
 
--- the palette has these colours, and their count
+-- the palette has these colours and no other, and their count is kept
 pub record Fills (c : Colours) (seen : List Parts) : Type 0 where
-  pub palette : c.palette ≡ palette_of register_count seen
+  pub palette : c.palette ≡ palette_of (length c.palette) seen
   pub count : c.count ≡ length seen
-  pub few : length seen ≤ register_count
+  pub few : length seen ≤ length c.palette
 
 -- the register of a colour among those that are seen with it, or there are too many
 abbrev pub Numbers : Option ℕ → Colours → List Parts → Parts → Type 0
 Numbers result new seen colour =
-    MatchOption result (register_count < length seen)
+    MatchOption result (length new.palette < length seen)
     (λ register. (register ≡ register_among seen colour) × Fills new seen)

@@ -10,7 +10,7 @@ use Rattle.std.specs.List.{list_any, position_from}
 use Rattle.sixel_grammar.specs.Bytes.{is_digit}
 use Rattle.sixel_grammar.specs.Devices.{one_more}
 use Rattle.sixel_picture.specs.Colours.{is_same}
-use Rattle.sixel_picture.specs.Pictures.{PictureValue, picture_of_parts, most_side, register_count}
+use Rattle.sixel_picture.specs.Pictures.{PictureValue, picture_of_parts, most_side}
 use Rattle.sixel_picture.specs.declared.colour.Parts.{Parts}
 use Rattle.sixel_picture.specs.declared.colour.Parts.TheVariants.{Rgb}
 use Rattle.sixel_picture.specs.declared.ppm.PpmFault.{PpmFault}
@@ -190,15 +190,15 @@ ppm_read registers bytes = do
 abbrev pub HasWholeHeader : List ℕ → Type 0
 HasWholeHeader bytes = IsOk (head_of bytes)
 
--- an answer is what the bytes say; memory is wanting only after a whole header without a fault, and the answer of a
+-- an answer is what the bytes say, with so many registers; memory is wanting only after a whole header without a fault, and the answer of a
 -- device that failed says nothing of the bytes
-abbrev pub ReadsPpm : Result PictureValue PpmFault → List ℕ → Type 0
-ReadsPpm (Ok picture) bytes = ppm_read register_count bytes ≡ Ok picture
-ReadsPpm (Err (Format reason place)) bytes = ppm_read register_count bytes ≡ at_fault reason place
-ReadsPpm (Err OutOfMemory) bytes = HasWholeHeader bytes
-ReadsPpm (Err Read) bytes = Unit {0}
-ReadsPpm (Err NotRgb) bytes = ⊥
-ReadsPpm (Err Write) bytes = ⊥
+abbrev pub ReadsPpm : ℕ → Result PictureValue PpmFault → List ℕ → Type 0
+ReadsPpm registers (Ok picture) bytes = ppm_read registers bytes ≡ Ok picture
+ReadsPpm registers (Err (Format reason place)) bytes = ppm_read registers bytes ≡ at_fault reason place
+ReadsPpm registers (Err OutOfMemory) bytes = HasWholeHeader bytes
+ReadsPpm registers (Err Read) bytes = Unit {0}
+ReadsPpm registers (Err NotRgb) bytes = ⊥
+ReadsPpm registers (Err Write) bytes = ⊥
 
 -- a call counts as a failure of the source exactly where it answers `Read`; reading answers no fault of writing
 abbrev pub CountsReadFault : {A : Type 0} → Result A PpmFault → ℕ → ℕ → Type 0

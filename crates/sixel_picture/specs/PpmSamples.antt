@@ -3,7 +3,7 @@ use Rattle.std.specs.Prelude.{◌≡◌, ◌≤◌, ◌<◌, ℕ, ◌+◌, ◌-�
 use Rattle.std.specs.Prelude.{map, Result, Ok}
 use Rattle.std.specs.List.{list_any}
 use Rattle.sixel_picture.specs.Colours.{is_same}
-use Rattle.sixel_picture.specs.Pictures.{PictureValue, register_count}
+use Rattle.sixel_picture.specs.Pictures.{PictureValue}
 use Rattle.sixel_picture.specs.PpmColours.{Fills}
 use Rattle.sixel_picture.specs.PpmHeld.{held_samples}
 use Rattle.sixel_picture.specs.PpmReading.{◌>>=◌, at_fault, colour_of, distinct, picture_of, pixels, register_among}
@@ -45,6 +45,10 @@ pub record HoldsPixels (kept : Colours) (last : Option Pixel) (maxval : ℕ) (re
   pub all_seen : AllSeen (distinct colours) colours
   pub whole : length colours + left ≡ total
 
+-- how many registers the palette has
+abbrev pub registers_in : Samples → ℕ
+registers_in s = length s.colours.palette
+
 abbrev pub Holds : Samples → List Parts → Type 0
 Holds s colours = HoldsPixels s.colours s.last s.maxval s.registers.items s.left (s.width * s.height) colours
 
@@ -77,6 +81,7 @@ pub record PutsPixel (old new : Samples) (register : ℕ) : Type 0 where
 
 -- a pixel whose register is that of its colour: it is the last one now
 pub record IsRegistered (old new : Samples) (seen : List Parts) (red green blue register : ℕ) : Type 0 where
+  pub same_registers : registers_in new ≡ registers_in old
   pub fills : Fills new.colours seen
   pub knows_last : KnowsLast new.last old.maxval seen
   pub known : IsKnown old.maxval seen (record { red = red; green = green; blue = blue; register = register })
@@ -92,13 +97,13 @@ abbrev pub TooMany : Samples → ℕ → ℕ → ℕ → PpmFault → Type 0
 TooMany old red green blue fault =
     (fault ≡ Format TooManyColours old.place)
     × ((colours : List Parts) → Holds old colours
-    → register_count < length (with_colour (distinct colours) (colour_of old.maxval red green blue)))
+    → registers_in old < length (with_colour (distinct colours) (colour_of old.maxval red green blue)))
 
 -- what the bytes to come make of the pixels that have these colours
 abbrev pub pixels_on : Samples → List Parts → List ℕ → Result PictureValue PpmFault
 pixels_on s colours rest = do
-  all ← pixels register_count s.maxval s.left colours s.place rest
-  Ok (picture_of register_count s.width s.height all)
+  all ← pixels (registers_in s) s.maxval s.left colours s.place rest
+  Ok (picture_of (registers_in s) s.width s.height all)
 
 -- the same, with the samples that are held
 abbrev pub samples_on : Samples → List Parts → List ℕ → Result PictureValue PpmFault
@@ -155,12 +160,13 @@ pub record HasRead (old new : Samples) (bytes rest : List ℕ) : Type 0 where
   pub fewer : budget new + length front ≡ budget old
   pub leads : LeadsOn old new front
 
--- no sample of the frame has come
-pub record Begins (frame : Frame) (s : Samples) : Type 0 where
+-- no sample of the frame has come, and there are so many registers
+pub record Begins (count : ℕ) (frame : Frame) (s : Samples) : Type 0 where
   pub width : s.width ≡ frame.width
   pub height : s.height ≡ frame.height
   pub maxval : s.maxval ≡ frame.maxval
   pub left : s.left ≡ frame.width * frame.height
   pub place : s.place ≡ frame.place
   pub held : s.held ≡ Nothing
+  pub registers : registers_in s ≡ count
   pub holds : Holds s []

@@ -2,11 +2,12 @@
 
 ghost use Rattle.sixel_picture.specs.Laws.{BlankSheetsAreBlank, PictureFilesAreRead, PixelsHaveColours};
 ghost use Rattle.sixel_picture.specs.Laws.{RunsPaintTheirPixels};
-ghost use Rattle.sixel_picture.specs.Pictures.{register_count};
+ghost use Rattle.sixel_picture.specs.Profiles.{count_of};
+ghost use Rattle.sixel_picture.specs.declared.profile.Profile.{Profile};
 
 /// Each pixel of a picture has a colour, so that the text of its PPM leaves no pixel out.
 pub fn pixels_have_colours()
-    ensures { PixelsHaveColours register_count }
+    ensures { (profile : Profile) → PixelsHaveColours (count_of profile) }
 {}
 
 /// No pixel of a blank plane has a register.
@@ -22,5 +23,5 @@ pub fn runs_paint_their_pixels()
 /// The reading of a PPM agrees with the grammar of picture files: each file of a picture is read as that picture, and
 /// what is read is a file of it.
 pub fn picture_files_are_read()
-    ensures { PictureFilesAreRead register_count }
+    ensures { (profile : Profile) → PictureFilesAreRead (count_of profile) }
 {}

@@ -11,15 +11,17 @@ mod palette;
 mod picture;
 mod plane;
 mod ppm;
+mod profile;
 
 pub use band_plane::BandPlane;
 pub use bits::{BAND_ROWS, is_set};
 pub use byte_plane::BytePlane;
 pub use colour::{Colour, Parts};
-pub use palette::{Palette, REGISTERS};
+pub use palette::Palette;
 pub use picture::{Picture, PictureFault, PictureReason};
 pub use plane::Plane;
 pub use ppm::{PpmFault, PpmReason, read_ppm, write_ppm, write_ppm_colours};
+pub use profile::{LEAST_REGISTERS, MOST_REGISTERS, Profile};
 
 #[cfg(test)]
 mod tests;

@@ -1,10 +1,12 @@
 //! A picture: its size, its palette, and a register for each pixel.
 
-ghost use Rattle.std.specs.Prelude.{◌≡◌, ◌<◌, None, Some, MatchResult, nat_lt};
+ghost use Rattle.std.specs.Prelude.{◌≡◌, ◌<◌, ◌≤◌, ℕ, None, Some, MatchResult, length, nat_lt};
 ghost use Rattle.std.specs.List.{list_all};
-ghost use Rattle.sixel_picture.specs.Pictures.{IsPicture, picture_fault, picture_of_parts, register_of, register_count};
+ghost use Rattle.sixel_picture.specs.Pictures.{IsAnyPicture, picture_fault, picture_of_parts, register_of};
+ghost use Rattle.sixel_picture.specs.Profiles.{count_of};
 
-use crate::palette::{Palette, REGISTERS, greatest};
+use crate::palette::{Palette, greatest};
+use crate::profile::Profile;
 use std::marker::Model;
 
 /// The greatest side of a picture, in pixels.
@@ -23,13 +25,13 @@ pub struct Picture {
 }
 
 impl Model for Picture {
-    ghost use Rattle.sixel_picture.specs.Pictures.{IsPicture, PictureValue, picture_of_parts, register_count};
+    ghost use Rattle.sixel_picture.specs.Pictures.{IsAnyPicture, PictureValue, picture_of_parts};
 
     ghost Value = { PictureValue };
 
     ghost view = { λ p. picture_of_parts p.width p.height p.palette p.registers.items };
 
-    ghost invariant = { λ p. IsPicture register_count (picture_of_parts p.width p.height p.palette p.registers.items) };
+    ghost invariant = { λ p. IsAnyPicture (picture_of_parts p.width p.height p.palette p.registers.items) };
 }
 
 /// Why parts make no picture. Where several reasons apply, the first of them in this order is answered.
@@ -39,7 +41,7 @@ pub enum PictureReason {
     Size = 1,
     /// There are not as many registers as the width times the height.
     Count = 2,
-    /// A register is above 15.
+    /// A register is above those of the palette's profile.
     Register = 3,
     /// A pixel is in a register that has no colour.
     NoColour = 4,
@@ -53,22 +55,22 @@ pub struct PictureFault {
     pub registers: Vec<u8>,
 }
 
-/// Whether each register is below 16.
-fn all_below(registers: &[u8]) -> bool
-    ensures { result ≡ list_all (λ r. nat_lt r register_count) registers.now }
+/// Whether each register is one of the profile's.
+fn all_below(profile: Profile, registers: &[u8]) -> bool
+    ensures { result ≡ list_all (λ r. nat_lt r (count_of profile)) registers.now }
 {
-    (greatest(registers) as usize) < REGISTERS
+    (greatest(registers) as u16) < profile.count()
 }
 
 /// The first reason why these parts make no picture.
 fn reason_of(width: u32, height: u32, palette: &Palette, registers: &[u8]) -> Option<PictureReason>
-    ensures { result ≡ picture_fault register_count width height palette.now registers.now }
+    ensures { result ≡ picture_fault (length palette.now) width height palette.now registers.now }
 {
     if width < 1 || width > MOST_SIDE || height < 1 || height > MOST_SIDE {
         Some(PictureReason::Size)
     } else if registers.len() != (width * height) as usize {
         Some(PictureReason::Count)
-    } else if !all_below(registers) {
+    } else if !all_below(palette.profile(), registers) {
         Some(PictureReason::Register)
     } else if !palette.has_all(registers) {
         Some(PictureReason::NoColour)
@@ -86,8 +88,8 @@ impl Picture {
         registers: Vec<u8>,
     ) -> Result<Picture, PictureFault>
         ensures reason { MatchResult result
-            (λ p. picture_fault register_count width height palette registers.items ≡ None)
-            (λ f. picture_fault register_count width height palette registers.items ≡ Some f.reason) }
+            (λ p. picture_fault (length palette) width height palette registers.items ≡ None)
+            (λ f. picture_fault (length palette) width height palette registers.items ≡ Some f.reason) }
         ensures parts { MatchResult result
             (λ p. p ≡ picture_of_parts width height palette registers.items)
             (λ f. (f.palette ≡ palette) × (f.registers ≡ registers)) }
@@ -109,7 +111,7 @@ impl Picture {
 
     /// The picture of parts that make one, which aren't looked at again.
     pub(crate) fn of_parts(width: u32, height: u32, palette: Palette, registers: Vec<u8>) -> Picture
-        requires { picture_fault register_count width height palette registers.items ≡ None }
+        requires { picture_fault (length palette) width height palette registers.items ≡ None }
         ensures { result ≡ picture_of_parts width height palette registers.items }
     {
         // A call that does nothing: its contract says that the colours are in range.
@@ -125,7 +127,7 @@ impl Picture {
     /// The width in pixels.
     pub fn width(&self) -> u32
         ensures same { result ≡ self.now.width }
-        ensures picture { IsPicture register_count self.now }
+        ensures picture { IsAnyPicture self.now }
     {
         self.width
     }
@@ -133,15 +135,23 @@ impl Picture {
     /// The height in pixels.
     pub fn height(&self) -> u32
         ensures same { result ≡ self.now.height }
-        ensures picture { IsPicture register_count self.now }
+        ensures picture { IsAnyPicture self.now }
     {
         self.height
+    }
+
+    /// The profile of the palette.
+    pub fn profile(&self) -> Profile
+        ensures count { count_of result ≡ length self.now.palette }
+        ensures picture { IsAnyPicture self.now }
+    {
+        self.palette.profile()
     }
 
     /// The colours of the registers.
     pub fn palette(&self) -> &Palette
         ensures same { result.now ≡ self.now.palette }
-        ensures picture { IsPicture register_count self.now }
+        ensures picture { IsAnyPicture self.now }
     {
         &self.palette
     }
@@ -151,7 +161,7 @@ impl Picture {
         requires inside_x { x < self.now.width }
         requires inside_y { y < self.now.height }
         ensures same { result ≡ register_of self.now x y }
-        ensures picture { IsPicture register_count self.now }
+        ensures picture { IsAnyPicture self.now }
     {
         self.registers[y as usize * self.width as usize + x as usize]
     }
@@ -159,7 +169,7 @@ impl Picture {
     /// The registers of the pixels, row by row.
     pub(crate) fn registers(&self) -> &[u8]
         ensures same { result.now ≡ self.now.registers }
-        ensures picture { IsPicture register_count self.now }
+        ensures picture { IsAnyPicture self.now }
     {
         &self.registers
     }

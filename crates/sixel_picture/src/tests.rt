@@ -8,6 +8,7 @@ use crate::palette::Palette;
 use crate::picture::{Picture, PictureFault, PictureReason};
 use crate::plane::Plane;
 use crate::ppm::{PpmFault, write_ppm, write_ppm_colours};
+use crate::profile::Profile;
 use sixel_grammar::{DeviceFault, Sink, SliceSink};
 use std::alloc::{AllocError, Global};
 use std::test::Fail;
@@ -42,7 +43,7 @@ fn colours_are_in_range(rt: HostRuntime) -> Result<(), Fail> {
 /// Gives a register a colour, where there are both.
 fn set(palette: &mut Palette, register: u8, colour: Option<Colour>) {
     if let Some(colour) = colour
-        && register < 16
+        && (register as u16) < palette.profile().count()
     {
         palette.set(register, colour);
     }
@@ -54,19 +55,32 @@ fn holds_alone(palette: &Palette, register: u8, colour: Option<Colour>) -> bool 
 }
 
 #[test]
-fn palettes_have_sixteen_registers(rt: HostRuntime) -> Result<(), Fail> {
+fn profiles_have_16_and_256_registers(rt: HostRuntime) {
+    assert!(rt; Profile::Registers16.count() == 16);
+    assert!(rt; Profile::Registers256.count() == 256);
+}
+
+/// Whether a palette of the profile is empty, and then holds the colour in its last register alone.
+fn keeps_its_last(profile: Profile, last: u8, colour: Option<Colour>) -> bool {
+    let mut palette = Palette::new(profile);
+    if palette.profile() != profile || !holds_alone(&palette, last, None) {
+        return false;
+    }
+    set(&mut palette, last, colour);
+    holds_alone(&palette, last, colour)
+}
+
+#[test]
+fn palettes_have_a_colour_for_each_register_of_their_profile(rt: HostRuntime) {
     let colour = Colour::rgb(20, 40, 60);
     assert!(rt; colour.is_some());
-    let mut palette = Palette::new();
-    assert!(rt; holds_alone(&palette, 15, None), "empty");
-    set(&mut palette, 15, colour);
-    assert!(rt; holds_alone(&palette, 15, colour), "register 15");
-    Ok(())
+    assert!(rt; keeps_its_last(Profile::Registers16, 15, colour));
+    assert!(rt; keeps_its_last(Profile::Registers256, 255, colour));
 }
 
 /// A palette in which registers 0 and 3 are red and blue.
-fn red_and_blue() -> Palette {
-    let mut palette = Palette::new();
+fn red_and_blue(profile: Profile) -> Palette {
+    let mut palette = Palette::new(profile);
     set(&mut palette, 0, Colour::rgb(100, 0, 0));
     set(&mut palette, 3, Colour::rgb(0, 0, 100));
     palette
@@ -77,18 +91,20 @@ fn hands_back(fault: &PictureFault, palette: &Palette, registers: &[u8]) -> bool
     fault.palette == *palette && fault.registers.as_slice() == registers
 }
 
-/// Why parts make no picture, if they come back as they were.
+/// Why the parts with a palette of the profile in which registers 0 and 3 are red and blue make no picture, if they come back as they
+/// were.
 fn reason_of(
     alloc: Global,
+    profile: Profile,
     width: u32,
     height: u32,
-    palette: Palette,
     registers: &[u8],
 ) -> Result<Option<PictureReason>, AllocError> {
+    let palette = red_and_blue(profile);
     let made = Picture::new(width, height, palette, registers.to_vec(alloc)?);
     Ok(match made {
         Ok(_) => None,
-        Err(fault) => hands_back(&fault, &palette, registers).then_some(fault.reason),
+        Err(fault) => hands_back(&fault, &red_and_blue(profile), registers).then_some(fault.reason),
     })
 }
 
@@ -107,16 +123,39 @@ fn pictures_name_the_first_reason(rt: HostRuntime) -> Result<(), Fail> {
         (1, 1, [1].as_slice(), PictureReason::NoColour),
         (2, 1, [3, 15].as_slice(), PictureReason::NoColour),
     ] {
-        let reason = reason_of(rt.alloc(), width, height, red_and_blue(), registers)?;
+        let reason = reason_of(rt.alloc(), Profile::Registers16, width, height, registers)?;
         assert_eq!(rt; reason, Some(expected), "{width} by {height}");
     }
     Ok(())
 }
 
+/// No register is above those of the wide profile, so what is wanting there is a colour.
+#[test]
+fn wide_pictures_have_each_register(rt: HostRuntime) -> Result<(), Fail> {
+    for (width, height, registers, expected) in [
+        (1, 1, [16].as_slice(), PictureReason::NoColour),
+        (2, 1, [0, 255].as_slice(), PictureReason::NoColour),
+        (1, 1, [255, 3].as_slice(), PictureReason::Count),
+    ] {
+        let reason = reason_of(rt.alloc(), Profile::Registers256, width, height, registers)?;
+        assert_eq!(rt; reason, Some(expected), "{width} by {height}");
+    }
+    Ok(())
+}
+
+/// Whether an empty palette of the profile is refused for the colour of register 3.
+fn is_without_colour(alloc: Global, profile: Profile) -> Result<bool, AllocError> {
+    let made = Picture::new(1, 1, Palette::new(profile), [3].to_vec(alloc)?);
+    Ok(match made {
+        Ok(_) => false,
+        Err(fault) => fault.reason == PictureReason::NoColour,
+    })
+}
+
 #[test]
 fn a_picture_wants_a_colour_for_each_register(rt: HostRuntime) -> Result<(), Fail> {
-    let reason = reason_of(rt.alloc(), 1, 1, Palette::new(), &[3])?;
-    assert!(rt; reason == Some(PictureReason::NoColour));
+    assert!(rt; is_without_colour(rt.alloc(), Profile::Registers16)?);
+    assert!(rt; is_without_colour(rt.alloc(), Profile::Registers256)?);
     Ok(())
 }
 
@@ -143,10 +182,16 @@ fn register_of(picture: &Picture, x: u32, y: u32) -> Option<u8> {
 
 #[test]
 fn pictures_keep_their_parts(rt: HostRuntime) -> Result<(), Fail> {
-    let palette = red_and_blue();
-    let picture = picture_of(rt.alloc(), 2, 3, palette, &[0, 3, 3, 0, 0, 0])?;
+    let picture = picture_of(
+        rt.alloc(),
+        2,
+        3,
+        red_and_blue(Profile::Registers16),
+        &[0, 3, 3, 0, 0, 0],
+    )?;
     assert_eq!(rt; (picture.width(), picture.height()), (2, 3));
-    assert!(rt; *picture.palette() == palette);
+    assert!(rt; picture.profile() == Profile::Registers16);
+    assert!(rt; *picture.palette() == red_and_blue(Profile::Registers16));
     for (x, y, expected) in [(0, 0, 0), (1, 0, 3), (0, 1, 3), (1, 1, 0), (1, 2, 0)] {
         assert_eq!(rt; register_of(&picture, x, y), Some(expected), "{x}, {y}");
     }
@@ -193,7 +238,7 @@ fn is_written(
 
 /// A palette in which register 0 is black, and register 1 a hue.
 fn black_and_hue() -> Palette {
-    let mut palette = Palette::new();
+    let mut palette = Palette::new(Profile::Registers16);
     set(&mut palette, 0, Colour::rgb(0, 0, 0));
     set(&mut palette, 1, Colour::hls(120, 50, 100));
     palette
@@ -203,7 +248,12 @@ fn black_and_hue() -> Palette {
 fn pictures_are_written_as_ppm(rt: HostRuntime) -> Result<(), Fail> {
     let refused = Err(PpmFault::NotRgb);
     for (palette, registers, answer, text) in [
-        (red_and_blue(), [0, 3].as_slice(), Ok(()), TWO_PIXELS),
+        (
+            red_and_blue(Profile::Registers16),
+            [0, 3].as_slice(),
+            Ok(()),
+            TWO_PIXELS,
+        ),
         // A hue that no pixel has.
         (black_and_hue(), [0].as_slice(), Ok(()), BLACK),
         (black_and_hue(), [1].as_slice(), refused, b"".as_slice()),
@@ -254,9 +304,15 @@ fn fails_in_turn(picture: &Picture, text: &[u8]) -> bool {
 
 #[test]
 fn failing_sinks_have_a_front_of_the_text(rt: HostRuntime) -> Result<(), Fail> {
-    let two = picture_of(rt.alloc(), 2, 1, red_and_blue(), &[0, 3])?;
+    let two = picture_of(
+        rt.alloc(),
+        2,
+        1,
+        red_and_blue(Profile::Registers16),
+        &[0, 3],
+    )?;
     assert!(rt; fails_in_turn(&two, TWO_PIXELS), "two pixels");
-    let mut palette = Palette::new();
+    let mut palette = Palette::new(Profile::Registers16);
     set(&mut palette, 0, Colour::rgb(0, 0, 0));
     let black = picture_of(rt.alloc(), 1, 1, palette, &[0])?;
     assert!(rt; fails_in_turn(&black, BLACK), "a black pixel");
@@ -318,7 +374,13 @@ fn takes_of(picture: &Picture) -> Option<u32> {
 #[test]
 fn large_pictures_leave_in_blocks(rt: HostRuntime) -> Result<(), Fail> {
     let registers = vec![in rt.alloc(); 3; 300 * 200]?;
-    let picture = picture_of(rt.alloc(), 300, 200, red_and_blue(), registers.as_slice())?;
+    let picture = picture_of(
+        rt.alloc(),
+        300,
+        200,
+        red_and_blue(Profile::Registers16),
+        registers.as_slice(),
+    )?;
     let text = large_text(rt.alloc())?;
     let text = text.as_slice();
     let mut room = vec![in rt.alloc(); 0; 200_000]?;

@@ -21,7 +21,7 @@ use Rattle.sixel_terminal.specs.declared.pen.Pen.{Pen}
 use Rattle.sixel_terminal.specs.Canvases.{black}
 use Rattle.sixel_terminal.specs.Displays.{Display, registers_of}
 use Rattle.sixel_terminal.specs.Drawing.{defined_on, height_of, map_on, selected_on}
-use Rattle.sixel_terminal.specs.Standing.{IsPenAfter, StandsAfter, ink_on}
+use Rattle.sixel_terminal.specs.Standing.{IsPenAfter, StandsAfter, ink_at_point}
 use Rattle.sixel_terminal.proofs.InkLemmas.{stands_push}
 use Rattle.sixel_terminal.proofs.PaintLemmas.{none_filled, unpainted_pixel}
 use Rattle.sixel_terminal.proofs.RunLemmas.{Runs}
@@ -39,7 +39,7 @@ pen_start t p below c b h s = record {
 
 pub stands_start : (t : Display) (p : Pen) (inks : List Ink) → Runs t → IsPenAfter t [] p
     → inks ≡ map (λ c. Fixed c) t.screen → StandsAfter t [] p t.colours inks
-unfolding map_on latest ink_on last_at last_below
+unfolding map_on latest ink_at_point last_at last_below
 stands_start t p inks runs pen same = record {
   pen = pen;
   registers = refl;

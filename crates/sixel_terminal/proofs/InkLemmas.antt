@@ -17,8 +17,8 @@ use Rattle.sixel_terminal.specs.declared.pen.Pen.{Pen}
 use Rattle.sixel_terminal.specs.Canvases.{black}
 use Rattle.sixel_terminal.specs.Displays.{Display, IsGroundBelow, registers_of}
 use Rattle.sixel_terminal.specs.Drawing.{defined_on, filled_on, paints_on, selected_on, touches_on}
-use Rattle.sixel_terminal.specs.Standing.{StandsAfter, ink_of, ink_on}
-use Rattle.sixel_terminal.specs.Steps.{ink_after, ink_with, most, next_band, next_column, next_height, next_selected}
+use Rattle.sixel_terminal.specs.Standing.{StandsAfter, ink_in_register, ink_at_point}
+use Rattle.sixel_terminal.specs.Steps.{ink_after_event, ink_by_colours, most, next_band, next_column, next_height, next_selected}
 use Rattle.sixel_terminal.proofs.PixelLemmas.{pen_paints}
 use Rattle.sixel_terminal.proofs.RunLemmas.{Runs}
 use Rattle.sixel_terminal.proofs.StandLemmas.{colour_push, ink_push, modulo_below, pen_push}
@@ -65,18 +65,18 @@ map_same f g None h = refl
 map_same f g (Some a) h = ap Some (h a refl)
 
 same_ink : (t : Display) (before : List Event) (p : Pen) (colours : List Parts) (inks : List Ink) (r : ℕ)
-    → StandsAfter t before p colours inks → r < registers_of t → ink_with t colours r ≡ ink_of t before r
+    → StandsAfter t before p colours inks → r < registers_of t → ink_by_colours t colours r ≡ ink_in_register t before r
 same_ink t before p colours inks r s lt =
     ap (λ (c : Parts). if t.choices.binds_at_showing then Bound r else Fixed c) (s.colours_are r lt)
 
 ink_step : (t : Display) (before : List Event) (p : Pen) (colours : List Parts) (inks : List Ink) (e : Event) (x y : ℕ)
     → Runs t → StandsAfter t before p colours inks → x < most → y < most
-    → ink_after t p colours e x y (ink_on t before x y) ≡ ink_on t (before ++ e ∷ []) x y
+    → ink_after_event t p colours e x y (ink_at_point t before x y) ≡ ink_at_point t (before ++ e ∷ []) x y
 ink_step t before p colours inks e x y runs s lx ly =
-    ap (λ o. unwrap_or (option_map (ink_with t colours) o) (ink_on t before x y))
+    ap (λ o. unwrap_or (option_map (ink_by_colours t colours) o) (ink_at_point t before x y))
     (pen_paints t before p e x y s.pen runs.in_class.tall lx ly)
-    ∙ ap (λ o. unwrap_or o (ink_on t before x y))
-    (map_same (ink_with t colours) (ink_of t before) (paints_on t before e x y)
+    ∙ ap (λ o. unwrap_or o (ink_at_point t before x y))
+    (map_same (ink_by_colours t colours) (ink_in_register t before) (paints_on t before e x y)
     (λ r h. same_ink t before p colours inks r s (paints_below t before e x y r runs h)))
     ∙ sym (ink_push t before e x y)
 
@@ -92,7 +92,7 @@ pub stands_push : (t : Display) (before : List Event) (p q : Pen) (e : Event) (c
     → length inks' ≡ length inks
     → ((i : ℕ) → i < length inks
     → get_or inks' i black
-    ≡ ink_after t p colours e (i % t.choices.screen_width) (i / t.choices.screen_width) (get_or inks i black))
+    ≡ ink_after_event t p colours e (i % t.choices.screen_width) (i / t.choices.screen_width) (get_or inks i black))
     → StandsAfter t (before ++ e ∷ []) q colours' inks'
 stands_push t before p q e colours colours' inks inks' runs s c b h sel long defined whole painted = record {
   pen = pen_push t before p q e s.pen c b h sel;
@@ -108,7 +108,7 @@ stands_push t before p q e colours colours' inks inks' runs s c b h sel long def
       let in_height : i / t.choices.screen_width < t.choices.screen_height =
       div_below i t.choices.screen_width t.choices.screen_height some (omega (arith, lt)) in
       painted i (omega (arith, lt, s.pixels))
-      ∙ ap (ink_after t p colours e (i % t.choices.screen_width) (i / t.choices.screen_width)) (s.inks_are i lt)
+      ∙ ap (ink_after_event t p colours e (i % t.choices.screen_width) (i / t.choices.screen_width)) (s.inks_are i lt)
       ∙ ink_step t before p colours inks e (i % t.choices.screen_width) (i / t.choices.screen_width) runs s
       (omega (arith, in_width, runs.width)) (omega (arith, in_height, runs.height));
 }

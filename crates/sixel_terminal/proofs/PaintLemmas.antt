@@ -26,7 +26,7 @@ use Rattle.sixel_terminal.specs.declared.canvas.Span.{Span}
 use Rattle.sixel_terminal.specs.declared.pen.Pen.{Pen}
 use Rattle.sixel_terminal.specs.Canvases.{black, is_in_span, span_of}
 use Rattle.sixel_terminal.specs.Displays.{Display}
-use Rattle.sixel_terminal.specs.Steps.{ink_after, ink_with, is_from_origin}
+use Rattle.sixel_terminal.specs.Steps.{ink_after_event, ink_by_colours, is_from_origin}
 
 -- the pixels of a span on the screen, counted from the origin
 span_from : (o l c w x : ℕ) → x < w
@@ -186,29 +186,29 @@ nothing false f ink = refl
 pub filled_pixel : (t : Display) (p : Pen) (colours : List Parts) (pan pad width height register x y : ℕ) (ink : Ink)
     → t.choices.ground ≡ Filled register
     → cond (is_from_origin t x y && (nat_lt (x - t.choices.origin_x) width && nat_lt (y - t.choices.origin_y) height))
-    (ink_with t colours register) ink
-    ≡ ink_after t p colours (Step (Raster pan pad width height)) x y ink
+    (ink_by_colours t colours register) ink
+    ≡ ink_after_event t p colours (Step (Raster pan pad width height)) x y ink
 filled_pixel t p colours pan pad width height register x y ink ground =
     rw (ground, no_columns p.column p.band p.height 0 (x - t.choices.origin_x) (y - t.choices.origin_y))
     (pixel (is_from_origin t x y) (nat_lt (x - t.choices.origin_x) width && nat_lt (y - t.choices.origin_y) height)
-    (ink_with t colours) register ink)
+    (ink_by_colours t colours) register ink)
 
 -- an event that is neither a data command nor raster attributes paints nothing
 pub unpainted_pixel : (t : Display) (p : Pen) (colours : List Parts) (e : Event) (x y : ℕ) (ink : Ink)
     → columns_of t.choices.zero e ≡ 0
     → filled_on t.choices.ground e (x - t.choices.origin_x) (y - t.choices.origin_y) ≡ None
-    → ink ≡ ink_after t p colours e x y ink
+    → ink ≡ ink_after_event t p colours e x y ink
 unpainted_pixel t p colours e x y ink none unfilled =
     rw (
       none,
       unfilled,
       no_columns p.column p.band p.height (bits_of e) (x - t.choices.origin_x) (y - t.choices.origin_y),
     )
-    (nothing (is_from_origin t x y) (ink_with t colours) ink)
+    (nothing (is_from_origin t x y) (ink_by_colours t colours) ink)
 
 -- raster attributes whose ground is kept
 pub kept_pixel : (t : Display) (p : Pen) (colours : List Parts) (pan pad width height x y : ℕ) (ink : Ink)
-    → t.choices.ground ≡ Kept → ink ≡ ink_after t p colours (Step (Raster pan pad width height)) x y ink
+    → t.choices.ground ≡ Kept → ink ≡ ink_after_event t p colours (Step (Raster pan pad width height)) x y ink
 kept_pixel t p colours pan pad width height x y ink ground =
     unpainted_pixel t p colours (Step (Raster pan pad width height)) x y ink refl (rw ground refl)
 
@@ -220,7 +220,7 @@ none_filled (Filled register) e x y none = rw none refl
 pub other_pixel : (t : Display) (p : Pen) (colours : List Parts) (command : Command) (x y : ℕ) (ink : Ink)
     → ((bits : ℕ) → command ≡ Sixel bits → ⊥) → ((count bits : ℕ) → command ≡ Repeat count bits → ⊥)
     → ((pan pad width height : ℕ) → command ≡ Raster pan pad width height → ⊥)
-    → ink ≡ ink_after t p colours (Step command) x y ink
+    → ink ≡ ink_after_event t p colours (Step command) x y ink
 other_pixel t p colours (Sixel bits) x y ink no_sixel no_repeat no_raster = absurd (no_sixel bits refl)
 other_pixel t p colours (Repeat count bits) x y ink no_sixel no_repeat no_raster = absurd (no_repeat count bits refl)
 other_pixel t p colours (Raster a b c d) x y ink no_sixel no_repeat no_raster = absurd (no_raster a b c d refl)

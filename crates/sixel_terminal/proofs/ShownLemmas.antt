@@ -17,7 +17,7 @@ use Rattle.sixel_terminal.specs.declared.pen.Pen.{Pen}
 use Rattle.sixel_terminal.specs.Canvases.{black}
 use Rattle.sixel_terminal.specs.Displays.{Display, registers_of}
 use Rattle.sixel_terminal.specs.Drawing.{inked_on, map_on, paints_on, screen_on, shown_on}
-use Rattle.sixel_terminal.specs.Standing.{StandsAfter, ink_of, ink_on, inked_by, shown_in}
+use Rattle.sixel_terminal.specs.Standing.{StandsAfter, ink_in_register, ink_at_point, inked_by, shown_in}
 use Rattle.sixel_terminal.proofs.InkLemmas.{map_same, paints_below}
 use Rattle.sixel_terminal.proofs.RunLemmas.{Runs}
 
@@ -82,13 +82,13 @@ painting_shows : (t : Display) (events : List Event) (colours : List Parts) (x y
     → Runs t → AreAtEnd t events colours
     → option_map (shown_in colours) (inked_by t x y before e) ≡ inked_on t events x y before e
 painting_shows t events colours x y before e runs s =
-    map_map (shown_in colours) (ink_of t before) (paints_on t before e x y)
+    map_map (shown_in colours) (ink_in_register t before) (paints_on t before e x y)
     ∙ map_same _ _ (paints_on t before e x y)
     (λ r h. ink_shows t.choices.binds_at_showing t events before colours r s (paints_below t before e x y r runs h))
 
 pixel_shows : (t : Display) (events : List Event) (colours : List Parts) (x y : ℕ) → Runs t → AreAtEnd t events colours
-    → shown_in colours (ink_on t events x y) ≡ shown_on t events x y
-unfolding ink_on shown_on
+    → shown_in colours (ink_at_point t events x y) ≡ shown_on t events x y
+unfolding ink_at_point shown_on
 pixel_shows t events colours x y runs s =
     unwrap_map (shown_in colours) (last_at (inked_by t x y) events) _
     ∙ ap (λ o. unwrap_or o (get_or t.screen (y * t.choices.screen_width + x) (Rgb 0 0 0)))

@@ -16,7 +16,7 @@ use Rattle.sixel_terminal.specs.declared.canvas.Ink.TheVariants.{Fixed}
 use Rattle.sixel_terminal.specs.declared.pen.Pen.{Pen}
 use Rattle.sixel_terminal.specs.Displays.{Display, registers_of}
 use Rattle.sixel_terminal.specs.Drawing.{defined_on, height_of, map_on, selected_on}
-use Rattle.sixel_terminal.specs.Standing.{IsPenAfter, ink_on, inked_by}
+use Rattle.sixel_terminal.specs.Standing.{IsPenAfter, ink_at_point, inked_by}
 use Rattle.sixel_terminal.specs.Steps.{most, next_band, next_column, next_height, next_selected}
 
 -- the value of the first that has one, and a default
@@ -80,8 +80,8 @@ colour_push t before e r =
 
 -- the ink of a pixel after one event more
 pub ink_push : (t : Display) (before : List Event) (e : Event) (x y : ℕ)
-    → ink_on t (before ++ e ∷ []) x y ≡ unwrap_or (inked_by t x y before e) (ink_on t before x y)
-unfolding ink_on
+    → ink_at_point t (before ++ e ∷ []) x y ≡ unwrap_or (inked_by t x y before e) (ink_at_point t before x y)
+unfolding ink_at_point
 ink_push t before e x y =
     ap (λ o. unwrap_or o (Fixed (get_or t.screen (y * t.choices.screen_width + x) (Rgb 0 0 0))))
     (last_at_push (inked_by t x y) before e)

@@ -17,16 +17,16 @@ use Rattle.sixel_terminal.specs.Drawing.{height_of, map_on, paints_on, selected_
 use Rattle.sixel_terminal.specs.Steps.{most}
 
 -- what is painted in a register
-abbrev pub ink_of : Display → List Event → ℕ → Ink
-ink_of t before r = if t.choices.binds_at_showing then Bound r else Fixed (map_on t before r)
+abbrev pub ink_in_register : Display → List Event → ℕ → Ink
+ink_in_register t before r = if t.choices.binds_at_showing then Bound r else Fixed (map_on t before r)
 
 -- the ink of a pixel that an event paints
 abbrev pub inked_by : Display → ℕ → ℕ → List Event → Event → Option Ink
-inked_by t x y before e = option_map (ink_of t before) (paints_on t before e x y)
+inked_by t x y before e = option_map (ink_in_register t before) (paints_on t before e x y)
 
 -- the ink of the pixel after the events
-unfoldable pub ink_on : Display → List Event → ℕ → ℕ → Ink
-ink_on t before x y =
+unfoldable pub ink_at_point : Display → List Event → ℕ → ℕ → Ink
+ink_at_point t before x y =
     unwrap_or (last_at (inked_by t x y) before)
     (Fixed (slice_index_or t.screen (y * t.choices.screen_width + x) (Rgb 0 0 0)))
 
@@ -45,7 +45,7 @@ pub record StandsAfter (t : Display) (before : List Event) (p : Pen) (colours : 
   pub colours_are : (r : ℕ) → r < registers_of t → slice_index_or colours r (Rgb 0 0 0) ≡ map_on t before r
   pub pixels : length inks ≡ t.choices.screen_width * t.choices.screen_height
   pub inks_are : (i : ℕ) → i < t.choices.screen_width * t.choices.screen_height
-      → slice_index_or inks i black ≡ ink_on t before (i % t.choices.screen_width) (i / t.choices.screen_width)
+      → slice_index_or inks i black ≡ ink_at_point t before (i % t.choices.screen_width) (i / t.choices.screen_width)
 
 -- the colour that an ink shows, where the registers have these colours
 abbrev pub shown_in : List Parts → Ink → Parts

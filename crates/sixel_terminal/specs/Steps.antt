@@ -59,9 +59,9 @@ painted_by t p e x y =
     else None
 
 -- what is painted in a register that has one of these colours
-abbrev pub ink_with : Display → List Parts → ℕ → Ink
-ink_with t colours r = if t.choices.binds_at_showing then Bound r else Fixed (slice_index_or colours r (Rgb 0 0 0))
+abbrev pub ink_by_colours : Display → List Parts → ℕ → Ink
+ink_by_colours t colours r = if t.choices.binds_at_showing then Bound r else Fixed (slice_index_or colours r (Rgb 0 0 0))
 
 -- the ink of the pixel after the event
-abbrev pub ink_after : Display → Pen → List Parts → Event → ℕ → ℕ → Ink → Ink
-ink_after t p colours e x y ink = unwrap_or (option_map (ink_with t colours) (painted_by t p e x y)) ink
+abbrev pub ink_after_event : Display → Pen → List Parts → Event → ℕ → ℕ → Ink → Ink
+ink_after_event t p colours e x y ink = unwrap_or (option_map (ink_by_colours t colours) (painted_by t p e x y)) ink

@@ -1,6 +1,7 @@
 //! Checks a sixel picture, and writes the verdict.
 
 ghost use Rattle.std.specs.Prelude.{◌≡◌, Err, IfSome};
+ghost use Rattle.sixel_picture.specs.Profiles.{count_of};
 ghost use Rattle.sixel_check.specs.Growth.{MayGrowIn};
 ghost use Rattle.sixel.specs.declared.fault.RunFault.TheVariants.{Read};
 ghost use Rattle.sixel.specs.Outputs.{CheckGives, CountsWrites, WroteBy, WroteNothing, failures_by, status_of};
@@ -10,21 +11,23 @@ use crate::lines::write_verdict;
 use crate::task::Status;
 use sixel_check::Verdict;
 use sixel_grammar::{Sink, Source};
+use sixel_picture::Profile;
 use std::alloc::Global;
 
 /// Reads the whole input, and writes the line of the verdict. It doesn't flush.
 pub fn check<S: Source, K: Sink>(
     alloc: Global,
+    profile: Profile,
     input: &mut S,
     output: &mut K,
 ) -> Result<Status, RunFault>
     ensures wrote { IfSome (S.remaining input.old) (λ bytes.
-        WroteBy (CheckGives bytes) WroteNothing result (K.taken output.old) (K.taken output.new)) }
-    ensures memory { result ≡ Err RunFault.OutOfMemory → IfSome (S.remaining input.old) MayGrowIn }
+        WroteBy (CheckGives (count_of profile) bytes) WroteNothing result (K.taken output.old) (K.taken output.new)) }
+    ensures memory { result ≡ Err RunFault.OutOfMemory → IfSome (S.remaining input.old) (MayGrowIn (count_of profile)) }
     ensures reads { S.failure_count input.new ≡ failures_by Read result (S.failure_count input.old) }
     ensures writes { CountsWrites result (K.failure_count output.old) (K.failure_count output.new) }
 {
-    let verdict = sixel_check::check(alloc, input)?;
+    let verdict = sixel_check::check(alloc, profile, input)?;
     match write_verdict(&verdict, output) {
         Ok(()) => Ok(status_of(&verdict)),
         Err(_) => Err(RunFault::Write),

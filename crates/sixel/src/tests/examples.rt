@@ -3,6 +3,7 @@
 use super::ends;
 use crate::Exit;
 use crate::task::Task;
+use sixel_picture::Profile;
 use std::alloc::Global;
 
 /// Whether a check of the bytes ends so, with this line: a verdict goes to standard output, a fault to standard error.
@@ -14,7 +15,16 @@ fn checks(alloc: Global, bytes: &[u8], exit: Exit, line: &str) -> bool {
     } else {
         (line, b"".as_slice())
     };
-    ends(alloc, Task::Check, bytes, exit, written, said)
+    ends(
+        alloc,
+        Task::Check {
+            profile: Profile::Registers16,
+        },
+        bytes,
+        exit,
+        written,
+        said,
+    )
 }
 
 #[test]
@@ -172,6 +182,7 @@ fn terminals_differ(rt: HostRuntime) {
 fn shows(alloc: Global, bytes: &[u8], options: (bool, bool, bool), file: &[u8]) -> bool {
     let (showing, fill, selects) = options;
     let task = Task::Show {
+        profile: Profile::Registers16,
         showing,
         fill,
         selects,

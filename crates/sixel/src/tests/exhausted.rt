@@ -5,7 +5,7 @@ use crate::run::run;
 use crate::task::{Status, Task};
 use sixel_check::{Verdict, check};
 use sixel_grammar::{InputFault, SliceSink, SliceSource};
-use sixel_picture::{BandPlane, BytePlane, Colour, Picture, Plane, PpmFault, read_ppm};
+use sixel_picture::{BandPlane, BytePlane, Colour, Picture, Plane, PpmFault, Profile, read_ppm};
 use std::alloc::{AllocError, Global};
 use std::test::Fail;
 
@@ -30,14 +30,22 @@ fn is_picture(picture: &Picture, width: u32, colour: Option<Colour>) -> bool {
 }
 
 fn reads(alloc: Global) -> Option<bool> {
-    match read_ppm(alloc, &mut SliceSource::new(RED, 64, None)) {
+    match read_ppm(
+        alloc,
+        Profile::Registers16,
+        &mut SliceSource::new(RED, 64, None),
+    ) {
         Ok(picture) => Some(is_picture(&picture, 5, Colour::rgb(100, 0, 0))),
         Err(fault) => (fault != PpmFault::OutOfMemory).then_some(false),
     }
 }
 
 fn checks(alloc: Global) -> Option<bool> {
-    match check(alloc, &mut SliceSource::new(PIXEL, 64, None)) {
+    match check(
+        alloc,
+        Profile::Registers16,
+        &mut SliceSource::new(PIXEL, 64, None),
+    ) {
         Ok(Verdict::Portable(picture)) => Some(is_picture(&picture, 1, Colour::rgb(0, 0, 0))),
         Ok(Verdict::Broken(_)) => Some(false),
         Err(fault) => (fault != InputFault::OutOfMemory).then_some(false),
@@ -49,7 +57,9 @@ fn runs(alloc: Global) -> Option<bool> {
     let mut output = SliceSink::new(&mut room, 64, None);
     match run(
         alloc,
-        Task::Check,
+        Task::Check {
+            profile: Profile::Registers16,
+        },
         &mut SliceSource::new(PIXEL, 64, None),
         &mut output,
     ) {

@@ -6,6 +6,7 @@ use crate::exit::Exit;
 use crate::task::Task;
 use crate::words::{WordsFault, parse_words};
 use crate::{execute, explain, task_in};
+use sixel_picture::Profile;
 use std::alloc::Global;
 use std::io;
 use std::io::{Error, ErrorKind, Write};
@@ -88,6 +89,7 @@ fn a_standard_error_that_fails(rt: HostRuntime) {
         )
     );
     let pixel = Task::Show {
+        profile: Profile::Registers16,
         showing: false,
         fill: false,
         selects: false,
@@ -117,12 +119,36 @@ fn a_standard_error_that_fails(rt: HostRuntime) {
     );
     let uncovered = b"\x1bPq\"1;1;2;1#0;2;0;0;0#0@\x1b\\";
     let line = b"broken Uncovered 24 1 0\n";
-    assert!(rt; ends_so(rt.alloc(), Task::Render, uncovered, Exit::Broken, b"", line));
-    assert!(rt; ends_so(rt.alloc(), Task::Check, uncovered, Exit::Broken, line, b""));
     assert!(rt;
         ends_so(
             rt.alloc(),
-            Task::Render,
+            Task::Render {
+                profile: Profile::Registers16
+            },
+            uncovered,
+            Exit::Broken,
+            b"",
+            line
+        )
+    );
+    assert!(rt;
+        ends_so(
+            rt.alloc(),
+            Task::Check {
+                profile: Profile::Registers16
+            },
+            uncovered,
+            Exit::Broken,
+            line,
+            b""
+        )
+    );
+    assert!(rt;
+        ends_so(
+            rt.alloc(),
+            Task::Render {
+                profile: Profile::Registers16
+            },
             b"\x1bPq\"1;1;1;1#0;1;360;50;100#0@\x1b\\",
             Exit::Refused,
             b"",
@@ -132,7 +158,9 @@ fn a_standard_error_that_fails(rt: HostRuntime) {
     assert!(rt;
         ends_so(
             rt.alloc(),
-            Task::Encode,
+            Task::Encode {
+                profile: Profile::Registers16
+            },
             b"P6 1 1 256\n",
             Exit::Refused,
             b"",
@@ -142,7 +170,9 @@ fn a_standard_error_that_fails(rt: HostRuntime) {
     assert!(rt;
         ends_so(
             rt.alloc(),
-            Task::Check,
+            Task::Check {
+                profile: Profile::Registers16
+            },
             b"\x1bPq\"1;1;1;1#0;2;0;0;0#0@\x1b\\",
             Exit::Done,
             b"portable 1 1\n",
@@ -165,7 +195,15 @@ fn refuses_with(alloc: Global, room: usize, line: &[u8]) -> bool {
         room,
     };
     let bytes = b"\x1bPq\"1;1;1;1#0;2;0;0;0#0@\x1b\\".as_slice();
-    let ended = execute(alloc, Task::Check, bytes, output, errors);
+    let ended = execute(
+        alloc,
+        Task::Check {
+            profile: Profile::Registers16,
+        },
+        bytes,
+        output,
+        errors,
+    );
     ended == Exit::Refused && written.as_slice() == b"porta".as_slice() && said.as_slice() == line
 }
 

@@ -4,7 +4,7 @@ use crate::checking::{check, check_bytes};
 use crate::tests::{agree, bytes_of, is_said};
 use crate::verdict::Verdict;
 use sixel_grammar::SliceSource;
-use sixel_picture::{Colour, Picture};
+use sixel_picture::{Colour, Picture, Profile};
 use std::alloc::{AllocError, Global};
 use std::process::Abort;
 use std::test::Fail;
@@ -128,7 +128,11 @@ fn agrees_in(
     expected: &str,
 ) -> Result<bool, Fail> {
     let mut source = SliceSource::new(bytes, piece.max(1), None);
-    is_said(rt, &check(rt.alloc(), &mut source), expected)
+    is_said(
+        rt,
+        &check(rt.alloc(), Profile::Registers16, &mut source),
+        expected,
+    )
 }
 
 /// Whether it is, in pieces of one byte, of a few, and of them all.
@@ -181,7 +185,13 @@ fn worked_documents_in_pieces(rt: HostRuntime) -> Result<(), Fail> {
 #[test]
 fn eight_bits(rt: HostRuntime) -> Result<(), Fail> {
     let bytes = b"\x90q\"1;1;1;1#0;2;0;0;0#0@\x9c";
-    assert!(rt; is_said(&rt, &check_bytes(rt.alloc(), bytes), "portable 1 1")?);
+    assert!(rt;
+        is_said(
+            &rt,
+            &check_bytes(rt.alloc(), Profile::Registers16, bytes),
+            "portable 1 1"
+        )?
+    );
     assert!(rt; agrees_in_pieces(&rt, bytes, "portable 1 1")?);
     Ok(())
 }
@@ -189,7 +199,7 @@ fn eight_bits(rt: HostRuntime) -> Result<(), Fail> {
 /// The picture of a portable document.
 pub(super) fn picture_of(rt: &impl AllocGlobal, text: &str) -> Result<Picture, Fail> {
     let bytes = bytes_of(rt, text)?;
-    match check_bytes(rt.alloc(), &bytes) {
+    match check_bytes(rt.alloc(), Profile::Registers16, &bytes) {
         Ok(Verdict::Portable(picture)) => Ok(picture),
         _ => Err(Fail::from("no picture")),
     }

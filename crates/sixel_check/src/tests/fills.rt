@@ -3,6 +3,7 @@
 use crate::checking::check;
 use crate::tests::is_said;
 use sixel_grammar::{DeviceFault, SliceSource, Source};
+use sixel_picture::Profile;
 use std::test::Fail;
 
 /// A source, and how often it was filled from.
@@ -40,7 +41,7 @@ fn agrees_after(
         source: SliceSource::new(bytes, piece.max(1), fail_at),
         fills: 0,
     };
-    let answer = check(rt.alloc(), &mut counted);
+    let answer = check(rt.alloc(), Profile::Registers16, &mut counted);
     Ok(is_said(rt, &answer, expected)? && counted.fills == fills)
 }
 

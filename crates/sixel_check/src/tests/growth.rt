@@ -12,7 +12,7 @@ use crate::tests::documents::{black, is_left};
 use crate::tests::steps::expects_so;
 use crate::verdict::Verdict;
 use sixel_grammar::{InputFault, Placed, Reader, SliceSource};
-use sixel_picture::{BandPlane, BytePlane, Plane};
+use sixel_picture::{BandPlane, BytePlane, Plane, Profile};
 use std::test::Fail;
 
 /// A picture of one pixel.
@@ -43,8 +43,15 @@ fn is_broken(answer: &Result<Verdict, InputFault>, rule: Rule, place: u64) -> bo
 /// Whether the document has this verdict, from a slice and from a source.
 fn breaks(rt: &impl AllocGlobal, bytes: &[u8], rule: Rule, place: u64) -> bool {
     let mut source = SliceSource::new(bytes, 5, None);
-    is_broken(&check_bytes(rt.alloc(), bytes), rule, place)
-        && is_broken(&check(rt.alloc(), &mut source), rule, place)
+    is_broken(
+        &check_bytes(rt.alloc(), Profile::Registers16, bytes),
+        rule,
+        place,
+    ) && is_broken(
+        &check(rt.alloc(), Profile::Registers16, &mut source),
+        rule,
+        place,
+    )
 }
 
 /// The verdict is the same whichever growth is refused.
@@ -94,7 +101,7 @@ fn pushed_again<P: Plane>(rt: &impl AllocGlobal, bytes: &[u8]) -> Result<Checker
     ensures { IfOk result (λ checker. (seen : List PlacedValue) × StandsAfter checker seen) }
 {
     let mut reader = Reader::new();
-    let mut checker: Checker<P> = Checker::new(rt.alloc());
+    let mut checker: Checker<P> = Checker::new(rt.alloc(), Profile::Registers16);
     for byte in bytes {
         match reader.feed(*byte) {
             Ok(completed) => {

@@ -7,7 +7,7 @@ use crate::checking::check_bytes;
 use crate::rule::Rule;
 use crate::verdict::{Finding, Verdict};
 use sixel_grammar::Command;
-use sixel_picture::{Colour, Parts, Picture};
+use sixel_picture::{Colour, Parts, Picture, Profile};
 use std::alloc::AllocError;
 use std::test::Fail;
 
@@ -494,7 +494,7 @@ fn is_judged_alike(
     portable: &mut u32,
 ) -> bool {
     match (
-        check_bytes(rt.alloc(), &made.bytes),
+        check_bytes(rt.alloc(), Profile::Registers16, &made.bytes),
         plain_finding(&made.steps),
     ) {
         (Ok(Verdict::Broken(finding)), Some(plain)) => {

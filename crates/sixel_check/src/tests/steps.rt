@@ -8,7 +8,7 @@ use crate::checker::Checker;
 use crate::tests::documents::documents;
 use crate::tests::{bytes_of, events_of, in_words};
 use sixel_grammar::{Command, Event, Placed};
-use sixel_picture::{BytePlane, Plane};
+use sixel_picture::{BytePlane, Plane, Profile};
 use std::process::Abort;
 use std::test::Fail;
 
@@ -28,7 +28,7 @@ fn push_next(checker: &mut Checker<BytePlane>, placed: &Placed) -> Result<(), Fa
 fn pushed(rt: &impl AllocGlobal, events: &[Placed]) -> Result<Checker<BytePlane>, Fail>
     ensures { IfOk result (λ checker. (seen : List PlacedValue) × StandsAfter checker seen) }
 {
-    let mut checker: Checker<BytePlane> = Checker::new(rt.alloc());
+    let mut checker: Checker<BytePlane> = Checker::new(rt.alloc(), Profile::Registers16);
     for placed in events {
         push_next(&mut checker, placed)?;
     }

@@ -1,44 +1,48 @@
 //! The colours of a picture file, numbered as they are first seen.
 
-ghost use Rattle.std.specs.Prelude.{List, []};
+ghost use Rattle.std.specs.Prelude.{◌≡◌, List, [], length};
 ghost use Rattle.sixel_picture.specs.declared.colour.Parts.{Parts};
 ghost use Rattle.sixel_picture.specs.PpmReading.{with_colour};
 ghost use Rattle.sixel_picture.specs.PpmColours.{Fills, Numbers};
+ghost use Rattle.sixel_picture.specs.Profiles.{count_of};
 
 use crate::colour::Colour;
-use crate::palette::{Palette, REGISTERS};
+use crate::palette::Palette;
+use crate::profile::Profile;
 
 /// The colours seen so far: they have the registers from 0 on.
-#[derive(Clone, Copy, Debug, PartialEq, Eq)]
+#[derive(Debug, Drop)]
 pub(crate) struct Colours {
     pub(crate) palette: Palette,
-    pub(crate) count: u8,
+    pub(crate) count: u16,
 }
 
 impl Colours {
     /// No colour was seen.
-    pub(crate) fn new() -> Colours
-        ensures { Fills result [] }
+    pub(crate) fn new(profile: Profile) -> Colours
+        ensures none { Fills result [] }
+        ensures profile { length result.palette ≡ count_of profile }
     {
         Colours {
-            palette: Palette::new(),
+            palette: Palette::new(profile),
             count: 0,
         }
     }
 
     /// The register of a colour, which gets the next one if it is new; `None` where none is left.
     pub(crate) fn register_of(&mut self, colour: Colour) -> Option<u8>
-        ensures { (seen : List Parts) → Fills self.old seen → Numbers result self.new (with_colour seen colour) colour }
+        ensures numbers { (seen : List Parts) → Fills self.old seen → Numbers result self.new (with_colour seen colour) colour }
+        ensures profile { length self.new.palette ≡ length self.old.palette }
     {
         if let Some(index) = self.palette.index_of(colour) {
             return Some(index as u8);
         }
         let register = self.count;
-        if register as usize >= REGISTERS {
+        if register >= self.palette.profile().count() {
             return None;
         }
-        self.palette.set(register, colour);
+        self.palette.set(register as u8, colour);
         self.count = register + 1;
-        Some(register)
+        Some(register as u8)
     }
 }

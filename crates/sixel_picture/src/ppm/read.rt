@@ -4,12 +4,14 @@ ghost use Rattle.std.specs.Prelude.{List, IfErr, IfOk, IfSome};
 ghost use Rattle.sixel_picture.specs.PpmFeeding.{FeedsHeader, HasStarted, ReadsHeader, ReadsRest};
 ghost use Rattle.sixel_picture.specs.PpmReading.{CountsReadFault, ReadsPpm};
 ghost use Rattle.sixel_picture.specs.PpmSamples.{Holds, samples_on};
+ghost use Rattle.sixel_picture.specs.Profiles.{count_of};
 ghost use Rattle.sixel_picture.specs.declared.colour.Parts.{Parts};
 
 use crate::picture::Picture;
 use crate::ppm::header::{Frame, Next, Progress};
 use crate::ppm::samples::Samples;
 use crate::ppm::{PpmFault, PpmReason};
+use crate::profile::Profile;
 use sixel_grammar::{PIECE, Source};
 use std::alloc::Global;
 
@@ -32,16 +34,21 @@ pub(crate) struct Started {
 
 /// Reads a picture from a PPM of Netpbm: `P6`, a width and a height of 1 to 2,048 pixels, a maximum of
 /// 1 to 255, and three samples a pixel, which become percentages of red, green and blue. Registers are
-/// numbered from 0 in the order in which their colours are first seen, and the palette holds no other.
+/// numbered from 0 in the order in which their colours are first seen, and the palette, which is of the
+/// profile, holds no other. A colour for which the profile has no register is `TooManyColours`.
 ///
 /// The source is read to its end. Memory is taken once, for the registers, after the header.
-pub fn read_ppm<S: Source>(alloc: Global, input: &mut S) -> Result<Picture, PpmFault>
-    ensures bytes { IfSome (S.remaining input.old) (ReadsPpm result) }
+pub fn read_ppm<S: Source>(
+    alloc: Global,
+    profile: Profile,
+    input: &mut S,
+) -> Result<Picture, PpmFault>
+    ensures bytes { IfSome (S.remaining input.old) (ReadsPpm (count_of profile) result) }
     ensures failures { CountsReadFault result (S.failure_count input.old) (S.failure_count input.new) }
 {
     let mut piece = [0u8; PIECE];
     let started = read_header(input, &mut piece)?;
-    let mut samples = Samples::new(alloc, started.frame)?;
+    let mut samples = Samples::new(alloc, profile, started.frame)?;
     samples.feed(&piece[started.start..started.end])?;
     read_samples(samples, input, &mut piece)
 }

@@ -5,12 +5,14 @@ ghost use Rattle.std.specs.Prelude.{IfOk, IfSome, Ok, OnOk, vec_capacity, vec_le
 ghost use Rattle.sixel_picture.specs.Pictures.{is_side};
 ghost use Rattle.sixel_picture.specs.PpmHeld.{held_samples, is_good};
 ghost use Rattle.sixel_picture.specs.PpmReading.{colour_of, percent};
+ghost use Rattle.sixel_picture.specs.Profiles.{count_of};
 
 use crate::colour::Colour;
 use crate::picture::Picture;
 use crate::ppm::colours::Colours;
 use crate::ppm::header::Frame;
 use crate::ppm::{PpmFault, PpmReason};
+use crate::profile::Profile;
 use std::alloc::{AllocError, Global};
 
 /// The samples of a pixel, and its register.
@@ -92,11 +94,11 @@ impl Samples {
     ghost use Rattle.sixel_picture.specs.declared.colour.Parts.{Parts};
 
     /// No sample has come. This is the one growth of a reading.
-    pub(crate) fn new(alloc: Global, frame: Frame) -> Result<Samples, AllocError>
+    pub(crate) fn new(alloc: Global, profile: Profile, frame: Frame) -> Result<Samples, AllocError>
         requires sides { IsTrue (is_side frame.width && is_side frame.height) }
         requires scaled { 0 < frame.maxval }
         requires place { frame.place ≤ 65536 }
-        ensures { IfOk result (λ s. Begins frame s) }
+        ensures { IfOk result (λ s. Begins (count_of profile) frame s) }
     {
         let pixels = frame.width * frame.height;
         let registers = Vec::with_capacity(alloc, pixels as usize)?;
@@ -108,7 +110,7 @@ impl Samples {
             place: frame.place,
             held: Held::Nothing,
             last: None,
-            colours: Colours::new(),
+            colours: Colours::new(profile),
             registers,
         })
     }

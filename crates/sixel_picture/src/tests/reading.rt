@@ -6,6 +6,7 @@ use super::parts_of;
 use crate::colour::Parts;
 use crate::picture::Picture;
 use crate::ppm::{PpmFault, PpmReason, read_ppm};
+use crate::profile::Profile;
 use sixel_grammar::{DeviceFault, SliceSource, Source};
 use std::alloc::{AllocError, Global};
 use std::test::Fail;
@@ -16,7 +17,11 @@ const RED: &[u8] = b"P6 5 1 100\n\x64\x00\x00\x64\x00\x00\x64\x00\x00\x64\x00\x0
 fn read(alloc: Global, bytes: &[u8], piece: usize) -> Result<Picture, PpmFault>
     requires { 0 < piece }
 {
-    read_ppm(alloc, &mut SliceSource::new(bytes, piece, None))
+    read_ppm(
+        alloc,
+        Profile::Registers16,
+        &mut SliceSource::new(bytes, piece, None),
+    )
 }
 
 /// The fault of the bytes in pieces of a size.
@@ -146,6 +151,47 @@ fn reds(alloc: Global, header: &[u8], count: u8) -> Result<Vec<u8>, AllocError> 
     Ok(bytes)
 }
 
+/// The header and so many pixels side by side of which no two have one colour.
+fn different(alloc: Global, header: &[u8], count: u16) -> Result<Vec<u8>, AllocError> {
+    let mut bytes = header.to_vec(alloc)?;
+    for pixel in 0..count {
+        bytes.extend_from_slice(&[(pixel % 100) as u8, (pixel / 100 % 100) as u8, 0])?;
+    }
+    Ok(bytes)
+}
+
+/// What reading the bytes answers in a profile: the fault, or else how many registers have a colour of their own.
+fn count_of(alloc: Global, profile: Profile, bytes: &[u8]) -> Result<usize, PpmFault> {
+    let picture = read_ppm(alloc, profile, &mut SliceSource::new(bytes, 100, None))?;
+    Ok(
+        (0..=255u8)
+            .filter(|register| picture.palette().get(*register).is_some())
+            .count(),
+    )
+}
+
+#[test]
+fn a_profile_has_room_for_as_many_colours_as_registers(rt: HostRuntime) -> Result<(), Fail> {
+    let too_many = |place| {
+        Err(PpmFault::Format {
+            reason: PpmReason::TooManyColours,
+            place,
+        })
+    };
+    let more = different(rt.alloc(), b"P6 257 1 100\n", 257)?;
+    assert_eq!(rt;
+        count_of(rt.alloc(), Profile::Registers256, &more),
+        too_many(781)
+    );
+    assert_eq!(rt;
+        count_of(rt.alloc(), Profile::Registers16, &more),
+        too_many(61)
+    );
+    let all = different(rt.alloc(), b"P6 256 1 100\n", 256)?;
+    assert_eq!(rt; count_of(rt.alloc(), Profile::Registers256, &all), Ok(256));
+    Ok(())
+}
+
 #[test]
 fn a_seventeenth_colour_is_refused(rt: HostRuntime) -> Result<(), Fail> {
     let bytes = reds(rt.alloc(), b"P6 17 1 100\n", 17)?;
@@ -237,7 +283,7 @@ fn read_failing(alloc: Global, piece: usize, fail_at: u64) -> (Option<PpmFault>,
     requires { 0 < piece }
 {
     let mut source = SliceSource::new(RED, piece, Some(fail_at));
-    let fault = match read_ppm(alloc, &mut source) {
+    let fault = match read_ppm(alloc, Profile::Registers16, &mut source) {
         Ok(_) => None,
         Err(fault) => Some(fault),
     };
@@ -288,7 +334,7 @@ impl Source for BrokenSource {
 #[test]
 fn a_failed_source_is_called_no_more(rt: HostRuntime) -> Result<(), Fail> {
     let mut source = BrokenSource { calls: 0 };
-    match read_ppm(rt.alloc(), &mut source) {
+    match read_ppm(rt.alloc(), Profile::Registers16, &mut source) {
         Ok(_) => return Err("a picture".into()),
         Err(fault) => assert_eq!(rt; fault, PpmFault::Read),
     }

@@ -10,7 +10,7 @@ ghost use Rattle.sixel_picture.specs.Events.{named_by, select_of};
 ghost use Rattle.sixel_terminal.specs.Canvases.{black};
 ghost use Rattle.sixel_terminal.specs.Displays.{registers_of};
 ghost use Rattle.sixel_terminal.specs.Drawing.{defined_on, taken_on};
-ghost use Rattle.sixel_terminal.specs.Steps.{ink_after, ink_with, next_band, next_column, next_height, next_selected};
+ghost use Rattle.sixel_terminal.specs.Steps.{ink_after_event, ink_by_colours, next_band, next_column, next_height, next_selected};
 
 use crate::canvas::Ink;
 use crate::choices::Ground;
@@ -146,7 +146,7 @@ impl Terminal {
     /// What is painted in this register.
     fn ink(&self, colours: &[Colour], register: u16) -> Ink
         requires { register < length colours.now }
-        ensures { result ≡ ink_with self.now colours.now register }
+        ensures { result ≡ ink_by_colours self.now colours.now register }
     {
         if self.choices.binds_at_showing {
             Ink::Bound(register)
@@ -161,7 +161,7 @@ impl Terminal {
         requires colours_are { length colours.now ≡ registers_of self.now }
         requires screen { length inks.old ≡ self.now.choices.screen_width * self.now.choices.screen_height }
         ensures { EachIndex inks.old (λ i. slice_index_or inks.new i black
-            ≡ ink_after self.now pen colours.now (Step command) (i % self.now.choices.screen_width)
+            ≡ ink_after_event self.now pen colours.now (Step command) (i % self.now.choices.screen_width)
             (i / self.now.choices.screen_width) (slice_index_or inks.old i black)) }
     {
         match command {

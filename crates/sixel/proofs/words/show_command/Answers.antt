@@ -6,8 +6,11 @@ use Rattle.sixel.specs.Words.{flag, side}
 use Rattle.sixel.proofs.MatchLemmas.{neither}
 use Rattle.sixel.proofs.words.show_command.Goals as goal
 
+abbrev zero : App
+zero = with_rule (new_app (codes "show")) (flag (codes "wide"))
+
 abbrev one : App
-one = with_rule (new_app (codes "show")) (flag (codes "showing"))
+one = with_rule zero (flag (codes "showing"))
 
 abbrev two : App
 two = with_rule one (flag (codes "fill"))
@@ -21,28 +24,32 @@ four = with_rule three (side (codes "width") (codes "800"))
 pub returns-clause-app : goal.returns-clause-app
 returns-clause-app c =
     let about : app_of c.about.result ≡ new_app (codes "show") = ap app_of_fields c.about.ensures ∙ c.new.ensures.app in
-    let a1 : app_of c.in_ok-arg.field-0 ≡ one =
-    c.in_ok-arg.ensures.shape c.flag_arg.ensures.local ∙ ap₂ with_rule about c.flag_arg.ensures.rule in
-    let a2 : app_of c.in_ok-arg-2.field-0 ≡ two =
-    c.in_ok-arg-2.ensures.shape c.flag_arg-2.ensures.local ∙ ap₂ with_rule a1 c.flag_arg-2.ensures.rule in
-    let a3 : app_of c.in_ok-arg-3.field-0 ≡ three =
-    c.in_ok-arg-3.ensures.shape c.flag_arg-3.ensures.local ∙ ap₂ with_rule a2 c.flag_arg-3.ensures.rule in
-    let a4 : app_of c.in_ok-arg-4.field-0 ≡ four =
-    c.in_ok-arg-4.ensures.shape c.side_arg.ensures.local ∙ ap₂ with_rule a3 c.side_arg.ensures.rule in
-    IfOk-weaker c.arg-5.result _ _
+    let a0 : app_of c.in_ok-arg.field-0 ≡ zero =
+    c.in_ok-arg.ensures.shape c.wide_arg.ensures.local ∙ ap₂ with_rule about c.wide_arg.ensures.rule in
+    let a1 : app_of c.in_ok-arg-2.field-0 ≡ one =
+    c.in_ok-arg-2.ensures.shape c.flag_arg.ensures.local ∙ ap₂ with_rule a0 c.flag_arg.ensures.rule in
+    let a2 : app_of c.in_ok-arg-3.field-0 ≡ two =
+    c.in_ok-arg-3.ensures.shape c.flag_arg-2.ensures.local ∙ ap₂ with_rule a1 c.flag_arg-2.ensures.rule in
+    let a3 : app_of c.in_ok-arg-4.field-0 ≡ three =
+    c.in_ok-arg-4.ensures.shape c.flag_arg-3.ensures.local ∙ ap₂ with_rule a2 c.flag_arg-3.ensures.rule in
+    let a4 : app_of c.in_ok-arg-5.field-0 ≡ four =
+    c.in_ok-arg-5.ensures.shape c.side_arg.ensures.local ∙ ap₂ with_rule a3 c.side_arg.ensures.rule in
+    IfOk-weaker c.arg-6.result _ _
     (λ r h. h.shape c.side_arg-2.ensures.local
-    ∙ ap₂ with_rule a4 c.side_arg-2.ensures.rule) c.arg-5.ensures
+    ∙ ap₂ with_rule a4 c.side_arg-2.ensures.rule) c.arg-6.ensures
 
 pub returns-clause-local : goal.returns-clause-local
 returns-clause-local c =
     let about : (fields_of c.about.result).has_globals ≡ false =
     ap (λ f. f.has_globals) c.about.ensures ∙ c.new.ensures.local in
-    let g1 : (fields_of c.in_ok-arg.field-0).has_globals ≡ false =
-    neither _ _ _ c.in_ok-arg.ensures.globals about c.flag_arg.ensures.local in
-    let g2 : (fields_of c.in_ok-arg-2.field-0).has_globals ≡ false =
-    neither _ _ _ c.in_ok-arg-2.ensures.globals g1 c.flag_arg-2.ensures.local in
-    let g3 : (fields_of c.in_ok-arg-3.field-0).has_globals ≡ false =
-    neither _ _ _ c.in_ok-arg-3.ensures.globals g2 c.flag_arg-3.ensures.local in
-    let g4 : (fields_of c.in_ok-arg-4.field-0).has_globals ≡ false =
-    neither _ _ _ c.in_ok-arg-4.ensures.globals g3 c.side_arg.ensures.local in
-    IfOk-weaker c.arg-5.result _ _ (λ r h. neither _ _ _ h.globals g4 c.side_arg-2.ensures.local) c.arg-5.ensures
+    let g0 : (fields_of c.in_ok-arg.field-0).has_globals ≡ false =
+    neither _ _ _ c.in_ok-arg.ensures.globals about c.wide_arg.ensures.local in
+    let g1 : (fields_of c.in_ok-arg-2.field-0).has_globals ≡ false =
+    neither _ _ _ c.in_ok-arg-2.ensures.globals g0 c.flag_arg.ensures.local in
+    let g2 : (fields_of c.in_ok-arg-3.field-0).has_globals ≡ false =
+    neither _ _ _ c.in_ok-arg-3.ensures.globals g1 c.flag_arg-2.ensures.local in
+    let g3 : (fields_of c.in_ok-arg-4.field-0).has_globals ≡ false =
+    neither _ _ _ c.in_ok-arg-4.ensures.globals g2 c.flag_arg-3.ensures.local in
+    let g4 : (fields_of c.in_ok-arg-5.field-0).has_globals ≡ false =
+    neither _ _ _ c.in_ok-arg-5.ensures.globals g3 c.side_arg.ensures.local in
+    IfOk-weaker c.arg-6.result _ _ (λ r h. neither _ _ _ h.globals g4 c.side_arg-2.ensures.local) c.arg-6.ensures

@@ -15,6 +15,7 @@ returns-in_default-2-clause-none c = λ none t is.
 pub returns-in-Some-Some-clause-task : goal.returns-in-Some-Some-clause-task
 returns-in-Some-Some-clause-task c = (
   refl,
+  c.profile_of.ensures,
   c.flag_of.ensures,
   c.flag_of-in-Some-Some.ensures,
   c.flag_of-in-Some-Some-2.ensures,

@@ -1,7 +1,7 @@
 use Rattle.std.proofs.Common.{◌≡◌, ◌∙◌, ap, ap₂, codes, true}
 use Rattle.std.proofs.lemmas.Result.{IfOk-weaker}
 use Rattle.clap.specs.Simple.{App, app_of, app_of_fields, new_app, on_top, with_subcommand}
-use Rattle.sixel.specs.Words.{show_app, with_plain}
+use Rattle.sixel.specs.Words.{show_app, with_plain, with_profile}
 use Rattle.sixel.proofs.words.sixel_command.Goals as goal
 
 -- `sixel` with no subcommand yet
@@ -13,13 +13,13 @@ abbrev one : App
 one = with_plain bare (codes "list")
 
 abbrev two : App
-two = with_plain one (codes "check")
+two = with_profile one (codes "check")
 
 abbrev three : App
-three = with_plain two (codes "render")
+three = with_profile two (codes "render")
 
 abbrev four : App
-four = with_plain three (codes "encode")
+four = with_profile three (codes "encode")
 
 pub returns : goal.returns
 returns c =
@@ -31,11 +31,11 @@ returns c =
     let a1 : app_of c.in_ok-command.command ≡ one =
     c.in_ok-command.ensures ∙ ap (λ (a : App). with_plain a (codes "list")) zeroth in
     let a2 : app_of c.in_ok-command-2.command ≡ two =
-    c.in_ok-command-2.ensures ∙ ap (λ (a : App). with_plain a (codes "check")) a1 in
+    c.in_ok-command-2.ensures ∙ ap (λ (a : App). with_profile a (codes "check")) a1 in
     let a3 : app_of c.in_ok-command-3.command ≡ three =
-    c.in_ok-command-3.ensures ∙ ap (λ (a : App). with_plain a (codes "render")) a2 in
+    c.in_ok-command-3.ensures ∙ ap (λ (a : App). with_profile a (codes "render")) a2 in
     let a4 : app_of c.in_ok-command-4.command ≡ four =
-    c.in_ok-command-4.ensures ∙ ap (λ (a : App). with_plain a (codes "encode")) a3 in
+    c.in_ok-command-4.ensures ∙ ap (λ (a : App). with_profile a (codes "encode")) a3 in
     let show : app_of c.in_ok-show_command.field-0 ≡ show_app = c.in_ok-show_command.ensures.app in
     IfOk-weaker c.subcommand.result _ _
     (λ r h. h.shape c.in_ok-show_command.ensures.local ∙ ap₂ with_subcommand a4 (ap (λ (a : App). a.top) show))

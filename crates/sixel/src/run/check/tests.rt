@@ -3,12 +3,22 @@ use crate::run::tests::agrees;
 use crate::task::{Status, Task};
 use sixel_check::{Finding, Rule};
 use sixel_grammar::{Fault, Reason};
+use sixel_picture::Profile;
 use std::alloc::Global;
 
 /// Whether the bytes have this line and this answer, in pieces of each size.
 fn checks(alloc: Global, bytes: &[u8], line: &str, answer: Result<Status, RunFault>) -> bool {
     for piece in 1..=bytes.len() {
-        if !agrees(alloc, Task::Check, bytes, piece, line.as_bytes(), answer) {
+        if !agrees(
+            alloc,
+            Task::Check {
+                profile: Profile::Registers16,
+            },
+            bytes,
+            piece,
+            line.as_bytes(),
+            answer,
+        ) {
             return false;
         }
     }

@@ -1,12 +1,20 @@
 use crate::fault::RunFault;
 use crate::run::tests::agrees_in_pieces;
 use crate::task::{Status, Task};
-use sixel_picture::PpmReason;
+use sixel_picture::{PpmReason, Profile};
 use std::alloc::Global;
 
 /// Whether the bytes in pieces are encoded as this text, with this answer.
 fn encodes(alloc: Global, bytes: &[u8], text: &[u8], answer: Result<Status, RunFault>) -> bool {
-    agrees_in_pieces(alloc, Task::Encode, bytes, text, answer)
+    agrees_in_pieces(
+        alloc,
+        Task::Encode {
+            profile: Profile::Registers16,
+        },
+        bytes,
+        text,
+        answer,
+    )
 }
 
 #[test]

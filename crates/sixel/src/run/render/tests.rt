@@ -3,11 +3,20 @@ use crate::run::tests::agrees_in_pieces;
 use crate::task::{Status, Task};
 use sixel_check::{Finding, Rule};
 use sixel_grammar::{Fault, Reason};
+use sixel_picture::Profile;
 use std::alloc::Global;
 
 /// Whether the bytes in pieces are rendered as this file, with this answer.
 fn renders(alloc: Global, bytes: &[u8], file: &[u8], answer: Result<Status, RunFault>) -> bool {
-    agrees_in_pieces(alloc, Task::Render, bytes, file, answer)
+    agrees_in_pieces(
+        alloc,
+        Task::Render {
+            profile: Profile::Registers16,
+        },
+        bytes,
+        file,
+        answer,
+    )
 }
 
 #[test]

@@ -4,6 +4,7 @@ ghost use Rattle.sixel_picture.specs.Ppm.{is_file_side};
 use crate::fault::RunFault;
 use crate::run::tests::agrees_in_pieces;
 use crate::task::{Status, Task};
+use sixel_picture::Profile;
 use std::alloc::Global;
 
 /// Whether the bytes are shown as this file on a screen of one row, with this answer. The options are `--showing`,
@@ -20,6 +21,7 @@ fn shows_with(
 {
     let (showing, fill, selects) = options;
     let task = Task::Show {
+        profile: Profile::Registers16,
         showing,
         fill,
         selects,

@@ -4,7 +4,7 @@ use crate::fault::RunFault;
 use crate::run::tests::{Limits, agrees, run_watched};
 use crate::task::{Status, Task};
 use sixel_check::{Finding, Rule};
-use sixel_picture::PpmReason;
+use sixel_picture::{PpmReason, Profile};
 use std::alloc::{AllocError, Global};
 use std::test::Fail;
 
@@ -29,7 +29,16 @@ const OPEN_PIXEL: &[u8] = b"\x1bPq\"1;1;1;1#0;2;0;0;0#0@";
 
 /// Whether a check of the bytes writes this line, and answers this.
 fn checks(alloc: Global, bytes: &[u8], line: &str, answer: Result<Status, RunFault>) -> bool {
-    agrees(alloc, Task::Check, bytes, 1000, line.as_bytes(), answer)
+    agrees(
+        alloc,
+        Task::Check {
+            profile: Profile::Registers16,
+        },
+        bytes,
+        1000,
+        line.as_bytes(),
+        answer,
+    )
 }
 
 /// An outside pixel.
@@ -91,6 +100,7 @@ fn a_number_with_many_zeros_is_listed(rt: HostRuntime) -> Result<(), Fail> {
 
 /// A screen of more than a million pixels.
 const SCREEN: Task = Task::Show {
+    profile: Profile::Registers16,
     showing: false,
     fill: false,
     selects: false,
@@ -126,7 +136,16 @@ fn a_long_document_is_shown_on_a_large_screen(rt: HostRuntime) -> Result<(), Fai
 
 /// Whether an encode of the bytes writes this text, and answers this.
 fn encodes(alloc: Global, bytes: &[u8], text: &[u8], answer: Result<Status, RunFault>) -> bool {
-    agrees(alloc, Task::Encode, bytes, 1000, text, answer)
+    agrees(
+        alloc,
+        Task::Encode {
+            profile: Profile::Registers16,
+        },
+        bytes,
+        1000,
+        text,
+        answer,
+    )
 }
 
 fn refused(reason: PpmReason, place: u64) -> Result<Status, RunFault> {

@@ -7,7 +7,7 @@ use crate::run::tests::{Limits, Ran, run_watched};
 use crate::task::{Status, Task};
 use sixel_check::{Finding, Rule};
 use sixel_grammar::{Fault, Reason};
-use sixel_picture::PpmReason;
+use sixel_picture::{PpmReason, Profile};
 use std::alloc::Global;
 
 /// A task on some bytes, and what it writes and answers where no device fails.
@@ -53,7 +53,9 @@ const LISTED_FAULT: Case = Case {
 
 /// One pixel, checked.
 const CHECKED: Case = Case {
-    task: Task::Check,
+    task: Task::Check {
+        profile: Profile::Registers16,
+    },
     bytes: PIXEL,
     text: b"portable 1 1\n",
     answer: Ok(Status::Done),
@@ -62,7 +64,9 @@ const CHECKED: Case = Case {
 
 /// Two letters, checked: 90 bytes.
 const LETTERS: Case = Case {
-    task: Task::Check,
+    task: Task::Check {
+        profile: Profile::Registers16,
+    },
     bytes: b"\x1bPq\"1;1;14;7#0;2;0;0;0#1;2;100;100;0#2;2;0;100;0#1~~@@vv@@~~@@~~$#2??}}GG}}??}}??-#1!14@\x1b\\",
     text: b"portable 14 7\n",
     answer: Ok(Status::Done),
@@ -71,7 +75,9 @@ const LETTERS: Case = Case {
 
 /// A box of two pixels of which one is painted, checked.
 const UNCOVERED: Case = Case {
-    task: Task::Check,
+    task: Task::Check {
+        profile: Profile::Registers16,
+    },
     bytes: b"\x1bPq\"1;1;2;1#0;2;0;0;0#0@\x1b\\",
     text: b"broken Uncovered 24 1 0\n",
     answer: Ok(Status::Broken(Finding {
@@ -84,7 +90,9 @@ const UNCOVERED: Case = Case {
 
 /// A fault, which leaves no verdict.
 const CHECKED_FAULT: Case = Case {
-    task: Task::Check,
+    task: Task::Check {
+        profile: Profile::Registers16,
+    },
     bytes: LARGE,
     text: b"",
     answer: Err(TOO_LARGE),
@@ -93,7 +101,9 @@ const CHECKED_FAULT: Case = Case {
 
 /// One pixel, rendered.
 const RENDERED: Case = Case {
-    task: Task::Render,
+    task: Task::Render {
+        profile: Profile::Registers16,
+    },
     bytes: PIXEL,
     text: b"P6\n1 1\n100\n\x00\x00\x00",
     answer: Ok(Status::Done),
@@ -102,7 +112,9 @@ const RENDERED: Case = Case {
 
 /// A fault, which leaves no picture.
 const RENDERED_FAULT: Case = Case {
-    task: Task::Render,
+    task: Task::Render {
+        profile: Profile::Registers16,
+    },
     bytes: LARGE,
     text: b"",
     answer: Err(TOO_LARGE),
@@ -111,7 +123,9 @@ const RENDERED_FAULT: Case = Case {
 
 /// Five red pixels, encoded: 26 bytes.
 const RED: Case = Case {
-    task: Task::Encode,
+    task: Task::Encode {
+        profile: Profile::Registers16,
+    },
     bytes: b"P6 5 1 100\nd\0\0d\0\0d\0\0d\0\0d\0\0",
     text: b"\x1bP0;1q\"1;1;5;1#0;2;100;0;0#0!5@\x1b\\",
     answer: Ok(Status::Done),
@@ -120,7 +134,9 @@ const RED: Case = Case {
 
 /// Three red pixels, encoded: 20 bytes.
 const SHORT_RED: Case = Case {
-    task: Task::Encode,
+    task: Task::Encode {
+        profile: Profile::Registers16,
+    },
     bytes: b"P6 3 1 100\nd\0\0d\0\0d\0\0",
     text: b"\x1bP0;1q\"1;1;3;1#0;2;100;0;0#0@@@\x1b\\",
     answer: Ok(Status::Done),
@@ -129,7 +145,9 @@ const SHORT_RED: Case = Case {
 
 /// A file of another kind, by its second byte.
 const ENCODED_FAULT: Case = Case {
-    task: Task::Encode,
+    task: Task::Encode {
+        profile: Profile::Registers16,
+    },
     bytes: b"P5 1 1 100",
     text: b"",
     answer: Err(RunFault::Ppm {
@@ -141,6 +159,7 @@ const ENCODED_FAULT: Case = Case {
 
 /// A screen of one pixel.
 const SCREEN: Task = Task::Show {
+    profile: Profile::Registers16,
     showing: false,
     fill: false,
     selects: false,

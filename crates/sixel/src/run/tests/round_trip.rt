@@ -4,7 +4,7 @@ use crate::run::run;
 use crate::task::{Status, Task};
 use sixel_check::{Verdict, check_bytes};
 use sixel_grammar::{SliceSink, SliceSource};
-use sixel_picture::{Colour, Palette, Picture};
+use sixel_picture::{Colour, Palette, Picture, Profile};
 use std::alloc::{AllocError, Global};
 use std::test::Fail;
 
@@ -51,7 +51,15 @@ fn picture_file(alloc: Global, width: u32, height: u32) -> Result<Vec<u8>, Fail>
 fn encode_into(alloc: Global, picture: &[u8], room: &mut [u8]) -> Option<usize> {
     let mut input = SliceSource::new(picture, 37, None);
     let mut output = SliceSink::new(room, 64, None);
-    if run(alloc, Task::Encode, &mut input, &mut output) == Ok(Status::Done) {
+    if run(
+        alloc,
+        Task::Encode {
+            profile: Profile::Registers16,
+        },
+        &mut input,
+        &mut output,
+    ) == Ok(Status::Done)
+    {
         Some(output.written().len())
     } else {
         None
@@ -76,8 +84,21 @@ fn returns(alloc: Global, width: u32, height: u32) -> Result<bool, Fail> {
     let text = room.get(..count).ok_or("the text")?;
     let line = format!(in alloc; "portable {width} {height}\n")?;
     Ok(
-        sends(alloc, Task::Check, text, line.as_bytes())
-            && sends(alloc, Task::Render, text, picture.as_slice()),
+        sends(
+            alloc,
+            Task::Check {
+                profile: Profile::Registers16,
+            },
+            text,
+            line.as_bytes(),
+        ) && sends(
+            alloc,
+            Task::Render {
+                profile: Profile::Registers16,
+            },
+            text,
+            picture.as_slice(),
+        ),
     )
 }
 
@@ -113,7 +134,7 @@ fn has_colours(palette: &Palette, first: Option<Colour>, fourth: Option<Colour>)
 
 /// Whether the text is portable, leaves one pixel in register 0 of these colours, and is what is encoded of that.
 fn comes_back(alloc: Global, text: &[u8], first: Option<Colour>, fourth: Option<Colour>) -> bool {
-    match check_bytes(alloc, text) {
+    match check_bytes(alloc, Profile::Registers16, text) {
         Ok(Verdict::Portable(picture)) => {
             picture.width() == 1
                 && picture.height() == 1
@@ -141,7 +162,7 @@ fn a_picture_is_encoded_shortly(rt: HostRuntime) {
         b"\x1bPq\"1;1;14;7#0;2;0;0;0#1;2;100;100;0#2;2;0;100;0#1~~@@vv@@~~@@~~$#2??}}GG}}??}}??-#1!14@\x1b\\";
     let text =
         b"\x1bP0;1q\"1;1;14;7#0;2;0;0;0#1;2;100;100;0#2;2;0;100;0#1~~@@vv@@~~@@~~$#2??}}GG}}??}}-#1!14@\x1b\\";
-    let is_right = match check_bytes(rt.alloc(), bytes) {
+    let is_right = match check_bytes(rt.alloc(), Profile::Registers16, bytes) {
         Ok(Verdict::Portable(picture)) => is_encoded_as(&picture, text),
         _ => false,
     };

@@ -5,6 +5,7 @@ ghost use Rattle.sixel_picture.specs.Ppm.{is_file_side};
 
 use crate::run::tests::agrees_in_pieces;
 use crate::task::{Status, Task};
+use sixel_picture::Profile;
 use std::alloc::Global;
 
 /// Whether a screen of this size with no option is written as this picture file.
@@ -13,6 +14,7 @@ fn shows(alloc: Global, width: u32, height: u32, bytes: &[u8], file: &[u8]) -> b
     requires height { IsTrue (is_file_side height) }
 {
     let task = Task::Show {
+        profile: Profile::Registers16,
         showing: false,
         fill: false,
         selects: false,
@@ -24,7 +26,15 @@ fn shows(alloc: Global, width: u32, height: u32, bytes: &[u8], file: &[u8]) -> b
 
 /// Whether the picture is rendered as this file.
 fn renders(alloc: Global, bytes: &[u8], file: &[u8]) -> bool {
-    agrees_in_pieces(alloc, Task::Render, bytes, file, Ok(Status::Done))
+    agrees_in_pieces(
+        alloc,
+        Task::Render {
+            profile: Profile::Registers16,
+        },
+        bytes,
+        file,
+        Ok(Status::Done),
+    )
 }
 
 /// A sixel pixel is one pixel high, whatever the ratio: of three rows the first is painted.

@@ -8,6 +8,7 @@ use Rattle.sixel_grammar.specs.Reading.{NoFaultBefore}
 use Rattle.sixel_grammar.specs.Standing.{left_of}
 use Rattle.sixel_grammar.specs.declared.fault.InputFault.TheVariants.{Read}
 use Rattle.sixel_grammar.proofs.SourceLemmas.{consumes-then, no_fault_before}
+use Rattle.sixel_picture.specs.Profiles.{count_of}
 use Rattle.sixel_check.specs.Checking.{Answers}
 use Rattle.sixel_check.proofs.CheckLemmas.{end_counts, end_grows, fault_answers, fault_counts, fault_grows, fault_reads}
 use Rattle.sixel_check.proofs.CheckLemmas.{read_answers, read_counts, read_grows, told_all}
@@ -31,20 +32,21 @@ returns-in_err-count g c =
     let failed = err_from_is_err_and r c.from_residual.ensures.1 in
     let is : r ≡ Err Read = failed.1 ∙ ap Err failed.2 in
     record {
-      answer = read_answers a r is;
+      answer = read_answers _ a r is;
       failures = read_counts (g.S.Source.failure_count c.args.input.now)
           (g.S.Source.failure_count c.loop-checker.input) (g.S.Source.failure_count c.fill.new.self) r is
           c.in_err-count.ensures.failures i.3;
       unread = λ e.
           no_fault_before a (g.S.Source.remaining c.loop-checker.input) (g.S.Source.remaining c.fill.new.self)
           c.loop-checker.reader i.1.events i.0 i.1.read i.2 c.in_err-count.ensures.bytes;
-      memory = read_grows a r is;
+      memory = read_grows _ a r is;
     }
 
 -- ---- the end of the bytes
 
 pub conclude-requires : goal.conclude-requires
-conclude-requires g c = (c.loop-checker.invariant.0, c.loop-checker.invariant.1)
+conclude-requires g c =
+    (count_of c.args.profile, c.loop-checker.invariant.0, c.loop-checker.invariant.1)
 
 pub returns-then-count-eq0-clause-answer : goal.returns-then-count-eq0-clause-answer
 returns-then-count-eq0-clause-answer g c =
@@ -52,8 +54,8 @@ returns-then-count-eq0-clause-answer g c =
     let b = c.in_ok-count.ensures.bytes in
     let none : c.in_ok-count.count ≡ 0 = omega arith in
     told_all (g.S.Source.remaining c.args.input.now) (g.S.Source.remaining c.loop-checker.input)
-    (g.S.Source.remaining c.fill.new.self) i.0 c.fill.new.piece c.in_ok-count.count (Answers c.conclude.result) i.2 b.0
-    none (b.1 none (omega arith)) (c.conclude.ensures.answer i.0 i.1)
+    (g.S.Source.remaining c.fill.new.self) i.0 c.fill.new.piece c.in_ok-count.count (Answers (count_of c.args.profile) c.conclude.result) i.2 b.0
+    none (b.1 none (omega arith)) (c.conclude.ensures.answer _ i.0 i.1)
 
 pub returns-then-count-eq0-clause-failures : goal.returns-then-count-eq0-clause-failures
 returns-then-count-eq0-clause-failures g c =
@@ -66,12 +68,13 @@ returns-then-count-eq0-clause-unread g c = λ is. absurd (c.conclude.ensures.nev
 
 pub returns-then-count-eq0-clause-memory : goal.returns-then-count-eq0-clause-memory
 returns-then-count-eq0-clause-memory g c =
-    end_grows (g.S.Source.remaining c.args.input.now) c.conclude.result c.conclude.ensures.memory
+    end_grows _ (g.S.Source.remaining c.args.input.now) c.conclude.result c.conclude.ensures.memory
 
 -- ---- a piece that was refused
 
 pub read_piece-requires : goal.read_piece-requires
-read_piece-requires g c = (c.loop-checker.invariant.0, c.loop-checker.invariant.1)
+read_piece-requires g c =
+    (count_of c.args.profile, c.loop-checker.invariant.0, c.loop-checker.invariant.1)
 
 pub returns-in_err-read_piece : goal.returns-in_err-read_piece
 returns-in_err-read_piece g c =
@@ -85,14 +88,14 @@ returns-in_err-read_piece g c =
     let is : r ≡ Err fault = failed.1 ∙ ap Err failed.2 in
     let told =
     consumes-then a (g.S.Source.remaining c.loop-checker.input) z i.0 piece i.2 c.in_ok-count.ensures.bytes.0 in
-    let refused = c.in_err-read_piece.ensures.refused i.0 i.1 in
+    let refused = c.in_err-read_piece.ensures.refused _ i.0 i.1 in
     record {
-      answer = fault_answers a z fault r (i.0 ++ piece) is told refused;
+      answer = fault_answers _ a z fault r (i.0 ++ piece) is told refused;
       failures = fault_counts (g.S.Source.failure_count c.args.input.now)
           (g.S.Source.failure_count c.loop-checker.input) (g.S.Source.failure_count c.fill.new.self) fault r
           (i.0 ++ piece) is refused c.in_ok-count.ensures.failures i.3;
       unread = fault_reads (IfSome a (NoFaultBefore z)) fault r (i.0 ++ piece) is refused;
-      memory = fault_grows a z fault r (i.0 ++ piece) is told (c.in_err-read_piece.ensures.memory i.0 i.1);
+      memory = fault_grows _ a z fault r (i.0 ++ piece) is told (c.in_err-read_piece.ensures.memory _ i.0 i.1);
     }
 
 -- ---- the loop
@@ -102,7 +105,7 @@ loop-checker-smaller g c =
     let i = c.loop-checker.invariant in
     let old : left_of c.loop-checker.reader + length i.0 ≡ most_bytes = i.1.read.left in
     let new : left_of c.read_piece.new.reader + length (i.0 ++ take c.in_ok-count.count c.fill.new.piece) ≡ most_bytes =
-    (c.in_ok-read_piece.ensures.read i.0 i.1).read.left in
+    (c.in_ok-read_piece.ensures.read _ i.0 i.1).read.left in
     let some : 0 < c.in_ok-count.count = omega arith in
     let long : c.in_ok-count.count ≤ length c.fill.new.piece =
     omega (arith, c.in_ok-count.ensures.bound, c.fill.auto.piece) in
@@ -119,7 +122,7 @@ pub loop-checker-preserved : goal.loop-checker-preserved
 loop-checker-preserved g c =
     let i = c.loop-checker.invariant in (
       i.0 ++ take c.in_ok-count.count c.fill.new.piece,
-      c.in_ok-read_piece.ensures.read i.0 i.1,
+      c.in_ok-read_piece.ensures.read _ i.0 i.1,
       consumes-then (g.S.Source.remaining c.args.input.now) (g.S.Source.remaining c.loop-checker.input)
           (g.S.Source.remaining c.fill.new.self) i.0 (take c.in_ok-count.count c.fill.new.piece) i.2
           c.in_ok-count.ensures.bytes.0,

@@ -1,11 +1,12 @@
 use Rattle.std.proofs.Common.{◌≡◌, ℕ, List}
 use Rattle.std.specs.Io.KnownBytes.{Consumes}
 use Rattle.sixel_grammar.specs.Standing.{left_of}
+use Rattle.sixel_picture.specs.Profiles.{count_of}
 use Rattle.sixel_check.specs.Checking.{AreAfter}
 use Rattle.sixel_check.proofs.checking.check.Given as goal
 
 abbrev pub invariant-loop-checker : goal.invariant-loop-checker
-invariant-loop-checker g l = (front : List ℕ) × AreAfter l.reader l.checker front
+invariant-loop-checker g l = (front : List ℕ) × AreAfter (count_of l.fn.profile) l.reader l.checker front
     × Consumes (g.S.Source.remaining l.fn.input) (g.S.Source.remaining l.input) front
     × (g.S.Source.failure_count l.input ≡ g.S.Source.failure_count l.fn.input)
 

@@ -4,26 +4,27 @@ use Rattle.std.proofs.lemmas.Result.{err_from_is_err_and}
 use Rattle.sixel_check.proofs.CheckLemmas.{end_reads}
 use Rattle.sixel_check.proofs.GrowthLemmas.{grows_if}
 use Rattle.sixel_check.proofs.ReadLemmas.{explains_now, never_read}
+use Rattle.sixel_picture.specs.Profiles.{count_of}
 use Rattle.sixel_check.proofs.checking.check_bytes.Goals as goal
 
 pub conclude-requires : goal.conclude-requires
 conclude-requires c =
-    (c.args.bytes.now, c.in_ok-read_piece.ensures.read [] c.nothing_read-reader.ensures)
+    (count_of c.args.profile, c.args.bytes.now, c.in_ok-read_piece.ensures.read _ [] c.nothing_read-reader.ensures)
 
 pub returns-clause-answer : goal.returns-clause-answer
 returns-clause-answer c =
-    c.conclude.ensures.answer c.args.bytes.now
-    (c.in_ok-read_piece.ensures.read [] c.nothing_read-reader.ensures)
+    c.conclude.ensures.answer _ c.args.bytes.now
+    (c.in_ok-read_piece.ensures.read _ [] c.nothing_read-reader.ensures)
 
 pub returns-in_err-read_piece : goal.returns-in_err-read_piece
 returns-in_err-read_piece c =
     let failed = err_from_is_err_and c.from_residual.result c.from_residual.ensures.1 in
-    let refused = c.in_err-read_piece.ensures.refused [] c.nothing_read-reader.ensures in
+    let refused = c.in_err-read_piece.ensures.refused _ [] c.nothing_read-reader.ensures in
     record {
       answer = rw (failed.1, failed.2) (explains_now _ c.args.bytes.now refused);
       never_read = rw (failed.1, failed.2) (never_read _ c.args.bytes.now refused);
       memory = rw (failed.1, failed.2) (grows_if (Err _) c.args.bytes.now
-          (c.in_err-read_piece.ensures.memory [] c.nothing_read-reader.ensures));
+          (c.in_err-read_piece.ensures.memory _ [] c.nothing_read-reader.ensures));
     }
 
 pub returns-clause-never_read : goal.returns-clause-never_read

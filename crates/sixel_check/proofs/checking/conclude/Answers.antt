@@ -7,25 +7,26 @@ use Rattle.sixel_check.proofs.checking.conclude.Goals as goal
 
 pub finish-requires-2 : goal.finish-requires-2
 finish-requires-2 g c =
-    let a = c.requires.1 in
-    let document = c.in_ok-finish.ensures.answer a.events c.requires.0 a.read in
+    let a = c.requires.2 in
+    let document = c.in_ok-finish.ensures.answer a.events c.requires.1 a.read in
     record {
       whole = (
+        c.requires.0,
         a.events,
         a.checked,
-        sym (whole_events a.events) ∙ whole_ended (events_of a.events) (document_whole a.events c.requires.0 document),
+        sym (whole_events a.events) ∙ whole_ended (events_of a.events) (document_whole a.events c.requires.1 document),
       );
     }
 
 pub returns-clause-answer : goal.returns-clause-answer
-returns-clause-answer g c = λ front a. (
+returns-clause-answer g c = λ registers front a. (
   a.events,
   c.in_ok-finish.ensures.answer a.events front a.read,
-  c.in_ok-finish-2.ensures.verdict a.events a.checked,
-  c.in_ok-finish-2.ensures.everywhere a.events a.checked,
+  c.in_ok-finish-2.ensures.verdict registers a.events a.checked,
+  c.in_ok-finish-2.ensures.everywhere registers a.events a.checked,
 )
 
 pub returns-in_err-finish-clause-answer : goal.returns-in_err-finish-clause-answer
 returns-in_err-finish-clause-answer g c =
     let failed = err_from_is_err_and c.from_residual.result c.from_residual.ensures.1 in
-    rw (failed.1, failed.2) (λ front a. (c.in_err-finish.ensures.answer a.events front a.read).0)
+    rw (failed.1, failed.2) (λ registers front a. (c.in_err-finish.ensures.answer a.events front a.read).0)

@@ -8,6 +8,6 @@ pub returns-in_err-keep_one-clause-grows : goal.returns-in_err-keep_one-clause-g
 returns-in_err-keep_one-clause-grows g c =
     let first = option_to_list c.args.completed.first in
     err_says _ c.from_residual.result
-    (λ seen s.
-    subst MayGrowAmong (append_assoc seen first (option_to_list c.args.completed.second))
-    (grows_longer (seen ++ first) c.args.completed.second (c.in_err-keep_one.ensures.grows seen s)))
+    (λ registers seen s.
+    subst (MayGrowAmong registers) (append_assoc seen first (option_to_list c.args.completed.second))
+    (grows_longer (seen ++ first) c.args.completed.second (c.in_err-keep_one.ensures.grows registers seen s)))

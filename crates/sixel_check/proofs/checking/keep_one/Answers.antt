@@ -9,7 +9,7 @@ use Rattle.sixel_check.proofs.checking.keep_one.Goals as goal
 pub returns-in-Some-clause-grows : goal.returns-in-Some-clause-grows
 returns-in-Some-clause-grows g c =
     on_err_weaker c.push.result
-    (λ grows seen s.
-    subst (λ (o : Option Placed). MayGrowAmong (seen ++ option_to_list o)) (sym c.in-Some.is)
-    (grows_end seen c.in-Some.placed (grows seen s)))
+    (λ grows registers seen s.
+    subst (λ (o : Option Placed). MayGrowAmong registers (seen ++ option_to_list o)) (sym c.in-Some.is)
+    (grows_end seen c.in-Some.placed (grows registers seen s)))
     c.push.ensures.grows

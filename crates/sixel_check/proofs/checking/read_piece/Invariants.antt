@@ -3,5 +3,5 @@ use Rattle.sixel_check.specs.Checking.{AreAfter}
 use Rattle.sixel_check.proofs.checking.read_piece.Given as goal
 
 abbrev pub invariant-loop-byte : goal.invariant-loop-byte
-invariant-loop-byte g l = (front : List ℕ) → AreAfter l.fn.reader l.fn.checker front
-    → AreAfter l.reader l.checker (front ++ take l.byte-index l.piece)
+invariant-loop-byte g l = (registers : ℕ) (front : List ℕ) → AreAfter registers l.fn.reader l.fn.checker front
+    → AreAfter registers l.reader l.checker (front ++ take l.byte-index l.piece)

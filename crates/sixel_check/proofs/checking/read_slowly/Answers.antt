@@ -8,40 +8,41 @@ use Rattle.sixel_check.proofs.checking.read_slowly.Goals as goal
 
 pub keep-requires : goal.keep-requires
 keep-requires g c =
-    let a = c.requires.1 in (
+    let a = c.requires.2 in (
+      c.requires.0,
       a.events,
       a.checked,
-      read_may c.feed.new.self a.events c.in_ok-completed.completed (c.requires.0 ++ c.args.byte ∷ [])
-          (c.in_ok-completed.ensures.accepted a.events c.requires.0 a.read),
+      read_may c.feed.new.self a.events c.in_ok-completed.completed (c.requires.1 ++ c.args.byte ∷ [])
+          (c.in_ok-completed.ensures.accepted a.events c.requires.1 a.read),
     )
 
 pub returns-clause-read : goal.returns-clause-read
-returns-clause-read g c = λ front a.
+returns-clause-read g c = λ registers front a.
     after_byte c.args.reader.now c.feed.new.self c.args.checker.now c.keep.new.checker c.in_ok-completed.completed front
-    c.args.byte c.in_ok-completed.ensures.accepted c.in_ok-keep.ensures.kept a
+    c.args.byte c.in_ok-completed.ensures.accepted (c.in_ok-keep.ensures.kept registers) a
 
 pub returns-in_err-completed-clause-refused : goal.returns-in_err-completed-clause-refused
 returns-in_err-completed-clause-refused g c =
     let failed = err_from_is_err_and c.from_residual.result c.from_residual.ensures.1 in
     rw (failed.1, failed.2)
-    (λ front a rest.
+    (λ registers front a rest.
     let t = c.in_err-completed.ensures.refused a.events front a.read in
     fault_stays (front ++ c.args.byte ∷ []) rest _ t.0 (omega (arith, t.1, length-append front (c.args.byte ∷ []))))
 
 pub returns-in_err-completed-clause-memory : goal.returns-in_err-completed-clause-memory
 returns-in_err-completed-clause-memory g c =
     let failed = err_from_is_err_and c.from_residual.result c.from_residual.ensures.1 in
-    rw (failed.1, failed.2) (λ front a. tt)
+    rw (failed.1, failed.2) (λ registers front a. tt)
 
 pub returns-in_err-keep-clause-refused : goal.returns-in_err-keep-clause-refused
 returns-in_err-keep-clause-refused g c =
     let failed = err_from_is_err_and c.from_residual-in_err-keep.result c.from_residual-in_err-keep.ensures.1 in
-    rw (failed.1, failed.2) (λ front a. tt)
+    rw (failed.1, failed.2) (λ registers front a. tt)
 
 pub returns-in_err-keep-clause-memory : goal.returns-in_err-keep-clause-memory
 returns-in_err-keep-clause-memory g c =
     let failed = err_from_is_err_and c.from_residual-in_err-keep.result c.from_residual-in_err-keep.ensures.1 in
     rw (failed.1, failed.2)
-    (λ front a.
+    (λ registers front a.
     grows_byte c.args.reader.now c.feed.new.self c.args.checker.now c.in_ok-completed.completed c.args.byte front
-    c.in_ok-completed.ensures.accepted c.in_err-keep.ensures.grows a)
+    c.in_ok-completed.ensures.accepted (c.in_err-keep.ensures.grows registers) a)

@@ -1,6 +1,10 @@
 use Rattle.sixel_check.proofs.DecideLemmas.{verdict_exists}
 use Rattle.sixel_check.proofs.VerdictLemmas.{verdict_once}
+use Rattle.sixel_picture.specs.Profiles.{count_of}
 use Rattle.sixel_check.proofs.laws.lists_have_one_verdict.Goals as goal
 
 pub returns : goal.returns
-returns c = record { some = verdict_exists 16; once = verdict_once 16 }
+returns c = record {
+  some = λ profile. verdict_exists (count_of profile);
+  once = λ profile. verdict_once (count_of profile);
+}

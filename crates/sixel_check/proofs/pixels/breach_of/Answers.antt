@@ -4,23 +4,23 @@ use Rattle.sixel_check.proofs.PixelLemmas.{breach_plain, has_sheet, least_noted,
 use Rattle.sixel_check.proofs.pixels.breach_of.Goals as goal
 
 pub returns-in-Some-default : goal.returns-in-Some-default
-returns-in-Some-default g c = λ before s d.
+returns-in-Some-default g c = λ registers before s d.
     breach_plain before c.args.event.now c.in-Some-default.rule
     (least_noted c.args.notes.now (option_map g.P.Plane.sheet c.args.plane.now) before c.args.event.now c.is_some.result
     (Some c.in-Some-default.rule)
     (c.is_some.ensures ∙ has_sheet g.P.Plane.sheet c.args.plane.now) c.in-Some-default.ensures s d)
 
 pub returns-in-None-Some : goal.returns-in-None-Some
-returns-in-None-Some g c = λ before s d.
+returns-in-None-Some g c = λ registers before s d.
     let none =
     least_noted c.args.notes.now (option_map g.P.Plane.sheet c.args.plane.now) before c.args.event.now c.is_some.result
     None (c.is_some.ensures ∙ has_sheet g.P.Plane.sheet c.args.plane.now) c.in-None-Some.ensures s d in
-    c.breach_of_pixels.ensures before s (rw c.in-None-Some.is-1 at d) none
+    c.breach_of_pixels.ensures registers before s (rw c.in-None-Some.is-1 at d) none
 
 pub returns-in-None-None : goal.returns-in-None-None
-returns-in-None-None g c = λ before s d.
+returns-in-None-None g c = λ registers before s d.
     let none =
     least_noted c.args.notes.now (option_map g.P.Plane.sheet c.args.plane.now) before c.args.event.now c.is_some.result
     None (c.is_some.ensures ∙ has_sheet g.P.Plane.sheet c.args.plane.now) c.in-None-None.ensures s d in
     let undrawn = rw c.in-None-None.is-1 at d in
-    none_without_box before c.args.event.now undrawn.no_box none
+    none_without_box _ before c.args.event.now undrawn.no_box none

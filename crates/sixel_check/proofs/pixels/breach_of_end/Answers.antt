@@ -4,16 +4,16 @@ use Rattle.sixel_check.proofs.PixelLemmas.{breach_uncovered, none_before_end, no
 use Rattle.sixel_check.proofs.pixels.breach_of_end.Goals as goal
 
 pub returns-then-not-is_finish : goal.returns-then-not-is_finish
-returns-then-not-is_finish g c = λ before d none.
+returns-then-not-is_finish g c = λ registers before d none.
     let goes_on : is_finish c.args.event.now ≡ false = search rules in
-    none_before_end before c.args.event.now goes_on none
+    none_before_end _ before c.args.event.now goes_on none
 
 pub returns-in-Some : goal.returns-in-Some
-returns-in-Some g c = λ before d none.
+returns-in-Some g c = λ registers before d none.
     let ends : is_finish c.args.event.now ≡ true = search rules in
     breach_uncovered before c.args.event.now (g.P.Plane.sheet c.args.plane.now) c.in-Some.pixel ends d none
     (c.in-Some.ensures before d)
 
 pub returns-in-None : goal.returns-in-None
-returns-in-None g c = λ before d none.
-    none_uncovered before c.args.event.now (g.P.Plane.sheet c.args.plane.now) d none (c.in-None.ensures before d)
+returns-in-None g c = λ registers before d none.
+    none_uncovered _ before c.args.event.now (g.P.Plane.sheet c.args.plane.now) d none (c.in-None.ensures before d)

@@ -2,11 +2,11 @@ use Rattle.sixel_check.proofs.PixelLemmas.{breach_outside, none_outside}
 use Rattle.sixel_check.proofs.pixels.breach_of_pixels.Goals as goal
 
 pub returns-in-Some : goal.returns-in-Some
-returns-in-Some g c = λ before s d none.
+returns-in-Some g c = λ registers before s d none.
     breach_outside before c.args.event.now (g.P.Plane.sheet c.args.plane.now) c.in-Some.pixel d none
-    (c.in-Some.ensures before s)
+    (c.in-Some.ensures registers before s)
 
 pub returns-in-None : goal.returns-in-None
-returns-in-None g c = λ before s d none.
-    c.breach_of_end.ensures before d
-    (none_outside before c.args.event.now (g.P.Plane.sheet c.args.plane.now) d none (c.in-None.ensures before s))
+returns-in-None g c = λ registers before s d none.
+    c.breach_of_end.ensures registers before d
+    (none_outside _ before c.args.event.now (g.P.Plane.sheet c.args.plane.now) d none (c.in-None.ensures registers before s))

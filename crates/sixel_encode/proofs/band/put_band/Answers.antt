@@ -1,4 +1,4 @@
-use Rattle.std.proofs.Common.{◌≡◌, true, false, take, refl, sym, ap, ◌∙◌, arith}
+use Rattle.std.proofs.Common.{◌≡◌, ◌<◌, true, false, length, take, refl, sym, ap, ◌∙◌, arith}
 use Rattle.std.proofs.lemmas.Result.{err_from_is_err_and}
 use Rattle.sixel_grammar.specs.Blocks.{in_all}
 use Rattle.sixel_grammar.proofs.DeviceLemmas.{TakesMore-refl, TakesMore-then}
@@ -26,12 +26,15 @@ returns-in_err-put_next-clause-bytes g c =
     let register = c.loop-register.register in
     let before = in_all (g.K.Sink.taken c.loop-register.out) c.loop-register.text in
     let here : occurs p c.args.band register ≡ true =
-    sym (c.band_registers-occurring.ensures.value register c.loop-register-test.true) ∙ c.if-occurring-register.true in
+    sym (c.band_registers-occurring.ensures.value register
+    (omega (arith, c.loop-register-test.true, c.count-register-end.ensures.most))) ∙ c.if-occurring-register.true in
+    let below : register < length p.palette =
+    omega (arith, c.loop-register-test.true, c.count-register-end.ensures.value, c.profile.ensures.count) in
     let front = c.in_err-put_next.ensures.bytes in
-    rw (failed.1, registers-all p c.args.band 16 c.band_registers-occurring.ensures.picture.palette.entries)
+    rw (failed.1, registers-all p c.args.band (length p.palette) refl)
     (steps-stopped (registers_above p c.args.band) (register_step p c.args.band)
-    (registers-then p c.args.band) register 16
-    c.loop-register-test.true _ before _ c.loop-register.invariant.bytes (
+    (registers-then p c.args.band) register (length p.palette)
+    below _ before _ c.loop-register.invariant.bytes (
       front.0,
       put-as before _ _ _ (ap (take front.0) (step-is p c.args.band register c.loop-register.is_first here
           c.loop-register.invariant.first)) front.1,
@@ -49,7 +52,8 @@ loop-register-preserved g c = elim c.if-occurring-register.branch [
       let before = in_all (g.K.Sink.taken c.loop-register.out) c.loop-register.text in
       let after = in_all (g.K.Sink.taken w.put_next.new.out) w.put_next.new.text in
       let here : occurs p c.args.band register ≡ true =
-      sym (c.band_registers-occurring.ensures.value register c.loop-register-test.true)
+      sym (c.band_registers-occurring.ensures.value register
+      (omega (arith, c.loop-register-test.true, c.count-register-end.ensures.most)))
       ∙ w.if-occurring-register.true in
       rw (w.out-is, w.text-is, w.is_first-is)
       (record {
@@ -68,7 +72,8 @@ loop-register-preserved g c = elim c.if-occurring-register.branch [
       let p = c.args.picture.now in
       let register = c.loop-register.register in
       let gone : occurs p c.args.band register ≡ false =
-      sym (c.band_registers-occurring.ensures.value register c.loop-register-test.true)
+      sym (c.band_registers-occurring.ensures.value register
+      (omega (arith, c.loop-register-test.true, c.count-register-end.ensures.most)))
       ∙ w.if-occurring-register.false in
       rw (w.out-is, w.text-is, w.is_first-is)
       (record {
@@ -83,8 +88,9 @@ loop-register-preserved g c = elim c.if-occurring-register.branch [
 pub returns-clause-bytes : goal.returns-clause-bytes
 returns-clause-bytes g c =
     let p = c.args.picture.now in
-    let done : c.loop-register.register ≡ 16 = omega arith in
+    let done : c.loop-register.register ≡ length p.palette =
+    omega (arith, c.count-register-end.ensures.value, c.profile.ensures.count) in
     put-as _ _ _ _
     (ap (registers_above p c.args.band) done
-    ∙ sym (registers-all p c.args.band 16 c.band_registers-occurring.ensures.picture.palette.entries))
+    ∙ sym (registers-all p c.args.band (length p.palette) refl))
     c.loop-register.invariant.bytes

@@ -1,7 +1,11 @@
-use Rattle.std.proofs.Common.{◌≡◌, ◌==◌, ◌||◌, Bool, ap, ◌∙◌, sym, not, arith}
+use Rattle.std.proofs.Common.{◌≡◌, ◌==◌, ◌||◌, Bool, false, ap, ◌∙◌, sym, not, arith}
+use Rattle.std.proofs.lemmas.List.{get_or-replicate}
 use Rattle.sixel_encode.specs.Canon.{column_bits, occurs}
 use Rattle.sixel_encode.proofs.BitLemmas.{has_bits_then}
 use Rattle.sixel_encode.proofs.columns.band_registers.Goals as goal
+
+pub loop-x-init : goal.loop-x-init
+loop-x-init c = λ register small. get_or-replicate 256 register false false small
 
 pub loop-x-preserved : goal.loop-x-preserved
 loop-x-preserved c = λ register small.

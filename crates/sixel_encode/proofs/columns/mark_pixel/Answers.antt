@@ -6,19 +6,11 @@ use Rattle.sixel_encode.proofs.BitLemmas.{mark_added}
 use Rattle.sixel_encode.proofs.PartedLemmas.{parted, pixel_used}
 use Rattle.sixel_encode.proofs.columns.mark_pixel.Goals as goal
 
-pub bounds-occurring-register : goal.bounds-occurring-register
-bounds-occurring-register c =
-    rw c.register_at-register.ensures.same
-    ((pixel_used 16 c.args.picture.now (parted 16 c.args.picture.now c.height.ensures.picture) c.args.x
-    (6 * c.args.band + c.args.row) c.requires.x (omega arith)).under)
-
 pub returns-then-y-height : goal.returns-then-y-height
 returns-then-y-height c = λ register small.
     let y = 6 * c.args.band + c.args.row in
     let own = register_of c.args.picture.now c.args.x y in
     let inside : nat_lt y c.args.picture.now.height ≡ true = lt-ltb _ _ (omega arith) in
-    let used : own < 16 = (pixel_used 16 c.args.picture.now
-    (parted 16 c.args.picture.now c.height.ensures.picture) c.args.x y c.requires.x (omega arith)).under in
     rw c.register_at-register.ensures.same
     (mark_added c.args.occurring.now own register (omega (arith, c.told-occurring))
     ∙ ap (λ (t : Bool). get_or c.args.occurring.now register false || (t && (own == register))) (sym inside))

@@ -1,4 +1,6 @@
-use Rattle.std.proofs.Common.{lit≤}
+use Rattle.std.proofs.Common.{arith}
+use Rattle.sixel_picture.proofs.PictureLemmas.{at_most_256}
+use Rattle.sixel_picture.specs.Profiles.{count_of}
 use Rattle.sixel_encode.proofs.LengthLemmas
 use Rattle.sixel_encode.proofs.WrittenLemmas
 use Rattle.sixel_encode.proofs.laws.canonical_lists_can_be_written.Goals as goal
@@ -6,7 +8,8 @@ use Rattle.sixel_encode.proofs.laws.canonical_lists_can_be_written.Goals as goal
 pub returns : goal.returns
 returns c = record {
   whole = WrittenLemmas.lists_are_whole;
-  each = WrittenLemmas.events_can_be_written 16 (lit≤ tt);
-  documents = WrittenLemmas.texts_are_documents 16 (lit≤ tt)
-      (LengthLemmas.texts_have_at_most 268435456 16 (lit≤ tt) (lit≤ tt));
+  each = λ profile. WrittenLemmas.events_can_be_written (count_of profile) (omega (arith, at_most_256 profile));
+  documents = λ profile. WrittenLemmas.texts_are_documents (count_of profile) (omega (arith, at_most_256 profile))
+      (LengthLemmas.texts_have_at_most 268435456 (count_of profile) (omega (arith, at_most_256 profile))
+      (omega (arith, at_most_256 profile)));
 }

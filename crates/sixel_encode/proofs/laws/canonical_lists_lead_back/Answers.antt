@@ -1,8 +1,9 @@
+use Rattle.sixel_picture.specs.Profiles.{count_of}
 use Rattle.sixel_encode.proofs.LeadsBackLemmas
 use Rattle.sixel_encode.proofs.laws.canonical_lists_lead_back.Goals as goal
 
 pub returns : goal.returns
 returns c = record {
-  unbroken = LeadsBackLemmas.lists_break_no_rule 16;
-  left = LeadsBackLemmas.lists_leave_their_picture 16;
+  unbroken = λ profile. LeadsBackLemmas.lists_break_no_rule (count_of profile);
+  left = λ profile. LeadsBackLemmas.lists_leave_their_picture (count_of profile);
 }

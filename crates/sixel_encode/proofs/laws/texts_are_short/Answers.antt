@@ -1,10 +1,15 @@
-use Rattle.std.proofs.Common.{lit≤}
+use Rattle.std.proofs.Common.{arith, lit≤}
+use Rattle.sixel_picture.proofs.PictureLemmas.{at_most_256}
+use Rattle.sixel_picture.specs.Profiles.{count_of}
 use Rattle.sixel_encode.proofs.LengthLemmas
 use Rattle.sixel_encode.proofs.laws.texts_are_short.Goals as goal
 
 pub returns : goal.returns
 returns c = record {
-  bound = LengthLemmas.texts_are_short 16 (lit≤ tt);
+  bound = λ profile. LengthLemmas.texts_are_short (count_of profile) (omega (arith, at_most_256 profile));
   most = LengthLemmas.texts_have_at_most 11234326 16 (lit≤ tt) (lit≤ tt);
-  within_limit = LengthLemmas.texts_have_at_most 268435456 16 (lit≤ tt) (lit≤ tt);
+  most_wide = LengthLemmas.texts_have_at_most 179748886 256 (lit≤ tt) (lit≤ tt);
+  within_limit = λ profile.
+      LengthLemmas.texts_have_at_most 268435456 (count_of profile) (omega (arith, at_most_256 profile))
+      (omega (arith, at_most_256 profile));
 }

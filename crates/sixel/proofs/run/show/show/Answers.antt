@@ -8,4 +8,4 @@ pub write_screen-requires-clause-whole : goal.write_screen-requires-clause-whole
 unfolding show_terminal
 write_screen-requires-clause-whole g c =
     ap length (c.deref-2.ensures.value ∙ c.in_ok-shown.ensures)
-    ∙ screen_length (show_terminal c.args.choices) (events_of c.deref.result.now)
+    ∙ screen_length (show_terminal c.args.profile c.args.choices) (events_of c.deref.result.now)

@@ -4,7 +4,7 @@ use Rattle.sixel_check.proofs.StandLemmas.{stands_expects}
 use Rattle.sixel_check.proofs.checker.Checker.expects.Goals as goal
 
 pub returns : goal.returns
-returns g c = λ seen s.
+returns g c = λ registers seen s.
     c.expects.ensures
     ∙ ap (λ (v : CheckerValue). expects_from v.progress c.args.event.now) c.self.view_is
-    ∙ stands_expects c.args.self.now seen c.args.event.now s
+    ∙ stands_expects _ c.args.self.now seen c.args.event.now s

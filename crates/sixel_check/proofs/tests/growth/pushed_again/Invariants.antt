@@ -4,4 +4,4 @@ use Rattle.sixel_check.specs.Standing.{StandsAfter}
 use Rattle.sixel_check.proofs.tests.growth.pushed_again.Given as goal
 
 abbrev pub invariant-loop-byte : goal.invariant-loop-byte
-invariant-loop-byte g l = (seen : List Placed) × StandsAfter l.checker seen
+invariant-loop-byte g l = (registers : ℕ) × (seen : List Placed) × StandsAfter registers l.checker seen

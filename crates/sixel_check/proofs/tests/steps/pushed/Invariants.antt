@@ -4,4 +4,4 @@ use Rattle.sixel_check.specs.Standing.{StandsAfter}
 use Rattle.sixel_check.proofs.tests.steps.pushed.Given as goal
 
 abbrev pub invariant-loop-placed : goal.invariant-loop-placed
-invariant-loop-placed g l = (seen : List Placed) × StandsAfter l.checker seen
+invariant-loop-placed g l = (registers : ℕ) × (seen : List Placed) × StandsAfter registers l.checker seen

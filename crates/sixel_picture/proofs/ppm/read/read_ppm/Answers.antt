@@ -18,7 +18,7 @@ returns-in_err-feed-clause-bytes g c =
     let exit = c.from_residual-in_err-feed in
     let failed = err_from_is_err_and exit.result exit.ensures.1 in
     rw (failed.1, failed.2)
-    (ppm_refused _ _ c.read_header.new.piece c.in_ok-started.started c.in_ok-samples.samples _ _
+    (ppm_refused _ _ _ c.read_header.new.piece c.in_ok-started.started c.in_ok-samples.samples _ _
     (between c.in_ok-started.started.start c.in_ok-started.started.end c.read_header.new.piece
     c.in_ok-started.ensures.started.ordered)
     c.in_ok-started.ensures.started c.in_ok-samples.ensures
@@ -40,7 +40,7 @@ read_samples-requires g c =
 
 pub returns-clause-bytes : goal.returns-clause-bytes
 returns-clause-bytes g c =
-    ppm_finished _ _ c.read_header.new.piece c.in_ok-started.started c.in_ok-samples.samples c.feed.new.self
+    ppm_finished _ _ _ c.read_header.new.piece c.in_ok-started.started c.in_ok-samples.samples c.feed.new.self
     c.read_samples.result _
     (between c.in_ok-started.started.start c.in_ok-started.started.end c.read_header.new.piece
     c.in_ok-started.ensures.started.ordered)

@@ -1,18 +1,19 @@
+use Rattle.std.proofs.Common.{arith}
 use Rattle.sixel_picture.proofs.PpmColourLemmas.{numbered_before, none_left, numbered_next}
 use Rattle.sixel_picture.proofs.ppm.colours.Colours.register_of.Goals as goal
 
-pub returns-in-Some : goal.returns-in-Some
-returns-in-Some c =
+pub returns-in-Some-clause-numbers : goal.returns-in-Some-clause-numbers
+returns-in-Some-clause-numbers c =
     λ seen fills. numbered_before c.args.self.now seen c.args.colour c.index_of.result c.in-Some.index c.in-Some.is
     c.index_of.ensures.value fills
 
-pub returns-then-register-ge-REGISTERS : goal.returns-then-register-ge-REGISTERS
-returns-then-register-ge-REGISTERS c =
+pub returns-then-register-count-clause-numbers : goal.returns-then-register-count-clause-numbers
+returns-then-register-count-clause-numbers c =
     λ seen fills. none_left c.args.self.now seen c.args.colour c.index_of.result c.in_default.is
-    c.index_of.ensures.value c.if-register-ge-REGISTERS.true fills
+    c.index_of.ensures.value (omega (arith, c.if-register-count.true, c.count.ensures.value, c.profile.ensures.count)) fills
 
-pub returns : goal.returns
-returns c =
+pub returns-clause-numbers : goal.returns-clause-numbers
+returns-clause-numbers c =
     λ seen fills. numbered_next c.args.self.now c.set.new.self seen c.args.colour c.index_of.result c.in_default.is
     c.index_of.ensures.value
-    c.if-register-ge-REGISTERS.false c.set.ensures.value fills
+    (omega (arith, c.if-register-count.false, c.count.ensures.value, c.profile.ensures.count)) c.set.ensures.value fills

@@ -13,7 +13,7 @@ returns-in-Some-clause-registered c = λ colours holds.
     let numbered =
     subst (λ (x : Parts). (c.in-Some.register
     ≡ register_among (with_colour seen x) x) × Fills c.register_of.new.self (with_colour seen x))
-    c.colour_of-colour.ensures (c.in-Some.ensures seen holds.fills) in
+    c.colour_of-colour.ensures (c.in-Some.ensures.numbers seen holds.fills) in
     let known : IsKnown c.args.self.now.maxval (with_colour seen colour)
     (record { red = c.args.red; green = c.args.green; blue = c.args.blue; register = c.in-Some.register }) =
     record {
@@ -23,4 +23,4 @@ returns-in-Some-clause-registered c = λ colours holds.
       is_seen = seen_with seen colour;
       register = numbered.0;
     } in
-    record { fills = numbered.1; knows_last = known; known = known }
+    record { same_registers = c.in-Some.ensures.profile; fills = numbered.1; knows_last = known; known = known }

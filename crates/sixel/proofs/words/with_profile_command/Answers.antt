@@ -1,0 +1,20 @@
+use Rattle.std.proofs.Common.{◌≡◌, ◌∙◌, ap, ap₂, codes, false}
+use Rattle.std.proofs.lemmas.Result.{IfOk-weaker}
+use Rattle.clap.specs.Simple.{App, app_of, new_app, with_rule, with_subcommand}
+use Rattle.clap.specs.declared.builder.command.Command.TheViews.{out-Command as fields_of}
+use Rattle.sixel.specs.Words.{flag}
+use Rattle.sixel.proofs.MatchLemmas.{neither}
+use Rattle.sixel.proofs.words.with_profile_command.Goals as goal
+
+pub returns : goal.returns
+returns c =
+    let local : (fields_of c.about.result).has_globals ≡ false = ap (λ f. f.has_globals) c.about.ensures
+    ∙ c.new.ensures.local in
+    let app : app_of c.about.result ≡ new_app c.args.name.now = rw c.about.ensures c.new.ensures.app in
+    let wide : app_of c.in_ok-arg.field-0 ≡ with_rule (new_app c.args.name.now) (flag (codes "wide")) =
+    c.in_ok-arg.ensures.shape c.wide_arg.ensures.local ∙ ap₂ with_rule app c.wide_arg.ensures.rule in
+    let inner : (fields_of c.in_ok-arg.field-0).has_globals ≡ false =
+    neither _ _ _ c.in_ok-arg.ensures.globals local c.wide_arg.ensures.local in
+    IfOk-weaker c.subcommand.result _ _
+    (λ r h. h.shape inner ∙ ap (λ (a : App). with_subcommand (app_of c.args.command) a.top) wide)
+    c.subcommand.ensures
