@@ -19,10 +19,10 @@ fn colour_of(parts: Parts) -> Result<Colour, Fail> {
     Ok(colour.ok_or("a colour")?)
 }
 
-fn palette_of(entries: &[Entry]) -> Result<Palette, Fail> {
-    let mut palette = Palette::new(Profile::Registers16);
+fn palette_of(profile: Profile, entries: &[Entry]) -> Result<Palette, Fail> {
+    let mut palette = Palette::new(profile);
     for (register, colour) in entries {
-        if *register < 16 {
+        if u16::from(*register) < palette.profile().count() {
             palette.set(*register, colour_of(*colour)?);
         }
     }
@@ -31,13 +31,23 @@ fn palette_of(entries: &[Entry]) -> Result<Palette, Fail> {
 
 fn picture_of(
     alloc: Global,
-    width: u32,
-    height: u32,
+    profile: Profile,
+    (width, height): (u32, u32),
     entries: &[Entry],
     registers: &[u8],
 ) -> Result<Picture, Fail> {
+    let palette = palette_of(profile, entries)?;
     let registers = registers.to_vec(alloc)?;
-    Ok(Picture::new(width, height, palette_of(entries)?, registers).or(Err("a picture"))?)
+    Ok(Picture::new(width, height, palette, registers).or(Err("a picture"))?)
+}
+
+/// Each register of the profile, in one colour.
+fn all_entries(alloc: Global, profile: Profile) -> Result<Vec<Entry>, AllocError> {
+    let mut entries = Vec::new(alloc);
+    for register in 0..profile.count() {
+        entries.push((register as u8, Parts::Rgb(10, 20, 30)))?;
+    }
+    Ok(entries)
 }
 
 /// The registers of the picture in `examples/hi.six`.
@@ -124,7 +134,37 @@ fn pictures_have_their_texts(rt: HostRuntime) -> Result<(), Fail> {
              #1~~@@vv@@~~@@~~$#2??}}GG}}??}}-#1!14@\x1b\\",
         ),
     ] {
-        let picture = picture_of(rt.alloc(), width, height, entries, registers)?;
+        let size = (width, height);
+        let picture = picture_of(rt.alloc(), Profile::Registers16, size, entries, registers)?;
+        let mut room = [0; 100];
+        let mut sink = SliceSink::new(&mut room, 7, None);
+        assert_eq!(rt; encode(&picture, &mut sink), Ok(()));
+        assert_eq!(rt; sink.written(), expected.as_bytes());
+    }
+    Ok(())
+}
+
+/// Registers from 16 up are defined and painted in by their numbers, in increasing order. An entry that no pixel has is
+/// defined too.
+#[test]
+fn wide_pictures_have_their_texts(rt: HostRuntime) -> Result<(), Fail> {
+    let (black, red) = (Parts::Rgb(0, 0, 0), Parts::Rgb(100, 0, 0));
+    for (width, entries, registers, expected) in [
+        (
+            1,
+            [(16, black)].as_slice(),
+            [16].as_slice(),
+            "\x1bP0;1q\"1;1;1;1#16;2;0;0;0#16@\x1b\\",
+        ),
+        (
+            3,
+            [(9, black), (100, red), (200, black), (255, black)].as_slice(),
+            [255, 9, 100].as_slice(),
+            "\x1bP0;1q\"1;1;3;1#9;2;0;0;0#100;2;100;0;0#200;2;0;0;0#255;2;0;0;0#9?@$#100??@$#255@\x1b\\",
+        ),
+    ] {
+        let size = (width, 1);
+        let picture = picture_of(rt.alloc(), Profile::Registers256, size, entries, registers)?;
         let mut room = [0; 100];
         let mut sink = SliceSink::new(&mut room, 7, None);
         assert_eq!(rt; encode(&picture, &mut sink), Ok(()));
@@ -164,36 +204,54 @@ fn fails_in_turn(picture: &Picture, text: &[u8]) -> bool {
 #[test]
 fn a_failed_sink_has_a_front_of_the_text(rt: HostRuntime) -> Result<(), Fail> {
     let entries = [(0, Parts::Rgb(100, 0, 0))];
-    let five = picture_of(rt.alloc(), 5, 1, &entries, &[0; 5])?;
+    let narrow = Profile::Registers16;
+    let five = picture_of(rt.alloc(), narrow, (5, 1), &entries, &[0; 5])?;
     assert!(rt; fails_in_turn(&five, b"\x1bP0;1q\"1;1;5;1#0;2;100;0;0#0!5@\x1b\\"));
-    let three = picture_of(rt.alloc(), 3, 1, &entries, &[0; 3])?;
+    let three = picture_of(rt.alloc(), narrow, (3, 1), &entries, &[0; 3])?;
     assert!(rt; fails_in_turn(&three, b"\x1bP0;1q\"1;1;3;1#0;2;100;0;0#0@@@\x1b\\"));
     Ok(())
 }
 
-/// So many pixels of registers 0 to 15 by turns.
-fn registers_by_turns(alloc: Global, count: usize) -> Result<Vec<u8>, AllocError> {
-    let mut registers = Vec::with_capacity(alloc, count)?;
-    for index in 0..count {
-        registers.push((index % 16) as u8)?;
+/// The registers of 2,048 rows of 2,048 pixels. Sixteen take turns in each row, the next sixteen of the profile in each
+/// band, and after the last ones the first again.
+fn registers_by_turns(alloc: Global, profile: Profile) -> Result<Vec<u8>, AllocError> {
+    let mut registers = Vec::with_capacity(alloc, 4_194_304)?;
+    for index in 0..4_194_304u32 {
+        let first = index / 12_288 * 16;
+        registers.push(((first + index % 16) % u32::from(profile.count())) as u8)?;
     }
     Ok(registers)
 }
 
-/// The largest picture: 16 registers by turns in each row, so each band has all of them. A register has 128 runs of one
-/// column, with 127 repeats of 15 blank ones between them: 636 bytes after a select of 2 or 3 bytes and the blank columns
-/// before the first, of which more than 3 are a repeat. That makes 10,262 bytes a band, 15 carriage returns, and 341 next
-/// lines; 228 bytes declare the colours and the size, and the introducer and the terminator have 6 and 2.
+/// Whether that picture of the profile has a text of this length with these bytes at its end.
+fn has_length(alloc: Global, profile: Profile, length: usize, end: &[u8]) -> Result<bool, Fail> {
+    let entries = all_entries(alloc, profile)?;
+    let registers = registers_by_turns(alloc, profile)?;
+    let picture = picture_of(alloc, profile, (2_048, 2_048), &entries, &registers)?;
+    let mut room = vec![in alloc; 0; 4_000_000]?;
+    let mut sink = SliceSink::new(&mut room, 1_000_000, None);
+    let answer = encode(&picture, &mut sink);
+    let text = sink.written();
+    Ok(answer == Ok(()) && text.len() == length && text.ends_with(end))
+}
+
+/// Each band has 16 registers. A register has 128 runs of one column, with 127 repeats of 15 blank ones between them:
+/// 636 bytes after a select of 2 or 3 bytes and the blank columns before the first, of which more than 3 are a repeat.
+/// That makes 10,262 bytes a band, 15 carriage returns, and 341 next lines; 228 bytes declare the colours and the size,
+/// and the introducer and the terminator have 6 and 2.
 #[test]
 fn the_largest_picture_is_written(rt: HostRuntime) -> Result<(), Fail> {
-    let colour = Parts::Rgb(10, 20, 30);
-    let entries = [0, 1, 2, 3, 4, 5, 6, 7, 8, 9, 10, 11, 12, 13, 14, 15].map(|n| (n, colour));
-    let registers = registers_by_turns(rt.alloc(), 4_194_304)?;
-    let picture = picture_of(rt.alloc(), 2_048, 2_048, &entries, &registers)?;
-    let mut room = vec![in rt.alloc(); 0; 4_000_000]?;
-    let mut sink = SliceSink::new(&mut room, 1_000_000, None);
-    assert_eq!(rt; encode(&picture, &mut sink), Ok(()));
-    assert_eq!(rt; sink.written().len(), 3_515_311);
-    assert!(rt; sink.written().ends_with(b"?B!15?B\x1b\\"));
+    let (profile, end) = (Profile::Registers16, b"?B!15?B\x1b\\");
+    assert!(rt; has_length(rt.alloc(), profile, 3_515_311, end)?);
+    Ok(())
+}
+
+/// The same in 256 registers, where a select has 2 to 4 bytes: 914 in 16 bands, and 278 in the first 6 of them. So 342
+/// bands have 342 times 10,239 bytes and 19,472 bytes of selects; the next lines are 341, and 3,744 bytes declare the
+/// colours and the size.
+#[test]
+fn the_largest_wide_picture_is_written(rt: HostRuntime) -> Result<(), Fail> {
+    let (profile, end) = (Profile::Registers256, b"?B!15?B\x1b\\");
+    assert!(rt; has_length(rt.alloc(), profile, 3_525_303, end)?);
     Ok(())
 }

@@ -1,9 +1,9 @@
 //! The encoder against a plain, slow one.
 
-use super::{Entry, picture_of};
+use super::{all_entries, picture_of};
 use crate::writing::encode;
 use sixel_grammar::SliceSink;
-use sixel_picture::Parts;
+use sixel_picture::Profile;
 use std::alloc::{AllocError, Global};
 use std::test::Fail;
 
@@ -66,12 +66,13 @@ fn push_runs(alloc: Global, text: &mut String, columns: &[u8]) -> Result<(), All
 fn push_band(
     alloc: Global,
     text: &mut String,
+    profile: Profile,
     rows: &[u8],
     width: usize,
 ) -> Result<(), AllocError> {
     let mut before = "";
-    for register in 0..16 {
-        let columns = plain_columns(alloc, rows, width, register)?;
+    for register in 0..profile.count() {
+        let columns = plain_columns(alloc, rows, width, register as u8)?;
         let columns = trimmed(columns.as_slice());
         if !columns.is_empty() {
             text.push_str(format!(in alloc; "{before}#{register}")?.as_str())?;
@@ -82,9 +83,14 @@ fn push_band(
     Ok(())
 }
 
-fn opening(alloc: Global, width: usize, height: usize) -> Result<String, AllocError> {
+fn opening(
+    alloc: Global,
+    profile: Profile,
+    width: usize,
+    height: usize,
+) -> Result<String, AllocError> {
     let mut text = format!(in alloc; "\x1bP0;1q\"1;1;{width};{height}")?;
-    for register in 0..16 {
+    for register in 0..profile.count() {
         text.push_str(format!(in alloc; "#{register};2;10;20;30")?.as_str())?;
     }
     Ok(text)
@@ -93,11 +99,11 @@ fn opening(alloc: Global, width: usize, height: usize) -> Result<String, AllocEr
 /// The text of a picture of one colour, written without care for time or memory.
 fn plain_text(
     alloc: Global,
-    width: usize,
-    height: usize,
+    profile: Profile,
+    (width, height): (usize, usize),
     registers: &[u8],
 ) -> Result<String, AllocError> {
-    let mut text = opening(alloc, width, height)?;
+    let mut text = opening(alloc, profile, width, height)?;
     for band in 0..height.wrapping_add(5) / 6 {
         if band > 0 {
             text.push('-')?;
@@ -105,14 +111,19 @@ fn plain_text(
         let start = registers
             .len()
             .min(band.wrapping_mul(6).wrapping_mul(width));
-        push_band(alloc, &mut text, &registers[start..], width)?;
+        push_band(alloc, &mut text, profile, &registers[start..], width)?;
     }
     text.push_str("\x1b\\")?;
     Ok(text)
 }
 
-/// So many registers, in runs of 1 to 8 that a seed chooses.
-fn registers_in_runs(alloc: Global, count: usize, seed: u64) -> Result<Vec<u8>, AllocError> {
+/// So many registers of the profile, in runs of 1 to 8 that a seed chooses.
+fn registers_in_runs(
+    alloc: Global,
+    profile: Profile,
+    count: usize,
+    seed: u64,
+) -> Result<Vec<u8>, AllocError> {
     let mut registers = Vec::new(alloc);
     let mut state = seed;
     let mut left: u64 = 0;
@@ -123,7 +134,7 @@ fn registers_in_runs(alloc: Global, count: usize, seed: u64) -> Result<Vec<u8>, 
                 .wrapping_mul(6_364_136_223_846_793_005)
                 .wrapping_add(1_442_695_040_888_963_407);
             left = (state >> 40) % 8 + 1;
-            register = ((state >> 50) % 16) as u8;
+            register = ((state >> 50) % u64::from(profile.count())) as u8;
         }
         left = left.wrapping_sub(1);
         registers.push(register)?;
@@ -132,30 +143,53 @@ fn registers_in_runs(alloc: Global, count: usize, seed: u64) -> Result<Vec<u8>, 
 }
 
 /// Whether a picture of this size has the plain text.
-fn has_plain_text(alloc: Global, entries: &[Entry], width: u32, height: u32) -> Result<bool, Fail> {
+fn has_plain_text(alloc: Global, profile: Profile, width: u32, height: u32) -> Result<bool, Fail> {
     let count = width.wrapping_mul(height) as usize;
     let seed = u64::from(width)
         .wrapping_mul(1_000)
         .wrapping_add(u64::from(height));
-    let registers = registers_in_runs(alloc, count, seed)?;
-    let expected = plain_text(alloc, width as usize, height as usize, &registers)?;
-    let picture = picture_of(alloc, width, height, entries, &registers)?;
+    let entries = all_entries(alloc, profile)?;
+    let registers = registers_in_runs(alloc, profile, count, seed)?;
+    let expected = plain_text(
+        alloc,
+        profile,
+        (width as usize, height as usize),
+        &registers,
+    )?;
+    let picture = picture_of(alloc, profile, (width, height), &entries, &registers)?;
     let mut room = [0; 8_192];
     let mut sink = SliceSink::new(&mut room, 1_000, None);
     Ok(encode(&picture, &mut sink) == Ok(()) && sink.written() == expected.as_bytes())
 }
 
+/// Whether pictures of this width and of some heights have the plain text.
+fn have_plain_text(alloc: Global, profile: Profile, width: u32) -> Result<bool, Fail> {
+    for height in [1, 5, 6, 7, 13] {
+        if !has_plain_text(alloc, profile, width, height)? {
+            return Ok(false);
+        }
+    }
+    Ok(true)
+}
+
 #[test]
 fn rows_of_each_width_have_the_plain_text(rt: HostRuntime) -> Result<(), Fail> {
-    let colour = Parts::Rgb(10, 20, 30);
-    let entries = [0, 1, 2, 3, 4, 5, 6, 7, 8, 9, 10, 11, 12, 13, 14, 15].map(|n| (n, colour));
     for width in 1..71 {
-        for height in [1, 5, 6, 7, 13] {
-            assert!(rt;
-                has_plain_text(rt.alloc(), &entries, width, height)?,
-                "{width} by {height}"
-            );
-        }
+        assert!(rt;
+            have_plain_text(rt.alloc(), Profile::Registers16, width)?,
+            "{width}"
+        );
+    }
+    Ok(())
+}
+
+#[test]
+fn wide_rows_have_the_plain_text(rt: HostRuntime) -> Result<(), Fail> {
+    for width in 1..31 {
+        assert!(rt;
+            have_plain_text(rt.alloc(), Profile::Registers256, width)?,
+            "{width}"
+        );
     }
     Ok(())
 }
