@@ -15,7 +15,7 @@ pub enum Rule {
     Ratio = 3,
     /// Raster attributes with a width or a height outside 1 to 2,048 pixels.
     BoxSize = 4,
-    /// A select or a definition of a register above 15.
+    /// A select or a definition of a register above those of the profile: above 15, or above 255.
     Register = 5,
     /// A definition in no known colour system, or with a coordinate out of range.
     ColourValue = 6,

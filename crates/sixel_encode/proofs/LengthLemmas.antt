@@ -1,6 +1,6 @@
 -- How long a picture's text is at most.
-use Rattle.std.proofs.Common.{◌≡◌, ℕ, zero, suc, ◌+◌, ◌*◌, ◌<◌, ◌≤◌, false, cond, Option, Some, None, List}
-use Rattle.std.proofs.Common.{[], ◌∷◌, ◌++◌, length, replicate, decimal, refl, ap, ◌∙◌, arith, lit<, lit≤, le_trans}
+use Rattle.std.proofs.Common.{◌≡◌, ℕ, zero, suc, ◌+◌, ◌*◌, ◌<◌, ◌≤◌, false, cond, Option, Some, None, List, [], ◌∷◌}
+use Rattle.std.proofs.Common.{◌++◌, length, replicate, decimal, refl, ap, ◌∙◌, arith, lit<, lit≤, le_trans}
 use Rattle.std.proofs.Common.{length-append, mul-le-mul_right, mul_assoc, mul-le-mul, subst, suc-mul}
 use Rattle.std.specs.Fmt.{digits}
 use Rattle.std.specs.Prelude.{nat_le, flat_map, filter_map, IfSome, is_some}
@@ -13,8 +13,8 @@ use Rattle.std.proofs.lemmas.List.{length-replicate}
 use Rattle.std.proofs.lemmas.List.Sums.{count_by-le-length}
 use Rattle.std.proofs.lemmas.List.FromFn.{length-map-range_with_len, length-range_with_len}
 use Rattle.sixel_grammar.specs.declared.command.Command.{Command}
-use Rattle.sixel_grammar.specs.declared.command.Command.TheVariants.{Repeat, Raster, Select, Define}
-use Rattle.sixel_grammar.specs.declared.command.Command.TheVariants.{CarriageReturn, NextLine}
+use Rattle.sixel_grammar.specs.declared.command.Command.TheVariants.{Repeat, Raster, Select, Define, CarriageReturn}
+use Rattle.sixel_grammar.specs.declared.command.Command.TheVariants.{NextLine}
 use Rattle.sixel_grammar.specs.declared.command.Event.TheVariants.{Finish}
 use Rattle.sixel_grammar.specs.Lengths.{digit_count}
 use Rattle.sixel_grammar.specs.Spelling.{fixed_command, fixed_fields, fixed_spelling}

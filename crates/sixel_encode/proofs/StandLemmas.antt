@@ -11,8 +11,8 @@ use Rattle.sixel_picture.specs.declared.colour.Parts.{Parts}
 use Rattle.sixel_picture.specs.declared.colour.Parts.TheVariants.{Rgb, Hls}
 use Rattle.sixel_picture.specs.Colours.{palette_at}
 use Rattle.sixel_picture.specs.Pictures.{PictureValue, register_of}
-use Rattle.sixel_picture.specs.Events.{Definition, Attributes, bits_of, is_next_line, is_finish, raster_of}
-use Rattle.sixel_picture.specs.Events.{select_of, named_by, definition_where, is_in_box}
+use Rattle.sixel_picture.specs.Events.{Definition, Attributes, bits_of, is_next_line, is_finish, raster_of, select_of}
+use Rattle.sixel_picture.specs.Events.{named_by, definition_where, is_in_box}
 use Rattle.sixel_picture.specs.Geometry.{band, falls}
 use Rattle.sixel_picture.specs.Rules.{known, definition_of, raster_before, register_at, is_covered, BreaksOutside}
 use Rattle.sixel_picture.specs.Rules.{BreaksUncovered, breaks_box_size, breaks_colour_value, breaks_ratio}

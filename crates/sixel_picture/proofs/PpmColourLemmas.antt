@@ -97,7 +97,8 @@ same_as_itself (Hls hue lightness saturation) = grind (arith, nat_tests)
 index_among : (c : Colours) (seen : List Parts) (colour : Parts) (o : Option ℕ) → Fills c seen
     → o ≡ position (is_entry colour) c.palette → position_from (is_same colour) 0 seen ≡ o
 index_among c seen colour o fills found =
-    sym (entry_of colour (length c.palette) seen 0 fills.few) ∙ ap (position_from (is_entry colour) 0) (sym fills.palette)
+    sym (entry_of colour (length c.palette) seen 0 fills.few)
+    ∙ ap (position_from (is_entry colour) 0) (sym fills.palette)
     ∙ sym (position_from-zero (is_entry colour) c.palette) ∙ sym found
 
 -- a colour that was seen
@@ -124,7 +125,8 @@ none_left c seen colour o is found full fills =
 
 pub numbered_next : (c : Colours) (palette : List (Option Parts)) (seen : List Parts) (colour : Parts) (o : Option ℕ)
     → o ≡ None
-    → o ≡ position (is_entry colour) c.palette → c.count < length c.palette → palette ≡ slice_set c.palette c.count (Some colour)
+    → o ≡ position (is_entry colour) c.palette → c.count < length c.palette
+    → palette ≡ slice_set c.palette c.count (Some colour)
     → Fills c seen
     → (c.count ≡ register_among (with_colour seen colour) colour)
     × Fills (record { palette = palette; count = c.count + 1 }) (with_colour seen colour)

@@ -254,7 +254,8 @@ begins_reads count f s xs b = rw (b.registers, b.maxval, b.left, b.place, b.held
 -- what all the bytes say, by the samples
 said : (count : ℕ) (old new : Option (List ℕ)) (piece : List ℕ) (s : Started) (t : Samples) (rest : List ℕ)
     → (h : HasStarted old new piece s)
-    → Begins count s.frame t → ppm_read count (h.front ++ rest) ≡ samples_on t [] (drop s.start (take s.end piece) ++ rest)
+    → Begins count s.frame t
+    → ppm_read count (h.front ++ rest) ≡ samples_on t [] (drop s.start (take s.end piece) ++ rest)
 said count old new piece s t rest h b =
     ap (λ (x : Result Head PpmFault). x >>= picture_after count) (h.whole rest)
     ∙ begins_reads count s.frame t (drop s.start (take s.end piece) ++ rest) b
@@ -272,7 +273,8 @@ rest_reads count (Err Read) bytes r e whole h = tt
 rest_reads count (Err NotRgb) bytes r e whole h = h
 rest_reads count (Err Write) bytes r e whole h = h
 
-pub ppm_refused : (count : ℕ) (old new : Option (List ℕ)) (piece : List ℕ) (s : Started) (t : Samples) (fault : PpmFault)
+pub ppm_refused : (count : ℕ) (old new : Option (List ℕ)) (piece : List ℕ) (s : Started) (t : Samples)
+    (fault : PpmFault)
     (samples : List ℕ)
     → samples ≡ drop s.start (take s.end piece) → HasStarted old new piece s → Begins count s.frame t
     → FailsOn t fault samples

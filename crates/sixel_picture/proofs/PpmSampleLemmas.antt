@@ -16,8 +16,8 @@ use Rattle.sixel_picture.specs.PpmHeld.{held_samples, is_good}
 use Rattle.sixel_picture.specs.PpmReading.{◌>>=◌, at_fault, colour_of, distinct, palette_of, picture_of, pixels}
 use Rattle.sixel_picture.specs.PpmReading.{register_among, with_colour}
 use Rattle.sixel_picture.specs.PpmSamples.{AllSeen, Fails, FailsOn, HasRead, HoldsPixels, KeepsPixels, KnowsLast, Leads}
-use Rattle.sixel_picture.specs.PpmSamples.{LeadsOn, PutsPixel, Refuses, Registers, TooMany, budget, pixels_on, registers_in}
-use Rattle.sixel_picture.specs.PpmSamples.{samples_on}
+use Rattle.sixel_picture.specs.PpmSamples.{LeadsOn, PutsPixel, Refuses, Registers, TooMany, budget, pixels_on}
+use Rattle.sixel_picture.specs.PpmSamples.{registers_in, samples_on}
 use Rattle.sixel_picture.specs.declared.colour.Parts.{Parts}
 use Rattle.sixel_picture.specs.declared.ppm.PpmFault.{PpmFault}
 use Rattle.sixel_picture.specs.declared.ppm.PpmReason.{PpmReason}
@@ -106,7 +106,8 @@ pub below_limit : (v most : ℕ) → v < most → nat_lt v most ≡ true
 below_limit v most lt = grind (arith, nat_tests)
 
 -- a pixel with a colour for which there is a register
-pub pixel_read : (count maxval n at r g b : ℕ) (colours : List Parts) (rest : List ℕ) → r ≤ maxval → g ≤ maxval → b ≤ maxval
+pub pixel_read : (count maxval n at r g b : ℕ) (colours : List Parts) (rest : List ℕ) → r ≤ maxval → g ≤ maxval
+    → b ≤ maxval
     → length (with_colour (distinct colours) (colour_of maxval r g b)) ≤ count
     → pixels count maxval (suc n) colours at (r ∷ g ∷ b ∷ rest)
     ≡ pixels count maxval n (colours ++ colour_of maxval r g b ∷ []) (at + 3) rest
@@ -136,7 +137,8 @@ pixel_too_many count maxval n at r g b colours rest red green blue many =
 
 abbrev Refused : ℕ → ℕ → ℕ → List Parts → ℕ → ℕ → ℕ → List ℕ → PpmReason → ℕ → Type 0
 Refused count maxval n colours at width height samples reason place =
-    (pixels count maxval n colours at samples >>= (λ all. Ok (picture_of count width height all))) ≡ at_fault reason place
+    (pixels count maxval n colours at samples >>= (λ all. Ok
+    (picture_of count width height all))) ≡ at_fault reason place
 
 pub colour_refused : (count maxval n at r g b width height : ℕ) (colours : List Parts) (rest : List ℕ) → 0 < n
     → r ≤ maxval → g ≤ maxval
@@ -158,7 +160,8 @@ pixel_led count maxval (suc n) m at next r g b width height colours rest less e 
     let same : n ≡ m = omega arith in
     ap (λ (x : Result (List Parts) PpmFault). x >>= (λ all. Ok (picture_of count width height all)))
     (pixel_read count maxval n at r g b colours rest red green blue few
-    ∙ ap₂ (λ (k : ℕ) (place : ℕ). pixels count maxval k (colours ++ colour_of maxval r g b ∷ []) place rest) same (sym e))
+    ∙ ap₂ (λ (k : ℕ) (place : ℕ). pixels count maxval k (colours ++ colour_of maxval r g b ∷ []) place rest) same
+    (sym e))
 
 -- ---- by the states
 
@@ -195,7 +198,8 @@ pixel_leads old mid new r g b register registers kept put = λ colours holds.
       colours ++ c ∷ [],
       rw (put.colours, put.last, maxval, items, width, height) more,
       λ rest. rw (same, maxval, place, width, height)
-          (pixel_led (registers_in old) old.maxval old.left new.left old.place (old.place + 3) r g b old.width old.height colours rest
+          (pixel_led (registers_in old) old.maxval old.left new.left old.place
+          (old.place + 3) r g b old.width old.height colours rest
           less refl
           is.known.red is.known.green is.known.blue (rw is.same_registers at is.fills.few)),
     )
@@ -230,7 +234,8 @@ picture_accepted kept last maxval registers left width height colours holds none
     let many : length registers ≡ width * height = ap (λ (rs : List ℕ). length rs) holds.numbered ∙ long ∙ whole in
     let count : (length registers == width * height) ≡ true = eq-eqb (length registers) (width * height) many in
     let below : list_all (λ r. nat_lt r (length kept.palette)) registers ≡ true =
-    ap (list_all (λ r. nat_lt r (length kept.palette))) holds.numbered ∙ all_below (length kept.palette) seen colours holds.fills.few holds.all_seen in
+    ap (list_all (λ r. nat_lt r (length kept.palette))) holds.numbered
+    ∙ all_below (length kept.palette) seen colours holds.fills.few holds.all_seen in
     let there : list_all (λ r. is_some (palette_at kept.palette r)) registers ≡ true =
     ap₂ (λ (p : List (Option Parts)) (rs : List ℕ). list_all (λ r. is_some (palette_at p r)) rs) holds.fills.palette
     holds.numbered
@@ -309,7 +314,8 @@ short_pixel count maxval (suc n) at colours (RedGreen red green) some good =
 
 pub short_fails : (s : Samples) (colours : List Parts) → 0 < s.left → is_good s.held s.maxval s.left ≡ true
     → samples_on s colours [] ≡ at_fault Short (s.place + length (held_samples s.held))
-short_fails s colours some good = rw (short_pixel (registers_in s) s.maxval s.left s.place colours s.held some good) refl
+short_fails s colours some good = rw
+    (short_pixel (registers_in s) s.maxval s.left s.place colours s.held some good) refl
 
 pub budget_whole : (s : Samples) → s.held ≡ Nothing → budget s ≡ 3 * s.left
 budget_whole s e = rw e (omega arith)

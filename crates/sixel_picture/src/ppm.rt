@@ -28,7 +28,8 @@ pub enum PpmReason {
     Short = 5,
     /// A byte follows the last sample.
     Trailing = 6,
-    /// There are more than 16 colours. The place is the first sample of the pixel with the 17th.
+    /// There are more colours than the profile has registers. The place is the first sample of the first pixel in the
+    /// 17th, or the 257th.
     TooManyColours = 7,
 }
 

@@ -11,8 +11,8 @@ pub const MOST_REGISTERS: usize = 256;
 
 /// The colour registers that a picture may use, and that each terminal of the class of the profile has.
 ///
-/// A VT340 has 16 (DEC EK-VT3XX-GP, volume 2, the chapter on sixel graphics). Terminals that take sixel
-/// pictures today mostly have 256 or more.
+/// A VT340 has 16 (DEC EK-VT3XX-GP, volume 2, the chapter on sixel graphics). Many of the terminals in use today
+/// have 256 or more.
 #[derive(Clone, Copy, Debug, PartialEq, Eq)]
 pub enum Profile {
     /// The registers 0 to 15.

@@ -60,22 +60,31 @@ fn profiles_have_16_and_256_registers(rt: HostRuntime) {
     assert!(rt; Profile::Registers256.count() == 256);
 }
 
-/// Whether a palette of the profile is empty, and then holds the colour in its last register alone.
-fn keeps_its_last(profile: Profile, last: u8, colour: Option<Colour>) -> bool {
+/// Whether a new palette of the profile is of it, and has no colour.
+fn starts_empty(profile: Profile) -> bool {
+    let palette = Palette::new(profile);
+    palette.profile() == profile && holds_alone(&palette, 0, None)
+}
+
+/// A palette of the profile in which one register has a colour.
+fn palette_with(profile: Profile, register: u8) -> Palette {
     let mut palette = Palette::new(profile);
-    if palette.profile() != profile || !holds_alone(&palette, last, None) {
-        return false;
-    }
-    set(&mut palette, last, colour);
-    holds_alone(&palette, last, colour)
+    set(&mut palette, register, Colour::rgb(20, 40, 60));
+    palette
+}
+
+/// Whether a palette of the profile holds a colour in its last register alone.
+fn keeps_its_last(profile: Profile, last: u8) -> bool {
+    let palette = palette_with(profile, last);
+    palette.get(last).is_some() && holds_alone(&palette, last, Colour::rgb(20, 40, 60))
 }
 
 #[test]
 fn palettes_have_a_colour_for_each_register_of_their_profile(rt: HostRuntime) {
-    let colour = Colour::rgb(20, 40, 60);
-    assert!(rt; colour.is_some());
-    assert!(rt; keeps_its_last(Profile::Registers16, 15, colour));
-    assert!(rt; keeps_its_last(Profile::Registers256, 255, colour));
+    assert!(rt; starts_empty(Profile::Registers16));
+    assert!(rt; starts_empty(Profile::Registers256));
+    assert!(rt; keeps_its_last(Profile::Registers16, 15));
+    assert!(rt; keeps_its_last(Profile::Registers256, 255));
 }
 
 /// A palette in which registers 0 and 3 are red and blue.

@@ -18,7 +18,8 @@ use Rattle.sixel_terminal.specs.Canvases.{black}
 use Rattle.sixel_terminal.specs.Displays.{Display, IsGroundBelow, registers_of}
 use Rattle.sixel_terminal.specs.Drawing.{defined_on, filled_on, paints_on, selected_on, touches_on}
 use Rattle.sixel_terminal.specs.Standing.{StandsAfter, ink_in_register, ink_at_point}
-use Rattle.sixel_terminal.specs.Steps.{ink_after_event, ink_by_colours, most, next_band, next_column, next_height, next_selected}
+use Rattle.sixel_terminal.specs.Steps.{ink_after_event, ink_by_colours, most, next_band, next_column, next_height}
+use Rattle.sixel_terminal.specs.Steps.{next_selected}
 use Rattle.sixel_terminal.proofs.PixelLemmas.{pen_paints}
 use Rattle.sixel_terminal.proofs.RunLemmas.{Runs}
 use Rattle.sixel_terminal.proofs.StandLemmas.{colour_push, ink_push, modulo_below, pen_push}

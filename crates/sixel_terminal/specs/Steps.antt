@@ -60,7 +60,8 @@ painted_by t p e x y =
 
 -- what is painted in a register that has one of these colours
 abbrev pub ink_by_colours : Display → List Parts → ℕ → Ink
-ink_by_colours t colours r = if t.choices.binds_at_showing then Bound r else Fixed (slice_index_or colours r (Rgb 0 0 0))
+ink_by_colours t colours r = if t.choices.binds_at_showing then Bound r else Fixed
+    (slice_index_or colours r (Rgb 0 0 0))
 
 -- the ink of the pixel after the event
 abbrev pub ink_after_event : Display → Pen → List Parts → Event → ℕ → ℕ → Ink → Ink

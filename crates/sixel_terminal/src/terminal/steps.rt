@@ -10,7 +10,8 @@ ghost use Rattle.sixel_picture.specs.Events.{named_by, select_of};
 ghost use Rattle.sixel_terminal.specs.Canvases.{black};
 ghost use Rattle.sixel_terminal.specs.Displays.{registers_of};
 ghost use Rattle.sixel_terminal.specs.Drawing.{defined_on, taken_on};
-ghost use Rattle.sixel_terminal.specs.Steps.{ink_after_event, ink_by_colours, next_band, next_column, next_height, next_selected};
+ghost use Rattle.sixel_terminal.specs.Steps.{ink_after_event, ink_by_colours, next_band, next_column, next_height};
+ghost use Rattle.sixel_terminal.specs.Steps.{next_selected};
 
 use crate::canvas::Ink;
 use crate::choices::Ground;

@@ -10,7 +10,8 @@ returns-in-Some-clause-numbers c =
 pub returns-then-register-count-clause-numbers : goal.returns-then-register-count-clause-numbers
 returns-then-register-count-clause-numbers c =
     λ seen fills. none_left c.args.self.now seen c.args.colour c.index_of.result c.in_default.is
-    c.index_of.ensures.value (omega (arith, c.if-register-count.true, c.count.ensures.value, c.profile.ensures.count)) fills
+    c.index_of.ensures.value
+    (omega (arith, c.if-register-count.true, c.count.ensures.value, c.profile.ensures.count)) fills
 
 pub returns-clause-numbers : goal.returns-clause-numbers
 returns-clause-numbers c =
