@@ -1,5 +1,3 @@
-use Rattle.std.specs.Option.{option_map}
-use Rattle.sixel_check.specs.Judging.{IsSheetAfter}
 use Rattle.sixel_check.proofs.pixels.draw.Goals as goal
 
 pub returns-in_ok-plane-in-None-clause-ok : goal.returns-in_ok-plane-in-None-clause-ok
