@@ -8,6 +8,7 @@ mod growth;
 mod limits;
 mod pairs;
 mod plain;
+mod profiles;
 mod steps;
 mod terminals;
 
@@ -92,20 +93,35 @@ fn is_said(
     Ok(in_words(rt, answer)?.as_str() == expected)
 }
 
-/// Whether the answer on a text in which `E` stands for ESC is so.
-fn agrees(rt: &impl AllocGlobal, text: &str, expected: &str) -> Result<bool, Fail> {
+/// Whether the answer by the profile, on a text in which `E` stands for ESC, is so.
+fn agrees_by(
+    rt: &impl AllocGlobal,
+    profile: Profile,
+    text: &str,
+    expected: &str,
+) -> Result<bool, Fail> {
     let bytes = bytes_of(rt, text)?;
-    is_said(
-        rt,
-        &check_bytes(rt.alloc(), Profile::Registers16, &bytes),
-        expected,
-    )
+    is_said(rt, &check_bytes(rt.alloc(), profile, &bytes), expected)
 }
 
-/// Each text, in which `E` stands for ESC, has its answer.
-fn agree(rt: &(impl AllocGlobal + Abort), rows: &[(&str, &str)]) -> Result<(), Fail> {
+/// Whether it is, by 16 registers.
+fn agrees(rt: &impl AllocGlobal, text: &str, expected: &str) -> Result<bool, Fail> {
+    agrees_by(rt, Profile::Registers16, text, expected)
+}
+
+/// Each text, in which `E` stands for ESC, has its answer by the profile.
+fn agree_by(
+    rt: &(impl AllocGlobal + Abort),
+    profile: Profile,
+    rows: &[(&str, &str)],
+) -> Result<(), Fail> {
     for (text, expected) in rows {
-        assert!(rt; agrees(rt, text, expected)?, "{text}");
+        assert!(rt; agrees_by(rt, profile, text, expected)?, "{text}");
     }
     Ok(())
+}
+
+/// Each has its answer by 16 registers.
+fn agree(rt: &(impl AllocGlobal + Abort), rows: &[(&str, &str)]) -> Result<(), Fail> {
+    agree_by(rt, Profile::Registers16, rows)
 }

@@ -120,39 +120,37 @@ fn worked_documents(rt: HostRuntime) -> Result<(), Fail> {
     agree(&rt, documents())
 }
 
-/// Whether the answer on the bytes in pieces of a size is so.
+/// Whether the answer by the profile on the bytes in pieces of a size is so.
 fn agrees_in(
     rt: &impl AllocGlobal,
+    profile: Profile,
     bytes: &[u8],
     piece: usize,
     expected: &str,
 ) -> Result<bool, Fail> {
     let mut source = SliceSource::new(bytes, piece.max(1), None);
-    is_said(
-        rt,
-        &check(rt.alloc(), Profile::Registers16, &mut source),
-        expected,
-    )
+    is_said(rt, &check(rt.alloc(), profile, &mut source), expected)
 }
 
 /// Whether it is, in pieces of one byte, of a few, and of them all.
 pub(super) fn agrees_in_three(
     rt: &impl AllocGlobal,
+    profile: Profile,
     bytes: &[u8],
     expected: &str,
 ) -> Result<bool, Fail> {
     for piece in [1, 7, 65_536] {
-        if !agrees_in(rt, bytes, piece, expected)? {
+        if !agrees_in(rt, profile, bytes, piece, expected)? {
             return Ok(false);
         }
     }
     Ok(true)
 }
 
-/// Whether it is, in pieces of 1 byte to their length.
+/// Whether it is by 16 registers, in pieces of 1 byte to their length.
 fn agrees_in_pieces(rt: &impl AllocGlobal, bytes: &[u8], expected: &str) -> Result<bool, Fail> {
     for piece in 1..=bytes.len() {
-        if !agrees_in(rt, bytes, piece, expected)? {
+        if !agrees_in(rt, Profile::Registers16, bytes, piece, expected)? {
             return Ok(false);
         }
     }
@@ -196,18 +194,27 @@ fn eight_bits(rt: HostRuntime) -> Result<(), Fail> {
     Ok(())
 }
 
-/// The picture of a portable document.
-pub(super) fn picture_of(rt: &impl AllocGlobal, text: &str) -> Result<Picture, Fail> {
+/// The picture of a document that is portable by the profile.
+pub(super) fn picture_by(
+    rt: &impl AllocGlobal,
+    profile: Profile,
+    text: &str,
+) -> Result<Picture, Fail> {
     let bytes = bytes_of(rt, text)?;
-    match check_bytes(rt.alloc(), Profile::Registers16, &bytes) {
+    match check_bytes(rt.alloc(), profile, &bytes) {
         Ok(Verdict::Portable(picture)) => Ok(picture),
         _ => Err(Fail::from("no picture")),
     }
 }
 
-/// Whether the first registers have these colours, and the others of the 16 have none.
+/// The picture of a document that is portable by 16 registers.
+pub(super) fn picture_of(rt: &impl AllocGlobal, text: &str) -> Result<Picture, Fail> {
+    picture_by(rt, Profile::Registers16, text)
+}
+
+/// Whether the first registers have these colours, and the others have none.
 fn has_colours(picture: &Picture, colours: &[Option<Colour>]) -> bool {
-    for register in 0..16u8 {
+    for register in 0..=255u8 {
         let expected = colours.get(register as usize).copied().flatten();
         if picture.palette().get(register) != expected {
             return false;

@@ -11,6 +11,7 @@
 
 use crate::tests::bytes_of;
 use crate::tests::documents::{agrees_in_three, documents};
+use sixel_picture::Profile;
 use std::process::Abort;
 use std::test::Fail;
 
@@ -246,7 +247,7 @@ const REPLACED: &[(u8, &[&str])] = &[
 fn is_truncated(rt: &impl AllocGlobal, bytes: &[u8], length: usize) -> Result<bool, Fail> {
     let expected = format!(in rt.alloc(); "Truncated {length}")?;
     let front = bytes.get(..length).unwrap_or(bytes);
-    agrees_in_three(rt, front, expected.as_str())
+    agrees_in_three(rt, Profile::Registers16, front, expected.as_str())
 }
 
 /// Whether each front of the bytes is.
@@ -283,7 +284,7 @@ fn replaced_agree(
 ) -> Result<bool, Fail> {
     for (place, expected) in answers.iter().enumerate() {
         let bytes = with_byte(rt, document, place, byte)?;
-        if !agrees_in_three(rt, bytes.as_slice(), expected)? {
+        if !agrees_in_three(rt, Profile::Registers16, bytes.as_slice(), expected)? {
             return Ok(false);
         }
     }

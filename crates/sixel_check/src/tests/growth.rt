@@ -1,6 +1,6 @@
 //! Where memory is taken. `rt try --test --fail-alloc N` refuses the N-th growth of each test; these take none of their own.
 
-ghost use Rattle.std.specs.Prelude.{◌++◌, ◌∷◌, [], List, IfOk, IsTrue, OnOk};
+ghost use Rattle.std.specs.Prelude.{◌++◌, ◌∷◌, [], ℕ, List, IfOk, IsTrue, OnOk};
 ghost use Rattle.sixel_grammar.specs.Spelling.{IsSpellable};
 ghost use Rattle.sixel_grammar.specs.declared.command.Placed.{Placed as PlacedValue};
 ghost use Rattle.sixel_check.specs.Standing.{StandsAfter, expects};
@@ -65,10 +65,11 @@ fn no_box_takes_no_memory(rt: HostRuntime) -> Result<(), Fail> {
 
 /// Pushes an event; where it is refused, nothing has changed, and it is pushed once more.
 fn push_again<P: Plane>(checker: &mut Checker<P>, placed: &Placed) -> Result<(), Fail>
-    requires expected { (seen : List PlacedValue) × StandsAfter checker.old seen × IsTrue (expects seen placed.now.event) }
+    requires expected { (registers : ℕ) × (seen : List PlacedValue) × StandsAfter registers checker.old seen
+        × IsTrue (expects seen placed.now.event) }
     requires spellable { IsSpellable placed.now.event }
-    ensures { OnOk result ((seen : List PlacedValue) → StandsAfter checker.old seen
-        → StandsAfter checker.new (seen ++ placed.now ∷ [])) }
+    ensures { OnOk result ((registers : ℕ) (seen : List PlacedValue) → StandsAfter registers checker.old seen
+        → StandsAfter registers checker.new (seen ++ placed.now ∷ [])) }
 {
     if checker.push(placed).is_ok() {
         return Ok(());
@@ -82,8 +83,8 @@ fn push_again<P: Plane>(checker: &mut Checker<P>, placed: &Placed) -> Result<(),
 
 /// Pushes an event that may come.
 fn push_next<P: Plane>(checker: &mut Checker<P>, placed: Option<Placed>) -> Result<(), Fail>
-    requires { (seen : List PlacedValue) × StandsAfter checker.old seen }
-    ensures { OnOk result ((seen : List PlacedValue) × StandsAfter checker.new seen) }
+    requires { (registers : ℕ) × (seen : List PlacedValue) × StandsAfter registers checker.old seen }
+    ensures { OnOk result ((registers : ℕ) × (seen : List PlacedValue) × StandsAfter registers checker.new seen) }
 {
     match placed {
         None => Ok(()),
@@ -98,7 +99,7 @@ fn push_next<P: Plane>(checker: &mut Checker<P>, placed: Option<Placed>) -> Resu
 
 /// A checker that has seen the events of these bytes.
 fn pushed_again<P: Plane>(rt: &impl AllocGlobal, bytes: &[u8]) -> Result<Checker<P>, Fail>
-    ensures { IfOk result (λ checker. (seen : List PlacedValue) × StandsAfter checker seen) }
+    ensures { IfOk result (λ checker. (registers : ℕ) × (seen : List PlacedValue) × StandsAfter registers checker seen) }
 {
     let mut reader = Reader::new();
     let mut checker: Checker<P> = Checker::new(rt.alloc(), Profile::Registers16);

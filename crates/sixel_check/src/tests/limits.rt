@@ -2,7 +2,8 @@
 
 use crate::tests::documents::agrees_in_three;
 use crate::tests::steps::agrees_on_events;
-use crate::tests::{agrees, bytes_of, joined, times};
+use crate::tests::{agrees_by, bytes_of, joined, times};
+use sixel_picture::Profile;
 use std::alloc::AllocError;
 use std::process::Abort;
 use std::test::Fail;
@@ -16,12 +17,26 @@ fn with_many(rt: &impl AllocGlobal, command: &str, more: &str) -> Result<String,
     )
 }
 
-/// The answer is the same on the bytes, from a source, and on the events.
-fn agree(rt: &(impl AllocGlobal + Abort), text: &str, expected: &str) -> Result<(), Fail> {
+/// Whether the answer by the profile is the same on the bytes, from a source, and on the events.
+pub(super) fn agrees_each_way(
+    rt: &impl AllocGlobal,
+    profile: Profile,
+    text: &str,
+    expected: &str,
+) -> Result<bool, Fail> {
     let bytes = bytes_of(rt, text)?;
-    assert!(rt; agrees(rt, text, expected)?, "{expected}");
-    assert!(rt; agrees_in_three(rt, &bytes, expected)?, "{expected}");
-    assert!(rt; agrees_on_events(rt, &bytes, expected)?, "{expected}");
+    Ok(
+        agrees_by(rt, profile, text, expected)?
+            && agrees_in_three(rt, profile, &bytes, expected)?
+            && agrees_on_events(rt, profile, &bytes, expected)?,
+    )
+}
+
+/// The answer is so by each profile.
+fn agree(rt: &(impl AllocGlobal + Abort), text: &str, expected: &str) -> Result<(), Fail> {
+    for profile in [Profile::Registers16, Profile::Registers256] {
+        assert!(rt; agrees_each_way(rt, profile, text, expected)?, "{expected}");
+    }
     Ok(())
 }
 

@@ -2,8 +2,13 @@
 //!
 //! The answers are worked out from the rules, which `Rule` states. A place is an offset: ESC P `q` is 0 to 2, so the
 //! first command stands at 3, behind `"1;1;1;1` at 11, and behind `"1;1;1;1#0;2;0;0;0#0` at 23.
+//!
+//! The rows are written for 16 registers. By 256 registers they hold with 256 and 257 in place of 16 and 17: no answer
+//! names a place behind such a number.
 
-use crate::tests::{agree, agrees};
+use crate::tests::agrees_by;
+use sixel_picture::Profile;
+use std::alloc::AllocError;
 use std::process::Abort;
 use std::test::Fail;
 
@@ -35,6 +40,29 @@ const ALONE: &[(&str, &str)] = &[
     ("EPq\"1;1;1;1#0;2;0;0;0#0BE\\", "broken Outside 23 0 1"),
     ("EPq\"1;1;1;1E\\", "broken Uncovered 11 0 0"),
 ];
+
+/// The text with the registers 256 and 257 in place of 16 and 17.
+fn widened(rt: &impl AllocGlobal, text: &str) -> Result<String, AllocError> {
+    let text = text.replace(rt.alloc(), "#16", "#256")?;
+    text.replace(rt.alloc(), "#17", "#257")
+}
+
+/// Whether the answer is so by each profile, on a text in which `E` stands for ESC.
+fn agrees(rt: &impl AllocGlobal, text: &str, expected: &str) -> Result<bool, Fail> {
+    let wide = widened(rt, text)?;
+    Ok(
+        agrees_by(rt, Profile::Registers16, text, expected)?
+            && agrees_by(rt, Profile::Registers256, wide.as_str(), expected)?,
+    )
+}
+
+/// Each text has its answer by each profile.
+fn agree(rt: &(impl AllocGlobal + Abort), rows: &[(&str, &str)]) -> Result<(), Fail> {
+    for (text, expected) in rows {
+        assert!(rt; agrees(rt, text, expected)?, "{text}");
+    }
+    Ok(())
+}
 
 #[test]
 fn each_rule_alone(rt: HostRuntime) -> Result<(), Fail> {
@@ -137,7 +165,7 @@ const FROM_RASTER: &[&str] = &[
     "\"1;1;1;1",
 ];
 
-/// Whether the answer on two pieces of a document is so.
+/// Whether the answer on two pieces of a document is so by each profile.
 fn agree_two(
     rt: &impl AllocGlobal,
     first: &str,

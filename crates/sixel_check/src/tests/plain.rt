@@ -9,6 +9,7 @@ use crate::verdict::{Finding, Verdict};
 use sixel_grammar::Command;
 use sixel_picture::{Colour, Parts, Picture, Profile};
 use std::alloc::AllocError;
+use std::process::Abort;
 use std::test::Fail;
 
 /// A command and its place. The end has no command.
@@ -78,6 +79,24 @@ const NO_COLOUR: Command = Command::Define {
     z: 101,
 };
 
+/// `#16;2;0;0;0`
+const SEVENTEENTH_BLACK: Command = Command::Define {
+    register: 16,
+    system: 2,
+    x: 0,
+    y: 0,
+    z: 0,
+};
+
+/// `#272;2;0;0;0`
+const NO_REGISTER: Command = Command::Define {
+    register: 272,
+    system: 2,
+    x: 0,
+    y: 0,
+    z: 0,
+};
+
 /// `!2~`
 const TWICE: Command = Command::Repeat { count: 2, bits: 63 };
 
@@ -104,7 +123,7 @@ const SECOND: [(&str, Command); 3] = [
 ];
 
 /// What follows, with most that keeps a document portable.
-const MORE: [(&str, Command); 24] = [
+const MORE: [(&str, Command); 27] = [
     ("#0", Command::Select(0)),
     ("#1", Command::Select(1)),
     ("#0", Command::Select(0)),
@@ -128,6 +147,9 @@ const MORE: [(&str, Command); 24] = [
     ("!0~", NEVER),
     ("#2", Command::Select(2)),
     ("#16", Command::Select(16)),
+    ("#16;2;0;0;0", SEVENTEENTH_BLACK),
+    ("#256", Command::Select(256)),
+    ("#272;2;0;0;0", NO_REGISTER),
     ("\"1;1;2;6", BOX),
 ];
 
@@ -301,10 +323,18 @@ fn raster_rule(boxed: bool, pan: u16, pad: u16, width: u16, height: u16) -> Opti
     }
 }
 
-/// The least rule that a definition breaks.
-fn definition_rule(before: &[Step], register: u16, given: [u16; 4]) -> Option<Rule> {
+/// The last register of the profile.
+fn last_of(profile: Profile) -> u16 {
+    match profile {
+        Profile::Registers16 => 15,
+        Profile::Registers256 => 255,
+    }
+}
+
+/// The least rule that a definition breaks, where this register is the last.
+fn definition_rule(last: u16, before: &[Step], register: u16, given: [u16; 4]) -> Option<Rule> {
     let [system, x, y, z] = given;
-    if register > 15 {
+    if register > last {
         Some(Rule::Register)
     } else if !(system == 1 && x <= 360 || system == 2 && x <= 100) || y > 100 || z > 100 {
         Some(Rule::ColourValue)
@@ -331,7 +361,7 @@ fn data_rule(before: &[Step], columns: u64, bits: u8) -> Option<Rule> {
 }
 
 /// The least rule that the command or the end breaks, of those that look at no pixel.
-fn plain_rule(before: &[Step], step: Step) -> Option<Rule> {
+fn plain_rule(last: u16, before: &[Step], step: Step) -> Option<Rule> {
     let boxed = box_of(before).is_some();
     match step.command {
         Some(
@@ -342,7 +372,7 @@ fn plain_rule(before: &[Step], step: Step) -> Option<Rule> {
                 height,
             },
         ) => raster_rule(boxed, pan, pad, width, height),
-        Some(Command::Select(register)) if register > 15 => Some(Rule::Register),
+        Some(Command::Select(register)) if register > last => Some(Rule::Register),
         Some(Command::Select(_)) => None,
         Some(
             Command::Define {
@@ -352,7 +382,7 @@ fn plain_rule(before: &[Step], step: Step) -> Option<Rule> {
                 y,
                 z,
             },
-        ) => definition_rule(before, register, [system, x, y, z]),
+        ) => definition_rule(last, before, register, [system, x, y, z]),
         _ if !boxed => Some(Rule::RasterFirst),
         Some(Command::Sixel(bits)) => data_rule(before, 1, bits),
         Some(Command::Repeat { count, bits }) => data_rule(before, count as u64, bits),
@@ -373,9 +403,9 @@ fn pixel_rule(before: &[Step], step: Step) -> Option<(Rule, (u64, u64))> {
 }
 
 /// What the command or the end breaks.
-fn finding_at(before: &[Step], step: Step) -> Option<Finding> {
+fn finding_at(last: u16, before: &[Step], step: Step) -> Option<Finding> {
     let place = step.place;
-    match plain_rule(before, step) {
+    match plain_rule(last, before, step) {
         Some(rule) => Some(Finding {
             rule,
             place,
@@ -389,10 +419,10 @@ fn finding_at(before: &[Step], step: Step) -> Option<Finding> {
     }
 }
 
-/// The first broken rule.
-fn plain_finding(steps: &[Step]) -> Option<Finding> {
+/// The first broken rule, by the registers up to the last.
+fn plain_finding(last: u16, steps: &[Step]) -> Option<Finding> {
     for (position, step) in steps.iter().enumerate() {
-        let finding = finding_at(steps.get(..position).unwrap_or(&[]), *step);
+        let finding = finding_at(last, steps.get(..position).unwrap_or(&[]), *step);
         if finding.is_some() {
             return finding;
         }
@@ -436,7 +466,7 @@ fn document_of(rt: &impl AllocGlobal, state: &mut u64) -> Result<Made, Fail> {
     }
     for _ in 0..5u32 {
         *state = next(*state);
-        push(&mut made, MORE[(*state >> 40) as usize % 24])?;
+        push(&mut made, MORE[(*state >> 40) as usize % 27])?;
     }
     let place = made.bytes.len() as u64;
     made.steps.push(Step {
@@ -457,7 +487,7 @@ fn values_of(colour: Colour) -> [u16; 4] {
 
 /// Whether each register has the colour of its last definition, and none where it has none.
 fn has_last_colours(picture: &Picture, steps: &[Step]) -> bool {
-    for register in 0..16u8 {
+    for register in 0..=255u8 {
         let colour = picture.palette().get(register).map(values_of);
         if colour != definition(steps, register as u16) {
             return false;
@@ -479,9 +509,11 @@ fn has_last_registers(picture: &Picture, steps: &[Step]) -> bool {
     true
 }
 
-/// Whether the picture has the size of the box, and the registers and the colours that the commands leave.
-fn is_left(picture: &Picture, steps: &[Step]) -> bool {
-    box_of(steps) == Some((picture.width() as u64, picture.height() as u64))
+/// Whether the picture is of the profile, and has the size of the box, and the registers and the colours that the
+/// commands leave.
+fn is_left(picture: &Picture, profile: Profile, steps: &[Step]) -> bool {
+    picture.profile() == profile
+        && box_of(steps) == Some((picture.width() as u64, picture.height() as u64))
         && has_last_registers(picture, steps)
         && has_last_colours(picture, steps)
 }
@@ -489,13 +521,14 @@ fn is_left(picture: &Picture, steps: &[Step]) -> bool {
 /// Whether both judges say the same of it; what it breaks is marked, or that it breaks nothing.
 fn is_judged_alike(
     rt: &impl AllocGlobal,
+    profile: Profile,
     made: &Made,
     met: &mut [bool; 12],
     portable: &mut u32,
 ) -> bool {
     match (
-        check_bytes(rt.alloc(), Profile::Registers16, &made.bytes),
-        plain_finding(&made.steps),
+        check_bytes(rt.alloc(), profile, &made.bytes),
+        plain_finding(last_of(profile), &made.steps),
     ) {
         (Ok(Verdict::Broken(finding)), Some(plain)) => {
             for (mark, rule) in met.iter_mut().zip(RULES) {
@@ -505,24 +538,33 @@ fn is_judged_alike(
         }
         (Ok(Verdict::Portable(picture)), None) => {
             *portable = portable.saturating_add(1);
-            is_left(&picture, &made.steps)
+            is_left(&picture, profile, &made.steps)
         }
         _ => false,
     }
 }
 
 /// The documents break each of the rules, and some break none.
-#[test]
-fn both_judge_alike(rt: HostRuntime) -> Result<(), Fail> {
+fn judge_alike(rt: &(impl AllocGlobal + Abort), profile: Profile) -> Result<(), Fail> {
     let mut state: u64 = 1;
     let mut met = [false; 12];
     let mut portable: u32 = 0;
     for _ in 0..400u32 {
-        let made = document_of(&rt, &mut state)?;
-        let alike = is_judged_alike(&rt, &made, &mut met, &mut portable);
+        let made = document_of(rt, &mut state)?;
+        let alike = is_judged_alike(rt, profile, &made, &mut met, &mut portable);
         assert!(rt; alike, "{:?}", made.bytes.as_slice());
     }
     assert!(rt; met == [true; 12]);
     assert!(rt; portable > 4);
     Ok(())
+}
+
+#[test]
+fn both_judge_alike(rt: HostRuntime) -> Result<(), Fail> {
+    judge_alike(&rt, Profile::Registers16)
+}
+
+#[test]
+fn both_judge_alike_by_256_registers(rt: HostRuntime) -> Result<(), Fail> {
+    judge_alike(&rt, Profile::Registers256)
 }

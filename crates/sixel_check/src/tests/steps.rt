@@ -1,6 +1,6 @@
 //! A checker, event by event.
 
-ghost use Rattle.std.specs.Prelude.{List, IfOk, OnOk};
+ghost use Rattle.std.specs.Prelude.{ℕ, List, IfOk, OnOk};
 ghost use Rattle.sixel_grammar.specs.declared.command.Placed.{Placed as PlacedValue};
 ghost use Rattle.sixel_check.specs.Standing.{StandsAfter};
 
@@ -14,8 +14,8 @@ use std::test::Fail;
 
 /// Pushes an event that may come.
 fn push_next(checker: &mut Checker<BytePlane>, placed: &Placed) -> Result<(), Fail>
-    requires { (seen : List PlacedValue) × StandsAfter checker.old seen }
-    ensures { OnOk result ((seen : List PlacedValue) × StandsAfter checker.new seen) }
+    requires { (registers : ℕ) × (seen : List PlacedValue) × StandsAfter registers checker.old seen }
+    ensures { OnOk result ((registers : ℕ) × (seen : List PlacedValue) × StandsAfter registers checker.new seen) }
 {
     if !checker.expects(&placed.event) || !placed.event.is_spellable() {
         return Err(Fail::from("an event that may not come"));
@@ -24,11 +24,15 @@ fn push_next(checker: &mut Checker<BytePlane>, placed: &Placed) -> Result<(), Fa
     Ok(())
 }
 
-/// A checker that has seen these events.
-fn pushed(rt: &impl AllocGlobal, events: &[Placed]) -> Result<Checker<BytePlane>, Fail>
-    ensures { IfOk result (λ checker. (seen : List PlacedValue) × StandsAfter checker seen) }
+/// A checker by the profile that has seen these events.
+fn pushed(
+    rt: &impl AllocGlobal,
+    profile: Profile,
+    events: &[Placed],
+) -> Result<Checker<BytePlane>, Fail>
+    ensures { IfOk result (λ checker. (registers : ℕ) × (seen : List PlacedValue) × StandsAfter registers checker seen) }
 {
-    let mut checker: Checker<BytePlane> = Checker::new(rt.alloc(), Profile::Registers16);
+    let mut checker: Checker<BytePlane> = Checker::new(rt.alloc(), profile);
     for placed in events {
         push_next(&mut checker, placed)?;
     }
@@ -37,7 +41,7 @@ fn pushed(rt: &impl AllocGlobal, events: &[Placed]) -> Result<Checker<BytePlane>
 
 /// The verdict of a checker that has seen a whole list.
 fn verdict_of(rt: &impl AllocGlobal, checker: Checker<BytePlane>) -> Result<String, Fail>
-    requires { (seen : List PlacedValue) × StandsAfter checker seen }
+    requires { (registers : ℕ) × (seen : List PlacedValue) × StandsAfter registers checker seen }
 {
     if !checker.is_whole() {
         return Err(Fail::from("not whole"));
@@ -56,10 +60,14 @@ fn smallest(rt: &impl AllocGlobal) -> Result<Vec<Placed>, Fail> {
 }
 
 /// The verdict on the events of a document, pushed one by one; none where the bytes are no document.
-fn answer_by_events(rt: &impl AllocGlobal, bytes: &[u8]) -> Result<Option<String>, Fail> {
+fn answer_by_events(
+    rt: &impl AllocGlobal,
+    profile: Profile,
+    bytes: &[u8],
+) -> Result<Option<String>, Fail> {
     match events_of(rt.alloc(), bytes) {
         Ok(events) => {
-            let checker = pushed(rt, events.as_slice())?;
+            let checker = pushed(rt, profile, events.as_slice())?;
             Ok(Some(verdict_of(rt, checker)?))
         }
         Err(_) => Ok(None),
@@ -69,10 +77,11 @@ fn answer_by_events(rt: &impl AllocGlobal, bytes: &[u8]) -> Result<Option<String
 /// Whether it is so.
 pub(super) fn agrees_on_events(
     rt: &impl AllocGlobal,
+    profile: Profile,
     bytes: &[u8],
     expected: &str,
 ) -> Result<bool, Fail> {
-    match answer_by_events(rt, bytes)? {
+    match answer_by_events(rt, profile, bytes)? {
         Some(answer) => Ok(answer.as_str() == expected),
         None => Ok(false),
     }
@@ -81,7 +90,7 @@ pub(super) fn agrees_on_events(
 /// Whether pushed events have the verdict that the bytes have. Bytes with a fault have none.
 fn agrees_by_events(rt: &impl AllocGlobal, text: &str, expected: &str) -> Result<bool, Fail> {
     let bytes = bytes_of(rt, text)?;
-    Ok(match answer_by_events(rt, &bytes)? {
+    Ok(match answer_by_events(rt, Profile::Registers16, &bytes)? {
         Some(answer) => answer.as_str() == expected,
         None => !expected.starts_with("portable") && !expected.starts_with("broken"),
     })
@@ -99,7 +108,7 @@ fn each_agrees(rt: &(impl AllocGlobal + Abort), rows: &[(&str, &str)]) -> Result
 fn worked_documents_event_by_event(rt: HostRuntime) -> Result<(), Fail> {
     each_agrees(&rt, documents())?;
     let eight_bits = b"\x90q\"1;1;1;1#0;2;0;0;0#0@\x9c";
-    assert!(rt; agrees_on_events(&rt, eight_bits, "portable 1 1")?);
+    assert!(rt; agrees_on_events(&rt, Profile::Registers16, eight_bits, "portable 1 1")?);
     Ok(())
 }
 
@@ -161,7 +170,7 @@ pub(super) fn expects_so<P: Plane>(checker: &Checker<P>, start: bool, more: bool
 fn each_kind_of_event_is_expected_in_its_turn(rt: HostRuntime) -> Result<(), Fail> {
     let events = smallest(&rt)?;
     for count in 0..=events.len() {
-        let checker = pushed(&rt, &events[..count])?;
+        let checker = pushed(&rt, Profile::Registers16, &events[..count])?;
         let whole = count == 6;
         assert_eq!(rt; checker.is_whole(), whole, "{count}");
         assert!(rt;

@@ -1,9 +1,9 @@
 //! What 32 terminals of the class show after portable documents, and after broken ones.
 
-use crate::tests::documents::picture_of;
-use crate::tests::{bytes_of, events_of};
+use crate::tests::documents::picture_by;
+use crate::tests::{agrees, bytes_of, events_of, joined};
 use sixel_grammar::Placed;
-use sixel_picture::{Colour, Parts, Picture};
+use sixel_picture::{Colour, Parts, Picture, Profile};
 use sixel_terminal::{Choices, Ground, Terminal};
 use std::alloc::Global;
 use std::test::Fail;
@@ -54,11 +54,12 @@ fn choices_of(number: u8, width: u32, height: u32) -> Choices {
     }
 }
 
-/// Sixteen colours: register n starts as 6n percent of red, green and blue.
-fn greys(alloc: Global) -> Result<Vec<Colour>, Fail> {
-    let mut colours = Vec::with_capacity(alloc, 16)?;
-    for register in 0..16u8 {
-        let percent = register.saturating_mul(6);
+/// A colour for each register of the profile: register n starts as 6n percent of red, green and blue, by the rest of
+/// 101.
+fn greys(alloc: Global, profile: Profile) -> Result<Vec<Colour>, Fail> {
+    let mut colours = Vec::with_capacity(alloc, 256)?;
+    for register in 0..profile.count() {
+        let percent = (register.saturating_mul(6) % 101) as u8;
         colours.push(Colour::rgb(percent, percent, percent).ok_or("a grey")?)?;
     }
     Ok(colours)
@@ -119,14 +120,20 @@ fn colours_of(alloc: Global, picture: &Picture) -> Result<Vec<Parts>, Fail> {
     Ok(pixels)
 }
 
-/// Whether terminals of all choices show the picture after these events, and grey around it.
-fn is_shown(alloc: Global, events: &[Placed], picture: &Picture) -> Result<bool, Fail> {
+/// Whether terminals of all choices, with the registers of the profile, show the picture after these events, and grey
+/// around it.
+fn is_shown(
+    alloc: Global,
+    profile: Profile,
+    events: &[Placed],
+    picture: &Picture,
+) -> Result<bool, Fail> {
     let (width, height) = (picture.width(), picture.height());
     let pixels = colours_of(alloc, picture)?;
     let expected = framed(alloc, width, height, pixels.as_slice())?;
     for number in 0..32u8 {
         let choices = choices_of(number, width, height);
-        let colours = shown(alloc, choices, greys(alloc)?, events)?;
+        let colours = shown(alloc, choices, greys(alloc, profile)?, events)?;
         if colours.as_slice() != expected.as_slice() {
             return Ok(false);
         }
@@ -134,15 +141,88 @@ fn is_shown(alloc: Global, events: &[Placed], picture: &Picture) -> Result<bool,
     Ok(true)
 }
 
+/// Whether they show the picture of a document that is portable by the profile.
+fn is_shown_by_all(rt: &impl AllocGlobal, profile: Profile, text: &str) -> Result<bool, Fail> {
+    let bytes = bytes_of(rt, text)?;
+    let events = events_of(rt.alloc(), &bytes).or(Err("a document"))?;
+    let picture = picture_by(rt, profile, text)?;
+    is_shown(rt.alloc(), profile, events.as_slice(), &picture)
+}
+
+/// What is portable by 16 registers is so by 256, on terminals of so many registers.
 #[test]
 fn each_terminal_shows_what_is_portable(rt: HostRuntime) -> Result<(), Fail> {
     for text in PORTABLE {
-        let bytes = bytes_of(&rt, text)?;
-        let events = events_of(rt.alloc(), &bytes).or(Err("a document"))?;
-        let picture = picture_of(&rt, text)?;
-        let shows = is_shown(rt.alloc(), events.as_slice(), &picture)?;
-        assert!(rt; shows, "{text:?}");
+        assert!(rt;
+            is_shown_by_all(&rt, Profile::Registers16, text)?,
+            "{text:?}"
+        );
+        assert!(rt;
+            is_shown_by_all(&rt, Profile::Registers256, text)?,
+            "{text:?}"
+        );
     }
+    Ok(())
+}
+
+/// Definitions of 256 registers. No two have the same colour, and none has a starting colour: its blue is 100 and its
+/// red below.
+fn definitions(rt: &impl AllocGlobal) -> Result<String, Fail> {
+    let alloc = rt.alloc();
+    let mut text = String::new(alloc);
+    for register in 0..256u16 {
+        let (red, green) = (register % 100, register / 100);
+        text.push_str(format!(in alloc; "#{register};2;{red};{green};100")?.as_str())?;
+    }
+    Ok(text)
+}
+
+/// A pixel in each of them, from the left to the right.
+fn columns(rt: &impl AllocGlobal) -> Result<String, Fail> {
+    let alloc = rt.alloc();
+    let mut text = String::new(alloc);
+    for register in 0..256u16 {
+        text.push_str(format!(in alloc; "#{register}@")?.as_str())?;
+    }
+    Ok(text)
+}
+
+/// A document that paints in all registers of the greater profile.
+fn wide_document(rt: &impl AllocGlobal) -> Result<String, Fail> {
+    let (definitions, columns) = (definitions(rt)?, columns(rt)?);
+    let parts = [
+        "EPq\"1;1;256;1",
+        definitions.as_str(),
+        columns.as_str(),
+        "E\\",
+    ];
+    Ok(joined(rt, &parts)?)
+}
+
+/// The colours of its pixels.
+fn defined(alloc: Global) -> Result<Vec<Parts>, Fail> {
+    let mut pixels = Vec::new(alloc);
+    for register in 0..=255u8 {
+        pixels.push(Parts::Rgb(register % 100, register / 100, 100))?;
+    }
+    Ok(pixels)
+}
+
+/// Whether its picture is a row of them.
+fn is_defined(rt: &impl AllocGlobal, text: &str) -> Result<bool, Fail> {
+    let picture = picture_by(rt, Profile::Registers256, text)?;
+    let pixels = colours_of(rt.alloc(), &picture)?;
+    Ok(picture.height() == 1 && pixels.as_slice() == defined(rt.alloc())?.as_slice())
+}
+
+/// A terminal with fewer registers isn't of this class. By 16 registers the definition of register 16 is broken: ten of
+/// twelve bytes and six of fourteen stand between it and the raster attributes, which end before 13.
+#[test]
+fn each_terminal_of_256_registers_shows_256_colours(rt: HostRuntime) -> Result<(), Fail> {
+    let text = wide_document(&rt)?;
+    assert!(rt; is_defined(&rt, text.as_str())?);
+    assert!(rt; is_shown_by_all(&rt, Profile::Registers256, text.as_str())?);
+    assert!(rt; agrees(&rt, text.as_str(), "broken Register 217")?);
     Ok(())
 }
 
@@ -174,15 +254,48 @@ fn shows(
 /// Whether a definition selects its register on some.
 fn shows_unselected(rt: &impl AllocGlobal, choices: Choices) -> Result<bool, Fail> {
     let pixel = if choices.selects { BLACK } else { grey(42) };
-    shows(rt, UNSELECTED, choices, greys(rt.alloc())?, &[pixel])
+    shows(
+        rt,
+        UNSELECTED,
+        choices,
+        greys(rt.alloc(), Profile::Registers16)?,
+        &[pixel],
+    )
 }
 
 /// Whether they show the colour in which register 0 starts.
 fn shows_undefined(rt: &impl AllocGlobal, choices: Choices) -> Result<bool, Fail> {
     Ok(
-        shows(rt, UNDEFINED, choices, greys(rt.alloc())?, &[BLACK])?
-            && shows(rt, UNDEFINED, choices, pale(rt.alloc())?, &[grey(90)])?,
+        shows(
+            rt,
+            UNDEFINED,
+            choices,
+            greys(rt.alloc(), Profile::Registers16)?,
+            &[BLACK],
+        )? && shows(rt, UNDEFINED, choices, pale(rt.alloc())?, &[grey(90)])?,
     )
+}
+
+/// Register 16 is another register than 0, on terminals that have it.
+const SEVENTEENTH: &str = "EPq\"1;1;2;1#0;2;0;0;0#16;2;100;0;0#0@#16@E\\";
+/// The last register of the greater profile is painted in, and isn't defined.
+const LAST_UNDEFINED: &str = "EPq\"1;1;1;1#255@E\\";
+
+/// Whether a terminal of 16 registers, which isn't of the class of 256, takes register 16 for register 0, in which the
+/// definition of 16 then counts.
+fn shows_seventeenth(rt: &impl AllocGlobal, choices: Choices) -> Result<bool, Fail> {
+    let few = greys(rt.alloc(), Profile::Registers16)?;
+    let many = greys(rt.alloc(), Profile::Registers256)?;
+    Ok(
+        shows(rt, SEVENTEENTH, choices, few, &[RED, RED])?
+            && shows(rt, SEVENTEENTH, choices, many, &[BLACK, RED])?,
+    )
+}
+
+/// Whether one of 256 registers shows the colour in which the last one starts: 1,530 by the rest of 101.
+fn shows_last_undefined(rt: &impl AllocGlobal, choices: Choices) -> Result<bool, Fail> {
+    let colours = greys(rt.alloc(), Profile::Registers256)?;
+    shows(rt, LAST_UNDEFINED, choices, colours, &[grey(15)])
 }
 
 /// Whether the last definition counts on some, and on others the one at the painting.
@@ -192,7 +305,13 @@ fn shows_redefined(rt: &impl AllocGlobal, choices: Choices) -> Result<bool, Fail
     } else {
         BLACK
     };
-    shows(rt, REDEFINED, choices, greys(rt.alloc())?, &[pixel, RED])
+    shows(
+        rt,
+        REDEFINED,
+        choices,
+        greys(rt.alloc(), Profile::Registers16)?,
+        &[pixel, RED],
+    )
 }
 
 /// Whether raster attributes fill the box on some.
@@ -201,7 +320,13 @@ fn shows_filled(rt: &impl AllocGlobal, choices: Choices) -> Result<bool, Fail> {
         Ground::Kept => BLACK,
         Ground::Filled(_) => grey(30),
     };
-    shows(rt, RASTER_TWICE, choices, greys(rt.alloc())?, &[pixel])
+    shows(
+        rt,
+        RASTER_TWICE,
+        choices,
+        greys(rt.alloc(), Profile::Registers16)?,
+        &[pixel],
+    )
 }
 
 #[test]
@@ -212,6 +337,20 @@ fn terminals_differ_on_what_is_broken(rt: HostRuntime) -> Result<(), Fail> {
         assert!(rt; shows_undefined(&rt, choices)?, "{number}");
         assert!(rt; shows_redefined(&rt, choices_of(number, 2, 1))?, "{number}");
         assert!(rt; shows_filled(&rt, choices)?, "{number}");
+    }
+    Ok(())
+}
+
+#[test]
+fn terminals_of_16_registers_differ_on_more(rt: HostRuntime) -> Result<(), Fail> {
+    assert!(rt; is_shown_by_all(&rt, Profile::Registers256, SEVENTEENTH)?);
+    for number in 0..32u8 {
+        let choices = choices_of(number, 2, 1);
+        assert!(rt; shows_seventeenth(&rt, choices)?, "{number}");
+        assert!(rt;
+            shows_last_undefined(&rt, choices_of(number, 1, 1))?,
+            "{number}"
+        );
     }
     Ok(())
 }

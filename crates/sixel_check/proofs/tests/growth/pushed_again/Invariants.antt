@@ -1,4 +1,4 @@
-use Rattle.std.proofs.Common.{List}
+use Rattle.std.proofs.Common.{ℕ, List}
 use Rattle.sixel_grammar.specs.declared.command.Placed.{Placed}
 use Rattle.sixel_check.specs.Standing.{StandsAfter}
 use Rattle.sixel_check.proofs.tests.growth.pushed_again.Given as goal
