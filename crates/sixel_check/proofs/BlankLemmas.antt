@@ -184,7 +184,8 @@ registers_drawn s before xs d e =
     (sym (register_there s before xs i d e (omega (arith, length_drawn s before xs d e)))))
 
 -- the picture that is left has the size of the sheet and these registers
-pub picture_drawn : (registers : ℕ) (s : Sheet) (before : List Event) (xs : List ℕ) → IsDrawn s before → map Some xs ≡ s.cells
+pub picture_drawn : (registers : ℕ) (s : Sheet) (before : List Event) (xs : List ℕ) → IsDrawn s before
+    → map Some xs ≡ s.cells
     → picture_left registers before ≡ picture_of_parts s.width s.height (palette_left registers before) xs
 unfolding picture_left
 picture_drawn registers s before xs d e = rw (d.box, registers_drawn s before xs d e) refl

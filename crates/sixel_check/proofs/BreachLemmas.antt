@@ -43,8 +43,8 @@ IsLeastOf registers before e None = NoneBelow registers outside_rule before e
 IsLeastOf registers before e (Some rule) = IsLeast registers before e rule
 
 -- none below a number, and not that number
-pub none_more : (registers : ℕ) (before : List Event) (e : Event) (n : ℕ) → NoneBelow registers n before e → ¬ Breaks registers n before e
-    → NoneBelow registers (suc n) before e
+pub none_more : (registers : ℕ) (before : List Event) (e : Event) (n : ℕ) → NoneBelow registers n before e
+    → ¬ Breaks registers n before e → NoneBelow registers (suc n) before e
 none_more registers before e n below none m lt h =
     split (m == n) refl
   where
@@ -55,13 +55,15 @@ none_more registers before e n below none m lt h =
         below m smaller h
 
 find : (registers : ℕ) (before : List Event) (e : Event) (rule : Rule) (o : Option Rule) (b : Bool)
-    → (b ≡ true → Breaks registers (number_of rule) before e) → (b ≡ false → ¬ Breaks registers (number_of rule) before e)
+    → (b ≡ true → Breaks registers (number_of rule) before e)
+    → (b ≡ false → ¬ Breaks registers (number_of rule) before e)
     → IsPixel rule None before e → NoneBelow registers (number_of rule) before e
-    → (NoneBelow registers (suc (number_of rule)) before e → IsLeastOf registers before e o) → IsLeastOf registers before e
-    (if b then Some rule else o)
+    → (NoneBelow registers (suc (number_of rule)) before e → IsLeastOf registers before e o)
+    → IsLeastOf registers before e (if b then Some rule else o)
 find registers before e rule o true holds fails pixel below more =
     record { broken = holds refl; none_smaller = below; no_pixel = pixel }
-find registers before e rule o false holds fails pixel below more = more (none_more _ before e (number_of rule) below (fails refl))
+find registers before e rule o false holds fails pixel below more =
+    more (none_more _ before e (number_of rule) below (fails refl))
 
 not_both : (b : Bool) → b ≡ false → ¬ IsTrue b
 not_both true f t = cc
@@ -79,16 +81,19 @@ unselected_is : {registers : ℕ} (n : Notes) (before : List Event) (e : Event) 
 unfolding breaks_unselected
 unselected_is n before e s = ap (λ (o : Option ℕ). is_painting e && is_none o) (known_is n before s)
 
-defined_none : (registers : ℕ) (r : ℕ) (o : Option Definition) → IfSome o (IsGood registers r) → is_none (option_and_then colour_by o) ≡ is_none o
+defined_none : (registers : ℕ) (r : ℕ) (o : Option Definition) → IfSome o (IsGood registers r)
+    → is_none (option_and_then colour_by o) ≡ is_none o
 defined_none registers r None h = refl
 defined_none registers r (Some d) h = ap is_none (given (colour_by d) h.1).1
 
-colour_noted : {registers : ℕ} (n : Notes) (before : List Event) (r : ℕ) → AreNotesAfter registers n before → r < registers
-    → palette_at n.palette r ≡ option_and_then colour_by (definition_of before r)
+colour_noted : {registers : ℕ} (n : Notes) (before : List Event) (r : ℕ) → AreNotesAfter registers n before
+    → r < registers → palette_at n.palette r ≡ option_and_then colour_by (definition_of before r)
 unfolding colour_of
-colour_noted {registers} n before r s lt = ap (λ (p : List (Option Parts)). palette_at p r) s.palette_is ∙ left_at registers r before lt
+colour_noted {registers} n before r s lt =
+    ap (λ (p : List (Option Parts)). palette_at p r) s.palette_is ∙ left_at registers r before lt
 
-undefined_each : {registers : ℕ} (n : Notes) (before : List Event) → AreNotesAfter registers n before → (o : Option ℕ) → IfSome o (λ r. r < registers)
+undefined_each : {registers : ℕ} (n : Notes) (before : List Event) → AreNotesAfter registers n before
+    → (o : Option ℕ) → IfSome o (λ r. r < registers)
     → option_map_or (λ r. is_none (palette_at n.palette r)) o false ≡ option_map_or
     (λ r. is_none (definition_of before r)) o false
 undefined_each n before s None lt = refl
@@ -139,17 +144,19 @@ redefined_each registers r s x y z (Some d) h =
     ap (λ (o : Option Parts). option_map_or (λ c. not (is_colour_of c s x y z)) o false) c.1
     ∙ ap not (by_system d c.0 s x y z (d.system == 1) (d.system == 2) refl refl c.1)
 
-undefined_above : {registers : ℕ} (r : ℕ) (o : Option Definition) → IfSome o (IsGood registers r) → registers ≤ r → o ≡ None
+undefined_above : {registers : ℕ} (r : ℕ) (o : Option Definition) → IfSome o (IsGood registers r) → registers ≤ r
+    → o ≡ None
 undefined_above r None h le = refl
 undefined_above r (Some d) h le = absurd (omega (arith, h.0, le))
 
-no_colour_above : {registers : ℕ} (n : Notes) (before : List Event) (r : ℕ) → AreNotesAfter registers n before → registers ≤ r
-    → palette_at n.palette r ≡ None
+no_colour_above : {registers : ℕ} (n : Notes) (before : List Event) (r : ℕ) → AreNotesAfter registers n before
+    → registers ≤ r → palette_at n.palette r ≡ None
 no_colour_above {registers} n before r s le =
     let long : length n.palette ≤ r = rw (s.palette_is, length_left registers before) le in
     ap option_flatten (slice_get_past n.palette r long)
 
-redefined_at : {registers : ℕ} (n : Notes) (before : List Event) (r s x y z : ℕ) → AreNotesAfter registers n before → (b : Bool) → nat_lt r registers ≡ b
+redefined_at : {registers : ℕ} (n : Notes) (before : List Event) (r s x y z : ℕ) → AreNotesAfter registers n before
+    → (b : Bool) → nat_lt r registers ≡ b
     → redefined_in n (Step (Define r s x y z)) ≡ breaks_redefined before (Step (Define r s x y z))
 unfolding breaks_redefined
 redefined_at {registers} n before r s x y z h true e =
@@ -167,7 +174,8 @@ redefined_at {registers} n before r s x y z h false e =
 redefined_is : {registers : ℕ} (n : Notes) (before : List Event) (e : Event) → AreNotesAfter registers n before
     → redefined_in n e ≡ breaks_redefined before e
 unfolding breaks_redefined
-redefined_is {registers} n before (Step (Define r k x y z)) s = redefined_at n before r k x y z s (nat_lt r registers) refl
+redefined_is {registers} n before (Step (Define r k x y z)) s =
+    redefined_at n before r k x y z s (nat_lt r registers) refl
 redefined_is {registers} n before _ s = refl
 
 -- ---- the first of the ten

@@ -16,9 +16,11 @@ use Rattle.sixel_check.proofs.ReadLemmas.{never_read, not_failed}
 
 -- ---- a failure of the source
 
-pub read_answers : (registers : ℕ) (o : Option (List ℕ)) (r : Result Verdict InputFault) → r ≡ Err Read → IfSome o (Answers registers r)
+pub read_answers : (registers : ℕ) (o : Option (List ℕ)) (r : Result Verdict InputFault) → r ≡ Err Read
+    → IfSome o (Answers registers r)
 read_answers registers None r is = tt
-read_answers registers (Some bytes) r is = subst (λ (t : Result Verdict InputFault). Answers registers t bytes) (sym is) tt
+read_answers registers (Some bytes) r is =
+    subst (λ (t : Result Verdict InputFault). Answers registers t bytes) (sym is) tt
 
 pub read_counts : (old mid new : ℕ) (r : Result Verdict InputFault) → r ≡ Err Read → new ≡ one_more mid → mid ≡ old
     → new ≡ failures_after r old
@@ -60,8 +62,8 @@ end_grows registers (Some bytes) r other = λ e. absurd (other e)
 
 -- ---- a piece that was refused
 
-pub fault_answers : (registers : ℕ) (a b : Option (List ℕ)) (fault : InputFault) (r : Result Verdict InputFault) (xs : List ℕ)
-    → r ≡ Err fault → Consumes a b xs → ExplainsAlways fault xs → IfSome a (Answers registers r)
+pub fault_answers : (registers : ℕ) (a b : Option (List ℕ)) (fault : InputFault) (r : Result Verdict InputFault)
+    (xs : List ℕ) → r ≡ Err fault → Consumes a b xs → ExplainsAlways fault xs → IfSome a (Answers registers r)
 fault_answers registers a b fault r xs is c h =
     subst (λ (t : Result Verdict InputFault). IfSome a (Answers registers t)) (sym is) (refused_early a b fault xs c h)
 
@@ -78,9 +80,9 @@ fault_reads P fault r xs is h e = absurd (never_read fault xs h (same fault Read
     same : (f k : InputFault) → (let r : Result Verdict InputFault = Err f in r) ≡ Err k → f ≡ k
     same f k e = cc
 
-pub fault_grows : (registers : ℕ) (a b : Option (List ℕ)) (fault : InputFault) (r : Result Verdict InputFault) (xs : List ℕ)
-    → r ≡ Err fault → Consumes a b xs → GrowsFor registers fault xs
+pub fault_grows : (registers : ℕ) (a b : Option (List ℕ)) (fault : InputFault) (r : Result Verdict InputFault)
+    (xs : List ℕ) → r ≡ Err fault → Consumes a b xs → GrowsFor registers fault xs
     → IfSome a (λ bytes. r ≡ Err OutOfMemory → MayGrowIn registers bytes)
 fault_grows registers a b fault r xs is c h =
-    subst (λ (t : Result Verdict InputFault). IfSome a (λ bytes. t ≡ Err OutOfMemory → MayGrowIn registers bytes)) (sym is)
-    (grows_told _ a b fault xs c h)
+    subst (λ (t : Result Verdict InputFault). IfSome a (λ bytes. t ≡ Err OutOfMemory → MayGrowIn registers bytes))
+    (sym is) (grows_told _ a b fault xs c h)

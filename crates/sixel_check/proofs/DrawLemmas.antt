@@ -53,9 +53,9 @@ inside_alone s before e d none x y p =
     none (rw d.box (x, y, record { painted = p.painted; outside = p.outside }))
 
 -- the plane takes the run
-pub run_fits_in : {registers : ℕ} (n : Notes) (s : Sheet) (before : List Event) (e : Event) → AreNotesAfter registers n before → IsDrawn s before
-    → BreaksNoRule registers before e → IsSpellable e → is_painting e ≡ true
-    → RunFits n.column n.band (columns_of 0 e) (bits_of e) s.width s.height
+pub run_fits_in : {registers : ℕ} (n : Notes) (s : Sheet) (before : List Event) (e : Event)
+    → AreNotesAfter registers n before → IsDrawn s before → BreaksNoRule registers before e → IsSpellable e
+    → is_painting e ≡ true → RunFits n.column n.band (columns_of 0 e) (bits_of e) s.width s.height
 run_fits_in n s before e a d none spellable paints =
     let k = keeps before e none in
     let real = run_fits (column 0 before) (band before) (columns_of 0 e) (bits_of e) s.width s.height
@@ -70,8 +70,9 @@ run_fits_in n s before e a d none spellable paints =
     rw (column_same, band_same) real
 
 -- the sheet with the run of a painting command
-pub drawn_paint : {registers : ℕ} (n : Notes) (s : Sheet) (before : List Event) (e : Event) (r : ℕ) → AreNotesAfter registers n before
-    → IsDrawn s before → BreaksNoRule registers before e → IsSpellable e → is_painting e ≡ true → known_in n ≡ Some r
+pub drawn_paint : {registers : ℕ} (n : Notes) (s : Sheet) (before : List Event) (e : Event) (r : ℕ)
+    → AreNotesAfter registers n before → IsDrawn s before → BreaksNoRule registers before e → IsSpellable e
+    → is_painting e ≡ true → known_in n ≡ Some r
     → IsDrawn (painted_sheet s n.column n.band (columns_of 0 e) (bits_of e) r) (before ++ e ∷ [])
 drawn_paint n s before e r a d none spellable paints is =
     drawn_capped s before e r n.column n.band (sym (known_is n before a) ∙ is) a.column_is a.band_is
@@ -83,8 +84,8 @@ pub drawn_still : (s : Sheet) (before : List Event) (e : Event) → is_painting 
 drawn_still s before e still d = drawn_idle s before e (eqb-true _ _ (not-false _ still)) d
 
 -- a painting command has a known register
-pub knows : {registers : ℕ} (n : Notes) (before : List Event) (e : Event) → AreNotesAfter registers n before → BreaksNoRule registers before e
-    → is_painting e ≡ true → known_in n ≡ None → ⊥
+pub knows : {registers : ℕ} (n : Notes) (before : List Event) (e : Event) → AreNotesAfter registers n before
+    → BreaksNoRule registers before e → is_painting e ≡ true → known_in n ≡ None → ⊥
 unfolding breaks_unselected
 knows n before e a none paints is =
     let k = keeps before e none in
@@ -96,8 +97,8 @@ knows n before e a none paints is =
 -- ---- the box
 
 -- no box, and an event that makes none
-pub undrawn_still : (registers : ℕ) (before : List Event) (e : Event) → BreaksNoRule registers before e → raster_of e ≡ None → IsUndrawn before
-    → IsUndrawn (before ++ e ∷ [])
+pub undrawn_still : (registers : ℕ) (before : List Event) (e : Event) → BreaksNoRule registers before e
+    → raster_of e ≡ None → IsUndrawn before → IsUndrawn (before ++ e ∷ [])
 unfolding breaks_raster_first
 undrawn_still registers before e none bare u =
     let k = keeps before e none in
@@ -115,8 +116,8 @@ abbrev make : ℕ → ℕ → ℕ → ℕ → Attributes
 make pan pad width height = record { pan = pan; pad = pad; width = width; height = height }
 
 -- raster attributes that break no rule
-good_raster : (registers : ℕ) (before : List Event) (e : Event) (w h : ℕ) → BreaksNoRule registers before e → sides (raster_of e) ≡ Some (w, h)
-    → (raster_of e ≡ Some (make 1 1 w h)) × IsTrue (is_side w) × IsTrue (is_side h)
+good_raster : (registers : ℕ) (before : List Event) (e : Event) (w h : ℕ) → BreaksNoRule registers before e
+    → sides (raster_of e) ≡ Some (w, h) → (raster_of e ≡ Some (make 1 1 w h)) × IsTrue (is_side w) × IsTrue (is_side h)
 unfolding breaks_box_size breaks_ratio
 good_raster registers before e w h none is =
     let k = keeps before e none in of_sides (raster_of e) k.ratio k.box_size is
@@ -134,13 +135,13 @@ good_raster registers before e w h none is =
         cc (eqb-true a.pan 1 square.0, eqb-true a.pad 1 square.1, width, height) in
         (ap (λ (b : Attributes). Some b) whole, rw width at good.0, rw height at good.1)
 
-pub sides_good : (registers : ℕ) (before : List Event) (e : Event) (w h : ℕ) → BreaksNoRule registers before e → sides (raster_of e) ≡ Some (w, h)
-    → IsTrue (is_side w) × IsTrue (is_side h)
+pub sides_good : (registers : ℕ) (before : List Event) (e : Event) (w h : ℕ) → BreaksNoRule registers before e
+    → sides (raster_of e) ≡ Some (w, h) → IsTrue (is_side w) × IsTrue (is_side h)
 sides_good registers before e w h none is = let good = good_raster _ before e w h none is in (good.1, good.2)
 
 -- the first box
-pub drawn_box : (registers : ℕ) (before : List Event) (e : Event) (w h : ℕ) → BreaksNoRule registers before e → sides (raster_of e) ≡ Some (w, h)
-    → IsUndrawn before → IsDrawn (blank_sheet w h) (before ++ e ∷ [])
+pub drawn_box : (registers : ℕ) (before : List Event) (e : Event) (w h : ℕ) → BreaksNoRule registers before e
+    → sides (raster_of e) ≡ Some (w, h) → IsUndrawn before → IsDrawn (blank_sheet w h) (before ++ e ∷ [])
 drawn_box registers before e w h none is u =
     let good = good_raster _ before e w h none is in drawn_first before e w h good.0 good.1 good.2 u
 
@@ -155,18 +156,18 @@ pub falls_paints : (before : List Event) (e : Event) (x y : ℕ) → falls befor
 falls_paints before e x y h = not_from_false _ (false_from_ne_true (bits_of e % 64 == 0) (λ is.
     let no : true ≡ false = sym h ∙ idle_falls before e x y (eqb-true (bits_of e % 64) 0 is) in cc))
 
-coloured_there : {registers : ℕ} (n : Notes) (before : List Event) (e : Event) (x y r : ℕ) → AreNotesAfter registers n before
-    → BreaksNoRule registers before e
-    → AreColoured registers before → (b : Bool) → falls before e x y ≡ b
-    → (if b then known before else register_at before x y) ≡ Some r → (r < registers) × IsSome (definition_of before r)
+coloured_there : {registers : ℕ} (n : Notes) (before : List Event) (e : Event) (x y r : ℕ)
+    → AreNotesAfter registers n before → BreaksNoRule registers before e → AreColoured registers before → (b : Bool)
+    → falls before e x y ≡ b → (if b then known before else register_at before x y) ≡ Some r
+    → (r < registers) × IsSome (definition_of before r)
 coloured_there {registers} n before e x y r a none c true f is =
     let paints = falls_paints before e x y f in
     let low : IfSome (known_in n) (λ q. q < registers) = known_below n.selected n.named registers a.selected_below in
     (rw (known_is n before a, is) at low, defined_there registers r before e (keeps before e none) paints is)
 coloured_there {registers} n before e x y r a none c false f is = c x y r is
 
-pub coloured_push : {registers : ℕ} (n : Notes) (before : List Event) (e : Event) → AreNotesAfter registers n before → BreaksNoRule registers before e
-    → AreColoured registers before → AreColoured registers (before ++ e ∷ [])
+pub coloured_push : {registers : ℕ} (n : Notes) (before : List Event) (e : Event) → AreNotesAfter registers n before
+    → BreaksNoRule registers before e → AreColoured registers before → AreColoured registers (before ++ e ∷ [])
 coloured_push n before e a none c x y r is =
     let there =
     coloured_there n before e x y r a none c (falls before e x y) refl (sym (register_push before e x y) ∙ is) in (

@@ -43,8 +43,9 @@ no_box None before e h = h
 no_box (Some s) before e h = cc
 
 -- raster attributes that break no rule, where there is no sheet yet
-pub judge_grows : {registers : ℕ} (notes : Notes) (sheet : Option Sheet) (before : List Event) (e : Event) → sheet ≡ None
-    → IsSome (raster_of e) → StandsUnbroken registers notes sheet before → BreaksNoRule registers before e → MayGrow registers before e
+pub judge_grows : {registers : ℕ} (notes : Notes) (sheet : Option Sheet) (before : List Event) (e : Event)
+    → sheet ≡ None → IsSome (raster_of e) → StandsUnbroken registers notes sheet before
+    → BreaksNoRule registers before e → MayGrow registers before e
 judge_grows {registers} notes sheet before e is declares s none = record {
   declares = declares;
   first = (no_box sheet before is s.sheet_is).no_box;
@@ -56,25 +57,30 @@ pub some_of_map : {X A : Type 0} (f : X → A) (o : Option X) (a : A) → option
 some_of_map f None a e = cc
 some_of_map f (Some x) a e = refl
 
-pub grows_end : {registers : ℕ} (seen : List Placed) (p : Placed) → MayGrow registers (events_of seen) p.event → MayGrowAmong registers (seen ++ p ∷ [])
+pub grows_end : {registers : ℕ} (seen : List Placed) (p : Placed) → MayGrow registers (events_of seen) p.event
+    → MayGrowAmong registers (seen ++ p ∷ [])
 grows_end {registers} seen p g = (
   length (events_of seen),
   rw (events_push seen p) (holds_end (MayGrow registers) (events_of seen) p.event g),
 )
 
-grows_before : {registers : ℕ} (seen : List Placed) (p : Placed) → MayGrowAmong registers seen → MayGrowAmong registers (seen ++ p ∷ [])
+grows_before : {registers : ℕ} (seen : List Placed) (p : Placed) → MayGrowAmong registers seen
+    → MayGrowAmong registers (seen ++ p ∷ [])
 grows_before {registers} seen p g =
     let i : ℕ = g.0 in (
       i,
       rw (events_push seen p)
-          (holds_before (MayGrow registers) (events_of seen) p.event i (holds_within (MayGrow registers) (events_of seen) i g.1) g.1),
+          (holds_before (MayGrow registers) (events_of seen) p.event i
+          (holds_within (MayGrow registers) (events_of seen) i g.1) g.1),
     )
 
 -- the events may go on
-pub grows_among : {registers : ℕ} (seen more : List Placed) → MayGrowAmong registers seen → MayGrowAmong registers (seen ++ more)
+pub grows_among : {registers : ℕ} (seen more : List Placed) → MayGrowAmong registers seen
+    → MayGrowAmong registers (seen ++ more)
 grows_among {registers} seen [] g = subst (MayGrowAmong registers) (sym (append-nil seen)) g
 grows_among {registers} seen (p ∷ ps) g =
-    subst (MayGrowAmong registers) (append_assoc seen (p ∷ []) ps) (grows_among (seen ++ p ∷ []) ps (grows_before seen p g))
+    subst (MayGrowAmong registers) (append_assoc seen (p ∷ []) ps)
+    (grows_among (seen ++ p ∷ []) ps (grows_before seen p g))
 
 pub grows_longer : {registers : ℕ} (seen : List Placed) (o : Option Placed) → MayGrowAmong registers seen
     → MayGrowAmong registers (seen ++ option_to_list o)
@@ -90,7 +96,8 @@ growth_stays {registers} front rest first second c d g =
     let stays : (more : List Placed) × (second ≡ first ++ more) = complete_stays front rest first second c d in
     subst (MayGrowAmong registers) (sym stays.1) (grows_among first stays.0 g)
 
-grows_here : {registers : ℕ} (bytes : List ℕ) (events : List Placed) → CompleteIn events bytes → MayGrowAmong registers events → MayGrowIn registers bytes
+grows_here : {registers : ℕ} (bytes : List ℕ) (events : List Placed) → CompleteIn events bytes
+    → MayGrowAmong registers events → MayGrowIn registers bytes
 grows_here bytes events c g = record {
   front = bytes;
   rest = [];
@@ -100,7 +107,8 @@ grows_here bytes events c g = record {
   grows = g;
 }
 
-grows_on : {registers : ℕ} (bytes more all : List ℕ) → all ≡ bytes ++ more → MayGrowIn registers bytes → MayGrowIn registers all
+grows_on : {registers : ℕ} (bytes more all : List ℕ) → all ≡ bytes ++ more → MayGrowIn registers bytes
+    → MayGrowIn registers all
 grows_on bytes more all is g = record {
   front = g.front;
   rest = g.rest ++ more;
@@ -111,8 +119,8 @@ grows_on bytes more all is g = record {
 }
 
 -- the bytes may go on
-pub grows_for_on : (registers : ℕ) (fault : InputFault) (bytes more all : List ℕ) → all ≡ bytes ++ more → GrowsFor registers fault bytes
-    → GrowsFor registers fault all
+pub grows_for_on : (registers : ℕ) (fault : InputFault) (bytes more all : List ℕ) → all ≡ bytes ++ more
+    → GrowsFor registers fault bytes → GrowsFor registers fault all
 grows_for_on registers (Grammar f) bytes more all is g = tt
 grows_for_on registers OutOfMemory bytes more all is g = grows_on bytes more all is g
 grows_for_on registers Read bytes more all is g = tt
@@ -120,7 +128,8 @@ grows_for_on registers Read bytes more all is g = tt
 -- the byte that completes such raster attributes
 pub grows_byte : {registers : ℕ} (old new : Reader) (checker : CheckerValue) (c : Completed) (byte : ℕ) (front : List ℕ)
     → grammar.Takes old new byte (grammar.completions c)
-    → ((seen : List Placed) → StandsAfter registers checker seen → MayGrowAmong registers (seen ++ grammar.completions c))
+    → ((seen : List Placed) → StandsAfter registers checker seen
+    → MayGrowAmong registers (seen ++ grammar.completions c))
     → AreAfter registers old checker front → MayGrowIn registers (front ++ byte ∷ [])
 grows_byte old new checker c byte front takes g a =
     grows_here (front ++ byte ∷ []) (a.events ++ grammar.completions c)
@@ -129,16 +138,18 @@ grows_byte old new checker c byte front takes g a =
 
 -- ---- answers
 
-pub grows_if : {registers : ℕ} (r : Result Verdict InputFault) (bytes : List ℕ) → IfErr r (λ fault. GrowsFor registers fault bytes)
-    → r ≡ Err OutOfMemory → MayGrowIn registers bytes
+pub grows_if : {registers : ℕ} (r : Result Verdict InputFault) (bytes : List ℕ)
+    → IfErr r (λ fault. GrowsFor registers fault bytes) → r ≡ Err OutOfMemory → MayGrowIn registers bytes
 grows_if (Ok v) bytes g e = cc
 grows_if (Err (Grammar f)) bytes g e = cc
 grows_if (Err OutOfMemory) bytes g e = g
 grows_if (Err Read) bytes g e = cc
 
 -- of the bytes that a source tells
-pub grows_told : (registers : ℕ) (a b : Option (List ℕ)) (fault : InputFault) (xs : List ℕ) → Consumes a b xs → GrowsFor registers fault xs
-    → IfSome a (λ bytes. (let r : Result Verdict InputFault = Err fault in r) ≡ Err OutOfMemory → MayGrowIn registers bytes)
+pub grows_told : (registers : ℕ) (a b : Option (List ℕ)) (fault : InputFault) (xs : List ℕ) → Consumes a b xs
+    → GrowsFor registers fault xs
+    → IfSome a (λ bytes. (let r : Result Verdict InputFault = Err fault in r) ≡ Err OutOfMemory
+    → MayGrowIn registers bytes)
 grows_told registers None b fault xs c g = tt
 grows_told registers (Some a) None fault xs c g = absurd c
 grows_told registers (Some a) (Some b) fault xs c g = grows_if (Err fault) a (grows_for_on _ fault xs b a c g)

@@ -28,7 +28,8 @@ events_push seen p = map-append (λ (q : Placed). q.event) seen (p ∷ [])
 length_events : (seen : List Placed) → length (events_of seen) ≡ length seen
 length_events seen = length-map seen (λ (q : Placed). q.event)
 
-pub judge_start : {registers : ℕ} (notes : Notes) → AreNotesAfter registers notes [] → StandsUnbroken registers notes None []
+pub judge_start : {registers : ℕ} (notes : Notes) → AreNotesAfter registers notes []
+    → StandsUnbroken registers notes None []
 unfolding register_at last_at last_below
 judge_start {registers} notes a = record {
   unbroken = none_of_none registers last_rule;
@@ -38,8 +39,8 @@ judge_start {registers} notes a = record {
 }
 
 -- a finding stays the first
-pub judge_broken : {registers : ℕ} (seen : List Placed) (p : Placed) (f : Finding) → (i : ℕ) × IsFinding registers seen f i
-    → (i : ℕ) × IsFinding registers (seen ++ p ∷ []) f i
+pub judge_broken : {registers : ℕ} (seen : List Placed) (p : Placed) (f : Finding)
+    → (i : ℕ) × IsFinding registers seen f i → (i : ℕ) × IsFinding registers (seen ++ p ∷ []) f i
 judge_broken {registers} seen p f found =
     let i : ℕ = found.0 in
     let finding : IsFinding registers seen f found.0 = found.1 in
@@ -63,7 +64,8 @@ judge_finds {registers} notes sheet seen p b s breach = (
   length (events_of seen),
   record {
     first = rw (events_push seen p)
-        (first_there registers (number_of b.rule) (events_of seen) p.event s.unbroken breach.broken breach.none_smaller);
+        (first_there registers (number_of b.rule) (events_of seen) p.event s.unbroken breach.broken
+        breach.none_smaller);
     place =
         ap (λ (n : ℕ). option_map (λ (q : Placed). q.place) (slice_get (seen ++ p ∷ []) n)) (length_events seen)
         ∙ ap (option_map (λ (q : Placed). q.place)) (get_end seen p);
@@ -74,30 +76,35 @@ judge_finds {registers} notes sheet seen p b s breach = (
 -- no finding, and an event that breaks no rule
 pub judge_goes_on : {registers : ℕ} (notes next : Notes) (sheet drawn : Option Sheet) (seen : List Placed) (p : Placed)
     → StandsUnbroken registers notes sheet (events_of seen) → BreaksNoRule registers (events_of seen) p.event
-    → AreNotesAfter registers next (events_of seen ++ p.event ∷ []) → IsSheetAfter drawn (events_of seen ++ p.event ∷ [])
+    → AreNotesAfter registers next (events_of seen ++ p.event ∷ [])
+    → IsSheetAfter drawn (events_of seen ++ p.event ∷ [])
     → StandsUnbroken registers next drawn (events_of (seen ++ p ∷ []))
 judge_goes_on {registers} notes next sheet drawn seen p s none a d =
     subst (StandsUnbroken registers next drawn) (sym (events_push seen p))
     (record {
-      unbroken = none_push registers last_rule (events_of seen) p.event s.unbroken (keeps (events_of seen) p.event none);
+      unbroken =
+          none_push registers last_rule (events_of seen) p.event s.unbroken (keeps (events_of seen) p.event none);
       notes_are = a;
       sheet_is = d;
       coloured = coloured_push notes (events_of seen) p.event s.notes_are none s.coloured;
     })
 
 -- where there is a finding
-pub finding_stays : (registers : ℕ) (o : Option Finding) (notes : Notes) (sheet : Option Sheet) (seen : List Placed) (p : Placed)
-    → is_some o ≡ true → JudgesAfter registers o notes sheet seen → JudgesAfter registers o notes sheet (seen ++ p ∷ [])
+pub finding_stays : (registers : ℕ) (o : Option Finding) (notes : Notes) (sheet : Option Sheet) (seen : List Placed)
+    (p : Placed) → is_some o ≡ true → JudgesAfter registers o notes sheet seen
+    → JudgesAfter registers o notes sheet (seen ++ p ∷ [])
 finding_stays registers (Some f) notes sheet seen p e j = judge_broken seen p f j
 finding_stays registers None notes sheet seen p e j = cc
 
 -- where there is none
 pub unbroken_of : {registers : ℕ} (o : Option Finding) (notes : Notes) (sheet : Option Sheet) (seen : List Placed)
-    → is_some o ≡ false → JudgesAfter registers o notes sheet seen → StandsUnbroken registers notes sheet (events_of seen)
+    → is_some o ≡ false → JudgesAfter registers o notes sheet seen
+    → StandsUnbroken registers notes sheet (events_of seen)
 unbroken_of (Some f) notes sheet seen e j = cc
 unbroken_of None notes sheet seen e j = j
 
 pub judges_of : {registers : ℕ} (o : Option Finding) (notes : Notes) (sheet : Option Sheet) (seen : List Placed)
-    → is_some o ≡ false → StandsUnbroken registers notes sheet (events_of seen) → JudgesAfter registers o notes sheet seen
+    → is_some o ≡ false → StandsUnbroken registers notes sheet (events_of seen)
+    → JudgesAfter registers o notes sheet seen
 judges_of (Some f) notes sheet seen e s = cc
 judges_of None notes sheet seen e s = s

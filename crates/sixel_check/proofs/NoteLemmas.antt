@@ -30,7 +30,8 @@ use Rattle.sixel_check.specs.Notes.{next_palette, next_selected}
 use Rattle.sixel_check.specs.Verdicts.{capped}
 
 -- an event that breaks none of the rules keeps each
-pub keeps : {registers : ℕ} (before : List Event) (e : Event) → BreaksNoRule registers before e → Keeps registers before e
+pub keeps : {registers : ℕ} (before : List Event) (e : Event) → BreaksNoRule registers before e
+    → Keeps registers before e
 keeps {registers} before e none = none_keeps registers before e (λ n le. none n (omega (arith, le)))
 
 -- a column that stops at the greatest
@@ -42,7 +43,8 @@ stopped_band : (b : Bool) (n : ℕ) → cond b (capped (capped n + 1)) (capped n
 stopped_band true n = omega arith
 stopped_band false n = omega arith
 
-select_below : (registers : ℕ) (e : Event) → IsFalse (breaks_register registers e) → IfSome (select_of e) (λ r. r < registers)
+select_below : (registers : ℕ) (e : Event) → IsFalse (breaks_register registers e)
+    → IfSome (select_of e) (λ r. r < registers)
 unfolding breaks_register
 select_below registers (Step (Select register)) h = leb-false registers register h
 select_below registers _ h = tt
@@ -53,13 +55,13 @@ or_each P (Some x) p h k = h
 
 -- ---- definitions
 
-where_good : {registers : ℕ} (b : Bool) (q r : ℕ) (d : Definition) → (q == r) ≡ b → q < registers → IsTrue (gives_colour d)
-    → IfSome (if b then Some d else None) (IsGood registers r)
+where_good : {registers : ℕ} (b : Bool) (q r : ℕ) (d : Definition) → (q == r) ≡ b → q < registers
+    → IsTrue (gives_colour d) → IfSome (if b then Some d else None) (IsGood registers r)
 where_good true q r d e lt h = let same : q ≡ r = eqb-true q r e in (omega (arith, lt, same), h)
 where_good false q r d e lt h = tt
 
-defined_good : (registers : ℕ) (e : Event) (r : ℕ) → IsFalse (breaks_register registers e) → IsFalse (breaks_colour_value e)
-    → IfSome (definition_where (λ q. q == r) e) (IsGood registers r)
+defined_good : (registers : ℕ) (e : Event) (r : ℕ) → IsFalse (breaks_register registers e)
+    → IsFalse (breaks_colour_value e) → IfSome (definition_where (λ q. q == r) e) (IsGood registers r)
 unfolding breaks_register breaks_colour_value
 defined_good registers (Step (Define register system x y z)) r h k =
     where_good (register == r) register r _ refl (leb-false registers register h) (not-false _ k)
@@ -123,7 +125,8 @@ pub in_bytes : {registers : ℕ} (o : Option ℕ) → registers ≤ 256 → IfSo
 in_bytes None few h = tt
 in_bytes (Some r) few h = omega (arith, few, h)
 
-pub known_is : {registers : ℕ} (n : Notes) (before : List Event) → AreNotesAfter registers n before → known_in n ≡ known before
+pub known_is : {registers : ℕ} (n : Notes) (before : List Event) → AreNotesAfter registers n before
+    → known_in n ≡ known before
 unfolding known
 known_is n before s = rw (s.selected_is, s.named_is) refl
 
@@ -131,7 +134,8 @@ known_is n before s = rw (s.selected_is, s.named_is) refl
 
 pub notes_start : {registers : ℕ} (palette : List (Option Parts)) → registers ≤ 256 → palette ≡ replicate registers None
     → AreNotesAfter registers
-    (record { column = 0; band = 0; selected = None; named = None; palette = palette; painted = replicate 256 false }) []
+    (record { column = 0; band = 0; selected = None; named = None; palette = palette; painted = replicate 256 false })
+    []
 unfolding column band since latest palette_left colour_of definition_of is_painted_in any_at any_below
 notes_start {registers} palette few h = record {
   column_is = refl;
@@ -147,7 +151,8 @@ notes_start {registers} palette few h = record {
 }
 
 -- the notes after one event more, which breaks no rule
-pub notes_push : {registers : ℕ} (n : Notes) (before : List Event) (e : Event) → AreNotesAfter registers n before → BreaksNoRule registers before e
+pub notes_push : {registers : ℕ} (n : Notes) (before : List Event) (e : Event) → AreNotesAfter registers n before
+    → BreaksNoRule registers before e
     → AreNotesAfter registers (record {
       column = next_column n e;
       band = next_band n e;
@@ -169,10 +174,12 @@ notes_push {registers} n before e s none =
           ∙ stopped_band (is_next_line e) (band before)
           ∙ ap capped (sym (band_push before e));
       selected_is = ap (option_or (select_of e)) s.selected_is ∙ sym (latest_push select_of before e);
-      selected_below = or_each (λ r. r < registers) (select_of e) n.selected (select_below _ e k.register) s.selected_below;
+      selected_below =
+          or_each (λ r. r < registers) (select_of e) n.selected (select_below _ e k.register) s.selected_below;
       named_is = ap (option_or (named_by e)) s.named_is ∙ sym (latest_push named_by before e);
       palette_is = palette_push _ n before e s.palette_is k.register k.colour_value;
-      in_range = λ r. subst (λ (o : Option Definition). IfSome o (IsGood registers r)) (sym (definition_push before e r))
+      in_range = λ r.
+          subst (λ (o : Option Definition). IfSome o (IsGood registers r)) (sym (definition_push before e r))
           (or_each (IsGood registers r) (definition_where (λ q. q == r) e) (definition_of before r)
           (defined_good _ e r k.register k.colour_value) (s.in_range r));
       bytes = s.bytes;

@@ -32,15 +32,16 @@ breach_outside before e s pixel d none first = record {
   pixel = rw d.box first;
 }
 
-pub none_outside : (registers : ℕ) (before : List Event) (e : Event) (s : Sheet) → IsDrawn s before → NoneBelow registers outside_rule before e
-    → IsFirstIfAny (FallsOutside before e (box_of s)) None → NoneBelow registers uncovered_rule before e
+pub none_outside : (registers : ℕ) (before : List Event) (e : Event) (s : Sheet) → IsDrawn s before
+    → NoneBelow registers outside_rule before e → IsFirstIfAny (FallsOutside before e (box_of s)) None
+    → NoneBelow registers uncovered_rule before e
 unfolding Breaks BreaksOutside
 none_outside registers before e s d none first = none_more _ before e outside_rule none
     (λ broken. let point = rw d.box at broken in first point.0 point.1 point.2)
 
-pub breach_uncovered : {registers : ℕ} (before : List Event) (e : Event) (s : Sheet) (pixel : ℕ × ℕ) → is_finish e ≡ true
-    → IsDrawn s before
-    → NoneBelow registers uncovered_rule before e → IsFirstIfAny (StaysBlank before (box_of s)) (Some pixel)
+pub breach_uncovered : {registers : ℕ} (before : List Event) (e : Event) (s : Sheet) (pixel : ℕ × ℕ)
+    → is_finish e ≡ true → IsDrawn s before → NoneBelow registers uncovered_rule before e
+    → IsFirstIfAny (StaysBlank before (box_of s)) (Some pixel)
     → IsBreach registers before e (record { rule = Uncovered; pixel = Some pixel })
 unfolding Breaks BreaksUncovered
 breach_uncovered before e s pixel end d none first = record {
@@ -57,15 +58,15 @@ none_uncovered registers before e s d none first = none_more _ before e uncovere
     (λ broken. let point = rw d.box at broken.1 in first point.0 point.1 point.2)
 
 -- an event that isn't the end leaves nothing uncovered
-pub none_before_end : (registers : ℕ) (before : List Event) (e : Event) → is_finish e ≡ false → NoneBelow registers uncovered_rule before e
-    → BreaksNoRule registers before e
+pub none_before_end : (registers : ℕ) (before : List Event) (e : Event) → is_finish e ≡ false
+    → NoneBelow registers uncovered_rule before e → BreaksNoRule registers before e
 unfolding Breaks BreaksUncovered
 none_before_end registers before e goes_on none = none_more _ before e uncovered_rule none
     (λ broken. both_ways (is_finish e) goes_on broken.0)
 
 -- without a box no pixel is looked at
-pub none_without_box : (registers : ℕ) (before : List Event) (e : Event) → raster_before before ≡ None → NoneBelow registers outside_rule before e
-    → BreaksNoRule registers before e
+pub none_without_box : (registers : ℕ) (before : List Event) (e : Event) → raster_before before ≡ None
+    → NoneBelow registers outside_rule before e → BreaksNoRule registers before e
 unfolding Breaks BreaksOutside BreaksUncovered
 none_without_box registers before e is none =
     none_more _ before e uncovered_rule (none_more _ before e outside_rule none (λ broken. rw is at broken))

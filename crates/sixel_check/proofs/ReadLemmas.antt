@@ -118,9 +118,10 @@ read_may reader seen c bytes s =
     (events_can (seen ++ grammar.completions c) bytes complete)
 
 -- both stand after one byte more
-pub after_byte : {registers : ℕ} (old new : Reader) (kept more : CheckerValue) (c : Completed) (front : List ℕ) (byte : ℕ)
-    → grammar.Takes old new byte (grammar.completions c)
-    → ((seen : List Placed) → StandsAfter registers kept seen → StandsAfter registers more (seen ++ grammar.completions c))
+pub after_byte : {registers : ℕ} (old new : Reader) (kept more : CheckerValue) (c : Completed) (front : List ℕ)
+    (byte : ℕ) → grammar.Takes old new byte (grammar.completions c)
+    → ((seen : List Placed) → StandsAfter registers kept seen
+    → StandsAfter registers more (seen ++ grammar.completions c))
     → AreAfter registers old kept front → AreAfter registers new more (front ++ byte ∷ [])
 after_byte old new kept more c front byte takes keeps a = record {
   events = a.events ++ grammar.completions c;

@@ -127,20 +127,21 @@ progress_push (q ∷ qs) p h =
 
 -- ---- where a checker stands
 
-pub stands_none : (registers : ℕ) (checker : CheckerValue) → JudgesAfter registers checker.finding checker.notes checker.sheet []
-    → checker.progress ≡ Fresh → StandsAfter registers checker []
+pub stands_none : (registers : ℕ) (checker : CheckerValue)
+    → JudgesAfter registers checker.finding checker.notes checker.sheet [] → checker.progress ≡ Fresh
+    → StandsAfter registers checker []
 unfolding StandsAfter
 stands_none registers checker judges fresh = (judges, fresh, inl refl, tt)
 
 -- what its parts say
-pub judges_inside : (registers : ℕ) (inside checker : CheckerValue) (seen : List Placed) → inside ≡ checker → StandsAfter registers checker seen
-    → JudgesAfter registers inside.finding inside.notes inside.sheet seen
+pub judges_inside : (registers : ℕ) (inside checker : CheckerValue) (seen : List Placed) → inside ≡ checker
+    → StandsAfter registers checker seen → JudgesAfter registers inside.finding inside.notes inside.sheet seen
 unfolding StandsAfter
 judges_inside registers inside checker seen is s =
     subst (λ (v : CheckerValue). JudgesAfter registers v.finding v.notes v.sheet seen) (sym is) s.0
 
-pub stands_expects : (registers : ℕ) (checker : CheckerValue) (seen : List Placed) (e : Event) → StandsAfter registers checker seen
-    → expects_from checker.progress e ≡ expects seen e
+pub stands_expects : (registers : ℕ) (checker : CheckerValue) (seen : List Placed) (e : Event)
+    → StandsAfter registers checker seen → expects_from checker.progress e ≡ expects seen e
 unfolding StandsAfter
 stands_expects registers checker seen e s = ap (λ (g : Progress). expects_from g e) s.1 ∙ expects_of seen e
 
@@ -150,10 +151,10 @@ unfolding StandsAfter
 stands_whole_at registers checker seen s = ap is_whole_at s.1 ∙ whole_of seen
 
 -- after one expected event more
-pub stands_push : (others registers : ℕ) (old new : CheckerValue) (first seen : List Placed) (p : Placed) → StandsAfter others old first
-    → IsTrue (expects first p.event) → IsSpellable p.event → StandsAfter registers old seen
-    → JudgesAfter registers new.finding new.notes new.sheet (seen ++ p ∷ []) → new.progress ≡ progress_with p.event
-    → StandsAfter registers new (seen ++ p ∷ [])
+pub stands_push : (others registers : ℕ) (old new : CheckerValue) (first seen : List Placed) (p : Placed)
+    → StandsAfter others old first → IsTrue (expects first p.event) → IsSpellable p.event
+    → StandsAfter registers old seen → JudgesAfter registers new.finding new.notes new.sheet (seen ++ p ∷ [])
+    → new.progress ≡ progress_with p.event → StandsAfter registers new (seen ++ p ∷ [])
 unfolding StandsAfter
 stands_push others registers old new first seen p f expected spellable s judges far =
     let may : IsTrue (expects seen p.event) =

@@ -27,8 +27,8 @@ use Rattle.sixel_check.proofs.NoteLemmas.{given}
 
 -- ---- no pixel is blank
 
-pub full_sheet : (registers : ℕ) (s : Sheet) (events : List Event) → AreWhole events → BreaksNone registers last_rule events → IsDrawn s events
-    → IsFull s
+pub full_sheet : (registers : ℕ) (s : Sheet) (events : List Event) → AreWhole events
+    → BreaksNone registers last_rule events → IsDrawn s events → IsFull s
 full_sheet registers s events whole none d = split (first_blank s) (first_blank_drawn s events d)
   where
     split : (o : Option (ℕ × ℕ)) → IsFirstIfAny (StaysBlank events (box_of s)) o → o ≡ None
@@ -44,8 +44,8 @@ each_passes : (p : ℕ → Bool) (xs : List ℕ) → ((i : ℕ) → i < length x
 each_passes p xs h = list_all-from_AllPass p xs (All-from_get_or (λ x. p x ≡ true) xs 0 h)
 
 -- the register of each pixel is one of the 16, and has a colour
-register_good : {registers : ℕ} (s : Sheet) (events : List Event) (xs : List ℕ) (i : ℕ) → IsDrawn s events → AreColoured registers events
-    → map (λ r. Some r) xs ≡ s.cells → i < length xs
+register_good : {registers : ℕ} (s : Sheet) (events : List Event) (xs : List ℕ) (i : ℕ) → IsDrawn s events
+    → AreColoured registers events → map (λ r. Some r) xs ≡ s.cells → i < length xs
     → (get_or xs i 0 < registers) × IsSome (definition_of events (get_or xs i 0))
 register_good s events xs i d c e lt =
     c (i % s.width) (i / s.width) (get_or xs i 0) (register_there s events xs i d e lt)
@@ -55,9 +55,8 @@ coloured : (registers r : ℕ) (o : Option Definition) → IfSome o (IsGood regi
 coloured registers r None h k = cc
 coloured registers r (Some d) h k = ap is_some (given (colour_by d) h.1).1
 
-register_coloured : {registers : ℕ} (n : Notes) (events : List Event) (r : ℕ) → AreNotesAfter registers n events → r < registers
-    → IsSome (definition_of events r)
-    → is_some (palette_at (palette_left registers events) r) ≡ true
+register_coloured : {registers : ℕ} (n : Notes) (events : List Event) (r : ℕ) → AreNotesAfter registers n events
+    → r < registers → IsSome (definition_of events r) → is_some (palette_at (palette_left registers events) r) ≡ true
 unfolding colour_of
 register_coloured {registers} n events r a lt has =
     ap is_some (left_at registers r events lt) ∙ coloured _ r (definition_of events r) (a.in_range r) has
@@ -68,9 +67,9 @@ no_fault : (registers : ℕ) (w h : ℕ) (palette : List (Option Parts)) (xs : L
 no_fault registers w h palette xs sides long low coloured = rw (sides, long, low, coloured) refl
 
 -- the parts of the picture that is left make a picture
-pub picture_fits : {registers : ℕ} (n : Notes) (s : Sheet) (events : List Event) (xs : List ℕ) → AreNotesAfter registers n events
-    → IsDrawn s events
-    → AreColoured registers events → map (λ r. Some r) xs ≡ s.cells
+pub picture_fits : {registers : ℕ} (n : Notes) (s : Sheet) (events : List Event) (xs : List ℕ)
+    → AreNotesAfter registers n events → IsDrawn s events → AreColoured registers events
+    → map (λ r. Some r) xs ≡ s.cells
     → picture_fault registers s.width s.height (palette_left registers events) xs ≡ None
 picture_fits {registers} n s events xs a d c e =
     no_fault _ s.width s.height (palette_left registers events) xs (and_from _ _ d.width d.height)

@@ -65,4 +65,5 @@ RefusesBytes reader checker more fault =
 -- where both stand after some bytes, want of memory is answered for them and these alone
 abbrev pub GrowsForBytes : Reader → CheckerValue → List ℕ → InputFault → Type 0
 GrowsForBytes reader checker more fault =
-    (registers : ℕ) (front : List ℕ) → AreAfter registers reader checker front → GrowsFor registers fault (front ++ more)
+    (registers : ℕ) (front : List ℕ) → AreAfter registers reader checker front
+    → GrowsFor registers fault (front ++ more)

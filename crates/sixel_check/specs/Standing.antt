@@ -55,7 +55,8 @@ pub record CheckerValue : Type 0 where
   pub sheet : Option Sheet
   pub progress : Progress
 
--- the checker, which judges by so many registers, has seen these events, in order: none, or a start and commands, or a start, commands and a finish
+-- the checker, which judges by so many registers, has seen these events, in order: none, or a start and commands, or a
+-- start, commands and a finish
 unfoldable pub StandsAfter : ℕ → CheckerValue → List Placed → Type 0
 StandsAfter registers checker seen =
     JudgesAfter registers checker.finding checker.notes checker.sheet seen × (checker.progress ≡ progress_of seen)

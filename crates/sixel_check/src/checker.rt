@@ -43,8 +43,8 @@ impl<P: Plane> Model for Checker<P> {
 }
 
 impl<P: Plane> Checker<P> {
-    /// A checker that has seen no event, and judges by the registers of the profile. It takes no memory; `push` takes it
-    /// from `alloc`, for the pixels of the box.
+    /// A checker that has seen no event, and judges by the registers of the profile. It takes no memory; `push` takes
+    /// it from `alloc`, for the pixels of the box.
     pub fn new(alloc: Global, profile: Profile) -> Checker<P>
         ensures { StandsAfter (count_of profile) result [] }
     {
@@ -57,14 +57,16 @@ impl<P: Plane> Checker<P> {
 
     /// Whether the event may come next: a start first, then commands, then one finish, and then nothing.
     pub fn expects(&self, event: &Event) -> bool
-        ensures { (registers : ℕ) (seen : List PlacedValue) → StandsAfter registers self.now seen → result ≡ expects seen event.now }
+        ensures { (registers : ℕ) (seen : List PlacedValue) → StandsAfter registers self.now seen
+            → result ≡ expects seen event.now }
     {
         self.progress.expects(event)
     }
 
     /// Whether the finish came.
     pub fn is_whole(&self) -> bool
-        ensures { (registers : ℕ) (seen : List PlacedValue) → StandsAfter registers self.now seen → result ≡ is_whole seen }
+        ensures { (registers : ℕ) (seen : List PlacedValue) → StandsAfter registers self.now seen
+            → result ≡ is_whole seen }
     {
         self.progress.is_whole()
     }
@@ -90,11 +92,12 @@ impl<P: Plane> Checker<P> {
 
     /// The verdict on the whole list. It takes no memory, and is always `Ok`.
     pub fn finish(self) -> Result<Verdict, AllocError>
-        requires whole { (registers : ℕ) × (seen : List PlacedValue) × StandsAfter registers self seen × IsTrue (is_whole seen) }
-        ensures verdict { IfOk result (λ verdict. (registers : ℕ) (seen : List PlacedValue) → StandsAfter registers self seen
-            → IsVerdict registers seen verdict) }
-        ensures everywhere { IfOk result (λ verdict. (registers : ℕ) (seen : List PlacedValue) → StandsAfter registers self seen
-            → IsShownEverywhere registers (events_of seen) verdict) }
+        requires whole { (registers : ℕ) × (seen : List PlacedValue) × StandsAfter registers self seen
+            × IsTrue (is_whole seen) }
+        ensures verdict { IfOk result (λ verdict. (registers : ℕ) (seen : List PlacedValue)
+            → StandsAfter registers self seen → IsVerdict registers seen verdict) }
+        ensures everywhere { IfOk result (λ verdict. (registers : ℕ) (seen : List PlacedValue)
+            → StandsAfter registers self seen → IsShownEverywhere registers (events_of seen) verdict) }
         ensures always { IsOk result }
     {
         Ok(self.judge.verdict())

@@ -20,7 +20,8 @@ use std::alloc::{AllocError, Global};
 
 /// Pushes an event, if there is one.
 fn keep_one<P: Plane>(checker: &mut Checker<P>, placed: Option<Placed>) -> Result<(), AllocError>
-    requires { (registers : ℕ) × (seen : List PlacedValue) × StandsAfter registers checker.old seen × MayCome seen placed }
+    requires { (registers : ℕ) × (seen : List PlacedValue) × StandsAfter registers checker.old seen
+        × MayCome seen placed }
     ensures kept { OnOk result (TakesEvents checker.old checker.new (option_to_list placed)) }
     ensures grows { OnErr result (MayGrowOver checker.old (option_to_list placed)) }
 {
@@ -32,7 +33,8 @@ fn keep_one<P: Plane>(checker: &mut Checker<P>, placed: Option<Placed>) -> Resul
 
 /// Pushes the events that a byte completed.
 fn keep<P: Plane>(checker: &mut Checker<P>, completed: Completed) -> Result<(), AllocError>
-    requires { (registers : ℕ) × (seen : List PlacedValue) × StandsAfter registers checker.old seen × MayComplete seen completed }
+    requires { (registers : ℕ) × (seen : List PlacedValue) × StandsAfter registers checker.old seen
+        × MayComplete seen completed }
     ensures kept { OnOk result (TakesEvents checker.old checker.new (completions completed)) }
     ensures grows { OnErr result (MayGrowOver checker.old (completions completed)) }
 {
@@ -171,7 +173,8 @@ pub fn check<S: Source>(
     ensures answer { IfSome (S.remaining input.old) (Answers (count_of profile) result) }
     ensures failures { S.failure_count input.new ≡ failures_after result (S.failure_count input.old) }
     ensures unread { result ≡ Err ReadFault → IfSome (S.remaining input.old) (NoFaultBefore (S.remaining input.new)) }
-    ensures memory { IfSome (S.remaining input.old) (λ bytes. result ≡ Err InputFault.OutOfMemory → MayGrowIn (count_of profile) bytes) }
+    ensures memory { IfSome (S.remaining input.old) (λ bytes. result ≡ Err InputFault.OutOfMemory
+        → MayGrowIn (count_of profile) bytes) }
 {
     let mut piece = [0u8; PIECE];
     let (mut reader, mut checker) = nothing_read(alloc, profile);
@@ -184,8 +187,8 @@ pub fn check<S: Source>(
     }
 }
 
-/// The verdict on a document, by the registers of the profile; else its fault, or `OutOfMemory` where a growth was refused before the fault was met.
-/// Memory is taken as by `check`.
+/// The verdict on a document, by the registers of the profile; else its fault, or `OutOfMemory` where a growth was
+/// refused before the fault was met. Memory is taken as by `check`.
 pub fn check_bytes(alloc: Global, profile: Profile, bytes: &[u8]) -> Result<Verdict, InputFault>
     ensures answer { Answers (count_of profile) result bytes.now }
     ensures never_read { IfErr result (λ fault. fault ≡ InputFault.Read → ⊥) }

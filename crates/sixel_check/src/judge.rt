@@ -40,7 +40,8 @@ impl<P: Plane> Judge<P> {
 
     /// Judges one event more. Memory is taken for the plane alone; refused, all is as it was.
     ///
-    /// What it calls is inlined with it, so that where the kind of the event is known nothing is left of the other kinds.
+    /// What it calls is inlined with it, so that where the kind of the event is known nothing is left of the other
+    /// kinds.
     #[inline(always)]
     pub(crate) fn step(&mut self, alloc: Global, placed: &Placed) -> Result<(), AllocError>
         requires stands { (registers : ℕ) × (seen : List PlacedValue)
@@ -76,9 +77,11 @@ impl<P: Plane> Judge<P> {
 
     /// The verdict on a whole list.
     pub(crate) fn verdict(self) -> Verdict
-        requires { (registers : ℕ) × (seen : List PlacedValue) × JudgesAfter registers self.finding self.notes (option_map P.sheet self.plane) seen
+        requires { (registers : ℕ) × (seen : List PlacedValue)
+            × JudgesAfter registers self.finding self.notes (option_map P.sheet self.plane) seen
             × AreWhole (events_of seen) }
-        ensures { (registers : ℕ) (seen : List PlacedValue) → JudgesAfter registers self.finding self.notes (option_map P.sheet self.plane) seen
+        ensures { (registers : ℕ) (seen : List PlacedValue)
+            → JudgesAfter registers self.finding self.notes (option_map P.sheet self.plane) seen
             → IsVerdict registers seen result }
     {
         let Judge {

@@ -70,8 +70,9 @@ fn breach_of_end<P: Plane>(plane: &P, event: &Event) -> Option<Breach>
 /// The breach of one of the rules that look at pixels.
 #[inline(always)]
 fn breach_of_pixels<P: Plane>(notes: &Notes, plane: &P, event: &Event) -> Option<Breach>
-    ensures { (registers : ℕ) (before : List EventValue) → AreNotesAfter registers notes.now before → IsDrawn (P.sheet plane.now) before
-        → NoneBelow registers 11 before event.now → IsBreachOf registers before event.now result }
+    ensures { (registers : ℕ) (before : List EventValue) → AreNotesAfter registers notes.now before
+        → IsDrawn (P.sheet plane.now) before → NoneBelow registers 11 before event.now
+        → IsBreachOf registers before event.now result }
 {
     match pixel_outside(notes, plane, event) {
         Some(pixel) => Some(Breach {
@@ -99,10 +100,11 @@ pub(crate) fn breach_of<P: Plane>(notes: &Notes, plane: &Option<P>, event: &Even
 /// Paints the pixels of a data command.
 #[inline(always)]
 fn paint<P: Plane>(notes: &Notes, plane: &mut P, event: &Event)
-    requires { (registers : ℕ) × (before : List EventValue) × AreNotesAfter registers notes.now before × IsDrawn (P.sheet plane.old) before
-        × NoneBelow registers 13 before event.now × IsSpellable event.now }
-    ensures { (registers : ℕ) (before : List EventValue) → AreNotesAfter registers notes.now before → IsDrawn (P.sheet plane.old) before
-        → NoneBelow registers 13 before event.now → IsDrawn (P.sheet plane.new) (before ++ event.now ∷ []) }
+    requires { (registers : ℕ) × (before : List EventValue) × AreNotesAfter registers notes.now before
+        × IsDrawn (P.sheet plane.old) before × NoneBelow registers 13 before event.now × IsSpellable event.now }
+    ensures { (registers : ℕ) (before : List EventValue) → AreNotesAfter registers notes.now before
+        → IsDrawn (P.sheet plane.old) before → NoneBelow registers 13 before event.now
+        → IsDrawn (P.sheet plane.new) (before ++ event.now ∷ []) }
 {
     if !is_painting(event) {
         return;
@@ -142,7 +144,8 @@ pub(crate) fn draw<P: Plane>(
     event: &Event,
 ) -> Result<(), AllocError>
     requires { (registers : ℕ) × (before : List EventValue) × AreNotesAfter registers notes.now before
-        × IsSheetAfter (option_map P.sheet plane.old) before × NoneBelow registers 13 before event.now × IsSpellable event.now }
+        × IsSheetAfter (option_map P.sheet plane.old) before × NoneBelow registers 13 before event.now
+        × IsSpellable event.now }
     ensures ok { OnOk result ((registers : ℕ) (before : List EventValue) → AreNotesAfter registers notes.now before
         → IsSheetAfter (option_map P.sheet plane.old) before → NoneBelow registers 13 before event.now
         → IsSheetAfter (option_map P.sheet plane.new) (before ++ event.now ∷ [])) }

@@ -236,8 +236,8 @@ fn colours_at_their_edges(rt: HostRuntime) -> Result<(), Fail> {
     )
 }
 
-/// Colours are compared by their system and coordinates: a hue of 360 is another than a hue of 0, and white of one system
-/// another than white of the other.
+/// Colours are compared by their system and coordinates: a hue of 360 is another than a hue of 0, and white of one
+/// system another than white of the other.
 #[test]
 fn colours_that_look_alike(rt: HostRuntime) -> Result<(), Fail> {
     agree(

@@ -110,8 +110,8 @@ const DIGIT: &[&str] = &[
     "BadTerminator 25",
 ];
 
-/// A `;` more is the fourth of the raster attributes or the fifth of the definition, or the first of a select, which then
-/// has two fields. At six of the places it stood before.
+/// A `;` more is the fourth of the raster attributes or the fifth of the definition, or the first of a select, which
+/// then has two fields. At six of the places it stood before.
 const SEPARATOR: &[&str] = &[
     "NotSixel 0",
     "NotSixel 1",
@@ -141,7 +141,8 @@ const SEPARATOR: &[&str] = &[
     "BadTerminator 25",
 ];
 
-/// After a `!` and its number only a data byte may stand. Where one does, the number is 0 or missing. At 24 it is the `\`.
+/// After a `!` and its number only a data byte may stand. Where one does, the number is 0 or missing. At 24 it is the
+/// `\`.
 const REPEAT: &[&str] = &[
     "NotSixel 0",
     "NotSixel 1",
@@ -171,8 +172,8 @@ const REPEAT: &[&str] = &[
     "BadTerminator 25",
 ];
 
-/// Filler stands before the string, and ends a command as a data byte does. At 20 the last coordinate is missing, and at 22
-/// the number of the register: both are 0.
+/// Filler stands before the string, and ends a command as a data byte does. At 20 the last coordinate is missing, and
+/// at 22 the number of the register: both are 0.
 const LINE_FEED: &[&str] = &[
     "NotSixel 1",
     "NotSixel 1",

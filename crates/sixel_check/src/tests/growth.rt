@@ -1,4 +1,5 @@
-//! Where memory is taken. `rt try --test --fail-alloc N` refuses the N-th growth of each test; these take none of their own.
+//! Where memory is taken. `rt try --test --fail-alloc N` refuses the N-th growth of each test; these take none of their
+//! own.
 
 ghost use Rattle.std.specs.Prelude.{◌++◌, ◌∷◌, [], ℕ, List, IfOk, IsTrue, OnOk};
 ghost use Rattle.sixel_grammar.specs.Spelling.{IsSpellable};
@@ -99,7 +100,8 @@ fn push_next<P: Plane>(checker: &mut Checker<P>, placed: Option<Placed>) -> Resu
 
 /// A checker that has seen the events of these bytes.
 fn pushed_again<P: Plane>(rt: &impl AllocGlobal, bytes: &[u8]) -> Result<Checker<P>, Fail>
-    ensures { IfOk result (λ checker. (registers : ℕ) × (seen : List PlacedValue) × StandsAfter registers checker seen) }
+    ensures { IfOk result (λ checker. (registers : ℕ) × (seen : List PlacedValue)
+        × StandsAfter registers checker seen) }
 {
     let mut reader = Reader::new();
     let mut checker: Checker<P> = Checker::new(rt.alloc(), Profile::Registers16);

@@ -30,7 +30,8 @@ fn pushed(
     profile: Profile,
     events: &[Placed],
 ) -> Result<Checker<BytePlane>, Fail>
-    ensures { IfOk result (λ checker. (registers : ℕ) × (seen : List PlacedValue) × StandsAfter registers checker seen) }
+    ensures { IfOk result (λ checker. (registers : ℕ) × (seen : List PlacedValue)
+        × StandsAfter registers checker seen) }
 {
     let mut checker: Checker<BytePlane> = Checker::new(rt.alloc(), profile);
     for placed in events {

@@ -54,7 +54,8 @@ returns-then-count-eq0-clause-answer g c =
     let b = c.in_ok-count.ensures.bytes in
     let none : c.in_ok-count.count ≡ 0 = omega arith in
     told_all (g.S.Source.remaining c.args.input.now) (g.S.Source.remaining c.loop-checker.input)
-    (g.S.Source.remaining c.fill.new.self) i.0 c.fill.new.piece c.in_ok-count.count (Answers (count_of c.args.profile) c.conclude.result) i.2 b.0
+    (g.S.Source.remaining c.fill.new.self) i.0 c.fill.new.piece c.in_ok-count.count
+    (Answers (count_of c.args.profile) c.conclude.result) i.2 b.0
     none (b.1 none (omega arith)) (c.conclude.ensures.answer _ i.0 i.1)
 
 pub returns-then-count-eq0-clause-failures : goal.returns-then-count-eq0-clause-failures

@@ -10,13 +10,15 @@ use Rattle.sixel_check.proofs.checking.keep_command.Goals as goal
 pub returns-in-Sixel-clause-grows : goal.returns-in-Sixel-clause-grows
 returns-in-Sixel-clause-grows g c =
     subst
-    (λ (k : Command). OnErr c.push_command.result ((registers : ℕ) (seen : List Placed) → StandsAfter registers c.args.checker.now seen
+    (λ (k : Command). OnErr c.push_command.result ((registers : ℕ) (seen : List Placed)
+    → StandsAfter registers c.args.checker.now seen
     → MayGrowAmong registers (seen ++ record { place = c.args.place; event = Step k } ∷ [])))
     (sym c.in-Sixel.is) c.push_command.ensures.grows
 
 pub returns-in-Repeat-clause-grows : goal.returns-in-Repeat-clause-grows
 returns-in-Repeat-clause-grows g c =
     subst
-    (λ (k : Command). OnErr c.push_command-in-Repeat.result ((registers : ℕ) (seen : List Placed) → StandsAfter registers c.args.checker.now seen
+    (λ (k : Command). OnErr c.push_command-in-Repeat.result ((registers : ℕ) (seen : List Placed)
+    → StandsAfter registers c.args.checker.now seen
     → MayGrowAmong registers (seen ++ record { place = c.args.place; event = Step k } ∷ [])))
     (sym c.in-Repeat.is) c.push_command-in-Repeat.ensures.grows

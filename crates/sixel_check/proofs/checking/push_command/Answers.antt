@@ -6,5 +6,6 @@ use Rattle.sixel_check.proofs.checking.push_command.Goals as goal
 pub returns-clause-grows : goal.returns-clause-grows
 returns-clause-grows g c =
     on_err_weaker c.push.result
-    (λ grows registers seen s. grows_end seen (record { place = c.args.place; event = Step c.args.command }) (grows registers seen s))
+    (λ grows registers seen s. grows_end seen (record { place = c.args.place; event = Step c.args.command })
+    (grows registers seen s))
     c.push.ensures.grows

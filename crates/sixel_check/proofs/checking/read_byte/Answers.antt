@@ -36,7 +36,8 @@ returns-in_ok-keep_command-in-Some-Command-clause-read g c = λ registers front 
     (plain_of plain) front
     c.args.byte accepted (c.in_ok-keep_command-in-Some-Command.ensures.kept registers) a
 
-pub returns-in_err-keep_command-in-Some-Command-clause-memory : goal.returns-in_err-keep_command-in-Some-Command-clause-memory
+pub returns-in_err-keep_command-in-Some-Command-clause-memory :
+    goal.returns-in_err-keep_command-in-Some-Command-clause-memory
 returns-in_err-keep_command-in-Some-Command-clause-memory g c =
     let failed = err_from_is_err_and c.from_residual.result c.from_residual.ensures.1 in
     rw (failed.1, failed.2)

@@ -6,8 +6,11 @@ use Rattle.sixel_check.proofs.GrowthLemmas.{grows_for_on}
 use Rattle.sixel_check.proofs.checking.read_piece.Goals as goal
 
 pub read_byte-requires : goal.read_byte-requires
-read_byte-requires g c =
-    (c.requires.0, c.requires.1 ++ take c.loop-byte.byte-index c.args.piece.now, c.loop-byte.invariant c.requires.0 c.requires.1 c.requires.2)
+read_byte-requires g c = (
+  c.requires.0,
+  c.requires.1 ++ take c.loop-byte.byte-index c.args.piece.now,
+  c.loop-byte.invariant c.requires.0 c.requires.1 c.requires.2,
+)
 
 pub returns-in_err-read_byte-clause-refused : goal.returns-in_err-read_byte-clause-refused
 returns-in_err-read_byte-clause-refused g c =

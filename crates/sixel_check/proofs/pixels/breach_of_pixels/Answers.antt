@@ -9,4 +9,5 @@ returns-in-Some g c = λ registers before s d none.
 pub returns-in-None : goal.returns-in-None
 returns-in-None g c = λ registers before s d none.
     c.breach_of_end.ensures registers before d
-    (none_outside _ before c.args.event.now (g.P.Plane.sheet c.args.plane.now) d none (c.in-None.ensures registers before s))
+    (none_outside _ before c.args.event.now (g.P.Plane.sheet c.args.plane.now) d none
+    (c.in-None.ensures registers before s))

@@ -20,9 +20,10 @@ fits_not registers w h palette left xs s reason fault width height colours long 
     cc
 
 -- the picture of parts that are left is left
-left_of : (registers : ℕ) (p : PictureValue) (w h : ℕ) (palette : List (Option Parts)) (xs : List ℕ) (s : Sheet) (events : List Event)
-    → p ≡ picture_of_parts w h palette xs → w ≡ s.width → h ≡ s.height → palette ≡ palette_left registers events
-    → IsDrawn s events → map Some xs ≡ s.cells → p ≡ picture_left registers events
+left_of : (registers : ℕ) (p : PictureValue) (w h : ℕ) (palette : List (Option Parts)) (xs : List ℕ) (s : Sheet)
+    (events : List Event) → p ≡ picture_of_parts w h palette xs → w ≡ s.width → h ≡ s.height
+    → palette ≡ palette_left registers events → IsDrawn s events → map Some xs ≡ s.cells
+    → p ≡ picture_left registers events
 left_of registers p w h palette xs s events is width height colours drawn cells =
     rw (width, height, colours) at is ∙ sym (picture_drawn _ s events xs drawn cells)
 
@@ -33,7 +34,8 @@ unreachable-requires g c =
     let fits = picture_fits c.args.notes s q.1 c.into_registers.result.items q.2.notes_are q.2.sheet_is q.2.coloured
     c.into_registers.ensures in
     absurd
-    (fits_not q.0 _ _ _ (palette_left q.0 q.1) _ s _ c.in-Err.ensures.reason c.width-width.ensures c.height-height.ensures
+    (fits_not q.0 _ _ _ (palette_left q.0 q.1) _ s _ c.in-Err.ensures.reason c.width-width.ensures
+    c.height-height.ensures
     (c.left_palette.ensures q.0 q.1 q.2.notes_are) (length_left q.0 q.1) fits)
 
 pub returns : goal.returns

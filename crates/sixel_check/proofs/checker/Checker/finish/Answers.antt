@@ -12,7 +12,8 @@ verdict-requires g c =
     )
 
 pub returns-clause-verdict : goal.returns-clause-verdict
-returns-clause-verdict g c = λ registers seen s. c.verdict.ensures registers seen (judges_inside _ _ _ seen c.self.view_is s)
+returns-clause-verdict g c = λ registers seen s.
+    c.verdict.ensures registers seen (judges_inside _ _ _ seen c.self.view_is s)
 
 pub returns-clause-everywhere : goal.returns-clause-everywhere
 returns-clause-everywhere g c = λ registers seen s.

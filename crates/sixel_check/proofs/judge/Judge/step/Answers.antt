@@ -9,8 +9,8 @@ use Rattle.sixel_check.proofs.judge.Judge.step.Goals as goal
 
 pub returns-then-is_some-clause-ok : goal.returns-then-is_some-clause-ok
 returns-then-is_some-clause-ok g c = λ registers seen j.
-    finding_stays _ c.args.self.now.finding c.args.self.now.notes (option_map g.P.Plane.sheet c.args.self.now.plane) seen
-    c.args.placed.now (sym c.is_some.ensures ∙ c.if-is_some.true) j
+    finding_stays _ c.args.self.now.finding c.args.self.now.notes (option_map g.P.Plane.sheet c.args.self.now.plane)
+    seen c.args.placed.now (sym c.is_some.ensures ∙ c.if-is_some.true) j
 
 pub returns-in-Some-clause-ok : goal.returns-in-Some-clause-ok
 returns-in-Some-clause-ok g c = λ registers seen j.
