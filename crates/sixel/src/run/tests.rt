@@ -2,6 +2,7 @@ mod at_limits;
 mod in_turn;
 mod round_trip;
 mod screens;
+mod wide;
 
 ghost use Rattle.sixel.specs.Outputs.{HasSides};
 

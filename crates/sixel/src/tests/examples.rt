@@ -15,16 +15,8 @@ fn checks(alloc: Global, bytes: &[u8], exit: Exit, line: &str) -> bool {
     } else {
         (line, b"".as_slice())
     };
-    ends(
-        alloc,
-        Task::Check {
-            profile: Profile::Registers16,
-        },
-        bytes,
-        exit,
-        written,
-        said,
-    )
+    let profile = Profile::Registers16;
+    ends(alloc, Task::Check { profile }, bytes, exit, written, said)
 }
 
 #[test]

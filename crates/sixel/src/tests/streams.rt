@@ -12,6 +12,18 @@ use std::io;
 use std::io::{Error, ErrorKind, Write};
 use std::test::Fail;
 
+const CHECK: Task = Task::Check {
+    profile: Profile::Registers16,
+};
+
+const RENDER: Task = Task::Render {
+    profile: Profile::Registers16,
+};
+
+const ENCODE: Task = Task::Encode {
+    profile: Profile::Registers16,
+};
+
 /// A stream that takes so many bytes, one a call, and then fails.
 #[derive(Drop)]
 struct Narrow<'a> {
@@ -119,36 +131,12 @@ fn a_standard_error_that_fails(rt: HostRuntime) {
     );
     let uncovered = b"\x1bPq\"1;1;2;1#0;2;0;0;0#0@\x1b\\";
     let line = b"broken Uncovered 24 1 0\n";
+    assert!(rt; ends_so(rt.alloc(), RENDER, uncovered, Exit::Broken, b"", line));
+    assert!(rt; ends_so(rt.alloc(), CHECK, uncovered, Exit::Broken, line, b""));
     assert!(rt;
         ends_so(
             rt.alloc(),
-            Task::Render {
-                profile: Profile::Registers16
-            },
-            uncovered,
-            Exit::Broken,
-            b"",
-            line
-        )
-    );
-    assert!(rt;
-        ends_so(
-            rt.alloc(),
-            Task::Check {
-                profile: Profile::Registers16
-            },
-            uncovered,
-            Exit::Broken,
-            line,
-            b""
-        )
-    );
-    assert!(rt;
-        ends_so(
-            rt.alloc(),
-            Task::Render {
-                profile: Profile::Registers16
-            },
+            RENDER,
             b"\x1bPq\"1;1;1;1#0;1;360;50;100#0@\x1b\\",
             Exit::Refused,
             b"",
@@ -158,9 +146,7 @@ fn a_standard_error_that_fails(rt: HostRuntime) {
     assert!(rt;
         ends_so(
             rt.alloc(),
-            Task::Encode {
-                profile: Profile::Registers16
-            },
+            ENCODE,
             b"P6 1 1 256\n",
             Exit::Refused,
             b"",
@@ -170,9 +156,7 @@ fn a_standard_error_that_fails(rt: HostRuntime) {
     assert!(rt;
         ends_so(
             rt.alloc(),
-            Task::Check {
-                profile: Profile::Registers16
-            },
+            CHECK,
             b"\x1bPq\"1;1;1;1#0;2;0;0;0#0@\x1b\\",
             Exit::Done,
             b"portable 1 1\n",
@@ -195,15 +179,7 @@ fn refuses_with(alloc: Global, room: usize, line: &[u8]) -> bool {
         room,
     };
     let bytes = b"\x1bPq\"1;1;1;1#0;2;0;0;0#0@\x1b\\".as_slice();
-    let ended = execute(
-        alloc,
-        Task::Check {
-            profile: Profile::Registers16,
-        },
-        bytes,
-        output,
-        errors,
-    );
+    let ended = execute(alloc, CHECK, bytes, output, errors);
     ended == Exit::Refused && written.as_slice() == b"porta".as_slice() && said.as_slice() == line
 }
 

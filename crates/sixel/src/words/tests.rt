@@ -44,32 +44,43 @@ fn refuses(rt: &HostRuntime, line: &str, text: &str) -> Result<bool, Fail> {
 fn names_the_task(rt: HostRuntime) -> Result<(), Fail> {
     let rows = [
         ("sixel list", "List"),
-        ("sixel check", "Check"),
-        ("sixel render", "Render"),
-        ("sixel encode", "Encode"),
+        ("sixel check", "Check { profile: Registers16 }"),
+        ("sixel check --wide", "Check { profile: Registers256 }"),
+        ("sixel render", "Render { profile: Registers16 }"),
+        ("sixel render --wide", "Render { profile: Registers256 }"),
+        ("sixel encode", "Encode { profile: Registers16 }"),
+        ("sixel encode --wide", "Encode { profile: Registers256 }"),
         (
             "sixel show --width 2 --height 1",
-            "Show { showing: false, fill: false, selects: false, width: 2, height: 1 }",
+            "Show { profile: Registers16, showing: false, fill: false, selects: false, width: 2, height: 1 }",
         ),
         (
             "sixel show",
-            "Show { showing: false, fill: false, selects: false, width: 800, height: 480 }",
+            "Show { profile: Registers16, showing: false, fill: false, selects: false, width: 800, height: 480 }",
         ),
         (
             "sixel show --height 4096 --define-selects --fill --width 1 --showing",
-            "Show { showing: true, fill: true, selects: true, width: 1, height: 4096 }",
+            "Show { profile: Registers16, showing: true, fill: true, selects: true, width: 1, height: 4096 }",
         ),
         (
             "sixel show --width=4096 --fill",
-            "Show { showing: false, fill: true, selects: false, width: 4096, height: 480 }",
+            "Show { profile: Registers16, showing: false, fill: true, selects: false, width: 4096, height: 480 }",
         ),
         (
             "sixel show --showing --height 0007",
-            "Show { showing: true, fill: false, selects: false, width: 800, height: 7 }",
+            "Show { profile: Registers16, showing: true, fill: false, selects: false, width: 800, height: 7 }",
         ),
         (
             "sixel show --define-selects",
-            "Show { showing: false, fill: false, selects: true, width: 800, height: 480 }",
+            "Show { profile: Registers16, showing: false, fill: false, selects: true, width: 800, height: 480 }",
+        ),
+        (
+            "sixel show --wide --width 2 --height 1",
+            "Show { profile: Registers256, showing: false, fill: false, selects: false, width: 2, height: 1 }",
+        ),
+        (
+            "sixel show --fill --wide",
+            "Show { profile: Registers256, showing: false, fill: true, selects: false, width: 800, height: 480 }",
         ),
     ];
     for (line, task) in rows {
@@ -152,6 +163,23 @@ Options:
     Ok(())
 }
 
+/// The one option of `check`, `render` and `encode`.
+#[test]
+fn shows_the_option_of_check(rt: HostRuntime) -> Result<(), Fail> {
+    let check = "help Says whether the picture is portable, or which rule is broken first
+
+Usage: sixel check [OPTIONS]
+
+Options:
+      --wide  Let a picture use 256 colour registers, and not 16
+  -h, --help  Print help
+";
+    for line in ["sixel check --help", "sixel help check"] {
+        assert!(rt; says(&rt, line, check)?, "{line}");
+    }
+    Ok(())
+}
+
 #[test]
 fn shows_the_options_of_show(rt: HostRuntime) -> Result<(), Fail> {
     let show = "help Draws the picture as one terminal would, and writes its screen as a PPM
@@ -159,6 +187,7 @@ fn shows_the_options_of_show(rt: HostRuntime) -> Result<(), Fail> {
 Usage: sixel show [OPTIONS]
 
 Options:
+      --wide            Let a picture use 256 colour registers, and not 16
       --showing         Give each pixel the last colour of its register
       --fill            Fill the declared box with register 0
       --define-selects  Let a definition select its register

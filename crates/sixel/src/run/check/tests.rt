@@ -6,23 +6,32 @@ use sixel_grammar::{Fault, Reason};
 use sixel_picture::Profile;
 use std::alloc::Global;
 
-/// Whether the bytes have this line and this answer, in pieces of each size.
-fn checks(alloc: Global, bytes: &[u8], line: &str, answer: Result<Status, RunFault>) -> bool {
+/// Whether the bytes have this line and this answer in the profile, in pieces of each size.
+fn checks(
+    alloc: Global,
+    profile: Profile,
+    bytes: &[u8],
+    line: &str,
+    answer: Result<Status, RunFault>,
+) -> bool {
+    let task = Task::Check { profile };
     for piece in 1..=bytes.len() {
-        if !agrees(
-            alloc,
-            Task::Check {
-                profile: Profile::Registers16,
-            },
-            bytes,
-            piece,
-            line.as_bytes(),
-            answer,
-        ) {
+        if !agrees(alloc, task, bytes, piece, line.as_bytes(), answer) {
             return false;
         }
     }
     true
+}
+
+/// The same in both profiles, where no register is above 15.
+fn checks_in_both(
+    alloc: Global,
+    bytes: &[u8],
+    line: &str,
+    answer: Result<Status, RunFault>,
+) -> bool {
+    checks(alloc, Profile::Registers16, bytes, line, answer)
+        && checks(alloc, Profile::Registers256, bytes, line, answer)
 }
 
 #[test]
@@ -78,7 +87,10 @@ fn answers_portable(rt: HostRuntime) {
         ),
     ];
     for (bytes, line) in rows {
-        assert!(rt; checks(rt.alloc(), bytes, line, Ok(Status::Done)), "{line}");
+        assert!(rt;
+            checks_in_both(rt.alloc(), bytes, line, Ok(Status::Done)),
+            "{line}"
+        );
     }
 }
 
@@ -172,7 +184,7 @@ fn names_broken_rules_of_painting(rt: HostRuntime) {
     ];
     for (bytes, line, rule, place, pixel) in rows {
         let answer = Ok(Status::Broken(Finding { rule, place, pixel }));
-        assert!(rt; checks(rt.alloc(), bytes, line, answer), "{line}");
+        assert!(rt; checks_in_both(rt.alloc(), bytes, line, answer), "{line}");
     }
 }
 
@@ -198,13 +210,6 @@ fn names_broken_rules_of_commands(rt: HostRuntime) {
             "broken RepeatZero 23\n",
             Rule::RepeatZero,
             23,
-            None,
-        ),
-        (
-            b"\x1bPq\"1;1;1;1#16;2;0;0;0#16@\x1b\\".as_slice(),
-            "broken Register 11\n",
-            Rule::Register,
-            11,
             None,
         ),
         (
@@ -271,13 +276,6 @@ fn names_broken_rules_of_commands(rt: HostRuntime) {
             None,
         ),
         (
-            b"\x1bPq\"1;1;1;1#0;2;0;0;0#0@#16;3;0;0;0\x1b\\".as_slice(),
-            "broken Register 24\n",
-            Rule::Register,
-            24,
-            None,
-        ),
-        (
             b"\x1bPq\"1;1;1;1#0;2;0;0;0#0@#0;1;0;0;0\x1b\\".as_slice(),
             "broken Redefined 24\n",
             Rule::Redefined,
@@ -294,7 +292,98 @@ fn names_broken_rules_of_commands(rt: HostRuntime) {
     ];
     for (bytes, line, rule, place, pixel) in rows {
         let answer = Ok(Status::Broken(Finding { rule, place, pixel }));
-        assert!(rt; checks(rt.alloc(), bytes, line, answer), "{line}");
+        assert!(rt; checks_in_both(rt.alloc(), bytes, line, answer), "{line}");
+    }
+}
+
+/// Register 16 is one too many for the narrow profile, and register 256 for both.
+#[test]
+fn names_registers_that_are_too_many(rt: HostRuntime) {
+    let (narrow, wide) = (Profile::Registers16, Profile::Registers256);
+    let rows = [
+        (
+            narrow,
+            b"\x1bPq\"1;1;1;1#16;2;0;0;0#16@\x1b\\".as_slice(),
+            "broken Register 11\n",
+            11,
+        ),
+        (
+            narrow,
+            b"\x1bPq\"1;1;1;1#256;2;0;0;0#256@\x1b\\".as_slice(),
+            "broken Register 11\n",
+            11,
+        ),
+        (
+            wide,
+            b"\x1bPq\"1;1;1;1#256;2;0;0;0#256@\x1b\\".as_slice(),
+            "broken Register 11\n",
+            11,
+        ),
+        (
+            narrow,
+            b"\x1bPq\"1;1;1;1#0;2;0;0;0#0@#16;3;0;0;0\x1b\\".as_slice(),
+            "broken Register 24\n",
+            24,
+        ),
+        (
+            wide,
+            b"\x1bPq\"1;1;1;1#0;2;0;0;0#0@#256;3;0;0;0\x1b\\".as_slice(),
+            "broken Register 24\n",
+            24,
+        ),
+    ];
+    for (profile, bytes, line, place) in rows {
+        let finding = Finding {
+            rule: Rule::Register,
+            place,
+            pixel: None,
+        };
+        let answer = Ok(Status::Broken(finding));
+        assert!(rt; checks(rt.alloc(), profile, bytes, line, answer), "{line}");
+    }
+}
+
+/// Registers from 16 to 255 are judged like any other in the wide profile.
+#[test]
+fn judges_the_registers_of_the_wide_profile(rt: HostRuntime) {
+    let wide = Profile::Registers256;
+    let rows = [
+        b"\x1bPq\"1;1;1;1#16;2;0;0;0#16@\x1b\\".as_slice(),
+        b"\x1bPq\"1;1;1;1#255;2;0;0;0#255@\x1b\\".as_slice(),
+    ];
+    for bytes in rows {
+        assert!(rt; checks(rt.alloc(), wide, bytes, "portable 1 1\n", Ok(Status::Done)));
+    }
+    let rows = [
+        (
+            b"\x1bPq\"1;1;1;1#0;2;0;0;0#0@#16;3;0;0;0\x1b\\".as_slice(),
+            "broken ColourValue 24\n",
+            Rule::ColourValue,
+            24,
+        ),
+        (
+            b"\x1bPq\"1;1;1;1#16@\x1b\\".as_slice(),
+            "broken Undefined 14\n",
+            Rule::Undefined,
+            14,
+        ),
+        (
+            b"\x1bPq\"1;1;1;1#16;2;0;0;0#16@#16;2;1;0;0\x1b\\".as_slice(),
+            "broken Redefined 26\n",
+            Rule::Redefined,
+            26,
+        ),
+    ];
+    for (bytes, line, rule, place) in rows {
+        let finding = Finding {
+            rule,
+            place,
+            pixel: None,
+        };
+        assert!(rt;
+            checks(rt.alloc(), wide, bytes, line, Ok(Status::Broken(finding))),
+            "{line}"
+        );
     }
 }
 
@@ -306,5 +395,5 @@ fn answers_a_later_fault(rt: HostRuntime) {
         reason: Reason::NumberTooLarge,
         place: 11,
     });
-    assert!(rt; checks(rt.alloc(), bytes, "", Err(fault)));
+    assert!(rt; checks_in_both(rt.alloc(), bytes, "", Err(fault)));
 }

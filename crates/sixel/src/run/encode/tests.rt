@@ -4,17 +4,11 @@ use crate::task::{Status, Task};
 use sixel_picture::{PpmReason, Profile};
 use std::alloc::Global;
 
-/// Whether the bytes in pieces are encoded as this text, with this answer.
+/// Whether the bytes in pieces are encoded as this text, with this answer, in both profiles.
 fn encodes(alloc: Global, bytes: &[u8], text: &[u8], answer: Result<Status, RunFault>) -> bool {
-    agrees_in_pieces(
-        alloc,
-        Task::Encode {
-            profile: Profile::Registers16,
-        },
-        bytes,
-        text,
-        answer,
-    )
+    let (narrow, wide) = (Profile::Registers16, Profile::Registers256);
+    agrees_in_pieces(alloc, Task::Encode { profile: narrow }, bytes, text, answer)
+        && agrees_in_pieces(alloc, Task::Encode { profile: wide }, bytes, text, answer)
 }
 
 #[test]

@@ -6,17 +6,11 @@ use sixel_grammar::{Fault, Reason};
 use sixel_picture::Profile;
 use std::alloc::Global;
 
-/// Whether the bytes in pieces are rendered as this file, with this answer.
+/// Whether the bytes in pieces are rendered as this file, with this answer, in both profiles.
 fn renders(alloc: Global, bytes: &[u8], file: &[u8], answer: Result<Status, RunFault>) -> bool {
-    agrees_in_pieces(
-        alloc,
-        Task::Render {
-            profile: Profile::Registers16,
-        },
-        bytes,
-        file,
-        answer,
-    )
+    let (narrow, wide) = (Profile::Registers16, Profile::Registers256);
+    agrees_in_pieces(alloc, Task::Render { profile: narrow }, bytes, file, answer)
+        && agrees_in_pieces(alloc, Task::Render { profile: wide }, bytes, file, answer)
 }
 
 #[test]

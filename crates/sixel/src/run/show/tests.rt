@@ -7,10 +7,11 @@ use crate::task::{Status, Task};
 use sixel_picture::Profile;
 use std::alloc::Global;
 
-/// Whether the bytes are shown as this file on a screen of one row, with this answer. The options are `--showing`,
-/// `--fill` and `--define-selects`.
-fn shows_with(
+/// Whether the bytes are shown in the profile as this file on a screen of one row, with this answer. The options are
+/// `--showing`, `--fill` and `--define-selects`.
+fn shows_in(
     alloc: Global,
+    profile: Profile,
     options: (bool, bool, bool),
     width: u32,
     bytes: &[u8],
@@ -21,7 +22,7 @@ fn shows_with(
 {
     let (showing, fill, selects) = options;
     let task = Task::Show {
-        profile: Profile::Registers16,
+        profile,
         showing,
         fill,
         selects,
@@ -31,18 +32,36 @@ fn shows_with(
     agrees_in_pieces(alloc, task, bytes, file, answer)
 }
 
-/// The same without an option, where it is done.
+/// The same in both profiles, where each register that is selected was defined, or is register 0.
+fn shows_with(
+    alloc: Global,
+    options: (bool, bool, bool),
+    width: u32,
+    bytes: &[u8],
+    file: &[u8],
+    answer: Result<Status, RunFault>,
+) -> bool
+    requires { IsTrue (is_file_side width) }
+{
+    let (narrow, wide) = (Profile::Registers16, Profile::Registers256);
+    shows_in(alloc, narrow, options, width, bytes, file, answer)
+        && shows_in(alloc, wide, options, width, bytes, file, answer)
+}
+
+/// Whether the bytes are shown in the profile as this file without an option.
+fn shows_by(alloc: Global, profile: Profile, width: u32, bytes: &[u8], file: &[u8]) -> bool
+    requires { IsTrue (is_file_side width) }
+{
+    let plain = (false, false, false);
+    shows_in(alloc, profile, plain, width, bytes, file, Ok(Status::Done))
+}
+
+/// The same in both profiles.
 fn shows(alloc: Global, width: u32, bytes: &[u8], file: &[u8]) -> bool
     requires { IsTrue (is_file_side width) }
 {
-    shows_with(
-        alloc,
-        (false, false, false),
-        width,
-        bytes,
-        file,
-        Ok(Status::Done),
-    )
+    shows_by(alloc, Profile::Registers16, width, bytes, file)
+        && shows_by(alloc, Profile::Registers256, width, bytes, file)
 }
 
 /// One pixel is painted in register 0, which is black and becomes red after it.
@@ -86,7 +105,35 @@ fn selects_by_a_definition_or_not(rt: HostRuntime) {
 #[test]
 fn starts_with_sixteen_greys(rt: HostRuntime) {
     let greys = b"P6\n3 1\n100\n\x06\x06\x06\x5a\x5a\x5a\x00\x00\x00";
-    assert!(rt; shows(rt.alloc(), 3, b"\x1bPq#1@#15@#16@\x1b\\", greys));
+    assert!(rt;
+        shows_by(
+            rt.alloc(),
+            Profile::Registers16,
+            3,
+            b"\x1bPq#1@#15@#16@\x1b\\",
+            greys
+        )
+    );
+}
+
+/// Register 17 of 256 starts as 17 percent, and of 16 it is register 1. Register 100 starts as 100 percent, register 101
+/// as black again, register 255 as 255 - 2 * 101 percent, and register 256 is register 0.
+#[test]
+fn starts_with_greys_again_and_again(rt: HostRuntime) {
+    let (narrow, wide) = (Profile::Registers16, Profile::Registers256);
+    let bytes = b"\x1bPq#17@\x1b\\";
+    assert!(rt; shows_by(rt.alloc(), narrow, 1, bytes, b"P6\n1 1\n100\n\x06\x06\x06"));
+    assert!(rt; shows_by(rt.alloc(), wide, 1, bytes, b"P6\n1 1\n100\n\x11\x11\x11"));
+    let greys = b"P6\n4 1\n100\n\x64\x64\x64\x00\x00\x00\x35\x35\x35\x00\x00\x00";
+    assert!(rt;
+        shows_by(
+            rt.alloc(),
+            wide,
+            4,
+            b"\x1bPq#100@#101@#255@#256@\x1b\\",
+            greys
+        )
+    );
 }
 
 /// A colour of hue, lightness and saturation is refused where it is seen; painted over, or off the screen, it is no
@@ -99,5 +146,7 @@ fn asks_only_for_the_colours_that_are_seen(rt: HostRuntime) {
     );
     assert!(rt; shows_with(rt.alloc(), plain, 1, hue, b"", Err(RunFault::NotRgb)));
     let hidden = b"\x1bPq\"1;1;2;1#0;1;360;50;100#0@@$#1@\x1b\\";
-    assert!(rt; shows(rt.alloc(), 1, hidden, b"P6\n1 1\n100\n\x06\x06\x06"));
+    let (narrow, wide) = (Profile::Registers16, Profile::Registers256);
+    assert!(rt; shows_by(rt.alloc(), narrow, 1, hidden, b"P6\n1 1\n100\n\x06\x06\x06"));
+    assert!(rt; shows_by(rt.alloc(), wide, 1, hidden, b"P6\n1 1\n100\n\x01\x01\x01"));
 }

@@ -29,11 +29,10 @@ const OPEN_PIXEL: &[u8] = b"\x1bPq\"1;1;1;1#0;2;0;0;0#0@";
 
 /// Whether a check of the bytes writes this line, and answers this.
 fn checks(alloc: Global, bytes: &[u8], line: &str, answer: Result<Status, RunFault>) -> bool {
+    let profile = Profile::Registers16;
     agrees(
         alloc,
-        Task::Check {
-            profile: Profile::Registers16,
-        },
+        Task::Check { profile },
         bytes,
         1000,
         line.as_bytes(),
@@ -136,16 +135,8 @@ fn a_long_document_is_shown_on_a_large_screen(rt: HostRuntime) -> Result<(), Fai
 
 /// Whether an encode of the bytes writes this text, and answers this.
 fn encodes(alloc: Global, bytes: &[u8], text: &[u8], answer: Result<Status, RunFault>) -> bool {
-    agrees(
-        alloc,
-        Task::Encode {
-            profile: Profile::Registers16,
-        },
-        bytes,
-        1000,
-        text,
-        answer,
-    )
+    let profile = Profile::Registers16;
+    agrees(alloc, Task::Encode { profile }, bytes, 1000, text, answer)
 }
 
 fn refused(reason: PpmReason, place: u64) -> Result<Status, RunFault> {

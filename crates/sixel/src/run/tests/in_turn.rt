@@ -51,11 +51,21 @@ const LISTED_FAULT: Case = Case {
     calls: [(1, 9, 15), (5, 2, 3), (64, 1, 1)],
 };
 
+const CHECK: Task = Task::Check {
+    profile: Profile::Registers16,
+};
+
+const RENDER: Task = Task::Render {
+    profile: Profile::Registers16,
+};
+
+const ENCODE: Task = Task::Encode {
+    profile: Profile::Registers16,
+};
+
 /// One pixel, checked.
 const CHECKED: Case = Case {
-    task: Task::Check {
-        profile: Profile::Registers16,
-    },
+    task: CHECK,
     bytes: PIXEL,
     text: b"portable 1 1\n",
     answer: Ok(Status::Done),
@@ -64,9 +74,7 @@ const CHECKED: Case = Case {
 
 /// Two letters, checked: 90 bytes.
 const LETTERS: Case = Case {
-    task: Task::Check {
-        profile: Profile::Registers16,
-    },
+    task: CHECK,
     bytes: b"\x1bPq\"1;1;14;7#0;2;0;0;0#1;2;100;100;0#2;2;0;100;0#1~~@@vv@@~~@@~~$#2??}}GG}}??}}??-#1!14@\x1b\\",
     text: b"portable 14 7\n",
     answer: Ok(Status::Done),
@@ -75,9 +83,7 @@ const LETTERS: Case = Case {
 
 /// A box of two pixels of which one is painted, checked.
 const UNCOVERED: Case = Case {
-    task: Task::Check {
-        profile: Profile::Registers16,
-    },
+    task: CHECK,
     bytes: b"\x1bPq\"1;1;2;1#0;2;0;0;0#0@\x1b\\",
     text: b"broken Uncovered 24 1 0\n",
     answer: Ok(Status::Broken(Finding {
@@ -90,9 +96,7 @@ const UNCOVERED: Case = Case {
 
 /// A fault, which leaves no verdict.
 const CHECKED_FAULT: Case = Case {
-    task: Task::Check {
-        profile: Profile::Registers16,
-    },
+    task: CHECK,
     bytes: LARGE,
     text: b"",
     answer: Err(TOO_LARGE),
@@ -101,9 +105,7 @@ const CHECKED_FAULT: Case = Case {
 
 /// One pixel, rendered.
 const RENDERED: Case = Case {
-    task: Task::Render {
-        profile: Profile::Registers16,
-    },
+    task: RENDER,
     bytes: PIXEL,
     text: b"P6\n1 1\n100\n\x00\x00\x00",
     answer: Ok(Status::Done),
@@ -112,9 +114,7 @@ const RENDERED: Case = Case {
 
 /// A fault, which leaves no picture.
 const RENDERED_FAULT: Case = Case {
-    task: Task::Render {
-        profile: Profile::Registers16,
-    },
+    task: RENDER,
     bytes: LARGE,
     text: b"",
     answer: Err(TOO_LARGE),
@@ -123,9 +123,7 @@ const RENDERED_FAULT: Case = Case {
 
 /// Five red pixels, encoded: 26 bytes.
 const RED: Case = Case {
-    task: Task::Encode {
-        profile: Profile::Registers16,
-    },
+    task: ENCODE,
     bytes: b"P6 5 1 100\nd\0\0d\0\0d\0\0d\0\0d\0\0",
     text: b"\x1bP0;1q\"1;1;5;1#0;2;100;0;0#0!5@\x1b\\",
     answer: Ok(Status::Done),
@@ -134,9 +132,7 @@ const RED: Case = Case {
 
 /// Three red pixels, encoded: 20 bytes.
 const SHORT_RED: Case = Case {
-    task: Task::Encode {
-        profile: Profile::Registers16,
-    },
+    task: ENCODE,
     bytes: b"P6 3 1 100\nd\0\0d\0\0d\0\0",
     text: b"\x1bP0;1q\"1;1;3;1#0;2;100;0;0#0@@@\x1b\\",
     answer: Ok(Status::Done),
@@ -145,9 +141,7 @@ const SHORT_RED: Case = Case {
 
 /// A file of another kind, by its second byte.
 const ENCODED_FAULT: Case = Case {
-    task: Task::Encode {
-        profile: Profile::Registers16,
-    },
+    task: ENCODE,
     bytes: b"P5 1 1 100",
     text: b"",
     answer: Err(RunFault::Ppm {
@@ -183,6 +177,58 @@ const SHOWN_FAULT: Case = Case {
     text: b"",
     answer: Err(TOO_LARGE),
     calls: [(1, 9, 0), (5, 2, 0), (64, 1, 0)],
+};
+
+/// One black pixel in register 16: 28 bytes.
+const WIDE_PIXEL: &[u8] = b"\x1bPq\"1;1;1;1#16;2;0;0;0#16@\x1b\\";
+
+/// That pixel, checked in the wide profile.
+const WIDE_CHECKED: Case = Case {
+    task: Task::Check {
+        profile: Profile::Registers256,
+    },
+    bytes: WIDE_PIXEL,
+    text: b"portable 1 1\n",
+    answer: Ok(Status::Done),
+    calls: [(1, 29, 13), (5, 7, 3), (64, 2, 1)],
+};
+
+/// The same, rendered.
+const WIDE_RENDERED: Case = Case {
+    task: Task::Render {
+        profile: Profile::Registers256,
+    },
+    bytes: WIDE_PIXEL,
+    text: b"P6\n1 1\n100\n\x00\x00\x00",
+    answer: Ok(Status::Done),
+    calls: [(1, 29, 14), (5, 7, 3), (64, 2, 1)],
+};
+
+/// A register that is shown in its starting colour: 9 bytes.
+const WIDE_SHOWN: Case = Case {
+    task: Task::Show {
+        profile: Profile::Registers256,
+        showing: false,
+        fill: false,
+        selects: false,
+        width: 1,
+        height: 1,
+    },
+    bytes: b"\x1bPq#17@\x1b\\",
+    text: b"P6\n1 1\n100\n\x11\x11\x11",
+    answer: Ok(Status::Done),
+    calls: [(1, 10, 14), (5, 3, 3), (64, 2, 1)],
+};
+
+/// Three red pixels, encoded in the wide profile as in the other.
+const WIDE_RED: Case = Case {
+    task: Task::Encode {
+        profile: Profile::Registers256,
+    },
+    bytes: b"P6 3 1 100\nd\0\0d\0\0d\0\0",
+    text: b"\x1bP0;1q\"1;1;3;1#0;2;100;0;0#0@@@\x1b\\",
+    answer: Ok(Status::Done),
+    calls: [(1, 21, 33), (5, 5, 7), (64, 2, 1)],
 };
 
 /// Runs the task on the bytes, in and out in pieces. Fill number `fill_fails` fails, and take or flush number
@@ -382,4 +428,12 @@ fn each_call_of_a_device_fails(rt: HostRuntime) {
     assert!(rt; stops(rt.alloc(), ENCODED_FAULT));
     assert!(rt; stops(rt.alloc(), SHOWN));
     assert!(rt; stops(rt.alloc(), SHOWN_FAULT));
+}
+
+#[test]
+fn each_call_of_a_device_fails_in_the_wide_profile(rt: HostRuntime) {
+    assert!(rt; stops(rt.alloc(), WIDE_CHECKED));
+    assert!(rt; stops(rt.alloc(), WIDE_RENDERED));
+    assert!(rt; stops(rt.alloc(), WIDE_SHOWN));
+    assert!(rt; stops(rt.alloc(), WIDE_RED));
 }

@@ -13,61 +13,63 @@ fn after(state: u32) -> u32 {
     state.wrapping_mul(1_664_525).wrapping_add(1_013_904_223)
 }
 
-/// The register of the next pixel: in one case of four another one.
-fn drawn(state: u32, register: u8) -> u8 {
-    if state >> 30 == 0 {
-        ((state >> 24) % 16) as u8
-    } else {
-        register
+/// The register of the next pixel, one of the profile's: in one case of four another one.
+fn drawn(profile: Profile, state: u32, register: u8) -> u8 {
+    if state >> 30 != 0 {
+        return register;
+    }
+    match profile {
+        Profile::Registers16 => ((state >> 16) % 16) as u8,
+        Profile::Registers256 => ((state >> 16) % 256) as u8,
     }
 }
 
-fn push_pixel(bytes: &mut Vec<u8>, percent: u8) -> Result<(), AllocError> {
-    bytes.extend_from_slice(&[percent, 90u8.saturating_sub(percent), 50])
+/// Pixel number i of those with colours of their own has this colour.
+pub fn push_pixel(bytes: &mut Vec<u8>, number: u16) -> Result<(), AllocError> {
+    bytes.extend_from_slice(&[(number % 100) as u8, (number / 100 % 100) as u8, 0])
 }
 
-/// Pseudo-random runs in 16 colours.
-fn push_pixels(bytes: &mut Vec<u8>, count: u32, seed: u32) -> Result<(), AllocError> {
+/// Pseudo-random runs in the profile's number of colours.
+fn push_pixels(
+    bytes: &mut Vec<u8>,
+    profile: Profile,
+    count: u32,
+    seed: u32,
+) -> Result<(), AllocError> {
     let mut state = seed;
     let mut register = 0;
     for _ in 0..count {
         state = after(state);
-        register = drawn(state, register);
-        push_pixel(bytes, register.saturating_mul(6))?;
+        register = drawn(profile, state, register);
+        push_pixel(bytes, register as u16)?;
     }
     Ok(())
 }
 
-/// A picture file of pseudo-random runs in 16 colours.
-fn picture_file(alloc: Global, width: u32, height: u32) -> Result<Vec<u8>, Fail> {
+/// A picture file of pseudo-random runs in the profile's number of colours.
+fn picture_file(alloc: Global, profile: Profile, width: u32, height: u32) -> Result<Vec<u8>, Fail> {
     let head = format!(in alloc; "P6\n{width} {height}\n100\n")?;
     let mut bytes = Vec::new(alloc);
     bytes.extend_from_slice(head.as_bytes())?;
-    push_pixels(&mut bytes, width.saturating_mul(height), width)?;
+    push_pixels(&mut bytes, profile, width.saturating_mul(height), width)?;
     Ok(bytes)
 }
 
 /// How many bytes of the room the text of a picture file takes, where it is encoded.
-fn encode_into(alloc: Global, picture: &[u8], room: &mut [u8]) -> Option<usize> {
+pub fn encode_into(
+    alloc: Global,
+    profile: Profile,
+    picture: &[u8],
+    room: &mut [u8],
+) -> Option<usize> {
     let mut input = SliceSource::new(picture, 37, None);
     let mut output = SliceSink::new(room, 64, None);
-    if run(
-        alloc,
-        Task::Encode {
-            profile: Profile::Registers16,
-        },
-        &mut input,
-        &mut output,
-    ) == Ok(Status::Done)
-    {
-        Some(output.written().len())
-    } else {
-        None
-    }
+    let answer = run(alloc, Task::Encode { profile }, &mut input, &mut output);
+    (answer == Ok(Status::Done)).then_some(output.written().len())
 }
 
 /// Whether a task is done for the bytes and writes this.
-fn sends(alloc: Global, task: Task, bytes: &[u8], text: &[u8]) -> bool
+pub fn sends(alloc: Global, task: Task, bytes: &[u8], text: &[u8]) -> bool
     requires { HasSides task }
 {
     let mut room = [0; 8192];
@@ -77,41 +79,35 @@ fn sends(alloc: Global, task: Task, bytes: &[u8], text: &[u8]) -> bool
 }
 
 /// Whether what is encoded of a picture file of these sides is portable, and rendered it is that file.
-fn returns(alloc: Global, width: u32, height: u32) -> Result<bool, Fail> {
-    let picture = picture_file(alloc, width, height)?;
+fn returns(alloc: Global, profile: Profile, width: u32, height: u32) -> Result<bool, Fail> {
+    let picture = picture_file(alloc, profile, width, height)?;
     let mut room = [0; 8192];
-    let count = encode_into(alloc, picture.as_slice(), &mut room).ok_or("no text")?;
+    let count = encode_into(alloc, profile, picture.as_slice(), &mut room).ok_or("no text")?;
     let text = room.get(..count).ok_or("the text")?;
     let line = format!(in alloc; "portable {width} {height}\n")?;
     Ok(
-        sends(
-            alloc,
-            Task::Check {
-                profile: Profile::Registers16,
-            },
-            text,
-            line.as_bytes(),
-        ) && sends(
-            alloc,
-            Task::Render {
-                profile: Profile::Registers16,
-            },
-            text,
-            picture.as_slice(),
-        ),
+        sends(alloc, Task::Check { profile }, text, line.as_bytes())
+            && sends(alloc, Task::Render { profile }, text, picture.as_slice()),
     )
 }
 
 #[test]
 fn encoded_pictures_come_back(rt: HostRuntime) -> Result<(), Fail> {
     for width in 1..=70 {
-        assert!(rt; returns(rt.alloc(), width, width % 13 + 1)?, "{width}");
+        assert!(rt;
+            returns(rt.alloc(), Profile::Registers16, width, width % 13 + 1)?,
+            "{width}"
+        );
+        assert!(rt;
+            returns(rt.alloc(), Profile::Registers256, width, width % 13 + 1)?,
+            "{width}"
+        );
     }
     Ok(())
 }
 
 /// Whether the picture is encoded as this text.
-fn is_encoded_as(picture: &Picture, text: &[u8]) -> bool {
+pub fn is_encoded_as(picture: &Picture, text: &[u8]) -> bool {
     let mut room = [0; 128];
     let mut output = SliceSink::new(&mut room, 128, None);
     sixel_encode::encode(picture, &mut output).is_ok() && output.written() == text

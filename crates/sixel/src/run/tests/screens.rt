@@ -26,11 +26,10 @@ fn shows(alloc: Global, width: u32, height: u32, bytes: &[u8], file: &[u8]) -> b
 
 /// Whether the picture is rendered as this file.
 fn renders(alloc: Global, bytes: &[u8], file: &[u8]) -> bool {
+    let profile = Profile::Registers16;
     agrees_in_pieces(
         alloc,
-        Task::Render {
-            profile: Profile::Registers16,
-        },
+        Task::Render { profile },
         bytes,
         file,
         Ok(Status::Done),
