@@ -1,5 +1,7 @@
 //! What calls answer where no memory is left at all, and then once there is enough of it again.
 
+ghost use Rattle.sixel.specs.Outputs.{HasSides};
+
 use crate::fault::RunFault;
 use crate::run::run;
 use crate::task::{Status, Task};
@@ -29,43 +31,29 @@ fn is_picture(picture: &Picture, width: u32, colour: Option<Colour>) -> bool {
         && palette.get(1).is_none()
 }
 
-fn reads(alloc: Global) -> Option<bool> {
-    match read_ppm(
-        alloc,
-        Profile::Registers16,
-        &mut SliceSource::new(RED, 64, None),
-    ) {
+fn reads(alloc: Global, profile: Profile) -> Option<bool> {
+    match read_ppm(alloc, profile, &mut SliceSource::new(RED, 64, None)) {
         Ok(picture) => Some(is_picture(&picture, 5, Colour::rgb(100, 0, 0))),
         Err(fault) => (fault != PpmFault::OutOfMemory).then_some(false),
     }
 }
 
-fn checks(alloc: Global) -> Option<bool> {
-    match check(
-        alloc,
-        Profile::Registers16,
-        &mut SliceSource::new(PIXEL, 64, None),
-    ) {
+fn checks(alloc: Global, profile: Profile) -> Option<bool> {
+    match check(alloc, profile, &mut SliceSource::new(PIXEL, 64, None)) {
         Ok(Verdict::Portable(picture)) => Some(is_picture(&picture, 1, Colour::rgb(0, 0, 0))),
         Ok(Verdict::Broken(_)) => Some(false),
         Err(fault) => (fault != InputFault::OutOfMemory).then_some(false),
     }
 }
 
-fn runs(alloc: Global) -> Option<bool> {
+fn runs(alloc: Global, task: Task, text: &[u8]) -> Option<bool>
+    requires { HasSides task }
+{
     let mut room = [0; 16];
+    let mut input = SliceSource::new(PIXEL, 64, None);
     let mut output = SliceSink::new(&mut room, 64, None);
-    match run(
-        alloc,
-        Task::Check {
-            profile: Profile::Registers16,
-        },
-        &mut SliceSource::new(PIXEL, 64, None),
-        &mut output,
-    ) {
-        Ok(status) => {
-            Some(status == Status::Done && output.written() == b"portable 1 1\n".as_slice())
-        }
+    match run(alloc, task, &mut input, &mut output) {
+        Ok(status) => Some(status == Status::Done && output.written() == text),
         Err(fault) => (fault != RunFault::OutOfMemory).then_some(false),
     }
 }
@@ -75,17 +63,21 @@ fn runs(alloc: Global) -> Option<bool> {
 enum Call {
     BlankOfBytes,
     BlankOfBands,
-    ReadPpm,
-    Check,
-    Run,
+    ReadPpm(Profile),
+    Check(Profile),
+    RunCheck(Profile),
+    RunRender(Profile),
 }
 
-const CALLS: [Call; 5] = [
+const CALLS: [Call; 8] = [
     Call::BlankOfBytes,
     Call::BlankOfBands,
-    Call::ReadPpm,
-    Call::Check,
-    Call::Run,
+    Call::ReadPpm(Profile::Registers16),
+    Call::ReadPpm(Profile::Registers256),
+    Call::Check(Profile::Registers16),
+    Call::Check(Profile::Registers256),
+    Call::RunCheck(Profile::Registers16),
+    Call::RunRender(Profile::Registers256),
 ];
 
 /// Whether the call gives what it should. A copy of its own in each place would need more stack at the next one.
@@ -94,9 +86,10 @@ fn answer(alloc: Global, call: Call) -> Option<bool> {
     match call {
         Call::BlankOfBytes => is_made_blank::<BytePlane>(alloc),
         Call::BlankOfBands => is_made_blank::<BandPlane>(alloc),
-        Call::ReadPpm => reads(alloc),
-        Call::Check => checks(alloc),
-        Call::Run => runs(alloc),
+        Call::ReadPpm(profile) => reads(alloc, profile),
+        Call::Check(profile) => checks(alloc, profile),
+        Call::RunCheck(profile) => runs(alloc, Task::Check { profile }, b"portable 1 1\n"),
+        Call::RunRender(profile) => runs(alloc, Task::Render { profile }, b"P6\n1 1\n100\n\0\0\0"),
     }
 }
 
