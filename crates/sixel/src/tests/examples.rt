@@ -6,8 +6,9 @@ use crate::task::Task;
 use sixel_picture::Profile;
 use std::alloc::Global;
 
-/// Whether a check of the bytes ends so, with this line: a verdict goes to standard output, a fault to standard error.
-fn checks(alloc: Global, bytes: &[u8], exit: Exit, line: &str) -> bool {
+/// Whether a check of the bytes in a profile ends so, with this line: a verdict goes to standard output, a fault to
+/// standard error.
+fn checks(alloc: Global, profile: Profile, bytes: &[u8], exit: Exit, line: &str) -> bool {
     let line = line.as_bytes();
     let is_fault = exit == Exit::Refused;
     let (written, said) = if is_fault {
@@ -15,7 +16,6 @@ fn checks(alloc: Global, bytes: &[u8], exit: Exit, line: &str) -> bool {
     } else {
         (line, b"".as_slice())
     };
-    let profile = Profile::Registers16;
     ends(alloc, Task::Check { profile }, bytes, exit, written, said)
 }
 
@@ -30,6 +30,14 @@ fn each_rule_is_named(rt: HostRuntime) {
         (b"\x1bPq\"2;1;1;1\x1b\\".as_slice(), "broken Ratio 3\n"),
         (b"\x1bPq\"1;1\x1b\\".as_slice(), "broken BoxSize 3\n"),
         (b"\x1bPq#16\x1b\\".as_slice(), "broken Register 3\n"),
+        (
+            b"\x1bPq\"1;1;1;1#16;2;0;0;0#16@\x1b\\".as_slice(),
+            "broken Register 11\n",
+        ),
+        (
+            b"\x1bPq\"1;1;1;1#255;2;0;0;0#255@\x1b\\".as_slice(),
+            "broken Register 11\n",
+        ),
         (
             b"\x1bPq#0;2;255;0;0\x1b\\".as_slice(),
             "broken ColourValue 3\n",
@@ -68,7 +76,10 @@ fn each_rule_is_named(rt: HostRuntime) {
         ),
     ];
     for (bytes, line) in rows {
-        assert!(rt; checks(rt.alloc(), bytes, Exit::Broken, line), "{line}");
+        assert!(rt;
+            checks(rt.alloc(), Profile::Registers16, bytes, Exit::Broken, line),
+            "{line}"
+        );
     }
 }
 
@@ -117,7 +128,44 @@ fn portable_strings_are_called_portable(rt: HostRuntime) {
         ),
     ];
     for (bytes, line) in rows {
-        assert!(rt; checks(rt.alloc(), bytes, Exit::Done, line), "{line}");
+        assert!(rt;
+            checks(rt.alloc(), Profile::Registers16, bytes, Exit::Done, line),
+            "{line}"
+        );
+    }
+}
+
+/// Registers above 15, in the profile of 256.
+#[test]
+fn wide_strings_may_use_256_registers(rt: HostRuntime) {
+    let rows = [
+        (
+            b"\x1bPq\"1;1;1;1#16;2;0;0;0#16@\x1b\\".as_slice(),
+            "portable 1 1\n",
+            Exit::Done,
+        ),
+        (
+            b"\x1bPq\"1;1;1;1#255;2;0;0;0#255@\x1b\\".as_slice(),
+            "portable 1 1\n",
+            Exit::Done,
+        ),
+        (
+            b"\x1bPq\"1;1;1;1#256;2;0;0;0#256@\x1b\\".as_slice(),
+            "broken Register 11\n",
+            Exit::Broken,
+        ),
+        // The register is there, so the first rule that is broken is that of the end: there are no raster attributes.
+        (
+            b"\x1bPq#16\x1b\\".as_slice(),
+            "broken RasterFirst 6\n",
+            Exit::Broken,
+        ),
+    ];
+    for (bytes, line, exit) in rows {
+        assert!(rt;
+            checks(rt.alloc(), Profile::Registers256, bytes, exit, line),
+            "{line}"
+        );
     }
 }
 
@@ -137,7 +185,10 @@ fn each_reason_is_named(rt: HostRuntime) {
         (b"\x1bPq\x1b\\x".as_slice(), "sixel: Trailing at 5\n"),
     ];
     for (bytes, line) in rows {
-        assert!(rt; checks(rt.alloc(), bytes, Exit::Refused, line), "{line}");
+        assert!(rt;
+            checks(rt.alloc(), Profile::Registers16, bytes, Exit::Refused, line),
+            "{line}"
+        );
     }
 }
 
