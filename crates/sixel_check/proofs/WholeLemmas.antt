@@ -43,7 +43,7 @@ full_sheet registers s events whole none d = split (first_blank s) (first_blank_
 each_passes : (p : ℕ → Bool) (xs : List ℕ) → ((i : ℕ) → i < length xs → p (get_or xs i 0) ≡ true) → list_all p xs ≡ true
 each_passes p xs h = list_all-from_AllPass p xs (All-from_get_or (λ x. p x ≡ true) xs 0 h)
 
--- the register of each pixel is one of the 16, and has a colour
+-- the register of each pixel is one of the palette, and has a colour
 register_good : {registers : ℕ} (s : Sheet) (events : List Event) (xs : List ℕ) (i : ℕ) → IsDrawn s events
     → AreColoured registers events → map (λ r. Some r) xs ≡ s.cells → i < length xs
     → (get_or xs i 0 < registers) × IsSome (definition_of events (get_or xs i 0))
