@@ -1,6 +1,6 @@
 -- The text of a picture, checked.
 use Rattle.std.specs.Prelude.{Ok, Err}
-use Rattle.std.proofs.Common.{◌≤◌, arith, ◌≡◌, ◌∙◌, ◌+◌, ℕ, List, [], ◌∷◌, length, lit≤, refl, sym, ap, subst}
+use Rattle.std.proofs.Common.{◌≤◌, arith, ◌≡◌, ◌∙◌, ◌+◌, ℕ, List, [], ◌∷◌, length, refl, sym, ap, subst}
 use Rattle.sixel_grammar.specs.declared.command.Event.{Event}
 use Rattle.sixel_grammar.specs.declared.command.Placed.{Placed}
 use Rattle.sixel_grammar.specs.declared.fault.InputFault.TheVariants.{Grammar, OutOfMemory, Read}

@@ -1,9 +1,8 @@
-use Rattle.std.proofs.Common.{◌≡◌, ◌==◌, ◌||◌, ◌&&◌, ◌+◌, ◌*◌, ◌<◌, Bool, true, false, get_or, ap, ◌∙◌, sym, arith}
+use Rattle.std.proofs.Common.{◌≡◌, ◌==◌, ◌||◌, ◌&&◌, ◌+◌, ◌*◌, Bool, true, false, get_or, ap, ◌∙◌, sym, arith}
 use Rattle.std.specs.Prelude.{nat_lt}
 use Rattle.std.proofs.lemmas.Bool.{lt-ltb}
 use Rattle.sixel_picture.specs.Pictures.{register_of}
 use Rattle.sixel_encode.proofs.BitLemmas.{mark_added}
-use Rattle.sixel_encode.proofs.PartedLemmas.{parted, pixel_used}
 use Rattle.sixel_encode.proofs.columns.mark_pixel.Goals as goal
 
 pub returns-then-y-height : goal.returns-then-y-height
