@@ -24,10 +24,10 @@ use Rattle.sixel.specs.Outputs.{CheckGives, WroteBy, WroteNothing, status_of}
 use Rattle.sixel.specs.Texts.{Text, verdict_line}
 
 -- two verdicts on one document are the same
-pub same_verdict : (registers : ℕ) (bytes : List ℕ) (d e : List Placed) (v w : Verdict) → Document d bytes → Document e bytes
-    → IsVerdict registers d v → IsVerdict registers e w → v ≡ w
+pub same_verdict : (registers : ℕ) (bytes : List ℕ) (d e : List Placed) (v w : Verdict)
+    → Document d bytes → Document e bytes → IsVerdict registers d v → IsVerdict registers e w → v ≡ w
 same_verdict registers bytes d e v w p q a b =
-    verdict_once registers e v w (subst (λ (l : List Placed). IsVerdict registers l v) (document_once bytes d e p q) a) b
+    verdict_once _ e v w (subst (λ (l : List Placed). IsVerdict registers l v) (document_once bytes d e p q) a) b
 
 pub check-once : (registers : ℕ) (bytes : List ℕ) (first second : Text) (a b : Result Status RunFault)
     → CheckGives registers bytes first a → CheckGives registers bytes second b → (first ≡ second) × (a ≡ b)
@@ -56,7 +56,8 @@ check-once registers bytes first second (Err (Grammar f)) (Err OutOfMemory) g h 
 check-once registers bytes first second (Err (Grammar f)) (Err Read) g h = absurd h
 check-once registers bytes first second (Err (Grammar f)) (Err Write) g h = absurd h
 
-pub check-gives : (registers : ℕ) (bytes : List ℕ) → (text : Text) × (answer : Result Status RunFault) × CheckGives registers bytes text answer
+pub check-gives : (registers : ℕ) (bytes : List ℕ)
+    → (text : Text) × (answer : Result Status RunFault) × CheckGives registers bytes text answer
 check-gives registers bytes =
     elim (judged bytes) [
       | inl d ↦
@@ -68,13 +69,15 @@ check-gives registers bytes =
 -- ---- what is written
 
 -- the line of the verdict
-verdict_written : (registers : ℕ) (bytes : List ℕ) (v : Verdict) (had has : Option (List ℕ)) → CheckAnswers registers (Ok v) bytes
-    → Appends had has (verdict_line v) → WroteBy (CheckGives registers bytes) WroteNothing (Ok (status_of v)) had has
-verdict_written registers bytes v had has given put = (verdict_line v, (given.0, given.1, (v, given.2, refl, refl)), put)
+verdict_written : (registers : ℕ) (bytes : List ℕ) (v : Verdict) (had has : Option (List ℕ))
+    → CheckAnswers registers (Ok v) bytes → Appends had has (verdict_line v)
+    → WroteBy (CheckGives registers bytes) WroteNothing (Ok (status_of v)) had has
+verdict_written _ bytes v had has given put = (verdict_line v, (given.0, given.1, (v, given.2, refl, refl)), put)
 
 -- or a front of it
-verdict_unwritten : (registers : ℕ) (bytes : List ℕ) (v : Verdict) (had has : Option (List ℕ)) → CheckAnswers registers (Ok v) bytes
-    → (n : ℕ) × Appends had has (take n (verdict_line v)) → WroteBy (CheckGives registers bytes) WroteNothing (Err Write) had has
+verdict_unwritten : (registers : ℕ) (bytes : List ℕ) (v : Verdict) (had has : Option (List ℕ))
+    → CheckAnswers registers (Ok v) bytes → (n : ℕ) × Appends had has (take n (verdict_line v))
+    → WroteBy (CheckGives registers bytes) WroteNothing (Err Write) had has
 verdict_unwritten registers bytes v had has given put = (
   take put.0 (verdict_line v),
   put.1,
@@ -84,14 +87,14 @@ verdict_unwritten registers bytes v had has given put = (
       (drop put.0 (verdict_line v), same ∙ sym (take-append-drop put.0 (verdict_line v))),
 )
 
-pub checked_written : (registers : ℕ) (a : Option (List ℕ)) (v : Verdict) (had has : Option (List ℕ)) → IfSome a (CheckAnswers registers (Ok v))
-    → Appends had has (verdict_line v)
+pub checked_written : (registers : ℕ) (a : Option (List ℕ)) (v : Verdict) (had has : Option (List ℕ))
+    → IfSome a (CheckAnswers registers (Ok v)) → Appends had has (verdict_line v)
     → IfSome a (λ bytes. WroteBy (CheckGives registers bytes) WroteNothing (Ok (status_of v)) had has)
 checked_written registers None v had has given put = tt
 checked_written registers (Some bytes) v had has given put = verdict_written _ bytes v had has given put
 
-pub checked_unwritten : (registers : ℕ) (a : Option (List ℕ)) (v : Verdict) (had has : Option (List ℕ)) → IfSome a (CheckAnswers registers (Ok v))
-    → (n : ℕ) × Appends had has (take n (verdict_line v))
+pub checked_unwritten : (registers : ℕ) (a : Option (List ℕ)) (v : Verdict) (had has : Option (List ℕ))
+    → IfSome a (CheckAnswers registers (Ok v)) → (n : ℕ) × Appends had has (take n (verdict_line v))
     → IfSome a (λ bytes. WroteBy (CheckGives registers bytes) WroteNothing (Err Write) had has)
 checked_unwritten registers None v had has given put = tt
 checked_unwritten registers (Some bytes) v had has given put = verdict_unwritten _ bytes v had has given put

@@ -22,19 +22,21 @@ pub encode-once : (registers : ℕ) (bytes : List ℕ) (first second : Text) (a 
 encode-once registers bytes first second a b g h =
     let whole : (first, a) ≡ (second, b) = g ∙ sym h in (ap (λ p. p.0) whole, ap (λ p. p.1) whole)
 
-pub encode-gives : (registers : ℕ) (bytes : List ℕ) → (text : Text) × (answer : Result Status RunFault) × EncodeGives registers bytes text answer
+pub encode-gives : (registers : ℕ) (bytes : List ℕ)
+    → (text : Text) × (answer : Result Status RunFault) × EncodeGives registers bytes text answer
 encode-gives registers bytes =
     let output = encode_output (ppm_read registers bytes) in (output.0, output.1, refl)
 
 -- ---- what is written
 
-pub encoded : (registers : ℕ) (a : Option (List ℕ)) (p : PictureValue) (had has : Option (List ℕ)) → IfSome a (ReadsPpm registers (Ok p))
-    → Appends had has (canon_text p) → IfSome a (λ bytes. WroteBy (EncodeGives registers bytes) WroteNothing (Ok Done) had has)
+pub encoded : (registers : ℕ) (a : Option (List ℕ)) (p : PictureValue) (had has : Option (List ℕ))
+    → IfSome a (ReadsPpm registers (Ok p)) → Appends had has (canon_text p)
+    → IfSome a (λ bytes. WroteBy (EncodeGives registers bytes) WroteNothing (Ok Done) had has)
 encoded registers None p had has read put = tt
 encoded registers (Some bytes) p had has read put = (canon_text p, sym (ap encode_output read), put)
 
-pub unencoded : (registers : ℕ) (a : Option (List ℕ)) (p : PictureValue) (had has : Option (List ℕ)) → IfSome a (ReadsPpm registers (Ok p))
-    → (n : ℕ) × Appends had has (take n (canon_text p))
+pub unencoded : (registers : ℕ) (a : Option (List ℕ)) (p : PictureValue) (had has : Option (List ℕ))
+    → IfSome a (ReadsPpm registers (Ok p)) → (n : ℕ) × Appends had has (take n (canon_text p))
     → IfSome a (λ bytes. WroteBy (EncodeGives registers bytes) WroteNothing (Err Write) had has)
 unencoded registers None p had has read put = tt
 unencoded registers (Some bytes) p had has read put = (
@@ -45,7 +47,8 @@ unencoded registers (Some bytes) p had has read put = (
       (drop put.0 (canon_text p), same ∙ sym (take-append-drop put.0 (canon_text p))),
 )
 
-unread : (registers : ℕ) (bytes : List ℕ) (fault : PpmFault) (had : Option (List ℕ)) → ReadsPpm registers (Err fault) bytes
+unread : (registers : ℕ) (bytes : List ℕ) (fault : PpmFault) (had : Option (List ℕ))
+    → ReadsPpm registers (Err fault) bytes
     → WroteBy (EncodeGives registers bytes) WroteNothing (Err (of_ppm fault)) had had
 unread registers bytes (ppm.Format reason place) had read = ([], sym (ap encode_output read), Appends-none had)
 unread registers bytes ppm.OutOfMemory had read = Appends-none had
@@ -54,7 +57,8 @@ unread registers bytes ppm.NotRgb had read = absurd read
 unread registers bytes ppm.Write had read = absurd read
 
 -- nothing is written where no picture was read
-pub file_refused : (registers : ℕ) (a : Option (List ℕ)) (fault : PpmFault) (had : Option (List ℕ)) → IfSome a (ReadsPpm registers (Err fault))
+pub file_refused : (registers : ℕ) (a : Option (List ℕ)) (fault : PpmFault) (had : Option (List ℕ))
+    → IfSome a (ReadsPpm registers (Err fault))
     → IfSome a (λ bytes. WroteBy (EncodeGives registers bytes) WroteNothing (Err (of_ppm fault)) had had)
 file_refused registers None fault had read = tt
 file_refused registers (Some bytes) fault had read = unread _ bytes fault had read

@@ -47,11 +47,13 @@ record Refuses (bytes : List ℕ) (text : Text) (answer : Result Status RunFault
   nothing : text ≡ []
   is : IsFaultOf bytes fault
 
-either : (registers : ℕ) (bytes : List ℕ) (text : Text) (answer : Result Status RunFault) → RenderGives registers bytes text answer
+either : (registers : ℕ) (bytes : List ℕ) (text : Text) (answer : Result Status RunFault)
+    → RenderGives registers bytes text answer
     → Refuses bytes text answer ⊎ Renders registers bytes text answer
 either registers bytes text (Err (Grammar fault)) g =
     inl (record { fault = fault; answer_is = refl; nothing = g.0; is = g.1 })
-either registers bytes text (Ok s) g = inr (record { events = g.0; document = g.1; verdict = g.2.0; is = g.2.1; output = g.2.2 })
+either registers bytes text (Ok s) g =
+    inr (record { events = g.0; document = g.1; verdict = g.2.0; is = g.2.1; output = g.2.2 })
 either registers bytes text (Err (Ppm reason place)) g =
     inr (record { events = g.0; document = g.1; verdict = g.2.0; is = g.2.1; output = g.2.2 })
 either registers bytes text (Err NotRgb) g =
@@ -70,8 +72,8 @@ both_refuse bytes first second a b g h = (
   g.answer_is ∙ ap (λ (k : Fault). Err (Grammar k)) (fault_once bytes g.fault h.fault g.is h.is) ∙ sym h.answer_is,
 )
 
-both_render : (registers : ℕ) (bytes : List ℕ) (first second : Text) (a b : Result Status RunFault) → Renders registers bytes first a
-    → Renders registers bytes second b → (first ≡ second) × (a ≡ b)
+both_render : (registers : ℕ) (bytes : List ℕ) (first second : Text) (a b : Result Status RunFault)
+    → Renders registers bytes first a → Renders registers bytes second b → (first ≡ second) × (a ≡ b)
 both_render registers bytes first second a b g h =
     let same = same_verdict _ bytes g.events h.events g.verdict h.verdict g.document h.document g.is h.is in
     let whole : (first, a) ≡ (second, b) = g.output ∙ ap render_output same ∙ sym h.output in
@@ -95,19 +97,21 @@ render-once registers bytes first second a b g h = elim (either _ bytes first a 
 Gives : ℕ → List ℕ → Type 0
 Gives registers bytes = (text : Text) × (answer : Result Status RunFault) × RenderGives registers bytes text answer
 
-of_picture : (registers : ℕ) (bytes : List ℕ) (d : List Placed) (p : PictureValue) → Document d bytes → IsVerdict registers d (Portable p)
-    → (b : Bool) → are_rgb (colours_of p) ≡ b → Gives registers bytes
+of_picture : (registers : ℕ) (bytes : List ℕ) (d : List Placed) (p : PictureValue) → Document d bytes
+    → IsVerdict registers d (Portable p) → (b : Bool) → are_rgb (colours_of p) ≡ b → Gives registers bytes
 unfolding Gives
 of_picture registers bytes d p doc is true e =
     (ppm_text p.width p.height (colours_of p), Ok Done, (d, doc, (Portable p, is, rw e refl)))
 of_picture registers bytes d p doc is false e = ([], Err NotRgb, (d, doc, (Portable p, is, rw e refl)))
 
-of_verdict : (registers : ℕ) (bytes : List ℕ) (d : List Placed) (v : Verdict) → Document d bytes → IsVerdict registers d v → Gives registers bytes
+of_verdict : (registers : ℕ) (bytes : List ℕ) (d : List Placed) (v : Verdict) → Document d bytes
+    → IsVerdict registers d v → Gives registers bytes
 unfolding Gives
 of_verdict registers bytes d (Portable p) doc is = of_picture _ bytes d p doc is (are_rgb (colours_of p)) refl
 of_verdict registers bytes d (Broken f) doc is = ([], Ok (status.Broken f), (d, doc, (Broken f, is, refl)))
 
-pub render-gives : (registers : ℕ) (bytes : List ℕ) → (text : Text) × (answer : Result Status RunFault) × RenderGives registers bytes text answer
+pub render-gives : (registers : ℕ) (bytes : List ℕ)
+    → (text : Text) × (answer : Result Status RunFault) × RenderGives registers bytes text answer
 unfolding Gives
 render-gives registers bytes =
     elim (judged bytes) [

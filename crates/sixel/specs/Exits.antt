@@ -54,10 +54,10 @@ IsPut text taken failures =
     (Appends taken.0 taken.1 text × (failures.1 ≡ failures.0))
     ⊎ ((n : ℕ) × Appends taken.0 taken.1 (take n text) × (failures.1 ≡ one_more failures.0))
 
--- a run of the task had some answer. The source and the first sink are as after such a run, the program ends as after it,
--- and the second sink was put the line that is said of it
--- of each device stands here what it was before and after: the bytes that it tells, and its count of failures; and of the
--- first sink whether it is flushed in the end
+-- a run of the task had some answer. The source and the first sink are as after such a run, the program ends as after
+-- it, and the second sink was put the line that is said of it
+-- of each device stands here what it was before and after: the bytes that it tells, and its count of failures; and of
+-- the first sink whether it is flushed in the end
 pub record RunEnds (t : Task) (exit : Exit) (input : Option (List ℕ) × Option (List ℕ)) (reads : ℕ × ℕ)
     (output : Option (List ℕ) × Option (List ℕ)) (writes : ℕ × ℕ) (is_flushed : Bool)
     (errors : Option (List ℕ) × Option (List ℕ)) (complaints : ℕ × ℕ) : Type 0 where

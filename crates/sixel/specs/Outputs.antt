@@ -86,7 +86,8 @@ abbrev pub render_output : Verdict → Text × Result Status RunFault
 render_output (Portable picture) = picture_output picture
 render_output (Broken finding) = ([], Ok (status.Broken finding))
 
--- what is written of the verdict on a document, by so many registers; of other bytes their fault, and nothing is written
+-- what is written of the verdict on a document, by so many registers; of other bytes their fault, and nothing is
+-- written
 abbrev pub RenderGives : ℕ → List ℕ → Text → Result Status RunFault → Type 0
 RenderGives registers bytes text (Err (Grammar fault)) = (text ≡ []) × IsFaultOf bytes fault
 RenderGives registers bytes text answer =

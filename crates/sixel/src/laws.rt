@@ -27,9 +27,8 @@ pub fn tasks_give_one_output()
 {}
 
 /// The text that `encode` writes of any picture is a document whose verdict, in the picture's profile, is that picture,
-/// palette included, and
-/// which each terminal of the class with room shows. Whatever a check may answer for it is that this picture is
-/// portable, or want of memory, or that a read failed; and its line says so.
+/// palette included, and which each terminal of the class with room shows. Whatever a check may answer for it is that
+/// this picture is portable, or want of memory, or that a read failed; and its line says so.
 pub fn encoded_pictures_are_portable()
     ensures portable { (profile : Profile) → EncodedIsPortable (count_of profile) }
     ensures answered { (profile : Profile) → EncodedAnswers (count_of profile) }
@@ -42,8 +41,9 @@ pub fn the_word_list_gives_a_list()
     ensures task { (program : Text) → IsTaskOf (program ∷ codes "list" ∷ []) Listing }
 {}
 
-/// The one word `show` is taken, and shows as no flag asks, on a screen of 800 by 480 pixels.
+/// The one word `show` is taken, and shows as no flag asks, by 16 registers on a screen of 800 by 480 pixels.
 pub fn the_word_show_gives_a_show()
     ensures taken { (program : Text) → takes sixel_app (program ∷ codes "show" ∷ []) ≡ true }
-    ensures task { (program : Text) → IsTaskOf (program ∷ codes "show" ∷ []) (Show Registers16 false false false 800 480) }
+    ensures task { (program : Text) →
+        IsTaskOf (program ∷ codes "show" ∷ []) (Show Registers16 false false false 800 480) }
 {}

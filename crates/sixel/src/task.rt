@@ -9,8 +9,8 @@ pub enum Task {
     /// A line for each event of a sixel picture (DEC EK-VT3XX-GP, volume 2, the chapter on sixel graphics): its place
     /// in bytes, what it is, and its numbers.
     List,
-    /// A line with the verdict on a sixel picture, by the registers of the profile: `portable` and its size, or `broken`,
-    /// the first broken rule and its place.
+    /// A line with the verdict on a sixel picture, by the registers of the profile: `portable` and its size, or
+    /// `broken`, the first broken rule and its place.
     Check {
         profile: Profile,
     },
@@ -18,9 +18,9 @@ pub enum Task {
     Render {
         profile: Profile,
     },
-    /// The screen of one terminal after a sixel picture, written as a PPM of Netpbm. It has the registers of the profile:
-    /// of 16, register n starts as the grey of 6n percent, and of 256 as that of the rest of n by 101. The screen is
-    /// white, and the picture begins at its top left.
+    /// The screen of one terminal after a sixel picture, written as a PPM of Netpbm. It has the registers of the
+    /// profile: of 16, register n starts as the grey of 6n percent, and of 256 as that of the rest of n by 101. The
+    /// screen is white, and the picture begins at its top left.
     Show {
         profile: Profile,
         /// A pixel shows the colour that its register has at the end of the string, not at its painting.

@@ -11,9 +11,8 @@ ghost use Rattle.std.specs.String.{string_bytes};
 ghost use Rattle.sixel_terminal.specs.Limits.{most_screen_side};
 ghost use Rattle.sixel.specs.declared.task.Task.{Task as ATask};
 ghost use Rattle.sixel.specs.Outputs.{HasSides};
-ghost use Rattle.sixel.specs.Words.{HasSide, IsRefusal, IsSortedOut, IsTask, IsTaskOf, flag, is_given, profile_of, show_app};
-ghost use Rattle.sixel.specs.Words.{side, with_profile};
-ghost use Rattle.sixel.specs.Words.{sixel_app, with_plain};
+ghost use Rattle.sixel.specs.Words.{HasSide, IsRefusal, IsSortedOut, IsTask, IsTaskOf, flag, is_given, profile_of};
+ghost use Rattle.sixel.specs.Words.{show_app, side, sixel_app, with_plain, with_profile};
 
 use crate::task::Task;
 use clap::error::ErrorKind;

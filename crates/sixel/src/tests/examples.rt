@@ -1,4 +1,5 @@
-//! The strings of docs/RULES.md and of the small files of examples/. The script examples/run looks that each stands here.
+//! The strings of docs/RULES.md and of the small files of examples/. The script examples/run looks that each stands
+//! here.
 
 use super::ends;
 use crate::Exit;

@@ -116,8 +116,8 @@ fn all_memory(alloc: Global) -> Result<Option<Vec<Vec<u8>>>, AllocError> {
     Ok(Some(held))
 }
 
-/// Whether the call wants memory when none is left, and gives what it should once enough blocks are given back. The first
-/// calls, from here too, take the stack that the later ones need: it can't grow where no memory is left.
+/// Whether the call wants memory when none is left, and gives what it should once enough blocks are given back. The
+/// first calls, from here too, take the stack that the later ones need: it can't grow where no memory is left.
 fn waits_for_memory(alloc: Global, call: Call) -> Result<bool, AllocError> {
     for first in CALLS {
         if answer(alloc, first) != Some(true) {

@@ -165,8 +165,8 @@ fn a_standard_error_that_fails(rt: HostRuntime) {
     );
 }
 
-/// Whether a check is refused, where standard output has room for five bytes of its line, and standard error for so many
-/// of the fault's.
+/// Whether a check is refused, where standard output has room for five bytes of its line, and standard error for so
+/// many of the fault's.
 fn refuses_with(alloc: Global, room: usize, line: &[u8]) -> bool {
     let mut written = Vec::new(alloc);
     let mut said = Vec::new(alloc);

@@ -6,10 +6,20 @@ use Rattle.sixel.proofs.laws.the_word_show_gives_a_show.Goals as goal
 
 -- the defaults
 wide : IsSideText (codes "800") 800
-wide = record { numeral = (omega arith, (omega arith, (omega arith, (omega arith, tt)))); value = refl; least = omega arith; most = omega arith }
+wide = record {
+  numeral = (omega arith, (omega arith, (omega arith, (omega arith, tt))));
+  value = refl;
+  least = omega arith;
+  most = omega arith;
+}
 
 high : IsSideText (codes "480") 480
-high = record { numeral = (omega arith, (omega arith, (omega arith, (omega arith, tt)))); value = refl; least = omega arith; most = omega arith }
+high = record {
+  numeral = (omega arith, (omega arith, (omega arith, (omega arith, tt))));
+  value = refl;
+  least = omega arith;
+  most = omega arith;
+}
 
 pub returns-clause-taken : goal.returns-clause-taken
 unfolding walked walk_passes

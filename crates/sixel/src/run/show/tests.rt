@@ -116,8 +116,8 @@ fn starts_with_sixteen_greys(rt: HostRuntime) {
     );
 }
 
-/// Register 17 of 256 starts as 17 percent, and of 16 it is register 1. Register 100 starts as 100 percent, register 101
-/// as black again, register 255 as 255 - 2 * 101 percent, and register 256 is register 0.
+/// Register 17 of 256 starts as 17 percent, and of 16 it is register 1. Register 100 starts as 100 percent, register
+/// 101 as black again, register 255 as 255 - 2 * 101 percent, and register 256 is register 0.
 #[test]
 fn starts_with_greys_again_and_again(rt: HostRuntime) {
     let (narrow, wide) = (Profile::Registers16, Profile::Registers256);

@@ -296,8 +296,8 @@ fn stops_at_fill(alloc: Global, case: Case, piece: usize, fill: u64) -> bool
         && ran.sink.flushes == 1
 }
 
-/// How much is written where this take fails. The lines of a list that a piece completes leave by themselves, so its takes
-/// aren't all full.
+/// How much is written where this take fails. The lines of a list that a piece completes leave by themselves, so its
+/// takes aren't all full.
 fn is_front(case: Case, piece: usize, take: u64, written: usize) -> bool {
     let full = piece.saturating_mul(take as usize);
     (case.task == Task::List && piece > 1) || written == full.min(case.text.len())

@@ -5,13 +5,15 @@ use Rattle.sixel.proofs.run.check.check.Goals as goal
 pub returns-in-Ok-clause-wrote : goal.returns-in-Ok-clause-wrote
 returns-in-Ok-clause-wrote g c =
     rw c.status_of.ensures
-    (checked_written _ (g.S.Source.remaining c.args.input.now) c.in_ok-verdict.verdict (g.K.Sink.taken c.args.output.now)
-    (g.K.Sink.taken c.write_verdict.new.out) c.in_ok-verdict.ensures.answer c.in-Ok.ensures.bytes)
+    (checked_written _ (g.S.Source.remaining c.args.input.now) c.in_ok-verdict.verdict
+    (g.K.Sink.taken c.args.output.now) (g.K.Sink.taken c.write_verdict.new.out)
+    c.in_ok-verdict.ensures.answer c.in-Ok.ensures.bytes)
 
 pub returns-clause-wrote : goal.returns-clause-wrote
 returns-clause-wrote g c =
-    checked_unwritten _ (g.S.Source.remaining c.args.input.now) c.in_ok-verdict.verdict (g.K.Sink.taken c.args.output.now)
-    (g.K.Sink.taken c.write_verdict.new.out) c.in_ok-verdict.ensures.answer c.in-Err.ensures.bytes
+    checked_unwritten _ (g.S.Source.remaining c.args.input.now) c.in_ok-verdict.verdict
+    (g.K.Sink.taken c.args.output.now) (g.K.Sink.taken c.write_verdict.new.out)
+    c.in_ok-verdict.ensures.answer c.in-Err.ensures.bytes
 
 pub returns-in_err-verdict-clause-memory : goal.returns-in_err-verdict-clause-memory
 returns-in_err-verdict-clause-memory g c =
