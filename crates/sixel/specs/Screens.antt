@@ -1,5 +1,5 @@
 -- The terminal on which a picture is shown, and the picture file of its screen.
-use Rattle.std.specs.Prelude.{ℕ, ◌*◌, ◌%◌, Bool, true, List, map, replicate, if◌then◌else◌}
+use Rattle.std.specs.Prelude.{ℕ, ◌*◌, ◌%◌, Bool, true, false, List, map, replicate, if◌then◌else◌}
 use Rattle.std.specs.List.{range_with_len}
 use Rattle.sixel_grammar.specs.declared.command.Event.{Event}
 use Rattle.sixel_picture.specs.declared.colour.Parts.{Parts}
@@ -25,6 +25,8 @@ show_choices showing fill selects width height = let ground : Ground = if fill t
   selected = 0;
   zero = 1;
   clamps = true;
+  clips = false;
+  eight_bit = true;
   tall = 1;
   screen_width = width;
   screen_height = height;

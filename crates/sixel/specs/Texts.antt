@@ -118,6 +118,7 @@ rule_name rule.Undefined = codes "Undefined"
 rule_name rule.Redefined = codes "Redefined"
 rule_name rule.Outside = codes "Outside"
 rule_name rule.Uncovered = codes "Uncovered"
+rule_name rule.EightBit = codes "EightBit"
 
 -- the column and the row, where there is a pixel
 abbrev pub column_and_row : Option (ℕ × ℕ) → List Text

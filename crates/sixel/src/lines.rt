@@ -215,6 +215,7 @@ fn rule_name(rule: Rule) -> &'static str
         Rule::Redefined => "Redefined",
         Rule::Outside => "Outside",
         Rule::Uncovered => "Uncovered",
+        Rule::EightBit => "EightBit",
     }
 }
 

@@ -19,7 +19,8 @@ use Rattle.sixel_picture.proofs.PositionLemmas.{holds_within}
 use Rattle.sixel_picture.proofs.RuleLemmas.{no_more_rules}
 use Rattle.sixel_picture.specs.RuleNumbers.{raster_first_rule, raster_twice_rule, ratio_rule, box_size_rule}
 use Rattle.sixel_picture.specs.RuleNumbers.{register_rule, colour_value_rule, repeat_zero_rule, unselected_rule}
-use Rattle.sixel_picture.specs.RuleNumbers.{undefined_rule, redefined_rule, outside_rule, uncovered_rule, last_rule}
+use Rattle.sixel_picture.specs.RuleNumbers.{undefined_rule, redefined_rule, outside_rule, uncovered_rule}
+use Rattle.sixel_picture.specs.RuleNumbers.{eight_bit_rule, last_rule}
 use Rattle.sixel_check.specs.declared.rule.Rule.{Rule}
 use Rattle.sixel_check.specs.declared.rule.Rule.TheVariants.{Outside, Uncovered}
 use Rattle.sixel_check.specs.declared.verdict.Verdict.{Verdict}
@@ -126,7 +127,8 @@ rule_decided registers n before e =
     (decide_either (n == undefined_rule) _ _ (decide_true _)
     (decide_either (n == redefined_rule) _ _ (decide_true _)
     (decide_either (n == outside_rule) _ _ (outside_decided before e)
-    (decide_either (n == uncovered_rule) _ _ (uncovered_decided before e) (inr (λ none. none)))))))))))))
+    (decide_either (n == uncovered_rule) _ _ (uncovered_decided before e)
+    (decide_either (n == eight_bit_rule) _ _ (decide_true _) (inr (λ none. none))))))))))))))
 
 -- each number up to the last is a rule's
 rule_of : (n : ℕ) → 1 ≤ n → n ≤ last_rule → (r : Rule) × (number_of r ≡ n)

@@ -29,7 +29,7 @@ use Rattle.sixel_check.specs.Judging.{IsSheetAfter, IsUndrawn, StandsUnbroken}
 use Rattle.sixel_check.specs.Checking.{AreAfter}
 use Rattle.sixel_check.specs.Standing.{CheckerValue, StandsAfter}
 use Rattle.sixel_check.proofs.JudgeLemmas.{events_push}
-use Rattle.sixel_check.proofs.NoteLemmas.{keeps}
+use Rattle.sixel_check.proofs.NoteLemmas.{keeps, seven_bits}
 
 -- what a refusal says
 pub err_says : {A E : Type 0} (P : Type 0) (r : Result A E) → P → OnErr r P
@@ -49,7 +49,7 @@ pub judge_grows : {registers : ℕ} (notes : Notes) (sheet : Option Sheet) (befo
 judge_grows {registers} notes sheet before e is declares s none = record {
   declares = declares;
   first = (no_box sheet before is s.sheet_is).no_box;
-  unbroken = none_push registers last_rule before e s.unbroken (keeps before e none);
+  unbroken = none_push registers last_rule before e s.unbroken (keeps before e none) (seven_bits _ before e none);
 }
 
 -- where a map gives something, there is something

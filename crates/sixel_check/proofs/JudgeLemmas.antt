@@ -20,7 +20,7 @@ use Rattle.sixel_check.specs.Judging.{AreNotesAfter, IsSheetAfter, JudgesAfter, 
 use Rattle.sixel_check.specs.Verdicts.{IsFinding, IsPixel, number_of}
 use Rattle.sixel_check.proofs.DrawLemmas.{coloured_push}
 use Rattle.sixel_check.proofs.DrawnLemmas.{undrawn_empty}
-use Rattle.sixel_check.proofs.NoteLemmas.{keeps}
+use Rattle.sixel_check.proofs.NoteLemmas.{keeps, seven_bits}
 
 pub events_push : (seen : List Placed) (p : Placed) → events_of (seen ++ p ∷ []) ≡ events_of seen ++ p.event ∷ []
 events_push seen p = map-append (λ (q : Placed). q.event) seen (p ∷ [])
@@ -83,7 +83,8 @@ judge_goes_on {registers} notes next sheet drawn seen p s none a d =
     subst (StandsUnbroken registers next drawn) (sym (events_push seen p))
     (record {
       unbroken =
-          none_push registers last_rule (events_of seen) p.event s.unbroken (keeps (events_of seen) p.event none);
+          none_push registers last_rule (events_of seen) p.event s.unbroken (keeps (events_of seen) p.event none)
+          (seven_bits _ (events_of seen) p.event none);
       notes_are = a;
       sheet_is = d;
       coloured = coloured_push notes (events_of seen) p.event s.notes_are none s.coloured;

@@ -12,15 +12,17 @@ use Rattle.sixel_grammar.specs.declared.command.Event.{Event}
 use Rattle.sixel_grammar.specs.declared.command.Event.TheVariants.{Step}
 use Rattle.sixel_picture.specs.declared.colour.Parts.{Parts}
 use Rattle.sixel_picture.specs.Colours.{colour_in, is_colour}
-use Rattle.sixel_picture.specs.Events.{Definition, columns_of, definition_where, is_next_line, is_painting, is_return}
-use Rattle.sixel_picture.specs.Events.{named_by, select_of}
+use Rattle.sixel_picture.specs.Events.{Definition, columns_of, definition_where, is_eight_bit, is_next_line, is_painting}
+use Rattle.sixel_picture.specs.Events.{is_return, named_by, select_of}
 use Rattle.sixel_picture.specs.Geometry.{band, column}
 use Rattle.sixel_picture.specs.Positions.{latest, since, any_at, any_below}
-use Rattle.sixel_picture.specs.Rules.{breaks_colour_value, breaks_register, definition_of, gives_colour}
+use Rattle.sixel_picture.specs.Rules.{Breaks, breaks_colour_value, breaks_eight_bit, breaks_register, definition_of}
+use Rattle.sixel_picture.specs.Rules.{gives_colour}
+use Rattle.sixel_picture.specs.RuleNumbers.{eight_bit_rule}
 use Rattle.sixel_picture.specs.Rules.{is_painted_in, is_that, known, known_by, palette_left, colour_of}
 use Rattle.sixel_picture.proofs.LeftLemmas.{left_define, left_idle, left_start, length_left}
 use Rattle.sixel_picture.proofs.PositionLemmas.{latest_push}
-use Rattle.sixel_picture.proofs.RuleLemmas.{Keeps, none_keeps}
+use Rattle.sixel_picture.proofs.RuleLemmas.{Keeps, is_false, none_keeps}
 use Rattle.sixel_picture.proofs.StepLemmas.{band_push, column_push, definition_push, painted_in_push}
 use Rattle.sixel_check.specs.declared.notes.Notes.{Notes}
 use Rattle.sixel_check.specs.Breaches.{BreaksNoRule}
@@ -29,10 +31,16 @@ use Rattle.sixel_check.specs.Notes.{IsBelow, known_in, next_band, next_column, n
 use Rattle.sixel_check.specs.Notes.{next_palette, next_selected}
 use Rattle.sixel_check.specs.Verdicts.{capped}
 
--- an event that breaks none of the rules keeps each
+-- an event that breaks no rule keeps each of those on what is drawn
 pub keeps : {registers : ℕ} (before : List Event) (e : Event) → BreaksNoRule registers before e
     → Keeps registers before e
 keeps {registers} before e none = none_keeps registers before e (λ n le. none n (omega (arith, le)))
+
+-- and isn't of 8 bits
+pub seven_bits : (registers : ℕ) (before : List Event) (e : Event) → BreaksNoRule registers before e
+    → IsFalse (is_eight_bit e)
+unfolding Breaks breaks_eight_bit
+seven_bits registers before e none = is_false (is_eight_bit e) (none eight_bit_rule (omega arith))
 
 -- a column that stops at the greatest
 stopped : (b : Bool) (c w : ℕ) → cond b 0 (capped (capped c + w)) ≡ capped (cond b 0 (c + w))

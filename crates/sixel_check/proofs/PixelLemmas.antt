@@ -5,13 +5,14 @@ use Rattle.std.specs.Prelude.{is_some}
 use Rattle.std.specs.Option.{option_map}
 use Rattle.std.proofs.lemmas.Bool.{both_ways}
 use Rattle.sixel_grammar.specs.declared.command.Event.{Event}
-use Rattle.sixel_picture.specs.Events.{is_finish}
-use Rattle.sixel_picture.specs.Rules.{Breaks, BreaksOutside, BreaksUncovered, FallsOutside, StaysBlank, raster_before}
+use Rattle.sixel_picture.specs.Events.{is_eight_bit, is_finish}
+use Rattle.sixel_picture.specs.Rules.{Breaks, BreaksOutside, BreaksUncovered, FallsOutside, StaysBlank}
+use Rattle.sixel_picture.specs.Rules.{breaks_eight_bit, raster_before}
 use Rattle.sixel_picture.specs.Sheets.{Sheet}
-use Rattle.sixel_picture.specs.RuleNumbers.{outside_rule, uncovered_rule}
+use Rattle.sixel_picture.specs.RuleNumbers.{outside_rule, uncovered_rule, eight_bit_rule}
 use Rattle.sixel_check.specs.declared.notes.Notes.{Notes}
 use Rattle.sixel_check.specs.declared.rule.Rule.{Rule}
-use Rattle.sixel_check.specs.declared.rule.Rule.TheVariants.{Outside, Uncovered}
+use Rattle.sixel_check.specs.declared.rule.Rule.TheVariants.{Outside, Uncovered, EightBit}
 use Rattle.sixel_check.specs.Breaches.{IsBreach, BreaksNoRule, NoneBelow, rule_in}
 use Rattle.sixel_check.specs.Judging.{AreNotesAfter, IsDrawn, IsSheetAfter, box_of}
 use Rattle.sixel_check.specs.Outside.{IsFirstIfAny}
@@ -52,25 +53,36 @@ breach_uncovered before e s pixel end d none first = record {
 
 pub none_uncovered : (registers : ℕ) (before : List Event) (e : Event) (s : Sheet) → IsDrawn s before
     → NoneBelow registers uncovered_rule before e
-    → IsFirstIfAny (StaysBlank before (box_of s)) None → BreaksNoRule registers before e
+    → IsFirstIfAny (StaysBlank before (box_of s)) None → NoneBelow registers eight_bit_rule before e
 unfolding Breaks BreaksUncovered
 none_uncovered registers before e s d none first = none_more _ before e uncovered_rule none
     (λ broken. let point = rw d.box at broken.1 in first point.0 point.1 point.2)
 
 -- an event that isn't the end leaves nothing uncovered
 pub none_before_end : (registers : ℕ) (before : List Event) (e : Event) → is_finish e ≡ false
-    → NoneBelow registers uncovered_rule before e → BreaksNoRule registers before e
+    → NoneBelow registers uncovered_rule before e → NoneBelow registers eight_bit_rule before e
 unfolding Breaks BreaksUncovered
 none_before_end registers before e goes_on none = none_more _ before e uncovered_rule none
     (λ broken. both_ways (is_finish e) goes_on broken.0)
 
 -- without a box no pixel is looked at
 pub none_without_box : (registers : ℕ) (before : List Event) (e : Event) → raster_before before ≡ None
-    → NoneBelow registers outside_rule before e → BreaksNoRule registers before e
+    → NoneBelow registers outside_rule before e → NoneBelow registers eight_bit_rule before e
 unfolding Breaks BreaksOutside BreaksUncovered
 none_without_box registers before e is none =
     none_more _ before e uncovered_rule (none_more _ before e outside_rule none (λ broken. rw is at broken))
     (λ broken. rw is at broken.1)
+
+pub breach_eight_bit : {registers : ℕ} (before : List Event) (e : Event) → is_eight_bit e ≡ true
+    → NoneBelow registers eight_bit_rule before e → IsBreach registers before e (record { rule = EightBit; pixel = None })
+unfolding Breaks breaks_eight_bit
+breach_eight_bit before e eight none = record { broken = eight; none_smaller = none; pixel = refl }
+
+pub none_eight_bit : (registers : ℕ) (before : List Event) (e : Event) → is_eight_bit e ≡ false
+    → NoneBelow registers eight_bit_rule before e → BreaksNoRule registers before e
+unfolding Breaks breaks_eight_bit
+none_eight_bit registers before e seven none = none_more _ before e eight_bit_rule none
+    (λ broken. both_ways (is_eight_bit e) seven broken)
 
 -- there is a sheet exactly where there is a box
 pub box_there : (sheet : Option Sheet) (before : List Event) → IsSheetAfter sheet before

@@ -12,11 +12,11 @@ use Rattle.sixel_picture.specs.Rules.{is_before, raster_before}
 use Rattle.sixel_picture.proofs.RuleLemmas.{nowhere}
 use Rattle.sixel_picture.specs.RuleNumbers.{raster_first_rule, raster_twice_rule, ratio_rule, box_size_rule}
 use Rattle.sixel_picture.specs.RuleNumbers.{register_rule, colour_value_rule, repeat_zero_rule, unselected_rule}
-use Rattle.sixel_picture.specs.RuleNumbers.{undefined_rule, redefined_rule, outside_rule}
+use Rattle.sixel_picture.specs.RuleNumbers.{undefined_rule, redefined_rule, outside_rule, uncovered_rule}
 use Rattle.sixel_check.specs.declared.rule.Rule.{Rule}
 use Rattle.sixel_check.specs.declared.rule.Rule.TheVariants.{RasterFirst, RasterTwice, Ratio, BoxSize, Register}
 use Rattle.sixel_check.specs.declared.rule.Rule.TheVariants.{ColourValue, RepeatZero, Unselected, Undefined, Redefined}
-use Rattle.sixel_check.specs.declared.rule.Rule.TheVariants.{Outside, Uncovered}
+use Rattle.sixel_check.specs.declared.rule.Rule.TheVariants.{Outside, Uncovered, EightBit}
 use Rattle.sixel_check.specs.declared.verdict.Finding.{Finding}
 use Rattle.sixel_check.specs.declared.verdict.Verdict.{Verdict}
 use Rattle.sixel_check.specs.declared.verdict.Verdict.TheVariants.{Portable, Broken}
@@ -39,7 +39,8 @@ numbered n =
     else if n == undefined_rule then Undefined
     else if n == redefined_rule then Redefined
     else if n == outside_rule then Outside
-    else Uncovered
+    else if n == uncovered_rule then Uncovered
+    else EightBit
 
 numbered_is : (r : Rule) → numbered (number_of r) ≡ r
 numbered_is RasterFirst = refl

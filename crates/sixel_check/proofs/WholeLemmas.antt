@@ -19,6 +19,7 @@ use Rattle.sixel_picture.specs.Sheets.{IsFull, Sheet, first_blank}
 use Rattle.sixel_picture.proofs.LeftLemmas.{left_at}
 use Rattle.sixel_picture.specs.RuleNumbers.{last_rule}
 use Rattle.sixel_check.specs.Judging.{AreColoured, AreNotesAfter, IsDrawn, IsGood, box_of}
+use Rattle.sixel_picture.proofs.RuleLemmas.{none_drawn}
 use Rattle.sixel_check.specs.Outside.{IsFirstIfAny}
 use Rattle.sixel_check.specs.declared.notes.Notes.{Notes}
 use Rattle.sixel_check.proofs.BlankLemmas.{first_blank_drawn, length_drawn, register_there}
@@ -36,7 +37,8 @@ full_sheet registers s events whole none d = split (first_blank s) (first_blank_
     split (Some pixel) first =
         let point : StaysBlank events (box_of s) first.0 first.1 = (first.2).holds in
         absurd (both_ways (is_covered events first.0 first.1) point.blank
-        (all_covered registers events (box_of s) first.0 first.1 whole none d.box point.inside))
+        (all_covered registers events (box_of s) first.0 first.1 whole (none_drawn registers events none) d.box
+        point.inside))
 
 -- ---- the picture has all its parts
 

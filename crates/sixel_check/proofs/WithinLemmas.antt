@@ -1,7 +1,7 @@
 -- On what is painted, where no rule is broken: all of it lies in the box.
-use Rattle.std.proofs.Common.{◌≡◌, ◌<◌, ◌≤◌, ◌+◌, ◌-◌, ℕ, Bool, true, false, ◌&&◌, cond, not, Option, Some, None, List}
-use Rattle.std.proofs.Common.{take, refl, sym, ap, ◌∙◌, arith}
-use Rattle.std.specs.Prelude.{nat_le, nat_lt, slice_get, IfSome, IsFalse, IsSome, IsTrue}
+use Rattle.std.proofs.Common.{◌≡◌, ◌<◌, ◌≤◌, ◌+◌, ◌-◌, ℕ, Bool, true, false, ◌&&◌, ◌||◌, cond, not, Option, Some, None}
+use Rattle.std.proofs.Common.{List, take, refl, sym, ap, ◌∙◌, arith}
+use Rattle.std.specs.Prelude.{nat_le, nat_lt, slice_get, IfSome, IsFalse, IsSome, IsTrue, if◌then◌else◌}
 use Rattle.std.specs.Bool.{then_some}
 use Rattle.std.specs.Option.{option_and_then, option_map_or}
 use Rattle.std.proofs.lemmas.Bool.{and_parts, leb-true, ltb-true, not-false, true_from_ne_false}
@@ -14,14 +14,15 @@ use Rattle.sixel_picture.specs.Rules.{BreaksNone, BreaksOutside, breaks_ratio, b
 use Rattle.sixel_picture.proofs.FirstLemmas.{earliest_all, earliest_there}
 use Rattle.sixel_picture.proofs.LatestLemmas.{each_from_positions}
 use Rattle.sixel_picture.proofs.RuleLemmas.{Keeps, keeps_at}
-use Rattle.sixel_picture.specs.RuleNumbers.{last_rule}
+use Rattle.sixel_picture.specs.RuleNumbers.{uncovered_rule}
 use Rattle.sixel_terminal.specs.declared.choices.Ground.{Ground}
 use Rattle.sixel_terminal.specs.declared.choices.Ground.TheVariants.{Kept, Filled}
-use Rattle.sixel_terminal.specs.Displays.{Display}
-use Rattle.sixel_terminal.specs.Drawing.{IsPainted, filled_on, paint_at, paints_on, selected_on, touches_on}
+use Rattle.sixel_terminal.specs.Displays.{Display, clipping}
+use Rattle.sixel_terminal.specs.Drawing.{IsPainted, filled_on, height_of, is_kept_on, is_seen_on, paint_at, paints_on}
+use Rattle.sixel_terminal.specs.Drawing.{selected_on, touches_on}
 use Rattle.sixel_terminal.specs.Laws.{IsPlain}
 use Rattle.sixel_terminal.proofs.PlainLemmas.{same_points_on_each}
-use Rattle.sixel_check.specs.Laws.{NonePaintedOutside}
+use Rattle.sixel_check.specs.Laws.{ClippingChangesNothing, NonePaintedOutside}
 use Rattle.sixel_check.proofs.CoverLemmas.{box_at_data, one_box}
 use Rattle.sixel_check.proofs.DrawnLemmas.{no_data_bits}
 use Rattle.sixel_check.proofs.OptionLemmas.{none_from, same_value, some_value}
@@ -48,7 +49,7 @@ square_if : (o : Option Attributes) → option_map_or (λ a. not (is_square a)) 
 square_if None h = tt
 square_if (Some a) h = not-false _ h
 
-pub plain : (n : ℕ) (events : List Event) → BreaksNone n last_rule events → IsPlain events
+pub plain : (n : ℕ) (events : List Event) → BreaksNone n uncovered_rule events → IsPlain events
 unfolding breaks_ratio breaks_repeat_zero
 plain n events none = record {
   no_repeat_of_zero = each_from_positions (λ e. IsFalse (is_repeat_of_zero e)) events
@@ -80,7 +81,7 @@ inside_box before e a x y k box fell =
 
 -- what a data command paints on a terminal lies in the box
 data_inside : (n : ℕ) (t : Display) (events : List Event) (a : Attributes) (i : ℕ) (e : Event) (x y : ℕ)
-    → BreaksNone n last_rule events → raster_before events ≡ Some a → slice_get events i ≡ Some e
+    → BreaksNone n uncovered_rule events → raster_before events ≡ Some a → slice_get events i ≡ Some e
     → touches_on t (take i events) e x y ≡ true → is_in_box a x y ≡ true
 unfolding touches_on
 data_inside n t events a i e x y none box here touched =
@@ -94,13 +95,37 @@ data_inside n t events a i e x y none box here touched =
     = sym (same_points_on_each t events i e x y (plain n events none) here there) ∙ touched in
     inside_box (take i events) e a x y k.outside at fell
 
+pub either_true : (b : Bool) → (b || true) ≡ true
+either_true true = refl
+either_true false = refl
+
+-- a point of the box before is cut off on no terminal
+kept_inside : (t : Display) (before : List Event) (a : Attributes) (x y : ℕ) → raster_before before ≡ Some a
+    → is_in_box a x y ≡ true → is_kept_on t before x y ≡ true
+unfolding is_kept_on
+kept_inside t before a x y box inside = rw (box, inside) (either_true (not t.choices.clips))
+
+-- what a data command touches on a terminal is cut off on none
+pub data_kept : (n : ℕ) (t u : Display) (events : List Event) (i : ℕ) (e : Event) (x y : ℕ)
+    → BreaksNone n uncovered_rule events → slice_get events i ≡ Some e → touches_on t (take i events) e x y ≡ true
+    → is_kept_on u (take i events) x y ≡ true
+unfolding touches_on
+data_kept n t u events i e x y none here touched =
+    let k : Keeps n (take i events) e = keeps_at n events none i e here in
+    let there : IsSome (raster_before (take i events))
+    = box_at_data n (take i events) e k (touches_data _ _ (take i events) e x y touched) in
+    let b : (b : Attributes) × (raster_before (take i events) ≡ Some b) = some_value _ there in
+    let fell : falls (take i events) e x y ≡ true
+    = sym (same_points_on_each t events i e x y (plain n events none) here there) ∙ touched in
+    kept_inside u (take i events) (b.0) x y (b.1) (inside_box (take i events) e (b.0) x y k.outside (b.1) fell)
+
 inside_if : (r : ℕ) (b : Bool) → IsSome (then_some b r) → b ≡ true
 inside_if r true s = refl
 inside_if r false s = cc
 
 -- what a ground fills lies in the box
 filled_inside : (n : ℕ) (ground : Ground) (events : List Event) (a : Attributes) (i : ℕ) (e : Event) (x y : ℕ)
-    → BreaksNone n last_rule events → raster_before events ≡ Some a → slice_get events i ≡ Some e
+    → BreaksNone n uncovered_rule events → raster_before events ≡ Some a → slice_get events i ≡ Some e
     → IsSome (filled_on ground e x y) → is_in_box a x y ≡ true
 filled_inside n Kept events a i e x y none box here f = cc
 filled_inside n (Filled r) events a i e x y none box here f = of_attributes (raster_of e) refl f
@@ -116,21 +141,27 @@ filled_inside n (Filled r) events a i e x y none box here f = of_attributes (ras
         rw (← same) (inside_if r _ s)
 
 paint_inside : (n : ℕ) (t : Display) (events : List Event) (a : Attributes) (i : ℕ) (e : Event) (x y : ℕ)
-    → BreaksNone n last_rule events → raster_before events ≡ Some a → slice_get events i ≡ Some e
+    → BreaksNone n uncovered_rule events → raster_before events ≡ Some a → slice_get events i ≡ Some e
     → IsSome (paint_at t (take i events) e x y) → is_in_box a x y ≡ true
-paint_inside n t events a i e x y none box here p = split (touches_on t (take i events) e x y) refl p
+paint_inside n t events a i e x y none box here p =
+    split (touches_on t (take i events) e x y && is_kept_on t (take i events) x y) refl p
   where
-    split : (b : Bool) → touches_on t (take i events) e x y ≡ b
+    split : (b : Bool) → (touches_on t (take i events) e x y && is_kept_on t (take i events) x y) ≡ b
         → IsSome (cond b (Some (selected_on t (take i events))) (filled_on t.choices.ground e x y))
         → is_in_box a x y ≡ true
-    split true touched s = data_inside n t events a i e x y none box here touched
+    split true both s = data_inside n t events a i e x y none box here
+        (and_parts (touches_on t (take i events) e x y) (is_kept_on t (take i events) x y) both).0
     split false touched s = filled_inside n t.choices.ground events a i e x y none box here s
+
+if_seen : {A : Type 0} (b : Bool) (o : Option A) → IsSome (if b then o else None) → IsSome o
+if_seen true o h = h
+if_seen false o h = cc
 
 pub none_painted_outside : (n : ℕ) → NonePaintedOutside n
 unfolding IsPainted paints_on
 none_painted_outside n t events a x y none box out painted =
     let at : HoldsAtPosition _ events (painted.0) = painted.1 in
-    split (nat_le t.choices.origin_x x && nat_le t.choices.origin_y y) refl at.holds
+    split (nat_le t.choices.origin_x x && nat_le t.choices.origin_y y) refl (if_seen (is_seen_on t events) _ at.holds)
   where
     split : (b : Bool) → (nat_le t.choices.origin_x x && nat_le t.choices.origin_y y) ≡ b
         → IsSome (cond b (paint_at t (take (painted.0) events) (painted.1).item
@@ -147,3 +178,28 @@ none_painted_outside n t events a x y none box out painted =
         let right : x - t.choices.origin_x < a.width = ltb-true _ _ to.0 in
         let bottom : y - t.choices.origin_y < a.height = ltb-true _ _ to.1 in
         out (record { left = across; top = down; right = omega arith; bottom = omega arith })
+
+-- ---- terminals that clip
+
+paints_same : (touched kept : Bool) (r f : Option ℕ) → (touched ≡ true → kept ≡ true)
+    → (if touched && kept then r else f) ≡ (if touched && true then r else f)
+paints_same true true r f h = refl
+paints_same true false r f h = let no : false ≡ true = h refl in cc
+paints_same false kept r f h = refl
+
+paint_same : (n : ℕ) (t : Display) (events : List Event) (i : ℕ) (e : Event) (x y : ℕ)
+    → BreaksNone n uncovered_rule events → slice_get events i ≡ Some e
+    → paint_at (clipping true t) (take i events) e x y ≡ paint_at (clipping false t) (take i events) e x y
+unfolding touches_on height_of selected_on is_kept_on
+paint_same n t events i e x y none here =
+    paints_same (touches_on t (take i events) e x y) (is_kept_on (clipping true t) (take i events) x y)
+    (Some (selected_on t (take i events))) (filled_on t.choices.ground e x y)
+    (data_kept n t (clipping true t) events i e x y none here)
+
+pub clipping_changes_nothing : (n : ℕ) → ClippingChangesNothing n
+unfolding is_seen_on paints_on
+clipping_changes_nothing n t events i e x y none here =
+    ap (λ (o : Option ℕ). if is_seen_on t events
+    then if nat_le t.choices.origin_x x && nat_le t.choices.origin_y y then o else None
+    else None)
+    (paint_same n t events i e (x - t.choices.origin_x) (y - t.choices.origin_y) none here)

@@ -1,5 +1,5 @@
 -- What the laws say.
-use Rattle.std.specs.Prelude.{◌≡◌, ◌<◌, ◌≤◌, ◌++◌, ℕ, false, Some, None, IsTrue, List, [], ◌∷◌, slice_get, take}
+use Rattle.std.specs.Prelude.{◌≡◌, ◌<◌, ◌≤◌, ◌++◌, ℕ, true, false, Some, None, IsTrue, List, [], ◌∷◌, slice_get, take}
 use Rattle.sixel_grammar.specs.declared.command.Command.TheVariants.{Sixel, Raster, Select, Define}
 use Rattle.sixel_grammar.specs.declared.command.Event.{Event}
 use Rattle.sixel_grammar.specs.declared.command.Event.TheVariants.{Start, Step, Finish}
@@ -10,9 +10,9 @@ use Rattle.sixel_picture.specs.Colours.{palette_at}
 use Rattle.sixel_picture.specs.Events.{Attributes, is_data_command, is_in_box, is_painting, raster_of}
 use Rattle.sixel_picture.specs.Pictures.{PictureValue}
 use Rattle.sixel_picture.specs.Rules.{BreaksNone, is_covered, known, picture_left, raster_before}
-use Rattle.sixel_picture.specs.RuleNumbers.{last_rule}
-use Rattle.sixel_terminal.specs.Displays.{Display, registers_of}
-use Rattle.sixel_terminal.specs.Drawing.{IsPainted, map_on}
+use Rattle.sixel_picture.specs.RuleNumbers.{uncovered_rule, last_rule}
+use Rattle.sixel_terminal.specs.Displays.{Display, clipping, registers_of}
+use Rattle.sixel_terminal.specs.Drawing.{IsPainted, map_on, paints_in}
 use Rattle.sixel_check.specs.declared.verdict.Verdict.{Verdict}
 use Rattle.sixel_check.specs.declared.verdict.Verdict.TheVariants.{Portable}
 use Rattle.sixel_check.specs.Growth.{MayGrowAmong}
@@ -24,31 +24,41 @@ pub record HasColourLeft (registers : ℕ) (t : Display) (events : List Event) (
   pub at_painting : palette_at (picture_left registers events).palette r ≡ Some (map_on t (take i events) r)
   pub at_showing : palette_at (picture_left registers events).palette r ≡ Some (map_on t events r)
 
--- where no rule is broken, the register in which a command paints has the colour that is left, at the painting and at
--- the end, on each terminal with enough registers
+-- the rules on what is drawn are those up to `Uncovered`
+
+-- where none of these is broken, the register in which a command paints has the colour that is left, at the painting and
+-- at the end, on each terminal with enough registers
 abbrev pub PaintedColourIsLeft : ℕ → Type 0
 PaintedColourIsLeft registers =
     (t : Display) (events : List Event) (i : ℕ) (e : Event) (r : ℕ) → registers ≤ registers_of t
-    → BreaksNone registers last_rule events → slice_get events i ≡ Some e → IsTrue (is_painting e)
+    → BreaksNone registers uncovered_rule events → slice_get events i ≡ Some e → IsTrue (is_painting e)
     → known (take i events) ≡ Some r → HasColourLeft registers t events i r
 
--- where no rule is broken, no raster attributes stand after a data command
+-- where none of these is broken, no raster attributes stand after a data command
 abbrev pub FilledFirst : ℕ → Type 0
 FilledFirst registers =
-    (events : List Event) (i j : ℕ) (d e : Event) → BreaksNone registers last_rule events → i < j
+    (events : List Event) (i j : ℕ) (d e : Event) → BreaksNone registers uncovered_rule events → i < j
     → slice_get events i ≡ Some d → IsTrue (is_data_command d) → slice_get events j ≡ Some e → raster_of e ≡ None
 
--- where no rule is broken in a whole list, some event paints each pixel of the box
+-- where none of these is broken in a whole list, some event paints each pixel of the box
 abbrev pub AllCovered : ℕ → Type 0
 AllCovered registers =
-    (events : List Event) (a : Attributes) (x y : ℕ) → AreWhole events → BreaksNone registers last_rule events
+    (events : List Event) (a : Attributes) (x y : ℕ) → AreWhole events → BreaksNone registers uncovered_rule events
     → raster_before events ≡ Some a → IsTrue (is_in_box a x y) → IsTrue (is_covered events x y)
 
--- where no rule is broken, no event paints a pixel outside the box, on any terminal
+-- where none of these is broken, no event paints a pixel outside the box, on any terminal
 abbrev pub NonePaintedOutside : ℕ → Type 0
 NonePaintedOutside registers =
-    (t : Display) (events : List Event) (a : Attributes) (x y : ℕ) → BreaksNone registers last_rule events
+    (t : Display) (events : List Event) (a : Attributes) (x y : ℕ) → BreaksNone registers uncovered_rule events
     → raster_before events ≡ Some a → ¬ IsInBoxOn t a.width a.height x y → ¬ IsPainted t events x y
+
+-- where none of these is broken, clipping changes nothing: each event paints the same pixels, in the same registers
+abbrev pub ClippingChangesNothing : ℕ → Type 0
+ClippingChangesNothing registers =
+    (t : Display) (events : List Event) (i : ℕ) (e : Event) (x y : ℕ) → BreaksNone registers uncovered_rule events
+    → slice_get events i ≡ Some e
+    → paints_in (clipping true t) events (take i events) e x y
+    ≡ paints_in (clipping false t) events (take i events) e x y
 
 -- where no rule is broken in a whole list, the picture that is left is portable
 abbrev pub LeftIsPortable : ℕ → Type 0

@@ -9,11 +9,12 @@ use Rattle.sixel_picture.specs.Rules.{BreaksNone, FallsOutside, IsFirstBroken, I
 use Rattle.sixel_picture.specs.Rules.{raster_before}
 use Rattle.sixel_picture.specs.RuleNumbers.{raster_first_rule, raster_twice_rule, ratio_rule, box_size_rule}
 use Rattle.sixel_picture.specs.RuleNumbers.{register_rule, colour_value_rule, repeat_zero_rule, unselected_rule}
-use Rattle.sixel_picture.specs.RuleNumbers.{undefined_rule, redefined_rule, outside_rule, uncovered_rule, last_rule}
+use Rattle.sixel_picture.specs.RuleNumbers.{undefined_rule, redefined_rule, outside_rule, uncovered_rule}
+use Rattle.sixel_picture.specs.RuleNumbers.{eight_bit_rule, last_rule}
 use Rattle.sixel_check.specs.declared.rule.Rule.{Rule}
 use Rattle.sixel_check.specs.declared.rule.Rule.TheVariants.{RasterFirst, RasterTwice, Ratio, BoxSize, Register}
 use Rattle.sixel_check.specs.declared.rule.Rule.TheVariants.{ColourValue, RepeatZero, Unselected, Undefined, Redefined}
-use Rattle.sixel_check.specs.declared.rule.Rule.TheVariants.{Outside, Uncovered}
+use Rattle.sixel_check.specs.declared.rule.Rule.TheVariants.{Outside, Uncovered, EightBit}
 use Rattle.sixel_check.specs.declared.verdict.Finding.{Finding}
 use Rattle.sixel_check.specs.declared.verdict.Verdict.{Verdict}
 use Rattle.sixel_check.specs.declared.verdict.Verdict.TheVariants.{Portable, Broken}
@@ -31,6 +32,7 @@ number_of Undefined = undefined_rule
 number_of Redefined = redefined_rule
 number_of Outside = outside_rule
 number_of Uncovered = uncovered_rule
+number_of EightBit = eight_bit_rule
 
 -- the number, or the largest of 64 bits
 abbrev pub capped : ℕ → ℕ

@@ -78,6 +78,16 @@ pub(crate) fn is_finish(event: &Event) -> bool
     matches!(event, Event::Finish { .. })
 }
 
+/// Whether it is a start or a finish by a control of 8 bits.
+pub(crate) fn is_eight_bit(event: &Event) -> bool
+    ensures { result ≡ said.is_eight_bit event.now }
+{
+    matches!(
+        event,
+        Event::Start { eight: true, .. } | Event::Finish { eight: true }
+    )
+}
+
 /// The register that a select names.
 pub(crate) fn select_of(event: &Event) -> Option<u16>
     ensures { result ≡ said.select_of event.now }

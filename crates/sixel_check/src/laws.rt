@@ -1,23 +1,24 @@
 //! Laws about the definitions, for pictures of each profile. Each function's contract is the law.
 
-ghost use Rattle.sixel_check.specs.Laws.{AllCovered, FilledFirst, GrowthStays, LeftIsPortable, NonePaintedOutside};
-ghost use Rattle.sixel_check.specs.Laws.{OnePixelBreaksNone, OneVerdict, PaintedColourIsLeft, SomeVerdict};
-ghost use Rattle.sixel_check.specs.Laws.{VerdictIsLeft};
+ghost use Rattle.sixel_check.specs.Laws.{AllCovered, ClippingChangesNothing, FilledFirst, GrowthStays, LeftIsPortable};
+ghost use Rattle.sixel_check.specs.Laws.{NonePaintedOutside, OnePixelBreaksNone, OneVerdict, PaintedColourIsLeft};
+ghost use Rattle.sixel_check.specs.Laws.{SomeVerdict, VerdictIsLeft};
 ghost use Rattle.sixel_picture.specs.Profiles.{count_of};
 ghost use Rattle.sixel_picture.specs.declared.profile.Profile.{Profile};
 
-/// Where no rule is broken, the register in which a command paints has the colour that is left, at the painting and
-/// at the end, on each terminal with as many registers as the profile, or more.
+/// Where no rule but `EightBit` is broken, the register in which a command paints has the colour that is left, at the
+/// painting and at the end, on each terminal with as many registers as the profile, or more.
 pub fn painted_colour_is_left()
     ensures { (profile : Profile) → PaintedColourIsLeft (count_of profile) }
 {}
 
-/// Where no rule is broken in a whole list, no raster attributes stand after a data command, some event paints each
-/// pixel of the box, and none paints a pixel outside it on any terminal.
+/// Where no rule but `EightBit` is broken in a whole list, no raster attributes stand after a data command, some event
+/// paints each pixel of the box, none paints a pixel outside it on any terminal, and clipping changes nothing.
 pub fn box_is_covered()
     ensures filled_first { (profile : Profile) → FilledFirst (count_of profile) }
     ensures all_covered { (profile : Profile) → AllCovered (count_of profile) }
     ensures none_outside { (profile : Profile) → NonePaintedOutside (count_of profile) }
+    ensures none_clipped { (profile : Profile) → ClippingChangesNothing (count_of profile) }
 {}
 
 /// Where no rule is broken in a whole list, each terminal of the class with room shows the picture that is left, and

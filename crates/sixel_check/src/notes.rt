@@ -3,7 +3,7 @@
 ghost use Rattle.std.specs.Prelude.{◌≡◌, ◌<◌, ◌++◌, ◌∷◌, [], ℕ, List, IfSome, length, replicate, None, false};
 ghost use Rattle.sixel_grammar.specs.declared.command.Event.{Event as EventValue};
 ghost use Rattle.sixel_picture.specs.Profiles.{count_of};
-ghost use Rattle.sixel_check.specs.Breaches.{NoneBelow};
+ghost use Rattle.sixel_check.specs.Breaches.{BreaksNoRule};
 
 use crate::colours::colour_in;
 use crate::events::{columns_of, is_next_line, is_painting, is_return, named_by, select_of};
@@ -146,7 +146,7 @@ impl Notes {
     pub(crate) fn take(&mut self, event: &Event)
         requires { IsBelow self.old }
         ensures { (registers : ℕ) (before : List EventValue) → AreNotesAfter registers self.old before
-            → NoneBelow registers 13 before event.now → AreNotesAfter registers self.new (before ++ event.now ∷ []) }
+            → BreaksNoRule registers before event.now → AreNotesAfter registers self.new (before ++ event.now ∷ []) }
     {
         self.mark(event);
         self.move_on(event);

@@ -8,13 +8,13 @@ ghost use Rattle.sixel_grammar.specs.Spelling.{IsSpellable};
 ghost use Rattle.sixel_picture.specs.Events.{raster_of};
 ghost use Rattle.sixel_picture.specs.Rules.{FallsOutside, StaysBlank, palette_left, picture_left};
 ghost use Rattle.sixel_picture.specs.Sheets.{IsFull};
-ghost use Rattle.sixel_check.specs.Breaches.{IsBreachOf, NoneBelow};
+ghost use Rattle.sixel_check.specs.Breaches.{BreaksNoRule, IsBreachOf, NoneBelow};
 ghost use Rattle.sixel_check.specs.Judging.{AreNotesAfter, IsDrawn, IsSheetAfter, IsUndrawn, StandsUnbroken, box_of};
 ghost use Rattle.sixel_check.specs.Outside.{IsFirstIfAny};
 ghost use Rattle.sixel_check.specs.Notes.{IsBelow};
 
 use crate::breach::Breach;
-use crate::events::{bits_of, columns_of, is_finish, is_painting, sides_of};
+use crate::events::{bits_of, columns_of, is_eight_bit, is_finish, is_painting, sides_of};
 use crate::notes::Notes;
 use crate::outside::outside_pixel;
 use crate::rule::Rule;
@@ -50,24 +50,39 @@ fn pixel_blank<P: Plane>(plane: &P) -> Option<(u64, u64)>
     }
 }
 
-/// The breach of an end that leaves a pixel of the box blank.
+/// The breach of a control of 8 bits, which is looked at last.
+fn breach_of_eight_bit(event: &Event) -> Option<Breach>
+    ensures { (registers : ℕ) (before : List EventValue) → NoneBelow registers 13 before event.now
+        → IsBreachOf registers before event.now result }
+{
+    if is_eight_bit(event) {
+        Some(Breach {
+            rule: Rule::EightBit,
+            pixel: None,
+        })
+    } else {
+        None
+    }
+}
+
+/// The breach of an end that leaves a pixel of the box blank, or of a control of 8 bits.
 fn breach_of_end<P: Plane>(plane: &P, event: &Event) -> Option<Breach>
     ensures { (registers : ℕ) (before : List EventValue) → IsDrawn (P.sheet plane.now) before
         → NoneBelow registers 12 before event.now → IsBreachOf registers before event.now result }
 {
     if !is_finish(event) {
-        return None;
+        return breach_of_eight_bit(event);
     }
     match pixel_blank(plane) {
         Some(pixel) => Some(Breach {
             rule: Rule::Uncovered,
             pixel: Some(pixel),
         }),
-        None => None,
+        None => breach_of_eight_bit(event),
     }
 }
 
-/// The breach of one of the rules that look at pixels.
+/// The breach of one of the rules that look at pixels, or of a control of 8 bits.
 #[inline(always)]
 fn breach_of_pixels<P: Plane>(notes: &Notes, plane: &P, event: &Event) -> Option<Breach>
     ensures { (registers : ℕ) (before : List EventValue) → AreNotesAfter registers notes.now before
@@ -93,7 +108,7 @@ pub(crate) fn breach_of<P: Plane>(notes: &Notes, plane: &Option<P>, event: &Even
     match (broken_rule(notes, plane.is_some(), event), plane) {
         (Some(rule), _) => Some(Breach { rule, pixel: None }),
         (None, Some(plane)) => breach_of_pixels(notes, plane, event),
-        (None, None) => None,
+        (None, None) => breach_of_eight_bit(event),
     }
 }
 
@@ -101,9 +116,9 @@ pub(crate) fn breach_of<P: Plane>(notes: &Notes, plane: &Option<P>, event: &Even
 #[inline(always)]
 fn paint<P: Plane>(notes: &Notes, plane: &mut P, event: &Event)
     requires { (registers : ℕ) × (before : List EventValue) × AreNotesAfter registers notes.now before
-        × IsDrawn (P.sheet plane.old) before × NoneBelow registers 13 before event.now × IsSpellable event.now }
+        × IsDrawn (P.sheet plane.old) before × BreaksNoRule registers before event.now × IsSpellable event.now }
     ensures { (registers : ℕ) (before : List EventValue) → AreNotesAfter registers notes.now before
-        → IsDrawn (P.sheet plane.old) before → NoneBelow registers 13 before event.now
+        → IsDrawn (P.sheet plane.old) before → BreaksNoRule registers before event.now
         → IsDrawn (P.sheet plane.new) (before ++ event.now ∷ []) }
 {
     if !is_painting(event) {
@@ -123,9 +138,9 @@ fn paint<P: Plane>(notes: &Notes, plane: &mut P, event: &Event)
 
 /// The plane that the first raster attributes make; another event makes none.
 fn first_plane<P: Plane>(alloc: Global, event: &Event) -> Result<Option<P>, AllocError>
-    requires { (registers : ℕ) × (before : List EventValue) × NoneBelow registers 13 before event.now }
+    requires { (registers : ℕ) × (before : List EventValue) × BreaksNoRule registers before event.now }
     ensures ok { IfOk result (λ plane. (registers : ℕ) (before : List EventValue) → IsUndrawn before
-        → NoneBelow registers 13 before event.now
+        → BreaksNoRule registers before event.now
         → IsSheetAfter (option_map P.sheet plane) (before ++ event.now ∷ [])) }
     ensures declares { OnErr result (IsSome (raster_of event.now)) }
 {
@@ -144,10 +159,10 @@ pub(crate) fn draw<P: Plane>(
     event: &Event,
 ) -> Result<(), AllocError>
     requires { (registers : ℕ) × (before : List EventValue) × AreNotesAfter registers notes.now before
-        × IsSheetAfter (option_map P.sheet plane.old) before × NoneBelow registers 13 before event.now
+        × IsSheetAfter (option_map P.sheet plane.old) before × BreaksNoRule registers before event.now
         × IsSpellable event.now }
     ensures ok { OnOk result ((registers : ℕ) (before : List EventValue) → AreNotesAfter registers notes.now before
-        → IsSheetAfter (option_map P.sheet plane.old) before → NoneBelow registers 13 before event.now
+        → IsSheetAfter (option_map P.sheet plane.old) before → BreaksNoRule registers before event.now
         → IsSheetAfter (option_map P.sheet plane.new) (before ++ event.now ∷ [])) }
     ensures err { OnErr result (plane.new ≡ plane.old) }
     ensures first { OnErr result (plane.old ≡ None) }

@@ -31,4 +31,6 @@ pub enum Rule {
     Outside = 11,
     /// An end where some pixel of the box lies under no set bit.
     Uncovered = 12,
+    /// A start or an end by a control of 8 bits: the byte 90 as the introducer, or 9C as the terminator.
+    EightBit = 13,
 }

@@ -47,7 +47,7 @@ register_passed {registers} {p} {before} band {r} {done} s margin used =
     let same : (x y : ℕ) → lies 0 band (items_of rs) x y ≡ owns p band r x y =
     λ x y. ap (λ bs. lies 0 band bs x y) (runs_joined (band_columns p band r)) ∙ lies_owns p band r x y in
     let select : Passed registers p before (Step (Select r) ∷ []) band done =
-    quiet_passed s refl refl refl (lt-leb registers r used.under) refl refl refl (λ q. refl) (omega arith) in
+    quiet_passed s refl refl refl refl (lt-leb registers r used.under) refl refl refl (λ q. refl) (omega arith) in
     let draws : Draws p (before ++ Step (Select r) ∷ []) band 0 r done = record {
       stands = select.after;
       at_column = column_push 0 before (Step (Select r)) ∙ rw margin refl;
@@ -68,7 +68,7 @@ unfolding breaks_register breaks_colour_value breaks_repeat_zero breaks_redefine
 others_passed [] band s used = ran_none s
 others_passed (r ∷ rs) {registers} {p} {before} band {done} s used =
     let return : Passed registers p before (Step CarriageReturn ∷ []) band done =
-    quiet_passed s refl refl refl refl refl refl refl (λ q. refl) (omega arith) in
+    quiet_passed s refl refl refl refl refl refl refl refl (λ q. refl) (omega arith) in
     let one = ran_join return
     (register_passed band return.after (column_push 0 before (Step CarriageReturn)) used.0) in
     rw (map-append Step (register_commands p band r) (flat_map (λ r. CarriageReturn ∷ register_commands p band r) rs))
@@ -144,7 +144,7 @@ nexts_passed zero {p = p} band f s =
     (λ x y. ap (λ n. is_above p n x y) (let e : band + 1 ≡ band + 1 + 0 = omega arith in e))
 nexts_passed (suc n) {registers} {p} {before} band f s =
     let next : Passed registers p before (Step NextLine ∷ []) (band + 1) (is_above p (band + 1)) =
-    quiet_passed s refl refl refl refl refl refl refl (λ q. refl) (omega arith) in
+    quiet_passed s refl refl refl refl refl refl refl refl (λ q. refl) (omega arith) in
     let one = passed_as (ran_join next
     (band_passed (band + 1) f next.after (column_push 0 before (Step NextLine)))) refl (above_more p (band + 1)) in
     rw (map-append Step (band_commands p (band + 1))

@@ -11,8 +11,8 @@ use Rattle.sixel_grammar.specs.declared.command.Event.TheVariants.{Step}
 use Rattle.sixel_grammar.specs.declared.command.Command.TheVariants.{Sixel, Repeat}
 use Rattle.sixel_picture.specs.Colours.{palette_at}
 use Rattle.sixel_picture.specs.Pictures.{PictureValue, register_of}
-use Rattle.sixel_picture.specs.Events.{columns_of, bits_of, is_return, is_next_line, is_finish, is_painting}
-use Rattle.sixel_picture.specs.Events.{is_repeat_of_zero, raster_of, select_of, named_by, definition_where}
+use Rattle.sixel_picture.specs.Events.{is_eight_bit, columns_of, bits_of, is_return, is_next_line, is_finish}
+use Rattle.sixel_picture.specs.Events.{is_painting, is_repeat_of_zero, raster_of, select_of, named_by, definition_where}
 use Rattle.sixel_picture.specs.Geometry.{column, covers, touches, falls}
 use Rattle.sixel_picture.specs.Rules.{known, breaks_colour_value, breaks_redefined, breaks_register, breaks_repeat_zero}
 use Rattle.sixel_picture.specs.Rules.{breaks_undefined, breaks_unselected}
@@ -49,6 +49,7 @@ record IsData (e : Event) (n b : ℕ) : Type 0 where
   no_return : is_return e ≡ false
   no_next : is_next_line e ≡ false
   no_finish : is_finish e ≡ false
+  seven_bits : is_eight_bit e ≡ false
   no_zero : is_repeat_of_zero e ≡ false
   no_redefinition : (before : List Event) → breaks_redefined before e ≡ false
 
@@ -64,6 +65,7 @@ sixel_data b = record {
   no_return = refl;
   no_next = refl;
   no_finish = refl;
+  seven_bits = refl;
   no_zero = refl;
   no_redefinition = λ before. refl;
 }
@@ -82,6 +84,7 @@ repeat_data n b h =
       no_return = refl;
       no_next = refl;
       no_finish = refl;
+      seven_bits = refl;
       no_zero = some;
       no_redefinition = λ before. refl;
     }
@@ -120,6 +123,7 @@ drawn_one {registers} {p} {before} {band} {col} {r} {n} {b} {done} {e} d is own 
     (is.no_redefinition before)
     (λ x y h. let o = own x y (sym (fall x y) ∙ h) in
     and_from _ _ (lt-ltb x p.width o.inside_x) (lt-ltb y p.height o.inside_y)))
+    is.seven_bits
     (record {
       stands = stands_push p before e band band done (λ x y. covers col n band 1 b x y) d.stands is.no_raster
           (λ q. is.no_definition (λ s. s == q)) (rw is.no_next (omega arith)) fall

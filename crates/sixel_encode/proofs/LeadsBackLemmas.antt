@@ -91,11 +91,13 @@ lists_break_no_rule registers p picture =
     (is_above p (bands p)) = middle_passed registers p h in
     keep_none registers (canon_start ∷ raster p ∷ (middle p ++ Finish false ∷ [])) (
       start_keeps registers,
+      refl,
       (
         raster_keeps registers p h,
+        refl,
         keep_append registers (front p) (middle p) (Finish false ∷ []) m.keeps
             (keep_one registers (front p ++ middle p) (Finish false)
-            (finish_keeps registers p (front p ++ middle p) (bands p - 1) m.after)),
+            (finish_keeps registers p (front p ++ middle p) (bands p - 1) m.after) refl),
       ),
     )
 

@@ -77,6 +77,7 @@ opened_define {registers} {p} {before} {n} s x y z o l colour h =
     let e = Step (Define n s x y z) in
     ran_one
     (quiet_keeps o.has_box refl refl refl (lt-leb registers n l) (rw colour refl) refl (rw (o.none_painted n) refl))
+    refl
     (record {
       at_line = band_push before e ∙ rw o.at_line refl;
       at_margin = column_push 0 before e ∙ rw o.at_margin refl;

@@ -11,8 +11,8 @@ use Rattle.sixel_picture.specs.declared.colour.Parts.{Parts}
 use Rattle.sixel_picture.specs.declared.colour.Parts.TheVariants.{Rgb, Hls}
 use Rattle.sixel_picture.specs.Colours.{palette_at}
 use Rattle.sixel_picture.specs.Pictures.{PictureValue, register_of}
-use Rattle.sixel_picture.specs.Events.{Definition, Attributes, bits_of, is_next_line, is_finish, raster_of, select_of}
-use Rattle.sixel_picture.specs.Events.{named_by, definition_where, is_in_box}
+use Rattle.sixel_picture.specs.Events.{is_eight_bit, Definition, Attributes, bits_of, is_next_line, is_finish}
+use Rattle.sixel_picture.specs.Events.{raster_of, select_of, named_by, definition_where, is_in_box}
 use Rattle.sixel_picture.specs.Geometry.{band, falls}
 use Rattle.sixel_picture.specs.Rules.{known, definition_of, raster_before, register_at, is_covered, BreaksOutside}
 use Rattle.sixel_picture.specs.Rules.{BreaksUncovered, breaks_box_size, breaks_colour_value, breaks_ratio}
@@ -55,8 +55,8 @@ unfolding KeepEach
 ran_none s = record { keeps = tt; after = rw append-nil s }
 
 pub ran_one : {registers : ℕ} {S : List Event → Type 0} {before : List Event} {e : Event} → Keeps registers before e
-    → S (before ++ e ∷ []) → Ran registers S before (e ∷ [])
-ran_one {registers} {S} {before} {e} k s = record { keeps = keep_one registers before e k; after = s }
+    → is_eight_bit e ≡ false → S (before ++ e ∷ []) → Ran registers S before (e ∷ [])
+ran_one {registers} {S} {before} {e} k bits s = record { keeps = keep_one registers before e k bits; after = s }
 
 pub ran_join : {registers : ℕ} {S T : List Event → Type 0} {before xs ys : List Event} → Ran registers S before xs
     → Ran registers T (before ++ xs) ys → Ran registers T before (xs ++ ys)
@@ -178,9 +178,10 @@ passed_as s e h = ran_as s (λ b t. stands_as t e h)
 -- one event that paints nothing
 pub quiet_passed : {registers : ℕ} {p : PictureValue} {before : List Event} {e : Event} {line next : ℕ}
     {done : ℕ → ℕ → Bool} → Stands p before line done → bits_of e ≡ 0 → raster_of e ≡ None → is_finish e ≡ false
-    → breaks_register registers e ≡ false → breaks_colour_value e ≡ false → breaks_repeat_zero e ≡ false
+    → is_eight_bit e ≡ false → breaks_register registers e ≡ false → breaks_colour_value e ≡ false
+    → breaks_repeat_zero e ≡ false
     → breaks_redefined before e ≡ false → ((r : ℕ) → definition_where (λ q. q == r) e ≡ None)
     → line + cond (is_next_line e) 1 0 ≡ next → Passed registers p before (e ∷ []) next done
-quiet_passed {p = p} {before} {e} {line} {next} {done} s bits raster finish r5 r6 r7 r10 define move =
-    ran_one (quiet_keeps s.has_box bits raster finish r5 r6 r7 r10)
+quiet_passed {p = p} {before} {e} {line} {next} {done} s bits raster finish seven r5 r6 r7 r10 define move =
+    ran_one (quiet_keeps s.has_box bits raster finish r5 r6 r7 r10) seven
     (stands_quiet p before e line next done s bits raster define move)

@@ -1,21 +1,23 @@
 -- Lists whose every event keeps the rules, given the events before it.
 use Rattle.std.proofs.Common.{◌≡◌, ℕ, zero, suc, List, [], ◌∷◌, ◌++◌, take, sym, append_assoc, append-nil, subst}
-use Rattle.std.specs.Prelude.{Some}
+use Rattle.std.specs.Prelude.{Some, IsFalse}
 use Rattle.sixel_grammar.specs.declared.command.Event.{Event}
+use Rattle.sixel_picture.specs.Events.{is_eight_bit}
 use Rattle.sixel_picture.specs.Positions.{HoldsAtPosition}
 use Rattle.sixel_picture.specs.Rules.{Breaks, BreaksNone}
 use Rattle.sixel_picture.proofs.RuleLemmas.{Keeps, keeps_none}
 use Rattle.sixel_picture.specs.RuleNumbers.{last_rule}
 
--- each event of the list keeps the rules, where so many events stand before it
+-- each event of the list keeps the rules, where these events stand before all, and isn't of 8 bits
 unfoldable pub KeepEach : ℕ → List Event → List Event → Type 0
 KeepEach registers before [] = Unit {0}
-KeepEach registers before (e ∷ es) = Keeps registers before e × KeepEach registers (before ++ e ∷ []) es
+KeepEach registers before (e ∷ es) =
+    Keeps registers before e × IsFalse (is_eight_bit e) × KeepEach registers (before ++ e ∷ []) es
 
-pub keep_one : (registers : ℕ) (before : List Event) (e : Event) → Keeps registers before e
+pub keep_one : (registers : ℕ) (before : List Event) (e : Event) → Keeps registers before e → IsFalse (is_eight_bit e)
     → KeepEach registers before (e ∷ [])
 unfolding KeepEach
-keep_one registers before e k = (k, tt)
+keep_one registers before e k bits = (k, bits, tt)
 
 -- two lists, the second after the first
 pub keep_append : (registers : ℕ) (before xs ys : List Event) → KeepEach registers before xs
@@ -24,7 +26,8 @@ unfolding KeepEach
 keep_append registers before [] ys h k = subst (λ b. KeepEach registers b ys) (append-nil before) k
 keep_append registers before (x ∷ xs) ys h k = (
   h.0,
-  keep_append registers (before ++ x ∷ []) xs ys h.1
+  h.1,
+  keep_append registers (before ++ x ∷ []) xs ys h.2
       (subst (λ b. KeepEach registers b ys) (sym (append_assoc before (x ∷ []) xs)) k),
 )
 
@@ -35,9 +38,9 @@ none_after registers n i before [] h k = cc k.here
 none_after registers n zero before (x ∷ xs) h k =
     let same : x ≡ k.item = (let e : Some x ≡ Some k.item = k.here in cc) in
     let here : Breaks registers n (before ++ []) x = rw same k.holds in
-    keeps_none registers n before x h.0 (rw append-nil at here)
+    keeps_none registers n before x h.0 h.1 (rw append-nil at here)
 none_after registers n (suc i) before (x ∷ xs) h k =
-    none_after registers n i (before ++ x ∷ []) xs h.1
+    none_after registers n i (before ++ x ∷ []) xs h.2
     (record { item = k.item; here = k.here; holds = rw (append_assoc before (x ∷ []) (take i xs)) k.holds })
 
 -- where each keeps them, none is broken

@@ -5,17 +5,19 @@ use Rattle.std.proofs.lemmas.Bool.{eqb-true, leb-true, leb-false}
 use Rattle.std.specs.Prelude.{◌==◌, nat_le, slice_get, IsTrue, IsFalse}
 use Rattle.std.specs.Bool.{MatchBool}
 use Rattle.sixel_grammar.specs.declared.command.Event.{Event}
+use Rattle.sixel_picture.specs.Events.{is_eight_bit}
 use Rattle.sixel_picture.specs.Positions.{HoldsAtPosition}
 use Rattle.sixel_picture.specs.Rules.{Breaks, BreaksNone, BreaksOutside, BreaksUncovered, IsFirstBroken}
-use Rattle.sixel_picture.specs.Rules.{breaks_box_size, breaks_colour_value, breaks_ratio, breaks_raster_first}
-use Rattle.sixel_picture.specs.Rules.{breaks_raster_twice, breaks_redefined, breaks_register, breaks_repeat_zero}
-use Rattle.sixel_picture.specs.Rules.{breaks_undefined, breaks_unselected}
+use Rattle.sixel_picture.specs.Rules.{breaks_box_size, breaks_colour_value, breaks_eight_bit, breaks_ratio}
+use Rattle.sixel_picture.specs.Rules.{breaks_raster_first, breaks_raster_twice, breaks_redefined, breaks_register}
+use Rattle.sixel_picture.specs.Rules.{breaks_repeat_zero, breaks_undefined, breaks_unselected}
 use Rattle.sixel_picture.proofs.PositionLemmas.{holds_before, holds_end, holds_push, holds_within}
 use Rattle.sixel_picture.specs.RuleNumbers.{raster_first_rule, raster_twice_rule, ratio_rule, box_size_rule}
 use Rattle.sixel_picture.specs.RuleNumbers.{register_rule, colour_value_rule, repeat_zero_rule, unselected_rule}
-use Rattle.sixel_picture.specs.RuleNumbers.{undefined_rule, redefined_rule, outside_rule, uncovered_rule, last_rule}
+use Rattle.sixel_picture.specs.RuleNumbers.{undefined_rule, redefined_rule, outside_rule, uncovered_rule}
+use Rattle.sixel_picture.specs.RuleNumbers.{eight_bit_rule, last_rule}
 
--- the event breaks none of the twelve rules
+-- the event breaks none of the rules on what is drawn: all but the last
 pub record Keeps (registers : ℕ) (before : List Event) (e : Event) : Type 0 where
   pub raster_first : IsFalse (breaks_raster_first before e)
   pub raster_twice : IsFalse (breaks_raster_twice before e)
@@ -38,15 +40,15 @@ not_true : (b : Bool) → IsFalse b → ¬ IsTrue b
 not_true true f t = cc
 not_true false f t = cc
 
-is_false : (b : Bool) → ¬ IsTrue b → IsFalse b
+pub is_false : (b : Bool) → ¬ IsTrue b → IsFalse b
 is_false true h = absurd (h refl)
 is_false false h = refl
 
--- an event that keeps each rule breaks none by number
+-- an event that keeps each of them, and isn't of 8 bits, breaks none by number
 pub keeps_none : (registers n : ℕ) (before : List Event) (e : Event) → Keeps registers before e
-    → ¬ Breaks registers n before e
-unfolding Breaks
-keeps_none registers n before e k =
+    → IsFalse (is_eight_bit e) → ¬ Breaks registers n before e
+unfolding Breaks breaks_eight_bit
+keeps_none registers n before e k bits =
     neither (n == raster_first_rule) (not_true _ k.raster_first)
     (neither (n == raster_twice_rule) (not_true _ k.raster_twice)
     (neither (n == ratio_rule) (not_true _ k.ratio)
@@ -58,11 +60,12 @@ keeps_none registers n before e k =
     (neither (n == undefined_rule) (not_true _ k.undefined)
     (neither (n == redefined_rule) (not_true _ k.redefined)
     (neither (n == outside_rule) k.outside
-    (neither (n == uncovered_rule) k.uncovered (λ h. h))))))))))))
+    (neither (n == uncovered_rule) k.uncovered
+    (neither (n == eight_bit_rule) (not_true _ bits) (λ h. h)))))))))))))
 
--- and an event that breaks none of the twelve keeps each
+-- and an event that breaks none of them keeps each
 pub none_keeps : (registers : ℕ) (before : List Event) (e : Event)
-    → ((n : ℕ) → n ≤ last_rule → ¬ Breaks registers n before e)
+    → ((n : ℕ) → n ≤ uncovered_rule → ¬ Breaks registers n before e)
     → Keeps registers before e
 unfolding Breaks
 none_keeps registers before e h = record {
@@ -80,12 +83,25 @@ none_keeps registers before e h = record {
   uncovered = h uncovered_rule (lit≤ tt);
 }
 
--- in a list in which no rule is broken each event keeps each
-pub keeps_at : (registers : ℕ) (events : List Event) → BreaksNone registers last_rule events → (i : ℕ) (e : Event)
+-- in a list in which none of them is broken each event keeps each
+pub keeps_at : (registers : ℕ) (events : List Event) → BreaksNone registers uncovered_rule events → (i : ℕ) (e : Event)
     → slice_get events i ≡ Some e → Keeps registers (take i events) e
 unfolding BreaksNone
 keeps_at registers events none i e here =
     none_keeps registers (take i events) e (λ n le b. none n le i (record { item = e; here = here; holds = b }))
+
+-- in a list in which no rule is broken no event is of 8 bits
+pub seven_bits_at : (registers : ℕ) (events : List Event) → BreaksNone registers last_rule events → (i : ℕ) (e : Event)
+    → slice_get events i ≡ Some e → IsFalse (is_eight_bit e)
+unfolding BreaksNone Breaks breaks_eight_bit
+seven_bits_at registers events none i e here =
+    is_false _ (λ b. none eight_bit_rule (lit≤ tt) i (record { item = e; here = here; holds = b }))
+
+-- where no rule is broken, none of those on what is drawn is
+pub none_drawn : (registers : ℕ) (events : List Event) → BreaksNone registers last_rule events
+    → BreaksNone registers uncovered_rule events
+unfolding BreaksNone
+none_drawn registers events none n le = none n (omega (arith, le))
 
 -- ---- one event more
 
@@ -94,14 +110,14 @@ pub none_of_none : (registers last : ℕ) → BreaksNone registers last []
 unfolding BreaksNone
 none_of_none registers last n le i h = cc h.here
 
--- no rule is broken with one more event that keeps each
+-- no rule is broken with one more event that keeps each, and isn't of 8 bits
 pub none_push : (registers last : ℕ) (before : List Event) (e : Event) → BreaksNone registers last before
-    → Keeps registers before e → BreaksNone registers last (before ++ e ∷ [])
+    → Keeps registers before e → IsFalse (is_eight_bit e) → BreaksNone registers last (before ++ e ∷ [])
 unfolding BreaksNone
-none_push registers last before e none k n le i h =
+none_push registers last before e none k bits n le i h =
     elim (holds_push (Breaks registers n) before e i h) [
       | inl b ↦ none n le i b.1
-      | inr b ↦ keeps_none registers n before e k b.1
+      | inr b ↦ keeps_none registers n before e k bits b.1
     ]
 
 -- and none was broken without the last event
@@ -133,9 +149,10 @@ no_more_rules registers n before e lt h =
     (beyond _ _ n undefined_rule (omega (arith, lt))
     (beyond _ _ n redefined_rule (omega (arith, lt))
     (beyond _ _ n outside_rule (omega (arith, lt))
-    (beyond _ _ n uncovered_rule (omega (arith, lt)) (λ f. f)))))))))))) h
+    (beyond _ _ n uncovered_rule (omega (arith, lt))
+    (beyond _ _ n eight_bit_rule (omega (arith, lt)) (λ f. f))))))))))))) h
 
--- an event that breaks none of the twelve breaks none
+-- an event that breaks none up to the last breaks none
 pub nowhere : (registers m i : ℕ) (events : List Event) → BreaksNone registers last_rule events
     → ¬ HoldsAtPosition (Breaks registers m) events i
 unfolding BreaksNone

@@ -13,6 +13,7 @@ use Rattle.sixel_picture.specs.Sheets.{row_by_row}
 use Rattle.sixel_picture.specs.RuleNumbers.{raster_first_rule, raster_twice_rule, ratio_rule, box_size_rule}
 use Rattle.sixel_picture.specs.RuleNumbers.{register_rule, colour_value_rule, repeat_zero_rule, unselected_rule}
 use Rattle.sixel_picture.specs.RuleNumbers.{undefined_rule, redefined_rule, outside_rule, uncovered_rule}
+use Rattle.sixel_picture.specs.RuleNumbers.{eight_bit_rule}
 
 abbrev start : Event
 start = Start false (record { items = 0 ∷ [] })
@@ -191,3 +192,12 @@ no_sides_there = refl
 twice_there : Rules.Breaks 16 raster_twice_rule (start ∷ Step (Raster 1 1 1 1) ∷ []) (Step (Raster 1 1 1 1))
 unfolding Rules.Breaks Rules.breaks_raster_twice Rules.raster_before earliest
 twice_there = refl
+
+-- the byte 90 before q, and the byte 9C at the end
+introducer_there : Rules.Breaks 16 eight_bit_rule [] (Start true (record { items = 0 ∷ [] }))
+unfolding Rules.Breaks Rules.breaks_eight_bit
+introducer_there = refl
+
+terminator_there : Rules.Breaks 16 eight_bit_rule (start ∷ []) (Finish true)
+unfolding Rules.Breaks Rules.breaks_eight_bit
+terminator_there = refl

@@ -4,7 +4,7 @@ use Rattle.sixel_picture.specs.Pictures.{is_side}
 use Rattle.sixel_grammar.specs.declared.command.Command.TheVariants.{Sixel, Repeat, Raster, Select, Define}
 use Rattle.sixel_grammar.specs.declared.command.Command.TheVariants.{CarriageReturn, NextLine}
 use Rattle.sixel_grammar.specs.declared.command.Event.{Event}
-use Rattle.sixel_grammar.specs.declared.command.Event.TheVariants.{Step, Finish}
+use Rattle.sixel_grammar.specs.declared.command.Event.TheVariants.{Start, Step, Finish}
 
 -- what a definition of a register says: a colour system and three coordinates
 pub record Definition : Type 0 where
@@ -45,6 +45,12 @@ is_data_command _ = false
 abbrev pub is_finish : Event → Bool
 is_finish (Finish eight) = true
 is_finish _ = false
+
+-- a start or a finish that is a control of 8 bits: the introducer 90, or the terminator 9C
+abbrev pub is_eight_bit : Event → Bool
+is_eight_bit (Start eight parameters) = eight
+is_eight_bit (Step command) = false
+is_eight_bit (Finish eight) = eight
 
 -- the bits of a data command; any other event has none set
 abbrev pub bits_of : Event → ℕ

@@ -38,6 +38,9 @@ outside_rule = 11
 abbrev pub uncovered_rule : ℕ
 uncovered_rule = 12
 
+abbrev pub eight_bit_rule : ℕ
+eight_bit_rule = 13
+
 -- the greatest of them
 abbrev pub last_rule : ℕ
-last_rule = uncovered_rule
+last_rule = eight_bit_rule

@@ -12,7 +12,7 @@ use Rattle.sixel_grammar.specs.declared.command.Command.TheVariants.{Define}
 use Rattle.sixel_picture.specs.declared.colour.Parts.{Parts}
 use Rattle.sixel_picture.specs.Colours.{colour_in, is_colour}
 use Rattle.sixel_picture.specs.Events.{Attributes, Definition, definition_where, has_sides, is_data_command, is_finish}
-use Rattle.sixel_picture.specs.Events.{is_in_box, is_painting, is_repeat_of_zero, is_return, is_same_definition}
+use Rattle.sixel_picture.specs.Events.{is_eight_bit, is_in_box, is_painting, is_repeat_of_zero, is_return, is_same_definition}
 use Rattle.sixel_picture.specs.Events.{is_square, named_by, raster_of, select_of}
 use Rattle.sixel_picture.specs.Geometry.{falls}
 use Rattle.sixel_picture.specs.Pictures.{PictureValue, picture_of_parts}
@@ -21,6 +21,7 @@ use Rattle.sixel_picture.specs.Sheets.{row_by_row}
 use Rattle.sixel_picture.specs.RuleNumbers.{raster_first_rule, raster_twice_rule, ratio_rule, box_size_rule}
 use Rattle.sixel_picture.specs.RuleNumbers.{register_rule, colour_value_rule, repeat_zero_rule, unselected_rule}
 use Rattle.sixel_picture.specs.RuleNumbers.{undefined_rule, redefined_rule, outside_rule, uncovered_rule}
+use Rattle.sixel_picture.specs.RuleNumbers.{eight_bit_rule}
 
 -- ---- what stands before an event
 
@@ -135,6 +136,10 @@ unfoldable pub BreaksUncovered : List Event → Event → Type 0
 BreaksUncovered before e =
     IsTrue (is_finish e) × IsSomeAnd (raster_before before) (λ a. (x : ℕ) × (y : ℕ) × StaysBlank before a x y)
 
+-- a start or a finish of 8 bits
+unfoldable pub breaks_eight_bit : Event → Bool
+breaks_eight_bit e = is_eight_bit e
+
 -- the event breaks the rule of this number, where there are so many registers
 unfoldable pub Breaks : ℕ → ℕ → List Event → Event → Type 0
 Breaks registers n before e =
@@ -149,7 +154,8 @@ Breaks registers n before e =
     (MatchBool (n == undefined_rule) (IsTrue (breaks_undefined before e))
     (MatchBool (n == redefined_rule) (IsTrue (breaks_redefined before e))
     (MatchBool (n == outside_rule) (BreaksOutside before e)
-    (MatchBool (n == uncovered_rule) (BreaksUncovered before e) ⊥)))))))))))
+    (MatchBool (n == uncovered_rule) (BreaksUncovered before e)
+    (MatchBool (n == eight_bit_rule) (IsTrue (breaks_eight_bit e)) ⊥))))))))))))
 
 -- ---- the first broken rule
 

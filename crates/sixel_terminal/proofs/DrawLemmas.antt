@@ -1,8 +1,8 @@
 -- What stands before any event, and after one that is no command.
-use Rattle.std.proofs.Common.{◌≡◌, ℕ, zero, suc, ◌+◌, ◌%◌, ◌<◌, ◌≤◌, Bool, true, false, None, List, [], ◌∷◌, ◌++◌}
-use Rattle.std.proofs.Common.{length, take, get_or, map, refl, sym, ap, ◌∙◌, add-one, arith}
+use Rattle.std.proofs.Common.{◌≡◌, ℕ, zero, suc, ◌+◌, ◌%◌, ◌<◌, ◌≤◌, Bool, true, false, Option, Some, None, List, []}
+use Rattle.std.proofs.Common.{◌∷◌, ◌++◌, length, take, get_or, map, refl, sym, ap, ◌∙◌, add-one, arith}
 use Rattle.std.specs.Prelude.{if◌then◌else◌}
-use Rattle.std.specs.Option.{option_map_or}
+use Rattle.std.specs.Option.{option_map_or, option_or}
 use Rattle.std.proofs.lemmas.List.{get_or-map, length-map}
 use Rattle.std.proofs.lemmas.Nat.{div-add-mod'}
 use Rattle.sixel_grammar.specs.declared.command.Command.{Command}
@@ -14,7 +14,8 @@ use Rattle.sixel_picture.specs.declared.colour.Parts.{Parts}
 use Rattle.sixel_picture.specs.declared.colour.Parts.TheVariants.{Rgb}
 use Rattle.sixel_picture.specs.Events.{columns_of, is_next_line, is_return, named_by, raster_of, select_of}
 use Rattle.sixel_picture.specs.Geometry.{band, column}
-use Rattle.sixel_picture.specs.Positions.{last_at, last_below, latest, since}
+use Rattle.sixel_picture.specs.Positions.{earliest, last_at, last_below, latest, since}
+use Rattle.sixel_picture.specs.Rules.{raster_before}
 use Rattle.sixel_terminal.specs.declared.canvas.Ink.{Ink}
 use Rattle.sixel_terminal.specs.declared.canvas.Ink.TheVariants.{Fixed}
 use Rattle.sixel_terminal.specs.declared.pen.Pen.{Pen}
@@ -27,12 +28,13 @@ use Rattle.sixel_terminal.proofs.PaintLemmas.{none_filled, unpainted_pixel}
 use Rattle.sixel_terminal.proofs.RunLemmas.{Runs}
 
 pub pen_start : (t : Display) (p : Pen) → t.choices.selected < registers_of t → p.column ≡ 0 → p.band ≡ 0
-    → p.height ≡ t.choices.tall → p.selected ≡ t.choices.selected → IsPenAfter t [] p
-unfolding band column height_of selected_on latest since
-pen_start t p below c b h s = record {
+    → p.height ≡ t.choices.tall → p.declared ≡ None → p.selected ≡ t.choices.selected → IsPenAfter t [] p
+unfolding band column height_of raster_before earliest selected_on latest since
+pen_start t p below c b h d s = record {
   column_is = c;
   band_is = b;
   height_is = h;
+  declared_is = d;
   selected_is = s;
   selected_below = rw s below;
 }
@@ -51,6 +53,10 @@ stands_start t p inks runs pen same = record {
       ∙ ap (λ n. Fixed (get_or t.screen n (Rgb 0 0 0))) (sym (div-add-mod' i t.choices.screen_width));
 }
 
+or_none : {A : Type 0} (o : Option A) → o ≡ option_or o None
+or_none None = refl
+or_none (Some a) = refl
+
 none_chosen : (b : Bool) (e : Event) (n d : ℕ) → named_by e ≡ None → select_of e ≡ None
     → d ≡ option_map_or (λ r. r % n) ((if b then named_by else select_of) e) d
 none_chosen true e n d h g = rw h refl
@@ -67,6 +73,7 @@ stands_same t before p e colours inks runs s no_return no_line no_columns no_ras
     (rw (no_return, no_columns) (omega (arith, s.pen.column_is)))
     (rw no_line (omega (arith, s.pen.band_is)))
     (rw no_raster refl)
+    (rw no_raster (or_none p.declared))
     (none_chosen t.choices.selects e (registers_of t) p.selected no_name no_select)
     refl (λ r lt. rw (no_definition r) refl)
     refl (λ i lt.

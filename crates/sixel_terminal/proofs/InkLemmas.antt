@@ -1,5 +1,6 @@
 -- On the ink of the pixels, and on the colours that it shows.
-use Rattle.std.proofs.Common.{◌≡◌, ℕ, ◌-◌, ◌/◌, ◌%◌, ◌<◌, Bool, true, false, Option, Some, None, List, [], ◌∷◌, ◌++◌}
+use Rattle.std.proofs.Common.{◌≡◌, ℕ, ◌-◌, ◌/◌, ◌%◌, ◌<◌, Bool, true, false, ◌&&◌, Option, Some, None, List, []}
+use Rattle.std.proofs.Common.{◌∷◌, ◌++◌}
 use Rattle.std.proofs.Common.{length, get_or, refl, sym, ap, ◌∙◌, arith}
 use Rattle.std.specs.Prelude.{unwrap_or, if◌then◌else◌}
 use Rattle.std.specs.Bool.{then_some}
@@ -16,10 +17,10 @@ use Rattle.sixel_terminal.specs.declared.choices.Ground.TheVariants.{Kept, Fille
 use Rattle.sixel_terminal.specs.declared.pen.Pen.{Pen}
 use Rattle.sixel_terminal.specs.Canvases.{black}
 use Rattle.sixel_terminal.specs.Displays.{Display, IsGroundBelow, registers_of}
-use Rattle.sixel_terminal.specs.Drawing.{defined_on, filled_on, paints_on, selected_on, touches_on}
+use Rattle.sixel_terminal.specs.Drawing.{defined_on, filled_on, is_kept_on, paints_on, selected_on, touches_on}
 use Rattle.sixel_terminal.specs.Standing.{StandsAfter, ink_in_register, ink_at_point}
-use Rattle.sixel_terminal.specs.Steps.{ink_after_event, ink_by_colours, most, next_band, next_column, next_height}
-use Rattle.sixel_terminal.specs.Steps.{next_selected}
+use Rattle.sixel_terminal.specs.Steps.{ink_after_event, ink_by_colours, most, next_band, next_column, next_declared}
+use Rattle.sixel_terminal.specs.Steps.{next_height, next_selected}
 use Rattle.sixel_terminal.proofs.PixelLemmas.{pen_paints}
 use Rattle.sixel_terminal.proofs.RunLemmas.{Runs}
 use Rattle.sixel_terminal.proofs.StandLemmas.{colour_push, ink_push, modulo_below, pen_push}
@@ -54,7 +55,8 @@ pub paints_below : (t : Display) (before : List Event) (e : Event) (x y r : ℕ)
     → paints_on t before e x y ≡ Some r → r < registers_of t
 unfolding paints_on
 paints_below t before e x y r runs h =
-    paint_below _ (touches_on t before e (x - t.choices.origin_x) (y - t.choices.origin_y)) (registers_of t)
+    paint_below _ (touches_on t before e (x - t.choices.origin_x) (y - t.choices.origin_y)
+    && is_kept_on t before (x - t.choices.origin_x) (y - t.choices.origin_y)) (registers_of t)
     (selected_on t before) t.choices.ground e _ _ r (selected_below t before runs.in_class.selected)
     runs.in_class.ground h
 
@@ -71,11 +73,12 @@ same_ink t before p colours inks r s lt =
     ap (λ (c : Parts). if t.choices.binds_at_showing then Bound r else Fixed c) (s.colours_are r lt)
 
 ink_step : (t : Display) (before : List Event) (p : Pen) (colours : List Parts) (inks : List Ink) (e : Event) (x y : ℕ)
-    → Runs t → StandsAfter t before p colours inks → x < most → y < most
+    → Runs t → StandsAfter t before p colours inks → x < t.choices.screen_width → y < t.choices.screen_height
+    → x < most → y < most
     → ink_after_event t p colours e x y (ink_at_point t before x y) ≡ ink_at_point t (before ++ e ∷ []) x y
-ink_step t before p colours inks e x y runs s lx ly =
+ink_step t before p colours inks e x y runs s wx wy lx ly =
     ap (λ o. unwrap_or (option_map (ink_by_colours t colours) o) (ink_at_point t before x y))
-    (pen_paints t before p e x y s.pen runs.in_class.tall lx ly)
+    (pen_paints t before p e x y s.pen runs.in_class.tall wx wy lx ly)
     ∙ ap (λ o. unwrap_or o (ink_at_point t before x y))
     (map_same (ink_by_colours t colours) (ink_in_register t before) (paints_on t before e x y)
     (λ r h. same_ink t before p colours inks r s (paints_below t before e x y r runs h)))
@@ -86,7 +89,7 @@ pub stands_push : (t : Display) (before : List Event) (p q : Pen) (e : Event) (c
     (inks inks' : List Ink)
     → Runs t → StandsAfter t before p colours inks
     → q.column ≡ next_column t p e → q.band ≡ next_band p e → q.height ≡ next_height t p e
-    → q.selected ≡ next_selected t p e
+    → q.declared ≡ next_declared p e → q.selected ≡ next_selected t p e
     → length colours' ≡ length colours
     → ((r : ℕ) → r < length colours
     → get_or colours' r (Rgb 0 0 0) ≡ unwrap_or (defined_on t r e) (get_or colours r (Rgb 0 0 0)))
@@ -95,8 +98,8 @@ pub stands_push : (t : Display) (before : List Event) (p q : Pen) (e : Event) (c
     → get_or inks' i black
     ≡ ink_after_event t p colours e (i % t.choices.screen_width) (i / t.choices.screen_width) (get_or inks i black))
     → StandsAfter t (before ++ e ∷ []) q colours' inks'
-stands_push t before p q e colours colours' inks inks' runs s c b h sel long defined whole painted = record {
-  pen = pen_push t before p q e s.pen c b h sel;
+stands_push t before p q e colours colours' inks inks' runs s c b h d sel long defined whole painted = record {
+  pen = pen_push t before p q e s.pen c b h d sel;
   registers = long ∙ s.registers;
   colours_are = λ r lt.
       defined r (omega (arith, lt, s.registers))
@@ -111,5 +114,5 @@ stands_push t before p q e colours colours' inks inks' runs s c b h sel long def
       painted i (omega (arith, lt, s.pixels))
       ∙ ap (ink_after_event t p colours e (i % t.choices.screen_width) (i / t.choices.screen_width)) (s.inks_are i lt)
       ∙ ink_step t before p colours inks e (i % t.choices.screen_width) (i / t.choices.screen_width) runs s
-      (omega (arith, in_width, runs.width)) (omega (arith, in_height, runs.height));
+      in_width in_height (omega (arith, in_width, runs.width)) (omega (arith, in_height, runs.height));
 }

@@ -26,12 +26,14 @@ use Rattle.sixel_terminal.specs.declared.canvas.Span.{Span}
 use Rattle.sixel_terminal.specs.declared.pen.Pen.{Pen}
 use Rattle.sixel_terminal.specs.Canvases.{black, is_in_span, span_of}
 use Rattle.sixel_terminal.specs.Displays.{Display}
-use Rattle.sixel_terminal.specs.Steps.{ink_after_event, ink_by_colours, is_from_origin}
+use Rattle.sixel_terminal.specs.Steps.{bottom_edge, ink_after_event, ink_by_colours, is_before_edges, is_from_origin}
+use Rattle.sixel_terminal.specs.Steps.{pen_covers, right_edge}
 
--- the pixels of a span on the screen, counted from the origin
-span_from : (o l c w x : ℕ) → x < w
-    → is_in_span (span_of (o + l) c w) x ≡ (nat_le o x && (nat_le l (x - o) && nat_lt (x - o) (l + c)))
-span_from o l c w x lt = grind (arith, nat_tests)
+-- the pixels of a span before an edge, counted from the origin
+span_from : (o l c edge x : ℕ)
+    → is_in_span (span_of (o + l) c edge) x
+    ≡ ((nat_le o x && nat_lt x edge) && (nat_le l (x - o) && nat_lt (x - o) (l + c)))
+span_from o l c edge x = grind (arith, nat_tests)
 
 -- the same of a span that begins at the origin
 span_at : (o c w x : ℕ) → x < w → is_in_span (span_of o c w) x ≡ (nat_le o x && nat_lt (x - o) c)
@@ -42,6 +44,22 @@ and_cross true true p q = refl
 and_cross true false true q = refl
 and_cross true false false q = refl
 and_cross false b p q = refl
+
+-- the test that stands between two moves to the end
+and_last : (f e c r : Bool) → ((f && e) && (c && r)) ≡ (f && ((c && r) && e))
+and_last true true true r = bool_cases r
+  where
+    bool_cases : (r : Bool) → r ≡ (r && true)
+    bool_cases true = refl
+    bool_cases false = refl
+and_last true true false r = refl
+and_last true false true r = none r
+  where
+    none : (r : Bool) → false ≡ (r && false)
+    none true = refl
+    none false = refl
+and_last true false false r = refl
+and_last false e c r = refl
 
 pub box_pixel : (t : Display) (width height x y : ℕ) → x < t.choices.screen_width → y < t.choices.screen_height
     → (is_in_span (span_of t.choices.origin_x width t.choices.screen_width) x
@@ -79,7 +97,8 @@ box_pixels t width height columns rows ink old new whole some across down filled
 abbrev pub IsInkedBelow : ℕ → Display → Pen → ℕ → ℕ → Ink → List Ink → List Ink → Type 0
 IsInkedBelow n t p count bits ink old new =
     IsPaintedBelow n p.band p.height bits
-    (λ i. is_from_origin t (i % t.choices.screen_width) (i / t.choices.screen_width)
+    (λ i. (is_from_origin t (i % t.choices.screen_width) (i / t.choices.screen_width)
+    && is_before_edges t p.declared (i % t.choices.screen_width) (i / t.choices.screen_width))
     && (nat_le p.column (i % t.choices.screen_width - t.choices.origin_x)
     && nat_lt (i % t.choices.screen_width - t.choices.origin_x) (p.column + count)))
     (λ i. i / t.choices.screen_width - t.choices.origin_y) ink black old new
@@ -87,80 +106,85 @@ IsInkedBelow n t p count bits ink old new =
 -- one more bit, which is set
 pub inked_more : (k : ℕ) (t : Display) (p : Pen) (count bits : ℕ) (ink : Ink) (columns rows : Span)
     (old mid new : List Ink)
-    → length old ≡ t.choices.screen_width * t.choices.screen_height → 0 < t.choices.screen_width
-    → columns ≡ span_of (t.choices.origin_x + p.column) count t.choices.screen_width
-    → rows ≡ span_of (t.choices.origin_y + (6 * p.band + k) * p.height) p.height t.choices.screen_height
+    → columns ≡ span_of (t.choices.origin_x + p.column) count (right_edge t p.declared)
+    → rows ≡ span_of (t.choices.origin_y + (6 * p.band + k) * p.height) p.height (bottom_edge t p.declared)
     → (bit_at bits k == 1) ≡ true → IsInkedBelow k t p count bits ink old mid → length new ≡ length mid
     → ((i : ℕ) → i < length mid
     → get_or new i black
     ≡ cond (is_in_span columns (i % t.choices.screen_width) && is_in_span rows (i / t.choices.screen_width)) ink
     (get_or mid i black))
     → IsInkedBelow (k + 1) t p count bits ink old new
-inked_more k t p count bits ink columns rows old mid new whole some across down set before long filled =
+inked_more k t p count bits ink columns rows old mid new across down set before long filled =
     painted_more k p.band p.height bits _ _ ink black old mid new set before long (λ i lt.
     let x = i % t.choices.screen_width in
     let y = i / t.choices.screen_width in
     let px = x - t.choices.origin_x in
-    let a = nat_le t.choices.origin_x x in
-    let b = nat_le t.choices.origin_y y in
+    let a = nat_le t.choices.origin_x x && nat_lt x (right_edge t p.declared) in
+    let b = nat_le t.choices.origin_y y && nat_lt y (bottom_edge t p.declared) in
     let c = nat_le p.column px && nat_lt px (p.column + count) in
     let r = bit_rows p.band p.height (y - t.choices.origin_y) k in
-    let in_width : x < t.choices.screen_width = mod_below i t.choices.screen_width some in
-    let in_height : y < t.choices.screen_height =
-    div_below i t.choices.screen_width t.choices.screen_height some (omega (arith, whole, before.long, lt)) in
     let here : (is_in_span columns x && is_in_span rows y) ≡ ((a && c) && (b && r)) =
     rw (across, down) (ap₂ (λ v w. v && w)
-    (span_from t.choices.origin_x p.column count t.choices.screen_width x in_width)
-    (span_from t.choices.origin_y ((6 * p.band + k) * p.height) p.height t.choices.screen_height y in_height)) in
+    (span_from t.choices.origin_x p.column count (right_edge t p.declared) x)
+    (span_from t.choices.origin_y ((6 * p.band + k) * p.height) p.height (bottom_edge t p.declared) y)) in
+    let edges : (a && b) ≡ (is_from_origin t x y && is_before_edges t p.declared x y) =
+    and_cross (nat_le t.choices.origin_x x) (nat_le t.choices.origin_y y) (nat_lt x (right_edge t p.declared))
+    (nat_lt y (bottom_edge t p.declared)) in
     filled i lt
-    ∙ ap (λ (v : Bool). cond v ink (get_or mid i black)) (here ∙ and_cross a b c r ∙ sym (and_assoc (a && b) c r)))
+    ∙ ap (λ (v : Bool). cond v ink (get_or mid i black))
+    (here ∙ and_cross a b c r ∙ ap (λ (v : Bool). v && (c && r)) edges
+    ∙ sym (and_assoc (is_from_origin t x y && is_before_edges t p.declared x y) c r)))
 
 -- all six bits
 pub inked_all : (t : Display) (p : Pen) (count bits : ℕ) (ink : Ink) (old new : List Ink)
     → IsInkedBelow 6 t p count bits ink old new → (i : ℕ) → i < length old
     → get_or new i black
-    ≡ cond (is_from_origin t (i % t.choices.screen_width) (i / t.choices.screen_width)
-    && covers p.column count p.band p.height bits (i % t.choices.screen_width - t.choices.origin_x)
-    (i / t.choices.screen_width - t.choices.origin_y)) ink (get_or old i black)
+    ≡ cond (pen_covers t p count bits (i % t.choices.screen_width) (i / t.choices.screen_width)) ink (get_or old i black)
 unfolding covers
 inked_all t p count bits ink old new painted i lt =
-    let px = i % t.choices.screen_width - t.choices.origin_x in
-    let py = i / t.choices.screen_width - t.choices.origin_y in
+    let x = i % t.choices.screen_width in
+    let y = i / t.choices.screen_width in
+    let px = x - t.choices.origin_x in
+    let py = y - t.choices.origin_y in
     painted.pixels i lt
     ∙ ap (λ (v : Bool). cond v ink (get_or old i black))
-    (and_assoc (is_from_origin t (i % t.choices.screen_width) (i / t.choices.screen_width))
+    (and_assoc (is_from_origin t x y && is_before_edges t p.declared x y)
+    (nat_le p.column px && nat_lt px (p.column + count)) (any_below 6 (bit_covers p.band p.height bits py))
+    ∙ and_last (is_from_origin t x y) (is_before_edges t p.declared x y)
     (nat_le p.column px && nat_lt px (p.column + count)) (any_below 6 (bit_covers p.band p.height bits py)))
 
-empty_across : (o l c w x : ℕ) → x < w → min (o + l) w ≡ min (o + l + c) w
-    → (nat_le o x && (nat_le l (x - o) && nat_lt (x - o) (l + c))) ≡ false
-empty_across o l c w x lt empty = grind (arith, nat_tests)
+empty_across : (o l c edge x : ℕ) → min (o + l) edge ≡ min (o + l + c) edge
+    → ((nat_le o x && nat_lt x edge) && (nat_le l (x - o) && nat_lt (x - o) (l + c))) ≡ false
+empty_across o l c edge x empty = grind (arith, nat_tests)
 
-and_first : (a b c d : Bool) → (a && c) ≡ false → ((a && b) && (c && d)) ≡ false
-and_first true true true d h = cc
-and_first true true false d h = refl
-and_first true false c d h = refl
-and_first false b c d h = refl
+-- what fails of the origin and the edge across, with the columns, fails with the rest too
+and_first : (a b e f c d : Bool) → ((a && e) && c) ≡ false → ((a && b) && ((c && d) && (e && f))) ≡ false
+and_first true true true f true d h = cc
+and_first true true true f false d h = refl
+and_first true true false f true true h = refl
+and_first true true false f true false h = refl
+and_first true true false f false d h = refl
+and_first true false e f c d h = refl
+and_first false b e f c d h = refl
 
--- a pen that has no column on the screen paints none of its pixels
+-- a pen that has no column before the edge paints nothing
 pub off_screen : (t : Display) (p : Pen) (count bits : ℕ) (columns : Span) (ink : Ink) (xs : List Ink)
-    → length xs ≡ t.choices.screen_width * t.choices.screen_height → 0 < t.choices.screen_width
-    → columns ≡ span_of (t.choices.origin_x + p.column) count t.choices.screen_width → columns.start ≡ columns.end
+    → columns ≡ span_of (t.choices.origin_x + p.column) count (right_edge t p.declared)
+    → columns.start ≡ columns.end
     → (i : ℕ) → i < length xs
     → get_or xs i black
-    ≡ cond (is_from_origin t (i % t.choices.screen_width) (i / t.choices.screen_width)
-    && covers p.column count p.band p.height bits (i % t.choices.screen_width - t.choices.origin_x)
-    (i / t.choices.screen_width - t.choices.origin_y)) ink (get_or xs i black)
+    ≡ cond (pen_covers t p count bits (i % t.choices.screen_width) (i / t.choices.screen_width)) ink (get_or xs i black)
 unfolding covers
-off_screen t p count bits columns ink xs whole some across empty i lt =
+off_screen t p count bits columns ink xs across empty i lt =
     let x = i % t.choices.screen_width in
-    let ends : min (t.choices.origin_x + p.column) t.choices.screen_width
-    ≡ min (t.choices.origin_x + p.column + count) t.choices.screen_width = rw across at empty in
-    let none = empty_across t.choices.origin_x p.column count t.choices.screen_width x
-    (mod_below i t.choices.screen_width some) ends in
+    let ends : min (t.choices.origin_x + p.column) (right_edge t p.declared)
+    ≡ min (t.choices.origin_x + p.column + count) (right_edge t p.declared) = rw across at empty in
+    let none = empty_across t.choices.origin_x p.column count (right_edge t p.declared) x ends in
     let px = x - t.choices.origin_x in
     let y = i / t.choices.screen_width in
     ap (λ (v : Bool). cond v ink (get_or xs i black))
     (sym (and_first (nat_le t.choices.origin_x x) (nat_le t.choices.origin_y y)
+    (nat_lt x (right_edge t p.declared)) (nat_lt y (bottom_edge t p.declared))
     (nat_le p.column px && nat_lt px (p.column + count))
     (any_below 6 (bit_covers p.band p.height bits (y - t.choices.origin_y))) none))
 

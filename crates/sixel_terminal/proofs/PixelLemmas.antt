@@ -1,22 +1,24 @@
 -- A pen paints the pixels of the screen that the definitions name.
-use Rattle.std.proofs.Common.{◌≡◌, ◌==◌, ℕ, ◌+◌, ◌-◌, ◌*◌, ◌<◌, ◌≤◌, Bool, true, false, ◌&&◌, cond, min, Option, Some}
-use Rattle.std.proofs.Common.{None, List, nat_le, nat_lt, refl, ap₂, arith}
+use Rattle.std.proofs.Common.{◌≡◌, ◌==◌, ℕ, ◌+◌, ◌-◌, ◌*◌, ◌<◌, ◌≤◌, Bool, true, false, ◌&&◌, ◌||◌, cond, min, not}
+use Rattle.std.proofs.Common.{Option, Some, None, List, nat_le, nat_lt, refl, ap₂, arith}
 use Rattle.std.specs.Prelude.{if◌then◌else◌}
 use Rattle.std.specs.Int.{bit_at}
-use Rattle.std.specs.Option.{option_map_or}
-use Rattle.std.proofs.lemmas.Bool.{cases_lt}
+use Rattle.std.specs.Option.{option_map, option_map_or}
+use Rattle.std.proofs.lemmas.Bool.{and_parts, cases_lt, leb-true}
 use Rattle.std.proofs.lemmas.Bool.Decides.{nat_tests}
 use Rattle.std.proofs.Common.{inl, inr}
 use Rattle.sixel_grammar.specs.declared.command.Event.{Event}
-use Rattle.sixel_picture.specs.Events.{Attributes, bits_of, columns_of, is_square, raster_of}
+use Rattle.sixel_picture.specs.Events.{Attributes, bits_of, columns_of, is_in_box, is_square, raster_of}
 use Rattle.sixel_picture.specs.Geometry.{band, column, covers, touches}
 use Rattle.sixel_picture.specs.Positions.{latest}
+use Rattle.sixel_picture.specs.Rules.{raster_before}
 use Rattle.sixel_picture.proofs.PositionLemmas.{any_below_same}
 use Rattle.sixel_terminal.specs.declared.pen.Pen.{Pen}
+use Rattle.sixel_terminal.specs.declared.pen.Sides.{Sides}
 use Rattle.sixel_terminal.specs.Displays.{Display}
-use Rattle.sixel_terminal.specs.Drawing.{filled_on, height_of, paints_on, touches_on}
+use Rattle.sixel_terminal.specs.Drawing.{height_of, is_kept_on, paint_at, paints_on, touches_on}
 use Rattle.sixel_terminal.specs.Standing.{IsPenAfter}
-use Rattle.sixel_terminal.specs.Steps.{is_from_origin, most, painted_by}
+use Rattle.sixel_terminal.specs.Steps.{is_before_edges, is_from_origin, most, painted_by, sides_of}
 
 -- a stopped column is right of each pixel of a screen
 stopped_across : (l c x : ℕ) → x < most
@@ -88,13 +90,50 @@ pen_covers t before p e x y s tall lx ly =
     (stopped_covers (column t.choices.zero before) (columns_of t.choices.zero e) (band before) (height_of t before)
     (bits_of e) x y (height_some t before tall) lx ly)
 
+both_below : (x w y h : ℕ) → x < w → y < h → (nat_lt x w && nat_lt y h) ≡ true
+both_below x w y h p q = grind (arith, nat_tests)
+
+-- before the end of a screen, the end of a box that begins at an origin is that of the box
+below_end : (o side w x : ℕ) → x < w → o ≤ x → nat_lt x (min w (o + side)) ≡ nat_lt (x - o) side
+below_end o side w x p q = grind (arith, nat_tests)
+
+-- before the edges is inside the box of raster attributes, where the terminal clips to one
+edges_keep : (clips : Bool) (ox oy w h x y : ℕ) (o : Option Attributes) → x < w → y < h → ox ≤ x → oy ≤ y
+    → (nat_lt x (if clips then option_map_or (λ (s : Sides). min w (ox + s.width)) (option_map sides_of o) w else w)
+    && nat_lt y (if clips then option_map_or (λ (s : Sides). min h (oy + s.height)) (option_map sides_of o) h else h))
+    ≡ (not clips || option_map_or (λ a. is_in_box a (x - ox) (y - oy)) o true)
+edges_keep false ox oy w h x y o p q f g = both_below x w y h p q
+edges_keep true ox oy w h x y None p q f g = both_below x w y h p q
+edges_keep true ox oy w h x y (Some a) p q f g =
+    ap₂ (λ u v. u && v) (below_end ox a.width w x p f) (below_end oy a.height h y q g)
+
+-- a pixel of the screen from the origin on is before the edges exactly where a data command may paint it
+pen_keeps : (t : Display) (before : List Event) (p : Pen) (x y : ℕ) → IsPenAfter t before p
+    → x < t.choices.screen_width → y < t.choices.screen_height → is_from_origin t x y ≡ true
+    → is_before_edges t p.declared x y ≡ is_kept_on t before (x - t.choices.origin_x) (y - t.choices.origin_y)
+unfolding is_kept_on
+pen_keeps t before p x y s wx wy from =
+    let at = and_parts (nat_le t.choices.origin_x x) (nat_le t.choices.origin_y y) from in
+    rw s.declared_is
+    (edges_keep t.choices.clips t.choices.origin_x t.choices.origin_y t.choices.screen_width t.choices.screen_height x y
+    (raster_before before) wx wy (leb-true _ _ at.0) (leb-true _ _ at.1))
+
 -- the pen paints what the definitions say
 pub pen_paints : (t : Display) (before : List Event) (p : Pen) (e : Event) (x y : ℕ) → IsPenAfter t before p
-    → 1 ≤ t.choices.tall → x < most → y < most → painted_by t p e x y ≡ paints_on t before e x y
+    → 1 ≤ t.choices.tall → x < t.choices.screen_width → y < t.choices.screen_height → x < most → y < most
+    → painted_by t p e x y ≡ paints_on t before e x y
 unfolding paints_on
-pen_paints t before p e x y s tall lx ly =
-    let px = x - t.choices.origin_x in
-    let py = y - t.choices.origin_y in
-    ap₂ (λ (v : Bool) (r : ℕ).
-    if is_from_origin t x y then (if v then Some r else filled_on t.choices.ground e px py) else None)
-    (pen_covers t before p e px py s tall (omega (arith, lx)) (omega (arith, ly))) s.selected_is
+pen_paints t before p e x y s tall wx wy lx ly =
+    split (is_from_origin t x y) refl
+  where
+    split : (from : Bool) → is_from_origin t x y ≡ from → painted_by t p e x y
+        ≡ (if is_from_origin t x y then paint_at t before e (x - t.choices.origin_x) (y - t.choices.origin_y) else None)
+    split false q = rw q refl
+    split true q =
+        let px = x - t.choices.origin_x in
+        let py = y - t.choices.origin_y in
+        rw (
+          pen_covers t before p e px py s tall (omega (arith, lx)) (omega (arith, ly)),
+          pen_keeps t before p x y s wx wy q,
+          s.selected_is,
+        ) refl

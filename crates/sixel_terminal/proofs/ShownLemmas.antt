@@ -1,11 +1,15 @@
 -- What is kept after all events is what is shown.
-use Rattle.std.proofs.Common.{◌≡◌, ℕ, zero, suc, ◌+◌, ◌*◌, ◌/◌, ◌%◌, ◌<◌, Bool, true, false, Option, Some, None, List}
-use Rattle.std.proofs.Common.{length, take, get_or, map, refl, ap, ◌∙◌, arith}
+use Rattle.std.proofs.Common.{◌≡◌, ℕ, zero, suc, ◌+◌, ◌*◌, ◌/◌, ◌%◌, ◌<◌, Bool, true, false, ◌||◌, Option, Some, None}
+use Rattle.std.proofs.Common.{List, [], ◌∷◌, length, take, get_or, map, refl, sym, ap, ◌∙◌, arith}
 use Rattle.std.specs.Prelude.{slice_get, unwrap_or, if◌then◌else◌}
+use Rattle.std.specs.List.{list_any}
 use Rattle.std.specs.Option.{option_or, option_map, option_and_then}
 use Rattle.std.proofs.Math.Nat.{mod-eq_of_lt}
 use Rattle.std.proofs.lemmas.List.{get_or-map, length-map}
+use Rattle.std.proofs.lemmas.Nat.{div-add-mod'}
 use Rattle.sixel_grammar.specs.declared.command.Event.{Event}
+use Rattle.sixel_grammar.specs.declared.command.Placed.{Placed}
+use Rattle.sixel_grammar.specs.Document.{events_of}
 use Rattle.sixel_picture.specs.declared.colour.Parts.{Parts}
 use Rattle.sixel_picture.specs.declared.colour.Parts.TheVariants.{Rgb}
 use Rattle.sixel_picture.specs.Positions.{at_position, last_at, last_below}
@@ -16,15 +20,11 @@ use Rattle.sixel_terminal.specs.declared.canvas.Ink.TheVariants.{Fixed, Bound}
 use Rattle.sixel_terminal.specs.declared.pen.Pen.{Pen}
 use Rattle.sixel_terminal.specs.Canvases.{black}
 use Rattle.sixel_terminal.specs.Displays.{Display, registers_of}
-use Rattle.sixel_terminal.specs.Drawing.{inked_on, map_on, paints_on, screen_on, shown_on}
+use Rattle.sixel_terminal.specs.Drawing.{inked_on, is_seen_on, map_on, paints_on, screen_on, shown_on}
 use Rattle.sixel_terminal.specs.Standing.{StandsAfter, ink_in_register, ink_at_point, inked_by, shown_in}
 use Rattle.sixel_terminal.proofs.InkLemmas.{map_same, paints_below}
 use Rattle.sixel_terminal.proofs.RunLemmas.{Runs}
-
-map_or : {A B : Type 0} (f : A → B) (o p : Option A)
-    → option_map f (option_or o p) ≡ option_or (option_map f o) (option_map f p)
-map_or f None p = refl
-map_or f (Some a) p = refl
+use Rattle.sixel_terminal.proofs.StandLemmas.{map_or}
 
 map_below : {A B : Type 0} (f : A → B) (n : ℕ) (g : ℕ → Option A)
     → option_map f (last_below n g) ≡ last_below n (λ i. option_map f (g i))
@@ -79,32 +79,72 @@ ink_shows true t events before colours r s lt =
 ink_shows false t events before colours r s lt = refl
 
 painting_shows : (t : Display) (events : List Event) (colours : List Parts) (x y : ℕ) (before : List Event) (e : Event)
-    → Runs t → AreAtEnd t events colours
+    → Runs t → is_seen_on t events ≡ true → AreAtEnd t events colours
     → option_map (shown_in colours) (inked_by t x y before e) ≡ inked_on t events x y before e
-painting_shows t events colours x y before e runs s =
-    map_map (shown_in colours) (ink_in_register t before) (paints_on t before e x y)
+painting_shows t events colours x y before e runs seen s =
+    rw seen
+    (map_map (shown_in colours) (ink_in_register t before) (paints_on t before e x y)
     ∙ map_same _ _ (paints_on t before e x y)
-    (λ r h. ink_shows t.choices.binds_at_showing t events before colours r s (paints_below t before e x y r runs h))
+    (λ r h. ink_shows t.choices.binds_at_showing t events before colours r s (paints_below t before e x y r runs h)))
 
-pixel_shows : (t : Display) (events : List Event) (colours : List Parts) (x y : ℕ) → Runs t → AreAtEnd t events colours
-    → shown_in colours (ink_at_point t events x y) ≡ shown_on t events x y
+pixel_shows : (t : Display) (events : List Event) (colours : List Parts) (x y : ℕ) → Runs t
+    → is_seen_on t events ≡ true → AreAtEnd t events colours → shown_in colours (ink_at_point t events x y) ≡ shown_on t events x y
 unfolding ink_at_point shown_on
-pixel_shows t events colours x y runs s =
+pixel_shows t events colours x y runs seen s =
     unwrap_map (shown_in colours) (last_at (inked_by t x y) events) _
     ∙ ap (λ o. unwrap_or o (get_or t.screen (y * t.choices.screen_width + x) (Rgb 0 0 0)))
     (map_last (shown_in colours) (inked_by t x y) (inked_on t events x y) events
-    (λ before e. painting_shows t events colours x y before e runs s))
+    (λ before e. painting_shows t events colours x y before e runs seen s))
 
--- the colours of all pixels
+-- the colours of all pixels, where the terminal sees the string
 pub all_shown : (t : Display) (events : List Event) (p : Pen) (colours : List Parts) (inks : List Ink) → Runs t
-    → StandsAfter t events p colours inks → map (shown_in colours) inks ≡ screen_on t events
+    → is_seen_on t events ≡ true → StandsAfter t events p colours inks → map (shown_in colours) inks ≡ screen_on t events
 unfolding screen_on
-all_shown t events p colours inks runs s =
+all_shown t events p colours inks runs seen s =
     rows_from_index t.choices.screen_width t.choices.screen_height (shown_on t events)
     (map (shown_in colours) inks) (Rgb 0 0 0)
     (simp length-map s.pixels)
     (λ i lt.
     get_or-map (shown_in colours) inks i black (Rgb 0 0 0) (omega (arith, s.pixels, lt))
     ∙ ap (shown_in colours) (s.inks_are i lt)
-    ∙ pixel_shows t events colours (i % t.choices.screen_width) (i / t.choices.screen_width) runs
+    ∙ pixel_shows t events colours (i % t.choices.screen_width) (i / t.choices.screen_width) runs seen
     (s.registers, s.colours_are))
+
+-- ---- strings that a terminal doesn't see
+
+pub any_event : (f : Event → Bool) (placed : List Placed) → list_any (λ (p : Placed). f p.event) placed ≡ list_any f (events_of placed)
+any_event f [] = refl
+any_event f (p ∷ ps) = ap (λ (b : Bool). f p.event || b) (any_event f ps)
+
+none_below : {A : Type 0} (n : ℕ) (g : ℕ → Option A) → ((i : ℕ) → g i ≡ None) → last_below n g ≡ None
+unfolding last_below
+none_below zero g h = refl
+none_below (suc n) g h = rw (h n) (none_below n g h)
+
+none_then : {X A : Type 0} (f : X → Option A) (o : Option X) → ((x : X) → f x ≡ None) → option_and_then f o ≡ None
+none_then f None h = refl
+none_then f (Some x) h = h x
+
+-- where nothing is given at any position, none is the last
+none_at : {X A : Type 0} (f : List X → X → Option A) (xs : List X) → ((before : List X) (x : X) → f before x ≡ None)
+    → last_at f xs ≡ None
+unfolding last_at at_position
+none_at f xs h = none_below (length xs) _ (λ i. none_then (f (take i xs)) (slice_get xs i) (h (take i xs)))
+
+unseen_pixel : (t : Display) (events : List Event) (x y : ℕ) → is_seen_on t events ≡ false
+    → shown_on t events x y ≡ get_or t.screen (y * t.choices.screen_width + x) (Rgb 0 0 0)
+unfolding shown_on
+unseen_pixel t events x y unseen =
+    ap (λ o. unwrap_or o (get_or t.screen (y * t.choices.screen_width + x) (Rgb 0 0 0)))
+    (none_at (inked_on t events x y) events (λ before e. rw unseen refl))
+
+-- a terminal that doesn't see the string shows what stood on its screen
+pub unseen_screen : (t : Display) (events : List Event) → Runs t → is_seen_on t events ≡ false
+    → t.screen ≡ screen_on t events
+unfolding screen_on
+unseen_screen t events runs unseen =
+    rows_from_index t.choices.screen_width t.choices.screen_height (shown_on t events) t.screen (Rgb 0 0 0)
+    runs.in_class.screen
+    (λ i lt.
+    ap (λ n. get_or t.screen n (Rgb 0 0 0)) (sym (div-add-mod' i t.choices.screen_width))
+    ∙ sym (unseen_pixel t events (i % t.choices.screen_width) (i / t.choices.screen_width) unseen))

@@ -2,14 +2,15 @@
 use Rattle.std.proofs.Common.{◌≡◌, ℕ, ◌+◌, ◌*◌, ◌%◌, ◌<◌, Bool, true, false, cond, min, Option, Some, None, List, []}
 use Rattle.std.proofs.Common.{◌∷◌, ◌++◌, get_or, refl, sym, ap, ◌∙◌, arith}
 use Rattle.std.specs.Prelude.{unwrap_or, if◌then◌else◌}
-use Rattle.std.specs.Option.{option_or, option_map_or}
+use Rattle.std.specs.Option.{option_or, option_map, option_map_or}
 use Rattle.std.proofs.lemmas.Nat.{mod_below}
 use Rattle.sixel_grammar.specs.declared.command.Event.{Event}
 use Rattle.sixel_picture.specs.Events.{Attributes, columns_of, is_next_line, is_return, is_square, named_by, raster_of}
 use Rattle.sixel_picture.specs.Events.{select_of}
 use Rattle.sixel_picture.specs.Geometry.{band, column}
-use Rattle.sixel_picture.specs.Positions.{last_at, latest}
-use Rattle.sixel_picture.proofs.PositionLemmas.{latest_push, last_at_push}
+use Rattle.sixel_picture.specs.Positions.{earliest, last_at, latest}
+use Rattle.sixel_picture.specs.Rules.{raster_before}
+use Rattle.sixel_picture.proofs.PositionLemmas.{earliest_push, latest_push, last_at_push}
 use Rattle.sixel_picture.proofs.StepLemmas.{band_push, column_push}
 use Rattle.sixel_picture.specs.declared.colour.Parts.TheVariants.{Rgb}
 use Rattle.sixel_terminal.specs.declared.canvas.Ink.TheVariants.{Fixed}
@@ -17,7 +18,12 @@ use Rattle.sixel_terminal.specs.declared.pen.Pen.{Pen}
 use Rattle.sixel_terminal.specs.Displays.{Display, registers_of}
 use Rattle.sixel_terminal.specs.Drawing.{defined_on, height_of, map_on, selected_on}
 use Rattle.sixel_terminal.specs.Standing.{IsPenAfter, ink_at_point, inked_by}
-use Rattle.sixel_terminal.specs.Steps.{most, next_band, next_column, next_height, next_selected}
+use Rattle.sixel_terminal.specs.Steps.{most, next_band, next_column, next_declared, next_height, next_selected, sides_of}
+
+pub map_or : {A B : Type 0} (f : A → B) (o p : Option A)
+    → option_map f (option_or o p) ≡ option_or (option_map f o) (option_map f p)
+map_or f None p = refl
+map_or f (Some a) p = refl
 
 -- the value of the first that has one, and a default
 map_or_or : {A B : Type 0} (f : A → B) (o p : Option A) (d : B)
@@ -44,9 +50,9 @@ modulo_below n d (Some r) h = mod_below r n (omega arith)
 -- the pen after one event more
 pub pen_push : (t : Display) (before : List Event) (p q : Pen) (e : Event) → IsPenAfter t before p
     → q.column ≡ next_column t p e → q.band ≡ next_band p e → q.height ≡ next_height t p e
-    → q.selected ≡ next_selected t p e → IsPenAfter t (before ++ e ∷ []) q
-unfolding height_of selected_on
-pen_push t before p q e s c b h sel = record {
+    → q.declared ≡ next_declared p e → q.selected ≡ next_selected t p e → IsPenAfter t (before ++ e ∷ []) q
+unfolding height_of raster_before selected_on
+pen_push t before p q e s c b h d sel = record {
   column_is =
       c ∙ ap (λ n. cond (is_return e) 0 (min (n + columns_of t.choices.zero e) most)) s.column_is
       ∙ stopped (is_return e) (column t.choices.zero before) (columns_of t.choices.zero e)
@@ -60,6 +66,10 @@ pen_push t before p q e s c b h sel = record {
       h ∙ ap (λ n. option_map_or height (raster_of e) n) s.height_is
       ∙ sym (map_or_or height (raster_of e) (latest raster_of before) t.choices.tall)
       ∙ ap (λ o. option_map_or height o t.choices.tall) (sym (latest_push raster_of before e));
+  declared_is =
+      d ∙ ap (λ o. option_or o (option_map sides_of (raster_of e))) s.declared_is
+      ∙ sym (map_or sides_of (earliest raster_of before) (raster_of e))
+      ∙ ap (option_map sides_of) (sym (earliest_push raster_of before e));
   selected_is =
       let f = (if t.choices.selects then named_by else select_of) in
       sel ∙ ap (λ n. option_map_or (λ r. r % registers_of t) (f e) n) s.selected_is

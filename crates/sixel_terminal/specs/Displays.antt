@@ -1,5 +1,5 @@
 -- The class of terminals.
-use Rattle.std.specs.Prelude.{◌≡◌, ℕ, ◌+◌, ◌*◌, ◌<◌, ◌≤◌, List, length}
+use Rattle.std.specs.Prelude.{◌≡◌, ℕ, ◌+◌, ◌*◌, ◌<◌, ◌≤◌, Bool, List, length}
 use Rattle.sixel_picture.specs.declared.colour.Parts.{Parts}
 use Rattle.sixel_terminal.specs.declared.choices.Choices.{Choices}
 use Rattle.sixel_terminal.specs.declared.choices.Ground.{Ground}
@@ -14,6 +14,28 @@ pub record Display : Type 0 where
 -- how many registers it has
 abbrev pub registers_of : Display → ℕ
 registers_of t = length t.colours
+
+-- these choices, but that the terminal clips, or doesn't
+abbrev pub with_clips : Bool → Choices → Choices
+with_clips clips c = record {
+  binds_at_showing = c.binds_at_showing;
+  selects = c.selects;
+  ground = c.ground;
+  selected = c.selected;
+  zero = c.zero;
+  clamps = c.clamps;
+  tall = c.tall;
+  clips = clips;
+  eight_bit = c.eight_bit;
+  screen_width = c.screen_width;
+  screen_height = c.screen_height;
+  origin_x = c.origin_x;
+  origin_y = c.origin_y;
+}
+
+-- the terminal that differs from this one in clipping alone, if at all
+abbrev pub clipping : Bool → Display → Display
+clipping clips t = record { choices = with_clips clips t.choices; colours = t.colours; screen = t.screen }
 
 -- the register of a filled ground is one of so many
 abbrev pub IsGroundBelow : ℕ → Ground → Type 0

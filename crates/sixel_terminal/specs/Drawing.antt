@@ -1,17 +1,19 @@
 -- What a terminal shows after a list of events. Columns and rows are counted in pixels of the screen from its top left,
 -- points from the origin of the picture.
-use Rattle.std.specs.Prelude.{◌==◌, ◌&&◌, ℕ, ◌+◌, ◌-◌, ◌*◌, ◌%◌, Bool, nat_le, Option, Some, None, IsSome, List}
-use Rattle.std.specs.Prelude.{slice_index_or, unwrap_or, if◌then◌else◌}
+use Rattle.std.specs.Prelude.{◌==◌, ◌&&◌, ◌||◌, ℕ, ◌+◌, ◌-◌, ◌*◌, ◌%◌, Bool, true, not, nat_le, Option, Some, None}
+use Rattle.std.specs.Prelude.{IsSome, List, slice_index_or, unwrap_or, if◌then◌else◌}
 use Rattle.std.specs.Bool.{then_some}
+use Rattle.std.specs.List.{list_any}
 use Rattle.std.specs.Option.{option_map, option_and_then, option_map_or}
 use Rattle.sixel_grammar.specs.declared.command.Event.{Event}
 use Rattle.sixel_picture.specs.declared.colour.Parts.{Parts}
 use Rattle.sixel_picture.specs.declared.colour.Parts.TheVariants.{Rgb}
 use Rattle.sixel_picture.specs.Colours.{clamped, colour_in, is_colour}
-use Rattle.sixel_picture.specs.Events.{Attributes, Definition, definition_where, is_in_box, is_square, named_by}
-use Rattle.sixel_picture.specs.Events.{raster_of, select_of}
+use Rattle.sixel_picture.specs.Events.{Attributes, Definition, definition_where, is_eight_bit, is_in_box, is_square}
+use Rattle.sixel_picture.specs.Events.{named_by, raster_of, select_of}
 use Rattle.sixel_picture.specs.Geometry.{touches}
 use Rattle.sixel_picture.specs.Positions.{HoldsAtPosition, last_at, latest}
+use Rattle.sixel_picture.specs.Rules.{raster_before}
 use Rattle.sixel_picture.specs.Sheets.{row_by_row}
 use Rattle.sixel_terminal.specs.declared.choices.Ground.{Ground}
 use Rattle.sixel_terminal.specs.declared.choices.Ground.TheVariants.{Kept, Filled}
@@ -24,9 +26,19 @@ height_of t before =
     option_map_or (λ (a : Attributes). if is_square a then 1 else t.choices.tall) (latest raster_of before)
     t.choices.tall
 
--- the event is a data command that paints the point
+-- the event is a data command that touches the point
 unfoldable pub touches_on : Display → List Event → Event → ℕ → ℕ → Bool
 touches_on t before e x y = touches t.choices.zero (height_of t before) before e x y
+
+-- a data command may paint the point: on a terminal that clips it lies in the box of the first raster attributes
+-- before, if there are any
+unfoldable pub is_kept_on : Display → List Event → ℕ → ℕ → Bool
+is_kept_on t before x y =
+    not t.choices.clips || option_map_or (λ a. is_in_box a x y) (raster_before before) true
+
+-- the terminal sees the string: it has 8-bit controls, or no start and no finish is one
+unfoldable pub is_seen_on : Display → List Event → Bool
+is_seen_on t events = t.choices.eight_bit || not (list_any is_eight_bit events)
 
 -- the selected register: that of the last select before, or of the last select or definition where a definition selects
 -- too, modulo the count of registers; where there is none, the register selected at the start
@@ -61,25 +73,31 @@ filled_on (Filled register) e x y = option_and_then (λ a. then_some (is_in_box 
 -- the register in which the event paints the point
 abbrev pub paint_at : Display → List Event → Event → ℕ → ℕ → Option ℕ
 paint_at t before e x y =
-    if touches_on t before e x y then Some (selected_on t before) else filled_on t.choices.ground e x y
+    if touches_on t before e x y && is_kept_on t before x y
+    then Some (selected_on t before)
+    else filled_on t.choices.ground e x y
 
--- the register in which the event paints the pixel, which need not lie on the screen
+-- the register in which the event paints the pixel, which need not lie on the screen, where the terminal sees the string
 unfoldable pub paints_on : Display → List Event → Event → ℕ → ℕ → Option ℕ
 paints_on t before e x y =
     if nat_le t.choices.origin_x x && nat_le t.choices.origin_y y
     then paint_at t before e (x - t.choices.origin_x) (y - t.choices.origin_y)
     else None
 
+-- the register in which an event of the list paints the pixel: none paints what the terminal doesn't see
+abbrev pub paints_in : Display → List Event → List Event → Event → ℕ → ℕ → Option ℕ
+paints_in t events before e x y = if is_seen_on t events then paints_on t before e x y else None
+
 -- some event paints the pixel
 unfoldable pub IsPainted : Display → List Event → ℕ → ℕ → Type 0
 IsPainted t events x y =
-    (i : ℕ) × HoldsAtPosition (λ before e. IsSome (paints_on t before e x y)) events i
+    (i : ℕ) × HoldsAtPosition (λ before e. IsSome (paints_in t events before e x y)) events i
 
 -- the colour of the register in which the event paints the pixel, if it does: the colour at its painting, or at the end
 -- of the events
 abbrev pub inked_on : Display → List Event → ℕ → ℕ → List Event → Event → Option Parts
 inked_on t events x y before e =
-    option_map (map_on t (if t.choices.binds_at_showing then events else before)) (paints_on t before e x y)
+    option_map (map_on t (if t.choices.binds_at_showing then events else before)) (paints_in t events before e x y)
 
 -- the colour shown at a pixel of the screen: that of the last painting, or the one that stood there
 unfoldable pub shown_on : Display → List Event → ℕ → ℕ → Parts

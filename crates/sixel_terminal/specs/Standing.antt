@@ -8,19 +8,20 @@ use Rattle.sixel_picture.specs.declared.colour.Parts.{Parts}
 use Rattle.sixel_picture.specs.declared.colour.Parts.TheVariants.{Rgb}
 use Rattle.sixel_picture.specs.Geometry.{band, column}
 use Rattle.sixel_picture.specs.Positions.{last_at}
+use Rattle.sixel_picture.specs.Rules.{raster_before}
 use Rattle.sixel_terminal.specs.declared.canvas.Ink.{Ink}
 use Rattle.sixel_terminal.specs.declared.canvas.Ink.TheVariants.{Fixed, Bound}
 use Rattle.sixel_terminal.specs.declared.pen.Pen.{Pen}
 use Rattle.sixel_terminal.specs.Canvases.{black}
 use Rattle.sixel_terminal.specs.Displays.{Display, registers_of}
 use Rattle.sixel_terminal.specs.Drawing.{height_of, map_on, paints_on, selected_on}
-use Rattle.sixel_terminal.specs.Steps.{most}
+use Rattle.sixel_terminal.specs.Steps.{most, sides_of}
 
 -- what is painted in a register
 abbrev pub ink_in_register : Display → List Event → ℕ → Ink
 ink_in_register t before r = if t.choices.binds_at_showing then Bound r else Fixed (map_on t before r)
 
--- the ink of a pixel that an event paints
+-- the ink of a pixel that an event paints, where the terminal sees the string
 abbrev pub inked_by : Display → ℕ → ℕ → List Event → Event → Option Ink
 inked_by t x y before e = option_map (ink_in_register t before) (paints_on t before e x y)
 
@@ -34,6 +35,7 @@ pub record IsPenAfter (t : Display) (before : List Event) (p : Pen) : Type 0 whe
   pub column_is : p.column ≡ min (column t.choices.zero before) most
   pub band_is : p.band ≡ min (band before) most
   pub height_is : p.height ≡ height_of t before
+  pub declared_is : p.declared ≡ option_map sides_of (raster_before before)
   pub selected_is : p.selected ≡ selected_on t before
   pub selected_below : p.selected < registers_of t
 

@@ -2,7 +2,7 @@
 -- Drawing, and none of its words is by steps.
 use Rattle.std.specs.Prelude.{◌&&◌, ℕ, ◌+◌, ◌-◌, ◌%◌, ◌^◌, Bool, List, Option, Some, None, min, nat_le, nat_lt}
 use Rattle.std.specs.Prelude.{slice_index_or, unwrap_or, if◌then◌else◌}
-use Rattle.std.specs.Option.{option_map, option_map_or}
+use Rattle.std.specs.Option.{option_map, option_map_or, option_or}
 use Rattle.sixel_grammar.specs.declared.command.Event.{Event}
 use Rattle.sixel_picture.specs.declared.colour.Parts.{Parts}
 use Rattle.sixel_picture.specs.declared.colour.Parts.TheVariants.{Rgb}
@@ -12,6 +12,7 @@ use Rattle.sixel_picture.specs.Geometry.{covers}
 use Rattle.sixel_terminal.specs.declared.canvas.Ink.{Ink}
 use Rattle.sixel_terminal.specs.declared.canvas.Ink.TheVariants.{Fixed, Bound}
 use Rattle.sixel_terminal.specs.declared.pen.Pen.{Pen}
+use Rattle.sixel_terminal.specs.declared.pen.Sides.{Sides}
 use Rattle.sixel_terminal.specs.Displays.{Display, registers_of}
 use Rattle.sixel_terminal.specs.Drawing.{filled_on}
 
@@ -33,6 +34,33 @@ abbrev pub next_selected : Display → Pen → Event → ℕ
 next_selected t p e =
     option_map_or (λ r. r % registers_of t) ((if t.choices.selects then named_by else select_of) e) p.selected
 
+-- the sides of the box that raster attributes declare
+abbrev pub sides_of : Attributes → Sides
+sides_of a = record { width = a.width; height = a.height }
+
+abbrev pub next_declared : Pen → Event → Option Sides
+next_declared p e = option_or p.declared (option_map sides_of (raster_of e))
+
+-- the column and the row from which on a data command paints nothing: the end of the screen, or on a terminal that clips
+-- that of the declared box, if it comes first
+abbrev pub right_edge : Display → Option Sides → ℕ
+right_edge t declared =
+    if t.choices.clips
+    then option_map_or (λ (s : Sides). min t.choices.screen_width (t.choices.origin_x + s.width)) declared
+    t.choices.screen_width
+    else t.choices.screen_width
+
+abbrev pub bottom_edge : Display → Option Sides → ℕ
+bottom_edge t declared =
+    if t.choices.clips
+    then option_map_or (λ (s : Sides). min t.choices.screen_height (t.choices.origin_y + s.height)) declared
+    t.choices.screen_height
+    else t.choices.screen_height
+
+-- the pixel lies before both edges
+abbrev pub is_before_edges : Display → Option Sides → ℕ → ℕ → Bool
+is_before_edges t declared x y = nat_lt x (right_edge t declared) && nat_lt y (bottom_edge t declared)
+
 -- the pixel is neither left of the origin nor above it
 abbrev pub is_from_origin : Display → ℕ → ℕ → Bool
 is_from_origin t x y = nat_le t.choices.origin_x x && nat_le t.choices.origin_y y
@@ -41,7 +69,8 @@ is_from_origin t x y = nat_le t.choices.origin_x x && nat_le t.choices.origin_y 
 abbrev pub pen_covers : Display → Pen → ℕ → ℕ → ℕ → ℕ → Bool
 pen_covers t p count bits x y =
     is_from_origin t x y
-    && covers p.column count p.band p.height bits (x - t.choices.origin_x) (y - t.choices.origin_y)
+    && (covers p.column count p.band p.height bits (x - t.choices.origin_x) (y - t.choices.origin_y)
+    && is_before_edges t p.declared x y)
 
 -- the pixel lies in a box of this size that begins at the origin
 abbrev pub box_covers : Display → ℕ → ℕ → ℕ → ℕ → Bool
@@ -54,6 +83,7 @@ painted_by t p e x y =
     if is_from_origin t x y
     then if covers p.column (columns_of t.choices.zero e) p.band p.height (bits_of e)
     (x - t.choices.origin_x) (y - t.choices.origin_y)
+    && is_before_edges t p.declared x y
     then Some p.selected
     else filled_on t.choices.ground e (x - t.choices.origin_x) (y - t.choices.origin_y)
     else None

@@ -30,6 +30,12 @@ pub struct Choices {
     /// The height of a sixel pixel, in pixels of the screen from 1 upwards, where there are no raster attributes
     /// yet or one of the two numbers of the latest ratio isn't 1. So it is the height at 2;2 too.
     pub tall: u16,
+    /// A data command paints only in the box of the first raster attributes before it. Where none stand before it,
+    /// nothing is cut off.
+    pub clips: bool,
+    /// The bytes 90 and 9C are taken as an introducer and a terminator. If not, a string that begins with 90 or ends in
+    /// 9C shows nothing, not even what stands between.
+    pub eight_bit: bool,
     /// In pixels, as are the three that follow.
     pub screen_width: u32,
     pub screen_height: u32,

@@ -1,7 +1,15 @@
 //! Where the next data command paints, and in what.
 
-ghost use Rattle.std.specs.Prelude.{◌≡◌, ◌+◌, min};
+ghost use Rattle.std.specs.Prelude.{◌≡◌, ◌+◌, Some, min};
+ghost use Rattle.std.specs.Option.{option_or};
 ghost use Rattle.sixel_terminal.specs.Steps.{most};
+
+/// The sides of a declared box, in pixels.
+#[derive(Clone, Copy, Debug)]
+pub(crate) struct Sides {
+    pub width: u16,
+    pub height: u16,
+}
 
 /// What stands before a command. Column and band stop at `u32::MAX`, which is off each screen of a `Terminal`.
 #[derive(Clone, Copy, Debug)]
@@ -11,6 +19,8 @@ pub(crate) struct Pen {
     pub band: u32,
     /// The height of a sixel pixel, in pixels of the screen.
     pub height: u16,
+    /// The box of the first raster attributes.
+    pub declared: Option<Sides>,
     /// The selected register.
     pub selected: u16,
 }
@@ -22,6 +32,7 @@ impl Pen {
           column = min (self.column + columns) most;
           band = self.band;
           height = self.height;
+          declared = self.declared;
           selected = self.selected;
         } }
     {
@@ -37,6 +48,7 @@ impl Pen {
           column = 0;
           band = band;
           height = self.height;
+          declared = self.declared;
           selected = self.selected;
         } }
     {
@@ -47,15 +59,21 @@ impl Pen {
         }
     }
 
-    pub(crate) fn with_height(self, height: u16) -> Pen
+    /// After raster attributes: with this height of a sixel pixel, and with this box if it is the first.
+    pub(crate) fn in_box(self, height: u16, sides: Sides) -> Pen
         ensures { result ≡ record {
           column = self.column;
           band = self.band;
           height = height;
+          declared = option_or self.declared (Some sides);
           selected = self.selected;
         } }
     {
-        Pen { height, ..self }
+        Pen {
+            height,
+            declared: self.declared.or(Some(sides)),
+            ..self
+        }
     }
 
     pub(crate) fn with_selected(self, selected: u16) -> Pen
@@ -63,6 +81,7 @@ impl Pen {
           column = self.column;
           band = self.band;
           height = self.height;
+          declared = self.declared;
           selected = selected;
         } }
     {

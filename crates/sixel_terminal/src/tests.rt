@@ -32,6 +32,8 @@ fn plain_choices(width: u32, height: u32) -> Choices {
         selected: 0,
         zero: 1,
         clamps: true,
+        clips: false,
+        eight_bit: true,
         tall: 1,
         screen_width: width,
         screen_height: height,

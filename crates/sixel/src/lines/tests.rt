@@ -101,6 +101,7 @@ fn writes_the_line_of_a_finding(rt: HostRuntime) {
             Some((u64::MAX, u64::MAX)),
             "broken Outside 18446744073709551615 18446744073709551615 18446744073709551615\n",
         ),
+        (Rule::EightBit, 0, None, "broken EightBit 0\n"),
         // no document's finding: this rule names no pixel
         (Rule::RasterFirst, 3, Some((1, 0)), "broken RasterFirst 3\n"),
     ];

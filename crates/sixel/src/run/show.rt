@@ -36,6 +36,8 @@ pub fn show_choices(showing: bool, fill: bool, selects: bool, width: u32, height
         selected: 0,
         zero: 1,
         clamps: true,
+        clips: false,
+        eight_bit: true,
         tall: 1,
         screen_width: width,
         screen_height: height,

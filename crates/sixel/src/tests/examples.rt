@@ -31,6 +31,7 @@ fn each_rule_is_named(rt: HostRuntime) {
         (b"\x1bPq\"2;1;1;1\x1b\\".as_slice(), "broken Ratio 3\n"),
         (b"\x1bPq\"1;1\x1b\\".as_slice(), "broken BoxSize 3\n"),
         (b"\x1bPq#16\x1b\\".as_slice(), "broken Register 3\n"),
+        (b"\x90q\x1b\\".as_slice(), "broken EightBit 0\n"),
         (
             b"\x1bPq\"1;1;1;1#16;2;0;0;0#16@\x1b\\".as_slice(),
             "broken Register 11\n",

@@ -2,9 +2,11 @@
 
 ghost use Rattle.std.specs.Prelude.{◌≡◌, ◌<◌, ◌++◌, ◌∷◌, [], List, IfOk, length, map};
 ghost use Rattle.sixel_grammar.specs.declared.command.Event.{Event};
+ghost use Rattle.std.specs.List.{list_any};
 ghost use Rattle.sixel_grammar.specs.Document.{events_of};
+ghost use Rattle.sixel_picture.specs.Events.{is_eight_bit};
 ghost use Rattle.sixel_terminal.specs.declared.canvas.Ink.TheVariants.{Fixed};
-ghost use Rattle.sixel_terminal.specs.Drawing.{screen_on};
+ghost use Rattle.sixel_terminal.specs.Drawing.{is_seen_on, screen_on};
 ghost use Rattle.sixel_terminal.specs.Standing.{IsPenAfter, StandsAfter, shown_in};
 
 use crate::canvas::Ink;
@@ -48,6 +50,24 @@ fn colours_of(alloc: Global, colours: &[Colour], inks: &[Ink]) -> Result<Vec<Col
     Ok(shown)
 }
 
+/// Whether the event is a control of 8 bits.
+fn is_eight_bit(event: &Event) -> bool
+    ensures { result ≡ is_eight_bit event.now }
+{
+    match event {
+        Event::Start { eight, .. } => *eight,
+        Event::Step(_) => false,
+        Event::Finish { eight } => *eight,
+    }
+}
+
+/// Whether one of the events is a control of 8 bits.
+fn has_eight_bit(events: &[Placed]) -> bool
+    ensures { result ≡ list_any (λ p. is_eight_bit p.event) events.now }
+{
+    events.iter().any(|placed| is_eight_bit(&placed.event))
+}
+
 impl Terminal {
     /// What stands before any event.
     fn first_pen(&self) -> Pen
@@ -57,6 +77,7 @@ impl Terminal {
             column: 0,
             band: 0,
             height: self.choices.tall,
+            declared: None,
             selected: self.choices.selected,
         }
     }
@@ -78,15 +99,27 @@ impl Terminal {
         }
     }
 
+    /// Whether the terminal sees the string of these events: it has 8-bit controls, or none of them is one.
+    #[tactic(auto, unfolding(crate::specs::Drawing::is_seen_on))]
+    fn sees(&self, events: &[Placed]) -> bool
+        ensures { result ≡ is_seen_on self.now (events_of events.now) }
+    {
+        self.choices.eight_bit || !has_eight_bit(events)
+    }
+
     /// The colours of the whole screen after the events, row by row.
     ///
     /// It takes any list of events, also one that no text spells: bits above the six of a sixel paint nothing. Nor do
-    /// a start and a finish. What lies off the screen is left out.
+    /// a start and a finish. What lies off the screen is left out. A terminal without 8-bit controls shows nothing of a
+    /// list in which a start or a finish is one, wherever it stands.
     ///
     /// `AllocError` is answered only where a growth was refused.
     pub fn show(&self, alloc: Global, events: &[Placed]) -> Result<Vec<Colour>, AllocError>
         ensures { IfOk result (λ shown. shown.items ≡ screen_on self.now (events_of events.now)) }
     {
+        if !self.sees(events) {
+            return Vec::from_slice(alloc, &self.screen);
+        }
         let mut colours = Vec::from_slice(alloc, &self.colours)?;
         let mut inks = inks_of(alloc, &self.screen)?;
         let mut pen = self.first_pen();

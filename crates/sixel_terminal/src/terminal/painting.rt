@@ -1,9 +1,9 @@
 //! Painting on a screen.
 
-ghost use Rattle.std.specs.Prelude.{◌≡◌, ◌<◌, ◌+◌, ◌*◌, ◌/◌, ◌%◌, EachIndex, length, slice_index_or, if◌then◌else◌};
+ghost use Rattle.std.specs.Prelude.{◌≡◌, ◌<◌, ◌≤◌, ◌+◌, ◌*◌, ◌/◌, ◌%◌, EachIndex, length, slice_index_or, if◌then◌else◌};
 ghost use Rattle.sixel_picture.specs.Geometry.{band_rows};
 ghost use Rattle.sixel_terminal.specs.Canvases.{black, span_of};
-ghost use Rattle.sixel_terminal.specs.Steps.{box_covers, pen_covers};
+ghost use Rattle.sixel_terminal.specs.Steps.{bottom_edge, box_covers, pen_covers, right_edge};
 
 use crate::canvas::{Ink, Span, fill};
 use crate::pen::Pen;
@@ -11,15 +11,44 @@ use crate::terminal::Terminal;
 use sixel_picture::{BAND_ROWS, is_set};
 
 impl Terminal {
+    /// The column from which on a data command paints nothing.
+    fn right_edge(&self, pen: Pen) -> u32
+        ensures value { result ≡ right_edge self.now pen.declared }
+        ensures most { result ≤ self.now.choices.screen_width }
+    {
+        match pen.declared {
+            Some(sides) if self.choices.clips => {
+                let end = self.choices.origin_x + sides.width as u32;
+                self.choices.screen_width.min(end)
+            }
+            _ => self.choices.screen_width,
+        }
+    }
+
+    /// The row from which on a data command paints nothing.
+    fn bottom_edge(&self, pen: Pen) -> u32
+        ensures value { result ≡ bottom_edge self.now pen.declared }
+        ensures most { result ≤ self.now.choices.screen_height }
+    {
+        match pen.declared {
+            Some(sides) if self.choices.clips => {
+                let end = self.choices.origin_y + sides.height as u32;
+                self.choices.screen_height.min(end)
+            }
+            _ => self.choices.screen_height,
+        }
+    }
+
     /// The rows of the screen in which a bit of the pen's band lies.
     fn rows_of(&self, pen: Pen, bit: u32) -> Span
         requires { bit < band_rows }
-        ensures { result ≡ span_of (self.now.choices.origin_y + (band_rows * pen.band + bit) * pen.height) pen.height
-            self.now.choices.screen_height }
+        ensures span { result ≡ span_of (self.now.choices.origin_y + (band_rows * pen.band + bit) * pen.height)
+            pen.height (bottom_edge self.now pen.declared) }
+        ensures within { result.end ≤ self.now.choices.screen_height }
     {
         let row = (BAND_ROWS as u64 * pen.band as u64 + bit as u64) * pen.height as u64;
         let start = self.choices.origin_y as u64 + row;
-        Span::new(start, pen.height as u64, self.choices.screen_height)
+        Span::new(start, pen.height as u64, self.bottom_edge(pen))
     }
 
     /// Gives the pixels of the set bits of so many columns from the pen on the ink.
@@ -30,8 +59,8 @@ impl Terminal {
             (i / self.now.choices.screen_width) then ink.now else slice_index_or inks.old i black)) }
     {
         let left = self.choices.origin_x as u64 + pen.column as u64;
-        let columns = Span::new(left, count as u64, self.choices.screen_width);
-        // No column of it is on the screen, so none of its rows needs a look.
+        let columns = Span::new(left, count as u64, self.right_edge(pen));
+        // No column of it is before the edge, so none of its rows needs a look.
         if columns.start == columns.end {
             return;
         }

@@ -1,6 +1,6 @@
 //! What one command does.
 
-ghost use Rattle.std.specs.Prelude.{◌≡◌, ◌==◌, ◌<◌, ◌*◌, ◌/◌, ◌%◌, EachIndex, length, slice_index_or, unwrap_or};
+ghost use Rattle.std.specs.Prelude.{◌≡◌, ◌==◌, ◌&&◌, ◌<◌, ◌*◌, ◌/◌, ◌%◌, EachIndex, length, slice_index_or, unwrap_or};
 ghost use Rattle.std.specs.Prelude.{if◌then◌else◌};
 ghost use Rattle.std.specs.Option.{option_and_then, option_map_or};
 ghost use Rattle.sixel_grammar.specs.declared.command.Event.TheVariants.{Step};
@@ -10,12 +10,12 @@ ghost use Rattle.sixel_picture.specs.Events.{named_by, select_of};
 ghost use Rattle.sixel_terminal.specs.Canvases.{black};
 ghost use Rattle.sixel_terminal.specs.Displays.{registers_of};
 ghost use Rattle.sixel_terminal.specs.Drawing.{defined_on, taken_on};
-ghost use Rattle.sixel_terminal.specs.Steps.{ink_after_event, ink_by_colours, next_band, next_column, next_height};
-ghost use Rattle.sixel_terminal.specs.Steps.{next_selected};
+ghost use Rattle.sixel_terminal.specs.Steps.{ink_after_event, ink_by_colours, next_band, next_column, next_declared};
+ghost use Rattle.sixel_terminal.specs.Steps.{next_height, next_selected};
 
 use crate::canvas::Ink;
 use crate::choices::Ground;
-use crate::pen::Pen;
+use crate::pen::{Pen, Sides};
 use crate::terminal::Terminal;
 use sixel_grammar::Command;
 use sixel_picture::Colour;
@@ -94,20 +94,33 @@ impl Terminal {
         }
     }
 
+    /// The height of a sixel pixel at this ratio.
+    fn height_at(&self, pan: u16, pad: u16) -> u16
+        ensures { result ≡ (if pan == 1 && pad == 1 then 1 else self.now.choices.tall) }
+    {
+        if pan == 1 && pad == 1 {
+            1
+        } else {
+            self.choices.tall
+        }
+    }
+
     /// Where the next data command paints after the command.
     fn next_place(&self, pen: Pen, command: Command) -> Pen
         ensures column { result.column ≡ next_column self.now pen (Step command) }
         ensures band { result.band ≡ next_band pen (Step command) }
         ensures height { result.height ≡ next_height self.now pen (Step command) }
+        ensures declared { result.declared ≡ next_declared pen (Step command) }
     {
         match command {
             Command::Sixel(_) => pen.moved(1),
             Command::Repeat { count, .. } => pen.moved(self.columns_of(count)),
-            Command::Raster { pan, pad, .. } => pen.with_height(if pan == 1 && pad == 1 {
-                1
-            } else {
-                self.choices.tall
-            }),
+            Command::Raster {
+                pan,
+                pad,
+                width,
+                height,
+            } => pen.in_box(self.height_at(pan, pad), Sides { width, height }),
             Command::CarriageReturn => pen.at_margin(pen.band),
             Command::NextLine => pen.at_margin(pen.band.saturating_add(1)),
             _ => pen,
@@ -119,6 +132,7 @@ impl Terminal {
         ensures column { result.column ≡ next_column self.now pen (Step command) }
         ensures band { result.band ≡ next_band pen (Step command) }
         ensures height { result.height ≡ next_height self.now pen (Step command) }
+        ensures declared { result.declared ≡ next_declared pen (Step command) }
         ensures selected { result.selected ≡ next_selected self.now pen (Step command) }
     {
         let selected = self.next_selected(pen.selected, command);

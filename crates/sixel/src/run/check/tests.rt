@@ -81,10 +81,6 @@ fn answers_portable(rt: HostRuntime) {
             b"\x1bPq\"1;1;1;1#0;1;360;50;100#0@\x1b\\".as_slice(),
             "portable 1 1\n",
         ),
-        (
-            b"\x90q\"1;1;1;1#0;2;0;0;0#0@\x9c".as_slice(),
-            "portable 1 1\n",
-        ),
     ];
     for (bytes, line) in rows {
         assert!(rt;
@@ -384,6 +380,45 @@ fn judges_the_registers_of_the_wide_profile(rt: HostRuntime) {
             checks(rt.alloc(), wide, bytes, line, Ok(Status::Broken(finding))),
             "{line}"
         );
+    }
+}
+
+/// A start or an end by a control of 8 bits is looked at last: at an end, what stays uncovered is named before it.
+#[test]
+fn names_controls_of_eight_bits(rt: HostRuntime) {
+    let rows = [
+        (
+            b"\x90q\"1;1;1;1#0;2;0;0;0#0@\x9c".as_slice(),
+            "broken EightBit 0\n",
+            Rule::EightBit,
+            0,
+            None,
+        ),
+        (
+            b"\x90q\x1b\\".as_slice(),
+            "broken EightBit 0\n",
+            Rule::EightBit,
+            0,
+            None,
+        ),
+        (
+            b"\x1bPq\"1;1;1;1#0;2;0;0;0#0@\x9c".as_slice(),
+            "broken EightBit 24\n",
+            Rule::EightBit,
+            24,
+            None,
+        ),
+        (
+            b"\x1bPq\"1;1;2;1#0;2;0;0;0#0@\x9c".as_slice(),
+            "broken Uncovered 24 1 0\n",
+            Rule::Uncovered,
+            24,
+            Some((1, 0)),
+        ),
+    ];
+    for (bytes, line, rule, place, pixel) in rows {
+        let answer = Ok(Status::Broken(Finding { rule, place, pixel }));
+        assert!(rt; checks_in_both(rt.alloc(), bytes, line, answer), "{line}");
     }
 }
 

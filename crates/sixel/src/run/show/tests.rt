@@ -101,6 +101,15 @@ fn selects_by_a_definition_or_not(rt: HostRuntime) {
     assert!(rt; shows_with(rt.alloc(), selects, 1, bytes, red, Ok(Status::Done)));
 }
 
+/// Two columns are painted where a box of one is declared, by a string with controls of 8 bits: the terminal takes these,
+/// and doesn't clip.
+#[test]
+fn takes_eight_bits_and_clips_nothing(rt: HostRuntime) {
+    let bytes = b"\x90q\"1;1;1;1#0;2;0;0;0#0!2@\x9c";
+    let black = b"P6\n2 1\n100\n\x00\x00\x00\x00\x00\x00";
+    assert!(rt; shows(rt.alloc(), 2, bytes, black));
+}
+
 /// Register 15 starts as 90 percent, and register 16 is register 0 again.
 #[test]
 fn starts_with_sixteen_greys(rt: HostRuntime) {

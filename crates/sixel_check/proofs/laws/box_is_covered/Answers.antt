@@ -1,5 +1,5 @@
 use Rattle.sixel_check.proofs.CoverLemmas.{all_covered, filled_first}
-use Rattle.sixel_check.proofs.WithinLemmas.{none_painted_outside}
+use Rattle.sixel_check.proofs.WithinLemmas.{clipping_changes_nothing, none_painted_outside}
 use Rattle.sixel_picture.specs.Profiles.{count_of}
 use Rattle.sixel_check.proofs.laws.box_is_covered.Goals as goal
 
@@ -8,4 +8,5 @@ returns c = record {
   filled_first = λ profile. filled_first (count_of profile);
   all_covered = λ profile. all_covered (count_of profile);
   none_outside = λ profile. none_painted_outside (count_of profile);
+  none_clipped = λ profile. clipping_changes_nothing (count_of profile);
 }

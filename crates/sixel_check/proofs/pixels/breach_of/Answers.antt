@@ -23,4 +23,4 @@ returns-in-None-None g c = λ registers before s d.
     least_noted c.args.notes.now (option_map g.P.Plane.sheet c.args.plane.now) before c.args.event.now c.is_some.result
     None (c.is_some.ensures ∙ has_sheet g.P.Plane.sheet c.args.plane.now) c.in-None-None.ensures s d in
     let undrawn = rw c.in-None-None.is-1 at d in
-    none_without_box _ before c.args.event.now undrawn.no_box none
+    c.breach_of_eight_bit.ensures registers before (none_without_box _ before c.args.event.now undrawn.no_box none)

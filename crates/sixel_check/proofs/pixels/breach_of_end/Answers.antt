@@ -6,7 +6,7 @@ use Rattle.sixel_check.proofs.pixels.breach_of_end.Goals as goal
 pub returns-then-not-is_finish : goal.returns-then-not-is_finish
 returns-then-not-is_finish g c = λ registers before d none.
     let goes_on : is_finish c.args.event.now ≡ false = search rules in
-    none_before_end _ before c.args.event.now goes_on none
+    c.breach_of_eight_bit.ensures registers before (none_before_end _ before c.args.event.now goes_on none)
 
 pub returns-in-Some : goal.returns-in-Some
 returns-in-Some g c = λ registers before d none.
@@ -16,4 +16,5 @@ returns-in-Some g c = λ registers before d none.
 
 pub returns-in-None : goal.returns-in-None
 returns-in-None g c = λ registers before d none.
-    none_uncovered _ before c.args.event.now (g.P.Plane.sheet c.args.plane.now) d none (c.in-None.ensures before d)
+    c.breach_of_eight_bit-in-None.ensures registers before
+    (none_uncovered _ before c.args.event.now (g.P.Plane.sheet c.args.plane.now) d none (c.in-None.ensures before d))

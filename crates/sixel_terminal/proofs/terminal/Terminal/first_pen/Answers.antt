@@ -8,4 +8,5 @@ pub returns : goal.returns
 returns c =
     let known : Runs c.args.self.now = runs_seen _ _ _ _ c.self.view_is c.self.invariant in
     pen_start c.args.self.now _ known.in_class.selected refl refl
-    (ap (λ (t : Display). t.choices.tall) c.self.view_is) (ap (λ (t : Display). t.choices.selected) c.self.view_is)
+    (ap (λ (t : Display). t.choices.tall) c.self.view_is) refl
+    (ap (λ (t : Display). t.choices.selected) c.self.view_is)

@@ -1,4 +1,4 @@
-use Rattle.std.proofs.Common.{◌≡◌, ◌==◌, ◌<◌, true, false, refl, sym, ap, arith, rules}
+use Rattle.std.proofs.Common.{◌≡◌, ◌==◌, true, false, refl, sym, ap, arith}
 use Rattle.std.specs.Int.{bit_at}
 use Rattle.sixel_terminal.specs.Displays.{Display}
 use Rattle.sixel_picture.proofs.PaintLemmas.{painted_none, painted_same}
@@ -10,9 +10,8 @@ use Rattle.sixel_terminal.proofs.terminal.Terminal.paint_columns.Goals.{then-is_
 pub returns-then-columns : goal.returns-then-columns
 returns-then-columns c =
     let same : c.self.inside.choices ≡ c.args.self.now.choices = ap (λ (t : Display). t.choices) c.self.view_is in
-    let some : 0 < c.args.self.now.choices.screen_width = rw (← same) (search rules) in
     off_screen c.args.self.now c.args.pen c.args.count c.args.bits c.new-columns.result c.args.ink.now c.args.inks.now
-    c.requires some (rw same at c.new-columns.ensures) c.if-columns.true
+    (rw (same, c.right_edge.ensures.value) at c.new-columns.ensures) c.if-columns.true
 
 pub loop-bit-init : goal.loop-bit-init
 loop-bit-init c =
@@ -23,11 +22,11 @@ loop-bit-preserved c = elim c.if-is_set.branch [
   | then-is_set w ↦
       let same : c.self.inside.choices ≡ c.args.self.now.choices = ap (λ (t : Display). t.choices) c.self.view_is in
       let set : (bit_at c.args.bits c.loop-bit.bit == 1) ≡ true = sym w.if-is_set.ensures in
-      let some : 0 < c.args.self.now.choices.screen_width = rw (← same) (search rules) in
       rw w.inks-is
       (inked_more c.loop-bit.bit c.args.self.now c.args.pen c.args.count c.args.bits c.args.ink.now
-      c.new-columns.result w.rows_of-rows.result c.args.inks.now c.loop-bit.inks w.fill.new.inks c.requires some
-      (rw same at c.new-columns.ensures) w.rows_of-rows.ensures set c.loop-bit.invariant w.fill.auto.inks
+      c.new-columns.result w.rows_of-rows.result c.args.inks.now c.loop-bit.inks w.fill.new.inks
+      (rw (same, c.right_edge.ensures.value) at c.new-columns.ensures) w.rows_of-rows.ensures.span set c.loop-bit.invariant
+      w.fill.auto.inks
       (rw same at w.fill.ensures))
   | else-is_set w ↦
       let clear : (bit_at c.args.bits c.loop-bit.bit == 1) ≡ false = sym w.if-is_set.ensures in
