@@ -76,6 +76,14 @@ fn each_rule_is_named(rt: HostRuntime) {
             b"\x1bPq\"1;1;2;1#0;2;0;0;0#0@\x1b\\".as_slice(),
             "broken Uncovered 24 1 0\n",
         ),
+        (
+            b"\x1bPq\"1;1;1;1#0;2;0;0;0#0@\x9c".as_slice(),
+            "broken EightBit 24\n",
+        ),
+        (
+            b"\x1bPq\"1;1;2;1#0;2;0;0;0#0@\x9c".as_slice(),
+            "broken Uncovered 24 1 0\n",
+        ),
     ];
     for (bytes, line) in rows {
         assert!(rt;
