@@ -1,8 +1,10 @@
 //! What no contract says: that the definitions are the format's and the class's, by worked examples.
 
 mod choices;
+mod clipping;
 mod colours;
 mod drawing;
+mod eight_bits;
 mod making;
 
 use crate::choices::{Choices, Ground};

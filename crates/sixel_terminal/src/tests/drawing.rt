@@ -173,18 +173,19 @@ fn copies(alloc: Global, colour: Colour, count: usize) -> Result<Vec<Colour>, Al
     vec![in alloc; colour; count]
 }
 
-/// Whether a terminal that binds so shows the colour, or does at the next call where a growth was refused.
-fn shows_in_turn(alloc: Global, binds_at_showing: bool, expected: Parts) -> Result<bool, Fail> {
-    let choices = Choices {
-        binds_at_showing,
-        ..plain_choices(1, 1)
-    };
+/// Whether a terminal shows the colour after a document, or does at the next call where a growth was refused.
+fn shows_in_turn(
+    alloc: Global,
+    choices: Choices,
+    text: &[u8],
+    expected: Parts,
+) -> Result<bool, Fail> {
     let black = Colour::rgb(0, 0, 0).ok_or("black")?;
     let white = Colour::rgb(100, 100, 100).ok_or("white")?;
     let colours = copies(alloc, black, 16).or_else(|_| copies(alloc, black, 16))?;
     let screen = copies(alloc, white, 1).or_else(|_| copies(alloc, white, 1))?;
     let terminal = Terminal::new(choices, colours, screen).or(Err("a terminal"))?;
-    let events = document(alloc, REDEFINED).or_else(|_| document(alloc, REDEFINED));
+    let events = document(alloc, text).or_else(|_| document(alloc, text));
     let events = events.or(Err("a document"))?;
     let first = shows(alloc, &terminal, &events, expected);
     Ok(first.or_else(|| shows(alloc, &terminal, &events, expected)) == Some(true))
@@ -194,13 +195,30 @@ fn shows_in_turn(alloc: Global, binds_at_showing: bool, expected: Parts) -> Resu
 /// and those of `show` are 5, 6 and 7. No other is refused.
 #[test]
 fn a_refused_growth_is_answered(rt: HostRuntime) -> Result<(), Fail> {
-    assert!(rt; shows_in_turn(rt.alloc(), false, BLACK)?);
+    let one = plain_choices(1, 1);
+    assert!(rt; shows_in_turn(rt.alloc(), one, REDEFINED, BLACK)?);
     Ok(())
 }
 
 #[test]
 fn a_refused_growth_is_answered_at_showing(rt: HostRuntime) -> Result<(), Fail> {
-    assert!(rt; shows_in_turn(rt.alloc(), true, RED)?);
+    let showing = Choices {
+        binds_at_showing: true,
+        ..plain_choices(1, 1)
+    };
+    assert!(rt; shows_in_turn(rt.alloc(), showing, REDEFINED, RED)?);
+    Ok(())
+}
+
+/// What isn't seen takes one growth, the fifth.
+#[test]
+fn a_refused_growth_is_answered_unseen(rt: HostRuntime) -> Result<(), Fail> {
+    let without = Choices {
+        eight_bit: false,
+        ..plain_choices(1, 1)
+    };
+    let text = b"\x1bPq\"1;1;1;1#0@\x9c".as_slice();
+    assert!(rt; shows_in_turn(rt.alloc(), without, text, WHITE)?);
     Ok(())
 }
 
