@@ -139,7 +139,8 @@ inked_more k t p count bits ink columns rows old mid new across down set before 
 pub inked_all : (t : Display) (p : Pen) (count bits : ℕ) (ink : Ink) (old new : List Ink)
     → IsInkedBelow 6 t p count bits ink old new → (i : ℕ) → i < length old
     → get_or new i black
-    ≡ cond (pen_covers t p count bits (i % t.choices.screen_width) (i / t.choices.screen_width)) ink (get_or old i black)
+    ≡ cond (pen_covers t p count bits (i % t.choices.screen_width) (i / t.choices.screen_width)) ink
+    (get_or old i black)
 unfolding covers
 inked_all t p count bits ink old new painted i lt =
     let x = i % t.choices.screen_width in

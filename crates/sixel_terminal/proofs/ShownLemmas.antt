@@ -88,7 +88,8 @@ painting_shows t events colours x y before e runs seen s =
     (λ r h. ink_shows t.choices.binds_at_showing t events before colours r s (paints_below t before e x y r runs h)))
 
 pixel_shows : (t : Display) (events : List Event) (colours : List Parts) (x y : ℕ) → Runs t
-    → is_seen_on t events ≡ true → AreAtEnd t events colours → shown_in colours (ink_at_point t events x y) ≡ shown_on t events x y
+    → is_seen_on t events ≡ true → AreAtEnd t events colours
+    → shown_in colours (ink_at_point t events x y) ≡ shown_on t events x y
 unfolding ink_at_point shown_on
 pixel_shows t events colours x y runs seen s =
     unwrap_map (shown_in colours) (last_at (inked_by t x y) events) _
@@ -98,7 +99,8 @@ pixel_shows t events colours x y runs seen s =
 
 -- the colours of all pixels, where the terminal sees the string
 pub all_shown : (t : Display) (events : List Event) (p : Pen) (colours : List Parts) (inks : List Ink) → Runs t
-    → is_seen_on t events ≡ true → StandsAfter t events p colours inks → map (shown_in colours) inks ≡ screen_on t events
+    → is_seen_on t events ≡ true → StandsAfter t events p colours inks
+    → map (shown_in colours) inks ≡ screen_on t events
 unfolding screen_on
 all_shown t events p colours inks runs seen s =
     rows_from_index t.choices.screen_width t.choices.screen_height (shown_on t events)
@@ -112,7 +114,8 @@ all_shown t events p colours inks runs seen s =
 
 -- ---- strings that a terminal doesn't see
 
-pub any_event : (f : Event → Bool) (placed : List Placed) → list_any (λ (p : Placed). f p.event) placed ≡ list_any f (events_of placed)
+pub any_event : (f : Event → Bool) (placed : List Placed)
+    → list_any (λ (p : Placed). f p.event) placed ≡ list_any f (events_of placed)
 any_event f [] = refl
 any_event f (p ∷ ps) = ap (λ (b : Bool). f p.event || b) (any_event f ps)
 

@@ -18,7 +18,8 @@ use Rattle.sixel_terminal.specs.declared.pen.Pen.{Pen}
 use Rattle.sixel_terminal.specs.Displays.{Display, registers_of}
 use Rattle.sixel_terminal.specs.Drawing.{defined_on, height_of, map_on, selected_on}
 use Rattle.sixel_terminal.specs.Standing.{IsPenAfter, ink_at_point, inked_by}
-use Rattle.sixel_terminal.specs.Steps.{most, next_band, next_column, next_declared, next_height, next_selected, sides_of}
+use Rattle.sixel_terminal.specs.Steps.{most, next_band, next_column, next_declared, next_height, next_selected}
+use Rattle.sixel_terminal.specs.Steps.{sides_of}
 
 pub map_or : {A B : Type 0} (f : A → B) (o p : Option A)
     → option_map f (option_or o p) ≡ option_or (option_map f o) (option_map f p)

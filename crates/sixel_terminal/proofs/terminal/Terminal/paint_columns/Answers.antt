@@ -25,8 +25,8 @@ loop-bit-preserved c = elim c.if-is_set.branch [
       rw w.inks-is
       (inked_more c.loop-bit.bit c.args.self.now c.args.pen c.args.count c.args.bits c.args.ink.now
       c.new-columns.result w.rows_of-rows.result c.args.inks.now c.loop-bit.inks w.fill.new.inks
-      (rw (same, c.right_edge.ensures.value) at c.new-columns.ensures) w.rows_of-rows.ensures.span set c.loop-bit.invariant
-      w.fill.auto.inks
+      (rw (same, c.right_edge.ensures.value) at c.new-columns.ensures) w.rows_of-rows.ensures.span set
+      c.loop-bit.invariant w.fill.auto.inks
       (rw same at w.fill.ensures))
   | else-is_set w ↦
       let clear : (bit_at c.args.bits c.loop-bit.bit == 1) ≡ false = sym w.if-is_set.ensures in
