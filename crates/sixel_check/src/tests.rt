@@ -20,11 +20,20 @@ use std::alloc::{AllocError, Global};
 use std::process::Abort;
 use std::test::Fail;
 
+/// The byte of a sign: its code, but that `E` stands for ESC. So the control U+0090 is the introducer of 8 bits, and
+/// U+009C the terminator.
+fn byte_of(sign: char) -> Result<u8, Fail> {
+    if sign == 'E' {
+        return Ok(0x1b);
+    }
+    Ok(u8::try_from(sign).or(Err("a byte"))?)
+}
+
 /// The bytes of a text in which `E` stands for ESC.
 fn bytes_of(rt: &impl AllocGlobal, text: &str) -> Result<Vec<u8>, Fail> {
     let mut bytes = Vec::new(rt.alloc());
-    for byte in text.as_bytes() {
-        bytes.push(if *byte == b'E' { 0x1b } else { *byte })?;
+    for sign in text.chars() {
+        bytes.push(byte_of(sign)?)?;
     }
     Ok(bytes)
 }

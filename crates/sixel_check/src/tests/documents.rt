@@ -103,6 +103,25 @@ const DOCUMENTS: &[(&str, &str)] = &[
     ("EPq\"1;1;1;1#0;1;0;0;101#0@E\\", "broken ColourValue 11"),
     ("EPq\"1;1;1;1#0;0;0;0;0#0@E\\", "broken ColourValue 11"),
     ("EPq\"1;1;1;1#15;2;0;0;0#15@E\\", "portable 1 1"),
+    // a control of 8 bits, as the introducer and the terminator, and as each of them
+    ("\u{90}q\"1;1;1;1#0;2;0;0;0#0@\u{9c}", "broken EightBit 0"),
+    ("\u{90}q\"1;1;1;1#0;2;0;0;0#0@E\\", "broken EightBit 0"),
+    ("EPq\"1;1;1;1#0;2;0;0;0#0@\u{9c}", "broken EightBit 24"),
+    (" \n\u{90}q\"1;1;1;1#0;2;0;0;0#0@E\\", "broken EightBit 2"),
+    // such an introducer goes before all that follows, and such a terminator after all that stands before
+    ("\u{90}qE\\", "broken EightBit 0"),
+    ("\u{90}q\u{9c}", "broken EightBit 0"),
+    ("\u{90}q@\"2;1;0;1#16;3;0;0;0!0@E\\", "broken EightBit 0"),
+    ("EPq\"1;1;1;1#0;2;0;0;0@\u{9c}", "broken Unselected 21"),
+    ("EPq\"1;1;1;1#0;2;0;0;0#0A\u{9c}", "broken Outside 23 0 1"),
+    // the other two rules of a terminator go before it
+    ("EPq\u{9c}", "broken RasterFirst 3"),
+    ("EPq#0;2;0;0;0#0\u{9c}", "broken RasterFirst 15"),
+    ("EPq\"1;1;2;1#0;2;0;0;0#0@\u{9c}", "broken Uncovered 24 1 0"),
+    ("EPq\"1;1;1;1\u{9c}", "broken Uncovered 11 0 0"),
+    // it is a broken rule, and then a fault
+    ("\u{90}q!65536~E\\", "NumberTooLarge 7"),
+    ("EPq\u{9c}x", "Trailing 4"),
     // faults
     ("", "Truncated 0"),
     ("EPq\"1;1", "Truncated 7"),
@@ -187,10 +206,10 @@ fn eight_bits(rt: HostRuntime) -> Result<(), Fail> {
         is_said(
             &rt,
             &check_bytes(rt.alloc(), Profile::Registers16, bytes),
-            "portable 1 1"
+            "broken EightBit 0"
         )?
     );
-    assert!(rt; agrees_in_pieces(&rt, bytes, "portable 1 1")?);
+    assert!(rt; agrees_in_pieces(&rt, bytes, "broken EightBit 0")?);
     Ok(())
 }
 

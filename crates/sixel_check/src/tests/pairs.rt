@@ -15,11 +15,11 @@ use std::test::Fail;
 /// A document that breaks one rule alone and has the fewest commands that do, and the answer. The order is that of the
 /// rules.
 ///
-/// The end breaks the rule of the first one and of the last one. Without raster attributes there is no box, so the end
-/// breaks one of the two at most. A ratio of 2 to 1 leaves the box as it is, and a box of 0 by 0 has no
+/// The end breaks `RasterFirst` here and `Uncovered`. Without raster attributes there is no box, so the end breaks one of
+/// the two at most. A ratio of 2 to 1 leaves the box as it is, and a box of 0 by 0 has no
 /// pixel to cover. A select of register 16 breaks the same rule as its definition. A definition in system 3 is still a
 /// definition. The repeat of 0 stands before all painting and has no bit. `B` has bits 0 and 1, so it covers the box,
-/// and (0, 1) below it.
+/// and (0, 1) below it. A start of 8 bits and an end of 8 bits each stand round a portable picture.
 const ALONE: &[(&str, &str)] = &[
     ("EPqE\\", "broken RasterFirst 3"),
     (
@@ -39,6 +39,8 @@ const ALONE: &[(&str, &str)] = &[
     ),
     ("EPq\"1;1;1;1#0;2;0;0;0#0BE\\", "broken Outside 23 0 1"),
     ("EPq\"1;1;1;1E\\", "broken Uncovered 11 0 0"),
+    ("\u{90}q\"1;1;1;1#0;2;0;0;0#0@E\\", "broken EightBit 0"),
+    ("EPq\"1;1;1;1#0;2;0;0;0#0@\u{9c}", "broken EightBit 24"),
 ];
 
 /// The text with the registers 256 and 257 in place of 16 and 17.
@@ -98,6 +100,9 @@ const AT_ONE_EVENT: &[(&str, &str)] = &[
     // two columns in a box of one: no register known, a register that isn't defined
     ("EPq\"1;1;1;1!2@E\\", "broken Unselected 11"),
     ("EPq\"1;1;1;1#0!2@E\\", "broken Undefined 13"),
+    // the end of 8 bits: without raster attributes, and with a blank pixel
+    ("EPq\u{9c}", "broken RasterFirst 3"),
+    ("EPq\"1;1;1;1\u{9c}", "broken Uncovered 11 0 0"),
 ];
 
 #[test]
@@ -241,4 +246,47 @@ fn each_two_rules_before_raster_attributes(rt: HostRuntime) -> Result<(), Fail> 
         assert!(rt; agree, "{first}");
     }
     Ok(())
+}
+
+/// Whether `EightBit` is answered where a start of 8 bits stands before the commands, whatever the end is.
+fn agree_after_eight_bits(rt: &impl AllocGlobal, commands: &str) -> Result<bool, Fail> {
+    let alloc = rt.alloc();
+    let text = format!(in alloc; "\u{90}q{commands}E\\")?;
+    let both = format!(in alloc; "\u{90}q{commands}\u{9c}")?;
+    Ok(
+        agrees(rt, text.as_str(), "broken EightBit 0")?
+            && agrees(rt, both.as_str(), "broken EightBit 0")?,
+    )
+}
+
+/// A start breaks no other rule, so `EightBit` comes first in both orders: here before each other rule.
+#[test]
+fn eight_bits_before_each_rule(rt: HostRuntime) -> Result<(), Fail> {
+    for commands in FROM_RASTER {
+        assert!(rt; agree_after_eight_bits(&rt, commands)?, "{commands}");
+    }
+    for (commands, _) in BEFORE_RASTER {
+        assert!(rt; agree_after_eight_bits(&rt, commands)?, "{commands}");
+    }
+    Ok(())
+}
+
+/// The commands break their rule where an end of 8 bits follows.
+fn agree_before_eight_bits(
+    rt: &(impl AllocGlobal + Abort),
+    rows: &[(&str, &str)],
+) -> Result<(), Fail> {
+    let alloc = rt.alloc();
+    for (commands, expected) in rows {
+        let text = format!(in alloc; "EPq{commands}\u{9c}")?;
+        assert!(rt; agrees(rt, text.as_str(), expected)?, "{commands}");
+    }
+    Ok(())
+}
+
+/// Here `EightBit` comes second, by the end. After `Uncovered` it does at one event.
+#[test]
+fn eight_bits_after_each_rule(rt: HostRuntime) -> Result<(), Fail> {
+    agree_before_eight_bits(&rt, FIRST)?;
+    agree_before_eight_bits(&rt, BEFORE_RASTER)
 }

@@ -17,6 +17,8 @@ use std::test::Fail;
 struct Step {
     place: u64,
     command: Option<Command>,
+    /// Whether it is an end of 8 bits.
+    eight: bool,
 }
 
 /// `"1;1;2;6`
@@ -153,7 +155,7 @@ const MORE: [(&str, Command); 27] = [
     ("\"1;1;2;6", BOX),
 ];
 
-const RULES: [Rule; 12] = [
+const RULES: [Rule; 13] = [
     Rule::RasterFirst,
     Rule::RasterTwice,
     Rule::Ratio,
@@ -166,6 +168,7 @@ const RULES: [Rule; 12] = [
     Rule::Redefined,
     Rule::Outside,
     Rule::Uncovered,
+    Rule::EightBit,
 ];
 
 /// The columns of data, and its bits.
@@ -402,25 +405,42 @@ fn pixel_rule(before: &[Step], step: Step) -> Option<(Rule, (u64, u64))> {
     uncovered(before, width, height).map(|pixel| (Rule::Uncovered, pixel))
 }
 
+/// A control of 8 bits at the place.
+fn eight_bit(place: u64) -> Finding {
+    Finding {
+        rule: Rule::EightBit,
+        place,
+        pixel: None,
+    }
+}
+
 /// What the command or the end breaks.
 fn finding_at(last: u16, before: &[Step], step: Step) -> Option<Finding> {
     let place = step.place;
-    match plain_rule(last, before, step) {
-        Some(rule) => Some(Finding {
+    if let Some(rule) = plain_rule(last, before, step) {
+        return Some(Finding {
             rule,
             place,
             pixel: None,
-        }),
-        None => pixel_rule(before, step).map(|(rule, pixel)| Finding {
+        });
+    }
+    match pixel_rule(before, step) {
+        Some((rule, pixel)) => Some(Finding {
             rule,
             place,
             pixel: Some(pixel),
         }),
+        None if step.eight => Some(eight_bit(place)),
+        None => None,
     }
 }
 
 /// The first broken rule, by the registers up to the last.
-fn plain_finding(last: u16, steps: &[Step]) -> Option<Finding> {
+fn plain_finding(last: u16, made: &Made) -> Option<Finding> {
+    if made.eight {
+        return Some(eight_bit(0));
+    }
+    let steps = made.steps.as_slice();
     for (position, step) in steps.iter().enumerate() {
         let finding = finding_at(last, steps.get(..position).unwrap_or(&[]), *step);
         if finding.is_some() {
@@ -440,26 +460,47 @@ fn next(state: u64) -> u64 {
 /// A document in bytes and in commands.
 #[derive(Drop)]
 struct Made {
+    /// Whether its start is of 8 bits.
+    eight: bool,
     bytes: Vec<u8>,
     steps: Vec<Step>,
 }
 
+/// A document of a start alone.
+fn started(rt: &impl AllocGlobal, eight: bool) -> Result<Made, AllocError> {
+    let start: &[u8] = if eight { b"\x90q" } else { b"\x1bPq" };
+    Ok(Made {
+        eight,
+        bytes: Vec::from_slice(rt.alloc(), start)?,
+        steps: Vec::new(rt.alloc()),
+    })
+}
+
 /// Appends a command.
 fn push(made: &mut Made, part: (&str, Command)) -> Result<(), AllocError> {
-    let place = made.bytes.len() as u64;
-    let command = Some(part.1);
-    made.steps.push(Step { place, command })?;
+    made.steps.push(Step {
+        place: made.bytes.len() as u64,
+        command: Some(part.1),
+        eight: false,
+    })?;
     made.bytes.extend_from_slice(part.0.as_bytes())
 }
 
-/// A document of five commands after its beginning.
+/// Appends an end.
+fn end(made: &mut Made, eight: bool) -> Result<(), AllocError> {
+    made.steps.push(Step {
+        place: made.bytes.len() as u64,
+        command: None,
+        eight,
+    })?;
+    let end: &[u8] = if eight { b"\x9c" } else { b"\x1b\\" };
+    made.bytes.extend_from_slice(end)
+}
+
+/// A document of five commands after its beginning. One start of eight is of 8 bits, and one end of four.
 fn document_of(rt: &impl AllocGlobal, state: &mut u64) -> Result<Made, Fail> {
-    let mut made = Made {
-        bytes: Vec::new(rt.alloc()),
-        steps: Vec::new(rt.alloc()),
-    };
-    made.bytes.extend_from_slice(b"\x1bPq")?;
     *state = next(*state);
+    let mut made = started(rt, (*state >> 20) % 8 == 0)?;
     push(&mut made, FIRST[(*state >> 40) as usize % 8])?;
     for part in SECOND {
         push(&mut made, part)?;
@@ -468,12 +509,7 @@ fn document_of(rt: &impl AllocGlobal, state: &mut u64) -> Result<Made, Fail> {
         *state = next(*state);
         push(&mut made, MORE[(*state >> 40) as usize % 27])?;
     }
-    let place = made.bytes.len() as u64;
-    made.steps.push(Step {
-        place,
-        command: None,
-    })?;
-    made.bytes.extend_from_slice(b"\x1b\\")?;
+    end(&mut made, (*state >> 20) % 4 == 0)?;
     Ok(made)
 }
 
@@ -518,21 +554,21 @@ fn is_left(picture: &Picture, profile: Profile, steps: &[Step]) -> bool {
         && has_last_colours(picture, steps)
 }
 
-/// Whether both judges say the same of it; what it breaks is marked, or that it breaks nothing.
+/// Whether both judges say the same of it; what it breaks after its start is marked, or that it breaks nothing.
 fn is_judged_alike(
     rt: &impl AllocGlobal,
     profile: Profile,
     made: &Made,
-    met: &mut [bool; 12],
+    met: &mut [bool; 13],
     portable: &mut u32,
 ) -> bool {
     match (
         check_bytes(rt.alloc(), profile, &made.bytes),
-        plain_finding(last_of(profile), &made.steps),
+        plain_finding(last_of(profile), made),
     ) {
         (Ok(Verdict::Broken(finding)), Some(plain)) => {
             for (mark, rule) in met.iter_mut().zip(RULES) {
-                *mark = *mark || plain.rule == rule;
+                *mark = *mark || plain.rule == rule && plain.place > 0;
             }
             finding == plain
         }
@@ -547,14 +583,14 @@ fn is_judged_alike(
 /// The documents break each of the rules, and some break none.
 fn judge_alike(rt: &(impl AllocGlobal + Abort), profile: Profile) -> Result<(), Fail> {
     let mut state: u64 = 1;
-    let mut met = [false; 12];
+    let mut met = [false; 13];
     let mut portable: u32 = 0;
-    for _ in 0..400u32 {
+    for _ in 0..1000u32 {
         let made = document_of(rt, &mut state)?;
         let alike = is_judged_alike(rt, profile, &made, &mut met, &mut portable);
         assert!(rt; alike, "{:?}", made.bytes.as_slice());
     }
-    assert!(rt; met == [true; 12]);
+    assert!(rt; met == [true; 13]);
     assert!(rt; portable > 4);
     Ok(())
 }

@@ -109,7 +109,7 @@ fn each_agrees(rt: &(impl AllocGlobal + Abort), rows: &[(&str, &str)]) -> Result
 fn worked_documents_event_by_event(rt: HostRuntime) -> Result<(), Fail> {
     each_agrees(&rt, documents())?;
     let eight_bits = b"\x90q\"1;1;1;1#0;2;0;0;0#0@\x9c";
-    assert!(rt; agrees_on_events(&rt, Profile::Registers16, eight_bits, "portable 1 1")?);
+    assert!(rt; agrees_on_events(&rt, Profile::Registers16, eight_bits, "broken EightBit 0")?);
     Ok(())
 }
 

@@ -1,4 +1,4 @@
-//! What 32 terminals of the class show after portable documents, and after broken ones.
+//! What 128 terminals of the class show after portable documents, and after broken ones.
 
 use crate::tests::documents::picture_by;
 use crate::tests::{agrees, bytes_of, events_of, joined};
@@ -33,7 +33,7 @@ fn grey(percent: u8) -> Parts {
     Parts::Rgb(percent, percent, percent)
 }
 
-/// The choices of a terminal from 0 to 31, with room for a box around which one pixel is left on each side.
+/// The choices of a terminal from 0 to 127, with room for a box around which one pixel is left on each side.
 fn choices_of(number: u8, width: u32, height: u32) -> Choices {
     Choices {
         binds_at_showing: number & 1 != 0,
@@ -47,6 +47,8 @@ fn choices_of(number: u8, width: u32, height: u32) -> Choices {
         zero: if number & 8 != 0 { 1 } else { 0 },
         clamps: number & 16 != 0,
         tall: 3,
+        clips: number & 32 != 0,
+        eight_bit: number & 64 != 0,
         screen_width: width.saturating_add(2),
         screen_height: height.saturating_add(2),
         origin_x: 1,
@@ -131,7 +133,7 @@ fn is_shown(
     let (width, height) = (picture.width(), picture.height());
     let pixels = colours_of(alloc, picture)?;
     let expected = framed(alloc, width, height, pixels.as_slice())?;
-    for number in 0..32u8 {
+    for number in 0..128u8 {
         let choices = choices_of(number, width, height);
         let colours = shown(alloc, choices, greys(alloc, profile)?, events)?;
         if colours.as_slice() != expected.as_slice() {
@@ -234,8 +236,16 @@ const UNDEFINED: &str = "EPq\"1;1;1;1#0@E\\";
 const REDEFINED: &str = "EPq\"1;1;2;1#0;2;0;0;0#1;2;100;0;0#0@#1@#0;2;1;0;0E\\";
 /// Raster attributes stand after data.
 const RASTER_TWICE: &str = "EPq\"1;1;1;1#0;2;0;0;0#0@\"1;1;1;1E\\";
+/// The pixel below the box is painted, and that of the box is not.
+const OUTSIDE: &str = "EPq\"1;1;1;1#0;2;0;0;0#0AE\\";
+/// The smallest picture, with controls of 8 bits: at its start, at its end, and at both.
+const EIGHT_BIT: [&str; 3] = [
+    "\u{90}q\"1;1;1;1#0;2;0;0;0#0@E\\",
+    "EPq\"1;1;1;1#0;2;0;0;0#0@\u{9c}",
+    "\u{90}q\"1;1;1;1#0;2;0;0;0#0@\u{9c}",
+];
 
-/// Whether a terminal of these choices and starting colours shows these pixels in a box of one row, and grey around it.
+/// Whether a terminal of these choices and starting colours shows these pixels in the box, and grey around it.
 fn shows(
     rt: &impl AllocGlobal,
     text: &str,
@@ -247,7 +257,9 @@ fn shows(
     let bytes = bytes_of(rt, text)?;
     let events = events_of(alloc, &bytes).or(Err("a document"))?;
     let answer = shown(alloc, choices, colours, events.as_slice())?;
-    let expected = framed(alloc, choices.screen_width.saturating_sub(2), 1, pixels)?;
+    let width = choices.screen_width.saturating_sub(2);
+    let height = choices.screen_height.saturating_sub(2);
+    let expected = framed(alloc, width, height, pixels)?;
     Ok(answer.as_slice() == expected.as_slice())
 }
 
@@ -329,14 +341,54 @@ fn shows_filled(rt: &impl AllocGlobal, choices: Choices) -> Result<bool, Fail> {
     )
 }
 
+/// Whether what lies below the box is clipped on some.
+fn shows_outside(rt: &impl AllocGlobal, choices: Choices) -> Result<bool, Fail> {
+    let inside = match choices.ground {
+        Ground::Kept => grey(50),
+        Ground::Filled(_) => grey(30),
+    };
+    let below = if choices.clips { grey(50) } else { BLACK };
+    shows(
+        rt,
+        OUTSIDE,
+        choices,
+        greys(rt.alloc(), Profile::Registers16)?,
+        &[inside, below],
+    )
+}
+
+/// Whether a picture with controls of 8 bits is shown on some, and nothing of it on others.
+fn shows_eight_bits(rt: &impl AllocGlobal, text: &str, choices: Choices) -> Result<bool, Fail> {
+    let pixel = if choices.eight_bit { BLACK } else { grey(50) };
+    shows(
+        rt,
+        text,
+        choices,
+        greys(rt.alloc(), Profile::Registers16)?,
+        &[pixel],
+    )
+}
+
 #[test]
 fn terminals_differ_on_what_is_broken(rt: HostRuntime) -> Result<(), Fail> {
-    for number in 0..32u8 {
+    for number in 0..128u8 {
         let choices = choices_of(number, 1, 1);
         assert!(rt; shows_unselected(&rt, choices)?, "{number}");
         assert!(rt; shows_undefined(&rt, choices)?, "{number}");
         assert!(rt; shows_redefined(&rt, choices_of(number, 2, 1))?, "{number}");
         assert!(rt; shows_filled(&rt, choices)?, "{number}");
+        assert!(rt; shows_outside(&rt, choices_of(number, 1, 2))?, "{number}");
+    }
+    Ok(())
+}
+
+#[test]
+fn terminals_differ_on_controls_of_8_bits(rt: HostRuntime) -> Result<(), Fail> {
+    for text in EIGHT_BIT {
+        for number in 0..128u8 {
+            let choices = choices_of(number, 1, 1);
+            assert!(rt; shows_eight_bits(&rt, text, choices)?, "{number}");
+        }
     }
     Ok(())
 }
@@ -344,7 +396,7 @@ fn terminals_differ_on_what_is_broken(rt: HostRuntime) -> Result<(), Fail> {
 #[test]
 fn terminals_of_16_registers_differ_on_more(rt: HostRuntime) -> Result<(), Fail> {
     assert!(rt; is_shown_by_all(&rt, Profile::Registers256, SEVENTEENTH)?);
-    for number in 0..32u8 {
+    for number in 0..128u8 {
         let choices = choices_of(number, 2, 1);
         assert!(rt; shows_seventeenth(&rt, choices)?, "{number}");
         assert!(rt;
