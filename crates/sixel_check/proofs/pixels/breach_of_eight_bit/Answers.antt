@@ -1,4 +1,4 @@
-use Rattle.std.proofs.Common.{◌≡◌, ◌∙◌, sym, true, false}
+use Rattle.std.proofs.Common.{sym}
 use Rattle.sixel_check.proofs.PixelLemmas.{breach_eight_bit, none_eight_bit}
 use Rattle.sixel_check.proofs.pixels.breach_of_eight_bit.Goals as goal
 
