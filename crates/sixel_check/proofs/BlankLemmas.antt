@@ -1,12 +1,12 @@
 -- The first blank pixel of a sheet that follows the events, and the registers of one without a blank pixel.
-use Rattle.std.proofs.Common.{◌≡◌, Bool, not, ◌==◌, ℕ, zero, suc, ◌+◌, ◌*◌, ◌/◌, ◌%◌, ◌<◌, ◌≤◌, true, false, ◌&&◌}
-use Rattle.std.proofs.Common.{cond, Option, Some, None, List, length, get_or, map, nat_le, nat_lt, inl, inr, refl}
-use Rattle.std.proofs.Common.{sym, ap, ap₂, ◌∙◌, arith, subst}
+use Rattle.std.proofs.Common.{◌≡◌, Bool, not, ◌==◌, ℕ, zero, suc, ◌+◌, ◌*◌, ◌/◌, ◌%◌, ◌<◌, ◌≤◌, true, false, ◌&&◌, cond}
+use Rattle.std.proofs.Common.{Option, Some, None, List, length, get_or, map, nat_le, nat_lt, inl, inr, refl, sym, ap}
+use Rattle.std.proofs.Common.{ap₂, ◌∙◌, arith, subst}
 use Rattle.std.specs.Prelude.{IsTrue, is_none, is_some, unwrap_or}
 use Rattle.std.specs.List.{position_from, position_or_len}
 use Rattle.std.specs.Option.{option_flatten, option_map}
-use Rattle.std.proofs.lemmas.Bool.{and_from, and_parts, both_ways, eqb-true, leb-true, lt-ltb, ltb-true}
-use Rattle.std.proofs.lemmas.Bool.{not-false, not-true, or_cases}
+use Rattle.std.proofs.lemmas.Bool.{and_from, and_parts, both_ways, eqb-true, leb-true, lt-ltb, ltb-true, not-false}
+use Rattle.std.proofs.lemmas.Bool.{not-true, or_cases}
 use Rattle.std.proofs.lemmas.List.{get_or-map, length-map}
 use Rattle.std.proofs.lemmas.Nat.{div-add-mod', mod_below, mul-add-lt, row_fits}
 use Rattle.std.proofs.lemmas.Iterator.Adapters.{position_from-zero}

@@ -1,6 +1,6 @@
 -- On the rules that look at no pixel, and on the least that is broken.
-use Rattle.std.proofs.Common.{◌≡◌, ◌≢◌, ℕ, zero, suc, ◌<◌, ◌≤◌, ◌==◌, ◌&&◌, Bool, true, false, Option}
-use Rattle.std.proofs.Common.{Some, None, IsTrue, List, length, get_or, refl, sym, ap, ◌∙◌, subst, arith}
+use Rattle.std.proofs.Common.{◌≡◌, ◌≢◌, ℕ, zero, suc, ◌<◌, ◌≤◌, ◌==◌, ◌&&◌, Bool, true, false, Option, Some, None}
+use Rattle.std.proofs.Common.{IsTrue, List, length, get_or, refl, sym, ap, ◌∙◌, subst, arith}
 use Rattle.std.specs.Prelude.{IfSome, not, nat_lt, is_none, is_some, if◌then◌else◌}
 use Rattle.std.specs.Option.{option_and_then, option_flatten, option_map_or}
 use Rattle.std.proofs.lemmas.Bool.{eq-eqb, eqb-true, eqb-false, ne_eqb, ltb-true, ltb-false}

@@ -3,8 +3,8 @@ use Rattle.std.proofs.Common.{not, ◌≡◌, ◌≢◌, ◌==◌, ◌&&◌, ◌
 use Rattle.std.proofs.Common.{IsTrue, IsFalse, List, [], ◌∷◌, ◌++◌, arith, sym, ◌∙◌, ap, refl, ◌||◌}
 use Rattle.std.specs.Prelude.{IfSome, IsSome, is_none, nat_le, unwrap_or, if◌then◌else◌}
 use Rattle.std.specs.Option.{option_map, option_map_or, option_or}
-use Rattle.std.proofs.lemmas.Bool.{and_parts, eqb-true, eqb-false, false_from_ne_true, leb-true, not-false}
-use Rattle.std.proofs.lemmas.Bool.{not-true, not_from_false, or_parts}
+use Rattle.std.proofs.lemmas.Bool.{and_parts, eqb-true, eqb-false, false_from_ne_true, leb-true, not-false, not-true}
+use Rattle.std.proofs.lemmas.Bool.{not_from_false, or_parts}
 use Rattle.sixel_grammar.specs.Spelling.{IsSpellable}
 use Rattle.sixel_grammar.specs.declared.command.Command.TheVariants.{Sixel, Repeat}
 use Rattle.sixel_grammar.specs.declared.command.Event.{Event}
@@ -14,8 +14,7 @@ use Rattle.sixel_picture.specs.Events.{is_data_command, is_finish, is_painting, 
 use Rattle.sixel_picture.specs.Pictures.{is_side, most_side}
 use Rattle.sixel_picture.specs.Geometry.{band, column, falls, touches}
 use Rattle.sixel_picture.specs.Rules.{BreaksOutside, breaks_box_size, breaks_raster_first, breaks_ratio}
-use Rattle.sixel_picture.specs.Rules.{breaks_repeat_zero, breaks_unselected, definition_of, known}
-use Rattle.sixel_picture.specs.Rules.{register_at}
+use Rattle.sixel_picture.specs.Rules.{breaks_repeat_zero, breaks_unselected, definition_of, known, register_at}
 use Rattle.sixel_picture.specs.Sheets.{Sheet, blank_sheet, painted_sheet}
 use Rattle.sixel_picture.proofs.CoverLemmas.{idle_falls}
 use Rattle.sixel_picture.proofs.StepLemmas.{definition_push, register_push}

@@ -12,8 +12,8 @@ use Rattle.sixel_grammar.specs.declared.command.Event.{Event}
 use Rattle.sixel_grammar.specs.declared.command.Event.TheVariants.{Step}
 use Rattle.sixel_picture.specs.declared.colour.Parts.{Parts}
 use Rattle.sixel_picture.specs.Colours.{colour_in, is_colour}
-use Rattle.sixel_picture.specs.Events.{Definition, columns_of, definition_where, is_eight_bit, is_next_line, is_painting}
-use Rattle.sixel_picture.specs.Events.{is_return, named_by, select_of}
+use Rattle.sixel_picture.specs.Events.{Definition, columns_of, definition_where, is_eight_bit, is_next_line}
+use Rattle.sixel_picture.specs.Events.{is_painting, is_return, named_by, select_of}
 use Rattle.sixel_picture.specs.Geometry.{band, column}
 use Rattle.sixel_picture.specs.Positions.{latest, since, any_at, any_below}
 use Rattle.sixel_picture.specs.Rules.{Breaks, breaks_colour_value, breaks_eight_bit, breaks_register, definition_of}
@@ -27,8 +27,8 @@ use Rattle.sixel_picture.proofs.StepLemmas.{band_push, column_push, definition_p
 use Rattle.sixel_check.specs.declared.notes.Notes.{Notes}
 use Rattle.sixel_check.specs.Breaches.{BreaksNoRule}
 use Rattle.sixel_check.specs.Judging.{AreNotesAfter, IsGood}
-use Rattle.sixel_check.specs.Notes.{IsBelow, known_in, next_band, next_column, next_named, next_painted}
-use Rattle.sixel_check.specs.Notes.{next_palette, next_selected}
+use Rattle.sixel_check.specs.Notes.{IsBelow, known_in, next_band, next_column, next_named, next_painted, next_palette}
+use Rattle.sixel_check.specs.Notes.{next_selected}
 use Rattle.sixel_check.specs.Verdicts.{capped}
 
 -- an event that breaks no rule keeps each of those on what is drawn

@@ -1,11 +1,10 @@
 -- One pixel, as a list in which no rule is broken.
 use Rattle.std.proofs.Common.{◌≡◌, ◌⊎◌, inl, inr, Bool, true, false, refl}
 use Rattle.sixel_picture.specs.Rules.{Breaks, BreaksNone, BreaksOutside, BreaksUncovered, breaks_box_size}
-use Rattle.sixel_picture.specs.Rules.{breaks_eight_bit}
-use Rattle.sixel_picture.specs.Rules.{breaks_colour_value, breaks_ratio, breaks_raster_first, breaks_raster_twice}
-use Rattle.sixel_picture.specs.Rules.{breaks_redefined, breaks_register, breaks_repeat_zero, breaks_undefined}
-use Rattle.sixel_picture.specs.Rules.{breaks_unselected, definition_of, is_covered, is_painted_in, known}
-use Rattle.sixel_picture.specs.Rules.{raster_before}
+use Rattle.sixel_picture.specs.Rules.{breaks_eight_bit, breaks_colour_value, breaks_ratio, breaks_raster_first}
+use Rattle.sixel_picture.specs.Rules.{breaks_raster_twice, breaks_redefined, breaks_register, breaks_repeat_zero}
+use Rattle.sixel_picture.specs.Rules.{breaks_undefined, breaks_unselected, definition_of, is_covered, is_painted_in}
+use Rattle.sixel_picture.specs.Rules.{known, raster_before}
 use Rattle.sixel_picture.specs.Geometry.{band, column, covers, falls, touches}
 use Rattle.sixel_picture.specs.Positions.{any_at, any_below, earliest, latest, passes_at, since}
 use Rattle.sixel_check.proofs.DecideLemmas.{decided_by, falls_searchable, blank_searchable, first_of, outside_first}

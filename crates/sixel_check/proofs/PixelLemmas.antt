@@ -1,6 +1,5 @@
 -- On the rules that look at pixels.
-use Rattle.std.proofs.Common.{◌≡◌, ℕ, Bool, true, false, Option, Some, None, List, sym, ◌∙◌, ap, subst}
-use Rattle.std.proofs.Common.{refl}
+use Rattle.std.proofs.Common.{◌≡◌, ℕ, Bool, true, false, Option, Some, None, List, sym, ◌∙◌, ap, subst, refl}
 use Rattle.std.specs.Prelude.{is_some}
 use Rattle.std.specs.Option.{option_map}
 use Rattle.std.proofs.lemmas.Bool.{both_ways}
@@ -74,7 +73,8 @@ none_without_box registers before e is none =
     (λ broken. rw is at broken.1)
 
 pub breach_eight_bit : {registers : ℕ} (before : List Event) (e : Event) → is_eight_bit e ≡ true
-    → NoneBelow registers eight_bit_rule before e → IsBreach registers before e (record { rule = EightBit; pixel = None })
+    → NoneBelow registers eight_bit_rule before e
+    → IsBreach registers before e (record { rule = EightBit; pixel = None })
 unfolding Breaks breaks_eight_bit
 breach_eight_bit before e eight none = record { broken = eight; none_smaller = none; pixel = refl }
 

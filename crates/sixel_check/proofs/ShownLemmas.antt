@@ -1,6 +1,6 @@
 -- On what terminals show, where no rule is broken: the picture that is left.
-use Rattle.std.proofs.Common.{◌≡◌, ◌<◌, ◌≤◌, ◌+◌, ◌-◌, ◌*◌, ℕ, suc, Bool, true, false, cond, Option, Some, None}
-use Rattle.std.proofs.Common.{List, [], ◌∷◌, length, take, refl, sym, ap, ◌∙◌, arith}
+use Rattle.std.proofs.Common.{◌≡◌, ◌<◌, ◌≤◌, ◌+◌, ◌-◌, ◌*◌, ℕ, suc, Bool, true, false, cond, Option, Some, None, List}
+use Rattle.std.proofs.Common.{[], ◌∷◌, length, take, refl, sym, ap, ◌∙◌, arith}
 use Rattle.std.specs.Prelude.{if◌then◌else◌, slice_get, slice_index_or, unwrap_or, IsFalse, IsSome}
 use Rattle.std.specs.List.{list_any}
 use Rattle.std.specs.Option.{option_flatten, option_map}
@@ -95,7 +95,8 @@ unfolding register_at last_at
 register_painting events x y r found = last_painting events x y (Some r) (flat_some _ r found)
 
 -- a covered pixel has a register
-has_register : (n : ℕ) (events : List Event) (x y : ℕ) → BreaksNone n uncovered_rule events → is_covered events x y ≡ true
+has_register : (n : ℕ) (events : List Event) (x y : ℕ) → BreaksNone n uncovered_rule events
+    → is_covered events x y ≡ true
     → IsSome (register_at events x y)
 unfolding is_covered any_at register_at last_at
 has_register n events x y none covered =
@@ -235,7 +236,8 @@ register_left n events a x y r box p q found =
 
 -- each terminal with enough registers that sees the string shows it in the box
 pub shows_left : (n : ℕ) (t : Display) (events : List Event) (a : Attributes) (x y : ℕ) → AreWhole events
-    → BreaksNone n uncovered_rule events → is_seen_on t events ≡ true → n ≤ registers_of t → raster_before events ≡ Some a → x < a.width → y < a.height
+    → BreaksNone n uncovered_rule events → is_seen_on t events ≡ true → n ≤ registers_of t
+    → raster_before events ≡ Some a → x < a.width → y < a.height
     → palette_at (picture_left n events).palette (register_of (picture_left n events) x y)
     ≡ Some (shown_on t events (t.choices.origin_x + x) (t.choices.origin_y + y))
 shows_left n t events a x y whole none seen enough box p q =

@@ -1,14 +1,13 @@
 -- A list has one verdict.
-use Rattle.std.proofs.Common.{◌≡◌, ◌==◌, ◌<◌, ◌⊎◌, ℕ, nat_lt, inl, inr, Option, Some}
-use Rattle.std.proofs.Common.{List, take, refl, sym, ap, subst, ◌∙◌, arith}
+use Rattle.std.proofs.Common.{◌≡◌, ◌==◌, ◌<◌, ◌⊎◌, ℕ, nat_lt, inl, inr, Option, Some, List, take, refl, sym, ap, subst}
+use Rattle.std.proofs.Common.{◌∙◌, arith}
 use Rattle.std.specs.Prelude.{IsSomeAnd, IsTrue, slice_get, if◌then◌else◌}
 use Rattle.std.proofs.lemmas.Bool.{and_from, eq-eqb, lt-ltb, or_left, or_right}
 use Rattle.sixel_grammar.specs.declared.command.Event.{Event}
 use Rattle.sixel_grammar.specs.declared.command.Placed.{Placed}
 use Rattle.sixel_grammar.specs.Document.{events_of}
 use Rattle.sixel_picture.specs.Positions.{HoldsAtPosition}
-use Rattle.sixel_picture.specs.Rules.{FallsOutside, IsFirstPoint, StaysBlank}
-use Rattle.sixel_picture.specs.Rules.{is_before, raster_before}
+use Rattle.sixel_picture.specs.Rules.{FallsOutside, IsFirstPoint, StaysBlank, is_before, raster_before}
 use Rattle.sixel_picture.proofs.RuleLemmas.{nowhere}
 use Rattle.sixel_picture.specs.RuleNumbers.{raster_first_rule, raster_twice_rule, ratio_rule, box_size_rule}
 use Rattle.sixel_picture.specs.RuleNumbers.{register_rule, colour_value_rule, repeat_zero_rule, unselected_rule}

@@ -13,8 +13,8 @@ use Rattle.sixel_picture.specs.declared.colour.Parts.{Parts}
 use Rattle.sixel_picture.specs.Colours.{palette_at}
 use Rattle.sixel_picture.specs.Events.{Definition}
 use Rattle.sixel_picture.specs.Pictures.{is_side, picture_fault}
-use Rattle.sixel_picture.specs.Rules.{BreaksNone, StaysBlank, colour_by}
-use Rattle.sixel_picture.specs.Rules.{colour_of, definition_of, is_covered, palette_left}
+use Rattle.sixel_picture.specs.Rules.{BreaksNone, StaysBlank, colour_by, colour_of, definition_of, is_covered}
+use Rattle.sixel_picture.specs.Rules.{palette_left}
 use Rattle.sixel_picture.specs.Sheets.{IsFull, Sheet, first_blank}
 use Rattle.sixel_picture.proofs.LeftLemmas.{left_at}
 use Rattle.sixel_picture.specs.RuleNumbers.{last_rule}

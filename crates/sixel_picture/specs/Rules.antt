@@ -12,8 +12,8 @@ use Rattle.sixel_grammar.specs.declared.command.Command.TheVariants.{Define}
 use Rattle.sixel_picture.specs.declared.colour.Parts.{Parts}
 use Rattle.sixel_picture.specs.Colours.{colour_in, is_colour}
 use Rattle.sixel_picture.specs.Events.{Attributes, Definition, definition_where, has_sides, is_data_command, is_finish}
-use Rattle.sixel_picture.specs.Events.{is_eight_bit, is_in_box, is_painting, is_repeat_of_zero, is_return, is_same_definition}
-use Rattle.sixel_picture.specs.Events.{is_square, named_by, raster_of, select_of}
+use Rattle.sixel_picture.specs.Events.{is_eight_bit, is_in_box, is_painting, is_repeat_of_zero, is_return}
+use Rattle.sixel_picture.specs.Events.{is_same_definition, is_square, named_by, raster_of, select_of}
 use Rattle.sixel_picture.specs.Geometry.{falls}
 use Rattle.sixel_picture.specs.Pictures.{PictureValue, picture_of_parts}
 use Rattle.sixel_picture.specs.Positions.{HoldsAtPosition, HoldsNowhere, any_at, earliest, last_at, latest}
