@@ -215,17 +215,15 @@ fn runs_are_cut_at_the_right(rt: HostRuntime) -> Result<(), Fail> {
     Ok(())
 }
 
+/// Two bits at 2;2, in a box of three rows.
+const TALL: &[u8] = b"\x1bPq\"2;2;1;3#1B\x1b\\";
+
 /// The box counts pixels of the screen, so it also cuts a sixel pixel that is two of them high.
 #[test]
 fn tall_sixel_pixels_are_cut_in_the_middle(rt: HostRuntime) -> Result<(), Fail> {
     for (height, text, whole, clipped) in [
         // The two bits of `B` are the rows 0 and 1, and 2 and 3. The box ends below row 2.
-        (
-            5,
-            b"\x1bPq\"2;2;1;3#1B\x1b\\".as_slice(),
-            [0, 1, 2, 3].as_slice(),
-            [0, 1, 2].as_slice(),
-        ),
+        (5, TALL, [0, 1, 2, 3].as_slice(), [0, 1, 2].as_slice()),
         // The latest ratio says the height, the first box the sides.
         (
             5,
