@@ -26,8 +26,8 @@ pub record HasColourLeft (registers : ℕ) (t : Display) (events : List Event) (
 
 -- the rules on what is drawn are those up to `Uncovered`
 
--- where none of these is broken, the register in which a command paints has the colour that is left, at the painting and
--- at the end, on each terminal with enough registers
+-- where none of these is broken, the register in which a command paints has the colour that is left, at the painting
+-- and at the end, on each terminal with enough registers
 abbrev pub PaintedColourIsLeft : ℕ → Type 0
 PaintedColourIsLeft registers =
     (t : Display) (events : List Event) (i : ℕ) (e : Event) (r : ℕ) → registers ≤ registers_of t

@@ -77,7 +77,7 @@ paint_at t before e x y =
     then Some (selected_on t before)
     else filled_on t.choices.ground e x y
 
--- the register in which the event paints the pixel, which need not lie on the screen, where the terminal sees the string
+-- the register in which the event paints the pixel, which need not lie on the screen, if the terminal sees the string
 unfoldable pub paints_on : Display → List Event → Event → ℕ → ℕ → Option ℕ
 paints_on t before e x y =
     if nat_le t.choices.origin_x x && nat_le t.choices.origin_y y

@@ -41,8 +41,8 @@ sides_of a = record { width = a.width; height = a.height }
 abbrev pub next_declared : Pen → Event → Option Sides
 next_declared p e = option_or p.declared (option_map sides_of (raster_of e))
 
--- the column and the row from which on a data command paints nothing: the end of the screen, or on a terminal that clips
--- that of the declared box, if it comes first
+-- the column and the row from which on a data command paints nothing: the end of the screen, or where the terminal
+-- clips that of the declared box, if it comes first
 abbrev pub right_edge : Display → Option Sides → ℕ
 right_edge t declared =
     if t.choices.clips

@@ -15,11 +15,11 @@ use std::test::Fail;
 /// A document that breaks one rule alone and has the fewest commands that do, and the answer. The order is that of the
 /// rules.
 ///
-/// The end breaks `RasterFirst` here and `Uncovered`. Without raster attributes there is no box, so the end breaks one of
-/// the two at most. A ratio of 2 to 1 leaves the box as it is, and a box of 0 by 0 has no
-/// pixel to cover. A select of register 16 breaks the same rule as its definition. A definition in system 3 is still a
-/// definition. The repeat of 0 stands before all painting and has no bit. `B` has bits 0 and 1, so it covers the box,
-/// and (0, 1) below it. A start of 8 bits and an end of 8 bits each stand round a portable picture.
+/// The end breaks `RasterFirst` here, and `Uncovered`. Without raster attributes there is no box, so the end breaks one
+/// of the two at most. A ratio of 2 to 1 leaves the box as it is, and a box of 0 by 0 has no pixel to cover. A select of
+/// register 16 breaks the same rule as its definition. A definition in system 3 is still a definition. The repeat of 0
+/// stands before all painting and has no bit. `B` has bits 0 and 1, so it covers the box, and (0, 1) below it. A picture
+/// that is portable but for its start of 8 bits, or its end of 8 bits, comes last.
 const ALONE: &[(&str, &str)] = &[
     ("EPqE\\", "broken RasterFirst 3"),
     (
@@ -112,7 +112,7 @@ fn the_least_rule_at_one_event(rt: HostRuntime) -> Result<(), Fail> {
 
 /// Commands of which one is the first that breaks a rule, and the answer, whatever follows. The box is two pixels wide
 /// or more, and no second pixel is painted. `Uncovered` is missing: only the end breaks it, and nothing follows the
-/// end.
+/// end. So is `EightBit`, which no command breaks.
 const FIRST: &[(&str, &str)] = &[
     ("$\"1;1;2;1", "broken RasterFirst 3"),
     ("\"1;1;2;1\"1;1;2;1", "broken RasterTwice 11"),
@@ -226,15 +226,15 @@ fn each_second_rule(rt: HostRuntime) -> Result<(), Fail> {
 }
 
 /// The rule of the first commands is answered, whichever follow. Here are both orders of each two rules but
-/// `RasterFirst` and `Uncovered`, and one order of each two with one of these.
+/// `RasterFirst`, `Uncovered` and `EightBit`, and one order of each two with one of the first two of these.
 #[test]
 fn each_two_rules(rt: HostRuntime) -> Result<(), Fail> {
     each_agrees_before(&rt, FIRST, SECOND)
 }
 
 /// Here are the orders in which `RasterFirst` comes second, and those in which `Ratio` and `BoxSize` do by the first
-/// raster attributes. Two rules alone can come before `RasterFirst`. It comes second here by the end, where there are
-/// no raster attributes, and by a return.
+/// raster attributes. Two rules alone of commands can come before `RasterFirst`. It comes second here by the end, where
+/// there are no raster attributes, and by a return.
 #[test]
 fn each_two_rules_before_raster_attributes(rt: HostRuntime) -> Result<(), Fail> {
     for (first, expected) in BEFORE_RASTER {
@@ -259,7 +259,7 @@ fn agree_after_eight_bits(rt: &impl AllocGlobal, commands: &str) -> Result<bool,
     )
 }
 
-/// A start breaks no other rule, so `EightBit` comes first in both orders: here before each other rule.
+/// Here `EightBit` comes first, by the start, before each other rule.
 #[test]
 fn eight_bits_before_each_rule(rt: HostRuntime) -> Result<(), Fail> {
     for commands in FROM_RASTER {
@@ -284,7 +284,7 @@ fn agree_before_eight_bits(
     Ok(())
 }
 
-/// Here `EightBit` comes second, by the end. After `Uncovered` it does at one event.
+/// Here it comes second, by the end, after each rule but `Uncovered`, which the same end breaks.
 #[test]
 fn eight_bits_after_each_rule(rt: HostRuntime) -> Result<(), Fail> {
     agree_before_eight_bits(&rt, FIRST)?;
