@@ -9,3 +9,4 @@ pub mod InkLemmas
 pub mod ShownLemmas
 pub mod DrawLemmas
 pub mod PlainLemmas
+pub mod ClipLemmas

@@ -1,7 +1,7 @@
 -- What is kept after all events is what is shown.
 use Rattle.std.proofs.Common.{◌≡◌, ℕ, zero, suc, ◌+◌, ◌*◌, ◌/◌, ◌%◌, ◌<◌, Bool, true, false, ◌||◌, Option, Some, None}
 use Rattle.std.proofs.Common.{List, [], ◌∷◌, length, take, get_or, map, refl, sym, ap, ◌∙◌, arith}
-use Rattle.std.specs.Prelude.{slice_get, unwrap_or, if◌then◌else◌}
+use Rattle.std.specs.Prelude.{slice_get, unwrap_or, IsSome, if◌then◌else◌}
 use Rattle.std.specs.List.{list_any}
 use Rattle.std.specs.Option.{option_or, option_map, option_and_then}
 use Rattle.std.proofs.Math.Nat.{mod-eq_of_lt}
@@ -20,7 +20,9 @@ use Rattle.sixel_terminal.specs.declared.canvas.Ink.TheVariants.{Fixed, Bound}
 use Rattle.sixel_terminal.specs.declared.pen.Pen.{Pen}
 use Rattle.sixel_terminal.specs.Canvases.{black}
 use Rattle.sixel_terminal.specs.Displays.{Display, registers_of}
-use Rattle.sixel_terminal.specs.Drawing.{inked_on, is_seen_on, map_on, paints_on, screen_on, shown_on}
+use Rattle.sixel_terminal.specs.Drawing.{IsPainted, inked_on, is_seen_on, map_on, paints_in, paints_on, screen_on}
+use Rattle.sixel_terminal.specs.Drawing.{shown_on, stood_on}
+use Rattle.sixel_terminal.specs.Laws.{UnseenIsUnpainted}
 use Rattle.sixel_terminal.specs.Standing.{StandsAfter, ink_in_register, ink_at_point, inked_by, shown_in}
 use Rattle.sixel_terminal.proofs.InkLemmas.{map_same, paints_below}
 use Rattle.sixel_terminal.proofs.RunLemmas.{Runs}
@@ -151,3 +153,29 @@ unseen_screen t events runs unseen =
     (λ i lt.
     ap (λ n. get_or t.screen n (Rgb 0 0 0)) (sym (div-add-mod' i t.choices.screen_width))
     ∙ sym (unseen_pixel t events (i % t.choices.screen_width) (i / t.choices.screen_width) unseen))
+
+-- ---- pixels that no event paints
+
+none_of : {A B : Type 0} (f : A → B) (o : Option A) → (IsSome o → ⊥) → option_map f o ≡ None
+none_of f None h = refl
+none_of f (Some a) h = absurd (h refl)
+
+-- a pixel that no event paints shows what stood there
+pub unpainted : (t : Display) (events : List Event) (x y : ℕ) → ¬ IsPainted t events x y
+    → shown_on t events x y ≡ stood_on t x y
+unfolding shown_on IsPainted last_at at_position
+unpainted t events x y none =
+    ap (λ o. unwrap_or o (stood_on t x y))
+    (none_below (length events) _ (λ i. there i (slice_get events i) refl))
+  where
+    there : (i : ℕ) (o : Option Event) → slice_get events i ≡ o
+        → option_and_then (λ e. inked_on t events x y (take i events) e) o ≡ None
+    there i None is = refl
+    there i (Some e) is =
+        none_of _ (paints_in t events (take i events) e x y)
+        (λ some. none (i, record { item = e; here = is; holds = some }))
+
+pub unseen_is_unpainted : UnseenIsUnpainted
+unfolding IsPainted is_seen_on
+unseen_is_unpainted t events x y bits eight painted =
+    let some = rw (bits, eight) at (painted.1).holds in cc some

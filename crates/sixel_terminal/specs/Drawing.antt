@@ -30,13 +30,13 @@ height_of t before =
 unfoldable pub touches_on : Display → List Event → Event → ℕ → ℕ → Bool
 touches_on t before e x y = touches t.choices.zero (height_of t before) before e x y
 
--- a data command may paint the point: on a terminal that clips it lies in the box of the first raster attributes
--- before, if there are any
+-- the point isn't cut off: on a terminal that clips, data commands paint the points of the box of the first raster
+-- attributes before alone, if there are any
 unfoldable pub is_kept_on : Display → List Event → ℕ → ℕ → Bool
 is_kept_on t before x y =
     not t.choices.clips || option_map_or (λ a. is_in_box a x y) (raster_before before) true
 
--- the terminal sees the string: it has 8-bit controls, or no start and no finish is one
+-- the terminal sees the string: it has 8-bit controls, or no start and no finish of the string is such a control
 unfoldable pub is_seen_on : Display → List Event → Bool
 is_seen_on t events = t.choices.eight_bit || not (list_any is_eight_bit events)
 
@@ -99,11 +99,13 @@ abbrev pub inked_on : Display → List Event → ℕ → ℕ → List Event → 
 inked_on t events x y before e =
     option_map (map_on t (if t.choices.binds_at_showing then events else before)) (paints_in t events before e x y)
 
+-- the colour that stood at a pixel of the screen before the events
+abbrev pub stood_on : Display → ℕ → ℕ → Parts
+stood_on t x y = slice_index_or t.screen (y * t.choices.screen_width + x) (Rgb 0 0 0)
+
 -- the colour shown at a pixel of the screen: that of the last painting, or the one that stood there
 unfoldable pub shown_on : Display → List Event → ℕ → ℕ → Parts
-shown_on t events x y =
-    unwrap_or (last_at (inked_on t events x y) events)
-    (slice_index_or t.screen (y * t.choices.screen_width + x) (Rgb 0 0 0))
+shown_on t events x y = unwrap_or (last_at (inked_on t events x y) events) (stood_on t x y)
 
 -- the colours shown on the whole screen, row by row
 unfoldable pub screen_on : Display → List Event → List Parts

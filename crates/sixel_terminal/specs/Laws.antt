@@ -1,15 +1,16 @@
 -- What the laws say.
-use Rattle.std.specs.Prelude.{◌≡◌, ◌<◌, ◌≤◌, ℕ, Some, None, IfSome, IsFalse, IsSome, IsTrue, List, length, slice_get}
-use Rattle.std.specs.Prelude.{take}
-use Rattle.std.specs.List.{AllByRecursion}
+use Rattle.std.specs.Prelude.{◌≡◌, ◌<◌, ◌≤◌, ◌+◌, ℕ, true, false, Some, None, IfSome, IsFalse, IsSome, IsTrue, List}
+use Rattle.std.specs.Prelude.{length, slice_get, take}
+use Rattle.std.specs.List.{AllByRecursion, list_any}
 use Rattle.sixel_grammar.specs.declared.command.Event.{Event}
 use Rattle.sixel_picture.specs.declared.colour.Parts.{Parts}
-use Rattle.sixel_picture.specs.Events.{is_repeat_of_zero, is_square, raster_of}
+use Rattle.sixel_picture.specs.Events.{Attributes, is_eight_bit, is_in_box, is_repeat_of_zero, is_square, raster_of}
 use Rattle.sixel_picture.specs.Geometry.{falls}
 use Rattle.sixel_picture.specs.Rules.{known, raster_before}
 use Rattle.sixel_terminal.specs.declared.choices.Choices.{Choices}
+use Rattle.sixel_terminal.specs.declared.choices.Ground.TheVariants.{Kept}
 use Rattle.sixel_terminal.specs.Displays.{Display, HasRoom, IsInClass, registers_of}
-use Rattle.sixel_terminal.specs.Drawing.{selected_on, touches_on}
+use Rattle.sixel_terminal.specs.Drawing.{IsPainted, paints_on, selected_on, shown_on, stood_on, touches_on}
 use Rattle.sixel_terminal.specs.Limits.{display_of, terminal_fault}
 
 -- for pictures of any count of registers and any size, some terminal of the class has room
@@ -37,3 +38,22 @@ SamePointsOnEach =
 abbrev pub KnownIsSelected : Type 0
 KnownIsSelected =
     (t : Display) (before : List Event) (r : ℕ) → known before ≡ Some r → r < registers_of t → selected_on t before ≡ r
+
+-- a pixel that no event paints shows what stood there
+abbrev pub UnpaintedStays : Type 0
+UnpaintedStays =
+    (t : Display) (events : List Event) (x y : ℕ) → ¬ IsPainted t events x y → shown_on t events x y ≡ stood_on t x y
+
+-- a terminal without 8-bit controls paints nothing of a list in which a start or a finish is one
+abbrev pub UnseenIsUnpainted : Type 0
+UnseenIsUnpainted =
+    (t : Display) (events : List Event) (x y : ℕ) → t.choices.eight_bit ≡ false
+    → IsTrue (list_any is_eight_bit events) → ¬ IsPainted t events x y
+
+-- on a terminal that clips and keeps its ground, an event after raster attributes paints no point outside the box of
+-- the first of them
+abbrev pub ClippedIsUnpainted : Type 0
+ClippedIsUnpainted =
+    (t : Display) (before : List Event) (e : Event) (a : Attributes) (x y : ℕ) → t.choices.clips ≡ true
+    → t.choices.ground ≡ Kept → raster_before before ≡ Some a → IsFalse (is_in_box a x y)
+    → paints_on t before e (t.choices.origin_x + x) (t.choices.origin_y + y) ≡ None
