@@ -1,13 +1,15 @@
--- On the verdict on a list in which no rule is broken.
+-- On the verdict on a whole list: a picture is portable, and a finding no false alarm.
 use Rattle.std.proofs.Common.{ℕ, List, IsTrue}
 use Rattle.sixel_grammar.specs.declared.command.Placed.{Placed}
 use Rattle.sixel_grammar.specs.Document.{AreWhole, events_of}
 use Rattle.sixel_check.specs.declared.verdict.Verdict.{Verdict}
 use Rattle.sixel_check.specs.declared.verdict.Verdict.TheVariants.{Portable, Broken}
+use Rattle.sixel_check.specs.Alarms.{IsNoFalseAlarm}
 use Rattle.sixel_check.specs.Laws.{VerdictIsLeft}
 use Rattle.sixel_check.specs.Portable.{IsShownEverywhere}
 use Rattle.sixel_check.specs.Standing.{CheckerValue, StandsAfter, is_whole}
 use Rattle.sixel_check.specs.Verdicts.{IsVerdict}
+use Rattle.sixel_check.proofs.DifferenceLemmas.{no_false_alarm}
 use Rattle.sixel_check.proofs.ShownLemmas.{left_is_portable}
 use Rattle.sixel_check.proofs.StandLemmas.{stands_whole}
 use Rattle.sixel_check.proofs.VerdictLemmas.{verdict_once}
@@ -28,3 +30,11 @@ pub stands_everywhere : (others registers : ℕ) (checker : CheckerValue) (first
     → IsShownEverywhere registers (events_of seen) v
 stands_everywhere others registers checker first seen v f whole s k =
     verdict_everywhere registers seen v (stands_whole _ _ checker first seen f whole s) k
+
+-- nor is one of these a false alarm
+pub stands_truly : (others registers : ℕ) (checker : CheckerValue) (first seen : List Placed) (v : Verdict)
+    → StandsAfter others checker first
+    → IsTrue (is_whole first) → StandsAfter registers checker seen → IsVerdict registers seen v
+    → IsNoFalseAlarm registers seen v
+stands_truly others registers checker first seen v f whole s k =
+    no_false_alarm registers seen v (stands_whole _ _ checker first seen f whole s) k

@@ -19,6 +19,11 @@ pub mod ColourLemmas
 pub mod SteadyLemmas
 pub mod CoverLemmas
 pub mod WithinLemmas
+pub mod AlarmLemmas
+pub mod DifferenceLemmas
+pub mod PairLemmas
+pub mod PlainLemmas
+pub mod ExactLemmas
 pub mod ShownLemmas
 pub mod AnswerLemmas
 pub mod OnePixel

@@ -57,7 +57,7 @@ unfolding breaks_register
 select_below registers (Step (Select register)) h = leb-false registers register h
 select_below registers _ h = tt
 
-or_each : {A : Type 0} (P : A → Type 0) (o p : Option A) → IfSome o P → IfSome p P → IfSome (option_or o p) P
+pub or_each : {A : Type 0} (P : A → Type 0) (o p : Option A) → IfSome o P → IfSome p P → IfSome (option_or o p) P
 or_each P None p h k = k
 or_each P (Some x) p h k = h
 

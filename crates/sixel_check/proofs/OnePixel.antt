@@ -34,8 +34,8 @@ unfolding decided_by falls_searchable blank_searchable first_of outside_first bl
     broken_or_none decide_true decide_either least_here least_more least_below in_row row_decided first_point Breaks
     BreaksOutside BreaksUncovered breaks_box_size breaks_colour_value breaks_eight_bit breaks_ratio
     breaks_raster_first breaks_raster_twice breaks_redefined breaks_register breaks_repeat_zero breaks_undefined
-    breaks_unselected definition_of is_covered is_painted_in known raster_before band column covers falls touches any_at any_below
-    earliest latest passes_at since
+    breaks_unselected definition_of is_covered is_painted_in known raster_before band column covers falls touches any_at
+    any_below earliest latest passes_at since
 unbroken Registers16 = second_of (broken_or_none 16 one_pixel) refl
 unbroken Registers256 = second_of (broken_or_none 256 one_pixel) refl
 

@@ -1,10 +1,10 @@
 -- On what terminals show, where no rule is broken: the picture that is left.
-use Rattle.std.proofs.Common.{◌≡◌, ◌<◌, ◌≤◌, ◌+◌, ◌-◌, ◌*◌, ℕ, suc, Bool, true, false, cond, Option, Some, None, List}
+use Rattle.std.proofs.Common.{◌≡◌, ◌<◌, ◌≤◌, ◌+◌, ◌*◌, ℕ, suc, Bool, true, false, cond, Option, Some, None, List}
 use Rattle.std.proofs.Common.{[], ◌∷◌, length, take, refl, sym, ap, ◌∙◌, arith}
 use Rattle.std.specs.Prelude.{if◌then◌else◌, slice_get, slice_index_or, unwrap_or, IsFalse, IsSome}
 use Rattle.std.specs.List.{list_any}
 use Rattle.std.specs.Option.{option_flatten, option_map}
-use Rattle.std.proofs.lemmas.Bool.{and_from, le-leb, lt-ltb}
+use Rattle.std.proofs.lemmas.Bool.{and_from, lt-ltb}
 use Rattle.std.proofs.lemmas.Option.{slice_get_within}
 use Rattle.sixel_grammar.specs.declared.command.Event.{Event}
 use Rattle.sixel_grammar.specs.Document.{AreWhole}
@@ -24,6 +24,7 @@ use Rattle.sixel_picture.specs.RuleNumbers.{uncovered_rule, last_rule}
 use Rattle.sixel_terminal.specs.Displays.{Display, registers_of}
 use Rattle.sixel_terminal.specs.Drawing.{inked_on, is_kept_on, is_seen_on, map_on, paint_at, paints_in, paints_on}
 use Rattle.sixel_terminal.specs.Drawing.{selected_on, shown_on, touches_on}
+use Rattle.sixel_terminal.proofs.ClipLemmas.{at_origin}
 use Rattle.sixel_terminal.proofs.PaintLemmas.{none_filled}
 use Rattle.sixel_terminal.proofs.PlainLemmas.{same_points_on_each}
 use Rattle.sixel_terminal.proofs.SelectLemmas.{known_is_selected}
@@ -118,22 +119,6 @@ has_register n events x y none covered =
         rw (at_there (known_where x y) events i (e.0) here, fell) refl
 
 -- ---- the pixel on a terminal
-
--- a point counted from the origin
-at_origin : (t : Display) (before : List Event) (e : Event) (x y : ℕ)
-    → paints_on t before e (t.choices.origin_x + x) (t.choices.origin_y + y) ≡ paint_at t before e x y
-unfolding paints_on
-at_origin t before e x y =
-    let across : t.choices.origin_x ≤ t.choices.origin_x + x = omega arith in
-    let down : t.choices.origin_y ≤ t.choices.origin_y + y = omega arith in
-    let dx : (t.choices.origin_x + x) - t.choices.origin_x ≡ x = omega arith in
-    let dy : (t.choices.origin_y + y) - t.choices.origin_y ≡ y = omega arith in
-    rw (
-      le-leb t.choices.origin_x (t.choices.origin_x + x) across,
-      le-leb t.choices.origin_y (t.choices.origin_y + y) down,
-      dx,
-      dy,
-    ) refl
 
 falls_data : (before : List Event) (e : Event) (x y : ℕ) → falls before e x y ≡ true → is_data_command e ≡ true
 unfolding falls
@@ -247,7 +232,7 @@ shows_left n t events a x y whole none seen enough box p q =
     = some_value (register_at events x y) (has_register n events x y none covered) in
     rw (register_left n events a x y (r.0) box p q (r.1)) (shown_is n t events x y (r.0) none seen enough (r.1))
 
-size_left : (n : ℕ) (events : List Event) (a : Attributes) → raster_before events ≡ Some a
+pub size_left : (n : ℕ) (events : List Event) (a : Attributes) → raster_before events ≡ Some a
     → ((picture_left n events).width ≡ a.width) × ((picture_left n events).height ≡ a.height)
 unfolding picture_left
 size_left n events a box = rw box (refl, refl)

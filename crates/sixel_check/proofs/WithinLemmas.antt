@@ -44,7 +44,7 @@ touches_data z rows before e x y h =
 
 -- ---- a list in which no rule is broken is plain
 
-square_if : (o : Option Attributes) → option_map_or (λ a. not (is_square a)) o false ≡ false
+pub square_if : (o : Option Attributes) → option_map_or (λ a. not (is_square a)) o false ≡ false
     → IfSome o (λ a. IsTrue (is_square a))
 square_if None h = tt
 square_if (Some a) h = not-false _ h
@@ -153,7 +153,7 @@ paint_inside n t events a i e x y none box here p =
         (and_parts (touches_on t (take i events) e x y) (is_kept_on t (take i events) x y) both).0
     split false touched s = filled_inside n t.choices.ground events a i e x y none box here s
 
-if_seen : {A : Type 0} (b : Bool) (o : Option A) → IsSome (if b then o else None) → IsSome o
+pub if_seen : {A : Type 0} (b : Bool) (o : Option A) → IsSome (if b then o else None) → IsSome o
 if_seen true o h = h
 if_seen false o h = cc
 

@@ -11,18 +11,19 @@ use Rattle.sixel_grammar.specs.declared.command.Event.TheVariants.{Step}
 use Rattle.sixel_grammar.specs.declared.command.Placed.{Placed}
 use Rattle.sixel_grammar.specs.declared.fault.InputFault.{InputFault}
 use Rattle.sixel_grammar.specs.declared.reader.Reader.{Reader}
+use Rattle.sixel_check.specs.Alarms.{IsNoFalseAlarm}
 use Rattle.sixel_check.specs.Growth.{GrowsFor, MayGrowAmong}
 use Rattle.sixel_check.specs.Portable.{IsShownEverywhere}
 use Rattle.sixel_check.specs.Standing.{CheckerValue, StandsAfter, expects}
 use Rattle.sixel_check.specs.Verdicts.{IsVerdict}
 use Rattle.sixel_check.specs.declared.verdict.Verdict.{Verdict}
 
--- the bytes are a document, the verdict is that on its events, and a picture that it answers is portable; or a fault of
--- the grammar is that of the bytes
+-- the bytes are a document, the verdict is that on its events, a picture that it answers is portable, and a finding is
+-- no false alarm; or a fault of the grammar is that of the bytes
 abbrev pub Answers : ℕ → Result Verdict InputFault → List ℕ → Type 0
 Answers registers (Ok verdict) bytes =
     (events : List Placed) × Document events bytes × IsVerdict registers events verdict
-    × IsShownEverywhere registers (events_of events) verdict
+    × IsShownEverywhere registers (events_of events) verdict × IsNoFalseAlarm registers events verdict
 Answers registers (Err fault) bytes = Explains fault bytes
 
 -- the reader stands after these bytes, and the checker after the events that are complete in them

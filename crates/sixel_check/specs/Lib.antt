@@ -7,4 +7,6 @@ pub mod Outside
 pub mod Growth
 pub mod Checking
 pub mod Portable
+pub mod Alarms
+pub mod Differences
 pub mod Laws

@@ -16,12 +16,16 @@ pub record IsInBoxOn (t : Display) (width height x y : ℕ) : Type 0 where
   pub right : x < t.choices.origin_x + width
   pub bottom : y < t.choices.origin_y + height
 
+-- after the events the terminal shows the colour that the picture has at the point, which is counted from its origin
+abbrev pub ShowsAt : Display → List Event → PictureValue → ℕ → ℕ → Type 0
+ShowsAt t events p x y =
+    palette_at p.palette (register_of p x y)
+    ≡ Some (shown_on t events (t.choices.origin_x + x) (t.choices.origin_y + y))
+
 -- after the events the terminal shows the picture in the box at its origin, and none of them paints a pixel outside it,
 -- on the screen or off it
 pub record Shows (t : Display) (events : List Event) (p : PictureValue) : Type 0 where
-  pub inside : (x y : ℕ) → x < p.width → y < p.height
-      → palette_at p.palette (register_of p x y)
-      ≡ Some (shown_on t events (t.choices.origin_x + x) (t.choices.origin_y + y))
+  pub inside : (x y : ℕ) → x < p.width → y < p.height → ShowsAt t events p x y
   pub outside : (x y : ℕ) → ¬ IsInBoxOn t p.width p.height x y → ¬ IsPainted t events x y
 
 -- the picture has the size of the box, which the first raster attributes declare, and each terminal of the class for so

@@ -34,9 +34,13 @@ number_of Outside = outside_rule
 number_of Uncovered = uncovered_rule
 number_of EightBit = eight_bit_rule
 
--- the number, or the largest of 64 bits
+-- the greatest number of 64 bits, at which the coordinates of a pixel stop
+abbrev pub greatest : ℕ
+greatest = 2 ^ 64 - 1
+
+-- the number, or the greatest
 abbrev pub capped : ℕ → ℕ
-capped n = min n (2 ^ 64 - 1)
+capped n = min n greatest
 
 -- the first point, in row order, of which P holds; the pixel is it, each coordinate capped
 abbrev pub IsFirstPixel : (ℕ → ℕ → Type 0) → Option (ℕ × ℕ) → Type 0

@@ -5,6 +5,7 @@ ghost use Rattle.sixel_grammar.specs.Document.{events_of};
 ghost use Rattle.sixel_grammar.specs.declared.command.Placed.{Placed as PlacedValue};
 ghost use Rattle.sixel_grammar.specs.Spelling.{IsSpellable};
 ghost use Rattle.sixel_picture.specs.Profiles.{count_of};
+ghost use Rattle.sixel_check.specs.Alarms.{IsNoFalseAlarm};
 ghost use Rattle.sixel_check.specs.Growth.{MayGrow};
 ghost use Rattle.sixel_check.specs.Portable.{IsShownEverywhere};
 ghost use Rattle.sixel_check.specs.Standing.{StandsAfter, expects, is_whole};
@@ -98,6 +99,8 @@ impl<P: Plane> Checker<P> {
             → StandsAfter registers self seen → IsVerdict registers seen verdict) }
         ensures everywhere { IfOk result (λ verdict. (registers : ℕ) (seen : List PlacedValue)
             → StandsAfter registers self seen → IsShownEverywhere registers (events_of seen) verdict) }
+        ensures no_false_alarm { IfOk result (λ verdict. (registers : ℕ) (seen : List PlacedValue)
+            → StandsAfter registers self seen → IsNoFalseAlarm registers seen verdict) }
         ensures always { IsOk result }
     {
         Ok(self.judge.verdict())

@@ -3,6 +3,9 @@
 ghost use Rattle.sixel_check.specs.Laws.{AllCovered, ClippingChangesNothing, FilledFirst, GrowthStays, LeftIsPortable};
 ghost use Rattle.sixel_check.specs.Laws.{NonePaintedOutside, OnePixelBreaksNone, OneVerdict, PaintedColourIsLeft};
 ghost use Rattle.sixel_check.specs.Laws.{SomeVerdict, VerdictIsLeft};
+ghost use Rattle.sixel_check.specs.Differences.{CoordinatesAreExact, EightBitDiffers, OutsideDiffers};
+ghost use Rattle.sixel_check.specs.Differences.{SomeEightBitDiffer, SomeOutsideDiffer, SomeUncoveredDiffer};
+ghost use Rattle.sixel_check.specs.Differences.{UncoveredDiffers};
 ghost use Rattle.sixel_picture.specs.Profiles.{count_of};
 ghost use Rattle.sixel_picture.specs.declared.profile.Profile.{Profile};
 
@@ -47,4 +50,28 @@ pub fn growth_stays()
 /// Some whole list breaks no rule: a box of one pixel, painted in a register that is defined and selected.
 pub fn one_pixel_breaks_none()
     ensures { (profile : Profile) → OnePixelBreaksNone (count_of profile) }
+{}
+
+/// What a finding of three rules names, two given terminals of the class show in other colours. For `Uncovered` they
+/// have room and keep their ground, and other colours stood there; for `Outside` they differ in clipping alone, keep
+/// their ground and have 8-bit controls, and another colour stood there than the one that doesn't clip shows; for
+/// `EightBit` at the terminator they have room and differ in 8-bit controls alone, and another colour stood there
+/// than the picture has that is left.
+pub fn findings_are_differences()
+    ensures uncovered { (profile : Profile) → UncoveredDiffers (count_of profile) }
+    ensures outside { (profile : Profile) → OutsideDiffers (count_of profile) }
+    ensures eight_bit { (profile : Profile) → EightBitDiffers (count_of profile) }
+{}
+
+/// For each such finding there are two such terminals: their choices, their registers and their screens are written
+/// out.
+pub fn some_terminals_differ()
+    ensures uncovered { (profile : Profile) → SomeUncoveredDiffer profile }
+    ensures outside { (profile : Profile) → SomeOutsideDiffer profile }
+    ensures eight_bit { (profile : Profile) → SomeEightBitDiffer profile }
+{}
+
+/// In a document no coordinate of a pixel that is named as outside is so large that it is stopped.
+pub fn coordinates_are_exact()
+    ensures { (profile : Profile) → CoordinatesAreExact (count_of profile) }
 {}

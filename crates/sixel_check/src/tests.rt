@@ -1,6 +1,7 @@
 //! What no contract says: that the definitions are those of the worked documents.
 
 mod corners;
+mod differences;
 mod documents;
 mod faults;
 mod fills;

@@ -22,5 +22,7 @@ pub enum Verdict {
     /// registers that were defined, each with its last colour. Each terminal that has room shows this picture; which
     /// terminals are meant is said at `sixel_terminal::Choices`.
     Portable(Picture),
+    /// The first broken rule. What `Outside` and `Uncovered` name, and what `EightBit` does at a terminator, is a
+    /// difference between terminals; of the other rules, and of `EightBit` at an introducer, that isn't promised.
     Broken(Finding),
 }

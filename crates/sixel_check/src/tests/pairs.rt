@@ -16,10 +16,10 @@ use std::test::Fail;
 /// rules.
 ///
 /// The end breaks `RasterFirst` here, and `Uncovered`. Without raster attributes there is no box, so the end breaks one
-/// of the two at most. A ratio of 2 to 1 leaves the box as it is, and a box of 0 by 0 has no pixel to cover. A select of
-/// register 16 breaks the same rule as its definition. A definition in system 3 is still a definition. The repeat of 0
-/// stands before all painting and has no bit. `B` has bits 0 and 1, so it covers the box, and (0, 1) below it. A picture
-/// that is portable but for its start of 8 bits, or its end of 8 bits, comes last.
+/// of the two at most. A ratio of 2 to 1 leaves the box as it is, and a box of 0 by 0 has no pixel to cover. A select
+/// of register 16 breaks the same rule as its definition. A definition in system 3 is still a definition. The repeat of
+/// 0 stands before all painting and has no bit. `B` has bits 0 and 1, so it covers the box, and (0, 1) below it. A
+/// picture that is portable but for its start of 8 bits, or its end of 8 bits, comes last.
 const ALONE: &[(&str, &str)] = &[
     ("EPqE\\", "broken RasterFirst 3"),
     (

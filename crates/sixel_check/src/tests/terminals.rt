@@ -29,7 +29,7 @@ const PORTABLE: [&str; 9] = [
 ];
 
 /// A grey of this many percent.
-fn grey(percent: u8) -> Parts {
+pub(super) fn grey(percent: u8) -> Parts {
     Parts::Rgb(percent, percent, percent)
 }
 
@@ -58,7 +58,7 @@ fn choices_of(number: u8, width: u32, height: u32) -> Choices {
 
 /// A colour for each register of the profile: register n starts as 6n percent of red, green and blue, by the rest of
 /// 101.
-fn greys(alloc: Global, profile: Profile) -> Result<Vec<Colour>, Fail> {
+pub(super) fn greys(alloc: Global, profile: Profile) -> Result<Vec<Colour>, Fail> {
     let mut colours = Vec::with_capacity(alloc, 256)?;
     for register in 0..profile.count() {
         let percent = (register.saturating_mul(6) % 101) as u8;
@@ -236,6 +236,8 @@ const UNDEFINED: &str = "EPq\"1;1;1;1#0@E\\";
 const REDEFINED: &str = "EPq\"1;1;2;1#0;2;0;0;0#1;2;100;0;0#0@#1@#0;2;1;0;0E\\";
 /// Raster attributes stand after data.
 const RASTER_TWICE: &str = "EPq\"1;1;1;1#0;2;0;0;0#0@\"1;1;1;1E\\";
+/// The second pixel of the box is not painted.
+const UNCOVERED: &str = "EPq\"1;1;2;1#0;2;0;0;0#0@E\\";
 /// The pixel below the box is painted, and that of the box is not.
 const OUTSIDE: &str = "EPq\"1;1;1;1#0;2;0;0;0#0AE\\";
 /// The smallest picture, with controls of 8 bits: at its start, at its end, and at both.
@@ -341,12 +343,28 @@ fn shows_filled(rt: &impl AllocGlobal, choices: Choices) -> Result<bool, Fail> {
     )
 }
 
-/// Whether what lies below the box is clipped on some.
-fn shows_outside(rt: &impl AllocGlobal, choices: Choices) -> Result<bool, Fail> {
-    let inside = match choices.ground {
+/// What a pixel of the box shows that nothing paints: what stood there, or the register that the box is filled with.
+fn blank_on(choices: &Choices) -> Parts {
+    match choices.ground {
         Ground::Kept => grey(50),
         Ground::Filled(_) => grey(30),
-    };
+    }
+}
+
+/// Whether a pixel that is not covered stays as it was, or as the box was filled.
+fn shows_uncovered(rt: &impl AllocGlobal, choices: Choices) -> Result<bool, Fail> {
+    shows(
+        rt,
+        UNCOVERED,
+        choices,
+        greys(rt.alloc(), Profile::Registers16)?,
+        &[BLACK, blank_on(&choices)],
+    )
+}
+
+/// Whether what lies below the box is clipped on some.
+fn shows_outside(rt: &impl AllocGlobal, choices: Choices) -> Result<bool, Fail> {
+    let inside = blank_on(&choices);
     let below = if choices.clips { grey(50) } else { BLACK };
     shows(
         rt,
@@ -377,6 +395,7 @@ fn terminals_differ_on_what_is_broken(rt: HostRuntime) -> Result<(), Fail> {
         assert!(rt; shows_undefined(&rt, choices)?, "{number}");
         assert!(rt; shows_redefined(&rt, choices_of(number, 2, 1))?, "{number}");
         assert!(rt; shows_filled(&rt, choices)?, "{number}");
+        assert!(rt; shows_uncovered(&rt, choices_of(number, 2, 1))?, "{number}");
         assert!(rt; shows_outside(&rt, choices_of(number, 1, 2))?, "{number}");
     }
     Ok(())

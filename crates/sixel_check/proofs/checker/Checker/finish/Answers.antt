@@ -1,4 +1,4 @@
-use Rattle.sixel_check.proofs.AnswerLemmas.{stands_everywhere}
+use Rattle.sixel_check.proofs.AnswerLemmas.{stands_everywhere, stands_truly}
 use Rattle.sixel_check.proofs.StandLemmas.{judges_inside, stands_whole}
 use Rattle.sixel_check.proofs.checker.Checker.finish.Goals as goal
 
@@ -18,4 +18,9 @@ returns-clause-verdict g c = λ registers seen s.
 pub returns-clause-everywhere : goal.returns-clause-everywhere
 returns-clause-everywhere g c = λ registers seen s.
     stands_everywhere _ _ c.args.self c.requires.whole.1 seen c.verdict.result c.requires.whole.2 c.requires.whole.3 s
+    (c.verdict.ensures registers seen (judges_inside _ _ _ seen c.self.view_is s))
+
+pub returns-clause-no_false_alarm : goal.returns-clause-no_false_alarm
+returns-clause-no_false_alarm g c = λ registers seen s.
+    stands_truly _ _ c.args.self c.requires.whole.1 seen c.verdict.result c.requires.whole.2 c.requires.whole.3 s
     (c.verdict.ensures registers seen (judges_inside _ _ _ seen c.self.view_is s))

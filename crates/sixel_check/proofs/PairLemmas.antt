@@ -1,0 +1,87 @@
+-- On two given terminals, which show in other colours what a finding names.
+use Rattle.std.proofs.Common.{◌<◌, ℕ, Bool, true, false, Option, Some, None, List, refl, sym, ap, subst}
+use Rattle.std.proofs.Common.{◌∙◌}
+use Rattle.std.specs.Prelude.{IsSomeAnd}
+use Rattle.sixel_grammar.specs.declared.command.Event.{Event}
+use Rattle.sixel_grammar.specs.declared.command.Placed.{Placed}
+use Rattle.sixel_grammar.specs.Document.{events_of}
+use Rattle.sixel_picture.specs.declared.colour.Parts.{Parts}
+use Rattle.sixel_picture.specs.Rules.{raster_before}
+use Rattle.sixel_terminal.specs.Displays.{Display, HasRoom, IsInClass, clipping, hearing}
+use Rattle.sixel_terminal.proofs.ShownLemmas.{unpainted}
+use Rattle.sixel_check.specs.declared.rule.Rule.{Rule}
+use Rattle.sixel_check.specs.declared.rule.Rule.TheVariants.{Outside, Uncovered, EightBit}
+use Rattle.sixel_check.specs.declared.verdict.Finding.{Finding}
+use Rattle.sixel_check.specs.Alarms.{HasRoomFor, IsCutOffByClipping, IsTrueAlarm, IsUnseenWithoutEightBits, StaysOnEach}
+use Rattle.sixel_check.specs.Differences.{EightBitDiffers, IsFound, OutsideDiffers, UncoveredDiffers}
+use Rattle.sixel_check.specs.Verdicts.{greatest}
+use Rattle.sixel_check.proofs.DifferenceLemmas.{found_truly}
+
+-- what is promised of the finding
+pub promised : (registers : ℕ) (placed : List Placed) (rule : Rule) (i : ℕ) (f : Finding)
+    → IsFound registers placed rule i f
+    → IsTrueAlarm registers (events_of placed) rule f.pixel i
+promised registers placed rule i f is =
+    subst (λ (r : Rule). IsTrueAlarm registers (events_of placed) r f.pixel i) is.rule_is
+    (found_truly registers placed f i is.whole is.found)
+
+pub uncovered_differs : (registers : ℕ) → UncoveredDiffers registers
+uncovered_differs registers placed f i x y t u is pixel room also ground kept other same =
+    let stays : StaysOnEach registers (events_of placed) x y = rw pixel at
+    (promised registers placed Uncovered i f is) in
+    other (sym (stays t room ground) ∙ same ∙ stays u also kept)
+
+-- a terminal that clips or doesn't is in the class of the other
+clipping_class : {registers : ℕ} (b : Bool) (t : Display) → IsInClass registers t → IsInClass registers (clipping b t)
+clipping_class b t c = record {
+  enough = c.enough;
+  selected = c.selected;
+  ground = c.ground;
+  zero = c.zero;
+  tall = c.tall;
+  screen = c.screen;
+  origin_x = c.origin_x;
+  origin_y = c.origin_y;
+}
+
+hearing_class : {registers : ℕ} (b : Bool) (t : Display) → IsInClass registers t → IsInClass registers (hearing b t)
+hearing_class b t c = record {
+  enough = c.enough;
+  selected = c.selected;
+  ground = c.ground;
+  zero = c.zero;
+  tall = c.tall;
+  screen = c.screen;
+  origin_x = c.origin_x;
+  origin_y = c.origin_y;
+}
+
+hearing_room : {w h : ℕ} (b : Bool) (t : Display) → HasRoom t w h → HasRoom (hearing b t) w h
+hearing_room b t r = record { across = r.across; down = r.down }
+
+room_each : {A : Type 0} (o : Option A) (P Q : A → Type 0) → ((a : A) → P a → Q a) → IsSomeAnd o P → IsSomeAnd o Q
+room_each None P Q h p = absurd p
+room_each (Some a) P Q h p = h a p
+
+hearing_has_room : {registers : ℕ} (b : Bool) (t : Display) (events : List Event) → HasRoomFor registers t events
+    → HasRoomFor registers (hearing b t) events
+hearing_has_room b t events r = record {
+  in_class = hearing_class b t r.in_class;
+  room = room_each (raster_before events) _ _ (λ a h. hearing_room b t h) r.room;
+}
+
+pub outside_differs : (registers : ℕ) → OutsideDiffers registers
+outside_differs registers placed f i x y t is pixel low high class ground eight other same =
+    let cut : x < greatest → y < greatest → IsCutOffByClipping registers (events_of placed) i x y =
+    rw pixel at (promised registers placed Outside i f is) in
+    let stays = unpainted (clipping true t) (events_of placed) _ _
+    ((cut low high).cut_off (clipping true t) (clipping_class true t class) refl ground) in
+    other (sym stays ∙ same)
+
+pub eight_bit_differs : (registers : ℕ) → EightBitDiffers registers
+eight_bit_differs registers placed f i x y t is ends room p q other same =
+    let seen : IsUnseenWithoutEightBits registers (events_of placed) i = promised registers placed EightBit i f is in
+    let stays = unpainted (hearing false t) (events_of placed) _ _
+    (seen.unpainted (hearing false t) _ _ (hearing_class false t room.in_class) refl) in
+    let shows = seen.shown ends (hearing true t) x y (hearing_has_room true t (events_of placed) room) refl p q in
+    other (shows ∙ ap (λ (c : Parts). Some c) (same ∙ stays))
