@@ -14,6 +14,9 @@ pub mod StandLemmas
 pub mod FrontLemmas
 pub mod UniqueLemmas
 pub mod NotPlainLemmas
+pub mod NotSixelLemmas
+pub mod RunLemmas
+pub mod SixelLemmas
 pub mod SourceLemmas
 pub mod WritableLemmas
 pub mod TotalLemmas

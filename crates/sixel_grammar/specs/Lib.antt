@@ -8,6 +8,7 @@ pub mod Devices
 pub mod Blocks
 pub mod SliceDevices
 pub mod Standing
+pub mod Stretches
 pub mod Plain
 pub mod Next
 pub mod Pending

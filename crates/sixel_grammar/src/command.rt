@@ -78,6 +78,15 @@ pub enum Plain {
     Command { place: u64, command: Command },
 }
 
+/// Data bytes after each other, each of which is a sixel by itself.
+#[derive(Clone, Copy, Debug, PartialEq, Eq)]
+pub struct Stretch {
+    /// The offset of the first of them, from 0.
+    pub place: u64,
+    /// How many they are.
+    pub count: usize,
+}
+
 impl Completed {
     #[inline]
     pub(crate) fn of_none() -> Completed

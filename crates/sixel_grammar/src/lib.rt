@@ -13,11 +13,12 @@ mod reader;
 mod reading;
 mod slice_sink;
 mod slice_source;
+mod stretch;
 mod to_write;
 mod writing;
 
 pub use block::Block;
-pub use command::{Command, Completed, Event, Placed, Plain};
+pub use command::{Command, Completed, Event, Placed, Plain, Stretch};
 pub use device::{DeviceFault, PIECE, Sink, Source, put_all};
 pub use fault::{Fault, InputFault, Reason};
 pub use from_read::FromRead;

@@ -1,10 +1,11 @@
 //! Reads a document byte by byte.
 
 ghost use Rattle.std.specs.Prelude.{◌≡◌, ◌↔◌, ◌<◌, ◌≤◌, ◌+◌, ◌-◌, IsTrue, true, false, length, List, [], ◌∷◌, ◌++◌, ℕ};
-ghost use Rattle.std.specs.Prelude.{Option, Some, None, IfSome, IfOk, IfErr, MatchResult, IsNone, IsSome, OnSome, Err};
+ghost use Rattle.std.specs.Prelude.{slice_index, take, Option, Some, None, IfSome, IfOk, IfErr, MatchResult, IsNone};
+ghost use Rattle.std.specs.Prelude.{IsSome, OnSome, Err};
 ghost use Rattle.sixel_grammar.specs.declared.command.Placed.{Placed as PlacedEvent};
 ghost use Rattle.sixel_grammar.specs.Bytes.{is_data as data_test, is_digit as digit_test};
-ghost use Rattle.sixel_grammar.specs.Document.{Document};
+ghost use Rattle.sixel_grammar.specs.Document.{Document, most_bytes};
 ghost use Rattle.sixel_grammar.specs.Faults.{IsFaultOf, NoCommand as NoCommandForm};
 ghost use Rattle.sixel_grammar.specs.Next.{begin as begin_of, settled as settled_of, within as within_of, only_grown};
 ghost use Rattle.sixel_grammar.specs.Next.{ends_repeat, makes_columns};
@@ -12,9 +13,10 @@ ghost use Rattle.sixel_grammar.specs.Pending.{form_of};
 ghost use Rattle.sixel_grammar.specs.Plain.{plain_of};
 ghost use Rattle.sixel_grammar.specs.declared.command.Plain.TheVariants.{Command as plain_command};
 
-use crate::command::{Command, Completed, Event, Placed, Plain};
+use crate::command::{Command, Completed, Event, Placed, Plain, Stretch};
 use crate::fault::{Fault, Reason};
 use crate::pending::Pending;
+use crate::stretch::run_of;
 
 /// The greatest length of a document.
 const MOST_BYTES: u64 = 268_435_456;
@@ -42,6 +44,7 @@ pub struct Reader {
 impl Reader {
     ghost use Rattle.sixel_grammar.specs.Standing.{IsNotPlain, Refuses, StandsAfter, Takes, are_plain, completions};
     ghost use Rattle.sixel_grammar.specs.Standing.{fault_of, opened_after};
+    ghost use Rattle.sixel_grammar.specs.Stretches.{IsNoSixel, TakesSixels};
 
     /// A reader that has read nothing.
     pub fn new() -> Reader
@@ -115,6 +118,35 @@ impl Reader {
         } else {
             self.end_repeat(byte)
         }
+    }
+
+    /// Reads the longest front of a piece in which each byte is a sixel by itself.
+    ///
+    /// It reads none where a command is open or no byte may come, and then nothing has changed. The byte after those
+    /// that it read is one for `feed`.
+    #[inline(always)]
+    pub fn feed_stretch(&mut self, piece: &[u8]) -> Stretch
+        ensures within { result.count ≤ length piece.now }
+        ensures limit { result.place + result.count ≤ most_bytes }
+        ensures sixels { (k : ℕ) → k < result.count → IsTrue (data_test (slice_index piece.now k)) }
+        ensures taken { TakesSixels self.old self.new result.place (take result.count piece.now) }
+        ensures kept { result.count ≡ 0 → self.new ≡ self.old }
+        ensures stopped { IsSome (fault_of self.old) → result.count ≡ 0 }
+        ensures longest { result.count < length piece.now → IsNoSixel self.new (slice_index piece.now result.count) }
+    {
+        let place = MOST_BYTES - self.left;
+        if self.sixels == 0 {
+            return Stretch { place, count: 0 };
+        }
+        let run = run_of(piece);
+        if (run as u64) < self.left {
+            self.left -= run as u64;
+            return Stretch { place, count: run };
+        }
+        let count = self.left as usize;
+        self.left = 0;
+        self.sixels = 0;
+        Stretch { place, count }
     }
 
     /// Goes on with the number that is open.

@@ -6,4 +6,5 @@ mod faults;
 mod fills;
 mod in_turn;
 mod spelling;
+mod stretches;
 mod words;

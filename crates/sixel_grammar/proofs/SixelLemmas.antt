@@ -1,0 +1,141 @@
+-- What a reader that stands after some bytes owes at a stretch of sixels.
+use Rattle.std.proofs.Common.{cond, ◌≡◌, ◌∙◌, ℕ, ◌+◌, ◌-◌, ◌<◌, ◌≤◌, true, false, List, [], ◌∷◌, ◌++◌, length, get_or}
+use Rattle.std.proofs.Common.{take, Some, None, refl, sym, ap, subst, arith, length-append, append_assoc, suc}
+use Rattle.std.proofs.lemmas.Bool.{cond-true}
+use Rattle.std.proofs.lemmas.List.{append-nil, length-take-le, get_or-take}
+use Rattle.sixel_grammar.specs.declared.command.Event.{Event}
+use Rattle.sixel_grammar.specs.declared.command.Event.TheVariants.{Step}
+use Rattle.sixel_grammar.specs.declared.command.Command.TheVariants.{Sixel}
+use Rattle.sixel_grammar.specs.declared.command.Placed.{Placed}
+use Rattle.sixel_grammar.specs.declared.reader.Reader.{Reader}
+use Rattle.sixel_grammar.specs.Bytes.{is_data}
+use Rattle.sixel_grammar.specs.Document.{most_bytes}
+use Rattle.sixel_grammar.specs.Faults.{Form, NothingYet, Introducing, Parameters, LastSeparator, NoCommand}
+use Rattle.sixel_grammar.specs.Faults.{RepeatNumber, RasterFields, ColourFields, Terminating, Ended, EndsIn, is_idle}
+use Rattle.sixel_grammar.specs.Next.{within}
+use Rattle.sixel_grammar.specs.Pending.{form_of}
+use Rattle.sixel_grammar.specs.Standing.{StandsAfter, opened_after}
+use Rattle.sixel_grammar.specs.Stretches.{AreData, IsRun, TakesSixels, makes_sixel, sixels_from}
+use Rattle.sixel_grammar.proofs.AdvanceLemmas.{GoesTo, advances}
+use Rattle.sixel_grammar.proofs.ChoiceLemmas.{goes-on}
+
+-- one sixel more
+sixel_ends : (events : List Placed) (n : ℕ) (bytes : List ℕ) (b : ℕ) → n ≡ length bytes → is_data b ≡ true
+    → EndsIn NoCommand events n bytes
+    → EndsIn NoCommand (events ++ record { place = n; event = Step (Sixel (b - 63)) } ∷ []) (n + 1) (bytes ++ b ∷ [])
+sixel_ends events n bytes b at t e =
+    let event : Event = Step (Sixel (b - 63)) in
+    let begins : within NoCommand b ≡ Some (NoCommand, Some event) = cond-true (is_data b) _ _ t in
+    let went : GoesTo events n bytes b (Some (None, NoCommand, Some event)) =
+    subst (GoesTo events n bytes b) (goes-on NoCommand NoCommand b (Some event) begins) (advances NoCommand e b) in
+    subst (λ (k : ℕ). EndsIn NoCommand (events ++ record { place = n; event = event } ∷ []) (k + 1) (bytes ++ b ∷ []))
+    (sym at) went
+
+-- a stretch of them
+sixels_end : (front : List ℕ) (events : List Placed) (n : ℕ) (bytes : List ℕ) → n ≡ length bytes
+    → ((k : ℕ) → k < length front → is_data (get_or front k 0) ≡ true)
+    → EndsIn NoCommand events n bytes
+    → EndsIn NoCommand (events ++ sixels_from n front) (n + length front) (bytes ++ front)
+sixels_end [] events n bytes at each e =
+    let none : n ≡ n + 0 = omega arith in
+    subst (λ (es : List Placed). EndsIn NoCommand es (n + 0) (bytes ++ [])) (sym (append-nil events))
+    (subst (λ (bs : List ℕ). EndsIn NoCommand events (n + 0) bs) (sym (append-nil bytes))
+    (subst (λ (k : ℕ). EndsIn NoCommand events k bytes) none e))
+sixels_end (b ∷ front) events n bytes at each e =
+    let first : Placed = record { place = n; event = Step (Sixel (b - 63)) } in
+    let one = sixel_ends events n bytes b at (each 0 (omega arith)) e in
+    let next : n + 1 ≡ length (bytes ++ b ∷ []) = omega (arith, at, length-append bytes (b ∷ [])) in
+    let rest = sixels_end front (events ++ first ∷ []) (n + 1) (bytes ++ b ∷ []) next
+    (λ k lt. each (suc k) (omega arith)) one in
+    let far : n + 1 + length front ≡ n + length (b ∷ front) = omega arith in
+    subst (λ (k : ℕ). EndsIn NoCommand (events ++ sixels_from n (b ∷ front)) k (bytes ++ b ∷ front)) far
+    (subst (λ (es : List Placed). EndsIn NoCommand es (n + 1 + length front) (bytes ++ b ∷ front))
+    (append_assoc events (first ∷ []) (sixels_from (n + 1) front))
+    (subst (λ (bs : List ℕ). EndsIn NoCommand ((events ++ first ∷ []) ++ sixels_from (n + 1) front)
+    (n + 1 + length front) bs)
+    (append_assoc bytes (b ∷ []) front) rest))
+
+-- a reader that takes as many bytes as may come, all of them sixels by themselves
+pub sixels : (r q : Reader) (place : ℕ) (front : List ℕ) → place ≡ most_bytes - r.left → form_of r.pending ≡ NoCommand
+    → q.pending ≡ r.pending → q.fault ≡ r.fault
+    → length front ≤ r.left → q.left ≡ r.left - length front
+    → ((k : ℕ) → k < length front → is_data (get_or front k 0) ≡ true)
+    → TakesSixels r q place front
+sixels r q place front begins form same fault room left each events bytes s =
+    let at : place ≡ length bytes = omega (arith, begins, s.left) in
+    let here : opened_after (length bytes) r ≡ length bytes =
+    ap (λ (f : Form). cond (is_idle f) (length bytes) r.opened) form in
+    let between : form_of q.pending ≡ NoCommand = ap form_of same ∙ form in
+    let len : length (bytes ++ front) ≡ length bytes + length front = length-append bytes front in
+    let there : opened_after (length (bytes ++ front)) q ≡ length bytes + length front =
+    ap (λ (f : Form). cond (is_idle f) (length (bytes ++ front)) q.opened) between ∙ len in
+    let from : EndsIn NoCommand events (length bytes) bytes =
+    subst (λ (f : Form). EndsIn f events (length bytes) bytes) form
+    (subst (λ (k : ℕ). EndsIn (form_of r.pending) events k bytes) here s.ends) in
+    let went = sixels_end front events (length bytes) bytes refl each from in (
+      at,
+      subst (λ (k : ℕ). StandsAfter q (events ++ sixels_from k front) (bytes ++ front)) (sym at)
+          (record {
+            no_fault = fault ∙ s.no_fault;
+            left = omega (arith, s.left, left, len, room);
+            ends = subst
+                (λ (k : ℕ). EndsIn (form_of q.pending) (events ++ sixels_from (length bytes) front) k (bytes ++ front))
+                (sym there)
+                (subst (λ (f : Form).
+                EndsIn f (events ++ sixels_from (length bytes) front) (length bytes + length front) (bytes ++ front))
+                (sym between) went);
+          }),
+    )
+
+-- a reader that takes none
+pub no_sixels : (r : Reader) (place : ℕ) → place ≡ most_bytes - r.left → TakesSixels r r place []
+no_sixels r place begins events bytes s = (
+  omega (arith, begins, s.left),
+  subst (λ (es : List Placed). StandsAfter r es (bytes ++ [])) (sym (append-nil events))
+      (subst (λ (bs : List ℕ). StandsAfter r events bs) (sym (append-nil bytes)) s),
+)
+
+-- where a byte is no data byte, or a command is open
+pub other_form : (f : Form) (b : ℕ) → (f ≡ NoCommand → ⊥) → makes_sixel f b ≡ false
+other_form f b h = other f refl
+  where
+    other : (g : Form) → f ≡ g → makes_sixel g b ≡ false
+    other NothingYet e = refl
+    other Introducing e = refl
+    other (Parameters eight ns n) e = refl
+    other (LastSeparator eight ns) e = refl
+    other NoCommand e = absurd (h e)
+    other (RepeatNumber n) e = refl
+    other (RasterFields ns n) e = refl
+    other (ColourFields ns n) e = refl
+    other Terminating e = refl
+    other Ended e = refl
+
+pub other_byte : (f : Form) (b : ℕ) → is_data b ≡ false → makes_sixel f b ≡ false
+other_byte NothingYet b h = refl
+other_byte Introducing b h = refl
+other_byte (Parameters eight ns n) b h = refl
+other_byte (LastSeparator eight ns) b h = refl
+other_byte NoCommand b h = h
+other_byte (RepeatNumber n) b h = refl
+other_byte (RasterFields ns n) b h = refl
+other_byte (ColourFields ns n) b h = refl
+other_byte Terminating b h = refl
+other_byte Ended b h = refl
+
+-- a reader that takes so many bytes of a piece, which are data bytes
+pub sixels_taken : (r q : Reader) (place : ℕ) (piece : List ℕ) (n run : ℕ) → place ≡ most_bytes - r.left
+    → form_of r.pending ≡ NoCommand → q.pending ≡ r.pending
+    → q.fault ≡ r.fault → n ≤ r.left → q.left ≡ r.left - n → n ≤ run → run ≤ length piece → AreData 0 run piece
+    → TakesSixels r q place (take n piece)
+sixels_taken r q place piece n run begins form same fault room left few whole each =
+    let long : length (take n piece) ≡ n = length-take-le n piece (omega arith) in
+    sixels r q place (take n piece) begins form same fault (omega (arith, long)) (omega (arith, long, left))
+    (λ k lt. ap is_data (get_or-take n piece k 0 (omega (arith, long))) ∙ each k (omega arith) (omega (arith, long)))
+
+-- the byte after a run that doesn't reach the end
+pub next_is_other : (piece : List ℕ) (run : ℕ) → IsRun piece 0 (length piece) run → run < length piece
+    → is_data (get_or piece run 0) ≡ false
+next_is_other piece run r lt =
+    let at : 0 + run ≡ run = omega arith in
+    ap (λ (k : ℕ). is_data (get_or piece k 0)) (sym at) ∙ r.stops lt

@@ -1,0 +1,53 @@
+//! How many data bytes stand after each other.
+
+ghost use Rattle.std.specs.Prelude.{◌≡◌, ◌<◌, ◌≤◌, ◌+◌, ◌-◌, length};
+ghost use Rattle.sixel_grammar.specs.Stretches.{IsRun};
+
+use std::simd::prelude::*;
+
+/// How many bytes are looked at at once.
+const LANES: usize = 16;
+
+/// How many bytes of a piece, from its first on, are data bytes.
+#[inline(always)]
+pub(crate) fn run_of(piece: &[u8]) -> usize
+    ensures { IsRun piece.now 0 (length piece.now) result }
+{
+    let groups = piece.len() / LANES;
+    for group in 0..groups {
+        let run = run_in_group(piece, group * LANES);
+        if run < LANES {
+            return group * LANES + run;
+        }
+    }
+    groups * LANES + run_in_rest(piece, groups * LANES)
+}
+
+/// How many bytes of a group, from its first on, are data bytes.
+#[inline(always)]
+fn run_in_group(piece: &[u8], from: usize) -> usize
+    requires { from + LANES ≤ length piece.now }
+    ensures { IsRun piece.now from LANES result }
+{
+    let sixels = u8x16::from_slice(&piece[from..]) - u8x16::splat(b'?');
+    let others = sixels.simd_ge(u8x16::splat(64)).to_bitmask();
+    if others == 0 {
+        LANES
+    } else {
+        others.trailing_zeros() as usize
+    }
+}
+
+/// How many bytes are data bytes of those that are no whole group.
+#[inline(never)]
+fn run_in_rest(piece: &[u8], from: usize) -> usize
+    requires { from ≤ length piece.now }
+    ensures { IsRun piece.now from (length piece.now - from) result }
+{
+    for index in from..piece.len() {
+        if piece[index].wrapping_sub(b'?') >= 64 {
+            return index - from;
+        }
+    }
+    piece.len() - from
+}
