@@ -108,7 +108,7 @@ painted_put false k w left band bits register start old mid new some fits at cle
     (λ i lt. c.changed i lt ∙ same_either (nat_le start i && nat_lt i (start + 1)) (get_or mid i 0))
 
 -- a bit of a byte to which bits may have been added
-or_bit : (t : Bool) (old bits k : ℕ)
+pub or_bit : (t : Bool) (old bits k : ℕ)
     → (bit_at (cond t (bit_or old bits) old) k == 1) ≡ ((t && (bit_at bits k == 1)) || (bit_at old k == 1))
 or_bit true old bits k = or_bit_of old bits k
 or_bit false old bits k = refl

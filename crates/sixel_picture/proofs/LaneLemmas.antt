@@ -92,7 +92,7 @@ or_group at bits old room =
 -- ---- the first byte without a bit
 
 -- a byte has no bit where its part under the bit is 0
-no_bit : (bit b : ℕ) → bit < 8 → (bit_and b (1 * 2 ^ bit % 256) == 0) ≡ (bit_at b bit == 0)
+pub no_bit : (bit b : ℕ) → bit < 8 → (bit_and b (1 * 2 ^ bit % 256) == 0) ≡ (bit_at b bit == 0)
 no_bit bit b small =
     let alone : 1 * 2 ^ bit % 256 ≡ 2 ^ bit = one_shl bit 8 small in
     ap (λ m. bit_and b m == 0) alone ∙ ap (λ n. n == 0) (and_pow b bit)

@@ -6,6 +6,8 @@ pub mod PaintedLemmas
 pub mod RunLemmas
 pub mod ByteLemmas
 pub mod BandLemmas
+pub mod StretchLemmas
+pub mod PlaneStretchLemmas
 pub mod PpmLemmas
 pub mod PositionLemmas
 pub mod StepLemmas

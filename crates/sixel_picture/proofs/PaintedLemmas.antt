@@ -24,7 +24,7 @@ pub place_fits : (w h x y : ℕ) → x < w → y < h → y * w + x < w * h
 place_fits w h x y inside_x inside_y = mul-add-lt y w x h inside_y inside_x
 
 -- two lists with the same pixels
-same_rows : {A : Type 0} (w h : ℕ) (f g : ℕ → ℕ → A) (d : A) → 0 < w
+pub same_rows : {A : Type 0} (w h : ℕ) (f g : ℕ → ℕ → A) (d : A) → 0 < w
     → ((x y : ℕ) → x < w → y < h → f x y ≡ g x y) → row_by_row w h f ≡ row_by_row w h g
 same_rows w h f g d some same =
     rows_from_index w h g (row_by_row w h f) d (length_rows w h f)
@@ -55,6 +55,25 @@ over : (t b : Bool) (r o : ℕ)
 over true b r o = refl
 over false b r o = refl
 
+-- the pixels after those that are covered were painted in the register
+pub pixels_after : (w h register : ℕ) (old new : List ℕ) (is_over was_painted is_painted : ℕ → ℕ → Bool)
+    → 0 < w → ((x y : ℕ) → x < w → y < h → is_painted x y ≡ (is_over x y || was_painted x y))
+    → ((x y : ℕ) → x < w → y < h
+    → get_or new (y * w + x) 0 ≡ cond (is_over x y) register (get_or old (y * w + x) 0))
+    → row_by_row w h (painted_cell w new is_painted)
+    ≡ row_by_row w h
+    (λ x y. cond (is_over x y) (Some register) (cell (sheet_of_painted w h old was_painted) x y))
+pixels_after w h register old new is_over was_painted is_painted some painted written =
+    same_rows w h (painted_cell w new is_painted)
+    (λ x y. cond (is_over x y) (Some register) (cell (sheet_of_painted w h old was_painted) x y))
+    None some
+    (λ x y inside_x inside_y.
+    let t : Bool = is_over x y in
+    ap₂ (λ (b : Bool) n. cond b (Some n) None) (painted x y inside_x inside_y) (written x y inside_x inside_y)
+    ∙ over t (was_painted x y) register (get_or old (y * w + x) 0)
+    ∙ ap (λ (o : Option ℕ). cond t (Some register) o)
+    (sym (cell_of_painted w h old was_painted x y inside_x inside_y)))
+
 -- the sheet after a run, which paints the pixels that it covers and gives them the register
 pub sheet_after_run : (w h left count band bits register : ℕ) (old new : List ℕ) (was_painted is_painted : ℕ → ℕ → Bool)
     → 0 < w → length old ≡ w * h
@@ -66,21 +85,11 @@ pub sheet_after_run : (w h left count band bits register : ℕ) (old new : List 
 unfolding painted_sheet
 sheet_after_run w h left count band bits register old new was_painted is_painted some whole painted written =
     ap (λ (cells : List (Option ℕ)). record { width = w; height = h; cells = cells })
-    (same_rows w h (painted_cell w new is_painted)
-    (λ x y. cond (covers left count band 1 bits x y) (Some register)
-    (cell (sheet_of_painted w h old was_painted) x y))
-    None some
+    (pixels_after w h register old new (covers left count band 1 bits) was_painted is_painted some painted
     (λ x y inside_x inside_y.
-    let pixel : y * w + x < length old = rw whole (place_fits w h x y inside_x inside_y) in
-    let t : Bool = covers left count band 1 bits x y in
-    let register_now : get_or new (y * w + x) 0 ≡ cond t register (get_or old (y * w + x) 0) =
-    written (y * w + x) pixel
+    written (y * w + x) (rw whole (place_fits w h x y inside_x inside_y))
     ∙ ap₂ (λ a b. cond (covers left count band 1 bits a b) register (get_or old (y * w + x) 0))
-    (mod-mul-add y w x inside_x) (div-mul-add y w x inside_x) in
-    ap₂ (λ (b : Bool) n. cond b (Some n) None) (painted x y inside_x inside_y) register_now
-    ∙ over t (was_painted x y) register (get_or old (y * w + x) 0)
-    ∙ ap (λ (o : Option ℕ). cond t (Some register) o)
-    (sym (cell_of_painted w h old was_painted x y inside_x inside_y))))
+    (mod-mul-add y w x inside_x) (div-mul-add y w x inside_x)))
 
 -- ---- positions in a list
 

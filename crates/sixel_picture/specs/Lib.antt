@@ -6,6 +6,7 @@ pub mod Positions
 pub mod Events
 pub mod Geometry
 pub mod Sheets
+pub mod Stretches
 pub mod BytePlanes
 pub mod BandPlanes
 pub mod Lanes

@@ -1,7 +1,9 @@
 //! A plane of one byte a pixel, and of one byte for each column and band that says which rows are painted.
 
 ghost use Rattle.std.specs.Prelude.{◌≡◌, ◌==◌, ◌<◌, ◌≤◌, ◌+◌, ◌*◌, ◌⊎◌, ℕ, EachIndex, bit_or, length, slice_index};
-ghost use Rattle.std.specs.Prelude.{if◌then◌else◌, ◌%◌, ◌/◌};
+ghost use Rattle.std.specs.Prelude.{if◌then◌else◌, ◌%◌, ◌/◌, ◌-◌, IsTrue};
+ghost use Rattle.sixel_grammar.specs.Bytes.{is_data};
+ghost use Rattle.sixel_picture.specs.Stretches.{sixel_of, stretched_sheet};
 ghost use Rattle.std.specs.Int.{bit_at, div_ceil};
 ghost use Rattle.sixel_picture.specs.BandPlanes.{is_covered};
 ghost use Rattle.sixel_picture.specs.Geometry.{covers};
@@ -11,6 +13,7 @@ ghost use Rattle.sixel_picture.specs.Sheets.{FirstUnpainted};
 use crate::bits::{BAND_ROWS, is_set};
 use crate::lanes::{fill, first_without, or_into};
 use crate::plane::Plane;
+use crate::stretch::{LANES, paint_groups};
 use std::alloc::{AllocError, Global};
 use std::marker::Model;
 
@@ -74,6 +77,36 @@ impl Plane for BandPlane {
             bits,
             register,
         );
+    }
+
+    fn try_paint_stretch(
+        &mut self,
+        column: u32,
+        band: u32,
+        bytes: &[u8],
+        count: usize,
+        register: u8,
+    ) -> bool {
+        let width = self.width as usize;
+        let covered = band as usize * width + column as usize;
+        let start = BAND_ROWS as usize * band as usize * width + column as usize;
+        if bytes.len() < count + LANES
+            || self.coverage.len() < covered + count + LANES
+            || self.registers.len() < start + 5 * width + count + LANES
+        {
+            return false;
+        }
+        paint_groups(
+            &mut self.registers,
+            &mut self.coverage,
+            width,
+            start,
+            covered,
+            bytes,
+            count,
+            register,
+        );
+        true
     }
 
     fn register_at(&self, x: u32, y: u32) -> Option<u8> {

@@ -12,6 +12,7 @@ mod picture;
 mod plane;
 mod ppm;
 mod profile;
+mod stretch;
 
 pub use band_plane::BandPlane;
 pub use bits::{BAND_ROWS, is_set};

@@ -1,10 +1,13 @@
 //! A plane of pixels, each blank or painted in a register.
 
-ghost use Rattle.std.specs.Prelude.{◌≡◌, ◌<◌, ◌≤◌, ◌+◌, ◌*◌, ℕ, Some, IfOk, IsTrue, map};
+ghost use Rattle.std.specs.Prelude.{◌≡◌, ◌<◌, ◌≤◌, ◌+◌, ◌*◌, ℕ, Some, IfOk, IsTrue, false, length, map, slice_index};
+ghost use Rattle.std.specs.Prelude.{true};
 ghost use Rattle.std.specs.Int.{bit_at};
 ghost use Rattle.sixel_picture.specs.Sheets.{Sheet, IsFull, blank_sheet, cell, first_blank, painted_sheet};
 ghost use Rattle.sixel_picture.specs.Geometry.{band_rows};
 ghost use Rattle.sixel_picture.specs.Pictures.{is_side};
+ghost use Rattle.sixel_picture.specs.Stretches.{sixel_of, stretched_sheet};
+ghost use Rattle.sixel_grammar.specs.Bytes.{is_data};
 
 use std::alloc::{AllocError, Global};
 
@@ -39,6 +42,30 @@ pub trait Plane: Drop {
         requires columns { column + count ≤ (sheet self.old).width }
         requires rows { (k : ℕ) → k < band_rows → bit_at bits k ≡ 1 → band_rows * band + k < (sheet self.old).height }
         ensures { sheet self.new ≡ painted_sheet (sheet self.old) column band count bits register };
+
+    /// Paints a stretch in a register, many columns at a time, where the plane can: the columns from `column` on, one
+    /// for each of so many data bytes at the front of `bytes`, in those of the six rows of the band whose bits are set
+    /// in its byte. Whether it did; else nothing has changed, and `paint_run` paints each of the columns.
+    ///
+    /// A data byte holds six bits above `?`. Bytes after the stretch aren't painted, but lanes want 16 of them.
+    fn try_paint_stretch(
+        &mut self,
+        column: u32,
+        band: u32,
+        bytes: &[u8],
+        count: usize,
+        register: u8,
+    ) -> bool
+        requires sixels { (j : ℕ) → j < count → IsTrue (is_data (slice_index bytes.now j)) }
+        requires bytes { count ≤ length bytes.now }
+        requires columns { column + count ≤ (sheet self.old).width }
+        requires rows { band_rows * band + band_rows ≤ (sheet self.old).height }
+        ensures painted { result ≡ true
+            → sheet self.new ≡ stretched_sheet (sheet self.old) column band count (sixel_of bytes.now count) register }
+        ensures kept { result ≡ false → self.new ≡ self.old }
+    {
+        false
+    }
 
     /// The register of the pixel in column `x` and row `y`, both from 0 at the top left, or `None` where
     /// it is blank.
