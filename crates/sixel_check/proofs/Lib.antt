@@ -14,6 +14,7 @@ pub mod DecideLemmas
 pub mod StandLemmas
 pub mod GrowthLemmas
 pub mod ReadLemmas
+pub mod StretchLemmas
 pub mod CheckLemmas
 pub mod ColourLemmas
 pub mod SteadyLemmas

@@ -1,10 +1,14 @@
 -- On the events that bytes complete, one after another.
 use Rattle.std.proofs.Common.{◌≡◌, ℕ, true, false, not, Option, Some, None, IsTrue, ◌⊎◌, inl, inr, List, [], ◌∷◌, ◌++◌}
-use Rattle.std.proofs.Common.{sym, ◌∙◌, ap, subst, refl, append_assoc}
+use Rattle.std.proofs.Common.{sym, ◌∙◌, ap, ap₂, subst, refl, append_assoc, arith, drop, length, take, ◌+◌, ◌-◌, ◌<◌}
 use Rattle.std.specs.Prelude.{Err}
 use Rattle.std.specs.Option.{option_to_list}
 use Rattle.std.proofs.lemmas.Bool.{and_from}
-use Rattle.std.proofs.lemmas.List.{append-nil, map-append}
+use Rattle.std.proofs.lemmas.List.{append-nil, drop-take, length-drop, map-append, take-append-drop, take-take}
+use Rattle.sixel_grammar.specs.Stretches.{sixels_from}
+use Rattle.sixel_grammar.specs.declared.command.Command.{Command}
+use Rattle.sixel_grammar.specs.declared.command.Command.TheVariants.{Sixel}
+use Rattle.sixel_check.specs.Stretches.{MayStep}
 use Rattle.sixel_grammar.specs.Document.{AreRest, AreWhole, events_of}
 use Rattle.sixel_grammar.specs.Faults.{AreBegun, AreFront, AreSteps, IsFaultOf}
 use Rattle.sixel_grammar.specs.FixedText.{CanWriteAll}
@@ -19,6 +23,7 @@ use Rattle.sixel_grammar.specs.declared.command.Event.{Event}
 use Rattle.sixel_grammar.specs.declared.command.Event.TheVariants.{Start, Step, Finish}
 use Rattle.sixel_grammar.specs.declared.command.Placed.{Placed}
 use Rattle.sixel_grammar.specs.declared.reader.Reader.{Reader}
+use Rattle.sixel_grammar.proofs.SourceLemmas.{take_past}
 use Rattle.sixel_grammar.proofs.StandLemmas.{read_complete}
 use Rattle.sixel_grammar.proofs.TotalLemmas.{complete_front}
 use Rattle.sixel_grammar.proofs.WritableLemmas.{events_can}
@@ -116,6 +121,48 @@ read_may reader seen c bytes s =
     read_complete reader (seen ++ grammar.completions c) bytes s in
     may_complete seen c.first c.second (complete_front (seen ++ grammar.completions c) bytes complete)
     (events_can (seen ++ grammar.completions c) bytes complete)
+
+any_step : (seen : List Placed) (c : Command) → IsTrue (expects seen (Step c)) → MayStep seen
+any_step [] c h d = h
+any_step (q ∷ qs) c h d = h
+
+-- what stands before a stretch of sixels that were read
+pub stretch_may : (reader : Reader) (seen : List Placed) (place : ℕ) (bytes stretch : List ℕ) → 0 < length stretch
+    → grammar.StandsAfter reader (seen ++ sixels_from place stretch) bytes → MayStep seen
+stretch_may reader seen place bytes [] some s = absurd (omega arith)
+stretch_may reader seen place bytes (b ∷ more) some s =
+    let complete : CompleteIn (seen ++ sixels_from place (b ∷ more)) bytes = read_complete reader _ bytes s in
+    let p : Placed = record { place = place; event = Step (Sixel (b - 63)) } in
+    any_step seen (Sixel (b - 63)) (may_come seen p (sixels_from (place + 1) more)
+    (complete_front _ bytes complete) (events_can _ bytes complete)).0
+
+take_then : (k n : ℕ) (xs : List ℕ) → take (k + n) xs ≡ take k xs ++ take n (drop k xs)
+take_then k n xs =
+    sym (take-append-drop k (take (k + n) xs))
+    ∙ ap₂ (λ (a b : List ℕ). a ++ b) (take-take k (k + n) xs (omega arith)) (drop-take k n xs)
+
+-- the rest of a piece
+abbrev pub rest_of : ℕ → List ℕ → List ℕ
+rest_of k xs = take (length xs - k) (drop k xs)
+
+rest_is : (k : ℕ) (xs : List ℕ) → rest_of k xs ≡ drop k xs
+rest_is k xs = take_past (length xs - k) (drop k xs) (omega (arith, length-drop k xs))
+
+-- parts of a piece
+pub part_then : (front xs : List ℕ) (k n : ℕ) → (front ++ take k xs) ++ take n (rest_of k xs) ≡ front ++ take (k + n) xs
+part_then front xs k n =
+    append_assoc front (take k xs) (take n (rest_of k xs))
+    ∙ ap (λ (t : List ℕ). front ++ t)
+    (ap (λ (t : List ℕ). take k xs ++ take n t) (rest_is k xs) ∙ sym (take_then k n xs))
+
+pub split_part : (front xs : List ℕ) (k n : ℕ)
+    → front ++ xs ≡ ((front ++ take k xs) ++ take n (rest_of k xs)) ++ drop n (rest_of k xs)
+split_part front xs k n =
+    ap (λ (t : List ℕ). front ++ t)
+    (sym (take-append-drop k xs) ∙ ap (λ (t : List ℕ). take k xs ++ t) (sym (rest_is k xs)))
+    ∙ sym (append_assoc front (take k xs) (rest_of k xs))
+    ∙ ap (λ (t : List ℕ). (front ++ take k xs) ++ t) (sym (take-append-drop n (rest_of k xs)))
+    ∙ sym (append_assoc (front ++ take k xs) (take n (rest_of k xs)) (drop n (rest_of k xs)))
 
 -- both stand after one byte more
 pub after_byte : {registers : ℕ} (old new : Reader) (kept more : CheckerValue) (c : Completed) (front : List ℕ)

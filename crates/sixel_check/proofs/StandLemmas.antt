@@ -88,7 +88,7 @@ pub whole_events : (seen : List Placed) → list_any is_finish (events_of seen) 
 whole_events [] = refl
 whole_events (p ∷ ps) = ap (λ (b : Bool). is_finish p.event || b) (whole_events ps)
 
-front_next : (seen : List Placed) (p : Placed) → AreFront (events_of seen) → IsTrue (expects seen p.event)
+pub front_next : (seen : List Placed) (p : Placed) → AreFront (events_of seen) → IsTrue (expects seen p.event)
     → AreFront (events_of seen ++ p.event ∷ [])
 front_next [] p front h = front_first p.event h
 front_next (q ∷ qs) p front h =
@@ -114,11 +114,12 @@ whole_of : (seen : List Placed) → is_whole_at (progress_of seen) ≡ is_whole 
 whole_of [] = refl
 whole_of (q ∷ qs) = whole_two (is_whole (q ∷ qs))
 
-whole_push : (seen : List Placed) (p : Placed) → is_whole seen ≡ false → is_whole (seen ++ p ∷ []) ≡ is_finish p.event
+pub whole_push : (seen : List Placed) (p : Placed) → is_whole seen ≡ false
+    → is_whole (seen ++ p ∷ []) ≡ is_finish p.event
 whole_push seen p h =
     list_any-append (λ q. is_finish q.event) seen (p ∷ []) ∙ rw h (or-false (is_finish p.event))
 
-progress_push : (seen : List Placed) (p : Placed) → IsTrue (expects seen p.event)
+pub progress_push : (seen : List Placed) (p : Placed) → IsTrue (expects seen p.event)
     → progress_of (seen ++ p ∷ []) ≡ progress_with p.event
 progress_push [] p h = ap (λ (b : Bool). if b then Whole else Begun) (whole_push [] p refl)
 progress_push (q ∷ qs) p h =

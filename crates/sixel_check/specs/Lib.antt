@@ -5,6 +5,7 @@ pub mod Notes
 pub mod Breaches
 pub mod Outside
 pub mod Growth
+pub mod Stretches
 pub mod Checking
 pub mod Portable
 pub mod Alarms

@@ -1,6 +1,10 @@
 //! Checking events as they come.
 
-ghost use Rattle.std.specs.Prelude.{◌≡◌, ◌++◌, ◌∷◌, [], ℕ, List, IfOk, IsOk, IsTrue, OnErr, OnOk};
+ghost use Rattle.std.specs.Prelude.{◌≡◌, ◌<◌, ◌≤◌, ◌++◌, ◌∷◌, [], ℕ, List, IfOk, IsOk, IsTrue, OnErr, OnOk, false};
+ghost use Rattle.std.specs.Prelude.{length, slice_index, take, true};
+ghost use Rattle.sixel_grammar.specs.Bytes.{is_data};
+ghost use Rattle.sixel_grammar.specs.Stretches.{sixels_from};
+ghost use Rattle.sixel_check.specs.Stretches.{MayStep};
 ghost use Rattle.sixel_grammar.specs.Document.{events_of};
 ghost use Rattle.sixel_grammar.specs.declared.command.Placed.{Placed as PlacedValue};
 ghost use Rattle.sixel_grammar.specs.Spelling.{IsSpellable};
@@ -89,6 +93,23 @@ impl<P: Plane> Checker<P> {
         self.judge.step(self.alloc, placed)?;
         self.progress = Progress::with(&placed.event);
         Ok(())
+    }
+
+    /// Takes the sixels of so many data bytes at the front of `bytes` at once, where any command may come next, and
+    /// where they break no rule or a rule was broken before. Whether it did; else nothing has changed, and `push` takes
+    /// each.
+    #[inline(always)]
+    pub(crate) fn try_push_stretch(&mut self, bytes: &[u8], count: usize) -> bool
+        requires expected { (registers : ℕ) × (seen : List PlacedValue) × StandsAfter registers self.old seen
+            × MayStep seen }
+        requires sixels { (k : ℕ) → k < count → IsTrue (is_data (slice_index bytes.now k)) }
+        requires bytes { count ≤ length bytes.now }
+        ensures pushed { result ≡ true → (registers place : ℕ) (seen : List PlacedValue)
+            → StandsAfter registers self.old seen → MayStep seen
+            → StandsAfter registers self.new (seen ++ sixels_from place (take count bytes.now)) }
+        ensures kept { result ≡ false → self.new ≡ self.old }
+    {
+        self.judge.try_take_stretch(bytes, count)
     }
 
     /// The verdict on the whole list. It takes no memory, and is always `Ok`.

@@ -1,6 +1,11 @@
 //! Checking the bytes of a document.
 
-ghost use Rattle.std.specs.Prelude.{◌≡◌, ◌≢◌, ◌∷◌, [], ℕ, List, Err, IfErr, IfSome, OnErr, OnOk, Some};
+ghost use Rattle.std.specs.Prelude.{◌≡◌, ◌≢◌, ◌+◌, ◌<◌, ◌≤◌, ◌++◌, ◌∷◌, [], ℕ, List, Err, IfErr, IfOk, IfSome, IsOk};
+ghost use Rattle.std.specs.Prelude.{IsTrue, OnErr, OnOk, Some, length, slice_index, take};
+ghost use Rattle.sixel_grammar.specs.Bytes.{is_data};
+ghost use Rattle.sixel_grammar.specs.Document.{most_bytes};
+ghost use Rattle.sixel_grammar.specs.Stretches.{sixels_from};
+ghost use Rattle.sixel_check.specs.Stretches.{MayStep};
 ghost use Rattle.std.specs.Option.{option_to_list};
 ghost use Rattle.sixel_grammar.specs.Reading.{NoFaultBefore, failures_after};
 ghost use Rattle.sixel_grammar.specs.declared.fault.InputFault.TheVariants.{Read as ReadFault};
@@ -121,6 +126,78 @@ fn read_slowly<P: Plane>(
     Ok(keep(checker, completed)?)
 }
 
+/// Pushes the sixels of so many data bytes at the front of `bytes`, the first of them at `place`. It takes no memory,
+/// and is always `Ok`.
+#[inline(always)]
+fn push_stretch<P: Plane>(
+    checker: &mut Checker<P>,
+    place: u64,
+    bytes: &[u8],
+    count: usize,
+) -> Result<(), AllocError>
+    requires stands { (registers : ℕ) × (seen : List PlacedValue) × StandsAfter registers checker.old seen
+        × MayStep seen }
+    requires sixels { (k : ℕ) → k < count → IsTrue (is_data (slice_index bytes.now k)) }
+    requires bytes { count ≤ length bytes.now }
+    requires place { place + count ≤ most_bytes }
+    ensures kept { (registers : ℕ) (seen : List PlacedValue) → StandsAfter registers checker.old seen → MayStep seen
+        → StandsAfter registers checker.new (seen ++ sixels_from place (take count bytes.now)) }
+    ensures always { IsOk result }
+{
+    if checker.try_push_stretch(bytes, count) {
+        return Ok(());
+    }
+    push_each(checker, place, &bytes[..count])
+}
+
+/// As `push_stretch`, sixel by sixel.
+#[inline(never)]
+fn push_each<P: Plane>(
+    checker: &mut Checker<P>,
+    place: u64,
+    stretch: &[u8],
+) -> Result<(), AllocError>
+    requires stands { (registers : ℕ) × (seen : List PlacedValue) × StandsAfter registers checker.old seen
+        × MayStep seen }
+    requires sixels { (k : ℕ) → k < length stretch.now → IsTrue (is_data (slice_index stretch.now k)) }
+    requires place { place + length stretch.now ≤ most_bytes }
+    ensures kept { (registers : ℕ) (seen : List PlacedValue) → StandsAfter registers checker.old seen → MayStep seen
+        → StandsAfter registers checker.new (seen ++ sixels_from place stretch.now) }
+    ensures always { IsOk result }
+{
+    for (index, byte) in stretch.iter().enumerate() {
+        let place = place + index as u64;
+        let event = Event::Step(Command::Sixel(byte - b'?'));
+        checker.push(&Placed { place, event })?;
+    }
+    Ok(())
+}
+
+/// Reads a stretch of data bytes at the front of a piece, or else one byte, and tells how many it read.
+#[inline(always)]
+fn read_front<P: Plane>(
+    reader: &mut Reader,
+    checker: &mut Checker<P>,
+    bytes: &[u8],
+) -> Result<usize, InputFault>
+    requires some { 0 < length bytes.now }
+    requires stands { (registers : ℕ) × (front : List ℕ) × AreAfter registers reader.old checker.old front }
+    ensures some { IfOk result (λ count. 0 < count) }
+    ensures within { IfOk result (λ count. count ≤ length bytes.now) }
+    ensures read { IfOk result (λ count.
+        TakesBytes reader.old checker.old reader.new checker.new (take count bytes.now)) }
+    ensures refused { IfErr result (RefusesBytes reader.old checker.old (take 1 bytes.now)) }
+    ensures memory { IfErr result (GrowsForBytes reader.old checker.old (take 1 bytes.now)) }
+{
+    let stretch = reader.feed_stretch(bytes);
+    if stretch.count == 0 {
+        read_byte(reader, checker, bytes[0])?;
+        return Ok(1);
+    }
+    push_stretch(checker, stretch.place, bytes, stretch.count)?;
+    Ok(stretch.count)
+}
+
 /// Reads the bytes of a piece.
 fn read_piece<P: Plane>(
     reader: &mut Reader,
@@ -132,8 +209,9 @@ fn read_piece<P: Plane>(
     ensures refused { IfErr result (RefusesBytes reader.old checker.old piece.now) }
     ensures memory { IfErr result (GrowsForBytes reader.old checker.old piece.now) }
 {
-    for byte in piece {
-        read_byte(reader, checker, *byte)?;
+    let mut read = 0;
+    while read < piece.len() {
+        read += read_front(reader, checker, &piece[read..])?;
     }
     Ok(())
 }

@@ -1,6 +1,9 @@
 //! Judging events one by one.
 
-ghost use Rattle.std.specs.Prelude.{◌≡◌, ◌++◌, ◌∷◌, [], ℕ, List, OnOk, OnErr};
+ghost use Rattle.std.specs.Prelude.{◌≡◌, ◌<◌, ◌≤◌, ◌++◌, ◌∷◌, [], ℕ, IsSome, IsTrue, List, None, OnOk, OnErr, false};
+ghost use Rattle.std.specs.Prelude.{length, slice_index, true};
+ghost use Rattle.sixel_grammar.specs.Bytes.{is_data};
+ghost use Rattle.sixel_check.specs.Stretches.{IsStretchedIn};
 ghost use Rattle.std.specs.Option.{option_map};
 ghost use Rattle.sixel_grammar.specs.declared.command.Placed.{Placed as PlacedValue};
 ghost use Rattle.sixel_grammar.specs.Document.{AreWhole, events_of};
@@ -12,6 +15,7 @@ ghost use Rattle.sixel_check.specs.Verdicts.{IsVerdict};
 
 use crate::notes::Notes;
 use crate::pixels::{breach_of, draw, picture_of};
+use crate::stretch::try_paint_stretch;
 use crate::verdict::{Finding, Verdict};
 use sixel_grammar::Placed;
 use sixel_picture::{Plane, Profile};
@@ -73,6 +77,33 @@ impl<P: Plane> Judge<P> {
             }
         }
         Ok(())
+    }
+
+    /// Judges the sixels of so many data bytes at the front of `bytes`, where they break no rule and can be painted at
+    /// once, or where a rule was broken before. Whether it did; else nothing has changed.
+    #[inline(always)]
+    pub(crate) fn try_take_stretch(&mut self, bytes: &[u8], count: usize) -> bool
+        requires stands { (registers : ℕ) × (seen : List PlacedValue)
+            × JudgesAfter registers self.old.finding self.old.notes (option_map P.sheet self.old.plane) seen }
+        requires sixels { (k : ℕ) → k < count → IsTrue (is_data (slice_index bytes.now k)) }
+        requires bytes { count ≤ length bytes.now }
+        ensures finding { self.new.finding ≡ self.old.finding }
+        ensures broken { IsSome self.old.finding → self.new ≡ self.old }
+        ensures taken { result ≡ true → self.old.finding ≡ None → IsStretchedIn bytes.now count
+            self.old.notes (option_map P.sheet self.old.plane) self.new.notes (option_map P.sheet self.new.plane) }
+        ensures kept { result ≡ false → self.new ≡ self.old }
+    {
+        if self.finding.is_some() {
+            return true;
+        }
+        let is_painted = match &mut self.plane {
+            Some(plane) => try_paint_stretch(&self.notes, plane, bytes, count),
+            None => false,
+        };
+        if is_painted {
+            self.notes.column += count as u64;
+        }
+        is_painted
     }
 
     /// The verdict on a whole list.

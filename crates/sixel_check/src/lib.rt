@@ -16,6 +16,7 @@ mod pixels;
 mod progress;
 mod rule;
 mod rules;
+mod stretch;
 mod verdict;
 
 pub use checker::Checker;

@@ -1,6 +1,8 @@
 //! What a judge remembers of the events, but the pixels.
 
-ghost use Rattle.std.specs.Prelude.{◌≡◌, ◌<◌, ◌++◌, ◌∷◌, [], ℕ, List, IfSome, length, replicate, None, false};
+ghost use Rattle.std.specs.Prelude.{◌≡◌, ◌↔◌, ◌<◌, ◌++◌, ◌∷◌, [], ℕ, List, IfSome, IsSome, IsTrue, length, replicate};
+ghost use Rattle.std.specs.Prelude.{None, false, slice_index_or, true};
+ghost use Rattle.sixel_picture.specs.Colours.{palette_at};
 ghost use Rattle.sixel_grammar.specs.declared.command.Event.{Event as EventValue};
 ghost use Rattle.sixel_picture.specs.Profiles.{count_of};
 ghost use Rattle.sixel_check.specs.Breaches.{BreaksNoRule};
@@ -57,6 +59,15 @@ impl Notes {
             (Some(selected), Some(named)) if named == selected => Some(selected as u8),
             _ => None,
         }
+    }
+
+    /// Whether the register has a colour, and a command painted in it.
+    #[inline(always)]
+    pub(crate) fn is_painted_in(&self, register: u8) -> bool
+        ensures { IsTrue result ↔ IsSome (palette_at self.now.palette register)
+            × (slice_index_or self.now.painted register false ≡ true) }
+    {
+        self.painted[register as usize] && self.palette.get(register).is_some()
     }
 
     #[inline(always)]

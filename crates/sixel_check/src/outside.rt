@@ -44,7 +44,7 @@ pub(crate) fn outside_pixel(
     ensures { (left line : ℕ) → column ≡ capped left → band ≡ capped line
         → IsFirstIfAny (PaintsOutside left count line bits width height) result }
 {
-    if bits == 0 || is_inside(column, band, count, width, height) {
+    if bits == 0 || is_inside(column, band, count as u64, width, height) {
         None
     } else {
         first_outside(column, band, count, bits, width, height)
@@ -53,11 +53,11 @@ pub(crate) fn outside_pixel(
 
 /// Whether the columns lie inside the box in all six rows of the band.
 #[inline(always)]
-fn is_inside(column: u64, band: u64, count: u16, width: u32, height: u32) -> bool
+pub(crate) fn is_inside(column: u64, band: u64, count: u64, width: u32, height: u32) -> bool
     ensures { IsTrue result ↔ (column + count ≤ width) × (band_rows * band + band_rows ≤ height) }
 {
     column <= width as u64
-        && count as u64 <= width as u64 - column
+        && count <= width as u64 - column
         && band < height as u64 / BAND_ROWS as u64
 }
 

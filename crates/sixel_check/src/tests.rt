@@ -11,6 +11,7 @@ mod pairs;
 mod plain;
 mod profiles;
 mod steps;
+mod stretches;
 mod terminals;
 
 use crate::checking::check_bytes;

@@ -1,7 +1,10 @@
-use Rattle.std.proofs.Common.{ℕ, List, ◌++◌, take}
+use Rattle.std.proofs.Common.{ℕ, List, ◌++◌, ◌-◌, length, take}
 use Rattle.sixel_check.specs.Checking.{AreAfter}
 use Rattle.sixel_check.proofs.checking.read_piece.Given as goal
 
-abbrev pub invariant-loop-byte : goal.invariant-loop-byte
-invariant-loop-byte g l = (registers : ℕ) (front : List ℕ) → AreAfter registers l.fn.reader l.fn.checker front
-    → AreAfter registers l.reader l.checker (front ++ take l.byte-index l.piece)
+abbrev pub invariant-loop-read : goal.invariant-loop-read
+invariant-loop-read g l = (registers : ℕ) (front : List ℕ) → AreAfter registers l.fn.reader l.fn.checker front
+    → AreAfter registers l.reader l.checker (front ++ take l.read l.piece)
+
+abbrev pub decreases-loop-read : goal.decreases-loop-read
+decreases-loop-read g l = length l.piece - l.read

@@ -1,0 +1,52 @@
+-- Stretches of sixels that break no rule.
+use Rattle.std.specs.Prelude.{◌≡◌, ◌+◌, ◌*◌, ◌≤◌, ℕ, true, false, Option, Some, IsSome, IsTrue, List, slice_index_or}
+use Rattle.sixel_grammar.specs.declared.command.Command.{Command}
+use Rattle.sixel_grammar.specs.declared.command.Event.TheVariants.{Step}
+use Rattle.sixel_grammar.specs.declared.command.Placed.{Placed}
+use Rattle.sixel_picture.specs.Colours.{palette_at}
+use Rattle.sixel_picture.specs.Geometry.{band_rows}
+use Rattle.sixel_picture.specs.Sheets.{Sheet}
+use Rattle.sixel_picture.specs.Stretches.{sixel_of, stretched_sheet}
+use Rattle.sixel_check.specs.declared.notes.Notes.{Notes}
+use Rattle.sixel_check.specs.Notes.{known_in}
+use Rattle.sixel_check.specs.Standing.{expects}
+
+-- any command may come next
+abbrev pub MayStep : List Placed → Type 0
+MayStep seen = (command : Command) → IsTrue (expects seen (Step command))
+
+-- the register is known, has a colour, and a command painted in it
+pub record IsPaintedIn (notes : Notes) (register : ℕ) : Type 0 where
+  pub known : known_in notes ≡ Some register
+  pub coloured : IsSome (palette_at notes.palette register)
+  pub painted : slice_index_or notes.painted register false ≡ true
+
+-- so many columns lie in the box, with all six rows of their band
+pub record Fits (notes : Notes) (count : ℕ) (s : Sheet) : Type 0 where
+  pub columns : notes.column + count ≤ s.width
+  pub rows : band_rows * notes.band + band_rows ≤ s.height
+
+-- the notes after so many sixels in a register in which was painted before
+abbrev pub moved_by : ℕ → Notes → Notes
+moved_by count notes = record {
+  column = notes.column + count;
+  band = notes.band;
+  selected = notes.selected;
+  named = notes.named;
+  palette = notes.palette;
+  painted = notes.painted;
+}
+
+-- the notes and the sheet after a stretch, which breaks no rule
+pub record IsStretched (bytes : List ℕ) (count : ℕ) (notes : Notes) (s : Sheet) (next : Notes) (drawn : Sheet) :
+    Type 0 where
+  pub register : ℕ
+  pub painted_in : IsPaintedIn notes register
+  pub fits : Fits notes count s
+  pub next_is : next ≡ moved_by count notes
+  pub drawn_is : drawn ≡ stretched_sheet s notes.column notes.band count (sixel_of bytes count) register
+
+-- that, where there is a sheet
+abbrev pub IsStretchedIn : List ℕ → ℕ → Notes → Option Sheet → Notes → Option Sheet → Type 0
+IsStretchedIn bytes count notes (Some s) next (Some drawn) = IsStretched bytes count notes s next drawn
+IsStretchedIn bytes count notes _ next _ = ⊥

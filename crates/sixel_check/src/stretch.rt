@@ -1,0 +1,49 @@
+//! Stretches of sixels, painted at once.
+
+ghost use Rattle.std.specs.Prelude.{◌≡◌, ◌<◌, ◌≤◌, ℕ, IsTrue, false, length, slice_index, true};
+ghost use Rattle.sixel_grammar.specs.Bytes.{is_data};
+ghost use Rattle.sixel_picture.specs.Stretches.{sixel_of, stretched_sheet};
+ghost use Rattle.sixel_check.specs.Notes.{IsBelow};
+ghost use Rattle.sixel_check.specs.Stretches.{IsPaintedIn, Fits};
+
+use crate::notes::Notes;
+use crate::outside::is_inside;
+use sixel_picture::Plane;
+
+/// Paints the sixels of so many data bytes at the front of `bytes`, where they lie in the box and their register was
+/// painted in before, so that they break no rule, and where the plane can paint them at once. Whether it did.
+#[inline(always)]
+pub(crate) fn try_paint_stretch<P: Plane>(
+    notes: &Notes,
+    plane: &mut P,
+    bytes: &[u8],
+    count: usize,
+) -> bool
+    requires below { IsBelow notes.now }
+    requires sixels { (k : ℕ) → k < count → IsTrue (is_data (slice_index bytes.now k)) }
+    requires bytes { count ≤ length bytes.now }
+    ensures painted { result ≡ true → (register : ℕ) × IsPaintedIn notes.now register
+        × Fits notes.now count (P.sheet plane.old)
+        × (P.sheet plane.new ≡ stretched_sheet (P.sheet plane.old) notes.now.column notes.now.band count
+        (sixel_of bytes.now count) register) }
+    ensures kept { result ≡ false → plane.new ≡ plane.old }
+{
+    match notes.known() {
+        Some(register) if notes.is_painted_in(register) => {
+            is_inside(
+                notes.column,
+                notes.band,
+                count as u64,
+                plane.width(),
+                plane.height(),
+            ) && plane.try_paint_stretch(
+                notes.column as u32,
+                notes.band as u32,
+                bytes,
+                count,
+                register,
+            )
+        }
+        _ => false,
+    }
+}
