@@ -9,3 +9,4 @@ pub mod RunLemmas
 pub mod EndLemmas
 pub mod RoundTripLemmas
 pub mod MatchLemmas
+pub mod SixelLineLemmas

@@ -1,18 +1,22 @@
 -- What a reader that is fed a piece owes, and the lines of its events.
-use Rattle.std.proofs.Common.{◌≡◌, ℕ, List, [], ◌∷◌, ◌++◌, Option, sym, subst}
+use Rattle.std.proofs.Common.{◌≡◌, ◌∙◌, ℕ, List, [], ◌∷◌, ◌++◌, Option, append_assoc, ap, drop, length, refl, subst, sym, take}
 use Rattle.std.specs.Prelude.{Result, Ok, Err}
 use Rattle.std.specs.Io.KnownBytes.{Appends, Keeps}
 use Rattle.std.proofs.lemmas.Grind.{flat_map-append}
-use Rattle.std.proofs.lemmas.List.{append-nil}
+use Rattle.std.proofs.lemmas.List.{append-nil, take-append-drop}
 use Rattle.sixel_grammar.specs.declared.command.Placed.{Placed}
+use Rattle.sixel_grammar.specs.declared.fault.Fault.{Fault}
 use Rattle.sixel_grammar.specs.declared.reader.Reader.{Reader}
-use Rattle.sixel_grammar.specs.Blocks.{TakesMore, in_all}
-use Rattle.sixel_grammar.specs.Standing.{StandsAfter}
+use Rattle.sixel_grammar.specs.Blocks.{PutsAllOrNone, TakesMore, in_all}
+use Rattle.sixel_grammar.specs.Devices.{Puts}
+use Rattle.sixel_grammar.specs.Faults.{IsFaultOf}
+use Rattle.sixel_grammar.specs.Standing.{Refuses, StandsAfter, Takes}
 use Rattle.sixel.specs.declared.fault.RunFault.{RunFault}
 use Rattle.sixel.specs.declared.fault.RunFault.TheVariants.{Grammar, Ppm, NotRgb, OutOfMemory, Read, Write}
-use Rattle.sixel.specs.Feeding.{Feeds, StopsIn}
+use Rattle.sixel.specs.Feeding.{Feeds, RefusesAt, StopsIn}
 use Rattle.sixel.specs.Texts.{BeginsWith, event_line, list_text}
-use Rattle.sixel_grammar.proofs.SinkLemmas.{Appends-keeps}
+use Rattle.sixel_grammar.proofs.DeviceLemmas.{Appends-then}
+use Rattle.sixel_grammar.proofs.SinkLemmas.{Appends-keeps, Appends-none, puts-whole}
 use Rattle.sixel.proofs.PutLemmas.{begins-then, cut, drained}
 
 pub list_text-append : (xs ys : List Placed) → list_text (xs ++ ys) ≡ list_text xs ++ list_text ys
@@ -97,3 +101,109 @@ fed-stopped (Err Read) reader piece had mid has ws w v events bytes e kept grows
 fed-stopped (Err (Ppm reason place)) reader piece had mid has ws w v events bytes e kept grows fed = absurd fed
 fed-stopped (Err NotRgb) reader piece had mid has ws w v events bytes e kept grows fed = absurd fed
 fed-stopped (Err OutOfMemory) reader piece had mid has ws w v events bytes e kept grows fed = absurd fed
+
+-- the line of an event was put
+pub line-put : {A E : Type 0} (result : Result A E) (placed : Placed) (old new : Option (List ℕ)) (text : List ℕ)
+    → text ≡ event_line placed → PutsAllOrNone result old new text → Puts result old new (list_text (placed ∷ []))
+line-put result placed old new text e put =
+    subst (λ (t : List ℕ). Puts result old new t) (e ∙ sym (append-nil _)) (puts-whole result old new text put)
+
+-- ---- a piece, byte by byte
+
+-- a byte was read, and putting the lines of its events failed
+pub byte-stopped : (old new : Reader) (byte : ℕ) (done : List Placed) (had has : Option (List ℕ))
+    (events : List Placed) (bytes : List ℕ) → StandsAfter old events bytes → Takes old new byte done
+    → ((n : ℕ) × Appends had has (take n (list_text done))) → StopsIn (byte ∷ []) had has events bytes
+byte-stopped old new byte done had has events bytes stands takes put = record {
+  front = byte ∷ [];
+  rest = [];
+  before = new;
+  more = done;
+  part = take put.0 (list_text done);
+  piece_is = refl;
+  stands = takes events bytes stands;
+  begins = (drop put.0 (list_text done), sym (take-append-drop put.0 (list_text done)));
+  lines = put.1;
+}
+
+-- a byte was refused, and nothing was put
+pub byte-refused : (old new : Reader) (byte : ℕ) (fault : Fault) (had : Option (List ℕ))
+    (events : List Placed) (bytes : List ℕ) → StandsAfter old events bytes → Refuses old new byte fault
+    → RefusesAt fault (byte ∷ []) had had events bytes
+byte-refused old new byte fault had events bytes stands refuses =
+    let refused = refuses events bytes stands in
+    let same : bytes ≡ bytes ++ [] = sym (append-nil bytes) in
+    record {
+      front = [];
+      byte = byte;
+      rest = [];
+      before = old;
+      more = [];
+      piece_is = refl;
+      stands = stands-as old _ _ _ _ (sym (append-nil events)) same stands;
+      fault_is = subst (λ (b : List ℕ). IsFaultOf (b ++ byte ∷ []) fault) same refused.0;
+      place = refused.1 ∙ ap length same;
+      lines = Appends-none had;
+    }
+
+-- a front of a piece and a part behind it, which has a front of its own
+piece-joined : (piece front part rest inner outer : List ℕ) → piece ≡ front ++ (part ++ rest)
+    → part ≡ inner ++ outer → piece ≡ (front ++ inner) ++ (outer ++ rest)
+piece-joined piece front part rest inner outer is e =
+    is ∙ ap (λ (t : List ℕ). front ++ (t ++ rest)) e ∙ ap (λ (t : List ℕ). front ++ t) (append_assoc inner outer rest)
+    ∙ sym (append_assoc front inner (outer ++ rest))
+
+-- the lines of a front of the piece were put, and then the part behind it was refused
+refused-later : (fault : Fault) (piece front part rest : List ℕ) (had mid has : Option (List ℕ))
+    (events more : List Placed) (bytes : List ℕ) → piece ≡ front ++ (part ++ rest) → Appends had mid (list_text more)
+    → RefusesAt fault part mid has (events ++ more) (bytes ++ front) → RefusesAt fault piece had has events bytes
+refused-later fault piece front part rest had mid has events more bytes is put r =
+    let same : (bytes ++ front) ++ r.front ≡ bytes ++ (front ++ r.front) = append_assoc bytes front r.front in
+    record {
+      front = front ++ r.front;
+      byte = r.byte;
+      rest = r.rest ++ rest;
+      before = r.before;
+      more = more ++ r.more;
+      piece_is = piece-joined piece front part rest r.front (r.byte ∷ r.rest) is r.piece_is;
+      stands = stands-as r.before _ _ _ _ (append_assoc events more r.more) same r.stands;
+      fault_is = subst (λ (b : List ℕ). IsFaultOf (b ++ r.byte ∷ []) fault) same r.fault_is;
+      place = r.place ∙ ap length same;
+      lines = Appends-then had mid has (list_text more) (list_text r.more) (list_text (more ++ r.more)) put r.lines
+          (list_text-append more r.more);
+    }
+
+-- the lines of a front of the piece were put, and then those of the part behind it failed to be
+stopped-later : (piece front part rest : List ℕ) (had mid has : Option (List ℕ))
+    (events more : List Placed) (bytes : List ℕ) → piece ≡ front ++ (part ++ rest) → Appends had mid (list_text more)
+    → StopsIn part mid has (events ++ more) (bytes ++ front) → StopsIn piece had has events bytes
+stopped-later piece front part rest had mid has events more bytes is put s = record {
+  front = front ++ s.front;
+  rest = s.rest ++ rest;
+  before = s.before;
+  more = more ++ s.more;
+  part = list_text more ++ s.part;
+  piece_is = piece-joined piece front part rest s.front s.rest is s.piece_is;
+  stands = stands-as s.before _ _ _ _ (append_assoc events more s.more) (append_assoc bytes front s.front) s.stands;
+  begins = (
+    s.begins.0,
+    list_text-append more s.more ∙ ap (λ (t : List ℕ). list_text more ++ t) s.begins.1
+        ∙ sym (append_assoc (list_text more) s.part s.begins.0),
+  );
+  lines = Appends-then had mid has (list_text more) s.part (list_text more ++ s.part) put s.lines refl;
+}
+
+-- a front of the piece was fed, and then the part behind it failed
+pub failed-later : (fault : RunFault) (after : Reader) (piece front part rest : List ℕ)
+    (had mid has : Option (List ℕ)) (events more : List Placed) (bytes : List ℕ) → piece ≡ front ++ (part ++ rest)
+    → Appends had mid (list_text more)
+    → Feeds {A = Unit {0}} (Err fault) after part mid has (events ++ more) (bytes ++ front)
+    → Feeds {A = Unit {0}} (Err fault) after piece had has events bytes
+failed-later (Grammar fault) after piece front part rest had mid has events more bytes is put fed =
+    refused-later fault piece front part rest had mid has events more bytes is put fed
+failed-later Write after piece front part rest had mid has events more bytes is put fed =
+    stopped-later piece front part rest had mid has events more bytes is put fed
+failed-later Read after piece front part rest had mid has events more bytes is put fed = fed
+failed-later (Ppm reason place) after piece front part rest had mid has events more bytes is put fed = fed
+failed-later NotRgb after piece front part rest had mid has events more bytes is put fed = fed
+failed-later OutOfMemory after piece front part rest had mid has events more bytes is put fed = fed

@@ -1,4 +1,5 @@
 pub mod Texts
+pub mod SixelLines
 pub mod Conversions
 pub mod Screens
 pub mod Outputs

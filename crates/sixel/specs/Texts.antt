@@ -1,5 +1,5 @@
 -- The lines that the program writes.
-use Rattle.std.specs.Prelude.{◌≡◌, ℕ, Bool, List, [], ◌∷◌, ◌++◌, Option, Some, None, codes, decimal, flat_map, map}
+use Rattle.std.specs.Prelude.{◌≡◌, ℕ, ◌+◌, ◌/◌, ◌%◌, Bool, List, [], ◌∷◌, ◌++◌, Option, Some, None, codes, decimal, flat_map, map}
 use Rattle.std.specs.Prelude.{if◌then◌else◌}
 use Rattle.sixel_grammar.specs.declared.command.Command.{Command}
 use Rattle.sixel_grammar.specs.declared.command.Command.TheVariants.{Sixel, Repeat, Raster, Select, Define}
@@ -42,6 +42,10 @@ line first parts = first ++ spaced parts ++ 10 ∷ []
 -- each number in decimal digits
 abbrev pub numbers : List ℕ → List Text
 numbers ns = map decimal ns
+
+-- a number below 100 in two decimal digits
+abbrev pub two_digits : ℕ → Text
+two_digits n = (48 + n / 10) ∷ (48 + n % 10) ∷ []
 
 -- ---- events
 

@@ -18,6 +18,7 @@ mod fault;
 pub mod laws;
 mod lines;
 mod run;
+mod sixel_line;
 mod task;
 #[cfg(test)]
 mod watched;

@@ -1,10 +1,12 @@
 //! Lists the events of a sixel picture, a line each.
 
-ghost use Rattle.std.specs.Prelude.{◌≡◌, ◌≢◌, ℕ, List, [], Err, IfSome, OnOk};
+ghost use Rattle.std.specs.Prelude.{◌≡◌, ◌≢◌, ◌∷◌, ℕ, List, [], Err, IfSome, OnOk};
 ghost use Rattle.std.specs.Option.{option_to_list};
+ghost use Rattle.sixel_grammar.specs.declared.command.Event.TheVariants.{Step};
 ghost use Rattle.sixel_grammar.specs.declared.command.Placed.{Placed as Place};
 ghost use Rattle.sixel_grammar.specs.Blocks.{TakesMore, in_all};
 ghost use Rattle.sixel_grammar.specs.Devices.{CountsFailure, Puts};
+ghost use Rattle.sixel_grammar.specs.Plain.{plain_of};
 ghost use Rattle.sixel_grammar.specs.Standing.{StandsAfter, completions};
 ghost use Rattle.sixel.specs.declared.task.Task.TheVariants.{List as Listing};
 ghost use Rattle.sixel.specs.Feeding.{Feeds};
@@ -13,8 +15,11 @@ ghost use Rattle.sixel.specs.Texts.{list_text};
 
 use crate::fault::RunFault;
 use crate::lines::event_line;
+use crate::sixel_line::SixelLine;
 use crate::task::Status;
-use sixel_grammar::{Block, Completed, DeviceFault, PIECE, Placed, Reader, Sink, Source};
+use sixel_grammar::{
+    Block, Command, Completed, DeviceFault, Event, PIECE, Placed, Plain, Reader, Sink, Source,
+};
 
 /// Room for 12 bytes of lines a byte read. A data byte gives up to 19, so a piece of them leaves in two writes.
 type Lines = Block<786_432>;
@@ -84,16 +89,102 @@ fn feed_all<K: Sink>(
     ensures more { TakesMore (K.taken out.old) (K.taken out.new) }
     ensures failures { CountsWrites result (K.failure_count out.old) (K.failure_count out.new) }
 {
+    let mut sixel = SixelLine::new();
     for byte in piece {
-        match reader.feed(*byte) {
-            Ok(completed) => match put_lines(completed, lines, out) {
-                Ok(()) => {}
-                Err(_) => return Err(RunFault::Write),
-            },
-            Err(fault) => return Err(RunFault::Grammar(fault)),
-        }
+        feed_byte(reader, *byte, &mut sixel, lines, out)?;
     }
     Ok(())
+}
+
+/// Reads one byte. The lines are in the block, or where it was full at the sink.
+#[inline(always)]
+fn feed_byte<K: Sink>(
+    reader: &mut Reader,
+    byte: u8,
+    sixel: &mut SixelLine,
+    lines: &mut Lines,
+    out: &mut K,
+) -> Result<(), RunFault>
+    ensures fed { (events : List Place) (bytes : List ℕ) → StandsAfter reader.old events bytes →
+        Feeds result reader.new (byte ∷ [])
+        (in_all (K.taken out.old) lines.old) (in_all (K.taken out.new) lines.new) events bytes }
+    ensures more { TakesMore (K.taken out.old) (K.taken out.new) }
+    ensures failures { CountsWrites result (K.failure_count out.old) (K.failure_count out.new) }
+{
+    match reader.feed_plain(byte) {
+        Some(plain) => match put_plain(plain, sixel, lines, out) {
+            Ok(()) => Ok(()),
+            Err(_) => Err(RunFault::Write),
+        },
+        None => feed_any(reader, byte, lines, out),
+    }
+}
+
+/// Reads a byte of any kind.
+#[inline(never)]
+fn feed_any<K: Sink>(
+    reader: &mut Reader,
+    byte: u8,
+    lines: &mut Lines,
+    out: &mut K,
+) -> Result<(), RunFault>
+    ensures fed { (events : List Place) (bytes : List ℕ) → StandsAfter reader.old events bytes →
+        Feeds result reader.new (byte ∷ [])
+        (in_all (K.taken out.old) lines.old) (in_all (K.taken out.new) lines.new) events bytes }
+    ensures more { TakesMore (K.taken out.old) (K.taken out.new) }
+    ensures failures { CountsWrites result (K.failure_count out.old) (K.failure_count out.new) }
+{
+    match reader.feed(byte) {
+        Ok(completed) => match put_lines(completed, lines, out) {
+            Ok(()) => Ok(()),
+            Err(_) => Err(RunFault::Write),
+        },
+        Err(fault) => Err(RunFault::Grammar(fault)),
+    }
+}
+
+#[inline(always)]
+fn put_plain<K: Sink>(
+    plain: Plain,
+    sixel: &mut SixelLine,
+    lines: &mut Lines,
+    out: &mut K,
+) -> Result<(), DeviceFault>
+    ensures bytes { Puts result (in_all (K.taken out.old) lines.old) (in_all (K.taken out.new) lines.new)
+        (list_text (completions (plain_of plain))) }
+    ensures more { TakesMore (K.taken out.old) (K.taken out.new) }
+    ensures failures { CountsFailure result (K.failure_count out.old) (K.failure_count out.new) }
+{
+    match plain {
+        Plain::Nothing => Ok(()),
+        Plain::Command { place, command } => put_command(place, command, sixel, lines, out),
+    }
+}
+
+/// Nearly all commands are sixels, whose lines are made quickly where the place has hundreds.
+#[inline(always)]
+fn put_command<K: Sink>(
+    place: u64,
+    command: Command,
+    sixel: &mut SixelLine,
+    lines: &mut Lines,
+    out: &mut K,
+) -> Result<(), DeviceFault>
+    ensures bytes { Puts result (in_all (K.taken out.old) lines.old) (in_all (K.taken out.new) lines.new)
+        (list_text (record { place = place; event = Step command } ∷ [])) }
+    ensures more { TakesMore (K.taken out.old) (K.taken out.new) }
+    ensures failures { CountsFailure result (K.failure_count out.old) (K.failure_count out.new) }
+{
+    match command {
+        Command::Sixel(bits) if place >= 100 && bits < 100 => {
+            sixel.set(place, bits);
+            lines.put(sixel.as_slice(), out)
+        }
+        _ => {
+            let event = Event::Step(command);
+            put_line(Some(Placed { place, event }), lines, out)
+        }
+    }
 }
 
 fn put_lines<K: Sink>(

@@ -207,3 +207,18 @@ fn lists_what_came_before_a_fault(rt: HostRuntime) {
         );
     }
 }
+
+/// From one sixel to the next the tens, the hundreds, and the number of digits go on.
+#[test]
+fn lists_places_that_are_carried(rt: HostRuntime) {
+    let mut bytes = [b'\n'; 1004];
+    bytes[6..11].copy_from_slice(b"\x1bPq?@");
+    for place in [99, 100, 109, 110, 199, 200, 999, 1000] {
+        bytes[place] = b'~';
+    }
+    bytes[1001..].copy_from_slice(b"H\x1b\\");
+    let text =
+        b"6 start 7bit 0\n9 sixel 0\n10 sixel 1\n99 sixel 63\n100 sixel 63\n109 sixel 63\n110 sixel 63\n\
+        199 sixel 63\n200 sixel 63\n999 sixel 63\n1000 sixel 63\n1001 sixel 9\n1002 end 7bit\n";
+    assert!(rt; agrees_in_pieces(rt.alloc(), Task::List, &bytes, text, Ok(Status::Done)));
+}
