@@ -5,14 +5,14 @@ use Rattle.sixel_grammar.proofs.block.Block.drain.Given as goal
 
 abbrev pub invariant-loop-self : goal.invariant-loop-self
 invariant-loop-self g l = record {
-  in_range : l.self-inside.start ≤ length l.self-inside.text.items;
+  in_range : (l.self-inside.start ≤ l.self-inside.end) × (l.self-inside.end ≤ length l.self-inside.text);
   front : (n : ℕ) × Appends (g.K.Sink.taken l.fn.out) (g.K.Sink.taken l.out) (take n l.fn.self)
-      × (drop l.self-inside.start l.self-inside.text.items ≡ drop n l.fn.self);
+      × (drop l.self-inside.start (take l.self-inside.end l.self-inside.text) ≡ drop n l.fn.self);
   unflushed : NeverFlushes (g.K.Sink.is_flushed l.fn.out) (g.K.Sink.is_flushed l.out);
-  held : length (drop l.self-inside.start l.self-inside.text.items) < length l.fn.self
+  held : length (drop l.self-inside.start (take l.self-inside.end l.self-inside.text)) < length l.fn.self
       → g.K.Sink.is_flushed l.out ≡ false;
   failures : g.K.Sink.failure_count l.out ≡ g.K.Sink.failure_count l.fn.out;
 }
 
 abbrev pub decreases-loop-self : goal.decreases-loop-self
-decreases-loop-self g l = length l.self-inside.text.items - l.self-inside.start
+decreases-loop-self g l = l.self-inside.end - l.self-inside.start
