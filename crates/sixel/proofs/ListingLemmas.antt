@@ -1,9 +1,10 @@
 -- What a reader that is fed a piece owes, and the lines of its events.
-use Rattle.std.proofs.Common.{◌≡◌, ◌∙◌, ℕ, List, [], ◌∷◌, ◌++◌, Option, append_assoc, ap, drop, length, refl, subst, sym, take}
+use Rattle.std.proofs.Common.{◌≡◌, ◌∙◌, ℕ, List, [], ◌∷◌, ◌++◌, Option, append_assoc, ap, drop, get_or, length, refl, subst, sym, take}
+use Rattle.std.proofs.Common.{◌+◌, ◌<◌, ◌≤◌}
 use Rattle.std.specs.Prelude.{Result, Ok, Err}
 use Rattle.std.specs.Io.KnownBytes.{Appends, Keeps}
 use Rattle.std.proofs.lemmas.Grind.{flat_map-append}
-use Rattle.std.proofs.lemmas.List.{append-nil, take-append-drop}
+use Rattle.std.proofs.lemmas.List.{append-nil, take-append-drop, take_all}
 use Rattle.sixel_grammar.specs.declared.command.Placed.{Placed}
 use Rattle.sixel_grammar.specs.declared.fault.Fault.{Fault}
 use Rattle.sixel_grammar.specs.declared.reader.Reader.{Reader}
@@ -17,6 +18,7 @@ use Rattle.sixel.specs.Feeding.{Feeds, RefusesAt, StopsIn}
 use Rattle.sixel.specs.Texts.{BeginsWith, event_line, list_text}
 use Rattle.sixel_grammar.proofs.DeviceLemmas.{Appends-then}
 use Rattle.sixel_grammar.proofs.SinkLemmas.{Appends-keeps, Appends-none, puts-whole}
+use Rattle.sixel_grammar.proofs.SourceLemmas.{one_past, split_past}
 use Rattle.sixel.proofs.PutLemmas.{begins-then, cut, drained}
 
 pub list_text-append : (xs ys : List Placed) → list_text (xs ++ ys) ≡ list_text xs ++ list_text ys
@@ -194,7 +196,7 @@ stopped-later piece front part rest had mid has events more bytes is put s = rec
 }
 
 -- a front of the piece was fed, and then the part behind it failed
-pub failed-later : (fault : RunFault) (after : Reader) (piece front part rest : List ℕ)
+failed-later : (fault : RunFault) (after : Reader) (piece front part rest : List ℕ)
     (had mid has : Option (List ℕ)) (events more : List Placed) (bytes : List ℕ) → piece ≡ front ++ (part ++ rest)
     → Appends had mid (list_text more)
     → Feeds {A = Unit {0}} (Err fault) after part mid has (events ++ more) (bytes ++ front)
@@ -207,3 +209,50 @@ failed-later Read after piece front part rest had mid has events more bytes is p
 failed-later (Ppm reason place) after piece front part rest had mid has events more bytes is put fed = fed
 failed-later NotRgb after piece front part rest had mid has events more bytes is put fed = fed
 failed-later OutOfMemory after piece front part rest had mid has events more bytes is put fed = fed
+
+-- wherever the reader stood, it then stands after these bytes more, and the lines of their events were appended
+abbrev pub Lists : Reader → Reader → List ℕ → Option (List ℕ) → Option (List ℕ) → Type 0
+Lists old new piece had has =
+    (events : List Placed) (bytes : List ℕ) → StandsAfter old events bytes →
+    (more : List Placed) × StandsAfter new (events ++ more) (bytes ++ piece) × Appends had has (list_text more)
+
+-- nothing was read yet
+pub lists-nothing : (reader : Reader) (had : Option (List ℕ)) → Lists reader reader [] had had
+lists-nothing reader had events bytes stands = (
+  [],
+  stands-as reader _ _ _ _ (sym (append-nil events)) (sym (append-nil bytes)) stands,
+  Appends-none had,
+)
+
+-- one byte more
+pub lists-more : (first old new : Reader) (piece : List ℕ) (i : ℕ) (had mid has : Option (List ℕ)) → i < length piece
+    → Lists first old (take i piece) had mid → Lists old new (get_or piece i 0 ∷ []) mid has
+    → Lists first new (take (i + 1) piece) had has
+lists-more first old new piece i had mid has below before next events bytes stands =
+    let b = before events bytes stands in
+    let n = next (events ++ b.0) (bytes ++ take i piece) b.1 in (
+      b.0 ++ n.0,
+      stands-as new _ _ _ _ (append_assoc events b.0 n.0) (one_past bytes piece i below) n.1,
+      Appends-then had mid has (list_text b.0) (list_text n.0) (list_text (b.0 ++ n.0)) b.2 n.2
+          (list_text-append b.0 n.0),
+    )
+
+-- all of the piece was read
+pub lists-whole : (first last : Reader) (piece : List ℕ) (i : ℕ) (had has : Option (List ℕ)) → length piece ≤ i
+    → Lists first last (take i piece) had has → Lists first last piece had has
+lists-whole first last piece i had has past before =
+    subst (λ (t : List ℕ). Lists first last t had has) (take_all i piece past) before
+
+-- one byte more failed
+pub fails-next : (fault : RunFault) (first old new : Reader) (piece : List ℕ) (i : ℕ) (had mid has : Option (List ℕ))
+    → i < length piece → Lists first old (take i piece) had mid
+    → ((events : List Placed) (bytes : List ℕ) → StandsAfter old events bytes
+    → Feeds {A = Unit {0}} (Err fault) new (get_or piece i 0 ∷ []) mid has events bytes)
+    → (events : List Placed) (bytes : List ℕ) → StandsAfter first events bytes
+    → Feeds {A = Unit {0}} (Err fault) new piece had has events bytes
+fails-next fault first old new piece i had mid has below before fails events bytes stands =
+    let b = before events bytes stands in
+    let byte = get_or piece i 0 in
+    failed-later fault new piece (take i piece) (byte ∷ []) (drop (i + 1) piece) had mid has events b.0 bytes
+    (split_past [] piece i below ∙ append_assoc (take i piece) (byte ∷ []) (drop (i + 1) piece)) b.2
+    (fails (events ++ b.0) (bytes ++ take i piece) b.1)

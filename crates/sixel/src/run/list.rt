@@ -91,33 +91,15 @@ fn feed_all<K: Sink>(
 {
     let mut sixel = SixelLine::new();
     for byte in piece {
-        feed_byte(reader, *byte, &mut sixel, lines, out)?;
+        if let Some(plain) = reader.feed_plain(*byte) {
+            match put_plain(plain, &mut sixel, lines, out) {
+                Ok(()) => continue,
+                Err(_) => return Err(RunFault::Write),
+            }
+        }
+        feed_any(reader, *byte, lines, out)?;
     }
     Ok(())
-}
-
-/// Reads one byte. The lines are in the block, or where it was full at the sink.
-#[inline(always)]
-fn feed_byte<K: Sink>(
-    reader: &mut Reader,
-    byte: u8,
-    sixel: &mut SixelLine,
-    lines: &mut Lines,
-    out: &mut K,
-) -> Result<(), RunFault>
-    ensures fed { (events : List Place) (bytes : List ℕ) → StandsAfter reader.old events bytes →
-        Feeds result reader.new (byte ∷ [])
-        (in_all (K.taken out.old) lines.old) (in_all (K.taken out.new) lines.new) events bytes }
-    ensures more { TakesMore (K.taken out.old) (K.taken out.new) }
-    ensures failures { CountsWrites result (K.failure_count out.old) (K.failure_count out.new) }
-{
-    match reader.feed_plain(byte) {
-        Some(plain) => match put_plain(plain, sixel, lines, out) {
-            Ok(()) => Ok(()),
-            Err(_) => Err(RunFault::Write),
-        },
-        None => feed_any(reader, byte, lines, out),
-    }
 }
 
 /// Reads a byte of any kind.
