@@ -26,8 +26,10 @@ pub struct SixelLine {
 impl SixelLine {
     ghost use Rattle.sixel.specs.SixelLines.{text_of};
 
-    /// The line of no sixel yet.
-    pub fn new() -> SixelLine {
+    /// The line of no sixel yet: the digit of no hundreds.
+    pub fn new() -> SixelLine
+        ensures { text_of result ≡ decimal 0 }
+    {
         SixelLine {
             text: [b'0'; 30],
             start: 17,

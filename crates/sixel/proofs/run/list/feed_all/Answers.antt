@@ -44,8 +44,9 @@ loop-byte-preserved g c =
 
 pub returns-in-Err-clause-fed : goal.returns-in-Err-clause-fed
 returns-in-Err-clause-fed g c =
-    fails-next Write c.args.reader.now c.loop-byte.reader c.feed_plain.new.self c.args.piece.now c.loop-byte.byte-index _
-    (in_all (g.K.Sink.taken c.loop-byte.out) c.loop-byte.lines) _ c.loop-byte-test.true c.loop-byte.invariant.stands
+    fails-next Write c.args.reader.now c.loop-byte.reader c.feed_plain.new.self c.args.piece.now
+    c.loop-byte.byte-index _ (in_all (g.K.Sink.taken c.loop-byte.out) c.loop-byte.lines) _ c.loop-byte-test.true
+    c.loop-byte.invariant.stands
     (λ events bytes stands. byte-stopped c.loop-byte.reader c.feed_plain.new.self _ _ _ _ events bytes stands
     c.in-Some.ensures.accepted c.in-Err.ensures.bytes)
 

@@ -12,6 +12,8 @@ returns-then-bits-lt10 c =
 
 pub returns-else-bits-lt10 : goal.returns-else-bits-lt10
 returns-else-bits-lt10 c =
+    let bits = c.two_digits-upper.result in
     rw (c.set_rest-else-bits-lt10.ensures, c.keep_hundreds.ensures)
-    (line-joined c.args.place c.args.bits _ _ (c.two_digits-upper.result.0 ∷ c.two_digits-upper.result.1 ∷ []) c.requires.place c.ranges.place.fits c.two_digits-tens.ensures
+    (line-joined c.args.place c.args.bits _ _ (bits.0 ∷ bits.1 ∷ []) c.requires.place c.ranges.place.fits
+    c.two_digits-tens.ensures
     (decimal_two c.args.bits c.if-bits-lt10.false c.requires.bits ∙ sym c.two_digits-upper.ensures))
