@@ -13,6 +13,10 @@ const LANES: usize = 16;
 pub(crate) fn run_of(piece: &[u8]) -> usize
     ensures { IsRun piece.now 0 (length piece.now) result }
 {
+    // Any command begins below the data bytes, and needs no lanes.
+    if piece.is_empty() || piece[0] < b'?' {
+        return 0;
+    }
     let groups = piece.len() / LANES;
     for group in 0..groups {
         let run = run_in_group(piece, group * LANES);
