@@ -1,18 +1,18 @@
 -- On registers and a byte of painted rows for each column and band, that stand for a sheet.
 use Rattle.std.proofs.Common.{◌≡◌, ◌==◌, ◌≢◌, ℕ, zero, suc, ◌+◌, ◌*◌, ◌/◌, ◌%◌, ◌<◌, ◌≤◌, Bool, true, false, ◌&&◌, ◌||◌}
 use Rattle.std.proofs.Common.{cond, List, length, get_or, replicate, nat_le, nat_lt, if◌then◌else◌, inl, inr, refl, sym}
-use Rattle.std.proofs.Common.{ap, ◌∙◌, arith, max}
+use Rattle.std.proofs.Common.{ap, ◌∙◌, arith, max, mul_comm, suc, take}
 use Rattle.std.specs.Int.{bit_at, div_ceil}
 use Rattle.std.specs.Int.Bits.{bit_or, or_zero_r}
 use Rattle.std.proofs.lemmas.Bool.{and_parts, and_from, leb-true, ltb-true, le-leb, lt-ltb, eqb-true, eq-eqb, cases_eq}
-use Rattle.std.proofs.lemmas.List.{get_or-replicate}
-use Rattle.std.proofs.lemmas.Nat.{div-add-mod', mod_below, div-mul-add, mod-mul-add, mul-add-lt, row_fits_turned}
+use Rattle.std.proofs.lemmas.List.{get_or-replicate, get_or-take, length-take-le}
+use Rattle.std.proofs.lemmas.Nat.{div-add-mod', mod_below, div-mul-add, mod-mul-add, mul-add-lt, row_fits_turned, mul-le}
 use Rattle.std.proofs.lemmas.Nat.Bits.{bit_at_or, bit_at-lt, bit_at-zero, same_from_bits_below}
 use Rattle.sixel_picture.specs.BandPlanes.{is_covered, sheet_of_bands}
 use Rattle.sixel_picture.specs.Geometry.{covers}
 use Rattle.sixel_picture.specs.Lanes.{AreChanged}
 use Rattle.sixel_picture.specs.Positions.{any_below}
-use Rattle.sixel_picture.specs.Sheets.{blank_sheet, painted_sheet}
+use Rattle.sixel_picture.specs.Sheets.{RowsArePainted, blank_sheet, painted_sheet}
 use Rattle.sixel_picture.proofs.CoverLemmas.{lies_under, covers_under, PassesBelow, passes_below, any_below_at}
 use Rattle.sixel_picture.proofs.PaintedLemmas.{blank_unpainted, sheet_after_run}
 use Rattle.sixel_picture.proofs.PaintLemmas.{painted_same}
@@ -186,3 +186,35 @@ run_fits w h left count band bits small fits rows some =
     let line : band < div_ceil h 6 = omega arith in
     let room : band * w + w ≤ w * div_ceil h 6 = row_fits_turned band w w (div_ceil h 6) line (omega arith) in
     omega arith
+
+-- ---- whole bands
+
+-- each bit of a sixel with all six
+all_set : (k : ℕ) → k < 6 → bit_at 63 k ≡ 1
+all_set zero lt = refl
+all_set (suc zero) lt = refl
+all_set (suc (suc zero)) lt = refl
+all_set (suc (suc (suc zero))) lt = refl
+all_set (suc (suc (suc (suc zero)))) lt = refl
+all_set (suc (suc (suc (suc (suc zero))))) lt = refl
+all_set (suc (suc (suc (suc (suc (suc k)))))) lt = absurd (omega arith)
+
+-- the bytes of the whole bands are among them
+pub bands_fit : (w h : ℕ) → h / 6 * w ≤ w * div_ceil h 6
+bands_fit w h = omega (arith, mul-le (h / 6) w (div_ceil h 6) w (omega arith) (omega arith), mul_comm w (div_ceil h 6))
+
+-- where each byte of the whole bands has each bit of the six
+pub whole_painted : (w h common : ℕ) (coverage : List ℕ) → common ≡ 63 → h / 6 * w ≤ length coverage
+    → ((i k : ℕ) → i < length (take (h / 6 * w) coverage) → bit_at common k ≡ 1
+    → bit_at (get_or (take (h / 6 * w) coverage) i 0) k ≡ 1)
+    → RowsArePainted w (is_covered w coverage) (h / 6 * 6)
+whole_painted w h common coverage all long each x y inside_x inside_y =
+    let i : ℕ = y / 6 * w + x in
+    let n : ℕ = h / 6 * w in
+    let k : ℕ = y % 6 in
+    let turned : w * (h / 6) ≡ n = mul_comm w (h / 6) in
+    let inside : i < n = omega (arith, turned, mul-add-lt (y / 6) w x (h / 6) (omega (arith, inside_y)) inside_x) in
+    let short = length-take-le n coverage long in
+    let bit : bit_at (get_or (take n coverage) i 0) k ≡ 1 =
+    each i k (omega (arith, inside, short)) (ap (λ b. bit_at b k) all ∙ all_set k (mod_below y 6 (omega arith))) in
+    eq-eqb _ _ (ap (λ b. bit_at b k) (sym (get_or-take n coverage i 0 inside)) ∙ bit)

@@ -7,7 +7,7 @@ use Rattle.std.specs.List.{prefix_len}
 use Rattle.std.proofs.lemmas.Bool.Decides.{nat_tests}
 use Rattle.std.proofs.lemmas.Bool.{cases_lt, cases_eq, eq-eqb, ne_eqb, cond-true, cond-false}
 use Rattle.std.proofs.lemmas.List.{length-map}
-use Rattle.std.proofs.lemmas.Nat.Bits.{and_pow, bit_at-lt}
+use Rattle.std.proofs.lemmas.Nat.Bits.{and_pow, bit_at-lt, bit_at_and}
 use Rattle.std.proofs.lemmas.Nat.{one_shl, pow_pos}
 use Rattle.std.proofs.lemmas.Simd.{length-put_chunk, get_or-put_chunk_below, get_or-put_chunk_at}
 use Rattle.std.proofs.lemmas.Simd.{get_or-put_chunk_above, length-replicate, get_or-replicate, length-chunk}
@@ -181,3 +181,21 @@ first_in_group test at run bytes room counted short = record {
   passes = run_in_chunk_stops test bytes at 32 run 0 room counted short;
   before = run_in_chunk_fails test bytes at 32 run 0 room counted;
 }
+
+-- ---- the bits that each byte has
+
+-- those of the bytes before and of one more
+pub both_bits : (common : ℕ) (bytes : List ℕ) (n i k : ℕ)
+    → ((j m : ℕ) → j < n → bit_at common m ≡ 1 → bit_at (get_or bytes j 0) m ≡ 1) → i < n + 1
+    → bit_at (bit_and common (get_or bytes n 0)) k ≡ 1 → bit_at (get_or bytes i 0) k ≡ 1
+both_bits common bytes n i k before lt set =
+    let byte : ℕ = get_or bytes n 0 in
+    let both = bit_at_and common byte k in
+    let small = bit_at-lt common k in
+    let few = bit_at-lt byte k in
+    elim (cases_lt i n) [
+      | inl low ↦ before i k low (omega (arith, both, set, small))
+      | inr last ↦
+          let here : i ≡ n = omega (arith, last, lt) in
+          ap (λ j. bit_at (get_or bytes j 0) k) here ∙ omega (arith, both, set, few)
+    ]

@@ -8,14 +8,17 @@ ghost use Rattle.std.specs.Int.{bit_at, div_ceil};
 ghost use Rattle.sixel_picture.specs.BandPlanes.{is_covered};
 ghost use Rattle.sixel_picture.specs.Geometry.{covers};
 ghost use Rattle.sixel_picture.specs.Lanes.{AreChanged};
-ghost use Rattle.sixel_picture.specs.Sheets.{FirstUnpainted};
+ghost use Rattle.sixel_picture.specs.Sheets.{FirstUnpainted, RowsArePainted};
 
 use crate::bits::{BAND_ROWS, is_set};
-use crate::lanes::{fill, first_without, or_into};
+use crate::lanes::{common_bits, fill, first_without, or_into};
 use crate::plane::Plane;
 use crate::stretch::{LANES, paint_groups};
 use std::alloc::{AllocError, Global};
 use std::marker::Model;
+
+/// The bits of all rows of a band.
+const ALL_ROWS: u8 = 63;
 
 /// A plane that tells by one byte for each column and band which of the six rows are painted.
 ///
@@ -229,13 +232,27 @@ fn put(registers: &mut [u8], index: usize, is_painted: bool, register: u8)
     }
 }
 
+/// How many of the uppermost rows are painted, where those of all whole bands are; else none.
+fn painted_rows(coverage: &[u8], width: u32, height: u32) -> u32
+    requires { length coverage.now ≡ width * div_ceil height BAND_ROWS }
+    ensures within { result ≤ height }
+    ensures painted { RowsArePainted width (is_covered width coverage.now) result }
+{
+    let bands = height / BAND_ROWS;
+    if common_bits(&coverage[..bands as usize * width as usize]) == ALL_ROWS {
+        bands * BAND_ROWS
+    } else {
+        0
+    }
+}
+
 /// The column and the row of the first pixel that isn't painted, in row order.
 fn first_unpainted(coverage: &[u8], width: u32, height: u32) -> Option<(u32, u32)>
     requires { length coverage.now ≡ width * div_ceil height BAND_ROWS }
     ensures { FirstUnpainted width height (is_covered width coverage.now) result }
 {
     let columns = width as usize;
-    for row in 0..height {
+    for row in painted_rows(coverage, width, height)..height {
         let start = (row / BAND_ROWS) as usize * columns;
         if let Some(index) = first_without(coverage, start, start + columns, row % BAND_ROWS) {
             return Some(((index - start) as u32, row));

@@ -1,6 +1,6 @@
 //! Work on bytes in a row, 32 lanes at a time.
 
-ghost use Rattle.std.specs.Prelude.{◌≡◌, ◌==◌, ◌+◌, ◌<◌, ◌≤◌, length, bit_or, drop, not, take};
+ghost use Rattle.std.specs.Prelude.{◌≡◌, ◌==◌, ◌+◌, ◌<◌, ◌≤◌, ℕ, length, bit_or, drop, not, slice_index, take};
 ghost use Rattle.std.specs.Int.{bit_at};
 ghost use Rattle.std.specs.List.{prefix_len};
 ghost use Rattle.sixel_picture.specs.Lanes.{AreChanged, IsFirst};
@@ -134,4 +134,15 @@ fn first_in_rest(bytes: &[u8], from: usize, to: usize, bit: u32) -> Option<usize
         }
     }
     None
+}
+
+/// The bits that each byte has. All are looked at, so the compiler takes many at once.
+pub(crate) fn common_bits(bytes: &[u8]) -> u8
+    ensures { (i k : ℕ) → i < length bytes.now → bit_at result k ≡ 1 → bit_at (slice_index bytes.now i) k ≡ 1 }
+{
+    let mut common = u8::MAX;
+    for byte in bytes {
+        common &= *byte;
+    }
+    common
 }
