@@ -4,8 +4,10 @@ pub mod BitLemmas
 pub mod PartedLemmas
 pub mod RunLemmas
 pub mod TextLemmas
+pub mod StretchLemmas
 pub mod StepLemmas
 pub mod OccurLemmas
+pub mod AddedLemmas
 pub mod LongestLemmas
 pub mod LengthLemmas
 pub mod StripLemmas

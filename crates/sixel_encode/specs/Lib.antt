@@ -1,2 +1,3 @@
 pub mod Canon
+pub mod Columns
 pub mod Laws

@@ -1,18 +1,22 @@
 //! Writes a band: six rows of a picture, or fewer in the last one.
 
-ghost use Rattle.std.specs.Prelude.{◌≡◌, ◌==◌, ◌<◌, ◌≤◌, ◌++◌, ◌∷◌, [], flat_map, if◌then◌else◌};
+ghost use Rattle.std.specs.Prelude.{◌≡◌, ◌==◌, ◌+◌, ◌-◌, ◌<◌, ◌≤◌, ◌++◌, ◌∷◌, [], flat_map, if◌then◌else◌, length};
+ghost use Rattle.std.specs.Prelude.{slice_index};
 ghost use Rattle.sixel_grammar.specs.Blocks.{PutsAllOrNone, TakesMore, in_all};
 ghost use Rattle.sixel_grammar.specs.Devices.{CountsFailure, NeverFlushes, Puts};
 ghost use Rattle.sixel_grammar.specs.Spelling.{IsSpellable};
-ghost use Rattle.sixel_encode.specs.Canon.{band_columns, band_commands, commands_text, register_commands, run_commands};
-ghost use Rattle.sixel_encode.specs.Canon.{runs, most_bands};
+ghost use Rattle.sixel_picture.specs.Pictures.{most_side};
+ghost use Rattle.sixel_encode.specs.Canon.{band_commands, commands_text, most_bands, register_commands, run_commands};
+ghost use Rattle.sixel_encode.specs.Canon.{runs, without_blanks};
+ghost use Rattle.sixel_encode.specs.Columns.{AreSixels, columns_of, part};
 
-use crate::columns::{band_registers, column_bits};
+use crate::columns::{band_registers, find_sixels};
+use crate::repeats::{find_repeat, ink_end, run_end};
 use sixel_grammar::{Block, Command, DeviceFault, Event, Sink};
 use sixel_picture::Picture;
 
-/// The fewest columns of the same bits that are a repeat.
-const LEAST_REPEAT: u16 = 4;
+/// The greatest width of a picture.
+const MOST_COLUMNS: usize = 2048;
 
 /// Text on the way to a sink, which takes so many bytes at once.
 pub(crate) type Text = Block<65_536>;
@@ -32,10 +36,12 @@ pub(crate) fn put_band<K: Sink>(
     ensures failures { CountsFailure result (K.failure_count out.old) (K.failure_count out.new) }
 {
     let occurring = band_registers(picture, band);
+    let mut room = [0; MOST_COLUMNS];
+    let sixels = &mut room[..picture.width() as usize];
     let mut is_first = true;
     for register in 0..picture.profile().count() {
         if occurring[register as usize] {
-            put_next(text, picture, band, register as u8, is_first, out)?;
+            put_next(text, sixels, picture, band, register as u8, is_first, out)?;
             is_first = false;
         }
     }
@@ -45,13 +51,17 @@ pub(crate) fn put_band<K: Sink>(
 /// Puts a register of a band, after a carriage return if it isn't the first.
 fn put_next<K: Sink>(
     text: &mut Text,
+    sixels: &mut [u8],
     picture: &Picture,
     band: u32,
     register: u8,
     is_first: bool,
     out: &mut K,
 ) -> Result<(), DeviceFault>
-    requires { band < most_bands }
+    requires band { band < most_bands }
+    requires width { length sixels.old ≡ picture.now.width }
+    requires few { length sixels.old ≤ most_side }
+    ensures width { length sixels.new ≡ length sixels.old }
     ensures bytes { Puts result (in_all (K.taken out.old) text.old) (in_all (K.taken out.new) text.new)
         (commands_text ((if is_first then [] else Command.CarriageReturn ∷ [])
         ++ register_commands picture.now band register)) }
@@ -60,7 +70,7 @@ fn put_next<K: Sink>(
     ensures failures { CountsFailure result (K.failure_count out.old) (K.failure_count out.new) }
 {
     put_between(text, is_first, Command::CarriageReturn, out)?;
-    put_register(text, picture, band, register, out)
+    put_register(text, sixels, picture, band, register, out)
 }
 
 /// Puts the command, but nothing before the first of what it stands between.
@@ -103,20 +113,25 @@ pub(crate) fn put_command<K: Sink>(
 /// Puts a select, and the columns of the register.
 fn put_register<K: Sink>(
     text: &mut Text,
+    sixels: &mut [u8],
     picture: &Picture,
     band: u32,
     register: u8,
     out: &mut K,
 ) -> Result<(), DeviceFault>
-    requires { band < most_bands }
+    requires band { band < most_bands }
+    requires width { length sixels.old ≡ picture.now.width }
+    requires few { length sixels.old ≤ most_side }
+    ensures width { length sixels.new ≡ length sixels.old }
     ensures bytes { Puts result (in_all (K.taken out.old) text.old) (in_all (K.taken out.new) text.new)
         (commands_text (register_commands picture.now band register)) }
     ensures taken { TakesMore (K.taken out.old) (K.taken out.new) }
     ensures unflushed { NeverFlushes (K.is_flushed out.old) (K.is_flushed out.new) }
     ensures failures { CountsFailure result (K.failure_count out.old) (K.failure_count out.new) }
 {
+    find_sixels(sixels, picture, band, register);
     put_command(text, select(register), out)?;
-    put_columns(text, picture, band, register, out)
+    put_columns(text, sixels, out)
 }
 
 fn select(register: u8) -> Command
@@ -125,52 +140,90 @@ fn select(register: u8) -> Command
     Command::Select(register.into())
 }
 
-/// Puts the columns of a register up to the last one that has a bit, run by run.
-fn put_columns<K: Sink>(
-    text: &mut Text,
-    picture: &Picture,
-    band: u32,
-    register: u8,
-    out: &mut K,
-) -> Result<(), DeviceFault>
-    requires { band < most_bands }
+/// Puts the columns up to the last one that has a bit: four or more of the same bits as a repeat, and any other as
+/// it stands.
+fn put_columns<K: Sink>(text: &mut Text, sixels: &[u8], out: &mut K) -> Result<(), DeviceFault>
+    requires sixels { AreSixels sixels.now }
+    requires few { length sixels.now ≤ most_side }
     ensures bytes { Puts result (in_all (K.taken out.old) text.old) (in_all (K.taken out.new) text.new)
-        (commands_text (flat_map run_commands (runs (band_columns picture.now band register)))) }
+        (commands_text (flat_map run_commands (runs (without_blanks (columns_of sixels.now))))) }
     ensures taken { TakesMore (K.taken out.old) (K.taken out.new) }
     ensures unflushed { NeverFlushes (K.is_flushed out.old) (K.is_flushed out.new) }
     ensures failures { CountsFailure result (K.failure_count out.old) (K.failure_count out.new) }
 {
-    let mut count = 0;
-    let mut bits = 0;
-    for x in 0..picture.width() {
-        let next = column_bits(picture, band, register, x);
-        if next == bits {
-            count += 1;
-        } else {
-            put_run(text, count, bits, out)?;
-            count = 1;
-            bits = next;
+    let mut from = 0;
+    while let Some(start) = find_repeat(sixels, from) {
+        let end = run_end(sixels, start);
+        // Blank columns at the end are left out.
+        if end == sixels.len() && sixels[start] == b'?' {
+            return put_part(text, sixels, from, start, out);
         }
+        put_until(text, sixels, from, start, end, out)?;
+        from = end;
     }
-    // Blank columns at the end are left out.
-    if bits == 0 {
-        return Ok(());
-    }
-    put_run(text, count, bits, out)
+    put_part(text, sixels, from, ink_end(sixels, from), out)
+}
+
+/// Puts columns as they stand.
+#[inline]
+fn put_part<K: Sink>(
+    text: &mut Text,
+    sixels: &[u8],
+    from: usize,
+    to: usize,
+    out: &mut K,
+) -> Result<(), DeviceFault>
+    requires ordered { from ≤ to }
+    requires within { to ≤ length sixels.now }
+    requires few { length sixels.now ≤ most_side }
+    ensures bytes { PutsAllOrNone result (in_all (K.taken out.old) text.old) (in_all (K.taken out.new) text.new)
+        (part from to sixels.now) }
+    ensures taken { TakesMore (K.taken out.old) (K.taken out.new) }
+    ensures unflushed { NeverFlushes (K.is_flushed out.old) (K.is_flushed out.new) }
+    ensures failures { CountsFailure result (K.failure_count out.old) (K.failure_count out.new) }
+{
+    text.put(&sixels[from..to], out)
+}
+
+/// Puts columns as they stand, and the repeat behind them.
+fn put_until<K: Sink>(
+    text: &mut Text,
+    sixels: &[u8],
+    from: usize,
+    start: usize,
+    end: usize,
+    out: &mut K,
+) -> Result<(), DeviceFault>
+    requires sixels { AreSixels sixels.now }
+    requires few { length sixels.now ≤ most_side }
+    requires ordered { from ≤ start }
+    requires repeat { start + 4 ≤ end }
+    requires within { end ≤ length sixels.now }
+    ensures bytes { Puts result (in_all (K.taken out.old) text.old) (in_all (K.taken out.new) text.new)
+        (part from start sixels.now ++ commands_text
+        (run_commands (record { count = end - start; item = slice_index sixels.now start - 63 }))) }
+    ensures taken { TakesMore (K.taken out.old) (K.taken out.new) }
+    ensures unflushed { NeverFlushes (K.is_flushed out.old) (K.is_flushed out.new) }
+    ensures failures { CountsFailure result (K.failure_count out.old) (K.failure_count out.new) }
+{
+    put_part(text, sixels, from, start, out)?;
+    put_repeat(text, (end - start) as u16, sixels[start] - b'?', out)
 }
 
 /// Puts so many columns of the same bits.
-fn put_run<K: Sink>(text: &mut Text, count: u16, bits: u8, out: &mut K) -> Result<(), DeviceFault>
-    requires { bits ≤ 63 }
+fn put_repeat<K: Sink>(
+    text: &mut Text,
+    count: u16,
+    bits: u8,
+    out: &mut K,
+) -> Result<(), DeviceFault>
+    requires count { 4 ≤ count }
+    requires bits { bits ≤ 63 }
     ensures bytes { PutsAllOrNone result (in_all (K.taken out.old) text.old) (in_all (K.taken out.new) text.new)
         (commands_text (run_commands (record { count = count; item = bits }))) }
     ensures taken { TakesMore (K.taken out.old) (K.taken out.new) }
     ensures unflushed { NeverFlushes (K.is_flushed out.old) (K.is_flushed out.new) }
     ensures failures { CountsFailure result (K.failure_count out.old) (K.failure_count out.new) }
 {
-    if count >= LEAST_REPEAT {
-        return put_command(text, Command::Repeat { count, bits }, out);
-    }
-    let sixels = [b'?' + bits; LEAST_REPEAT as usize - 1];
-    text.put(&sixels[..count as usize], out)
+    put_command(text, Command::Repeat { count, bits }, out)
 }

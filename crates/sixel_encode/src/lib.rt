@@ -4,6 +4,7 @@
 mod band;
 mod columns;
 pub mod laws;
+mod repeats;
 mod writing;
 
 pub use writing::{EncodeFault, encode};

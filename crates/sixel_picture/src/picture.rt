@@ -1,6 +1,6 @@
 //! A picture: its size, its palette, and a register for each pixel.
 
-ghost use Rattle.std.specs.Prelude.{◌≡◌, ◌<◌, ◌≤◌, ℕ, None, Some, MatchResult, length, nat_lt};
+ghost use Rattle.std.specs.Prelude.{◌≡◌, ◌<◌, ◌≤◌, ℕ, None, Some, MatchResult, length, nat_lt, slice_index};
 ghost use Rattle.std.specs.List.{list_all};
 ghost use Rattle.sixel_picture.specs.Pictures.{IsAnyPicture, picture_fault, picture_of_parts, register_of};
 ghost use Rattle.sixel_picture.specs.Profiles.{count_of};
@@ -164,6 +164,18 @@ impl Picture {
         ensures picture { IsAnyPicture self.now }
     {
         self.registers[y as usize * self.width as usize + x as usize]
+    }
+
+    /// The registers of a row, from the left.
+    pub fn row(&self, y: u32) -> &[u8]
+        requires inside { y < self.now.height }
+        ensures width { length result.now ≡ self.now.width }
+        ensures same { (x : ℕ) → x < self.now.width → slice_index result.now x ≡ register_of self.now x y }
+        ensures picture { IsAnyPicture self.now }
+    {
+        let width = self.width as usize;
+        let start = y as usize * width;
+        &self.registers[start..start + width]
     }
 
     /// The registers of the pixels, row by row.

@@ -1,0 +1,304 @@
+-- Bits that are added in the columns whose pixel is of a register, one by one and many at once.
+use Rattle.std.proofs.Common.{◌≡◌, ◌==◌, ℕ, ◌+◌, ◌*◌, ◌%◌, ◌^◌, ◌<◌, ◌≤◌, ◌-◌, Bool, true, false, ◌&&◌, ◌||◌, cond}
+use Rattle.std.proofs.Common.{List, [], ◌∷◌, length, get_or, set, map, replicate, w8, inl, inr, refl, sym, ap, ap₂, ◌∙◌}
+use Rattle.std.proofs.Common.{arith, not}
+use Rattle.std.specs.Prelude.{nat_le, nat_lt}
+use Rattle.std.specs.List.{list_any}
+use Rattle.std.proofs.Math.Bool.{or_assoc}
+use Rattle.std.proofs.Math.Pow.{pow_mono}
+use Rattle.std.proofs.lemmas.Bool.Decides.{nat_tests}
+use Rattle.std.proofs.lemmas.Bool.{cases_eq, cases_lt, eq-eqb, le-leb, lt-ltb, ne_eqb, or_right}
+use Rattle.std.proofs.lemmas.List.{ext_get_or, get_or-map, get_or-set_other, get_or-set_same, length-map}
+use Rattle.std.proofs.lemmas.List.FromFn.{get_or-map-range_with_len, length-range_with_len}
+use Rattle.std.proofs.lemmas.Simd.{length-put_chunk, get_or-put_chunk_below, get_or-put_chunk_at}
+use Rattle.std.proofs.lemmas.Simd.{get_or-put_chunk_above, length-replicate, get_or-replicate, length-chunk}
+use Rattle.std.proofs.lemmas.Simd.{get_or-chunk, length-zip2, get_or-zip2, tops_compared, length-sel_l, get_or-sel_l}
+use lib.Lanes.{chunk, put_chunk, sel_l, top, zip2}
+use Rattle.sixel_picture.specs.Pictures.{PictureValue, register_of}
+use Rattle.sixel_encode.specs.Canon.{all_columns, below, column_bits, has_pixel, occurs}
+use Rattle.sixel_encode.specs.Columns.{AreAdded, sixels_of}
+use Rattle.sixel_encode.proofs.BitLemmas.{any_then, bits_above, column_has, column_most, row_added, row_passed}
+use Rattle.sixel_encode.proofs.OccurLemmas.{occurs_is}
+use Rattle.sixel_encode.proofs.RangeLemmas.{InRange, any_range, range_any}
+
+pub added_none : (from to register bits : ℕ) (row xs : List ℕ) → to ≤ from → AreAdded from to register bits row xs xs
+added_none from to register bits row xs empty = record {
+  long = refl;
+  added = λ x lt. grind (arith, nat_tests);
+}
+
+-- the columns after those that were marked before
+pub added_more : (from mid to register bits : ℕ) (row old before new : List ℕ) → from ≤ mid → mid ≤ to
+    → AreAdded from mid register bits row old before → AreAdded mid to register bits row before new
+    → AreAdded from to register bits row old new
+added_more from mid to register bits row old before new low high first second = record {
+  long = second.long ∙ first.long;
+  added = λ x lt.
+      let in_before : x < length before = omega (arith, first.long) in
+      let a = first.added x lt in
+      let b = second.added x in_before in
+      grind (arith, nat_tests);
+}
+
+-- the marks of a group of pixels
+abbrev pub marks_of : ℕ → ℕ → List ℕ → List ℕ
+marks_of register bits v =
+    sel_l (map (top 7) (zip2 (λ a b. cond (a == b) 255 0) v (replicate 32 register))) (replicate 32 bits) (replicate 32 0)
+
+tests_are : (register : ℕ) (v : List ℕ)
+    → map (top 7) (zip2 (λ a b. cond (a == b) 255 0) v (replicate 32 register)) ≡ zip2 (λ a b. a == b) v (replicate 32 register)
+tests_are register v = tops_compared w8 (λ a b. a == b) v (replicate 32 register)
+
+pub length-marks : (register bits : ℕ) (v : List ℕ) → length v ≡ 32 → length (marks_of register bits v) ≡ 32
+length-marks register bits v long =
+    let tests = zip2 (λ (a b : ℕ). a == b) v (replicate 32 register) in
+    let wide : length tests ≡ 32 =
+    length-zip2 (λ (a b : ℕ). a == b) v (replicate 32 register) (long ∙ sym (length-replicate 32 register)) ∙ long in
+    ap (λ ms. length (sel_l ms (replicate 32 bits) (replicate 32 0))) (tests_are register v)
+    ∙ length-sel_l tests (replicate 32 bits) (replicate 32 0) (wide ∙ sym (length-replicate 32 bits))
+    (wide ∙ sym (length-replicate {A = ℕ} 32 0)) ∙ wide
+
+pub mark_at : (register bits j : ℕ) (v : List ℕ) → length v ≡ 32 → j < 32
+    → get_or (marks_of register bits v) j 0 ≡ cond (get_or v j 0 == register) bits 0
+mark_at register bits j v long small =
+    let tests = zip2 (λ (a b : ℕ). a == b) v (replicate 32 register) in
+    let wide : length tests ≡ 32 =
+    length-zip2 (λ (a b : ℕ). a == b) v (replicate 32 register) (long ∙ sym (length-replicate 32 register)) ∙ long in
+    let in_tests : j < length tests = omega (arith, wide) in
+    let in_v : j < length v = omega (arith, long) in
+    let in_bits : j < length (replicate 32 bits) = omega (arith, length-replicate 32 bits) in
+    let in_zero : j < length (replicate {A = ℕ} 32 0) = omega (arith, length-replicate {A = ℕ} 32 0) in
+    let in_register : j < length (replicate 32 register) = omega (arith, length-replicate 32 register) in
+    let test : get_or tests j false ≡ (get_or v j 0 == register) =
+    get_or-zip2 (λ (a b : ℕ). a == b) v (replicate 32 register) j 0 0 false in_v in_register
+    ∙ ap (λ r. get_or v j 0 == r) (get_or-replicate 32 j register 0 small) in
+    ap (λ ms. get_or (sel_l ms (replicate 32 bits) (replicate 32 0)) j 0) (tests_are register v)
+    ∙ get_or-sel_l tests (replicate 32 bits) (replicate 32 0) j 0 in_tests in_bits in_zero
+    ∙ ap₂ (λ (a b : ℕ). cond (get_or tests j false) a b) (get_or-replicate 32 j bits 0 small) (get_or-replicate 32 j 0 0 small)
+    ∙ ap (λ (t : Bool). cond t bits 0) test
+
+-- bytes are added as they are in a register of eight bits
+abbrev pub plus : ℕ → ℕ → ℕ
+plus a b = (a + b) % 256
+
+add_choice : (t : Bool) (b bits : ℕ) → b < 256 → plus b (cond t bits 0) ≡ cond t (plus b bits) b
+add_choice true b bits small = refl
+add_choice false b bits small = omega arith
+
+-- a group of columns
+pub added_group : (at register bits : ℕ) (row old : List ℕ) → at + 32 ≤ length old → at + 32 ≤ length row
+    → ((k : ℕ) → get_or old k 0 < 256)
+    → AreAdded at (at + 32) register bits row old
+    (put_chunk at old (zip2 plus (chunk at 32 old) (marks_of register bits (chunk at 32 row))))
+added_group at register bits row old room pixels bytes =
+    let v = chunk at 32 row in
+    let long_v : length v ≡ 32 = length-chunk at 32 row pixels in
+    let loaded : length (chunk at 32 old) ≡ 32 = length-chunk at 32 old room in
+    let marks : length (marks_of register bits v) ≡ 32 = length-marks register bits v long_v in
+    let group = zip2 plus (chunk at 32 old) (marks_of register bits v) in
+    let long : length group ≡ 32 = length-zip2 plus (chunk at 32 old) (marks_of register bits v) (loaded ∙ sym marks) ∙ loaded in
+    let fits : at + length group ≤ length old = omega (arith, long) in
+    let each : (j : ℕ) → j < 32 → get_or group j 0
+    ≡ cond (get_or row (at + j) 0 == register) ((get_or old (at + j) 0 + bits) % 256) (get_or old (at + j) 0) = λ j lt.
+    let in_old : j < length (chunk at 32 old) = omega (arith, loaded) in
+    let in_marks : j < length (marks_of register bits v) = omega (arith, marks) in
+    get_or-zip2 plus (chunk at 32 old) (marks_of register bits v) j 0 0 0 in_old in_marks
+    ∙ ap₂ plus (get_or-chunk at 32 old j 0 lt)
+    (mark_at register bits j v long_v lt
+    ∙ ap (λ (r : ℕ). cond (r == register) bits 0) (get_or-chunk at 32 row j 0 lt))
+    ∙ add_choice (get_or row (at + j) 0 == register) (get_or old (at + j) 0) bits (bytes (at + j)) in
+    record {
+      long = length-put_chunk at old group;
+      added = λ x lt. elim (cases_lt x at) [
+        | inl below ↦
+            let kept : get_or (put_chunk at old group) x 0 ≡ get_or old x 0 =
+            get_or-put_chunk_below at old group x 0 below in
+            grind (arith, nat_tests)
+        | inr from ↦ elim (cases_lt x (at + 32)) [
+          | inl to ↦
+              let back : at + (x - at) ≡ x = omega arith in
+              let few : x - at < 32 = omega arith in
+              let inner : x - at < length group = omega (arith, long) in
+              let written : get_or (put_chunk at old group) x 0
+              ≡ cond (get_or row x 0 == register) ((get_or old x 0 + bits) % 256) (get_or old x 0) =
+              ap (λ k. get_or (put_chunk at old group) k 0) (sym back)
+              ∙ get_or-put_chunk_at at old group (x - at) 0 inner fits
+              ∙ each (x - at) few
+              ∙ ap (λ k. cond (get_or row k 0 == register) ((get_or old k 0 + bits) % 256) (get_or old k 0)) back in
+              written ∙ ap₂ (λ (a b : Bool). cond (a && (b && (get_or row x 0 == register))) ((get_or old x 0 + bits) % 256) (get_or old x 0))
+              (sym (le-leb at x from)) (sym (lt-ltb x (at + 32) to))
+          | inr above ↦
+              let past : at + length group ≤ x = omega (arith, long) in
+              let kept : get_or (put_chunk at old group) x 0 ≡ get_or old x 0 =
+              get_or-put_chunk_above at old group x 0 past in
+              grind (arith, nat_tests)
+        ]
+      ];
+    }
+
+-- ---- the bits of a register, row by row
+
+-- no pixel of a row past the picture
+pub no_pixel : (p : PictureValue) (band register x row : ℕ) → p.height ≤ 6 * band + row
+    → has_pixel p band register x row ≡ false
+no_pixel p band register x row past =
+    let out : nat_lt (6 * band + row) p.height ≡ false = search (arith, nat_tests) in
+    ap (λ (t : Bool). t && (register_of p x (6 * band + row) == register)) out
+
+-- what the first rows of a column spell
+abbrev pub Spells : PictureValue → ℕ → ℕ → ℕ → ℕ → ℕ → Type 0
+Spells p band register x row sixel =
+    (sixel ≡ 63 + bits_above p band register x row) × (bits_above p band register x row < 2 ^ row)
+
+-- the bits up to a row are below 64
+most_bits : (row : ℕ) → row < 6 → 2 ^ (row + 1) ≤ 64
+most_bits row small = let high : row + 1 ≤ 6 = omega arith in pow_mono {i = row + 1} {j = 6} high
+
+row_step : (p : PictureValue) (band register x row sixel : ℕ) (t : Bool) → row < 6
+    → has_pixel p band register x row ≡ t → Spells p band register x row sixel
+    → Spells p band register x (row + 1) (cond t (plus sixel (1 * 2 ^ row % 256)) sixel)
+row_step p band register x row sixel true small here before =
+    let more = row_added p band register x row (bits_above p band register x row) small here refl before.1 in
+    let fits : bits_above p band register x row + 1 * 2 ^ row % 256 < 64 = omega (arith, most_bits row small) in
+    (omega arith, rw (sym more.0) more.1)
+row_step p band register x row sixel false small gone before =
+    let same = row_passed p band register x row (bits_above p band register x row) gone refl before.1 in
+    (omega arith, rw (sym same.0) same.1)
+
+-- a row that lies in the picture
+pub row_found : (p : PictureValue) (band register row : ℕ) (pixels old new : List ℕ) → row < 6
+    → 6 * band + row < p.height → length pixels ≡ p.width → length old ≡ p.width
+    → ((x : ℕ) → x < p.width → get_or pixels x 0 ≡ register_of p x (6 * band + row))
+    → ((x : ℕ) → x < p.width → Spells p band register x row (get_or old x 0))
+    → AreAdded 0 (length pixels) register (1 * 2 ^ row % 256) pixels old new
+    → (x : ℕ) → x < p.width → Spells p band register x (row + 1) (get_or new x 0)
+row_found p band register row pixels old new small inside wide long same before adds x lt =
+    let in_old : x < length old = omega arith in
+    let in_pixels : x < length pixels = omega arith in
+    let b = get_or old x 0 in
+    let has : (nat_le 0 x && (nat_lt x (length pixels) && (get_or pixels x 0 == register)))
+    ≡ has_pixel p band register x row =
+    ap₂ (λ (a t : Bool). a && (t && (get_or pixels x 0 == register)))
+    (le-leb 0 x (omega arith)) (lt-ltb x (length pixels) in_pixels)
+    ∙ ap₂ (λ (t : Bool) (r : ℕ). t && (r == register)) (sym (lt-ltb (6 * band + row) p.height inside)) (same x lt) in
+    let written : get_or new x 0 ≡ cond (has_pixel p band register x row) (plus b (1 * 2 ^ row % 256)) b =
+    adds.added x in_old ∙ ap (λ (t : Bool). cond t (plus b (1 * 2 ^ row % 256)) b) has in
+    rw written (row_step p band register x row b (has_pixel p band register x row) small refl (before x lt))
+
+-- and one that doesn't
+pub row_missing : (p : PictureValue) (band register row sixel x : ℕ) → row < 6 → p.height ≤ 6 * band + row
+    → Spells p band register x row sixel → Spells p band register x (row + 1) sixel
+row_missing p band register row sixel x small past before =
+    row_step p band register x row sixel false small (no_pixel p band register x row past) before
+
+-- the sixels of all columns
+pub sixels_found : (p : PictureValue) (band register : ℕ) (sixels : List ℕ) → length sixels ≡ p.width
+    → ((x : ℕ) → x < p.width → Spells p band register x 6 (get_or sixels x 0))
+    → sixels ≡ sixels_of (all_columns p band register)
+unfolding column_bits
+sixels_found p band register sixels long spelled =
+    let f = column_bits p band register in
+    let wide : length (all_columns p band register) ≡ p.width =
+    length-map (below p.width) f ∙ length-range_with_len 0 p.width in
+    let all : length (sixels_of (all_columns p band register)) ≡ p.width =
+    length-map (all_columns p band register) (λ bits. 63 + bits) ∙ wide in
+    ext_get_or 0 sixels (sixels_of (all_columns p band register)) (long ∙ sym all)
+    (λ x lt.
+    let inside : x < p.width = omega arith in
+    let within : x < length (all_columns p band register) = omega arith in
+    (spelled x inside).0
+    ∙ ap (λ b. 63 + b) (sym (get_or-map-range_with_len f 0 p.width x x 0 inside (omega arith)))
+    ∙ sym (get_or-map (λ bits. 63 + bits) (all_columns p band register) x 0 0 within))
+
+-- each of them has six bits
+pub columns_most : (p : PictureValue) (band register x : ℕ) → x < length (all_columns p band register)
+    → get_or (all_columns p band register) x 0 ≤ 63
+columns_most p band register x lt =
+    let f = column_bits p band register in
+    let inside : x < p.width = omega (arith, length-map (below p.width) f, length-range_with_len 0 p.width) in
+    rw (get_or-map-range_with_len f 0 p.width x x 0 inside (omega arith)) (column_most p band register x)
+
+-- ---- the registers of a band, row by row
+
+or_none : (a b t : Bool) → t ≡ false → a ≡ b → a ≡ (b || t)
+or_none a true t e h = h
+or_none a false t e h = h ∙ sym e
+
+-- one more pixel is noted
+pub pixel_noted : (p : PictureValue) (band row x n : ℕ) (old now : List Bool) (register : ℕ) → n < length now
+    → n ≡ register_of p x (6 * band + row) → 6 * band + row < p.height
+    → get_or now register false
+    ≡ (get_or old register false || list_any (λ i. has_pixel p band register i row) (below x))
+    → get_or (set now n true) register false
+    ≡ (get_or old register false || list_any (λ i. has_pixel p band register i row) (below (x + 1)))
+pixel_noted p band row x n old now register room is inside before =
+    let q : ℕ → Bool = λ i. has_pixel p band register i row in
+    let o = get_or old register false in
+    let inner : nat_lt (6 * band + row) p.height ≡ true = lt-ltb _ _ inside in
+    let has : q x ≡ (n == register) =
+    ap₂ (λ (t : Bool) (r : ℕ). t && (r == register)) inner (sym is) in
+    let more : ((o || list_any q (below x)) || q x) ≡ (o || list_any q (below (x + 1))) =
+    or_assoc o (list_any q (below x)) (q x) ∙ ap (λ (t : Bool). o || t) (sym (any_then q x)) in
+    elim (cases_eq n register) [
+      | inl same ↦
+          let here : q x ≡ true = has ∙ eq-eqb n register same in
+          ap (λ (r : ℕ). get_or (set now n true) r false) (sym same)
+          ∙ get_or-set_same now n true false room
+          ∙ sym (or_right (o || list_any q (below x)) (q x) here) ∙ more
+      | inr other ↦
+          let gone : q x ≡ false = has ∙ ne_eqb n register other in
+          get_or-set_other now n register true false (λ e. other (sym e))
+          ∙ or_none (get_or now register false) (o || list_any q (below x)) (q x) gone before ∙ more
+    ]
+
+any_none : (q : ℕ → Bool) (xs : List ℕ) → ((x : ℕ) → q x ≡ false) → list_any q xs ≡ false
+any_none q [] h = refl
+any_none q (x ∷ xs) h = rw (h x) (any_none q xs h)
+
+-- a row past the picture has none
+pub row_empty : (p : PictureValue) (band register row : ℕ) (b : Bool) → p.height ≤ 6 * band + row
+    → b ≡ list_any (λ k. list_any (λ x. has_pixel p band register x k) (below p.width)) (below row)
+    → b ≡ list_any (λ k. list_any (λ x. has_pixel p band register x k) (below p.width)) (below (row + 1))
+row_empty p band register row b past is =
+    let r : ℕ → Bool = λ k. list_any (λ x. has_pixel p band register x k) (below p.width) in
+    or_none b (list_any r (below row)) (r row)
+    (any_none (λ x. has_pixel p band register x row) (below p.width) (λ x. no_pixel p band register x row past)) is
+    ∙ sym (any_then r row)
+
+pub row_joined : (p : PictureValue) (band register row : ℕ) (b new : Bool)
+    → b ≡ list_any (λ k. list_any (λ x. has_pixel p band register x k) (below p.width)) (below row)
+    → new ≡ (b || list_any (λ x. has_pixel p band register x row) (below p.width))
+    → new ≡ list_any (λ k. list_any (λ x. has_pixel p band register x k) (below p.width)) (below (row + 1))
+row_joined p band register row b new is more =
+    let r : ℕ → Bool = λ k. list_any (λ x. has_pixel p band register x k) (below p.width) in
+    more ∙ ap (λ (t : Bool). t || r row) is ∙ sym (any_then r row)
+
+same_bool : (a b : Bool) → (a ≡ true → b ≡ true) → (b ≡ true → a ≡ true) → a ≡ b
+same_bool true b f g = sym (f refl)
+same_bool false true f g = g refl
+same_bool false false f g = refl
+
+-- by rows or by columns
+any_turned : (q : ℕ → ℕ → Bool) (n m : ℕ)
+    → list_any (λ k. list_any (λ x. q x k) (below n)) (below m) ≡ true
+    → list_any (λ x. list_any (λ k. q x k) (below m)) (below n) ≡ true
+any_turned q n m h =
+    let row : InRange 0 m (λ k. list_any (λ x. q x k) (below n)) = range_any m 0 _ h in
+    let column : InRange 0 n (λ x. q x row.number) = range_any n 0 _ row.passes in
+    any_range n 0 column.number (λ x. list_any (λ k. q x k) (below m)) column.from column.under
+    (any_range m 0 row.number (λ k. q column.number k) row.from row.under column.passes)
+
+any_same : (f g : ℕ → Bool) (xs : List ℕ) → ((x : ℕ) → f x ≡ g x) → list_any f xs ≡ list_any g xs
+any_same f g [] h = refl
+any_same f g (x ∷ xs) h = ap₂ (λ (a b : Bool). a || b) (h x) (any_same f g xs h)
+
+pub rows_occur : (p : PictureValue) (band register : ℕ)
+    → list_any (λ k. list_any (λ x. has_pixel p band register x k) (below p.width)) (below 6) ≡ occurs p band register
+rows_occur p band register =
+    let q : ℕ → ℕ → Bool = has_pixel p band register in
+    same_bool (list_any (λ k. list_any (λ x. q x k) (below p.width)) (below 6))
+    (list_any (λ x. list_any (λ k. q x k) (below 6)) (below p.width))
+    (any_turned q p.width 6) (any_turned (λ x k. q k x) 6 p.width)
+    ∙ any_same (λ x. list_any (q x) (below 6)) (λ x. not (column_bits p band register x == 0)) (below p.width)
+    (column_has p band register)
+    ∙ sym (occurs_is p band register)

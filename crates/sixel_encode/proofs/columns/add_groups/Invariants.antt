@@ -1,0 +1,6 @@
+use Rattle.std.proofs.Common.{◌*◌}
+use Rattle.sixel_encode.specs.Columns.{AreAdded}
+use Rattle.sixel_encode.proofs.columns.add_groups.Given as goal
+
+abbrev pub invariant-loop-group : goal.invariant-loop-group
+invariant-loop-group l = AreAdded 0 (l.group * 32) l.register l.bit l.row l.initial.sixels l.sixels

@@ -1,0 +1,64 @@
+-- The sixels of a register in the columns of a band, as a list of bytes.
+use Rattle.std.specs.Prelude.{◌≡◌, ◌≢◌, ◌==◌, ◌&&◌, ◌%◌, ℕ, ◌+◌, ◌-◌, ◌<◌, ◌≤◌, Bool, true, false, Option, List, drop}
+use Rattle.std.specs.Prelude.{length, map, nat_le, nat_lt, slice_index, take, if◌then◌else◌}
+use Rattle.std.specs.Option.{MatchOption}
+
+-- the bytes that spell columns of these bits
+abbrev pub sixels_of : List ℕ → List ℕ
+sixels_of columns = map (λ bits. 63 + bits) columns
+
+-- the bits that bytes spell
+abbrev pub columns_of : List ℕ → List ℕ
+columns_of sixels = map (λ sixel. sixel - 63) sixels
+
+-- each byte spells six bits
+abbrev pub AreSixels : List ℕ → Type 0
+AreSixels sixels =
+    (x : ℕ) → x < length sixels → (63 ≤ slice_index sixels x) × (slice_index sixels x ≤ 126)
+
+-- the bit is added in the columns from `from` up to `to` whose pixel is of the register, and the others are as before
+pub record AreAdded (from to register bit : ℕ) (row old new : List ℕ) : Type 0 where
+  pub long : length new ≡ length old
+  pub added : (x : ℕ) → x < length old
+      → slice_index new x ≡ (if nat_le from x && (nat_lt x to && (slice_index row x == register))
+      then (slice_index old x + bit) % 256 else slice_index old x)
+
+-- ---- repeats
+
+-- four equal bytes stand here
+abbrev pub are_four : List ℕ → ℕ → Bool
+are_four bytes k = (slice_index bytes k == slice_index bytes (k + 1))
+    && ((slice_index bytes k == slice_index bytes (k + 2)) && (slice_index bytes k == slice_index bytes (k + 3)))
+
+-- from none of the places from `from` up to `to` on four equal bytes stand
+abbrev pub NoFour : ℕ → ℕ → List ℕ → Type 0
+NoFour from to bytes = (k : ℕ) → from ≤ k → k < to → k + 3 < length bytes → are_four bytes k ≡ false
+
+-- the first place from `from` on at which four equal bytes stand
+pub record IsRepeatAt (from : ℕ) (bytes : List ℕ) (start : ℕ) : Type 0 where
+  pub after : from ≤ start
+  pub within : start + 3 < length bytes
+  pub four : are_four bytes start ≡ true
+  pub before : NoFour from start bytes
+
+-- the same, if there is one
+abbrev pub IsRepeat : ℕ → List ℕ → Option ℕ → Type 0
+IsRepeat from bytes found = MatchOption found (NoFour from (length bytes) bytes) (IsRepeatAt from bytes)
+
+-- the bytes from `start` up to `end` are equal, and the next one is another, if there is one
+pub record IsRun (start end : ℕ) (bytes : List ℕ) : Type 0 where
+  pub some : start < end
+  pub within : end ≤ length bytes
+  pub equal : (k : ℕ) → start ≤ k → k < end → slice_index bytes k ≡ slice_index bytes start
+  pub ends : end < length bytes → slice_index bytes end ≢ slice_index bytes start
+
+-- the bytes from `end` on are blank, and the last one before them that comes after `from` isn't
+pub record IsInkEnd (from end : ℕ) (bytes : List ℕ) : Type 0 where
+  pub after : from ≤ end
+  pub within : end ≤ length bytes
+  pub blank : (k : ℕ) → end ≤ k → k < length bytes → slice_index bytes k ≡ 63
+  pub ink : from < end → slice_index bytes (end - 1) ≢ 63
+
+-- the bytes from `from` up to `to`
+abbrev pub part : ℕ → ℕ → List ℕ → List ℕ
+part from to bytes = take (to - from) (drop from bytes)
