@@ -43,10 +43,12 @@ added_more from mid to register bits row old before new low high first second = 
 -- the marks of a group of pixels
 abbrev pub marks_of : ℕ → ℕ → List ℕ → List ℕ
 marks_of register bits v =
-    sel_l (map (top 7) (zip2 (λ a b. cond (a == b) 255 0) v (replicate 32 register))) (replicate 32 bits) (replicate 32 0)
+    sel_l (map (top 7) (zip2 (λ a b. cond (a == b) 255 0) v (replicate 32 register))) (replicate 32 bits)
+    (replicate 32 0)
 
 tests_are : (register : ℕ) (v : List ℕ)
-    → map (top 7) (zip2 (λ a b. cond (a == b) 255 0) v (replicate 32 register)) ≡ zip2 (λ a b. a == b) v (replicate 32 register)
+    → map (top 7) (zip2 (λ a b. cond (a == b) 255 0) v (replicate 32 register))
+    ≡ zip2 (λ a b. a == b) v (replicate 32 register)
 tests_are register v = tops_compared w8 (λ a b. a == b) v (replicate 32 register)
 
 pub length-marks : (register bits : ℕ) (v : List ℕ) → length v ≡ 32 → length (marks_of register bits v) ≡ 32
@@ -74,7 +76,8 @@ mark_at register bits j v long small =
     ∙ ap (λ r. get_or v j 0 == r) (get_or-replicate 32 j register 0 small) in
     ap (λ ms. get_or (sel_l ms (replicate 32 bits) (replicate 32 0)) j 0) (tests_are register v)
     ∙ get_or-sel_l tests (replicate 32 bits) (replicate 32 0) j 0 in_tests in_bits in_zero
-    ∙ ap₂ (λ (a b : ℕ). cond (get_or tests j false) a b) (get_or-replicate 32 j bits 0 small) (get_or-replicate 32 j 0 0 small)
+    ∙ ap₂ (λ (a b : ℕ). cond (get_or tests j false) a b)
+    (get_or-replicate 32 j bits 0 small) (get_or-replicate 32 j 0 0 small)
     ∙ ap (λ (t : Bool). cond t bits 0) test
 
 -- bytes are added as they are in a register of eight bits
@@ -96,7 +99,8 @@ added_group at register bits row old room pixels bytes =
     let loaded : length (chunk at 32 old) ≡ 32 = length-chunk at 32 old room in
     let marks : length (marks_of register bits v) ≡ 32 = length-marks register bits v long_v in
     let group = zip2 plus (chunk at 32 old) (marks_of register bits v) in
-    let long : length group ≡ 32 = length-zip2 plus (chunk at 32 old) (marks_of register bits v) (loaded ∙ sym marks) ∙ loaded in
+    let long : length group ≡ 32 =
+    length-zip2 plus (chunk at 32 old) (marks_of register bits v) (loaded ∙ sym marks) ∙ loaded in
     let fits : at + length group ≤ length old = omega (arith, long) in
     let each : (j : ℕ) → j < 32 → get_or group j 0
     ≡ cond (get_or row (at + j) 0 == register) ((get_or old (at + j) 0 + bits) % 256) (get_or old (at + j) 0) = λ j lt.
@@ -125,7 +129,9 @@ added_group at register bits row old room pixels bytes =
               ∙ get_or-put_chunk_at at old group (x - at) 0 inner fits
               ∙ each (x - at) few
               ∙ ap (λ k. cond (get_or row k 0 == register) ((get_or old k 0 + bits) % 256) (get_or old k 0)) back in
-              written ∙ ap₂ (λ (a b : Bool). cond (a && (b && (get_or row x 0 == register))) ((get_or old x 0 + bits) % 256) (get_or old x 0))
+              written
+              ∙ ap₂ (λ (a b : Bool). cond (a && (b && (get_or row x 0 == register)))
+              ((get_or old x 0 + bits) % 256) (get_or old x 0))
               (sym (le-leb at x from)) (sym (lt-ltb x (at + 32) to))
           | inr above ↦
               let past : at + length group ≤ x = omega (arith, long) in

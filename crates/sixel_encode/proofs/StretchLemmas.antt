@@ -228,31 +228,6 @@ sixels_are cs most k lt =
 
 -- ---- what is put, one stretch and repeat after another
 
--- four equal columns are at most as many as the run has
-pub run_long : (start end : ℕ) (xs : List ℕ) → start + 3 < length xs → are_four xs start ≡ true → IsRun start end xs
-    → start + 4 ≤ end
-run_long start end xs room four run = elim (cases_lt end (start + 4)) [
-  | inr past ↦ past
-  | inl before ↦
-      let some = run.some in
-      let inside : end < length xs = omega arith in
-      let other = run.ends inside in
-      let parts = and_parts _ _ four in
-      let more = and_parts _ _ parts.1 in
-      let one : get_or xs start 0 ≡ get_or xs (start + 1) 0 = eqb-true _ _ parts.0 in
-      let two : get_or xs start 0 ≡ get_or xs (start + 2) 0 = eqb-true _ _ more.0 in
-      let three : get_or xs start 0 ≡ get_or xs (start + 3) 0 = eqb-true _ _ more.1 in
-      elim (cases_eq end (start + 1)) [
-        | inl e ↦ absurd (other (ap (λ (n : ℕ). get_or xs n 0) e ∙ sym one))
-        | inr n1 ↦ elim (cases_eq end (start + 2)) [
-          | inl e ↦ absurd (other (ap (λ (n : ℕ). get_or xs n 0) e ∙ sym two))
-          | inr n2 ↦
-              let e : end ≡ start + 3 = omega arith in
-              absurd (other (ap (λ (n : ℕ). get_or xs n 0) e ∙ sym three))
-        ]
-      ]
-]
-
 -- the columns of a run, by their bits
 run_bits : (start end : ℕ) (cs : List ℕ) → IsRun start end (sixels_of cs)
     → (k : ℕ) → start ≤ k → k < end → get_or cs k 0 ≡ get_or cs start 0
@@ -339,7 +314,8 @@ last_of xs from start low next blank = λ also.
     let v1 : get_or xs (k + 2) 0 ≡ 63 = ap (λ (n : ℕ). get_or xs n 0) at1 ∙ sym (eqb-true _ _ parts.0) ∙ blank in
     let v2 : get_or xs (k + 3) 0 ≡ 63 = ap (λ (n : ℕ). get_or xs n 0) at2 ∙ sym (eqb-true _ _ more.0) ∙ blank in
     let all : are_four xs k ≡ true =
-    and_from _ _ (eq-eqb _ _ (also ∙ sym v0)) (and_from _ _ (eq-eqb _ _ (also ∙ sym v1)) (eq-eqb _ _ (also ∙ sym v2))) in
+    and_from _ _ (eq-eqb _ _ (also ∙ sym v0))
+    (and_from _ _ (eq-eqb _ _ (also ∙ sym v1)) (eq-eqb _ _ (also ∙ sym v2))) in
     let room = next.within in
     let none : are_four xs k ≡ false = next.before k (omega arith) (omega arith) (omega arith) in
     cc (all, none)

@@ -41,9 +41,9 @@ pub record IsRepeatAt (from : ℕ) (bytes : List ℕ) (start : ℕ) : Type 0 whe
   pub four : are_four bytes start ≡ true
   pub before : NoFour from start bytes
 
--- the same, if there is one
-abbrev pub IsRepeat : ℕ → List ℕ → Option ℕ → Type 0
-IsRepeat from bytes found = MatchOption found (NoFour from (length bytes) bytes) (IsRepeatAt from bytes)
+-- the same, if there is one before `to`
+abbrev pub IsRepeat : ℕ → ℕ → List ℕ → Option ℕ → Type 0
+IsRepeat from to bytes found = MatchOption found (NoFour from to bytes) (IsRepeatAt from bytes)
 
 -- the bytes from `start` up to `end` are equal, and the next one is another, if there is one
 pub record IsRun (start end : ℕ) (bytes : List ℕ) : Type 0 where

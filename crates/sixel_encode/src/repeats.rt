@@ -1,10 +1,9 @@
 //! Where columns of the same bits stand in a row of sixels.
 
-ghost use Rattle.std.specs.Prelude.{◌≡◌, ◌==◌, ◌+◌, ◌<◌, ◌≤◌, length, not};
+ghost use Rattle.std.specs.Prelude.{◌≡◌, ◌==◌, ◌+◌, ◌<◌, ◌≤◌, drop, length, not, take, true};
 ghost use Rattle.std.specs.List.{prefix_len};
-ghost use Rattle.std.specs.Prelude.{drop, take};
 ghost use Rattle.sixel_picture.specs.Lanes.{IsFirst};
-ghost use Rattle.sixel_encode.specs.Columns.{IsInkEnd, IsRepeat, IsRun, are_four};
+ghost use Rattle.sixel_encode.specs.Columns.{IsInkEnd, IsRepeat, IsRun, NoFour, are_four};
 
 use std::simd::prelude::*;
 
@@ -17,7 +16,56 @@ const LEAST_REPEAT: usize = 4;
 /// Where the first repeat from `from` on begins.
 pub(crate) fn find_repeat(sixels: &[u8], from: usize) -> Option<usize>
     requires { from ≤ length sixels.now }
-    ensures { IsRepeat from sixels.now result }
+    ensures { IsRepeat from (length sixels.now) sixels.now result }
+{
+    let places = sixels.len().saturating_sub(LEAST_REPEAT - 1);
+    let groups = places.saturating_sub(from) / LANES;
+    for group in 0..groups {
+        if let Some(start) = repeat_in_group(sixels, from + group * LANES) {
+            return Some(start);
+        }
+    }
+    repeat_in_rest(sixels, from + groups * LANES)
+}
+
+#[inline]
+fn repeat_in_group(sixels: &[u8], at: usize) -> Option<usize>
+    requires { at + LANES + 3 ≤ length sixels.now }
+    ensures { IsRepeat at (at + LANES) sixels.now result }
+{
+    let count = singles_in_group(sixels, at);
+    if count < LANES {
+        Some(at + count)
+    } else {
+        None
+    }
+}
+
+/// How many columns of the group from `at` on come before the first at which a repeat begins.
+#[inline]
+fn singles_in_group(sixels: &[u8], at: usize) -> usize
+    requires { at + LANES + 3 ≤ length sixels.now }
+    ensures most { result ≤ LANES }
+    ensures singles { NoFour at (at + result) sixels.now }
+    ensures repeat { result < LANES → are_four sixels.now (at + result) ≡ true }
+{
+    let (one, zero) = (u8x32::splat(1), u8x32::splat(0));
+    let first = u8x32::from_slice(&sixels[at..]);
+    let second = first.simd_eq(u8x32::from_slice(&sixels[at + 1..]));
+    let third = first.simd_eq(u8x32::from_slice(&sixels[at + 2..]));
+    let fourth = first.simd_eq(u8x32::from_slice(&sixels[at + 3..]));
+    let four = second.select(third.select(fourth.select(one, zero), zero), zero);
+    let begun = four.simd_eq(one).to_bitmask();
+    if begun == 0 {
+        LANES
+    } else {
+        begun.trailing_zeros() as usize
+    }
+}
+
+fn repeat_in_rest(sixels: &[u8], from: usize) -> Option<usize>
+    requires { from ≤ length sixels.now }
+    ensures { IsRepeat from (length sixels.now) sixels.now result }
 {
     for start in from..sixels.len().saturating_sub(LEAST_REPEAT - 1) {
         if is_repeat(sixels, start) {

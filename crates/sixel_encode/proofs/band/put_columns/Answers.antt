@@ -1,4 +1,5 @@
-use Rattle.std.proofs.Common.{◌≡◌, ◌≢◌, ◌++◌, ◌-◌, List, [], drop, get_or, length, refl, sym, ap, ◌∙◌, arith, append_assoc}
+use Rattle.std.proofs.Common.{◌≡◌, ◌≢◌, ◌++◌, ◌-◌, List, [], drop, get_or, length, refl, sym, ap, ◌∙◌, arith}
+use Rattle.std.proofs.Common.{append_assoc}
 use Rattle.std.proofs.lemmas.Result.{err_from_is_err_and}
 use Rattle.sixel_grammar.specs.Blocks.{in_all}
 use Rattle.sixel_grammar.proofs.DeviceLemmas.{Appends-then, TakesMore-refl, TakesMore-then}
@@ -81,7 +82,8 @@ loop-start-preserved g c =
         inv.2 ∙ ap (λ (t : List _). inv.0 ++ t) more ∙ sym (append_assoc inv.0 all rest),
       );
       within = c.run_end-end.ensures.within;
-      taken = TakesMore-then _ (g.K.Sink.taken c.loop-start.out) _ c.loop-start.invariant.taken c.put_until.ensures.taken;
+      taken = TakesMore-then _
+          (g.K.Sink.taken c.loop-start.out) _ c.loop-start.invariant.taken c.put_until.ensures.taken;
       unflushed = λ t. c.loop-start.invariant.unflushed (c.put_until.ensures.unflushed t);
       failures = cc (c.in_ok-put_until.ensures.failures, c.loop-start.invariant.failures);
     }
