@@ -1,25 +1,23 @@
 -- Bits that are added in the columns whose pixel is of a register, one by one and many at once.
-use Rattle.std.proofs.Common.{◌≡◌, ◌==◌, ℕ, ◌+◌, ◌*◌, ◌%◌, ◌^◌, ◌<◌, ◌≤◌, ◌-◌, Bool, true, false, ◌&&◌, ◌||◌, cond}
-use Rattle.std.proofs.Common.{List, [], ◌∷◌, length, get_or, set, map, replicate, w8, inl, inr, refl, sym, ap, ap₂, ◌∙◌}
-use Rattle.std.proofs.Common.{arith, not}
+use Rattle.std.proofs.Common.{◌≡◌, ◌≢◌, ◌==◌, ℕ, ◌+◌, ◌*◌, ◌%◌, ◌/◌, ◌^◌, ◌<◌, ◌≤◌, ◌-◌, Bool, true, false, ◌&&◌, cond}
+use Rattle.std.proofs.Common.{List, length, get_or, map, replicate, w8, inl, inr, refl, sym, ap, ap₂, ◌∙◌}
+use Rattle.std.proofs.Common.{arith, subst}
 use Rattle.std.specs.Prelude.{nat_le, nat_lt}
-use Rattle.std.specs.List.{list_any}
-use Rattle.std.proofs.Math.Bool.{or_assoc}
+use Rattle.std.specs.Int.{bit_at}
 use Rattle.std.proofs.Math.Pow.{pow_mono}
 use Rattle.std.proofs.lemmas.Bool.Decides.{nat_tests}
-use Rattle.std.proofs.lemmas.Bool.{cases_eq, cases_lt, eq-eqb, le-leb, lt-ltb, ne_eqb, or_right}
-use Rattle.std.proofs.lemmas.List.{ext_get_or, get_or-map, get_or-set_other, get_or-set_same, length-map}
+use Rattle.std.proofs.lemmas.Bool.{and_from, cases_lt, eq-eqb, eqb-false, le-leb, lt-ltb, ne_eqb}
+use Rattle.std.proofs.lemmas.List.{ext_get_or, get_or-map, length-map}
 use Rattle.std.proofs.lemmas.List.FromFn.{get_or-map-range_with_len, length-range_with_len}
 use Rattle.std.proofs.lemmas.Simd.{length-put_chunk, get_or-put_chunk_below, get_or-put_chunk_at}
 use Rattle.std.proofs.lemmas.Simd.{get_or-put_chunk_above, length-replicate, get_or-replicate, length-chunk}
 use Rattle.std.proofs.lemmas.Simd.{get_or-chunk, length-zip2, get_or-zip2, tops_compared, length-sel_l, get_or-sel_l}
 use lib.Lanes.{chunk, put_chunk, sel_l, top, zip2}
 use Rattle.sixel_picture.specs.Pictures.{PictureValue, register_of}
-use Rattle.sixel_encode.specs.Canon.{all_columns, below, column_bits, has_pixel, occurs}
-use Rattle.sixel_encode.specs.Columns.{AreAdded, sixels_of}
-use Rattle.sixel_encode.proofs.BitLemmas.{any_then, bits_above, column_has, column_most, row_added, row_passed}
-use Rattle.sixel_encode.proofs.OccurLemmas.{occurs_is}
-use Rattle.sixel_encode.proofs.RangeLemmas.{InRange, any_range, range_any}
+use Rattle.sixel_encode.specs.Canon.{all_columns, below, column_bits, has_pixel}
+use Rattle.sixel_encode.specs.Columns.{AreAdded, AreSixels, HasAll, HasBand, sixels_of}
+use Rattle.sixel_encode.proofs.BitLemmas.{bits_above, column_most, row_added, row_passed}
+use Rattle.sixel_encode.proofs.StretchLemmas.{sixels_are}
 
 pub added_none : (from to register bits : ℕ) (row xs : List ℕ) → to ≤ from → AreAdded from to register bits row xs xs
 added_none from to register bits row xs empty = record {
@@ -39,6 +37,42 @@ added_more from mid to register bits row old before new low high first second = 
       let b = second.added x in_before in
       grind (arith, nat_tests);
 }
+
+-- columns without a pixel of the register
+pub added_passed : (from to register bits : ℕ) (row xs : List ℕ)
+    → ((x : ℕ) → from ≤ x → x < to → get_or row x 0 ≢ register) → AreAdded from to register bits row xs xs
+added_passed from to register bits row xs none = record {
+  long = refl;
+  added = λ x lt. elim (cases_lt x from) [
+    | inl below ↦ grind (arith, nat_tests)
+    | inr low ↦ elim (cases_lt x to) [
+      | inr above ↦ grind (arith, nat_tests)
+      | inl high ↦
+          let other : (get_or row x 0 == register) ≡ false = ne_eqb (get_or row x 0) register (none x low high) in
+          grind (arith, nat_tests)
+    ]
+  ];
+}
+
+-- a group whose bit isn't set has no pixel of the register
+pub none_in_group : (group register groups : ℕ) (row : List ℕ) → group * 32 + 32 ≤ length row
+    → HasAll register row groups → (bit_at groups group == 1) ≡ false
+    → (x : ℕ) → group * 32 ≤ x → x < group * 32 + 32 → get_or row x 0 ≢ register
+none_in_group group register groups row room has unset x low high = λ same.
+    let here : x / 32 ≡ group = omega arith in
+    let set_here : bit_at groups (x / 32) ≡ 1 = has x (omega arith) same in
+    let gone : bit_at groups group ≢ 1 = eqb-false (bit_at groups group) 1 unset in
+    gone (ap (bit_at groups) (sym here) ∙ set_here)
+
+-- the groups of a row of the band
+pub row_groups : (p : PictureValue) (band register groups row : ℕ) (pixels : List ℕ) → row < 6
+    → 6 * band + row < p.height → length pixels ≡ p.width
+    → ((x : ℕ) → x < p.width → get_or pixels x 0 ≡ register_of p x (6 * band + row))
+    → HasBand p band register groups → HasAll register pixels groups
+row_groups p band register groups row pixels small inside wide same has x lt here =
+    let within : x < p.width = omega arith in
+    has x row within small
+    (and_from _ _ (lt-ltb (6 * band + row) p.height inside) (eq-eqb _ _ (sym (same x within) ∙ here)))
 
 -- the marks of a group of pixels
 abbrev pub marks_of : ℕ → ℕ → List ℕ → List ℕ
@@ -217,94 +251,14 @@ sixels_found p band register sixels long spelled =
     ∙ sym (get_or-map (λ bits. 63 + bits) (all_columns p band register) x 0 0 within))
 
 -- each of them has six bits
-pub columns_most : (p : PictureValue) (band register x : ℕ) → x < length (all_columns p band register)
+columns_most : (p : PictureValue) (band register x : ℕ) → x < length (all_columns p band register)
     → get_or (all_columns p band register) x 0 ≤ 63
 columns_most p band register x lt =
     let f = column_bits p band register in
     let inside : x < p.width = omega (arith, length-map (below p.width) f, length-range_with_len 0 p.width) in
     rw (get_or-map-range_with_len f 0 p.width x x 0 inside (omega arith)) (column_most p band register x)
 
--- ---- the registers of a band, row by row
-
-or_none : (a b t : Bool) → t ≡ false → a ≡ b → a ≡ (b || t)
-or_none a true t e h = h
-or_none a false t e h = h ∙ sym e
-
--- one more pixel is noted
-pub pixel_noted : (p : PictureValue) (band row x n : ℕ) (old now : List Bool) (register : ℕ) → n < length now
-    → n ≡ register_of p x (6 * band + row) → 6 * band + row < p.height
-    → get_or now register false
-    ≡ (get_or old register false || list_any (λ i. has_pixel p band register i row) (below x))
-    → get_or (set now n true) register false
-    ≡ (get_or old register false || list_any (λ i. has_pixel p band register i row) (below (x + 1)))
-pixel_noted p band row x n old now register room is inside before =
-    let q : ℕ → Bool = λ i. has_pixel p band register i row in
-    let o = get_or old register false in
-    let inner : nat_lt (6 * band + row) p.height ≡ true = lt-ltb _ _ inside in
-    let has : q x ≡ (n == register) =
-    ap₂ (λ (t : Bool) (r : ℕ). t && (r == register)) inner (sym is) in
-    let more : ((o || list_any q (below x)) || q x) ≡ (o || list_any q (below (x + 1))) =
-    or_assoc o (list_any q (below x)) (q x) ∙ ap (λ (t : Bool). o || t) (sym (any_then q x)) in
-    elim (cases_eq n register) [
-      | inl same ↦
-          let here : q x ≡ true = has ∙ eq-eqb n register same in
-          ap (λ (r : ℕ). get_or (set now n true) r false) (sym same)
-          ∙ get_or-set_same now n true false room
-          ∙ sym (or_right (o || list_any q (below x)) (q x) here) ∙ more
-      | inr other ↦
-          let gone : q x ≡ false = has ∙ ne_eqb n register other in
-          get_or-set_other now n register true false (λ e. other (sym e))
-          ∙ or_none (get_or now register false) (o || list_any q (below x)) (q x) gone before ∙ more
-    ]
-
-any_none : (q : ℕ → Bool) (xs : List ℕ) → ((x : ℕ) → q x ≡ false) → list_any q xs ≡ false
-any_none q [] h = refl
-any_none q (x ∷ xs) h = rw (h x) (any_none q xs h)
-
--- a row past the picture has none
-pub row_empty : (p : PictureValue) (band register row : ℕ) (b : Bool) → p.height ≤ 6 * band + row
-    → b ≡ list_any (λ k. list_any (λ x. has_pixel p band register x k) (below p.width)) (below row)
-    → b ≡ list_any (λ k. list_any (λ x. has_pixel p band register x k) (below p.width)) (below (row + 1))
-row_empty p band register row b past is =
-    let r : ℕ → Bool = λ k. list_any (λ x. has_pixel p band register x k) (below p.width) in
-    or_none b (list_any r (below row)) (r row)
-    (any_none (λ x. has_pixel p band register x row) (below p.width) (λ x. no_pixel p band register x row past)) is
-    ∙ sym (any_then r row)
-
-pub row_joined : (p : PictureValue) (band register row : ℕ) (b new : Bool)
-    → b ≡ list_any (λ k. list_any (λ x. has_pixel p band register x k) (below p.width)) (below row)
-    → new ≡ (b || list_any (λ x. has_pixel p band register x row) (below p.width))
-    → new ≡ list_any (λ k. list_any (λ x. has_pixel p band register x k) (below p.width)) (below (row + 1))
-row_joined p band register row b new is more =
-    let r : ℕ → Bool = λ k. list_any (λ x. has_pixel p band register x k) (below p.width) in
-    more ∙ ap (λ (t : Bool). t || r row) is ∙ sym (any_then r row)
-
-same_bool : (a b : Bool) → (a ≡ true → b ≡ true) → (b ≡ true → a ≡ true) → a ≡ b
-same_bool true b f g = sym (f refl)
-same_bool false true f g = g refl
-same_bool false false f g = refl
-
--- by rows or by columns
-any_turned : (q : ℕ → ℕ → Bool) (n m : ℕ)
-    → list_any (λ k. list_any (λ x. q x k) (below n)) (below m) ≡ true
-    → list_any (λ x. list_any (λ k. q x k) (below m)) (below n) ≡ true
-any_turned q n m h =
-    let row : InRange 0 m (λ k. list_any (λ x. q x k) (below n)) = range_any m 0 _ h in
-    let column : InRange 0 n (λ x. q x row.number) = range_any n 0 _ row.passes in
-    any_range n 0 column.number (λ x. list_any (λ k. q x k) (below m)) column.from column.under
-    (any_range m 0 row.number (λ k. q column.number k) row.from row.under column.passes)
-
-any_same : (f g : ℕ → Bool) (xs : List ℕ) → ((x : ℕ) → f x ≡ g x) → list_any f xs ≡ list_any g xs
-any_same f g [] h = refl
-any_same f g (x ∷ xs) h = ap₂ (λ (a b : Bool). a || b) (h x) (any_same f g xs h)
-
-pub rows_occur : (p : PictureValue) (band register : ℕ)
-    → list_any (λ k. list_any (λ x. has_pixel p band register x k) (below p.width)) (below 6) ≡ occurs p band register
-rows_occur p band register =
-    let q : ℕ → ℕ → Bool = has_pixel p band register in
-    same_bool (list_any (λ k. list_any (λ x. q x k) (below p.width)) (below 6))
-    (list_any (λ x. list_any (λ k. q x k) (below 6)) (below p.width))
-    (any_turned q p.width 6) (any_turned (λ x k. q k x) 6 p.width)
-    ∙ any_same (λ x. list_any (q x) (below 6)) (λ x. not (column_bits p band register x == 0)) (below p.width)
-    (column_has p band register)
-    ∙ sym (occurs_is p band register)
+pub are_sixels : (p : PictureValue) (band register : ℕ) (sixels : List ℕ)
+    → sixels ≡ sixels_of (all_columns p band register) → AreSixels sixels
+are_sixels p band register sixels found =
+    subst AreSixels (sym found) (sixels_are (all_columns p band register) (columns_most p band register))

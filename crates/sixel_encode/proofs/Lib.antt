@@ -9,6 +9,7 @@ pub mod StretchLemmas
 pub mod StepLemmas
 pub mod OccurLemmas
 pub mod AddedLemmas
+pub mod GroupLemmas
 pub mod LongestLemmas
 pub mod LengthLemmas
 pub mod StripLemmas

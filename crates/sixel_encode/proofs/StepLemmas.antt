@@ -21,6 +21,8 @@ use Rattle.sixel_encode.specs.Canon.{all_columns, band_columns, band_commands, b
 use Rattle.sixel_encode.specs.Canon.{canon_commands, canon_start, canon_text, commands_text, define_command}
 use Rattle.sixel_encode.specs.Canon.{define_commands, occurs, picture_commands, register_commands, run_commands, runs}
 use Rattle.sixel_encode.proofs.RangeLemmas.{below_then}
+use Rattle.sixel_encode.specs.Columns.{sixel_commands, sixels_of}
+use Rattle.sixel_encode.proofs.StretchLemmas.{register_is}
 use Rattle.sixel_encode.proofs.TextLemmas.{columns_text, text-append}
 
 -- ---- registers and bands one by one
@@ -178,6 +180,17 @@ pub step-is : (p : PictureValue) (band register : ℕ) (is_first : Bool) → occ
 step-is p band register is_first h first =
     ap (next_text p band register) first
     ∙ ap (λ (t : Bool). if t then next_text p band register (is_first_of p band register) else []) (sym h)
+
+-- the same, by the sixels of its columns
+pub step-found : (p : PictureValue) (band register : ℕ) (sixels : List ℕ) (is_first : Bool)
+    → sixels ≡ sixels_of (all_columns p band register) → occurs p band register ≡ true
+    → is_first ≡ is_first_of p band register
+    → commands_text ((if is_first then [] else CarriageReturn ∷ []) ++ (Select register ∷ sixel_commands sixels))
+    ≡ register_step p band register
+step-found p band register sixels is_first found h first =
+    ap (λ (t : List Command). commands_text ((if is_first then [] else CarriageReturn ∷ []) ++ t))
+    (register_is p band register sixels found)
+    ∙ step-is p band register is_first h first
 
 -- and of one that doesn't
 pub step-none : (p : PictureValue) (band register : ℕ) → occurs p band register ≡ false

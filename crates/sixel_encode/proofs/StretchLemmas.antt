@@ -6,9 +6,13 @@ use Rattle.std.proofs.lemmas.Bool.{and_from, and_parts, cases_eq, cases_lt, eq-e
 use Rattle.std.proofs.lemmas.Bool.{or_left, or_right}
 use Rattle.std.proofs.lemmas.List.{append-nil, drop-drop, drop-map, drop_all, get_or-map, length-map, take-append-drop}
 use Rattle.std.proofs.lemmas.List.{take-map}
-use Rattle.sixel_encode.specs.Canon.{has_bits}
+use Rattle.std.specs.Prelude.{flat_map}
+use Rattle.sixel_grammar.specs.declared.command.Command.TheVariants.{Select}
+use Rattle.sixel_picture.specs.Pictures.{PictureValue}
+use Rattle.sixel_encode.specs.Canon.{all_columns, band_columns, has_bits, register_commands, run_commands, runs}
+use Rattle.sixel_encode.specs.Canon.{without_blanks}
 use Rattle.sixel_encode.specs.Columns.{AreSixels, IsInkEnd, IsRepeatAt, IsRun, NoFour, are_four, columns_of, part}
-use Rattle.sixel_encode.specs.Columns.{sixels_of}
+use Rattle.sixel_encode.specs.Columns.{sixel_commands, sixels_of}
 use Rattle.sixel_encode.proofs.TextLemmas.{columns-before, columns-blank, columns-end, columns_text, replicate-then}
 use Rattle.sixel_encode.proofs.TextLemmas.{run-short, run_text}
 
@@ -208,6 +212,15 @@ spelled_at cs k lt = get_or-map (λ bits. 63 + bits) cs k 0 0 lt
 pub bits_back : (cs : List ℕ) → columns_of (sixels_of cs) ≡ cs
 bits_back [] = refl
 bits_back (b ∷ cs) = let e : 63 + b - 63 ≡ b = omega arith in ap₂ (λ (n : ℕ) (t : List ℕ). n ∷ t) e (bits_back cs)
+
+-- the commands of a register, by the sixels of its columns
+pub register_is : (p : PictureValue) (band register : ℕ) (sixels : List ℕ)
+    → sixels ≡ sixels_of (all_columns p band register)
+    → Select register ∷ sixel_commands sixels ≡ register_commands p band register
+unfolding register_commands band_columns
+register_is p band register sixels e =
+    ap (λ (t : List ℕ). Select register ∷ flat_map run_commands (runs (without_blanks t)))
+    (ap columns_of e ∙ bits_back (all_columns p band register))
 
 sixels_later : (x : ℕ) (xs : List ℕ) → AreSixels (x ∷ xs) → AreSixels xs
 sixels_later x xs are k lt = are (suc k) (omega arith)

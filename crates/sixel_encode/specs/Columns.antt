@@ -1,7 +1,13 @@
 -- The sixels of a register in the columns of a band, as a list of bytes.
-use Rattle.std.specs.Prelude.{◌≡◌, ◌≢◌, ◌==◌, ◌&&◌, ◌%◌, ℕ, ◌+◌, ◌-◌, ◌<◌, ◌≤◌, Bool, true, false, Option, List, drop}
-use Rattle.std.specs.Prelude.{length, map, nat_le, nat_lt, slice_index, take, if◌then◌else◌}
+use Rattle.std.specs.Prelude.{◌≡◌, ◌≢◌, ◌==◌, ◌&&◌, ◌⊎◌, ◌%◌, ◌/◌, ℕ, ◌+◌, ◌-◌, ◌<◌, ◌≤◌, Bool, true, false, Option}
+use Rattle.std.specs.Prelude.{List, drop, flat_map, get_or, length, map, nat_le, nat_lt, slice_index, take}
+use Rattle.std.specs.Prelude.{if◌then◌else◌}
+use Rattle.std.specs.Int.{bit_at}
 use Rattle.std.specs.Option.{MatchOption}
+use Rattle.sixel_grammar.specs.declared.command.Command.{Command}
+use Rattle.sixel_picture.specs.Geometry.{band_rows}
+use Rattle.sixel_picture.specs.Pictures.{PictureValue}
+use Rattle.sixel_encode.specs.Canon.{has_pixel, run_commands, runs, without_blanks}
 
 -- the bytes that spell columns of these bits
 abbrev pub sixels_of : List ℕ → List ℕ
@@ -10,6 +16,10 @@ sixels_of columns = map (λ bits. 63 + bits) columns
 -- the bits that bytes spell
 abbrev pub columns_of : List ℕ → List ℕ
 columns_of sixels = map (λ sixel. sixel - 63) sixels
+
+-- the data commands of columns that bytes spell, up to the last one that has a bit
+abbrev pub sixel_commands : List ℕ → List Command
+sixel_commands sixels = flat_map run_commands (runs (without_blanks (columns_of sixels)))
 
 -- each byte spells six bits
 abbrev pub AreSixels : List ℕ → Type 0
@@ -22,6 +32,27 @@ pub record AreAdded (from to register bit : ℕ) (row old new : List ℕ) : Type
   pub added : (x : ℕ) → x < length old
       → slice_index new x ≡ (if nat_le from x && (nat_lt x to && (slice_index row x == register))
       then (slice_index old x + bit) % 256 else slice_index old x)
+
+-- ---- groups of 32 columns
+
+-- the mask has a bit for each group of columns in which the row has a pixel of the register
+abbrev pub HasAll : ℕ → List ℕ → ℕ → Type 0
+HasAll register row groups =
+    (x : ℕ) → x < length row → slice_index row x ≡ register → bit_at groups (x / 32) ≡ 1
+
+-- and in which the band has one
+abbrev pub HasBand : PictureValue → ℕ → ℕ → ℕ → Type 0
+HasBand p band register groups = (x row : ℕ) → x < p.width → row < band_rows
+    → has_pixel p band register x row ≡ true → bit_at groups (x / 32) ≡ 1
+
+-- the registers of the pixels from `from` up to `to` are marked, each by a bit for its group, and no others
+pub record AreMarked (from to : ℕ) (pixels old new : List ℕ) : Type 0 where
+  pub long : length new ≡ length old
+  pub kept : (register group : ℕ) → bit_at (get_or old register 0) group ≡ 1
+      → bit_at (get_or new register 0) group ≡ 1
+  pub marked : (x : ℕ) → from ≤ x → x < to → bit_at (get_or new (slice_index pixels x) 0) (x / 32) ≡ 1
+  pub only : (register : ℕ) → get_or new register 0 ≢ 0 → (get_or old register 0 ≢ 0)
+      ⊎ ((x : ℕ) × (from ≤ x) × (x < to) × (slice_index pixels x ≡ register))
 
 -- ---- repeats
 

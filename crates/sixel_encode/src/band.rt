@@ -1,16 +1,16 @@
 //! Writes a band: six rows of a picture, or fewer in the last one.
 
-ghost use Rattle.std.specs.Prelude.{◌≡◌, ◌==◌, ◌+◌, ◌-◌, ◌<◌, ◌≤◌, ◌++◌, ◌∷◌, [], flat_map, if◌then◌else◌, length};
+ghost use Rattle.std.specs.Prelude.{◌≡◌, ◌==◌, ◌+◌, ◌-◌, ◌<◌, ◌≤◌, ◌++◌, ◌∷◌, [], if◌then◌else◌, length};
 ghost use Rattle.std.specs.Prelude.{slice_index};
 ghost use Rattle.sixel_grammar.specs.Blocks.{PutsAllOrNone, TakesMore, in_all};
 ghost use Rattle.sixel_grammar.specs.Devices.{CountsFailure, NeverFlushes, Puts};
 ghost use Rattle.sixel_grammar.specs.Spelling.{IsSpellable};
 ghost use Rattle.sixel_picture.specs.Pictures.{most_side};
-ghost use Rattle.sixel_encode.specs.Canon.{band_commands, commands_text, most_bands, register_commands, run_commands};
-ghost use Rattle.sixel_encode.specs.Canon.{runs, without_blanks};
-ghost use Rattle.sixel_encode.specs.Columns.{AreSixels, columns_of, part};
+ghost use Rattle.sixel_encode.specs.Canon.{band_commands, commands_text, most_bands, run_commands};
+ghost use Rattle.sixel_encode.specs.Columns.{AreSixels, part, sixel_commands};
 
-use crate::columns::{band_registers, find_sixels};
+use crate::columns::find_sixels;
+use crate::groups::band_groups;
 use crate::repeats::{find_repeat, ink_end, run_end};
 use sixel_grammar::{Block, Command, DeviceFault, Event, Sink};
 use sixel_picture::Picture;
@@ -35,42 +35,40 @@ pub(crate) fn put_band<K: Sink>(
     ensures unflushed { NeverFlushes (K.is_flushed out.old) (K.is_flushed out.new) }
     ensures failures { CountsFailure result (K.failure_count out.old) (K.failure_count out.new) }
 {
-    let occurring = band_registers(picture, band);
+    let groups = band_groups(picture, band);
     let mut room = [0; MOST_COLUMNS];
     let sixels = &mut room[..picture.width() as usize];
     let mut is_first = true;
     for register in 0..picture.profile().count() {
-        if occurring[register as usize] {
-            put_next(text, sixels, picture, band, register as u8, is_first, out)?;
+        let own = groups[register as usize];
+        if own != 0 {
+            find_sixels(sixels, picture, band, register as u8, own);
+            put_next(text, register as u8, sixels, is_first, out)?;
             is_first = false;
         }
     }
     Ok(())
 }
 
-/// Puts a register of a band, after a carriage return if it isn't the first.
+/// Puts a register and its columns, after a carriage return if it isn't the first.
 fn put_next<K: Sink>(
     text: &mut Text,
-    sixels: &mut [u8],
-    picture: &Picture,
-    band: u32,
     register: u8,
+    sixels: &[u8],
     is_first: bool,
     out: &mut K,
 ) -> Result<(), DeviceFault>
-    requires band { band < most_bands }
-    requires width { length sixels.old ≡ picture.now.width }
-    requires few { length sixels.old ≤ most_side }
-    ensures width { length sixels.new ≡ length sixels.old }
+    requires sixels { AreSixels sixels.now }
+    requires few { length sixels.now ≤ most_side }
     ensures bytes { Puts result (in_all (K.taken out.old) text.old) (in_all (K.taken out.new) text.new)
         (commands_text ((if is_first then [] else Command.CarriageReturn ∷ [])
-        ++ register_commands picture.now band register)) }
+        ++ (Command.Select register ∷ sixel_commands sixels.now))) }
     ensures taken { TakesMore (K.taken out.old) (K.taken out.new) }
     ensures unflushed { NeverFlushes (K.is_flushed out.old) (K.is_flushed out.new) }
     ensures failures { CountsFailure result (K.failure_count out.old) (K.failure_count out.new) }
 {
     put_between(text, is_first, Command::CarriageReturn, out)?;
-    put_register(text, sixels, picture, band, register, out)
+    put_register(text, register, sixels, out)
 }
 
 /// Puts the command, but nothing before the first of what it stands between.
@@ -113,23 +111,18 @@ pub(crate) fn put_command<K: Sink>(
 /// Puts a select, and the columns of the register.
 fn put_register<K: Sink>(
     text: &mut Text,
-    sixels: &mut [u8],
-    picture: &Picture,
-    band: u32,
     register: u8,
+    sixels: &[u8],
     out: &mut K,
 ) -> Result<(), DeviceFault>
-    requires band { band < most_bands }
-    requires width { length sixels.old ≡ picture.now.width }
-    requires few { length sixels.old ≤ most_side }
-    ensures width { length sixels.new ≡ length sixels.old }
+    requires sixels { AreSixels sixels.now }
+    requires few { length sixels.now ≤ most_side }
     ensures bytes { Puts result (in_all (K.taken out.old) text.old) (in_all (K.taken out.new) text.new)
-        (commands_text (register_commands picture.now band register)) }
+        (commands_text (Command.Select register ∷ sixel_commands sixels.now)) }
     ensures taken { TakesMore (K.taken out.old) (K.taken out.new) }
     ensures unflushed { NeverFlushes (K.is_flushed out.old) (K.is_flushed out.new) }
     ensures failures { CountsFailure result (K.failure_count out.old) (K.failure_count out.new) }
 {
-    find_sixels(sixels, picture, band, register);
     put_command(text, select(register), out)?;
     put_columns(text, sixels, out)
 }
@@ -146,7 +139,7 @@ fn put_columns<K: Sink>(text: &mut Text, sixels: &[u8], out: &mut K) -> Result<(
     requires sixels { AreSixels sixels.now }
     requires few { length sixels.now ≤ most_side }
     ensures bytes { Puts result (in_all (K.taken out.old) text.old) (in_all (K.taken out.new) text.new)
-        (commands_text (flat_map run_commands (runs (without_blanks (columns_of sixels.now))))) }
+        (commands_text (sixel_commands sixels.now)) }
     ensures taken { TakesMore (K.taken out.old) (K.taken out.new) }
     ensures unflushed { NeverFlushes (K.is_flushed out.old) (K.is_flushed out.new) }
     ensures failures { CountsFailure result (K.failure_count out.old) (K.failure_count out.new) }

@@ -3,6 +3,7 @@
 
 mod band;
 mod columns;
+mod groups;
 pub mod laws;
 mod repeats;
 mod writing;

@@ -1,14 +1,12 @@
 //! Where columns of the same bits stand in a row of sixels.
 
-ghost use Rattle.std.specs.Prelude.{◌≡◌, ◌==◌, ◌+◌, ◌<◌, ◌≤◌, drop, length, not, take, true};
+ghost use Rattle.std.specs.Prelude.{◌≡◌, ◌==◌, ◌+◌, ◌<◌, ◌≤◌, ℕ, drop, length, not, slice_index, take, true};
 ghost use Rattle.std.specs.List.{prefix_len};
 ghost use Rattle.sixel_picture.specs.Lanes.{IsFirst};
 ghost use Rattle.sixel_encode.specs.Columns.{IsInkEnd, IsRepeat, IsRun, NoFour, are_four};
 
+use crate::groups::LANES;
 use std::simd::prelude::*;
-
-/// How many columns are taken at once.
-const LANES: usize = 32;
 
 /// The fewest columns of the same bits that are a repeat.
 const LEAST_REPEAT: usize = 4;
@@ -138,6 +136,15 @@ fn equal_in_group(sixels: &[u8], at: usize, sixel: u8) -> usize
     } else {
         others.trailing_zeros() as usize
     }
+}
+
+/// Whether the bytes of the group from `at` on are all equal.
+#[inline]
+pub(crate) fn is_uniform(bytes: &[u8], at: usize) -> bool
+    requires { at + LANES ≤ length bytes.now }
+    ensures { result ≡ true → (k : ℕ) → at ≤ k → k < at + LANES → slice_index bytes.now k ≡ slice_index bytes.now at }
+{
+    equal_in_group(bytes, at, bytes[at]) == LANES
 }
 
 fn first_in_rest(sixels: &[u8], from: usize, sixel: u8) -> Option<usize>
