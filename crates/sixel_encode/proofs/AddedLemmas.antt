@@ -1,12 +1,11 @@
--- Bits that are added in the columns whose pixel is of a register, one by one and many at once.
-use Rattle.std.proofs.Common.{◌≡◌, ◌≢◌, ◌==◌, ℕ, ◌+◌, ◌*◌, ◌%◌, ◌/◌, ◌^◌, ◌<◌, ◌≤◌, ◌-◌, Bool, true, false, ◌&&◌, cond}
+-- Bits that are added in the columns whose pixel is of a register.
+use Rattle.std.proofs.Common.{◌≡◌, ◌==◌, ℕ, ◌+◌, ◌*◌, ◌%◌, ◌^◌, ◌<◌, ◌≤◌, ◌-◌, Bool, true, false, ◌&&◌, cond}
 use Rattle.std.proofs.Common.{List, length, get_or, map, replicate, w8, inl, inr, refl, sym, ap, ap₂, ◌∙◌}
 use Rattle.std.proofs.Common.{arith, subst}
 use Rattle.std.specs.Prelude.{nat_le, nat_lt}
-use Rattle.std.specs.Int.{bit_at}
 use Rattle.std.proofs.Math.Pow.{pow_mono}
 use Rattle.std.proofs.lemmas.Bool.Decides.{nat_tests}
-use Rattle.std.proofs.lemmas.Bool.{and_from, cases_lt, eq-eqb, eqb-false, le-leb, lt-ltb, ne_eqb}
+use Rattle.std.proofs.lemmas.Bool.{cases_lt, le-leb, lt-ltb}
 use Rattle.std.proofs.lemmas.List.{ext_get_or, get_or-map, length-map}
 use Rattle.std.proofs.lemmas.List.FromFn.{get_or-map-range_with_len, length-range_with_len}
 use Rattle.std.proofs.lemmas.Simd.{length-put_chunk, get_or-put_chunk_below, get_or-put_chunk_at}
@@ -15,64 +14,9 @@ use Rattle.std.proofs.lemmas.Simd.{get_or-chunk, length-zip2, get_or-zip2, tops_
 use lib.Lanes.{chunk, put_chunk, sel_l, top, zip2}
 use Rattle.sixel_picture.specs.Pictures.{PictureValue, register_of}
 use Rattle.sixel_encode.specs.Canon.{all_columns, below, column_bits, has_pixel}
-use Rattle.sixel_encode.specs.Columns.{AreAdded, AreSixels, HasAll, HasBand, sixels_of}
+use Rattle.sixel_encode.specs.Columns.{AreAdded, AreSixels, sixels_of}
 use Rattle.sixel_encode.proofs.BitLemmas.{bits_above, column_most, row_added, row_passed}
 use Rattle.sixel_encode.proofs.StretchLemmas.{sixels_are}
-
-pub added_none : (from to register bits : ℕ) (row xs : List ℕ) → to ≤ from → AreAdded from to register bits row xs xs
-added_none from to register bits row xs empty = record {
-  long = refl;
-  added = λ x lt. grind (arith, nat_tests);
-}
-
--- the columns after those that were marked before
-pub added_more : (from mid to register bits : ℕ) (row old before new : List ℕ) → from ≤ mid → mid ≤ to
-    → AreAdded from mid register bits row old before → AreAdded mid to register bits row before new
-    → AreAdded from to register bits row old new
-added_more from mid to register bits row old before new low high first second = record {
-  long = second.long ∙ first.long;
-  added = λ x lt.
-      let in_before : x < length before = omega (arith, first.long) in
-      let a = first.added x lt in
-      let b = second.added x in_before in
-      grind (arith, nat_tests);
-}
-
--- columns without a pixel of the register
-pub added_passed : (from to register bits : ℕ) (row xs : List ℕ)
-    → ((x : ℕ) → from ≤ x → x < to → get_or row x 0 ≢ register) → AreAdded from to register bits row xs xs
-added_passed from to register bits row xs none = record {
-  long = refl;
-  added = λ x lt. elim (cases_lt x from) [
-    | inl below ↦ grind (arith, nat_tests)
-    | inr low ↦ elim (cases_lt x to) [
-      | inr above ↦ grind (arith, nat_tests)
-      | inl high ↦
-          let other : (get_or row x 0 == register) ≡ false = ne_eqb (get_or row x 0) register (none x low high) in
-          grind (arith, nat_tests)
-    ]
-  ];
-}
-
--- a group whose bit isn't set has no pixel of the register
-pub none_in_group : (group register groups : ℕ) (row : List ℕ) → group * 32 + 32 ≤ length row
-    → HasAll register row groups → (bit_at groups group == 1) ≡ false
-    → (x : ℕ) → group * 32 ≤ x → x < group * 32 + 32 → get_or row x 0 ≢ register
-none_in_group group register groups row room has unset x low high = λ same.
-    let here : x / 32 ≡ group = omega arith in
-    let set_here : bit_at groups (x / 32) ≡ 1 = has x (omega arith) same in
-    let gone : bit_at groups group ≢ 1 = eqb-false (bit_at groups group) 1 unset in
-    gone (ap (bit_at groups) (sym here) ∙ set_here)
-
--- the groups of a row of the band
-pub row_groups : (p : PictureValue) (band register groups row : ℕ) (pixels : List ℕ) → row < 6
-    → 6 * band + row < p.height → length pixels ≡ p.width
-    → ((x : ℕ) → x < p.width → get_or pixels x 0 ≡ register_of p x (6 * band + row))
-    → HasBand p band register groups → HasAll register pixels groups
-row_groups p band register groups row pixels small inside wide same has x lt here =
-    let within : x < p.width = omega arith in
-    has x row within small
-    (and_from _ _ (lt-ltb (6 * band + row) p.height inside) (eq-eqb _ _ (sym (same x within) ∙ here)))
 
 -- the marks of a group of pixels
 abbrev pub marks_of : ℕ → ℕ → List ℕ → List ℕ

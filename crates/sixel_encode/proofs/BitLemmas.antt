@@ -1,16 +1,13 @@
--- The bits of a column, and the marks of a band's registers.
-use Rattle.std.proofs.Common.{◌≡◌, ℕ, List, [], ◌∷◌, map, ◌+◌, ◌*◌, ◌%◌, ◌^◌, ◌<◌, ◌≤◌, Bool, true, false, not, ◌&&◌}
-use Rattle.std.proofs.Common.{◌||◌, cond, get_or, length, set, refl, sym, ap, ◌∙◌, add-one, arith}
+-- The bits of a column.
+use Rattle.std.proofs.Common.{◌≡◌, ℕ, ◌+◌, ◌*◌, ◌%◌, ◌^◌, ◌<◌, ◌≤◌, Bool, true, false, not, ◌&&◌}
+use Rattle.std.proofs.Common.{◌||◌, cond, refl, sym, ap, ◌∙◌, add-one, arith}
 use Rattle.std.specs.Prelude.{◌==◌, nat_le, sum_by, if◌then◌else◌}
 use Rattle.std.specs.List.{list_any}
-use Rattle.std.proofs.lemmas.Bool.{agree_below_at, and_parts, eqb-true, eqb-false, leb-true, or_right}
+use Rattle.std.proofs.lemmas.Bool.{agree_below_at, and_parts, eqb-true, leb-true}
 use Rattle.std.proofs.Math.Nat.{two-pow-succ}
-use Rattle.std.proofs.lemmas.List.{get_or-set_other, map-append}
-use Rattle.std.proofs.lemmas.List.Folds.{list_any-append}
 use Rattle.std.proofs.lemmas.List.Sums.{sum_by_push}
-use Rattle.std.proofs.lemmas.Grind.{get_or-set_at}
 use Rattle.sixel_picture.specs.Pictures.{PictureValue}
-use Rattle.sixel_encode.specs.Canon.{below, column_bits, has_bits, has_pixel}
+use Rattle.sixel_encode.specs.Canon.{below, column_bits, has_pixel}
 use Rattle.sixel_encode.proofs.RangeLemmas.{below_then}
 
 -- ---- facts of six Bools
@@ -116,35 +113,3 @@ row_passed p band register x row bits gone is less =
     ∙ ap (λ (t : Bool). bits_above p band register x row + (if t then 2 ^ row else 0)) gone in
     let double : 2 ^ (row + 1) ≡ 2 ^ row + 2 ^ row = twice row in
     (omega arith, omega arith)
-
--- ---- marks
-
-or_nothing : (b : Bool) → b ≡ (b || false)
-or_nothing true = refl
-or_nothing false = refl
-
--- a register that is marked
-pub mark_added : (xs : List Bool) (r i : ℕ) → r < length xs
-    → get_or (set xs r true) i false ≡ (get_or xs i false || (r == i))
-mark_added xs r i within = split (r == i) (eqb-true r i) (eqb-false r i)
-  where
-    split : (t : Bool) → (t ≡ true → r ≡ i) → (t ≡ false → r ≡ i → ⊥)
-        → get_or (set xs r true) i false ≡ (get_or xs i false || t)
-    split true is other =
-        get_or-set_at xs r i true false (sym (is refl)) within ∙ sym (or_right (get_or xs i false) true refl)
-    split false is other =
-        get_or-set_other xs r i true false (λ e. other refl (sym e)) ∙ or_nothing (get_or xs i false)
-
--- one more number that passes or not
-pub any_then : (f : ℕ → Bool) (n : ℕ) → list_any f (below (n + 1)) ≡ (list_any f (below n) || f n)
-any_then f n = ap (list_any f) (below_then n) ∙ list_any-append f (below n) (n ∷ [])
-    ∙ ap (λ (t : Bool). list_any f (below n) || t) (sym (or_nothing (f n)))
-
--- one more column
-pub has_bits_then : (f : ℕ → ℕ) (n : ℕ)
-    → has_bits (map f (below (n + 1))) ≡ (has_bits (map f (below n)) || not (f n == 0))
-has_bits_then f n =
-    ap (λ (ks : List ℕ). has_bits (map f ks)) (below_then n)
-    ∙ ap has_bits (map-append f (below n) (n ∷ []))
-    ∙ list_any-append (λ bits. not (bits == 0)) (map f (below n)) (f n ∷ [])
-    ∙ ap (λ (t : Bool). has_bits (map f (below n)) || t) (sym (or_nothing (not (f n == 0))))

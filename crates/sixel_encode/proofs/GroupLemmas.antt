@@ -1,13 +1,15 @@
 -- In which groups of columns a band has the pixels of a register.
-use Rattle.std.proofs.Common.{◌≡◌, ◌≢◌, ◌==◌, ℕ, zero, suc, ◌+◌, ◌*◌, ◌%◌, ◌/◌, ◌^◌, ◌<◌, ◌≤◌, Bool, true, false}
-use Rattle.std.proofs.Common.{List, length, get_or, set, replicate, not, w64, inl, inr, refl, sym, ap, ◌∙◌, arith}
+use Rattle.std.proofs.Common.{◌≡◌, ◌≢◌, ◌==◌, ℕ, zero, suc, ◌+◌, ◌-◌, ◌*◌, ◌%◌, ◌/◌, ◌^◌, ◌<◌, ◌≤◌, Bool, true, false}
+use Rattle.std.proofs.Common.{List, min, length, get_or, set, replicate, not, w64, inl, inr, refl, sym, ap, ◌∙◌, arith}
 use Rattle.std.specs.Prelude.{nat_lt}
-use Rattle.std.specs.Int.{bit_at}
+use Rattle.std.specs.Int.{bit_at, trailing_zeros}
+use Rattle.std.proofs.Math.Nat.{div-div-eq-div-mul}
+use Rattle.std.proofs.lemmas.Nat.{pow-add, shr_le}
 use Rattle.std.specs.Int.Bits.{bit_or}
-use Rattle.std.proofs.lemmas.Bool.{and_from, and_parts, cases_eq, cases_lt, eq-eqb, eqb-false, eqb-true, lt-ltb}
+use Rattle.std.proofs.lemmas.Bool.{and_from, and_parts, cases_eq, eq-eqb, eqb-false, eqb-true, lt-ltb}
 use Rattle.std.proofs.lemmas.Bool.{ltb-true, ne_eqb, not-true, not_from_false}
 use Rattle.std.proofs.lemmas.List.{get_or-set_other, get_or-set_same, length-set}
-use Rattle.std.proofs.lemmas.Nat.Bits.{bit_at-zero, bit_at_set_other, bit_at_set_same}
+use Rattle.std.proofs.lemmas.Nat.Bits.{bit_at-trailing_zeros, bit_at-zero, bit_at_set_other, bit_at_set_same}
 use Rattle.sixel_picture.specs.Pictures.{PictureValue, register_of}
 use Rattle.sixel_encode.specs.Canon.{column_bits, has_pixel, occurs}
 use Rattle.sixel_encode.specs.Columns.{AreMarked, HasBand}
@@ -16,32 +18,6 @@ use Rattle.sixel_encode.proofs.OccurLemmas.{occurs_is, pixel_occurs}
 use Rattle.sixel_encode.proofs.RangeLemmas.{InRange, range_any}
 
 -- ---- pixels of a row
-
-pub marked_none : (from to : ℕ) (pixels marks : List ℕ) → to ≤ from → AreMarked from to pixels marks marks
-marked_none from to pixels marks empty = record {
-  long = refl;
-  kept = λ register group h. h;
-  marked = λ x low high. absurd (omega arith);
-  only = λ register some. inl some;
-}
-
-pub marked_more : (from mid to : ℕ) (pixels old before new : List ℕ) → from ≤ mid → mid ≤ to
-    → AreMarked from mid pixels old before → AreMarked mid to pixels before new → AreMarked from to pixels old new
-marked_more from mid to pixels old before new low high first second = record {
-  long = second.long ∙ first.long;
-  kept = λ register group h. second.kept register group (first.kept register group h);
-  marked = λ x after under. elim (cases_lt x mid) [
-    | inl less ↦ second.kept (get_or pixels x 0) (x / 32) (first.marked x after less)
-    | inr more ↦ second.marked x more under
-  ];
-  only = λ register some. elim (second.only register some) [
-    | inl kept ↦ elim (first.only register kept) [
-      | inl old_some ↦ inl old_some
-      | inr w ↦ inr (w.0, w.1, omega (arith, w.2), w.3)
-    ]
-    | inr w ↦ inr (w.0, omega (arith, w.1), w.2, w.3)
-  ];
-}
 
 bit_kept : (n k g : ℕ) → k < 64 → bit_at n g ≡ 1 → bit_at (bit_or n (1 * 2 ^ k % 2 ^ 64)) g ≡ 1
 bit_kept n k g small h = elim (cases_eq g k) [
@@ -76,24 +52,27 @@ marked_pixel x n pixels old is room small =
       ];
     }
 
--- a group of the same register
-pub marked_uniform : (group : ℕ) (pixels old new : List ℕ)
-    → AreMarked (group * 32) (group * 32 + 1) pixels old new
-    → ((k : ℕ) → group * 32 ≤ k → k < group * 32 + 32 → get_or pixels k 0 ≡ get_or pixels (group * 32) 0)
-    → AreMarked (group * 32) (group * 32 + 32) pixels old new
-marked_uniform group pixels old new first same = record {
-  long = first.long;
-  kept = first.kept;
-  marked = λ x low high.
-      let at : x / 32 ≡ group * 32 / 32 = omega arith in
-      ap (λ (r : ℕ). bit_at (get_or new r 0) (x / 32)) (same x low high)
-      ∙ ap (bit_at (get_or new (get_or pixels (group * 32) 0) 0)) at
-      ∙ first.marked (group * 32) (omega arith) (omega arith);
-  only = λ register some. elim (first.only register some) [
-    | inl kept ↦ inl kept
-    | inr w ↦ inr (w.0, w.1, omega (arith, w.2), w.3)
-  ];
-}
+-- ---- the groups of a mask
+
+bit_shifted : (n k i : ℕ) → bit_at (n / 2 ^ k) i ≡ bit_at n (k + i)
+bit_shifted n k i =
+    ap (λ (m : ℕ). m % 2) (div-div-eq-div-mul n (2 ^ k) (2 ^ i) ∙ ap (λ (m : ℕ). n / m) (sym (pow-add 2 k i)))
+
+-- no bit from a place on
+pub none_left : (n k g : ℕ) → n / 2 ^ k ≡ 0 → k ≤ g → bit_at n g ≡ 0
+none_left n k g none low =
+    let at : k + (g - k) ≡ g = omega arith in
+    ap (bit_at n) (sym at) ∙ sym (bit_shifted n k (g - k)) ∙ ap (λ (m : ℕ). bit_at m (g - k)) none
+    ∙ bit_at-zero (g - k)
+
+-- none before the lowest one from a place on
+pub none_before : (n k m r g : ℕ) → n < 2 ^ 64 → n / 2 ^ k ≢ 0 → r ≡ min (k + trailing_zeros w64 (n / 2 ^ k)) m
+    → k ≤ g → g < r → bit_at n g ≡ 0
+none_before n k m r g small some is low less =
+    let at : k + (g - k) ≡ g = omega arith in
+    let few : n / 2 ^ k ≤ n = shr_le n k in
+    let lowest = bit_at-trailing_zeros w64 (n / 2 ^ k) (omega arith) (omega arith) in
+    ap (bit_at n) (sym at) ∙ sym (bit_shifted n k (g - k)) ∙ lowest.2 (g - k) (omega arith)
 
 -- ---- rows of a band
 

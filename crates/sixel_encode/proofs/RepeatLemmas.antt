@@ -1,36 +1,16 @@
--- Where four equal bytes stand, one by one and many at once.
-use Rattle.std.proofs.Common.{◌≡◌, ◌≢◌, ◌==◌, ℕ, ◌+◌, ◌-◌, ◌%◌, ◌^◌, ◌<◌, ◌≤◌, Bool, true, false, ◌&&◌, cond, Option}
-use Rattle.std.proofs.Common.{Some, None, List, length, get_or, map, replicate, not, w8, inl, inr, refl, sym, ap, ap₂}
+-- Where four equal bytes stand, found many at once.
+use Rattle.std.proofs.Common.{◌≡◌, ◌≢◌, ◌==◌, ℕ, ◌+◌, ◌-◌, ◌%◌, ◌^◌, ◌<◌, ◌≤◌, Bool, true, false, ◌&&◌, cond}
+use Rattle.std.proofs.Common.{List, length, get_or, map, replicate, not, w8, refl, sym, ap, ap₂}
 use Rattle.std.proofs.Common.{◌∙◌, arith}
 use Rattle.std.specs.List.{prefix_len}
-use Rattle.std.proofs.lemmas.Bool.{cases_lt, cond-false, cond-true, eq-eqb, ne_eqb}
+use Rattle.std.proofs.lemmas.Bool.{cond-false, cond-true, eq-eqb, ne_eqb}
 use Rattle.std.proofs.lemmas.List.{take_all}
 use Rattle.std.proofs.lemmas.Simd.{bitmask_splat, first_set_mask_l, get_or-chunk, get_or-replicate, get_or-sel_l}
 use Rattle.std.proofs.lemmas.Simd.{get_or-zip2, length-chunk, length-replicate, length-sel_l, length-zip2}
 use Rattle.std.proofs.lemmas.Simd.{run_in_chunk_fails, run_in_chunk_le, run_in_chunk_stops, tops_compared}
 use lib.Count.{count_trailing_zeros}
 use lib.Lanes.{chunk, mask_l, sel_l, top, zip2}
-use Rattle.sixel_encode.specs.Columns.{IsRepeat, NoFour, are_four}
-
--- ---- one stretch after another
-
-pub four_none : (from mid to : ℕ) (bytes : List ℕ) → NoFour from mid bytes → NoFour mid to bytes → NoFour from to bytes
-four_none from mid to bytes first second k low high room = elim (cases_lt k mid) [
-  | inl before ↦ first k low before room
-  | inr after ↦ second k after high room
-]
-
-pub repeat_more : (from mid to : ℕ) (bytes : List ℕ) (found : Option ℕ) → from ≤ mid → NoFour from mid bytes
-    → IsRepeat mid to bytes found → IsRepeat from to bytes found
-repeat_more from mid to bytes None low before none = four_none from mid to bytes before none
-repeat_more from mid to bytes (Some start) low before next = record {
-  after = omega (arith, next.after);
-  within = next.within;
-  four = next.four;
-  before = four_none from mid start bytes before next.before;
-}
-
--- ---- a group of bytes, and those that follow each
+use Rattle.sixel_encode.specs.Columns.{NoFour, are_four}
 
 -- the test of two groups, lane by lane
 abbrev pub tests : List ℕ → List ℕ → List Bool

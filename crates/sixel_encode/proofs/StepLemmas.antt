@@ -17,13 +17,13 @@ use Rattle.sixel_grammar.proofs.FixedTextLemmas.{fixed_text-append}
 use Rattle.sixel_picture.specs.declared.colour.Parts.{Parts}
 use Rattle.sixel_picture.specs.Colours.{palette_at}
 use Rattle.sixel_picture.specs.Pictures.{PictureValue}
-use Rattle.sixel_encode.specs.Canon.{all_columns, band_columns, band_commands, band_registers, bands, below, canon}
+use Rattle.sixel_encode.specs.Canon.{all_columns, band_commands, band_registers, bands, below, canon}
 use Rattle.sixel_encode.specs.Canon.{canon_commands, canon_start, canon_text, commands_text, define_command}
-use Rattle.sixel_encode.specs.Canon.{define_commands, occurs, picture_commands, register_commands, run_commands, runs}
+use Rattle.sixel_encode.specs.Canon.{define_commands, occurs, picture_commands, register_commands}
 use Rattle.sixel_encode.proofs.RangeLemmas.{below_then}
 use Rattle.sixel_encode.specs.Columns.{sixel_commands, sixels_of}
 use Rattle.sixel_encode.proofs.StretchLemmas.{register_is}
-use Rattle.sixel_encode.proofs.TextLemmas.{columns_text, text-append}
+use Rattle.sixel_encode.proofs.TextLemmas.{text-append}
 
 -- ---- registers and bands one by one
 
@@ -166,13 +166,6 @@ registers-all p band n e = ap (registers_above p band) e
 pub bands-all : (p : PictureValue) → commands_text (picture_commands p) ≡ bands_above p (bands p)
 unfolding picture_commands
 bands-all p = refl
-
--- a register's commands
-pub register-parts : (p : PictureValue) (band register : ℕ) → commands_text (register_commands p band register)
-    ≡ commands_text (Select register ∷ []) ++ columns_text (all_columns p band register)
-unfolding register_commands band_columns
-register-parts p band register =
-    text-append (Select register ∷ []) (flat_map run_commands (runs (band_columns p band register)))
 
 -- the step of a register that occurs
 pub step-is : (p : PictureValue) (band register : ℕ) (is_first : Bool) → occurs p band register ≡ true

@@ -1,8 +1,7 @@
 -- The text of commands, and of columns.
-use Rattle.std.proofs.Common.{◌≡◌, ◌≢◌, ℕ, zero, suc, ◌+◌, ◌-◌, ◌<◌, ◌≤◌, Bool, false, List, [], ◌∷◌, ◌++◌, map}
-use Rattle.std.proofs.Common.{replicate, refl, sym, ap, ◌∙◌, append_assoc, add-one, arith}
+use Rattle.std.proofs.Common.{◌≡◌, ◌≢◌, ℕ, zero, suc, ◌+◌, ◌<◌, Bool, false, List, [], ◌∷◌, ◌++◌, map}
+use Rattle.std.proofs.Common.{replicate, refl, ap, ◌∙◌}
 use Rattle.std.specs.Prelude.{flat_map, nat_le, if◌then◌else◌}
-use Rattle.std.specs.List.{range_with_len}
 use Rattle.std.proofs.lemmas.Bool.{lt-leb}
 use Rattle.std.proofs.lemmas.List.{map-append, append-nil}
 use Rattle.sixel_grammar.specs.declared.command.Command.{Command}
@@ -11,8 +10,7 @@ use Rattle.sixel_grammar.specs.declared.command.Event.TheVariants.{Step}
 use Rattle.sixel_grammar.specs.Spelling.{fixed_command}
 use Rattle.sixel_grammar.specs.FixedText.{fixed_text}
 use Rattle.sixel_grammar.proofs.FixedTextLemmas.{fixed_text-append}
-use Rattle.sixel_encode.specs.Canon.{Run, below, runs, run_commands, without_blanks, commands_text}
-use Rattle.sixel_encode.proofs.RangeLemmas.{below_then, range_split}
+use Rattle.sixel_encode.specs.Canon.{Run, runs, run_commands, without_blanks, commands_text}
 use Rattle.sixel_encode.proofs.RunLemmas.{run_before, run_at_end, without_all}
 
 pub text-append : (xs ys : List Command) → commands_text (xs ++ ys) ≡ commands_text xs ++ commands_text ys
@@ -73,65 +71,6 @@ columns-blank n b h =
 pub replicate-then : {A : Type 0} (n : ℕ) (b : A) (cs : List A) → replicate n b ++ b ∷ cs ≡ replicate (suc n) b ++ cs
 replicate-then zero b cs = refl
 replicate-then (suc n) b cs = ap (λ (t : List _). b ∷ t) (replicate-then n b cs)
-
--- ---- columns one by one
-
--- what was put of the columns before x, and the run that is open there, of so many columns of these bits
-abbrev pub StandsBefore : (ℕ → ℕ) → ℕ → List ℕ → ℕ → ℕ → Type 0
-StandsBefore f x put count bits = (rest : List ℕ)
-    → columns_text (map f (below x) ++ rest) ≡ put ++ columns_text (replicate count bits ++ rest)
-
-column-then : (f : ℕ → ℕ) (x : ℕ) (rest : List ℕ) → map f (below (x + 1)) ++ rest ≡ map f (below x) ++ f x ∷ rest
-column-then f x rest =
-    ap (λ (t : List ℕ). map f t ++ rest) (below_then x)
-    ∙ ap (λ (t : List ℕ). t ++ rest) (map-append f (below x) (x ∷ []))
-    ∙ append_assoc (map f (below x)) (f x ∷ []) rest
-
-pub columns-none : (f : ℕ → ℕ) → StandsBefore f 0 [] 0 0
-columns-none f rest = refl
-
--- the next column has the same bits
-pub columns-same : (f : ℕ → ℕ) (x count bits : ℕ) (put : List ℕ) → StandsBefore f x put count bits → f x ≡ bits
-    → StandsBefore f (x + 1) put (count + 1) bits
-columns-same f x count bits put stands e rest =
-    ap columns_text (column-then f x rest) ∙ stands (f x ∷ rest)
-    ∙ ap (λ (b : ℕ). put ++ columns_text (replicate count bits ++ b ∷ rest)) e
-    ∙ ap (λ (t : List ℕ). put ++ columns_text t)
-    (replicate-then count bits rest ∙ ap (λ (n : ℕ). replicate n bits ++ rest) (sym (add-one count)))
-
--- the next column has others
-pub columns-other : (f : ℕ → ℕ) (x count bits : ℕ) (put : List ℕ) → StandsBefore f x put count bits → f x ≢ bits
-    → StandsBefore f (x + 1) (put ++ run_text count bits) 1 (f x)
-columns-other f x count bits put stands ne rest =
-    ap columns_text (column-then f x rest) ∙ stands (f x ∷ rest)
-    ∙ ap (λ (t : List ℕ). put ++ t) (columns-before count bits (f x) rest ne)
-    ∙ sym (append_assoc put (run_text count bits) (columns_text (f x ∷ rest)))
-
--- what was put stands at the front of it all
-pub columns-front : (f : ℕ → ℕ) (x width count bits : ℕ) (put : List ℕ) → StandsBefore f x put count bits → x ≤ width
-    → (rest : List ℕ) × (columns_text (map f (below width)) ≡ put ++ rest)
-columns-front f x width count bits put stands le =
-    let others = range_with_len (0 + x) (width - x) in
-    let whole : x + (width - x) ≡ width = omega arith in (
-      columns_text (replicate count bits ++ map f others),
-      ap columns_text (ap (λ (n : ℕ). map f (below n)) (sym whole) ∙ ap (map f) (range_split x 0 (width - x))
-          ∙ map-append f (below x) others) ∙ stands (map f others),
-    )
-
--- the last run has no bits
-pub columns-all_blank : (f : ℕ → ℕ) (width count bits : ℕ) (put : List ℕ) → StandsBefore f width put count bits
-    → bits ≡ 0
-    → columns_text (map f (below width)) ≡ put
-columns-all_blank f width count bits put stands e =
-    ap columns_text (sym (append-nil (map f (below width)))) ∙ stands []
-    ∙ ap (λ (t : List ℕ). put ++ t) (columns-blank count bits e) ∙ append-nil put
-
--- the last run has bits
-pub columns-all : (f : ℕ → ℕ) (width count bits : ℕ) (put : List ℕ) → StandsBefore f width put count bits → bits ≢ 0
-    → columns_text (map f (below width)) ≡ put ++ run_text count bits
-columns-all f width count bits put stands ne =
-    ap columns_text (sym (append-nil (map f (below width)))) ∙ stands []
-    ∙ ap (λ (t : List ℕ). put ++ t) (columns-end count bits ne)
 
 -- a run of less than four
 pub run-short : (count bits : ℕ) → count < 4 → run_text count bits ≡ replicate count (63 + bits)

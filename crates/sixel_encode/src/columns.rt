@@ -1,6 +1,6 @@
 //! What a register has in a band: six rows of a picture, or fewer in the last one.
 
-ghost use Rattle.std.specs.Prelude.{◌≡◌, ◌==◌, ◌+◌, ◌<◌, ◌≤◌, length};
+ghost use Rattle.std.specs.Prelude.{◌≡◌, ◌+◌, ◌<◌, ◌≤◌, ℕ, length};
 ghost use Rattle.std.specs.Int.{bit_at};
 ghost use Rattle.sixel_picture.specs.Pictures.{most_side};
 ghost use Rattle.sixel_encode.specs.Canon.{all_columns, most_bands};
@@ -59,20 +59,31 @@ fn add_groups(sixels: &mut [u8], row: &[u8], register: u8, groups: u64, bit: u8)
     ensures added { AreAdded 0 result register bit row.now sixels.old sixels.new }
 {
     let count = row.len() / LANES;
-    for group in 0..count {
-        if has_group(groups, group) {
-            add_group(sixels, row, group * LANES, register, bit);
-        }
+    let mut group = next_group(groups, 0, count);
+    while group < count {
+        add_group(sixels, row, group * LANES, register, bit);
+        group = next_group(groups, group + 1, count);
     }
     count * LANES
 }
 
+/// The first of so many groups from `from` on that has its bit, or their number if none has.
 #[inline]
-fn has_group(groups: u64, group: usize) -> bool
-    requires { group < 64 }
-    ensures { result ≡ (bit_at groups group == 1) }
+fn next_group(groups: u64, from: usize, count: usize) -> usize
+    requires from { from ≤ count }
+    requires count { count ≤ 64 }
+    ensures from { from ≤ result }
+    ensures to { result ≤ count }
+    ensures unset { (group : ℕ) → from ≤ group → group < result → bit_at groups group ≡ 0 }
 {
-    groups >> group & 1 == 1
+    if from == count {
+        return count;
+    }
+    let left = groups >> from;
+    if left == 0 {
+        return count;
+    }
+    (from + left.trailing_zeros() as usize).min(count)
 }
 
 #[inline]
