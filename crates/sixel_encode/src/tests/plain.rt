@@ -117,10 +117,11 @@ fn plain_text(
     Ok(text)
 }
 
-/// So many registers of the profile, in runs of 1 to 8 that a seed chooses.
+/// So many registers of the profile, in runs that a seed chooses, the longest of them of this length.
 fn registers_in_runs(
     alloc: Global,
     profile: Profile,
+    longest: u64,
     count: usize,
     seed: u64,
 ) -> Result<Vec<u8>, AllocError> {
@@ -133,7 +134,7 @@ fn registers_in_runs(
             state = state
                 .wrapping_mul(6_364_136_223_846_793_005)
                 .wrapping_add(1_442_695_040_888_963_407);
-            left = (state >> 40) % 8 + 1;
+            left = ((state >> 40) % longest.max(1)).wrapping_add(1);
             register = ((state >> 50) % u64::from(profile.count())) as u8;
         }
         left = left.wrapping_sub(1);
@@ -142,14 +143,20 @@ fn registers_in_runs(
     Ok(registers)
 }
 
-/// Whether a picture of this size has the plain text.
-fn has_plain_text(alloc: Global, profile: Profile, width: u32, height: u32) -> Result<bool, Fail> {
+/// Whether a picture of this size has the plain text, with runs of at most this length.
+fn has_plain_text(
+    alloc: Global,
+    profile: Profile,
+    longest: u64,
+    width: u32,
+    height: u32,
+) -> Result<bool, Fail> {
     let count = width.wrapping_mul(height) as usize;
     let seed = u64::from(width)
         .wrapping_mul(1_000)
         .wrapping_add(u64::from(height));
     let entries = all_entries(alloc, profile)?;
-    let registers = registers_in_runs(alloc, profile, count, seed)?;
+    let registers = registers_in_runs(alloc, profile, longest, count, seed)?;
     let expected = plain_text(
         alloc,
         profile,
@@ -163,9 +170,14 @@ fn has_plain_text(alloc: Global, profile: Profile, width: u32, height: u32) -> R
 }
 
 /// Whether pictures of this width and of some heights have the plain text.
-fn have_plain_text(alloc: Global, profile: Profile, width: u32) -> Result<bool, Fail> {
+fn have_plain_text(
+    alloc: Global,
+    profile: Profile,
+    longest: u64,
+    width: u32,
+) -> Result<bool, Fail> {
     for height in [1, 5, 6, 7, 13] {
-        if !has_plain_text(alloc, profile, width, height)? {
+        if !has_plain_text(alloc, profile, longest, width, height)? {
             return Ok(false);
         }
     }
@@ -176,7 +188,7 @@ fn have_plain_text(alloc: Global, profile: Profile, width: u32) -> Result<bool, 
 fn rows_of_each_width_have_the_plain_text(rt: HostRuntime) -> Result<(), Fail> {
     for width in 1..71 {
         assert!(rt;
-            have_plain_text(rt.alloc(), Profile::Registers16, width)?,
+            have_plain_text(rt.alloc(), Profile::Registers16, 8, width)?,
             "{width}"
         );
     }
@@ -187,9 +199,23 @@ fn rows_of_each_width_have_the_plain_text(rt: HostRuntime) -> Result<(), Fail> {
 fn wide_rows_have_the_plain_text(rt: HostRuntime) -> Result<(), Fail> {
     for width in 1..31 {
         assert!(rt;
-            have_plain_text(rt.alloc(), Profile::Registers256, width)?,
+            have_plain_text(rt.alloc(), Profile::Registers256, 8, width)?,
             "{width}"
         );
+    }
+    Ok(())
+}
+
+/// Groups of columns of the same register, and repeats that are longer than a group.
+#[test]
+fn long_runs_have_the_plain_text(rt: HostRuntime) -> Result<(), Fail> {
+    for width in [32, 35, 36, 63, 64, 65, 67, 68, 96, 97, 200] {
+        for longest in [40, 200] {
+            assert!(rt;
+                have_plain_text(rt.alloc(), Profile::Registers16, longest, width)?,
+                "{width}"
+            );
+        }
     }
     Ok(())
 }
