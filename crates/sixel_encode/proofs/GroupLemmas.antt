@@ -12,7 +12,7 @@ use Rattle.std.proofs.lemmas.List.{get_or-set_other, get_or-set_same, length-set
 use Rattle.std.proofs.lemmas.Nat.Bits.{bit_at-trailing_zeros, bit_at-zero, bit_at_set_other, bit_at_set_same}
 use Rattle.sixel_picture.specs.Pictures.{PictureValue, register_of}
 use Rattle.sixel_encode.specs.Canon.{column_bits, has_pixel, occurs}
-use Rattle.sixel_encode.specs.Columns.{AreMarked, HasBand}
+use Rattle.sixel_encode.specs.Columns.{AreMarked, HasBandGroups}
 use Rattle.sixel_encode.proofs.BitLemmas.{column_has}
 use Rattle.sixel_encode.proofs.OccurLemmas.{occurs_is, pixel_occurs}
 use Rattle.sixel_encode.proofs.RangeLemmas.{InRange, range_any}
@@ -138,7 +138,7 @@ rows_past p band row marks past before = record {
 
 -- all rows: the groups of a register
 pub rows_groups : (p : PictureValue) (band register : ℕ) (marks : List ℕ) → AreRows p band 6 marks
-    → HasBand p band register (get_or marks register 0)
+    → HasBandGroups p band register (get_or marks register 0)
 rows_groups p band register marks rows x k lt small has =
     let parts = and_parts (nat_lt (6 * band + k) p.height) (register_of p x (6 * band + k) == register) has in
     ap (λ (r : ℕ). bit_at (get_or marks r 0) (x / 32)) (sym (eqb-true _ _ parts.1))

@@ -36,13 +36,13 @@ pub record AreAdded (from to register bit : ℕ) (row old new : List ℕ) : Type
 -- ---- groups of 32 columns
 
 -- the mask has a bit for each group of columns in which the row has a pixel of the register
-abbrev pub HasAll : ℕ → List ℕ → ℕ → Type 0
-HasAll register row groups =
+abbrev pub HasRowGroups : ℕ → List ℕ → ℕ → Type 0
+HasRowGroups register row groups =
     (x : ℕ) → x < length row → slice_index row x ≡ register → bit_at groups (x / 32) ≡ 1
 
 -- and in which the band has one
-abbrev pub HasBand : PictureValue → ℕ → ℕ → ℕ → Type 0
-HasBand p band register groups = (x row : ℕ) → x < p.width → row < band_rows
+abbrev pub HasBandGroups : PictureValue → ℕ → ℕ → ℕ → Type 0
+HasBandGroups p band register groups = (x row : ℕ) → x < p.width → row < band_rows
     → has_pixel p band register x row ≡ true → bit_at groups (x / 32) ≡ 1
 
 -- the registers of the pixels from `from` up to `to` are marked, each by a bit for its group, and no others

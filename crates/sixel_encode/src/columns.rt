@@ -4,9 +4,9 @@ ghost use Rattle.std.specs.Prelude.{◌≡◌, ◌+◌, ◌<◌, ◌≤◌, ℕ,
 ghost use Rattle.std.specs.Int.{bit_at};
 ghost use Rattle.sixel_picture.specs.Pictures.{most_side};
 ghost use Rattle.sixel_encode.specs.Canon.{all_columns, most_bands};
-ghost use Rattle.sixel_encode.specs.Columns.{AreAdded, HasAll, HasBand, sixels_of};
+ghost use Rattle.sixel_encode.specs.Columns.{AreAdded, HasRowGroups, HasBandGroups, sixels_of};
 
-use crate::groups::LANES;
+use crate::lanes::LANES;
 use sixel_picture::{BAND_ROWS, Picture};
 use std::simd::prelude::*;
 
@@ -22,7 +22,7 @@ pub(crate) fn find_sixels(
 )
     requires band { band < most_bands }
     requires width { length sixels.old ≡ picture.now.width }
-    requires groups { HasBand picture.now band register groups }
+    requires groups { HasBandGroups picture.now band register groups }
     ensures { sixels.new ≡ sixels_of (all_columns picture.now band register) }
 {
     sixels.fill(b'?');
@@ -38,7 +38,7 @@ pub(crate) fn find_sixels(
 fn add_row(sixels: &mut [u8], row: &[u8], register: u8, groups: u64, bit: u8)
     requires width { length sixels.old ≡ length row.now }
     requires few { length row.now ≤ most_side }
-    requires groups { HasAll register row.now groups }
+    requires groups { HasRowGroups register row.now groups }
     ensures { AreAdded 0 (length row.now) register bit row.now sixels.old sixels.new }
 {
     let rest = add_groups(sixels, row, register, groups, bit);
@@ -53,7 +53,7 @@ fn add_row(sixels: &mut [u8], row: &[u8], register: u8, groups: u64, bit: u8)
 fn add_groups(sixels: &mut [u8], row: &[u8], register: u8, groups: u64, bit: u8) -> usize
     requires width { length sixels.old ≡ length row.now }
     requires few { length row.now ≤ most_side }
-    requires groups { HasAll register row.now groups }
+    requires groups { HasRowGroups register row.now groups }
     ensures to { result ≤ length row.now }
     ensures whole { length row.now < result + LANES }
     ensures added { AreAdded 0 result register bit row.now sixels.old sixels.new }

@@ -4,13 +4,10 @@ ghost use Rattle.std.specs.Prelude.{◌≡◌, ◌==◌, ◌+◌, ◌*◌, ◌<�
 ghost use Rattle.sixel_picture.specs.Geometry.{band_rows};
 ghost use Rattle.sixel_picture.specs.Pictures.{IsAnyPicture, most_side};
 ghost use Rattle.sixel_encode.specs.Canon.{most_bands, occurs};
-ghost use Rattle.sixel_encode.specs.Columns.{AreMarked, HasBand};
+ghost use Rattle.sixel_encode.specs.Columns.{AreMarked, HasBandGroups};
 
-use crate::repeats::is_uniform;
+use crate::lanes::{LANES, is_uniform};
 use sixel_picture::{BAND_ROWS, MOST_REGISTERS, Picture};
-
-/// How many columns are taken at once, as a group. A row has at most 64 groups.
-pub(crate) const LANES: usize = 32;
 
 /// For each register a mask: a bit for each group of columns in which the band has a pixel of it.
 pub(crate) fn band_groups(picture: &Picture, band: u32) -> [u64; MOST_REGISTERS]
@@ -18,7 +15,7 @@ pub(crate) fn band_groups(picture: &Picture, band: u32) -> [u64; MOST_REGISTERS]
     ensures occurs { (register : ℕ) → register < MOST_REGISTERS →
         not (get_or result register 0 == 0) ≡ occurs picture.now band register }
     ensures groups { (register : ℕ) → register < MOST_REGISTERS →
-        HasBand picture.now band register (get_or result register 0) }
+        HasBandGroups picture.now band register (get_or result register 0) }
     ensures picture { IsAnyPicture picture.now }
 {
     let height = picture.height();

@@ -4,6 +4,7 @@
 mod band;
 mod columns;
 mod groups;
+mod lanes;
 pub mod laws;
 mod repeats;
 mod writing;

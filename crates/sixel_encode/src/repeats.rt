@@ -1,11 +1,9 @@
 //! Where columns of the same bits stand in a row of sixels.
 
-ghost use Rattle.std.specs.Prelude.{◌≡◌, ◌==◌, ◌+◌, ◌<◌, ◌≤◌, ℕ, drop, length, not, slice_index, take, true};
-ghost use Rattle.std.specs.List.{prefix_len};
-ghost use Rattle.sixel_picture.specs.Lanes.{IsFirst};
+ghost use Rattle.std.specs.Prelude.{◌≡◌, ◌+◌, ◌<◌, ◌≤◌, length, true};
 ghost use Rattle.sixel_encode.specs.Columns.{IsInkEnd, IsRepeat, IsRun, NoFour, are_four};
 
-use crate::groups::LANES;
+use crate::lanes::{LANES, first_other};
 use std::simd::prelude::*;
 
 /// The fewest columns of the same bits that are a repeat.
@@ -93,70 +91,6 @@ pub(crate) fn run_end(sixels: &[u8], start: usize) -> usize
         Some(end) => end,
         None => sixels.len(),
     }
-}
-
-/// The first other sixel from `from` on.
-fn first_other(sixels: &[u8], from: usize, sixel: u8) -> Option<usize>
-    requires { from ≤ length sixels.now }
-    ensures { IsFirst (λ s. not (s == sixel)) from (length sixels.now) sixels.now result }
-{
-    let groups = (sixels.len() - from) / LANES;
-    for group in 0..groups {
-        if let Some(index) = first_in_group(sixels, from + group * LANES, sixel) {
-            return Some(index);
-        }
-    }
-    first_in_rest(sixels, from + groups * LANES, sixel)
-}
-
-#[inline]
-fn first_in_group(sixels: &[u8], at: usize, sixel: u8) -> Option<usize>
-    requires { at + LANES ≤ length sixels.now }
-    ensures { IsFirst (λ s. not (s == sixel)) at (at + LANES) sixels.now result }
-{
-    let count = equal_in_group(sixels, at, sixel);
-    if count < LANES {
-        Some(at + count)
-    } else {
-        None
-    }
-}
-
-/// How many sixels of the group from `at` on come before the first other one.
-#[inline]
-fn equal_in_group(sixels: &[u8], at: usize, sixel: u8) -> usize
-    requires { at + LANES ≤ length sixels.now }
-    ensures { result ≡ prefix_len (λ s. not (not (s == sixel))) (take LANES (drop at sixels.now)) }
-{
-    let others = u8x32::from_slice(&sixels[at..])
-        .simd_ne(u8x32::splat(sixel))
-        .to_bitmask();
-    if others == 0 {
-        LANES
-    } else {
-        others.trailing_zeros() as usize
-    }
-}
-
-/// Whether the bytes of the group from `at` on are all equal.
-#[inline]
-pub(crate) fn is_uniform(bytes: &[u8], at: usize) -> bool
-    requires { at + LANES ≤ length bytes.now }
-    ensures { result ≡ true → (k : ℕ) → at ≤ k → k < at + LANES → slice_index bytes.now k ≡ slice_index bytes.now at }
-{
-    equal_in_group(bytes, at, bytes[at]) == LANES
-}
-
-fn first_in_rest(sixels: &[u8], from: usize, sixel: u8) -> Option<usize>
-    requires { from ≤ length sixels.now }
-    ensures { IsFirst (λ s. not (s == sixel)) from (length sixels.now) sixels.now result }
-{
-    for index in from..sixels.len() {
-        if sixels[index] != sixel {
-            return Some(index);
-        }
-    }
-    None
 }
 
 /// Where the columns from `from` on end, without the blank ones at their end.

@@ -1,6 +1,6 @@
 use Rattle.std.proofs.Common.{◌==◌, not}
 use Rattle.sixel_picture.specs.Lanes.{NonePasses}
-use Rattle.sixel_encode.proofs.repeats.first_in_rest.Given as goal
+use Rattle.sixel_encode.proofs.lanes.first_in_rest.Given as goal
 
 abbrev pub invariant-loop-index : goal.invariant-loop-index
-invariant-loop-index l = NonePasses (λ b. not (b == l.sixel)) l.from l.index l.sixels
+invariant-loop-index l = NonePasses (λ b. not (b == l.byte)) l.from l.index l.bytes

@@ -1,6 +1,6 @@
 use Rattle.std.proofs.Common.{◌==◌, ◌+◌, ◌*◌, not}
 use Rattle.sixel_picture.specs.Lanes.{NonePasses}
-use Rattle.sixel_encode.proofs.repeats.first_other.Given as goal
+use Rattle.sixel_encode.proofs.lanes.first_other.Given as goal
 
 abbrev pub invariant-loop-group : goal.invariant-loop-group
-invariant-loop-group l = NonePasses (λ b. not (b == l.sixel)) l.from (l.from + l.group * 32) l.sixels
+invariant-loop-group l = NonePasses (λ b. not (b == l.byte)) l.from (l.from + l.group * 32) l.bytes

@@ -1,7 +1,7 @@
 use Rattle.std.proofs.Common.{◌≡◌, ◌==◌, not, arith, get_or}
 use Rattle.std.proofs.lemmas.Bool.{eqb-true, not-false}
 use Rattle.sixel_picture.proofs.LaneLemmas.{none_in_group}
-use Rattle.sixel_encode.proofs.repeats.is_uniform.Goals as goal
+use Rattle.sixel_encode.proofs.lanes.is_uniform.Goals as goal
 
 pub returns : goal.returns
 returns c = λ all k low high.

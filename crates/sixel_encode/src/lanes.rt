@@ -1,0 +1,74 @@
+//! Bytes that are equal, 32 lanes at a time.
+
+ghost use Rattle.std.specs.Prelude.{◌≡◌, ◌==◌, ◌+◌, ◌<◌, ◌≤◌, ℕ, drop, length, not, slice_index, take, true};
+ghost use Rattle.std.specs.List.{prefix_len};
+ghost use Rattle.sixel_picture.specs.Lanes.{IsFirst};
+
+use std::simd::prelude::*;
+
+/// How many columns are taken at once, as a group. A row has at most 64 groups.
+pub(crate) const LANES: usize = 32;
+
+/// The first other byte from `from` on.
+pub(crate) fn first_other(bytes: &[u8], from: usize, byte: u8) -> Option<usize>
+    requires { from ≤ length bytes.now }
+    ensures { IsFirst (λ b. not (b == byte)) from (length bytes.now) bytes.now result }
+{
+    let groups = (bytes.len() - from) / LANES;
+    for group in 0..groups {
+        if let Some(index) = first_in_group(bytes, from + group * LANES, byte) {
+            return Some(index);
+        }
+    }
+    first_in_rest(bytes, from + groups * LANES, byte)
+}
+
+#[inline]
+fn first_in_group(bytes: &[u8], at: usize, byte: u8) -> Option<usize>
+    requires { at + LANES ≤ length bytes.now }
+    ensures { IsFirst (λ b. not (b == byte)) at (at + LANES) bytes.now result }
+{
+    let count = equal_in_group(bytes, at, byte);
+    if count < LANES {
+        Some(at + count)
+    } else {
+        None
+    }
+}
+
+/// How many bytes of the group from `at` on come before the first other one.
+#[inline]
+fn equal_in_group(bytes: &[u8], at: usize, byte: u8) -> usize
+    requires { at + LANES ≤ length bytes.now }
+    ensures { result ≡ prefix_len (λ b. not (not (b == byte))) (take LANES (drop at bytes.now)) }
+{
+    let others = u8x32::from_slice(&bytes[at..])
+        .simd_ne(u8x32::splat(byte))
+        .to_bitmask();
+    if others == 0 {
+        LANES
+    } else {
+        others.trailing_zeros() as usize
+    }
+}
+
+/// Whether the bytes of the group from `at` on are all equal.
+#[inline]
+pub(crate) fn is_uniform(bytes: &[u8], at: usize) -> bool
+    requires { at + LANES ≤ length bytes.now }
+    ensures { result ≡ true → (k : ℕ) → at ≤ k → k < at + LANES → slice_index bytes.now k ≡ slice_index bytes.now at }
+{
+    equal_in_group(bytes, at, bytes[at]) == LANES
+}
+
+fn first_in_rest(bytes: &[u8], from: usize, byte: u8) -> Option<usize>
+    requires { from ≤ length bytes.now }
+    ensures { IsFirst (λ b. not (b == byte)) from (length bytes.now) bytes.now result }
+{
+    for index in from..bytes.len() {
+        if bytes[index] != byte {
+            return Some(index);
+        }
+    }
+    None
+}
