@@ -9,6 +9,7 @@ pub mod BandLemmas
 pub mod StretchLemmas
 pub mod PlaneStretchLemmas
 pub mod PpmLemmas
+pub mod PpmTableLemmas
 pub mod PositionLemmas
 pub mod StepLemmas
 pub mod KnownLemmas

@@ -54,7 +54,7 @@ all_given f [] all = refl
 all_given f (x ∷ xs) all = all_given_step f x xs (f x) all (all_given f xs)
 
 -- the last of four tests, where none failed
-last_test : (t u v w : Bool) (a b c d : PictureReason)
+pub last_test : (t u v w : Bool) (a b c d : PictureReason)
     → (if not t then Some a else if not u then Some b else if not v then Some c else if not w then Some d else None)
     ≡ None → w ≡ true
 last_test true true true true a b c d e = refl

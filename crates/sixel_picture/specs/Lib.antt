@@ -20,4 +20,5 @@ pub mod PpmHeld
 pub mod PpmSamples
 pub mod PpmFeeding
 pub mod PpmFiles
+pub mod PpmTables
 pub mod Laws

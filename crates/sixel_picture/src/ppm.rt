@@ -4,6 +4,7 @@ mod colours;
 mod header;
 mod read;
 mod samples;
+mod table;
 mod write;
 
 pub use read::read_ppm;

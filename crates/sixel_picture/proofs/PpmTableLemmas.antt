@@ -1,0 +1,168 @@
+-- On the samples of pixels by a table of their registers.
+use Rattle.std.proofs.Common.{◌≡◌, ℕ, ◌+◌, ◌*◌, ◌<◌, ◌≤◌, Bool, true, ◌&&◌, nat_lt, Option, Some, None, List}
+use Rattle.std.proofs.Common.{[], ◌∷◌, ◌++◌, length, take, get_or, is_some, refl, sym, ap, ap₂, ◌∙◌, arith, append-nil}
+use Rattle.std.proofs.Common.{inl, inr}
+use Rattle.std.specs.Prelude.{◌==◌, slice_set}
+use Rattle.std.specs.Option.{option_flatten, option_map_or}
+use Rattle.std.specs.List.{cons_option, filter_map, flat_map, list_all}
+use Rattle.std.specs.Io.KnownBytes.{Appends, Keeps}
+use Rattle.std.proofs.KnownBytes.{Appends-trans, Appends-kept}
+use Rattle.std.proofs.Math.Seq.{take-append-add}
+use Rattle.std.proofs.lemmas.Bool.{and_parts, cases_eq, cases_lt}
+use Rattle.std.proofs.lemmas.Grind.{flat_map-append, get_or-set_at}
+use Rattle.std.proofs.lemmas.List.{append_assoc, get_or-set_other, length-take, take-take, take_all, take_more}
+use Rattle.std.proofs.lemmas.Option.{slice_get_past}
+use Rattle.std.proofs.lemmas.Simd.{take_more_put_chunk}
+use lib.Lanes.{put_chunk}
+use Rattle.sixel_grammar.proofs.SinkLemmas.{puts-longer}
+use Rattle.sixel_picture.specs.Colours.{palette_at}
+use Rattle.sixel_picture.specs.Pictures.{IsAnyPicture, PictureValue, is_side}
+use Rattle.sixel_picture.specs.Ppm.{are_rgb, colours_of, is_rgb, samples_of}
+use Rattle.sixel_picture.specs.PpmTables.{HasFourBytes, IsTable, bytes_of, samples_from}
+use Rattle.sixel_picture.specs.Profiles.{count_of}
+use Rattle.sixel_picture.specs.declared.colour.Parts.{Parts}
+use Rattle.sixel_picture.specs.declared.colour.Parts.TheVariants.{Rgb, Hls}
+use Rattle.sixel_picture.specs.declared.picture.PictureReason.TheVariants.{Size, Count, Register, NoColour}
+use Rattle.sixel_picture.specs.declared.profile.Profile.{Profile}
+use Rattle.sixel_picture.specs.declared.profile.Profile.TheVariants.{Registers16, Registers256}
+use Rattle.sixel_picture.proofs.PpmLemmas.{are_rgb_of, last_test, samples_by}
+
+-- the samples of one more pixel
+samples_more : (table : List (List ℕ)) (registers : List ℕ) (i : ℕ) → i < length registers
+    → samples_from table (take (i + 1) registers)
+    ≡ samples_from table (take i registers) ++ take 3 (get_or table (get_or registers i 0) [])
+samples_more table registers i lt =
+    ap (samples_from table) (take_more registers i 0 lt)
+    ∙ flat_map-append (λ r. take 3 (get_or table r [])) (take i registers) (get_or registers i 0 ∷ [])
+    ∙ ap (λ (t : List ℕ). samples_from table (take i registers) ++ t)
+    (append-nil (take 3 (get_or table (get_or registers i 0) [])))
+
+-- four bytes are stored, of which the last is left to the next pixel
+stored_three : (at : ℕ) (xs entry : List ℕ) → length entry ≡ 4 → at + 4 ≤ length xs
+    → take (at + 3) (put_chunk at xs entry) ≡ take at xs ++ take 3 entry
+stored_three at xs entry long room =
+    let whole : take (at + 4) (put_chunk at xs entry) ≡ take at xs ++ entry =
+    take_more_put_chunk at xs entry (at + 4) (omega (arith, long)) room in
+    let front : length (take at xs) ≡ at = omega (arith, length-take at xs) in
+    sym (take-take (at + 3) (at + 4) (put_chunk at xs entry) (omega arith))
+    ∙ ap (take (at + 3)) whole
+    ∙ ap (λ n. take (n + 3) (take at xs ++ entry)) (sym front)
+    ∙ take-append-add (take at xs) entry 3
+
+-- one more pixel's samples are put behind those of the ones before
+pub pixel_put : (table : List (List ℕ)) (registers samples : List ℕ) (i at : ℕ) (entry : List ℕ)
+    → i < length registers → at ≡ 3 * i → at + 4 ≤ length samples
+    → entry ≡ get_or table (get_or registers i 0) [] → length entry ≡ 4
+    → take at samples ≡ samples_from table (take i registers)
+    → take (at + 3) (put_chunk at samples entry) ≡ samples_from table (take (i + 1) registers)
+pixel_put table registers samples i at entry lt place room is long before =
+    stored_three at samples entry long room
+    ∙ ap₂ (λ (xs ys : List ℕ). xs ++ take 3 ys) before is
+    ∙ sym (samples_more table registers i lt)
+
+-- one more register has its entry's bytes
+pub entry_more : (palette : List (Option Parts)) (table : List (List ℕ)) (n : ℕ) (entry : List ℕ)
+    → n < length table → entry ≡ bytes_of (palette_at palette n)
+    → ((r : ℕ) → r < n → get_or table r [] ≡ bytes_of (palette_at palette r))
+    → (r : ℕ) → r < n + 1 → get_or (slice_set table n entry) r [] ≡ bytes_of (palette_at palette r)
+entry_more palette table n entry room is before r lt = elim (cases_eq r n) [
+  | inl same ↦ get_or-set_at table n r entry [] same room
+      ∙ is ∙ ap (λ k. bytes_of (palette_at palette k)) (sym same)
+  | inr other ↦ get_or-set_other table n r entry [] other ∙ before r (omega arith)
+]
+
+-- a table's entries have four bytes
+four : (o : Option Parts) → length (bytes_of o) ≡ 4
+four None = refl
+four (Some (Rgb red green blue)) = refl
+four (Some (Hls hue lightness saturation)) = refl
+
+pub four_bytes : (palette : List (Option Parts)) (table : List (List ℕ)) → IsTable palette table → HasFourBytes table
+four_bytes palette table is = λ r lt. ap length (is r lt) ∙ four (palette_at palette r)
+
+-- ---- a group of pixels
+
+-- the samples of a group of pixels were put behind those of the pixels before it
+pub group_put : (table : List (List ℕ)) (registers front rest group more : List ℕ) (a b c : Option (List ℕ))
+    → registers ≡ front ++ rest → rest ≡ group ++ more → Appends a b (samples_from table front)
+    → Appends b c (samples_from table group)
+    → (longer : List ℕ) × (registers ≡ longer ++ more) × Appends a c (samples_from table longer)
+group_put table registers front rest group more a b c whole cut put next = (
+  front ++ group,
+  whole ∙ ap (λ (t : List ℕ). front ++ t) cut ∙ sym (append_assoc front group more),
+  rw (flat_map-append (λ r. take 3 (get_or table r [])) front group) (Appends-trans a b c _ _ put next),
+)
+
+-- the group was not put: what was put is a front of all samples
+pub group_failed : (table : List (List ℕ)) (registers front rest : List ℕ) (a b c : Option (List ℕ))
+    → registers ≡ front ++ rest → Appends a b (samples_from table front) → Keeps b c
+    → (n : ℕ) × Appends a c (take n (samples_from table registers))
+group_failed table registers front rest a b c whole put kept =
+    let xs = samples_from table front in
+    let all : samples_from table registers ≡ xs ++ samples_from table rest =
+    ap (samples_from table) whole ∙ flat_map-append (λ r. take 3 (get_or table r [])) front rest in
+    rw all (puts-longer a c xs (samples_from table rest)
+    (length xs, rw (take_all (length xs) xs (omega arith)) (Appends-kept a b c xs put kept)))
+
+-- ---- the table of a picture's palette
+
+most_registers : (profile : Profile) → count_of profile ≤ 256
+most_registers Registers16 = omega arith
+most_registers Registers256 = omega arith
+
+short_palette : (p : PictureValue) → IsAnyPicture p → length p.palette ≤ 256
+short_palette p is = omega (arith, is.parts.palette.entries, most_registers is.profile)
+
+no_entry_past : (palette : List (Option Parts)) (r : ℕ) → length palette ≤ r → palette_at palette r ≡ None
+no_entry_past palette r past = ap (λ (o : Option (Option Parts)). option_flatten o) (slice_get_past palette r past)
+
+all_true : (p : ℕ → Bool) (xs : List ℕ) → ((x : ℕ) → p x ≡ true) → list_all p xs ≡ true
+all_true p [] each = refl
+all_true p (x ∷ xs) each = rw (each x) (all_true p xs each)
+
+-- a picture all of whose registers' colours are red, green and blue
+pub rgb_by_palette : (p : PictureValue) → IsAnyPicture p
+    → ((r : ℕ) → r < 256 → option_map_or is_rgb (palette_at p.palette r) true ≡ true)
+    → are_rgb (colours_of p) ≡ true
+rgb_by_palette p is each = are_rgb_of p ∙ all_true _ p.registers (λ r. elim (cases_lt r 256) [
+  | inl below ↦ each r below
+  | inr above ↦ ap (λ (o : Option Parts). option_map_or is_rgb o true)
+      (no_entry_past p.palette r (omega (arith, short_palette p is)))
+])
+
+-- the samples of a colour of red, green and blue are the first three bytes of its entry
+front_of : (o : Option Parts) (cs : List Parts) (t : List ℕ) → is_some o ≡ true → option_map_or is_rgb o true ≡ true
+    → t ≡ flat_map samples_of cs → take 3 (bytes_of o) ++ t ≡ flat_map samples_of (cons_option o cs)
+front_of None cs t some rgb e = cc
+front_of (Some (Rgb red green blue)) cs t some rgb e = ap (λ (u : List ℕ). red ∷ green ∷ blue ∷ u) e
+front_of (Some (Hls hue lightness saturation)) cs t some rgb e = cc
+
+within_palette : (palette : List (Option Parts)) (r : ℕ) → is_some (palette_at palette r) ≡ true → r < length palette
+within_palette palette r some = elim (cases_lt r (length palette)) [
+  | inl below ↦ below
+  | inr above ↦ let none = ap (λ (o : Option Parts). is_some o) (no_entry_past palette r above) in cc
+]
+
+samples_are : (palette : List (Option Parts)) (table : List (List ℕ)) (registers : List ℕ) → length palette ≤ 256
+    → IsTable palette table → list_all (λ r. is_some (palette_at palette r)) registers ≡ true
+    → list_all (λ r. option_map_or is_rgb (palette_at palette r) true) registers ≡ true
+    → samples_from table registers ≡ samples_by palette registers
+samples_are palette table [] short is some rgb = refl
+samples_are palette table (r ∷ registers) short is some rgb =
+    let have = and_parts (is_some (palette_at palette r)) _ some in
+    let are = and_parts (option_map_or is_rgb (palette_at palette r) true) _ rgb in
+    let below : r < 256 = omega (arith, within_palette palette r have.0) in
+    ap (λ (bs : List ℕ). take 3 bs ++ samples_from table registers) (is r below)
+    ∙ front_of (palette_at palette r) (filter_map (palette_at palette) registers) (samples_from table registers)
+    have.0 are.0 (samples_are palette table registers short is have.1 are.1)
+
+-- the samples of a picture's pixels by the table of its palette
+pub samples_of_picture : (p : PictureValue) (table : List (List ℕ)) → IsAnyPicture p → IsTable p.palette table
+    → are_rgb (colours_of p) ≡ true → samples_from table p.registers ≡ flat_map samples_of (colours_of p)
+samples_of_picture p table is entries rgb =
+    let count = count_of is.profile in
+    let some : list_all (λ r. is_some (palette_at p.palette r)) p.registers ≡ true =
+    last_test (is_side p.width && is_side p.height) (length p.registers == p.width * p.height)
+    (list_all (λ r. nat_lt r count) p.registers) (list_all (λ r. is_some (palette_at p.palette r)) p.registers)
+    Size Count Register NoColour is.parts.accepted in
+    samples_are p.palette table p.registers (short_palette p is) entries some (sym (are_rgb_of p) ∙ rgb)

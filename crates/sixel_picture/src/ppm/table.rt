@@ -1,0 +1,55 @@
+//! The samples of pixels, many at a time, by a table of their registers.
+
+ghost use Rattle.std.specs.Prelude.{◌≡◌, ◌*◌, ◌<◌, length, take};
+ghost use Rattle.sixel_picture.specs.PpmTables.{HasFourBytes, IsTable, bytes_of, samples_from};
+
+use crate::colour::{Colour, Parts};
+use crate::palette::Palette;
+use crate::profile::MOST_REGISTERS;
+use std::simd::prelude::*;
+
+/// How many pixels' samples are made at once.
+pub(crate) const PIXELS: usize = 1024;
+
+/// Room for their samples, and for the byte that goes after the last ones.
+pub(crate) const SAMPLES: usize = 3 * PIXELS + 1;
+
+/// Four bytes for each register: they go out in one store, and the next pixel's go over the fourth.
+pub(crate) type Table = [[u8; 4]; MOST_REGISTERS];
+
+/// The samples of a register's colour, if it has one of red, green and blue, and a byte more.
+fn bytes_of(entry: Option<Colour>) -> [u8; 4]
+    ensures { result ≡ bytes_of entry }
+{
+    match entry {
+        None => [0; 4],
+        Some(colour) => match colour.parts() {
+            Parts::Rgb(red, green, blue) => [red, green, blue, 0],
+            Parts::Hls(_, _, _) => [0; 4],
+        },
+    }
+}
+
+/// The table of a palette.
+pub(crate) fn table_of(palette: &Palette) -> Table
+    ensures { IsTable palette.now result }
+{
+    let mut table = [[0; 4]; MOST_REGISTERS];
+    for register in 0..MOST_REGISTERS {
+        table[register] = bytes_of(palette.get(register as u8));
+    }
+    table
+}
+
+/// Puts the samples of the pixels in these registers at the front of a buffer.
+pub(crate) fn put_samples(samples: &mut [u8], table: &Table, registers: &[u8])
+    requires entries { HasFourBytes table.now }
+    requires room { 3 * length registers.now < length samples.old }
+    ensures { take (3 * length registers.now) samples.new ≡ samples_from table.now registers.now }
+{
+    let mut at = 0;
+    for register in registers {
+        u8x4::from_array(table[*register as usize]).copy_to_slice(&mut samples[at..]);
+        at += 3;
+    }
+}
