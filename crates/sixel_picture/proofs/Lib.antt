@@ -26,6 +26,7 @@ mod WorkedPpms
 pub mod PpmHeaderLemmas
 pub mod PpmColourLemmas
 pub mod PpmSampleLemmas
+pub mod PpmKnownLemmas
 pub mod PpmReadLemmas
 pub mod PpmFileLemmas
 pub mod PpmPartLemmas

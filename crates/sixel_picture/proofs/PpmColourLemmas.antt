@@ -1,14 +1,19 @@
 -- On colours that are numbered as they are first seen.
 use Rattle.std.proofs.Common.{◌≡◌, ◌+◌, ◌<◌, ◌≤◌, ℕ, zero, suc, Bool, true, false, ◌||◌, Option, Some, None, List, []}
-use Rattle.std.proofs.Common.{◌∷◌, ◌++◌, length, cond, refl, sym, ap, ap₂, ◌∙◌, arith, zero-add, length-append}
+use Rattle.std.proofs.Common.{◌∷◌, ◌++◌, length, cond, refl, sym, ap, ap₂, ◌∙◌, arith, zero-add, length-append, inl, inr}
 use Rattle.std.proofs.Common.{length-set}
-use Rattle.std.specs.Prelude.{is_some, slice_set, position, unwrap_or}
-use Rattle.std.specs.List.{list_any, position_from}
+use Rattle.std.specs.Prelude.{get_or, is_some, nat_lt, replicate, slice_set, position, unwrap_or}
+use Rattle.std.specs.List.{list_any, position_from, position_or_len}
 use Rattle.std.proofs.lemmas.Bool.Decides.{nat_tests}
+use Rattle.std.proofs.lemmas.Bool.{cases_lt, lt-ltb}
+use Rattle.std.proofs.lemmas.Grind.{get_or-set_at}
+use Rattle.std.proofs.lemmas.List.{get_or_past, get_or-replicate, get_or-set_other, length-replicate}
+use Rattle.std.proofs.lemmas.List.Quantifiers.{position-Some}
+use Rattle.std.proofs.lemmas.List.Sums.{fails_before_first, position_or_len_is}
 use Rattle.std.proofs.lemmas.Iterator.Adapters.{position_from-zero}
 use Rattle.sixel_picture.specs.Colours.{is_entry, is_same, palette_at}
 use Rattle.sixel_picture.specs.PpmReading.{palette_of, register_among, with_colour}
-use Rattle.sixel_picture.specs.PpmColours.{Fills}
+use Rattle.sixel_picture.specs.PpmColours.{Fills, IsUnusedFrom, KeepsRegisters}
 use Rattle.sixel_picture.specs.declared.colour.Parts.{Parts}
 use Rattle.sixel_picture.specs.declared.colour.Parts.TheVariants.{Rgb, Hls}
 use Rattle.sixel_picture.specs.declared.ppm.colours.Colours.{Colours}
@@ -94,7 +99,7 @@ same_as_itself (Hls hue lightness saturation) = grind (arith, nat_tests)
 
 -- ---- the register of a colour
 
-index_among : (c : Colours) (seen : List Parts) (colour : Parts) (o : Option ℕ) → Fills c seen
+pub index_among : (c : Colours) (seen : List Parts) (colour : Parts) (o : Option ℕ) → Fills c seen
     → o ≡ position (is_entry colour) c.palette → position_from (is_same colour) 0 seen ≡ o
 index_among c seen colour o fills found =
     sym (entry_of colour (length c.palette) seen 0 fills.few)
@@ -168,3 +173,66 @@ register_by seen c found =
 pub register_within : (seen : List Parts) (c : Parts) → list_any (is_same c) seen ≡ true
     → register_among seen c < length seen
 register_within seen c any = register_by seen c (any_then_position (is_same c) seen 0 any)
+
+-- ---- the first register of a colour in a palette
+
+position_is : (p : Option Parts → Bool) (xs : List (Option Parts)) (i : ℕ) → i < length xs → p (get_or xs i None) ≡ true
+    → ((k : ℕ) → k < i → p (get_or xs k None) ≡ false) → position p xs ≡ Some i
+position_is p xs i lt here before =
+    let at : position_or_len p xs ≡ i = position_or_len_is p xs i None (omega arith) before (λ _. here) in
+    let below : nat_lt i (length xs) ≡ true = grind (arith, nat_tests) in
+    rw (at, below) refl
+
+none_passes : (p : Option Parts → Bool) (xs : List (Option Parts)) (k : ℕ) → position p xs ≡ None → k < length xs
+    → p (get_or xs k None) ≡ false
+none_passes p xs k none lt = elim (cases_lt (position_or_len p xs) (length xs)) [
+  | inl below ↦
+      let test : nat_lt (position_or_len p xs) (length xs) ≡ true = lt-ltb (position_or_len p xs) (length xs) below in
+      let some : position p xs ≡ Some (position_or_len p xs) = rw test refl in
+      cc
+  | inr above ↦ fails_before_first p xs k None (omega (arith, lt, above))
+]
+
+-- the next register is the first of its colour
+pub first_next : (palette : List (Option Parts)) (count : ℕ) (colour : Parts) → None ≡ position (is_entry colour) palette
+    → count < length palette → position (is_entry colour) (slice_set palette count (Some colour)) ≡ Some count
+first_next palette count colour none room =
+    let next = slice_set palette count (Some colour) in
+    position_is (is_entry colour) next count (omega (arith, length-set palette count (Some colour)))
+    (ap (is_entry colour) (get_or-set_at palette count count (Some colour) None refl room) ∙ same_as_itself colour)
+    (λ k lt. ap (is_entry colour) (get_or-set_other palette count k (Some colour) None (λ e. absurd (omega (arith, e, lt))))
+    ∙ none_passes (is_entry colour) palette k (sym none) (omega arith))
+
+pub unused_next : (palette : List (Option Parts)) (count : ℕ) (colour : Parts) → IsUnusedFrom palette count
+    → IsUnusedFrom (slice_set palette count (Some colour)) (count + 1)
+unused_next palette count colour unused = λ r past.
+    get_or-set_other palette count r (Some colour) None (λ e. absurd (omega (arith, e, past)))
+    ∙ unused r (omega (arith, past))
+
+used_before : (palette : List (Option Parts)) (count i : ℕ) (c : Parts) → IsUnusedFrom palette count
+    → is_entry c (get_or palette i None) ≡ true → i < count
+used_before palette count i c unused some = elim (cases_lt i count) [
+  | inl below ↦ below
+  | inr past ↦ let none : is_entry c (get_or palette i None) ≡ false = ap (is_entry c) (unused i past) in cc
+]
+
+-- a colour that has a register keeps it where the next one is given
+pub registers_kept : (palette : List (Option Parts)) (count : ℕ) (colour : Parts) → IsUnusedFrom palette count
+    → KeepsRegisters palette (slice_set palette count (Some colour))
+registers_kept palette count colour unused = λ c i at.
+    let was = position-Some (is_entry c) palette i None at in
+    let before : i < count = used_before palette count i c unused was.1 in
+    position_is (is_entry c) (slice_set palette count (Some colour)) i
+    (omega (arith, was.0, length-set palette count (Some colour)))
+    (ap (is_entry c) (get_or-set_other palette count i (Some colour) None (λ e. absurd (omega (arith, e, before))))
+    ∙ was.1)
+    (λ k lt. ap (is_entry c) (get_or-set_other palette count k (Some colour) None (λ e. absurd (omega (arith, e, lt, before))))
+    ∙ was.2 k lt)
+
+pub blank_is_unused : (n : ℕ) (palette : List (Option Parts)) (count : ℕ) → palette ≡ replicate n None
+    → IsUnusedFrom palette count
+blank_is_unused n palette count is = λ r past. elim (cases_lt r n) [
+  | inl below ↦ ap (λ (ps : List (Option Parts)). get_or ps r None) is ∙ get_or-replicate n r None None below
+  | inr above ↦ ap (λ (ps : List (Option Parts)). get_or ps r None) is ∙ get_or_past (replicate n None) r None
+      (omega (arith, length-replicate {A = Option Parts} n None, above))
+]

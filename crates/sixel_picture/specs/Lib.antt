@@ -21,4 +21,5 @@ pub mod PpmSamples
 pub mod PpmFeeding
 pub mod PpmFiles
 pub mod PpmTables
+pub mod PpmKnown
 pub mod Laws

@@ -1,5 +1,6 @@
 -- Colours that are numbered as they are first seen. Contracts of private functions alone cite these.
-use Rattle.std.specs.Prelude.{◌≡◌, ◌<◌, ◌≤◌, ℕ, List, Option, MatchOption, length}
+use Rattle.std.specs.Prelude.{◌≡◌, ◌<◌, ◌≤◌, ℕ, List, Option, None, Some, MatchOption, get_or, length, position}
+use Rattle.sixel_picture.specs.Colours.{is_entry}
 use Rattle.sixel_picture.specs.PpmReading.{palette_of, register_among}
 use Rattle.sixel_picture.specs.declared.colour.Parts.{Parts}
 use Rattle.sixel_picture.specs.declared.ppm.colours.Colours.{Colours}
@@ -15,3 +16,13 @@ abbrev pub Numbers : Option ℕ → Colours → List Parts → Parts → Type 0
 Numbers result new seen colour =
     MatchOption result (length new.palette < length seen)
     (λ register. (register ≡ register_among seen colour) × Fills new seen)
+
+-- no register from the count on has a colour
+abbrev pub IsUnusedFrom : List (Option Parts) → ℕ → Type 0
+IsUnusedFrom palette count = (r : ℕ) → count ≤ r → get_or palette r None ≡ None
+
+-- each colour that has a register keeps it
+abbrev pub KeepsRegisters : List (Option Parts) → List (Option Parts) → Type 0
+KeepsRegisters old new =
+    (colour : Parts) (register : ℕ) → position (is_entry colour) old ≡ Some register
+    → position (is_entry colour) new ≡ Some register

@@ -1,11 +1,12 @@
 -- What the samples so far make of a picture file. Contracts of private functions alone cite these.
-use Rattle.std.specs.Prelude.{◌≡◌, ◌≤◌, ◌<◌, ℕ, ◌+◌, ◌-◌, ◌*◌, true, Option, Some, None, List, [], ◌∷◌, ◌++◌, length}
+use Rattle.std.specs.Prelude.{◌≡◌, ◌≤◌, ◌<◌, ℕ, ◌+◌, ◌-◌, ◌*◌, true, Option, Some, None, List, [], ◌∷◌, ◌++◌, length, take}
 use Rattle.std.specs.Prelude.{map, Result, Ok}
 use Rattle.std.specs.List.{list_any}
 use Rattle.sixel_picture.specs.Colours.{is_same}
 use Rattle.sixel_picture.specs.Pictures.{PictureValue}
 use Rattle.sixel_picture.specs.PpmColours.{Fills}
 use Rattle.sixel_picture.specs.PpmHeld.{held_samples}
+use Rattle.sixel_picture.specs.PpmKnown.{PutsHits}
 use Rattle.sixel_picture.specs.PpmReading.{◌>>=◌, at_fault, colour_of, distinct, picture_of, pixels, register_among}
 use Rattle.sixel_picture.specs.PpmReading.{with_colour}
 use Rattle.sixel_picture.specs.declared.colour.Parts.{Parts}
@@ -78,6 +79,19 @@ pub record PutsPixel (old new : Samples) (register : ℕ) : Type 0 where
   pub last : new.last ≡ old.last
   pub colours : new.colours ≡ old.colours
   pub registers : new.registers.items ≡ old.registers.items ++ register ∷ []
+
+-- so many pixels with the samples at the front of the bytes were put: the colours and the last pixel are as before
+pub record PutsPixels (old new : Samples) (bytes : List ℕ) (count : ℕ) : Type 0 where
+  pub width : new.width ≡ old.width
+  pub height : new.height ≡ old.height
+  pub maxval : new.maxval ≡ old.maxval
+  pub left : new.left + count ≡ old.left
+  pub place : new.place ≡ old.place + 3 * count
+  pub held : new.held ≡ old.held
+  pub last : new.last ≡ old.last
+  pub colours : new.colours ≡ old.colours
+  pub registers : PutsHits old.maxval old.colours.palette (take (3 * count) bytes) old.registers.items
+      new.registers.items
 
 -- a pixel whose register is that of its colour: it is the last one now
 pub record IsRegistered (old new : Samples) (seen : List Parts) (red green blue register : ℕ) : Type 0 where

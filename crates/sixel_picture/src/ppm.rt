@@ -2,6 +2,7 @@
 
 mod colours;
 mod header;
+mod known;
 mod read;
 mod samples;
 mod table;

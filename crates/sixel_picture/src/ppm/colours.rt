@@ -1,9 +1,10 @@
 //! The colours of a picture file, numbered as they are first seen.
 
-ghost use Rattle.std.specs.Prelude.{◌≡◌, List, [], length};
+ghost use Rattle.std.specs.Prelude.{◌≡◌, List, [], IfSome, Some, length, position};
+ghost use Rattle.sixel_picture.specs.Colours.{is_entry};
 ghost use Rattle.sixel_picture.specs.declared.colour.Parts.{Parts};
 ghost use Rattle.sixel_picture.specs.PpmReading.{with_colour};
-ghost use Rattle.sixel_picture.specs.PpmColours.{Fills, Numbers};
+ghost use Rattle.sixel_picture.specs.PpmColours.{Fills, IsUnusedFrom, KeepsRegisters, Numbers};
 ghost use Rattle.sixel_picture.specs.Profiles.{count_of};
 
 use crate::colour::Colour;
@@ -22,6 +23,7 @@ impl Colours {
     pub(crate) fn new(profile: Profile) -> Colours
         ensures none { Fills result [] }
         ensures profile { length result.palette ≡ count_of profile }
+        ensures unused { IsUnusedFrom result.palette result.count }
     {
         Colours {
             palette: Palette::new(profile),
@@ -33,6 +35,9 @@ impl Colours {
     pub(crate) fn register_of(&mut self, colour: Colour) -> Option<u8>
         ensures numbers { (seen : List Parts) → Fills self.old seen → Numbers result self.new (with_colour seen colour) colour }
         ensures profile { length self.new.palette ≡ length self.old.palette }
+        ensures first { IfSome result (λ register. position (is_entry colour) self.new.palette ≡ Some register) }
+        ensures kept { IsUnusedFrom self.old.palette self.old.count →
+            IsUnusedFrom self.new.palette self.new.count × KeepsRegisters self.old.palette self.new.palette }
     {
         if let Some(index) = self.palette.index_of(colour) {
             return Some(index as u8);

@@ -4,6 +4,8 @@ ghost use Rattle.std.specs.Prelude.{◌≡◌, ◌≤◌, ◌<◌, ◌+◌, ◌*
 ghost use Rattle.std.specs.Prelude.{IfOk, IfSome, Ok, OnOk, vec_capacity, vec_len};
 ghost use Rattle.sixel_picture.specs.Pictures.{is_side};
 ghost use Rattle.sixel_picture.specs.PpmHeld.{held_samples, is_good};
+ghost use Rattle.sixel_picture.specs.PpmColours.{IsUnusedFrom};
+ghost use Rattle.sixel_picture.specs.PpmKnown.{Knows};
 ghost use Rattle.sixel_picture.specs.PpmReading.{colour_of, percent};
 ghost use Rattle.sixel_picture.specs.Profiles.{count_of};
 
@@ -11,6 +13,7 @@ use crate::colour::Colour;
 use crate::picture::Picture;
 use crate::ppm::colours::Colours;
 use crate::ppm::header::Frame;
+use crate::ppm::known::Known;
 use crate::ppm::{PpmFault, PpmReason};
 use crate::profile::Profile;
 use std::alloc::{AllocError, Global};
@@ -45,12 +48,16 @@ pub(crate) struct Samples {
     pub(crate) held: Held,
     /// The last pixel: one that repeats it needs no look at the palette.
     pub(crate) last: Option<Pixel>,
+    /// Pixels that came before: one of them needs no look at the palette, either.
+    pub(crate) known: Known,
     pub(crate) colours: Colours,
     pub(crate) registers: Vec<u8>,
     ghost scaled: { 0 < maxval },
     ghost bounded: { place + 3 * left ≤ 2 ^ 63 },
     ghost held_is_good: { IsTrue (is_good held maxval left) },
     ghost sides: { IsTrue (is_side width && is_side height) },
+    ghost unused: { IsUnusedFrom colours.palette colours.count },
+    ghost knows: { Knows known maxval colours.palette },
     ghost room: { vec_len registers + left ≤ vec_capacity registers },
 }
 
@@ -89,7 +96,7 @@ fn fault(reason: PpmReason, place: u64) -> PpmFault
 
 impl Samples {
     ghost use Rattle.sixel_picture.specs.PpmSamples.{Begins, Fails, FailsOn, IsLast, IsNextHeld, KeepsPixels, Leads};
-    ghost use Rattle.sixel_picture.specs.PpmSamples.{LeadsOn, HasRead, PutsPixel, Refuses, Registers, TooMany, budget};
+    ghost use Rattle.sixel_picture.specs.PpmSamples.{LeadsOn, HasRead, PutsPixel, PutsPixels, Refuses, Registers, TooMany, budget};
     ghost use Rattle.sixel_picture.specs.PpmSamples.{samples_on, Holds};
     ghost use Rattle.sixel_picture.specs.declared.colour.Parts.{Parts};
 
@@ -110,6 +117,7 @@ impl Samples {
             place: frame.place,
             held: Held::Nothing,
             last: None,
+            known: Known::new(),
             colours: Colours::new(profile),
             registers,
         })
@@ -157,6 +165,7 @@ impl Samples {
         match self.colours.register_of(colour) {
             None => Err(fault(PpmReason::TooManyColours, self.place)),
             Some(register) => {
+                self.known.keep(red, green, blue, register);
                 self.last = Some(Pixel {
                     red,
                     green,
@@ -266,6 +275,34 @@ impl Samples {
         }
     }
 
+    /// Puts at most so many pixels from the front of the bytes into the list of those that are whole, up to the
+    /// first one that isn't known, and tells how many they are.
+    fn put_known(&mut self, bytes: &[u8], most: usize) -> usize
+        requires left { most ≤ self.old.left }
+        requires within { 3 * most ≤ length bytes.now }
+        requires whole { self.old.held ≡ Held.Nothing }
+        ensures most { result ≤ most }
+        ensures put { PutsPixels self.old self.new bytes.now result }
+    {
+        let count = self.known.put_all(bytes, most, &mut self.registers);
+        self.left -= count as u32;
+        self.place += 3 * count as u64;
+        count
+    }
+
+    /// Reads the whole pixels at the front that are known, and gives what follows.
+    fn known_front<'a>(&mut self, bytes: &'a [u8]) -> &'a [u8]
+        ensures read { HasRead self.old self.new bytes.now result.now }
+        ensures shorter { length result.now ≤ length bytes.now }
+    {
+        let Held::Nothing = self.held else {
+            return bytes;
+        };
+        let most = (bytes.len() / 3).min(self.left as usize);
+        let count = self.put_known(bytes, most);
+        &bytes[3 * count..]
+    }
+
     /// Reads a piece of the samples.
     pub(crate) fn feed(&mut self, piece: &[u8]) -> Result<(), PpmFault>
         ensures read { OnOk result (LeadsOn self.old self.new piece.now) }
@@ -275,6 +312,7 @@ impl Samples {
         let mut rest = piece;
         while !rest.is_empty() {
             rest = self.front(rest)?;
+            rest = self.known_front(rest);
         }
         Ok(())
     }

@@ -1,5 +1,6 @@
-use Rattle.std.proofs.Common.{arith}
-use Rattle.sixel_picture.proofs.PpmColourLemmas.{numbered_before, none_left, numbered_next}
+use Rattle.std.proofs.Common.{◌∙◌, sym, arith}
+use Rattle.sixel_picture.proofs.PpmColourLemmas.{first_next, none_left, numbered_before, numbered_next}
+use Rattle.sixel_picture.proofs.PpmColourLemmas.{registers_kept, unused_next}
 use Rattle.sixel_picture.proofs.ppm.colours.Colours.register_of.Goals as goal
 
 pub returns-in-Some-clause-numbers : goal.returns-in-Some-clause-numbers
@@ -18,3 +19,17 @@ returns-clause-numbers c =
     λ seen fills. numbered_next c.args.self.now c.set.new.self seen c.args.colour c.index_of.result c.in_default.is
     c.index_of.ensures.value
     (omega (arith, c.if-register-count.false, c.count.ensures.value, c.profile.ensures.count)) c.set.ensures.value fills
+
+pub returns-clause-first : goal.returns-clause-first
+returns-clause-first c =
+    rw c.set.ensures.value
+    (first_next c.args.self.now.palette c.args.self.now.count c.args.colour
+    (sym c.in_default.is ∙ c.index_of.ensures.value)
+    (omega (arith, c.if-register-count.false, c.count.ensures.value, c.profile.ensures.count)))
+
+pub returns-clause-kept : goal.returns-clause-kept
+returns-clause-kept c = λ unused.
+    rw c.set.ensures.value (
+      unused_next c.args.self.now.palette c.args.self.now.count c.args.colour unused,
+      registers_kept c.args.self.now.palette c.args.self.now.count c.args.colour unused,
+    )

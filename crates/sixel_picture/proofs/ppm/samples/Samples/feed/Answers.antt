@@ -3,6 +3,10 @@ use Rattle.sixel_picture.proofs.ppm.samples.Samples.feed.Goals as goal
 
 pub loop-rest-preserved : goal.loop-rest-preserved
 loop-rest-preserved c =
-    has_read_more c.args.self.now c.loop-rest.self c.front.new.self c.args.piece.now c.loop-rest.rest.now
-    c.in_ok-rest.rest.now
-    c.loop-rest.invariant c.in_ok-rest.ensures.read
+    let start = c.args.self.now in
+    let piece = c.args.piece.now in
+    has_read_more start c.front.new.self c.known_front-rest.new.self piece c.in_ok-rest.rest.now
+    c.known_front-rest.result.now
+    (has_read_more start c.loop-rest.self c.front.new.self piece c.loop-rest.rest.now c.in_ok-rest.rest.now
+    c.loop-rest.invariant c.in_ok-rest.ensures.read)
+    c.known_front-rest.ensures.read
