@@ -1,23 +1,23 @@
 -- On the samples of pixels by a table of their registers.
 use Rattle.std.proofs.Common.{◌≡◌, ℕ, ◌+◌, ◌*◌, ◌<◌, ◌≤◌, Bool, true, ◌&&◌, nat_lt, Option, Some, None, List}
-use Rattle.std.proofs.Common.{[], ◌∷◌, ◌++◌, length, take, get_or, is_some, refl, sym, ap, ap₂, ◌∙◌, arith, append-nil}
+use Rattle.std.proofs.Common.{[], ◌∷◌, ◌++◌, length, drop, take, get_or, is_some, refl, sym, ap, ap₂, ◌∙◌, arith, append-nil}
 use Rattle.std.proofs.Common.{inl, inr}
 use Rattle.std.specs.Prelude.{◌==◌, slice_set}
 use Rattle.std.specs.Option.{option_flatten, option_map_or}
 use Rattle.std.specs.List.{cons_option, filter_map, flat_map, list_all}
-use Rattle.std.specs.Io.KnownBytes.{Appends, Keeps}
-use Rattle.std.proofs.KnownBytes.{Appends-trans, Appends-kept}
+use Rattle.std.specs.Io.KnownBytes.{Appends}
+use Rattle.std.proofs.KnownBytes.{Appends-trans}
 use Rattle.std.proofs.Math.Seq.{take-append-add}
 use Rattle.std.proofs.lemmas.Bool.{and_parts, cases_eq, cases_lt}
 use Rattle.std.proofs.lemmas.Grind.{flat_map-append, get_or-set_at}
-use Rattle.std.proofs.lemmas.List.{append_assoc, get_or-set_other, length-take, take-take, take_all, take_more}
+use Rattle.std.proofs.lemmas.List.{append_assoc, get_or-set_other, length-take, take-append-drop, take-take, take_more}
 use Rattle.std.proofs.lemmas.Option.{slice_get_past}
 use Rattle.std.proofs.lemmas.Simd.{take_more_put_chunk}
 use lib.Lanes.{put_chunk}
-use Rattle.sixel_grammar.proofs.SinkLemmas.{puts-longer}
+use Rattle.sixel_grammar.proofs.SinkLemmas.{puts-stopped}
 use Rattle.sixel_picture.specs.Colours.{palette_at}
 use Rattle.sixel_picture.specs.Pictures.{IsAnyPicture, PictureValue, is_side}
-use Rattle.sixel_picture.specs.Ppm.{are_rgb, colours_of, is_rgb, samples_of}
+use Rattle.sixel_picture.specs.Ppm.{are_rgb, colours_of, is_rgb, ppm_header, ppm_text, samples_of}
 use Rattle.sixel_picture.specs.PpmTables.{HasFourBytes, IsTable, bytes_of, samples_from}
 use Rattle.sixel_picture.specs.Profiles.{count_of}
 use Rattle.sixel_picture.specs.declared.colour.Parts.{Parts}
@@ -82,6 +82,9 @@ four_bytes palette table is = λ r lt. ap length (is r lt) ∙ four (palette_at 
 
 -- ---- a group of pixels
 
+pub parted : (rest group more : List ℕ) (n : ℕ) → group ≡ take n rest → more ≡ drop n rest → rest ≡ group ++ more
+parted rest group more n front back = rw (front, back) (sym (take-append-drop n rest))
+
 -- the samples of a group of pixels were put behind those of the pixels before it
 pub group_put : (table : List (List ℕ)) (registers front rest group more : List ℕ) (a b c : Option (List ℕ))
     → registers ≡ front ++ rest → rest ≡ group ++ more → Appends a b (samples_from table front)
@@ -93,16 +96,17 @@ group_put table registers front rest group more a b c whole cut put next = (
   rw (flat_map-append (λ r. take 3 (get_or table r [])) front group) (Appends-trans a b c _ _ put next),
 )
 
--- the group was not put: what was put is a front of all samples
-pub group_failed : (table : List (List ℕ)) (registers front rest : List ℕ) (a b c : Option (List ℕ))
-    → registers ≡ front ++ rest → Appends a b (samples_from table front) → Keeps b c
+-- a front of the group's samples was put: what was put is a front of all samples
+pub group_failed : (table : List (List ℕ)) (registers front rest group more : List ℕ) (a b c : Option (List ℕ))
+    → registers ≡ front ++ rest → rest ≡ group ++ more → Appends a b (samples_from table front)
+    → ((n : ℕ) × Appends b c (take n (samples_from table group)))
     → (n : ℕ) × Appends a c (take n (samples_from table registers))
-group_failed table registers front rest a b c whole put kept =
-    let xs = samples_from table front in
-    let all : samples_from table registers ≡ xs ++ samples_from table rest =
-    ap (samples_from table) whole ∙ flat_map-append (λ r. take 3 (get_or table r [])) front rest in
-    rw all (puts-longer a c xs (samples_from table rest)
-    (length xs, rw (take_all (length xs) xs (omega arith)) (Appends-kept a b c xs put kept)))
+group_failed table registers front rest group more a b c whole cut put next =
+    let joins = flat_map-append (λ r. take 3 (get_or table r [])) in
+    puts-stopped a b c (samples_from table front) (samples_from table group) (samples_from table more)
+    (samples_from table registers) put next
+    (ap (samples_from table) (whole ∙ ap (λ (t : List ℕ). front ++ t) cut ∙ sym (append_assoc front group more))
+    ∙ joins (front ++ group) more ∙ ap (λ (t : List ℕ). t ++ samples_from table more) (joins front group))
 
 -- ---- the table of a picture's palette
 
@@ -166,3 +170,9 @@ samples_of_picture p table is entries rgb =
     (list_all (λ r. nat_lt r count) p.registers) (list_all (λ r. is_some (palette_at p.palette r)) p.registers)
     Size Count Register NoColour is.parts.accepted in
     samples_are p.palette table p.registers (short_palette p is) entries some (sym (are_rgb_of p) ∙ rgb)
+
+-- the text of a picture file is its header and then the samples
+pub text_of_picture : (p : PictureValue) (samples : List ℕ) → samples ≡ flat_map samples_of (colours_of p)
+    → ppm_text p.width p.height (colours_of p) ≡ ppm_header p.width p.height ++ samples
+unfolding ppm_text
+text_of_picture p samples is = ap (λ (t : List ℕ). ppm_header p.width p.height ++ t) (sym is)

@@ -9,7 +9,7 @@ use crate::profile::MOST_REGISTERS;
 use std::simd::prelude::*;
 
 /// How many pixels' samples are made at once.
-pub(crate) const PIXELS: usize = 1024;
+pub(crate) const PIXELS: usize = 16_384;
 
 /// Room for their samples, and for the byte that goes after the last ones.
 pub(crate) const SAMPLES: usize = 3 * PIXELS + 1;

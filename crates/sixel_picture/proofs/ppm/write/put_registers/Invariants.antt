@@ -1,6 +1,5 @@
 use Rattle.std.proofs.Common.{◌≡◌, ◌++◌, ℕ, List, length}
 use Rattle.std.specs.Io.KnownBytes.{Appends}
-use Rattle.sixel_grammar.specs.Blocks.{TakesMore, in_all}
 use Rattle.sixel_grammar.specs.Devices.{NeverFlushes}
 use Rattle.sixel_picture.specs.PpmTables.{samples_from}
 use Rattle.sixel_picture.proofs.ppm.write.put_registers.Given as goal
@@ -8,9 +7,7 @@ use Rattle.sixel_picture.proofs.ppm.write.put_registers.Given as goal
 abbrev pub invariant-loop-rest : goal.invariant-loop-rest
 invariant-loop-rest g l = record {
   bytes : (front : List ℕ) × (l.registers ≡ front ++ l.rest)
-      × Appends (in_all (g.K.Sink.taken l.fn.out) l.fn.block) (in_all (g.K.Sink.taken l.out) l.block)
-      (samples_from l.table front);
-  taken : TakesMore (g.K.Sink.taken l.fn.out) (g.K.Sink.taken l.out);
+      × Appends (g.K.Sink.taken l.fn.out) (g.K.Sink.taken l.out) (samples_from l.table front);
   unflushed : NeverFlushes (g.K.Sink.is_flushed l.fn.out) (g.K.Sink.is_flushed l.out);
   failures : g.K.Sink.failure_count l.out ≡ g.K.Sink.failure_count l.fn.out;
 }
