@@ -1,18 +1,22 @@
 -- On pixels whose registers are known by their samples.
 use Rattle.std.proofs.Common.{◌≡◌, ℕ, ◌+◌, ◌*◌, ◌<◌, ◌≤◌, true, Option, Some, List, []}
-use Rattle.std.proofs.Common.{Result, Ok, drop}
+use Rattle.std.proofs.Common.{Bool, Result, Ok, drop, false, length-append, suc, zero, add-one, ◌==◌, ◌/◌, ◌%◌, ◌^◌, ◌-◌, cond, map, not, w8}
 use Rattle.std.proofs.Common.{◌∷◌, ◌++◌, length, take, get_or, replicate, refl, sym, ap, ap₂, subst, ◌∙◌, arith, append-nil}
 use Rattle.std.proofs.Common.{inl, inr, append_assoc, length-set}
 use Rattle.std.specs.Prelude.{slice_set}
 use Rattle.std.specs.List.{list_any, position_from}
-use Rattle.std.proofs.lemmas.Bool.{cases_eq}
-use Rattle.std.proofs.lemmas.Grind.{get_or-set_at}
+use Rattle.std.proofs.Math.Nat.{zero-div}
+use Rattle.std.proofs.lemmas.Bool.{cases_eq, cases_lt, eqb-true, not-false}
+use Rattle.std.proofs.lemmas.Grind.{get_or-set_at, replicate_next}
 use Rattle.std.proofs.lemmas.List.{get_or-replicate, get_or-set_other, length-replicate, length-take, take-append-drop}
-use Rattle.std.proofs.lemmas.List.{take_more}
+use Rattle.std.proofs.lemmas.List.{get_or-append_right, get_or-take, take_more}
+use Rattle.std.proofs.lemmas.Simd.{bit_mask_l, get_or-chunk, get_or-zip2, length-chunk, length-zip2, mask_l-mod}
+use Rattle.std.proofs.lemmas.Simd.{tops_compared}
+use lib.Lanes.{chunk, mask_l, top, zip2}
 use Rattle.sixel_picture.specs.Colours.{is_same}
 use Rattle.sixel_picture.specs.Pictures.{PictureValue}
 use Rattle.sixel_picture.specs.PpmColours.{KeepsRegisters}
-use Rattle.sixel_picture.specs.PpmKnown.{AreHits, IsHit, Knows, key_of}
+use Rattle.sixel_picture.specs.PpmKnown.{AreHits, AreSame, IsHit, Knows, PutsHits, key_of}
 use Rattle.sixel_picture.specs.PpmReading.{◌>>=◌, colour_of, distinct, picture_of, pixels, with_colour}
 use Rattle.sixel_picture.specs.PpmSamples.{HasRead, HoldsPixels, KnowsLast, Leads, PutsPixels, registers_in}
 use Rattle.sixel_picture.specs.declared.colour.Parts.{Parts}
@@ -132,6 +136,168 @@ hits_put maxval palette bytes count register old before new room hit pushed put 
           (hits_more maxval palette (take (3 * count) bytes) put.0 _ _ _ register put.2 hit),
     )
 
+long_hits : (maxval : ℕ) (palette : List (Option Parts)) (samples xs : List ℕ) → AreHits maxval palette samples xs
+    → length samples ≡ 3 * length xs
+long_hits maxval palette [] [] hits = refl
+long_hits maxval palette [] (x ∷ xs) hits = absurd hits
+long_hits maxval palette (r ∷ []) xs hits = absurd hits
+long_hits maxval palette (r ∷ g ∷ []) xs hits = absurd hits
+long_hits maxval palette (r ∷ g ∷ b ∷ samples) [] hits = absurd hits
+long_hits maxval palette (r ∷ g ∷ b ∷ samples) (x ∷ xs) hits =
+    let more = long_hits maxval palette samples xs hits.1 in omega (arith, more)
+
+-- ---- pixels that repeat the one before them
+
+no_bit_set : (t : Bool) (n : ℕ) → n ≡ 0 → cond t 1 0 ≡ n → t ≡ false
+no_bit_set true n none e = absurd (omega (arith, none, e))
+no_bit_set false n none e = refl
+
+-- lanes of which none differs
+pub lanes_same : (from at : ℕ) (bytes : List ℕ) → from + 16 ≤ length bytes → at + 16 ≤ length bytes
+    → (mask_l (map (top 7) (zip2 (λ a b. cond (not (a == b)) 255 0) (chunk at 16 bytes) (chunk from 16 bytes)))
+    % 2 ^ 64 == 0) ≡ true
+    → AreSame 16 from at bytes
+lanes_same from at bytes room₁ room₂ e = λ i lt.
+    let xs = chunk at 16 bytes in
+    let ys = chunk from 16 bytes in
+    let ms = zip2 (λ a b. not (a == b)) xs ys in
+    let long : length xs ≡ 16 = length-chunk at 16 bytes room₂ in
+    let longer : length ys ≡ 16 = length-chunk from 16 bytes room₁ in
+    let lanes : length ms ≡ 16 = length-zip2 (λ a b. not (a == b)) xs ys (long ∙ sym longer) ∙ long in
+    let none : mask_l ms ≡ 0 =
+    sym (mask_l-mod ms 64 (omega (arith, lanes)))
+    ∙ ap (λ (bs : List Bool). mask_l bs % 2 ^ 64) (sym (tops_compared w8 (λ a b. not (a == b)) xs ys))
+    ∙ eqb-true _ 0 e in
+    let nothing : mask_l ms / 2 ^ i % 2 ≡ 0 =
+    ap (λ n. n / 2 ^ i % 2) none ∙ ap (λ n. n % 2) (zero-div (2 ^ i)) in
+    let clear : get_or ms i false ≡ false = no_bit_set (get_or ms i false) _ nothing (sym (bit_mask_l ms i)) in
+    let equal : (get_or xs i 0 == get_or ys i 0) ≡ true =
+    not-false (get_or xs i 0 == get_or ys i 0)
+    (sym (get_or-zip2 (λ a b. not (a == b)) xs ys i 0 0 false (omega (arith, long, lt)) (omega (arith, longer, lt)))
+    ∙ clear) in
+    sym (get_or-chunk at 16 bytes i 0 lt) ∙ eqb-true _ _ equal ∙ get_or-chunk from 16 bytes i 0 lt
+
+moved : (bytes : List ℕ) (m n : ℕ) → m ≡ n → get_or bytes m 0 ≡ get_or bytes n 0
+moved bytes m n e = ap (λ k. get_or bytes k 0) e
+
+-- three vectors one after another
+pub three_same : (bytes : List ℕ) (from at : ℕ) → at ≡ from + 3 → AreSame 16 from (from + 3) bytes
+    → AreSame 16 (from + 16) (from + 19) bytes → AreSame 16 (from + 32) (from + 35) bytes → AreSame 48 from at bytes
+three_same bytes from at place first second third = λ i lt. elim (cases_lt i 16) [
+  | inl one ↦ moved bytes (at + i) (from + 3 + i) (omega (arith, place)) ∙ first i one
+  | inr past ↦ elim (cases_lt i 32) [
+    | inl two ↦
+        moved bytes (at + i) (from + 19 + (i - 16)) (omega (arith, place, past))
+        ∙ second (i - 16) (omega (arith, two, past)) ∙ moved bytes (from + 16 + (i - 16)) (from + i) (omega (arith, past))
+    | inr more ↦
+        moved bytes (at + i) (from + 35 + (i - 32)) (omega (arith, place, more))
+        ∙ third (i - 32) (omega (arith, lt, more)) ∙ moved bytes (from + 32 + (i - 32)) (from + i) (omega (arith, more))
+  ]
+]
+
+-- the hit at a place
+hits_at : (maxval : ℕ) (palette : List (Option Parts)) (samples xs : List ℕ) (j : ℕ) → AreHits maxval palette samples xs
+    → j < length xs
+    → IsHit maxval palette (get_or samples (3 * j) 0) (get_or samples (3 * j + 1) 0) (get_or samples (3 * j + 2) 0)
+    (get_or xs j 0)
+hits_at maxval palette [] [] j hits lt = absurd (omega (arith, lt))
+hits_at maxval palette [] (x ∷ xs) j hits lt = absurd hits
+hits_at maxval palette (r ∷ []) xs j hits lt = absurd hits
+hits_at maxval palette (r ∷ g ∷ []) xs j hits lt = absurd hits
+hits_at maxval palette (r ∷ g ∷ b ∷ samples) [] j hits lt = absurd hits
+hits_at maxval palette (r ∷ g ∷ b ∷ samples) (x ∷ xs) zero hits lt = hits.0
+hits_at maxval palette (r ∷ g ∷ b ∷ samples) (x ∷ xs) (suc j) hits lt =
+    let all = r ∷ g ∷ b ∷ samples in
+    hit_as maxval palette (get_or samples (3 * j) 0) (get_or samples (3 * j + 1) 0) (get_or samples (3 * j + 2) 0)
+    (get_or xs j 0) (get_or all (3 * suc j) 0) (get_or all (3 * suc j + 1) 0) (get_or all (3 * suc j + 2) 0)
+    (get_or (x ∷ xs) (suc j) 0)
+    (moved all (suc (suc (suc (3 * j)))) (3 * suc j) (omega arith))
+    (moved all (suc (suc (suc (3 * j + 1)))) (3 * suc j + 1) (omega arith))
+    (moved all (suc (suc (suc (3 * j + 2)))) (3 * suc j + 2) (omega arith))
+    refl
+    (hits_at maxval palette samples xs j hits.1 (omega (arith, lt)))
+
+-- a pixel and those after it that repeat it
+repeated_hit : (maxval : ℕ) (palette : List (Option Parts)) (bytes : List ℕ) (d x k : ℕ) → k ≤ 16
+    → AreSame 48 (3 * d) (3 * (d + 1)) bytes
+    → IsHit maxval palette (get_or bytes (3 * d) 0) (get_or bytes (3 * d + 1) 0) (get_or bytes (3 * d + 2) 0) x
+    → IsHit maxval palette (get_or bytes (3 * (d + k)) 0) (get_or bytes (3 * (d + k) + 1) 0)
+    (get_or bytes (3 * (d + k) + 2) 0) x
+repeated_hit maxval palette bytes d x zero le same hit =
+    hit_as maxval palette _ _ _ x _ _ _ x (moved bytes (3 * d) (3 * (d + 0)) (omega arith))
+    (moved bytes (3 * d + 1) (3 * (d + 0) + 1) (omega arith))
+    (moved bytes (3 * d + 2) (3 * (d + 0) + 2) (omega arith)) refl hit
+repeated_hit maxval palette bytes d x (suc k) le same hit =
+    let before = repeated_hit maxval palette bytes d x k (omega (arith, le)) same hit in
+    let next : (o : ℕ) → o < 3 → get_or bytes (3 * d + (3 * k + o)) 0 ≡ get_or bytes (3 * (d + 1) + (3 * k + o)) 0 =
+    λ o lt. sym (same (3 * k + o) (omega (arith, le, lt))) in
+    hit_as maxval palette _ _ _ x _ _ _ x
+    (moved bytes (3 * (d + k)) (3 * d + (3 * k + 0)) (omega arith) ∙ next 0 (omega arith)
+    ∙ moved bytes (3 * (d + 1) + (3 * k + 0)) (3 * (d + suc k)) (omega arith))
+    (moved bytes (3 * (d + k) + 1) (3 * d + (3 * k + 1)) (omega arith) ∙ next 1 (omega arith)
+    ∙ moved bytes (3 * (d + 1) + (3 * k + 1)) (3 * (d + suc k) + 1) (omega arith))
+    (moved bytes (3 * (d + k) + 2) (3 * d + (3 * k + 2)) (omega arith) ∙ next 2 (omega arith)
+    ∙ moved bytes (3 * (d + 1) + (3 * k + 2)) (3 * (d + suc k) + 2) (omega arith))
+    refl before
+
+repeats_put : (maxval : ℕ) (palette : List (Option Parts)) (bytes first before : List ℕ) (d x k : ℕ) → k ≤ 16
+    → 3 * (d + 17) ≤ length bytes → AreSame 48 (3 * d) (3 * (d + 1)) bytes
+    → IsHit maxval palette (get_or bytes (3 * d) 0) (get_or bytes (3 * d + 1) 0) (get_or bytes (3 * d + 2) 0) x
+    → PutsHits maxval palette (take (3 * (d + 1)) bytes) first before
+    → PutsHits maxval palette (take (3 * (d + 1 + k)) bytes) first (before ++ replicate k x)
+repeats_put maxval palette bytes first before d x zero le room same hit put =
+    subst (λ (n : ℕ). PutsHits maxval palette (take (3 * n) bytes) first (before ++ [])) (omega arith)
+    (subst (λ (t : List ℕ). PutsHits maxval palette (take (3 * (d + 1)) bytes) first t) (sym (append-nil before)) put)
+repeats_put maxval palette bytes first before d x (suc k) le room same hit put =
+    let less = repeats_put maxval palette bytes first before d x k (omega (arith, le)) room same hit put in
+    let one = repeated_hit maxval palette bytes d x (suc k) le same hit in
+    let place : d + suc k ≡ d + 1 + k = omega arith in
+    let longer : before ++ replicate (suc k) x ≡ (before ++ replicate k x) ++ x ∷ [] =
+    ap (λ (t : List ℕ). before ++ t) (ap (λ n. replicate n x) (sym (add-one k)) ∙ replicate_next k x)
+    ∙ sym (append_assoc before (replicate k x) (x ∷ [])) in
+    subst (λ (n : ℕ). PutsHits maxval palette (take (3 * n) bytes) first (before ++ replicate (suc k) x)) (omega arith)
+    (hits_put maxval palette bytes (d + 1 + k) x first (before ++ replicate k x) (before ++ replicate (suc k) x)
+    (omega (arith, le, room))
+    (subst (λ n. IsHit maxval palette (get_or bytes (3 * n) 0) (get_or bytes (3 * n + 1) 0) (get_or bytes (3 * n + 2) 0) x)
+    place one) longer less)
+
+-- a group that repeats the last pixel was put
+pub group_repeated : (maxval : ℕ) (palette : List (Option Parts)) (bytes first before new : List ℕ) (count end : ℕ)
+    → 0 < count → end ≡ count + 16 → 3 * end ≤ length bytes → AreSame 48 (3 * (count - 1)) (3 * count) bytes
+    → new ≡ before ++ replicate 16 (get_or before (length before - 1) 0)
+    → PutsHits maxval palette (take (3 * count) bytes) first before
+    → PutsHits maxval palette (take (3 * end) bytes) first new
+group_repeated maxval palette bytes first before new count end some stop room same is put =
+    let d = count - 1 in
+    let next : d + 1 ≡ count = omega (arith, some) in
+    let xs = put.0 in
+    let front = take (3 * count) bytes in
+    let many : length xs ≡ count = omega (
+      arith,
+      long_hits maxval palette front xs put.2,
+      length-take (3 * count) bytes,
+      stop,
+      room,
+    ) in
+    let last : get_or before (length before - 1) 0 ≡ get_or xs d 0 =
+    ap (λ (t : List ℕ). get_or t (length before - 1) 0) put.1
+    ∙ get_or-append_right first xs (length first) (length before - 1) 0 refl
+    (omega (arith, ap (λ (t : List ℕ). length t) put.1, length-append first xs, many, some))
+    ∙ ap (λ k. get_or xs k 0) (omega (arith, ap (λ (t : List ℕ). length t) put.1, length-append first xs, many, some)) in
+    let inside : (o : ℕ) → o < 3 → get_or front (3 * d + o) 0 ≡ get_or bytes (3 * d + o) 0 =
+    λ o lt. get_or-take (3 * count) bytes (3 * d + o) 0 (omega (arith, lt, next)) in
+    let hit = hits_at maxval palette front xs d put.2 (omega (arith, many, next)) in
+    let its : IsHit maxval palette (get_or bytes (3 * d) 0) (get_or bytes (3 * d + 1) 0) (get_or bytes (3 * d + 2) 0)
+    (get_or before (length before - 1) 0) =
+    hit_as maxval palette _ _ _ (get_or xs d 0) _ _ _ _
+    (moved front (3 * d) (3 * d + 0) (omega arith) ∙ inside 0 (omega arith) ∙ moved bytes (3 * d + 0) (3 * d) (omega arith))
+    (inside 1 (omega arith)) (inside 2 (omega arith)) (sym last) hit in
+    let all = repeats_put maxval palette bytes first before d (get_or before (length before - 1) 0) 16 (omega arith)
+    (omega (arith, next, stop, room)) (rw next same) its (rw next put) in
+    subst (λ (t : List ℕ). PutsHits maxval palette (take (3 * end) bytes) first t) (sym is)
+    (subst (λ n. PutsHits maxval palette (take (3 * n) bytes) first (before
+    ++ replicate 16 (get_or before (length before - 1) 0))) (omega (arith, next, stop)) all)
+
 -- what is kept stays true where no colour loses its register
 pub still_known : (known : Known) (maxval : ℕ) (old new : List (Option Parts)) → KeepsRegisters old new
     → Knows known maxval old → Knows known maxval new
@@ -149,16 +315,6 @@ still_known known maxval old new kept knows = record {
 }
 
 -- ---- pixels that are known, as they are read
-
-long_hits : (maxval : ℕ) (palette : List (Option Parts)) (samples xs : List ℕ) → AreHits maxval palette samples xs
-    → length samples ≡ 3 * length xs
-long_hits maxval palette [] [] hits = refl
-long_hits maxval palette [] (x ∷ xs) hits = absurd hits
-long_hits maxval palette (r ∷ []) xs hits = absurd hits
-long_hits maxval palette (r ∷ g ∷ []) xs hits = absurd hits
-long_hits maxval palette (r ∷ g ∷ b ∷ samples) [] hits = absurd hits
-long_hits maxval palette (r ∷ g ∷ b ∷ samples) (x ∷ xs) hits =
-    let more = long_hits maxval palette samples xs hits.1 in omega (arith, more)
 
 -- what the bytes to come make of the pixels that have these colours
 abbrev OnFrom : Colours → ℕ → ℕ → ℕ → ℕ → List Parts → ℕ → List ℕ → Result PictureValue PpmFault

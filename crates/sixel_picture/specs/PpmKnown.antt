@@ -1,5 +1,5 @@
 -- Pixels whose registers are known by their samples. Contracts of private functions alone cite these.
-use Rattle.std.specs.Prelude.{◌≡◌, ◌<◌, ◌≤◌, ◌+◌, ◌*◌, ℕ, Option, Some, List, [], ◌∷◌, ◌++◌, get_or, length, position}
+use Rattle.std.specs.Prelude.{◌≡◌, ◌<◌, ◌≤◌, ◌+◌, ◌*◌, ℕ, Option, Some, List, [], ◌∷◌, ◌++◌, get_or, length, position, take}
 use Rattle.sixel_picture.specs.Colours.{is_entry}
 use Rattle.sixel_picture.specs.PpmReading.{colour_of}
 use Rattle.sixel_picture.specs.declared.colour.Parts.{Parts}
@@ -38,3 +38,14 @@ AreHits maxval palette (red ∷ green ∷ blue ∷ samples) [] = ⊥
 abbrev pub PutsHits : ℕ → List (Option Parts) → List ℕ → List ℕ → List ℕ → Type 0
 PutsHits maxval palette samples old new =
     (registers : List ℕ) × (new ≡ old ++ registers) × AreHits maxval palette samples registers
+
+-- so many bytes from one place on are those from another place on
+abbrev pub AreSame : ℕ → ℕ → ℕ → List ℕ → Type 0
+AreSame many from at bytes = (i : ℕ) → i < many → get_or bytes (at + i) 0 ≡ get_or bytes (from + i) 0
+
+-- the registers of the pixels from one count up to another were put behind those of the pixels before
+abbrev pub GoesOn : Known → List ℕ → ℕ → ℕ → List ℕ → List ℕ → Type 0
+GoesOn known bytes from to old new =
+    (maxval : ℕ) (palette : List (Option Parts)) (first : List ℕ) → Knows known maxval palette
+    → PutsHits maxval palette (take (3 * from) bytes) first old
+    → PutsHits maxval palette (take (3 * to) bytes) first new
