@@ -1,25 +1,16 @@
 -- On the colours of a picture, and on the text of its file.
-use Rattle.std.proofs.Common.{◌≡◌, ℕ, ◌+◌, Bool, true, false, ◌&&◌, Option, Some, None, Result, List, [], ◌∷◌, ◌++◌}
-use Rattle.std.proofs.Common.{length, take, refl, sym, ap, subst, ◌∙◌}
-use Rattle.std.specs.Prelude.{OnOk, ◌==◌, ◌*◌, is_some, map, nat_lt, not, if◌then◌else◌}
+use Rattle.std.proofs.Common.{◌≡◌, ℕ, Bool, true, false, ◌&&◌, Option, Some, None, List, [], ◌∷◌}
+use Rattle.std.proofs.Common.{length, refl, ap}
+use Rattle.std.specs.Prelude.{◌==◌, ◌*◌, is_some, map, nat_lt, not, if◌then◌else◌}
 use Rattle.std.specs.Option.{option_map_or}
 use Rattle.std.specs.List.{cons_option, filter_map, flat_map, list_all}
-use Rattle.std.specs.Io.KnownBytes.{Appends, Keeps}
-use Rattle.std.proofs.KnownBytes.{Appends-trans, Appends-kept}
-use Rattle.std.proofs.Math.Seq.{take-append-add}
-use Rattle.std.proofs.lemmas.List.Elements.{filter_map-append}
-use Rattle.std.proofs.lemmas.Grind.{flat_map-append}
-use Rattle.sixel_grammar.specs.Blocks.{TakesMore, in_all}
-use Rattle.sixel_grammar.specs.Devices.{Puts}
-use Rattle.sixel_grammar.proofs.DeviceLemmas.{TakesMore-then}
 use Rattle.sixel_picture.specs.Colours.{palette_at}
 use Rattle.sixel_picture.specs.Laws.{PixelsHaveColours}
 use Rattle.sixel_picture.specs.Pictures.{PictureValue, is_side}
-use Rattle.sixel_picture.specs.Ppm.{is_rgb, are_rgb, samples_of, colours_of, ppm_header, ppm_text}
+use Rattle.sixel_picture.specs.Ppm.{is_rgb, are_rgb, samples_of, colours_of}
 use Rattle.sixel_picture.specs.declared.colour.Parts.{Parts}
 use Rattle.sixel_picture.specs.declared.picture.PictureReason.{PictureReason}
 use Rattle.sixel_picture.specs.declared.picture.PictureReason.TheVariants.{Size, Count, Register, NoColour}
-use Rattle.sixel_grammar.proofs.SinkLemmas.{drained, nothing_put, put_from_empty, sink_front}
 
 -- ---- which colours are red, green and blue
 
@@ -77,48 +68,3 @@ pixels_have_colours registers p is =
 -- the samples of the pixels in these registers
 abbrev pub samples_by : List (Option Parts) → List ℕ → List ℕ
 samples_by palette registers = flat_map samples_of (filter_map (palette_at palette) registers)
-
-pub samples_by-append : (palette : List (Option Parts)) (xs ys : List ℕ)
-    → samples_by palette (xs ++ ys) ≡ samples_by palette xs ++ samples_by palette ys
-samples_by-append palette xs ys =
-    ap (flat_map samples_of) (filter_map-append (palette_at palette) xs ys)
-    ∙ flat_map-append samples_of (filter_map (palette_at palette) xs) (filter_map (palette_at palette) ys)
-
-take-past : (xs ys : List ℕ) (n : ℕ) → xs ++ take n ys ≡ take (length xs + n) (xs ++ ys)
-take-past xs ys n = sym (take-append-add xs ys n)
-
--- the header was not put
-pub header_failed : (w h : ℕ) (cs : List Parts) (a b : Option (List ℕ)) (none p : List ℕ) → none ≡ []
-    → Keeps (in_all a none) (in_all b p) → TakesMore a b → (n : ℕ) × Appends a b (take n (ppm_text w h cs))
-header_failed w h cs a b none p e kept more =
-    sink_front a b p (ppm_text w h cs) 0
-    (put_from_empty a (in_all b p) none [] e (nothing_put (in_all a none) (in_all b p) kept)) more
-
--- the header was put, and a front of the samples
-pub samples_failed : (w h : ℕ) (cs : List Parts) (a b c : Option (List ℕ)) (none p q : List ℕ) → none ≡ []
-    → Appends (in_all a none) (in_all b p) (ppm_header w h) → TakesMore a b
-    → ((n : ℕ) × Appends (in_all b p) (in_all c q) (take n (flat_map samples_of cs))) → TakesMore b c
-    → (n : ℕ) × Appends a c (take n (ppm_text w h cs))
-unfolding ppm_text
-samples_failed w h cs a b c none p q e header more front rest =
-    let samples = flat_map samples_of cs in
-    let put : Appends a (in_all c q) (ppm_header w h ++ take front.0 samples) =
-    put_from_empty a (in_all c q) none _ e
-    (Appends-trans (in_all a none) (in_all b p) (in_all c q) _ _ header front.1) in
-    sink_front a c q (ppm_header w h ++ samples) (length (ppm_header w h) + front.0)
-    (subst (λ (t : List ℕ). Appends a (in_all c q) t) (take-past (ppm_header w h) samples front.0) put)
-    (TakesMore-then a b c more rest)
-
--- all was put, and the sink took what waits
-pub text_written : {A E : Type 0} (w h : ℕ) (cs : List Parts) (result : Result A E)
-    (a b c d : Option (List ℕ)) (none p q r : List ℕ) → none ≡ []
-    → Appends (in_all a none) (in_all b p) (ppm_header w h) → TakesMore a b
-    → Appends (in_all b p) (in_all c q) (flat_map samples_of cs) → TakesMore b c
-    → Keeps (in_all c q) (in_all d r) → TakesMore c d → OnOk result (r ≡ []) → Puts result a d (ppm_text w h cs)
-unfolding ppm_text
-text_written w h cs result a b c d none p q r e header more samples rest kept last empty =
-    let put : Appends a (in_all d r) (ppm_header w h ++ flat_map samples_of cs) =
-    put_from_empty a (in_all d r) none _ e
-    (Appends-kept (in_all a none) (in_all c q) (in_all d r) _
-    (Appends-trans (in_all a none) (in_all b p) (in_all c q) _ _ header samples) kept) in
-    drained result a d r _ empty put (TakesMore-then a b d more (TakesMore-then b c d rest last))

@@ -18,7 +18,7 @@ use Rattle.sixel_grammar.proofs.SinkLemmas.{puts-stopped}
 use Rattle.sixel_picture.specs.Colours.{palette_at}
 use Rattle.sixel_picture.specs.Pictures.{IsAnyPicture, PictureValue, is_side}
 use Rattle.sixel_picture.specs.Ppm.{are_rgb, colours_of, is_rgb, ppm_header, ppm_text, samples_of}
-use Rattle.sixel_picture.specs.PpmTables.{HasFourBytes, IsTable, bytes_of, samples_from}
+use Rattle.sixel_picture.specs.PpmTables.{HasFourBytes, IsTable, bytes_of, samples_from, samples_made}
 use Rattle.sixel_picture.specs.Profiles.{count_of}
 use Rattle.sixel_picture.specs.declared.colour.Parts.{Parts}
 use Rattle.sixel_picture.specs.declared.colour.Parts.TheVariants.{Rgb, Hls}
@@ -82,31 +82,55 @@ four_bytes palette table is = λ r lt. ap length (is r lt) ∙ four (palette_at 
 
 -- ---- a group of pixels
 
-pub parted : (rest group more : List ℕ) (n : ℕ) → group ≡ take n rest → more ≡ drop n rest → rest ≡ group ++ more
+pub parted : {X : Type 0} (rest group more : List X) (n : ℕ) → group ≡ take n rest → more ≡ drop n rest → rest ≡ group ++ more
 parted rest group more n front back = rw (front, back) (sym (take-append-drop n rest))
 
 -- the samples of a group of pixels were put behind those of the pixels before it
-pub group_put : (table : List (List ℕ)) (registers front rest group more : List ℕ) (a b c : Option (List ℕ))
-    → registers ≡ front ++ rest → rest ≡ group ++ more → Appends a b (samples_from table front)
-    → Appends b c (samples_from table group)
-    → (longer : List ℕ) × (registers ≡ longer ++ more) × Appends a c (samples_from table longer)
-group_put table registers front rest group more a b c whole cut put next = (
+pub group_put : {X : Type 0} (f : List X → List ℕ) → ((ys zs : List X) → f (ys ++ zs) ≡ f ys ++ f zs)
+    → (all front rest group more : List X) (a b c : Option (List ℕ)) → all ≡ front ++ rest → rest ≡ group ++ more
+    → Appends a b (f front) → Appends b c (f group)
+    → (longer : List X) × (all ≡ longer ++ more) × Appends a c (f longer)
+group_put f joins all front rest group more a b c whole cut put next = (
   front ++ group,
-  whole ∙ ap (λ (t : List ℕ). front ++ t) cut ∙ sym (append_assoc front group more),
-  rw (flat_map-append (λ r. take 3 (get_or table r [])) front group) (Appends-trans a b c _ _ put next),
+  whole ∙ ap (λ (t : List _). front ++ t) cut ∙ sym (append_assoc front group more),
+  rw (joins front group) (Appends-trans a b c _ _ put next),
 )
 
 -- a front of the group's samples was put: what was put is a front of all samples
-pub group_failed : (table : List (List ℕ)) (registers front rest group more : List ℕ) (a b c : Option (List ℕ))
-    → registers ≡ front ++ rest → rest ≡ group ++ more → Appends a b (samples_from table front)
-    → ((n : ℕ) × Appends b c (take n (samples_from table group)))
-    → (n : ℕ) × Appends a c (take n (samples_from table registers))
-group_failed table registers front rest group more a b c whole cut put next =
-    let joins = flat_map-append (λ r. take 3 (get_or table r [])) in
-    puts-stopped a b c (samples_from table front) (samples_from table group) (samples_from table more)
-    (samples_from table registers) put next
-    (ap (samples_from table) (whole ∙ ap (λ (t : List ℕ). front ++ t) cut ∙ sym (append_assoc front group more))
-    ∙ joins (front ++ group) more ∙ ap (λ (t : List ℕ). t ++ samples_from table more) (joins front group))
+pub group_failed : {X : Type 0} (f : List X → List ℕ) → ((ys zs : List X) → f (ys ++ zs) ≡ f ys ++ f zs)
+    → (all front rest group more : List X) (a b c : Option (List ℕ)) → all ≡ front ++ rest → rest ≡ group ++ more
+    → Appends a b (f front) → ((n : ℕ) × Appends b c (take n (f group))) → (n : ℕ) × Appends a c (take n (f all))
+group_failed f joins all front rest group more a b c whole cut put next =
+    puts-stopped a b c (f front) (f group) (f more) (f all) put next
+    (ap f (whole ∙ ap (λ (t : List _). front ++ t) cut ∙ sym (append_assoc front group more))
+    ∙ joins (front ++ group) more ∙ ap (λ (t : List ℕ). t ++ f more) (joins front group))
+
+pub samples_join : (table : List (List ℕ)) (xs ys : List ℕ)
+    → samples_from table (xs ++ ys) ≡ samples_from table xs ++ samples_from table ys
+samples_join table = flat_map-append (λ r. take 3 (get_or table r []))
+
+pub made_join : (xs ys : List Parts) → samples_made (xs ++ ys) ≡ samples_made xs ++ samples_made ys
+made_join = flat_map-append (λ c. take 3 (bytes_of (Some c)))
+
+-- ---- colours that are no registers'
+
+pub made_are : (colours : List Parts) → are_rgb colours ≡ true → samples_made colours ≡ flat_map samples_of colours
+made_are [] rgb = refl
+made_are (Rgb red green blue ∷ colours) rgb =
+    ap (λ (t : List ℕ). red ∷ green ∷ blue ∷ t) (made_are colours (and_parts (is_rgb (Rgb red green blue)) _ rgb).1)
+made_are (Hls hue lightness saturation ∷ colours) rgb = cc
+
+-- one more colour's samples are put behind those of the ones before
+pub colour_put : (colours : List Parts) (samples : List ℕ) (i at : ℕ) (colour : Parts) (bytes : List ℕ)
+    → i < length colours → at ≡ 3 * i → at + 4 ≤ length samples → colour ≡ get_or colours i colour
+    → bytes ≡ bytes_of (Some colour) → take at samples ≡ samples_made (take i colours)
+    → take (at + 3) (put_chunk at samples bytes) ≡ samples_made (take (i + 1) colours)
+colour_put colours samples i at colour bytes lt place room its is before =
+    stored_three at samples bytes (ap (λ (t : List ℕ). length t) is ∙ four (Some colour)) room
+    ∙ ap₂ (λ (xs ys : List ℕ). xs ++ take 3 ys) before is
+    ∙ sym (ap samples_made (take_more colours i colour lt ∙ ap (λ c. take i colours ++ c ∷ []) (sym its))
+    ∙ made_join (take i colours) (colour ∷ [])
+    ∙ ap (λ (t : List ℕ). samples_made (take i colours) ++ t) (append-nil (take 3 (bytes_of (Some colour)))))
 
 -- ---- the table of a picture's palette
 
@@ -172,7 +196,7 @@ samples_of_picture p table is entries rgb =
     samples_are p.palette table p.registers (short_palette p is) entries some (sym (are_rgb_of p) ∙ rgb)
 
 -- the text of a picture file is its header and then the samples
-pub text_of_picture : (p : PictureValue) (samples : List ℕ) → samples ≡ flat_map samples_of (colours_of p)
-    → ppm_text p.width p.height (colours_of p) ≡ ppm_header p.width p.height ++ samples
+pub text_of : (width height : ℕ) (colours : List Parts) (samples : List ℕ) → samples ≡ flat_map samples_of colours
+    → ppm_text width height colours ≡ ppm_header width height ++ samples
 unfolding ppm_text
-text_of_picture p samples is = ap (λ (t : List ℕ). ppm_header p.width p.height ++ t) (sym is)
+text_of width height colours samples is = ap (λ (t : List ℕ). ppm_header width height ++ t) (sym is)

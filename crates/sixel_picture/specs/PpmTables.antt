@@ -22,3 +22,7 @@ HasFourBytes table = (r : ℕ) → r < 256 → length (get_or table r []) ≡ 4
 -- the samples of the pixels in these registers
 abbrev pub samples_from : List (List ℕ) → List ℕ → List ℕ
 samples_from table registers = flat_map (λ r. take 3 (get_or table r [])) registers
+
+-- the samples of these colours
+abbrev pub samples_made : List Parts → List ℕ
+samples_made colours = flat_map (λ c. take 3 (bytes_of (Some c))) colours

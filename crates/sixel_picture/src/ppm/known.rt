@@ -1,6 +1,7 @@
 //! The registers of pixels that came before, by their samples.
 
-ghost use Rattle.std.specs.Prelude.{◌≡◌, ◌≤◌, ◌<◌, ◌+◌, ◌-◌, ◌*◌, ◌++◌, ℕ, IfSome, List, Option, true, length, replicate, slice_index, take, vec_capacity, vec_len};
+ghost use Rattle.std.specs.Prelude.{◌≡◌, ◌≤◌, ◌<◌, ◌+◌, ◌-◌, ◌*◌, ◌++◌, ℕ, IfSome, List, Option, true, length};
+ghost use Rattle.std.specs.Prelude.{replicate, slice_index, take, vec_capacity, vec_len};
 ghost use Rattle.sixel_picture.specs.PpmKnown.{AreSame, GoesOn, IsHit, Knows, PutsHits, key_of};
 ghost use Rattle.sixel_picture.specs.declared.colour.Parts.{Parts};
 

@@ -1,7 +1,7 @@
 //! The samples of pixels, many at a time, by a table of their registers.
 
 ghost use Rattle.std.specs.Prelude.{◌≡◌, ◌*◌, ◌<◌, length, take};
-ghost use Rattle.sixel_picture.specs.PpmTables.{HasFourBytes, IsTable, bytes_of, samples_from};
+ghost use Rattle.sixel_picture.specs.PpmTables.{HasFourBytes, IsTable, bytes_of, samples_from, samples_made};
 
 use crate::colour::{Colour, Parts};
 use crate::palette::Palette;
@@ -50,6 +50,18 @@ pub(crate) fn put_samples(samples: &mut [u8], table: &Table, registers: &[u8])
     let mut at = 0;
     for register in registers {
         u8x4::from_array(table[*register as usize]).copy_to_slice(&mut samples[at..]);
+        at += 3;
+    }
+}
+
+/// Puts the samples of these colours at the front of a buffer.
+pub(crate) fn put_colour_samples(samples: &mut [u8], colours: &[Colour])
+    requires { 3 * length colours.now < length samples.old }
+    ensures { take (3 * length colours.now) samples.new ≡ samples_made colours.now }
+{
+    let mut at = 0;
+    for colour in colours {
+        u8x4::from_array(bytes_of(Some(*colour))).copy_to_slice(&mut samples[at..]);
         at += 3;
     }
 }

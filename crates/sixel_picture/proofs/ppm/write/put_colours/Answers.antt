@@ -1,39 +1,41 @@
-use Rattle.std.proofs.Common.{List, [], ◌∷◌, ℕ, sym, subst, append-nil, arith}
-use Rattle.std.specs.List.{flat_map}
+use Rattle.std.proofs.Common.{◌≡◌, ◌++◌, List, ℕ, subst, take}
 use Rattle.std.specs.Io.KnownBytes.{Appends}
-use Rattle.std.proofs.lemmas.Grind.{flat_map-append}
 use Rattle.std.proofs.lemmas.Result.{err_from_is_err_and}
-use Rattle.sixel_grammar.specs.Blocks.{in_all}
-use Rattle.sixel_grammar.proofs.DeviceLemmas.{TakesMore-then}
-use Rattle.sixel_picture.specs.Ppm.{samples_of}
-use Rattle.sixel_grammar.proofs.SinkLemmas.{put_front, put_more}
+use Rattle.sixel_picture.specs.PpmTables.{samples_made}
+use Rattle.sixel_picture.proofs.PpmTableLemmas.{group_failed, group_put, parted, made_join}
 use Rattle.sixel_picture.proofs.ppm.write.put_colours.Goals as goal
 
-pub returns-in_err-put_colour-clause-bytes : goal.returns-in_err-put_colour-clause-bytes
-returns-in_err-put_colour-clause-bytes g c =
+pub returns-in_err-put_all-clause-bytes : goal.returns-in_err-put_all-clause-bytes
+returns-in_err-put_all-clause-bytes g c =
     let failed = err_from_is_err_and c.from_residual.result c.from_residual.ensures.1 in
-    let before = in_all (g.K.Sink.taken c.loop-colour.out) c.loop-colour.block in
+    let before = g.K.Sink.taken c.loop-rest.out in
+    let after = g.K.Sink.taken c.put_all.new.out in
+    let put = c.loop-rest.invariant.bytes in
+    let rest = c.loop-rest.rest.now in
+    let group = c.split_at.result.0.now in
+    let cut : rest ≡ group ++ c.split_at.result.1.now =
+    parted rest group c.split_at.result.1.now c.min.result c.split_at.ensures.front c.split_at.ensures.back in
+    let some : (n : ℕ) × Appends before after (take n (samples_made group)) =
+    subst (λ (t : List ℕ). (n : ℕ) × Appends before after (take n t)) c.put_colour_samples.ensures
+    c.in_err-put_all.ensures.bytes in
     rw failed.1
-    (put_front (flat_map samples_of) c.args.colours.now c.loop-colour.colour-index (flat_map-append samples_of)
-    _ before _ c.loop-colour.invariant.bytes c.in_err-put_colour.ensures.bytes)
+    (group_failed samples_made made_join c.args.colours.now put.0 rest group c.split_at.result.1.now _ before after put.1
+    cut put.2 some)
 
-pub returns-in_err-put_colour-clause-taken : goal.returns-in_err-put_colour-clause-taken
-returns-in_err-put_colour-clause-taken g c =
-    TakesMore-then _ (g.K.Sink.taken c.loop-colour.out) _ c.loop-colour.invariant.taken c.put_colour.ensures.taken
-
-pub loop-colour-preserved : goal.loop-colour-preserved
-loop-colour-preserved g c =
-    let colour = c.colour-item.result in
-    let before = in_all (g.K.Sink.taken c.loop-colour.out) c.loop-colour.block in
-    let after = in_all (g.K.Sink.taken c.put_colour.new.out) c.put_colour.new.block in
-    let put : Appends before after (flat_map samples_of (colour ∷ [])) =
-    subst (λ (t : List ℕ). Appends before after t) (sym (append-nil (samples_of colour)))
-    c.in_ok-put_colour.ensures.bytes in
+pub loop-rest-preserved : goal.loop-rest-preserved
+loop-rest-preserved g c =
+    let before = g.K.Sink.taken c.loop-rest.out in
+    let after = g.K.Sink.taken c.put_all.new.out in
+    let put = c.loop-rest.invariant.bytes in
+    let rest = c.loop-rest.rest.now in
+    let group = c.split_at.result.0.now in
+    let cut : rest ≡ group ++ c.split_at.result.1.now =
+    parted rest group c.split_at.result.1.now c.min.result c.split_at.ensures.front c.split_at.ensures.back in
+    let samples : Appends before after (samples_made group) =
+    subst (λ (t : List ℕ). Appends before after t) c.put_colour_samples.ensures c.in_ok-put_all.ensures.bytes in
     record {
-      bytes = put_more (flat_map samples_of) c.args.colours.now c.loop-colour.colour-index colour colour
-          (flat_map-append samples_of) _ before after (omega arith) c.colour-item.is c.loop-colour.invariant.bytes put;
-      taken = TakesMore-then _ (g.K.Sink.taken c.loop-colour.out) _ c.loop-colour.invariant.taken
-          c.put_colour.ensures.taken;
-      unflushed = λ t. c.loop-colour.invariant.unflushed (c.put_colour.ensures.unflushed t);
-      failures = cc (c.in_ok-put_colour.ensures.failures, c.loop-colour.invariant.failures);
+      bytes = group_put samples_made made_join c.args.colours.now put.0 rest group c.split_at.result.1.now _ before after
+          put.1 cut put.2 samples;
+      unflushed = λ t. c.loop-rest.invariant.unflushed (c.put_all.ensures.unflushed t);
+      failures = cc (c.in_ok-put_all.ensures.failures, c.loop-rest.invariant.failures);
     }
