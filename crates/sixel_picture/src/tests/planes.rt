@@ -1,6 +1,7 @@
 //! Both planes are given the same runs, and show the same pixels.
 
-ghost use Rattle.std.specs.Prelude.{◌≡◌, ◌<◌, ◌≤◌, ◌+◌, ◌*◌, ℕ, IsTrue};
+ghost use Rattle.std.specs.Prelude.{◌≡◌, ◌<◌, ◌≤◌, ◌+◌, ◌*◌, ℕ, IsTrue, length, slice_index};
+ghost use Rattle.sixel_grammar.specs.Bytes.{is_data};
 ghost use Rattle.std.specs.Int.{bit_at};
 
 use crate::band_plane::BandPlane;
@@ -133,6 +134,94 @@ fn both_planes_show_the_same(rt: HostRuntime) -> Result<(), Fail> {
         }
         assert_eq!(rt; bands.first_blank(), None, "{width} wide");
     }
+    Ok(())
+}
+
+/// Whether so many bytes at the front are data bytes.
+fn are_sixels(bytes: &[u8], count: usize) -> bool
+    requires { count ≤ length bytes.now }
+    ensures { IsTrue result → (j : ℕ) → j < count → IsTrue (is_data (slice_index bytes.now j)) }
+{
+    for index in 0..count {
+        if bytes[index] < b'?' || bytes[index] > b'~' {
+            return false;
+        }
+    }
+    true
+}
+
+/// Paints a stretch of so many bytes in a register at once; whether the plane could.
+fn stretch(plane: &mut BandPlane, column: u32, bytes: &[u8], count: u32, register: u8) -> bool {
+    let width = plane.width();
+    let is_inside = column <= width && count <= width - column && plane.height() >= 6;
+    let count = count as usize;
+    is_inside
+        && count <= bytes.len()
+        && are_sixels(bytes, count)
+        && plane.try_paint_stretch(column, 0, bytes, count, register)
+}
+
+/// Paints so many columns of the bytes in a register, one by one.
+fn columns(plane: &mut BytePlane, column: u32, bytes: &[u8], count: u32, register: u8) -> bool {
+    for (index, byte) in bytes.iter().take(count as usize).enumerate() {
+        let run = Run {
+            column: column.saturating_add(index as u32),
+            band: 0,
+            count: 1,
+            bits: byte.wrapping_sub(b'?'),
+            register,
+        };
+        if !paint(plane, run) {
+            return false;
+        }
+    }
+    true
+}
+
+/// Each of the 64 data bytes, in an order in which neighbours differ in many bits, and 16 bytes after them.
+const SIXELS: &[u8] =
+    b"?~@}A|B{CzDyExFwGvHuItJsKrLqMpNoOnPmQlRkSjTiUhVgWfXeYdZc[b\\a]`^_~~~~~~~~~~~~~~~~";
+
+/// A stretch is painted as its columns one by one, with whole groups of 16 and without.
+#[test]
+fn stretches_are_their_columns(rt: HostRuntime) -> Result<(), Fail> {
+    for (column, count) in [
+        (0, 1),
+        (3, 15),
+        (1, 16),
+        (0, 17),
+        (31, 31),
+        (2, 32),
+        (5, 33),
+        (36, 64),
+    ] {
+        let mut bytes = BytePlane::blank(rt.alloc(), 100, 12)?;
+        let mut bands = BandPlane::blank(rt.alloc(), 100, 12)?;
+        assert!(rt;
+            stretch(&mut bands, column, SIXELS, count, 7),
+            "{count} at {column}"
+        );
+        assert!(rt; columns(&mut bytes, column, SIXELS, count, 7));
+        assert!(rt; is_same(&bytes, &bands), "{count} at {column}");
+        assert!(rt;
+            stretch(&mut bands, 0, &SIXELS[1..], 40, 255)
+                && columns(&mut bytes, 0, &SIXELS[1..], 40, 255)
+        );
+        assert!(rt; is_same(&bytes, &bands), "over {count} at {column}");
+    }
+    Ok(())
+}
+
+/// Without 16 bytes after it, or columns of the plane, a stretch isn't painted at once, and nothing changes.
+#[test]
+fn stretches_want_room_for_lanes(rt: HostRuntime) -> Result<(), Fail> {
+    let mut plane = BandPlane::blank(rt.alloc(), 40, 6)?;
+    assert!(rt; !stretch(&mut plane, 0, &SIXELS[..20], 5, 7));
+    assert!(rt; is_blank(&plane, 40, 6));
+    assert!(rt; !stretch(&mut plane, 20, SIXELS, 20, 7));
+    assert!(rt; is_blank(&plane, 40, 6));
+    assert!(rt; stretch(&mut plane, 20, SIXELS, 4, 7));
+    assert_eq!(rt; plane.first_blank(), Some((0, 0)));
     Ok(())
 }
 
