@@ -1,20 +1,18 @@
 -- On the samples of pixels by a table of their registers.
-use Rattle.std.proofs.Common.{◌≡◌, ℕ, ◌+◌, ◌*◌, ◌<◌, ◌≤◌, Bool, true, ◌&&◌, nat_lt, Option, Some, None, List}
+use Rattle.std.proofs.Common.{subst, ◌≡◌, ℕ, ◌+◌, ◌*◌, ◌<◌, ◌≤◌, Bool, true, ◌&&◌, nat_lt, Option, Some, None, List}
 use Rattle.std.proofs.Common.{[], ◌∷◌, ◌++◌, length, drop, take, get_or, is_some, refl, sym, ap, ap₂, ◌∙◌, arith, append-nil}
 use Rattle.std.proofs.Common.{inl, inr}
 use Rattle.std.specs.Prelude.{◌==◌, slice_set}
 use Rattle.std.specs.Option.{option_flatten, option_map_or}
 use Rattle.std.specs.List.{cons_option, filter_map, flat_map, list_all}
 use Rattle.std.specs.Io.KnownBytes.{Appends}
-use Rattle.std.proofs.KnownBytes.{Appends-trans}
 use Rattle.std.proofs.Math.Seq.{take-append-add}
-use Rattle.std.proofs.lemmas.Bool.{and_parts, cases_eq, cases_lt}
+use Rattle.std.proofs.lemmas.Bool.{and_parts, cases_eq, cases_lt, eqb-true}
 use Rattle.std.proofs.lemmas.Grind.{flat_map-append, get_or-set_at}
-use Rattle.std.proofs.lemmas.List.{append_assoc, get_or-set_other, length-take, take-append-drop, take-take, take_more}
+use Rattle.std.proofs.lemmas.List.{append_assoc, take_at, get_or-set_other, length-take, take-append-drop, take-take, take_more}
 use Rattle.std.proofs.lemmas.Option.{slice_get_past}
 use Rattle.std.proofs.lemmas.Simd.{take_more_put_chunk}
 use lib.Lanes.{put_chunk}
-use Rattle.sixel_grammar.proofs.SinkLemmas.{puts-stopped}
 use Rattle.sixel_picture.specs.Colours.{palette_at}
 use Rattle.sixel_picture.specs.Pictures.{IsAnyPicture, PictureValue, is_side}
 use Rattle.sixel_picture.specs.Ppm.{are_rgb, colours_of, is_rgb, ppm_header, ppm_text, samples_of}
@@ -50,15 +48,16 @@ stored_three at xs entry long room =
     ∙ take-append-add (take at xs) entry 3
 
 -- one more pixel's samples are put behind those of the ones before
-pub pixel_put : (table : List (List ℕ)) (registers samples : List ℕ) (i at : ℕ) (entry : List ℕ)
-    → i < length registers → at ≡ 3 * i → at + 4 ≤ length samples
+pub pixel_put : (table : List (List ℕ)) (registers head text : List ℕ) (i at : ℕ) (entry : List ℕ)
+    → i < length registers → at + 4 ≤ length text
     → entry ≡ get_or table (get_or registers i 0) [] → length entry ≡ 4
-    → take at samples ≡ samples_from table (take i registers)
-    → take (at + 3) (put_chunk at samples entry) ≡ samples_from table (take (i + 1) registers)
-pixel_put table registers samples i at entry lt place room is long before =
-    stored_three at samples entry long room
+    → take at text ≡ head ++ samples_from table (take i registers)
+    → take (at + 3) (put_chunk at text entry) ≡ head ++ samples_from table (take (i + 1) registers)
+pixel_put table registers head text i at entry lt room is long before =
+    stored_three at text entry long room
     ∙ ap₂ (λ (xs ys : List ℕ). xs ++ take 3 ys) before is
-    ∙ sym (samples_more table registers i lt)
+    ∙ append_assoc head (samples_from table (take i registers)) (take 3 (get_or table (get_or registers i 0) []))
+    ∙ ap (λ (t : List ℕ). head ++ t) (sym (samples_more table registers i lt))
 
 -- one more register has its entry's bytes
 pub entry_more : (palette : List (Option Parts)) (table : List (List ℕ)) (n : ℕ) (entry : List ℕ)
@@ -85,25 +84,26 @@ four_bytes palette table is = λ r lt. ap length (is r lt) ∙ four (palette_at 
 pub parted : {X : Type 0} (rest group more : List X) (n : ℕ) → group ≡ take n rest → more ≡ drop n rest → rest ≡ group ++ more
 parted rest group more n front back = rw (front, back) (sym (take-append-drop n rest))
 
--- the samples of a group of pixels were put behind those of the pixels before it
-pub group_put : {X : Type 0} (f : List X → List ℕ) → ((ys zs : List X) → f (ys ++ zs) ≡ f ys ++ f zs)
-    → (all front rest group more : List X) (a b c : Option (List ℕ)) → all ≡ front ++ rest → rest ≡ group ++ more
-    → Appends a b (f front) → Appends b c (f group)
-    → (longer : List X) × (all ≡ longer ++ more) × Appends a c (f longer)
-group_put f joins all front rest group more a b c whole cut put next = (
-  front ++ group,
-  whole ∙ ap (λ (t : List _). front ++ t) cut ∙ sym (append_assoc front group more),
-  rw (joins front group) (Appends-trans a b c _ _ put next),
-)
+-- what was put before, what goes out with a group, and what is left after it
+pub group_of : {X : Type 0} (f : List X → List ℕ) → ((ys zs : List X) → f (ys ++ zs) ≡ f ys ++ f zs)
+    → (rest group more : List X) (whole done head piece : List ℕ) → rest ≡ group ++ more
+    → whole ≡ done ++ (head ++ f rest) → piece ≡ head ++ f group → whole ≡ (done ++ piece) ++ f more
+group_of f joins rest group more whole done head piece cut was is =
+    was
+    ∙ ap (λ (t : List ℕ). done ++ t) (ap (λ (t : List ℕ). head ++ t) (ap f cut ∙ joins group more)
+    ∙ sym (append_assoc head (f group) (f more)) ∙ ap (λ (t : List ℕ). t ++ f more) (sym is))
+    ∙ sym (append_assoc done piece (f more))
 
--- a front of the group's samples was put: what was put is a front of all samples
-pub group_failed : {X : Type 0} (f : List X → List ℕ) → ((ys zs : List X) → f (ys ++ zs) ≡ f ys ++ f zs)
-    → (all front rest group more : List X) (a b c : Option (List ℕ)) → all ≡ front ++ rest → rest ≡ group ++ more
-    → Appends a b (f front) → ((n : ℕ) × Appends b c (take n (f group))) → (n : ℕ) × Appends a c (take n (f all))
-group_failed f joins all front rest group more a b c whole cut put next =
-    puts-stopped a b c (f front) (f group) (f more) (f all) put next
-    (ap f (whole ∙ ap (λ (t : List _). front ++ t) cut ∙ sym (append_assoc front group more))
-    ∙ joins (front ++ group) more ∙ ap (λ (t : List ℕ). t ++ f more) (joins front group))
+-- nothing is left after the last group
+pub last_put : {X : Type 0} (f : List X → List ℕ) → f [] ≡ [] → (more : List X) (whole put : List ℕ)
+    (a b : Option (List ℕ)) → (length more == 0) ≡ true → whole ≡ put ++ f more → Appends a b put → Appends a b whole
+last_put f none [] whole put a b e is appended =
+    subst (λ (t : List ℕ). Appends a b t) (sym (is ∙ ap (λ (t : List ℕ). put ++ t) none ∙ append-nil put)) appended
+last_put f none (x ∷ more) whole put a b e is appended = absurd (omega (arith, eqb-true (length (x ∷ more)) 0 e))
+
+pub copied_front : (header copied tail : List ℕ) → copied ≡ header → take (length header) (copied ++ tail) ≡ header
+copied_front header copied tail is =
+    ap (λ (t : List ℕ). take (length header) (t ++ tail)) is ∙ take_at header tail (length header) refl
 
 pub samples_join : (table : List (List ℕ)) (xs ys : List ℕ)
     → samples_from table (xs ++ ys) ≡ samples_from table xs ++ samples_from table ys
@@ -120,17 +120,23 @@ made_are (Rgb red green blue ∷ colours) rgb =
     ap (λ (t : List ℕ). red ∷ green ∷ blue ∷ t) (made_are colours (and_parts (is_rgb (Rgb red green blue)) _ rgb).1)
 made_are (Hls hue lightness saturation ∷ colours) rgb = cc
 
--- one more colour's samples are put behind those of the ones before
-pub colour_put : (colours : List Parts) (samples : List ℕ) (i at : ℕ) (colour : Parts) (bytes : List ℕ)
-    → i < length colours → at ≡ 3 * i → at + 4 ≤ length samples → colour ≡ get_or colours i colour
-    → bytes ≡ bytes_of (Some colour) → take at samples ≡ samples_made (take i colours)
-    → take (at + 3) (put_chunk at samples bytes) ≡ samples_made (take (i + 1) colours)
-colour_put colours samples i at colour bytes lt place room its is before =
-    stored_three at samples bytes (ap (λ (t : List ℕ). length t) is ∙ four (Some colour)) room
-    ∙ ap₂ (λ (xs ys : List ℕ). xs ++ take 3 ys) before is
-    ∙ sym (ap samples_made (take_more colours i colour lt ∙ ap (λ c. take i colours ++ c ∷ []) (sym its))
+made_more : (colours : List Parts) (i : ℕ) (colour : Parts) → i < length colours → colour ≡ get_or colours i colour
+    → samples_made (take (i + 1) colours) ≡ samples_made (take i colours) ++ take 3 (bytes_of (Some colour))
+made_more colours i colour lt its =
+    ap samples_made (take_more colours i colour lt ∙ ap (λ c. take i colours ++ c ∷ []) (sym its))
     ∙ made_join (take i colours) (colour ∷ [])
-    ∙ ap (λ (t : List ℕ). samples_made (take i colours) ++ t) (append-nil (take 3 (bytes_of (Some colour)))))
+    ∙ ap (λ (t : List ℕ). samples_made (take i colours) ++ t) (append-nil (take 3 (bytes_of (Some colour))))
+
+-- one more colour's samples are put behind those of the ones before
+pub colour_put : (colours : List Parts) (head text : List ℕ) (i at : ℕ) (colour : Parts) (bytes : List ℕ)
+    → i < length colours → at + 4 ≤ length text → colour ≡ get_or colours i colour
+    → bytes ≡ bytes_of (Some colour) → take at text ≡ head ++ samples_made (take i colours)
+    → take (at + 3) (put_chunk at text bytes) ≡ head ++ samples_made (take (i + 1) colours)
+colour_put colours head text i at colour bytes lt room its is before =
+    stored_three at text bytes (ap (λ (t : List ℕ). length t) is ∙ four (Some colour)) room
+    ∙ ap₂ (λ (xs ys : List ℕ). xs ++ take 3 ys) before is
+    ∙ append_assoc head (samples_made (take i colours)) (take 3 (bytes_of (Some colour)))
+    ∙ ap (λ (t : List ℕ). head ++ t) (sym (made_more colours i colour lt its))
 
 -- ---- the table of a picture's palette
 

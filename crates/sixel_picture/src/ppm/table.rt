@@ -1,6 +1,6 @@
 //! The samples of pixels, many at a time, by a table of their registers.
 
-ghost use Rattle.std.specs.Prelude.{◌≡◌, ◌*◌, ◌<◌, length, take};
+ghost use Rattle.std.specs.Prelude.{◌≡◌, ◌+◌, ◌++◌, ◌*◌, ◌<◌, length, take};
 ghost use Rattle.sixel_picture.specs.PpmTables.{HasFourBytes, IsTable, bytes_of, samples_from, samples_made};
 
 use crate::colour::{Colour, Parts};
@@ -8,11 +8,11 @@ use crate::palette::Palette;
 use crate::profile::MOST_REGISTERS;
 use std::simd::prelude::*;
 
-/// How many pixels' samples are made at once.
-pub(crate) const PIXELS: usize = 16_384;
+/// How many pixels' samples go out at once.
+pub(crate) const PIXELS: usize = 21_840;
 
-/// Room for their samples, and for the byte that goes after the last ones.
-pub(crate) const SAMPLES: usize = 3 * PIXELS + 1;
+/// Room for a header, for their samples, and for the byte that goes after the last ones.
+pub(crate) const ROOM: usize = 29 + 3 * PIXELS + 1;
 
 /// Four bytes for each register: they go out in one store, and the next pixel's go over the fourth.
 pub(crate) type Table = [[u8; 4]; MOST_REGISTERS];
@@ -41,27 +41,28 @@ pub(crate) fn table_of(palette: &Palette) -> Table
     table
 }
 
-/// Puts the samples of the pixels in these registers at the front of a buffer.
-pub(crate) fn put_samples(samples: &mut [u8], table: &Table, registers: &[u8])
+/// Puts the samples of the pixels in these registers behind the first bytes of a buffer.
+pub(crate) fn put_samples(text: &mut [u8], start: usize, table: &Table, registers: &[u8])
     requires entries { HasFourBytes table.now }
-    requires room { 3 * length registers.now < length samples.old }
-    ensures { take (3 * length registers.now) samples.new ≡ samples_from table.now registers.now }
+    requires room { start + 3 * length registers.now < length text.old }
+    ensures { take (start + 3 * length registers.now) text.new
+        ≡ take start text.old ++ samples_from table.now registers.now }
 {
-    let mut at = 0;
+    let mut at = start;
     for register in registers {
-        u8x4::from_array(table[*register as usize]).copy_to_slice(&mut samples[at..]);
+        u8x4::from_array(table[*register as usize]).copy_to_slice(&mut text[at..]);
         at += 3;
     }
 }
 
-/// Puts the samples of these colours at the front of a buffer.
-pub(crate) fn put_colour_samples(samples: &mut [u8], colours: &[Colour])
-    requires { 3 * length colours.now < length samples.old }
-    ensures { take (3 * length colours.now) samples.new ≡ samples_made colours.now }
+/// Puts the samples of these colours behind the first bytes of a buffer.
+pub(crate) fn put_colour_samples(text: &mut [u8], start: usize, colours: &[Colour])
+    requires { start + 3 * length colours.now < length text.old }
+    ensures { take (start + 3 * length colours.now) text.new ≡ take start text.old ++ samples_made colours.now }
 {
-    let mut at = 0;
+    let mut at = start;
     for colour in colours {
-        u8x4::from_array(bytes_of(Some(*colour))).copy_to_slice(&mut samples[at..]);
+        u8x4::from_array(bytes_of(Some(*colour))).copy_to_slice(&mut text[at..]);
         at += 3;
     }
 }

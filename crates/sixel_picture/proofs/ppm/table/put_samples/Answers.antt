@@ -1,4 +1,4 @@
-use Rattle.std.proofs.Common.{get_or, refl, arith}
+use Rattle.std.proofs.Common.{get_or, refl, take, arith}
 use Rattle.sixel_picture.proofs.PpmTableLemmas.{pixel_put}
 use Rattle.sixel_picture.proofs.ppm.table.put_samples.Goals as goal
 
@@ -9,8 +9,15 @@ loop-register-preserved c =
     let i = c.loop-register.register-index in
     record {
       place = omega (arith, c.loop-register.invariant.place);
-      put = pixel_put table registers c.loop-register.samples i c.loop-register.at _
-          c.loop-register-test.true c.loop-register.invariant.place
-          (omega (arith, c.loop-register.invariant.place, c.loop-register-test.true, c.requires.room, c.loop-register.auto.samples))
-          refl (c.requires.entries (get_or registers i 0) (omega (arith, c.type_inv.registers i))) c.loop-register.invariant.put;
+      put = pixel_put table registers (take c.args.start c.args.text.now) c.loop-register.text i c.loop-register.at _
+          c.loop-register-test.true
+          (omega (
+            arith,
+            c.loop-register.invariant.place,
+            c.loop-register-test.true,
+            c.requires.room,
+            c.loop-register.auto.text,
+          ))
+          refl (c.requires.entries (get_or registers i 0) (omega (arith, c.type_inv.registers i)))
+          c.loop-register.invariant.put;
     }
