@@ -1,6 +1,7 @@
 -- On colours that are numbered as they are first seen.
 use Rattle.std.proofs.Common.{◌≡◌, ◌+◌, ◌<◌, ◌≤◌, ℕ, zero, suc, Bool, true, false, ◌||◌, Option, Some, None, List, []}
-use Rattle.std.proofs.Common.{◌∷◌, ◌++◌, length, cond, refl, sym, ap, ap₂, ◌∙◌, arith, zero-add, length-append, inl, inr}
+use Rattle.std.proofs.Common.{◌∷◌, ◌++◌, length, cond, refl, sym, ap, ap₂, ◌∙◌, arith, zero-add, length-append}
+use Rattle.std.proofs.Common.{inl, inr}
 use Rattle.std.proofs.Common.{length-set}
 use Rattle.std.specs.Prelude.{get_or, is_some, nat_lt, replicate, slice_set, position, unwrap_or}
 use Rattle.std.specs.List.{list_any, position_from, position_or_len}
@@ -194,13 +195,14 @@ none_passes p xs k none lt = elim (cases_lt (position_or_len p xs) (length xs)) 
 ]
 
 -- the next register is the first of its colour
-pub first_next : (palette : List (Option Parts)) (count : ℕ) (colour : Parts) → None ≡ position (is_entry colour) palette
-    → count < length palette → position (is_entry colour) (slice_set palette count (Some colour)) ≡ Some count
+pub first_next : (palette : List (Option Parts)) (count : ℕ) (colour : Parts)
+    → None ≡ position (is_entry colour) palette → count < length palette → position (is_entry colour) (slice_set palette count (Some colour)) ≡ Some count
 first_next palette count colour none room =
     let next = slice_set palette count (Some colour) in
     position_is (is_entry colour) next count (omega (arith, length-set palette count (Some colour)))
     (ap (is_entry colour) (get_or-set_at palette count count (Some colour) None refl room) ∙ same_as_itself colour)
-    (λ k lt. ap (is_entry colour) (get_or-set_other palette count k (Some colour) None (λ e. absurd (omega (arith, e, lt))))
+    (λ k lt.
+    ap (is_entry colour) (get_or-set_other palette count k (Some colour) None (λ e. absurd (omega (arith, e, lt))))
     ∙ none_passes (is_entry colour) palette k (sym none) (omega arith))
 
 pub unused_next : (palette : List (Option Parts)) (count : ℕ) (colour : Parts) → IsUnusedFrom palette count
@@ -226,7 +228,8 @@ registers_kept palette count colour unused = λ c i at.
     (omega (arith, was.0, length-set palette count (Some colour)))
     (ap (is_entry c) (get_or-set_other palette count i (Some colour) None (λ e. absurd (omega (arith, e, before))))
     ∙ was.1)
-    (λ k lt. ap (is_entry c) (get_or-set_other palette count k (Some colour) None (λ e. absurd (omega (arith, e, lt, before))))
+    (λ k lt.
+    ap (is_entry c) (get_or-set_other palette count k (Some colour) None (λ e. absurd (omega (arith, e, lt, before))))
     ∙ was.2 k lt)
 
 pub blank_is_unused : (n : ℕ) (palette : List (Option Parts)) (count : ℕ) → palette ≡ replicate n None

@@ -1,7 +1,9 @@
 -- On pixels whose registers are known by their samples.
 use Rattle.std.proofs.Common.{◌≡◌, ℕ, ◌+◌, ◌*◌, ◌<◌, ◌≤◌, true, Option, Some, List, []}
-use Rattle.std.proofs.Common.{Bool, Result, Ok, drop, false, length-append, suc, zero, add-one, ◌==◌, ◌/◌, ◌%◌, ◌^◌, ◌-◌, cond, map, not, w8}
-use Rattle.std.proofs.Common.{◌∷◌, ◌++◌, length, take, get_or, replicate, refl, sym, ap, ap₂, subst, ◌∙◌, arith, append-nil}
+use Rattle.std.proofs.Common.{Bool, Result, Ok, drop, false, length-append, suc, zero, add-one}
+use Rattle.std.proofs.Common.{◌==◌, ◌/◌, ◌%◌, ◌^◌, ◌-◌, cond, map, not, w8}
+use Rattle.std.proofs.Common.{◌∷◌, ◌++◌, length, take, get_or, replicate, refl, sym, ap, ap₂, subst, ◌∙◌}
+use Rattle.std.proofs.Common.{arith, append-nil}
 use Rattle.std.proofs.Common.{inl, inr, append_assoc, length-set}
 use Rattle.std.specs.Prelude.{slice_set}
 use Rattle.std.specs.List.{list_any, position_from}
@@ -122,8 +124,8 @@ three_more bytes at room =
 
 pub hits_put : (maxval : ℕ) (palette : List (Option Parts)) (bytes : List ℕ) (count register : ℕ)
     (old before new : List ℕ) → 3 * count + 3 ≤ length bytes
-    → IsHit maxval palette (get_or bytes (3 * count) 0) (get_or bytes (3 * count + 1) 0) (get_or bytes (3 * count + 2) 0)
-    register
+    → IsHit maxval palette (get_or bytes (3 * count) 0) (get_or bytes (3 * count + 1) 0)
+    (get_or bytes (3 * count + 2) 0) register
     → new ≡ before ++ register ∷ []
     → ((xs : List ℕ) × (before ≡ old ++ xs) × AreHits maxval palette (take (3 * count) bytes) xs)
     → (xs : List ℕ) × (new ≡ old ++ xs) × AreHits maxval palette (take (3 * (count + 1)) bytes) xs
@@ -188,7 +190,8 @@ three_same bytes from at place first second third = λ i lt. elim (cases_lt i 16
   | inr past ↦ elim (cases_lt i 32) [
     | inl two ↦
         moved bytes (at + i) (from + 19 + (i - 16)) (omega (arith, place, past))
-        ∙ second (i - 16) (omega (arith, two, past)) ∙ moved bytes (from + 16 + (i - 16)) (from + i) (omega (arith, past))
+        ∙ second (i - 16) (omega (arith, two, past))
+        ∙ moved bytes (from + 16 + (i - 16)) (from + i) (omega (arith, past))
     | inr more ↦
         moved bytes (at + i) (from + 35 + (i - 32)) (omega (arith, place, more))
         ∙ third (i - 32) (omega (arith, lt, more)) ∙ moved bytes (from + 32 + (i - 32)) (from + i) (omega (arith, more))
@@ -258,7 +261,8 @@ repeats_put maxval palette bytes first before d x (suc k) le room same hit put =
     subst (λ (n : ℕ). PutsHits maxval palette (take (3 * n) bytes) first (before ++ replicate (suc k) x)) (omega arith)
     (hits_put maxval palette bytes (d + 1 + k) x first (before ++ replicate k x) (before ++ replicate (suc k) x)
     (omega (arith, le, room))
-    (subst (λ n. IsHit maxval palette (get_or bytes (3 * n) 0) (get_or bytes (3 * n + 1) 0) (get_or bytes (3 * n + 2) 0) x)
+    (subst (λ n. IsHit maxval palette (get_or bytes (3 * n) 0) (get_or bytes (3 * n + 1) 0)
+    (get_or bytes (3 * n + 2) 0) x)
     place one) longer less)
 
 -- a group that repeats the last pixel was put
@@ -283,14 +287,16 @@ group_repeated maxval palette bytes first before new count end some stop room sa
     ap (λ (t : List ℕ). get_or t (length before - 1) 0) put.1
     ∙ get_or-append_right first xs (length first) (length before - 1) 0 refl
     (omega (arith, ap (λ (t : List ℕ). length t) put.1, length-append first xs, many, some))
-    ∙ ap (λ k. get_or xs k 0) (omega (arith, ap (λ (t : List ℕ). length t) put.1, length-append first xs, many, some)) in
+    ∙ ap (λ k. get_or xs k 0)
+    (omega (arith, ap (λ (t : List ℕ). length t) put.1, length-append first xs, many, some)) in
     let inside : (o : ℕ) → o < 3 → get_or front (3 * d + o) 0 ≡ get_or bytes (3 * d + o) 0 =
     λ o lt. get_or-take (3 * count) bytes (3 * d + o) 0 (omega (arith, lt, next)) in
     let hit = hits_at maxval palette front xs d put.2 (omega (arith, many, next)) in
     let its : IsHit maxval palette (get_or bytes (3 * d) 0) (get_or bytes (3 * d + 1) 0) (get_or bytes (3 * d + 2) 0)
     (get_or before (length before - 1) 0) =
     hit_as maxval palette _ _ _ (get_or xs d 0) _ _ _ _
-    (moved front (3 * d) (3 * d + 0) (omega arith) ∙ inside 0 (omega arith) ∙ moved bytes (3 * d + 0) (3 * d) (omega arith))
+    (moved front (3 * d) (3 * d + 0) (omega arith) ∙ inside 0 (omega arith)
+    ∙ moved bytes (3 * d + 0) (3 * d) (omega arith))
     (inside 1 (omega arith)) (inside 2 (omega arith)) (sym last) hit in
     let all = repeats_put maxval palette bytes first before d (get_or before (length before - 1) 0) 16 (omega arith)
     (omega (arith, next, stop, room)) (rw next same) its (rw next put) in

@@ -1,6 +1,7 @@
 -- On the samples of pixels by a table of their registers.
 use Rattle.std.proofs.Common.{subst, ◌≡◌, ℕ, ◌+◌, ◌*◌, ◌<◌, ◌≤◌, Bool, true, ◌&&◌, nat_lt, Option, Some, None, List}
-use Rattle.std.proofs.Common.{[], ◌∷◌, ◌++◌, length, drop, take, get_or, is_some, refl, sym, ap, ap₂, ◌∙◌, arith, append-nil}
+use Rattle.std.proofs.Common.{[], ◌∷◌, ◌++◌, length, drop, take, get_or, is_some, refl, sym, ap, ap₂, ◌∙◌}
+use Rattle.std.proofs.Common.{arith, append-nil}
 use Rattle.std.proofs.Common.{inl, inr}
 use Rattle.std.specs.Prelude.{◌==◌, slice_set}
 use Rattle.std.specs.Option.{option_flatten, option_map_or}
@@ -9,7 +10,8 @@ use Rattle.std.specs.Io.KnownBytes.{Appends}
 use Rattle.std.proofs.Math.Seq.{take-append-add}
 use Rattle.std.proofs.lemmas.Bool.{and_parts, cases_eq, cases_lt, eqb-true}
 use Rattle.std.proofs.lemmas.Grind.{flat_map-append, get_or-set_at}
-use Rattle.std.proofs.lemmas.List.{append_assoc, take_at, get_or-set_other, length-take, take-append-drop, take-take, take_more}
+use Rattle.std.proofs.lemmas.List.{append_assoc, take_at, get_or-set_other, length-take, take-append-drop}
+use Rattle.std.proofs.lemmas.List.{take-take, take_more}
 use Rattle.std.proofs.lemmas.Option.{slice_get_past}
 use Rattle.std.proofs.lemmas.Simd.{take_more_put_chunk}
 use lib.Lanes.{put_chunk}
@@ -81,7 +83,8 @@ four_bytes palette table is = λ r lt. ap length (is r lt) ∙ four (palette_at 
 
 -- ---- a group of pixels
 
-pub parted : {X : Type 0} (rest group more : List X) (n : ℕ) → group ≡ take n rest → more ≡ drop n rest → rest ≡ group ++ more
+pub parted : {X : Type 0} (rest group more : List X) (n : ℕ) → group ≡ take n rest → more ≡ drop n rest
+    → rest ≡ group ++ more
 parted rest group more n front back = rw (front, back) (sym (take-append-drop n rest))
 
 -- what was put before, what goes out with a group, and what is left after it

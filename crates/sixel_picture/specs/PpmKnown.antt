@@ -1,5 +1,6 @@
 -- Pixels whose registers are known by their samples. Contracts of private functions alone cite these.
-use Rattle.std.specs.Prelude.{◌≡◌, ◌<◌, ◌≤◌, ◌+◌, ◌*◌, ℕ, Option, Some, List, [], ◌∷◌, ◌++◌, get_or, length, position, take}
+use Rattle.std.specs.Prelude.{◌≡◌, ◌<◌, ◌≤◌, ◌+◌, ◌*◌, ℕ, Option, Some, List, [], ◌∷◌, ◌++◌, get_or, length, position}
+use Rattle.std.specs.Prelude.{take}
 use Rattle.sixel_picture.specs.Colours.{is_entry}
 use Rattle.sixel_picture.specs.PpmReading.{colour_of}
 use Rattle.sixel_picture.specs.declared.colour.Parts.{Parts}

@@ -1,6 +1,6 @@
 -- What the samples so far make of a picture file. Contracts of private functions alone cite these.
-use Rattle.std.specs.Prelude.{◌≡◌, ◌≤◌, ◌<◌, ℕ, ◌+◌, ◌-◌, ◌*◌, true, Option, Some, None, List, [], ◌∷◌, ◌++◌, length, take}
-use Rattle.std.specs.Prelude.{map, Result, Ok}
+use Rattle.std.specs.Prelude.{◌≡◌, ◌≤◌, ◌<◌, ℕ, ◌+◌, ◌-◌, ◌*◌, true, Option, Some, None, List, [], ◌∷◌, ◌++◌, length}
+use Rattle.std.specs.Prelude.{map, Result, Ok, take}
 use Rattle.std.specs.List.{list_any}
 use Rattle.sixel_picture.specs.Colours.{is_same}
 use Rattle.sixel_picture.specs.Pictures.{PictureValue}

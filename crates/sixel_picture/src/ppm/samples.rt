@@ -96,8 +96,8 @@ fn fault(reason: PpmReason, place: u64) -> PpmFault
 
 impl Samples {
     ghost use Rattle.sixel_picture.specs.PpmSamples.{Begins, Fails, FailsOn, IsLast, IsNextHeld, KeepsPixels, Leads};
-    ghost use Rattle.sixel_picture.specs.PpmSamples.{LeadsOn, HasRead, PutsPixel, PutsPixels, Refuses, Registers, TooMany, budget};
-    ghost use Rattle.sixel_picture.specs.PpmSamples.{samples_on, Holds};
+    ghost use Rattle.sixel_picture.specs.PpmSamples.{LeadsOn, HasRead, PutsPixel, PutsPixels, Refuses, Registers};
+    ghost use Rattle.sixel_picture.specs.PpmSamples.{TooMany, budget, samples_on, Holds};
     ghost use Rattle.sixel_picture.specs.declared.colour.Parts.{Parts};
 
     /// No sample has come. This is the one growth of a reading.

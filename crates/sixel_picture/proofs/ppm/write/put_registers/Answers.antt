@@ -33,8 +33,8 @@ loop-start-preserved g c =
       bytes = (
         put.0 ++ _,
         Appends-trans _ before _ put.0 _ put.1 c.in_ok-put_all.ensures.bytes,
-        group_of (samples_from c.args.table.now) (samples_join c.args.table.now) rest group more _ put.0 (take c.loop-start.start c.loop-start.text) _ cut
-            put.2 c.put_samples.ensures,
+        group_of (samples_from c.args.table.now) (samples_join c.args.table.now) rest group more _ put.0
+            (take c.loop-start.start c.loop-start.text) _ cut put.2 c.put_samples.ensures,
       );
       unflushed = λ t. c.loop-start.invariant.unflushed (c.put_all.ensures.unflushed t);
       failures = cc (c.in_ok-put_all.ensures.failures, c.loop-start.invariant.failures);
@@ -52,8 +52,8 @@ returns-in_err-put_all-clause-bytes g c =
     let before = g.K.Sink.taken c.loop-start.out in
     rw failed.1
     (puts-stopped _ before _ put.0 _ (samples_from c.args.table.now more) _ put.1 c.in_err-put_all.ensures.bytes
-    (group_of (samples_from c.args.table.now) (samples_join c.args.table.now) rest group more _ put.0 (take c.loop-start.start c.loop-start.text) _ cut
-    put.2 c.put_samples.ensures))
+    (group_of (samples_from c.args.table.now) (samples_join c.args.table.now) rest group more _ put.0
+    (take c.loop-start.start c.loop-start.text) _ cut put.2 c.put_samples.ensures))
 
 pub returns-then-is_empty-clause-bytes : goal.returns-then-is_empty-clause-bytes
 returns-then-is_empty-clause-bytes g c =
@@ -65,6 +65,6 @@ returns-then-is_empty-clause-bytes g c =
     parted rest group more c.min.result c.split_at.ensures.front c.split_at.ensures.back in
     let before = g.K.Sink.taken c.loop-start.out in
     last_put (samples_from c.args.table.now) refl more _ (put.0 ++ _) _ _ (sym c.is_empty.ensures ∙ c.if-is_empty.true)
-    (group_of (samples_from c.args.table.now) (samples_join c.args.table.now) rest group more _ put.0 (take c.loop-start.start c.loop-start.text) _ cut
-    put.2 c.put_samples.ensures)
+    (group_of (samples_from c.args.table.now) (samples_join c.args.table.now) rest group more _ put.0
+    (take c.loop-start.start c.loop-start.text) _ cut put.2 c.put_samples.ensures)
     (Appends-trans _ before _ put.0 _ put.1 c.in_ok-put_all.ensures.bytes)
