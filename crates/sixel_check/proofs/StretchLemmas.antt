@@ -243,7 +243,8 @@ stretch_stands {registers} n s seen place count r bytes long each known fits u (
     let p : Placed = record { place = place + k; event = Step (Sixel (f k)) } in
     let wide = stretched_width s n.column n.band k f r in
     let high = stretched_height s n.column n.band k f r in
-    let painted : IsPaintedIn m r = record { known = known.known; coloured = known.coloured; painted = known.painted } in
+    let painted : IsPaintedIn m r =
+    record { known = known.known; coloured = known.coloured; painted = known.painted } in
     let columns = fits.columns in
     let rows = fits.rows in
     let one : Fits m 1 t = record { columns = omega (arith, wide, columns); rows = omega (arith, high, rows) } in
@@ -375,8 +376,8 @@ pub stretch_taken : (registers place count : ℕ) (bytes : List ℕ) (old new : 
     → StandsAfter registers old seen → StandsAfter registers new (seen ++ sixels_from place (take count bytes))
 unfolding StandsAfter
 stretch_taken registers place count bytes old new seen long each may finding progress broken taken s =
-    let judges = judges_then registers place count bytes old.finding old.notes new.notes old.sheet new.sheet seen long each
-    broken taken s.0 in
+    let judges = judges_then registers place count bytes old.finding old.notes new.notes old.sheet new.sheet seen long
+    each broken taken s.0 in
     let short = length-take-le count bytes long in
     let begun = begun_stretch old.progress seen place (take count bytes)
     (λ k lt. ap is_data (get_or-take count bytes k 0 (omega (arith, short))) ∙ each k (omega (arith, short)))

@@ -6,7 +6,8 @@ use Rattle.std.specs.Int.{bit_at, div_ceil}
 use Rattle.std.specs.Int.Bits.{bit_or, or_zero_r}
 use Rattle.std.proofs.lemmas.Bool.{and_parts, and_from, leb-true, ltb-true, le-leb, lt-ltb, eqb-true, eq-eqb, cases_eq}
 use Rattle.std.proofs.lemmas.List.{get_or-replicate, get_or-take, length-take-le}
-use Rattle.std.proofs.lemmas.Nat.{div-add-mod', mod_below, div-mul-add, mod-mul-add, mul-add-lt, row_fits_turned, mul-le}
+use Rattle.std.proofs.lemmas.Nat.{div-add-mod', mod_below, div-mul-add, mod-mul-add, mul-add-lt, mul-le}
+use Rattle.std.proofs.lemmas.Nat.{row_fits_turned}
 use Rattle.std.proofs.lemmas.Nat.Bits.{bit_at_or, bit_at-lt, bit_at-zero, same_from_bits_below}
 use Rattle.sixel_picture.specs.BandPlanes.{is_covered, sheet_of_bands}
 use Rattle.sixel_picture.specs.Geometry.{covers}

@@ -196,7 +196,8 @@ none_passes p xs k none lt = elim (cases_lt (position_or_len p xs) (length xs)) 
 
 -- the next register is the first of its colour
 pub first_next : (palette : List (Option Parts)) (count : ℕ) (colour : Parts)
-    → None ≡ position (is_entry colour) palette → count < length palette → position (is_entry colour) (slice_set palette count (Some colour)) ≡ Some count
+    → None ≡ position (is_entry colour) palette → count < length palette
+    → position (is_entry colour) (slice_set palette count (Some colour)) ≡ Some count
 first_next palette count colour none room =
     let next = slice_set palette count (Some colour) in
     position_is (is_entry colour) next count (omega (arith, length-set palette count (Some colour)))

@@ -358,7 +358,8 @@ pub group_more : (w start covered n next register count few : ℕ) (bytes lanes 
     → AreMapped (covered + n) 16 (λ j b. bit_or b (get_or lanes j 0)) cm cn
     → ArePainted 6 w start next (sixel_of bytes count) register ro rn
     × AreMapped covered next (λ j b. bit_or b (sixel_of bytes count j)) co cn
-group_more w start covered n next register count few bytes lanes ro rm rn co cm cn end most all are before rows columns =
+group_more w start covered n next register count few bytes lanes ro rm rn co cm cn end most all are before rows
+    columns =
     let f : ℕ → ℕ = sixel_of bytes count in
     let same = lanes_of bytes lanes count n few most all are in
     subst (λ (m : ℕ). ArePainted 6 w start m f register ro rn × AreMapped covered m (λ j b. bit_or b (f j)) co cn)

@@ -18,7 +18,8 @@ returns-clause-painted c = λ _.
     let n : ℕ = done.0 in
     let start : ℕ = 6 * c.args.band * inside.width + c.args.column in
     let covered : ℕ = c.args.band * inside.width + c.args.column in
-    let painted : ArePainted 6 inside.width start n f c.args.register inside.registers.items c.paint_groups.new.registers =
+    let painted : ArePainted 6 inside.width start n f c.args.register inside.registers.items
+    c.paint_groups.new.registers =
     subst (λ (l : List ℕ). ArePainted 6 inside.width start n f c.args.register l c.paint_groups.new.registers)
     c.deref_mut.ensures.value done.2 in
     let mapped : AreMapped covered n (λ j b. bit_or b (f j)) inside.coverage.items c.paint_groups.new.coverage =
@@ -28,7 +29,8 @@ returns-clause-painted c = λ _.
     let coverage : length c.paint_groups.new.coverage ≡ inside.coverage.len = omega (arith, mapped.long) in
     ap₂ (sheet_of_bands inside.width inside.height) (take_at c.paint_groups.new.registers _ _ registers)
     (take_at c.paint_groups.new.coverage _ _ coverage)
-    ∙ stretched_bands inside.width inside.height c.args.column c.args.band c.args.count n start covered f c.args.register
+    ∙ stretched_bands inside.width inside.height c.args.column c.args.band c.args.count n start covered f
+    c.args.register
     inside.registers.items inside.coverage.items c.paint_groups.new.registers c.paint_groups.new.coverage some fits
     c.self.invariant.each_pixel c.self.invariant.each_band done.1
     (none_past c.args.bytes.now c.args.count) refl refl painted mapped
