@@ -1,6 +1,8 @@
 -- What the end of a run says of its bytes.
-use Rattle.std.proofs.Common.{◌≡◌, ℕ, List, Option, Some, None}
+use Rattle.std.proofs.Common.{◌≡◌, ℕ, List, Option, Some, None, subst, sym}
 use Rattle.std.specs.Prelude.{Result, Ok, Err, IfSome}
+use Rattle.std.specs.Fmt.{option_append}
+use Rattle.std.specs.Io.KnownBytes.{Consumes}
 use Rattle.sixel_check.specs.declared.verdict.Finding.{Finding}
 use Rattle.sixel.specs.declared.exit.Exit.TheVariants as exit
 use Rattle.sixel.specs.declared.fault.RunFault.{RunFault}
@@ -27,3 +29,10 @@ broken_gives t None left a had has wrote is = tt
 broken_gives t (Some bytes) left (Ok status.Done) had has wrote is = let no : exit.Done ≡ exit.Broken = is in cc
 broken_gives t (Some bytes) left (Ok (status.Broken finding)) had has wrote is = (wrote.0, finding, wrote.1)
 broken_gives t (Some bytes) left (Err fault) had has wrote is = let no : exit.Refused ≡ exit.Broken = is in cc
+
+-- what is said of the bytes of a reader of which some were read holds of those bytes and its rest
+pub chained : (P : List ℕ → Type 0) (told rest : Option (List ℕ)) (front : List ℕ) → Consumes told rest front
+    → IfSome (option_append (Some front) rest) P → IfSome told P
+chained P None rest front consumed h = tt
+chained P (Some bytes) None front consumed h = absurd consumed
+chained P (Some bytes) (Some rest) front consumed h = subst P (sym consumed) h

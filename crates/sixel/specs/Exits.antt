@@ -1,6 +1,6 @@
 -- How the program ends.
-use Rattle.std.specs.Prelude.{◌≡◌, ◌≢◌, ◌⊎◌, ℕ, List, [], Bool, false, true, take, Option, IfSome, Result, Ok, Err}
-use Rattle.std.specs.Prelude.{if◌then◌else◌}
+use Rattle.std.specs.Prelude.{◌≡◌, ◌≢◌, ◌⊎◌, ◌++◌, ℕ, List, [], Bool, false, true, take, Option, IfSome, Result, Ok}
+use Rattle.std.specs.Prelude.{Err, if◌then◌else◌}
 use Rattle.std.specs.Io.KnownBytes.{Appends}
 use Rattle.sixel_grammar.specs.Devices.{one_more}
 use Rattle.sixel.specs.declared.exit.Exit.{Exit}
@@ -13,6 +13,7 @@ use Rattle.sixel.specs.declared.task.Task.TheVariants as task
 use Rattle.sixel.specs.declared.words.WordsFault.{WordsFault}
 use Rattle.sixel.specs.declared.words.WordsFault.TheVariants as fault
 use Rattle.sixel.specs.declared.fault.RunFault.TheVariants as run
+use Rattle.sixel.specs.Formats.{advice}
 use Rattle.sixel.specs.Outputs.{CountsReads, CountsWrites, TakesMemory, Wrote}
 use Rattle.sixel.specs.Texts.{Text, fault_line, finding_line}
 
@@ -55,10 +56,11 @@ IsPut text taken failures =
     ⊎ ((n : ℕ) × Appends taken.0 taken.1 (take n text) × (failures.1 ≡ one_more failures.0))
 
 -- a run of the task had some answer. The source and the first sink are as after such a run, the program ends as after
--- it, and the second sink was put the line that is said of it
+-- it, and the second sink was put the line that is said of it, and what is said of an input of another format, by the
+-- bytes that are given as its first
 -- of each device stands here what it was before and after: the bytes that it tells, and its count of failures; and of
 -- the first sink whether it is flushed in the end
-pub record RunEnds (t : Task) (exit : Exit) (input : Option (List ℕ) × Option (List ℕ)) (reads : ℕ × ℕ)
+pub record RunEnds (t : Task) (front : List ℕ) (exit : Exit) (input : Option (List ℕ) × Option (List ℕ)) (reads : ℕ × ℕ)
     (output : Option (List ℕ) × Option (List ℕ)) (writes : ℕ × ℕ) (is_flushed : Bool)
     (errors : Option (List ℕ) × Option (List ℕ)) (complaints : ℕ × ℕ) : Type 0 where
   pub answer : Result Status RunFault
@@ -68,4 +70,4 @@ pub record RunEnds (t : Task) (exit : Exit) (input : Option (List ℕ) × Option
   pub written : CountsWrites answer writes.0 writes.1
   pub flushed : answer ≢ Err run.Write → is_flushed ≡ true
   pub ends : exit ≡ exit_for_answer answer
-  pub said : IsPut (complaint t answer) errors complaints
+  pub said : IsPut (complaint t answer ++ advice front answer) errors complaints

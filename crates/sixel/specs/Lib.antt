@@ -6,4 +6,5 @@ pub mod Outputs
 pub mod Feeding
 pub mod Laws
 pub mod Words
+pub mod Formats
 pub mod Exits

@@ -1,14 +1,18 @@
 //! How the program ends.
 
-ghost use Rattle.std.specs.Prelude.{◌≡◌};
+ghost use Rattle.std.specs.Prelude.{◌≡◌, ◌≤◌, ◌++◌, length};
 ghost use Rattle.sixel.specs.Exits.{RunEnds, complaint, exit_code, exit_for_answer};
+ghost use Rattle.sixel.specs.Formats.{advice};
 ghost use Rattle.sixel.specs.Outputs.{HasSides};
 
 use crate::fault::RunFault;
+use crate::formats::{advice_on, format_of};
 use crate::lines::{Line, fault_line, finding_line};
 use crate::run;
 use crate::task::{Status, Task};
+use arrayvec::ArrayVec;
 use sixel_grammar::{Sink, Source, put_all};
+use sixel_picture::PpmReason;
 use std::alloc::Global;
 
 /// How the program ends.
@@ -57,24 +61,56 @@ fn complaint(task: Task, answer: &Result<Status, RunFault>) -> Line
     }
 }
 
+/// What makes a PPM of an input that begins with these bytes, where its header is refused at the mark of another
+/// format; else nothing.
+fn advice(front: &[u8], answer: &Result<Status, RunFault>) -> &'static str
+    ensures text { result.now ≡ advice front.now answer.now }
+    ensures short { length result.now ≤ 96 }
+{
+    match answer {
+        Err(
+            RunFault::Ppm {
+                reason: PpmReason::Header,
+                place,
+            },
+        ) if *place <= 1 => match format_of(front) {
+            Some(format) => advice_on(format),
+            None => "",
+        },
+        _ => "",
+    }
+}
+
+/// All that is said of a run: a complaint, and after it advice.
+fn said_of(task: Task, front: &[u8], answer: &Result<Status, RunFault>) -> ArrayVec<u8, 192>
+    ensures { result.items ≡ complaint task answer.now ++ advice front.now answer.now }
+{
+    let mut said = ArrayVec::new();
+    let _ = said.try_extend_from_slice(complaint(task, answer).as_slice());
+    let _ = said.try_extend_from_slice(advice(front, answer).as_bytes());
+    said
+}
+
 /// Runs a task, and puts the line of why it was refused, or of which rule kept a picture from being rendered, into
-/// another sink. If that line can't be put, the program ends as it would.
+/// another sink, and after it what makes a PPM of an input of another format. `front` is what the input begins with,
+/// as far as it is known. If that can't be put, the program ends as it would.
 pub fn report<S: Source, K: Sink, E: Sink>(
     alloc: Global,
     task: Task,
+    front: &[u8],
     input: &mut S,
     output: &mut K,
     errors: &mut E,
 ) -> Exit
     requires { HasSides task }
-    ensures { RunEnds task result
+    ensures { RunEnds task front.now result
         (S.remaining input.old, S.remaining input.new) (S.failure_count input.old, S.failure_count input.new)
         (K.taken output.old, K.taken output.new) (K.failure_count output.old, K.failure_count output.new)
         (K.is_flushed output.new)
         (E.taken errors.old, E.taken errors.new) (E.failure_count errors.old, E.failure_count errors.new) }
 {
     let answer = run::run(alloc, task, input, output);
-    let line = complaint(task, &answer);
-    let _ = put_all(errors, line.as_slice());
+    let said = said_of(task, front, &answer);
+    let _ = put_all(errors, said.as_slice());
     exit_of(answer)
 }

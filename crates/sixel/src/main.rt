@@ -3,6 +3,7 @@
 
 ghost use Rattle.std.specs.Prelude.{◌≡◌, ◌≢◌, IfErr, IfOk, IfSome, Ok, false, is_ok, map, true};
 ghost use Rattle.std.specs.String.{string_bytes};
+ghost use Rattle.std.specs.Io.KnownBytes.{Consumes};
 ghost use Rattle.std.specs.Vec.Iter.{into_iter_items};
 ghost use Rattle.sixel_check.specs.declared.verdict.Finding.{Finding as AFinding};
 ghost use Rattle.sixel.specs.Exits.{exit_for_words};
@@ -15,6 +16,7 @@ ghost use Rattle.clap.specs.Takes.{takes};
 
 mod exit;
 mod fault;
+mod formats;
 pub mod laws;
 mod lines;
 mod run;
@@ -24,9 +26,11 @@ mod task;
 mod watched;
 mod words;
 
+use arrayvec::ArrayVec;
 use clap::Error;
 use exit::{Exit, code_of, report};
 use fault::RunFault;
+use formats::FRONT;
 use lines::write_fault;
 use sixel_grammar::{FromRead, ToWrite, put_all};
 use std::alloc::Global;
@@ -82,10 +86,33 @@ fn execute<R: Read + Drop, W: Write + Drop, E: Write + Drop>(
         (text : Text) × (finding : AFinding) × Gives task bytes text (Ok (Status.Broken finding))) }
     ensures no_usage { result ≢ Exit.Usage }
 {
-    let mut input = FromRead::new(input);
+    let mut input = input;
+    let front = first_bytes(task, &mut input);
+    let mut input = FromRead::new(front.as_slice().chain(input));
     let mut output = ToWrite::new(output);
     let mut errors = ToWrite::new(errors);
-    report(alloc, task, &mut input, &mut output, &mut errors)
+    report(
+        alloc,
+        task,
+        front.as_slice(),
+        &mut input,
+        &mut output,
+        &mut errors,
+    )
+}
+
+/// What the input of `encode` begins with, as far as one read gives it. Of another task's input nothing is read, and
+/// where the read fails, the next one meets that.
+fn first_bytes<R: Read>(task: Task, input: &mut R) -> ArrayVec<u8, FRONT>
+    ensures { Consumes (R.remaining input.old) (R.remaining input.new) result.items }
+{
+    let mut front = ArrayVec::new();
+    if let Task::Encode { .. } = task {
+        let mut piece = [0; FRONT];
+        let count = input.read(&mut piece).unwrap_or(0);
+        let _ = front.try_extend_from_slice(&piece[..count]);
+    }
+    front
 }
 
 /// Shows the help that was asked for, or says what is wrong with the words.

@@ -2,6 +2,7 @@ ghost use Rattle.sixel.specs.Outputs.{HasSides};
 
 mod examples;
 mod exhausted;
+mod formats;
 mod streams;
 
 use crate::execute;

@@ -1,13 +1,12 @@
 -- On findings that are no false alarm.
-use Rattle.std.proofs.Common.{◌≡◌, ◌<◌, ◌≤◌, inl, inr, ℕ, zero, suc, true, false}
-use Rattle.std.proofs.Common.{Some, None, List, [], ◌∷◌, length, take, refl, sym, ap, subst, ◌∙◌, arith}
+use Rattle.std.proofs.Common.{◌≡◌, ◌<◌, ◌≤◌, inl, inr, ℕ, zero, suc, true, false, Some, None, List, [], ◌∷◌, length}
+use Rattle.std.proofs.Common.{take, refl, sym, ap, subst, ◌∙◌, arith}
 use Rattle.std.specs.Prelude.{slice_get, IfSome, IsFalse, IsSome, IsTrue}
 use Rattle.std.proofs.Math.Nat.{eq-or-lt_of_le}
 use Rattle.sixel_grammar.specs.declared.command.Event.{Event}
 use Rattle.sixel_grammar.specs.declared.command.Event.TheVariants.{Start, Step, Finish}
 use Rattle.sixel_grammar.specs.Document.{AreRest, AreWhole}
-use Rattle.sixel_picture.specs.Events.{is_finish, is_repeat_of_zero, is_square}
-use Rattle.sixel_picture.specs.Events.{raster_of}
+use Rattle.sixel_picture.specs.Events.{is_finish, is_repeat_of_zero, is_square, raster_of}
 use Rattle.sixel_picture.specs.Geometry.{falls}
 use Rattle.sixel_picture.specs.Positions.{HoldsAtPosition}
 use Rattle.sixel_picture.specs.Rules.{Breaks, IsFirstBroken, breaks_ratio, breaks_repeat_zero, raster_before}

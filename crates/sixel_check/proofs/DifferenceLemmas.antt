@@ -1,7 +1,6 @@
 -- What a finding of the rules on pixels and on 8-bit controls names is a difference between terminals.
 use Rattle.std.proofs.Common.{◌≡◌, ◌<◌, ◌≤◌, ◌+◌, ◌⊎◌, inl, inr, lit≤, ℕ, zero, suc, Bool, true, false, ◌&&◌, ◌||◌, not}
-use Rattle.std.proofs.Common.{Option, Some, None, List, [], ◌∷◌, length, take, refl, sym, ◌∙◌}
-use Rattle.std.proofs.Common.{arith}
+use Rattle.std.proofs.Common.{Option, Some, None, List, [], ◌∷◌, length, take, refl, sym, ◌∙◌, arith}
 use Rattle.std.specs.Prelude.{nat_le, nat_lt, slice_get, IfSome, IsSome, IsSomeAnd, if◌then◌else◌}
 use Rattle.std.specs.List.{AllByRecursion, list_any}
 use Rattle.std.specs.Option.{option_map_or}
@@ -33,8 +32,8 @@ use Rattle.sixel_picture.proofs.RuleLemmas.{is_false}
 use Rattle.sixel_terminal.specs.declared.choices.Ground.{Ground}
 use Rattle.sixel_terminal.specs.declared.choices.Ground.TheVariants.{Kept}
 use Rattle.sixel_terminal.specs.Displays.{Display, registers_of}
-use Rattle.sixel_terminal.specs.Drawing.{IsPainted, filled_on, is_kept_on, is_seen_on, paint_at, paints_in}
-use Rattle.sixel_terminal.specs.Drawing.{selected_on, shown_on, touches_on}
+use Rattle.sixel_terminal.specs.Drawing.{IsPainted, filled_on, is_kept_on, is_seen_on, paint_at, paints_in, selected_on}
+use Rattle.sixel_terminal.specs.Drawing.{shown_on, touches_on}
 use Rattle.sixel_terminal.proofs.ClipLemmas.{at_origin}
 use Rattle.sixel_terminal.proofs.ShownLemmas.{unpainted}
 use Rattle.sixel_check.specs.declared.rule.Rule.{Rule}

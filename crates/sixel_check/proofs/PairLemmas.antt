@@ -1,6 +1,5 @@
 -- On two given terminals, which show in other colours what a finding names.
-use Rattle.std.proofs.Common.{◌<◌, ℕ, Bool, true, false, Option, Some, None, List, refl, sym, ap, subst}
-use Rattle.std.proofs.Common.{◌∙◌}
+use Rattle.std.proofs.Common.{◌<◌, ℕ, Bool, true, false, Option, Some, None, List, refl, sym, ap, subst, ◌∙◌}
 use Rattle.std.specs.Prelude.{IsSomeAnd}
 use Rattle.sixel_grammar.specs.declared.command.Event.{Event}
 use Rattle.sixel_grammar.specs.declared.command.Placed.{Placed}

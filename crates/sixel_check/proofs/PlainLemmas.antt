@@ -1,7 +1,6 @@
 -- Two terminals, written out, that differ at what a finding names.
-use Rattle.std.proofs.Common.{◌≡◌, ◌≢◌, ◌<◌, ◌≤◌, ◌+◌, ◌*◌, ◌&&◌, lit≤, ℕ, suc, Bool, true, false, Option, Some}
-use Rattle.std.proofs.Common.{None, List, length, take, replicate, nat_le, nat_lt, refl, sym, ap, subst, ◌∙◌}
-use Rattle.std.proofs.Common.{arith}
+use Rattle.std.proofs.Common.{◌≡◌, ◌≢◌, ◌<◌, ◌≤◌, ◌+◌, ◌*◌, ◌&&◌, lit≤, ℕ, suc, Bool, true, false, Option, Some, None}
+use Rattle.std.proofs.Common.{List, length, take, replicate, nat_le, nat_lt, refl, sym, ap, subst, ◌∙◌, arith}
 use Rattle.std.specs.Prelude.{◌==◌, is_some, slice_get, unwrap_or, IsSome, if◌then◌else◌}
 use Rattle.std.specs.Option.{option_map, option_map_or}
 use Rattle.std.proofs.lemmas.Bool.{and_parts, eqb-true, leb-true, ltb-true}
@@ -31,8 +30,8 @@ use Rattle.sixel_check.specs.declared.rule.Rule.{Rule}
 use Rattle.sixel_check.specs.declared.rule.Rule.TheVariants.{Outside, Uncovered}
 use Rattle.sixel_check.specs.declared.verdict.Finding.{Finding}
 use Rattle.sixel_check.specs.Alarms.{HasRoomFor, IsCutOffByClipping}
-use Rattle.sixel_check.specs.Differences.{IsFound, SomeEightBitDiffer, SomeOutsideDiffer, SomeUncoveredDiffer}
-use Rattle.sixel_check.specs.Differences.{black, other_than, plain, shown_at, stood_at, white}
+use Rattle.sixel_check.specs.Differences.{IsFound, SomeEightBitDiffer, SomeOutsideDiffer, SomeUncoveredDiffer, black}
+use Rattle.sixel_check.specs.Differences.{other_than, plain, shown_at, stood_at, white}
 use Rattle.sixel_check.specs.Verdicts.{IsPixel, capped, number_of, greatest}
 use Rattle.sixel_check.proofs.AlarmLemmas.{finish_last}
 use Rattle.sixel_check.proofs.CoverLemmas.{box_there}

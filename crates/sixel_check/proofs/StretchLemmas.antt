@@ -1,7 +1,7 @@
 -- On stretches of sixels that break no rule.
 use Rattle.std.proofs.Common.{◌≡◌, ℕ, zero, suc, ◌+◌, ◌-◌, ◌*◌, ◌%◌, ◌<◌, ◌≤◌, ◌&&◌, Bool, true, false, not, IsTrue}
 use Rattle.std.proofs.Common.{Option, Some, None, List, [], ◌∷◌, ◌++◌, length, get_or, set, take, refl, sym, ap, ap₂}
-use Rattle.std.proofs.Common.{◌∙◌, subst, arith, append_assoc}
+use Rattle.std.proofs.Common.{◌∙◌, subst, arith, append_assoc, inl, inr}
 use Rattle.std.specs.Prelude.{IsSome, is_none, is_some, nat_le, if◌then◌else◌}
 use Rattle.std.specs.List.{AllByRecursion}
 use Rattle.std.specs.Option.{option_map_or}
@@ -39,13 +39,14 @@ use Rattle.sixel_check.specs.Judging.{AreNotesAfter, IsDrawn, JudgesAfter, Stand
 use Rattle.sixel_check.specs.Notes.{known_in, next_column, next_painted}
 use Rattle.sixel_check.specs.Standing.{CheckerValue, StandsAfter, expects, is_start, is_whole, progress_of}
 use Rattle.sixel_check.specs.Standing.{progress_with}
-use Rattle.sixel_check.specs.Stretches.{Fits, IsPaintedIn, IsStretchedIn, MayStep, moved_by}
-use Rattle.sixel_check.specs.Verdicts.{IsFinding}
+use Rattle.sixel_check.specs.Stretches.{AreBlank, Fits, IsPaintedIn, IsStretchedIn, MayStep, blank_byte, moved_by}
+use Rattle.sixel_check.specs.Stretches.{passed_by}
+use Rattle.sixel_check.specs.Verdicts.{IsFinding, capped}
 use Rattle.sixel_check.proofs.BlankLemmas.{small}
 use Rattle.sixel_check.proofs.DrawLemmas.{drawn_paint, drawn_still}
 use Rattle.sixel_check.proofs.JudgeLemmas.{events_push, judge_broken, judge_goes_on}
 use Rattle.sixel_check.proofs.NoteLemmas.{notes_push}
-use Rattle.sixel_check.proofs.OutsideLemmas.{IsCapped, inside_fits, none_outside}
+use Rattle.sixel_check.proofs.OutsideLemmas.{IsCapped, inside_fits, no_bits_fit, none_outside}
 use Rattle.sixel_check.proofs.PixelLemmas as pixels
 use Rattle.sixel_check.proofs.RunLemmas.{falls_first}
 use Rattle.sixel_check.proofs.StandLemmas.{front_next, progress_push, whole_push}
@@ -276,6 +277,67 @@ stretch_stands {registers} n s seen place count r bytes long each known fits u (
     (subst (λ (j : ℕ). StandsUnbroken registers (moved_by 1 m) (Some (stretched_sheet s n.column n.band j f r))
     (events_of (before ++ p ∷ []))) next after))
 
+-- ---- sixels without a bit, wherever they lie
+
+-- one breaks no rule
+blank_breaks_none : {registers : ℕ} (n : Notes) (s : Sheet) (before : List Event) → AreNotesAfter registers n before
+    → IsDrawn s before → BreaksNoRule registers before (sixel 0)
+blank_breaks_none {registers} n s before a d =
+    let e : Event = sixel 0 in
+    let least = pixels.least_noted n (Some s) before e true None refl (sym (sixel_rule n 0 refl refl)) a d in
+    let first = falls_first before e (box_of s) None
+    (none_outside (column 0 before) 1 (band before) 0 s.width s.height
+    (no_bits_fit (column 0 before) 1 (band before) 0 s.width s.height refl)) in
+    pixels.none_eight_bit registers before e refl
+    (pixels.none_before_end registers before e refl (pixels.none_outside registers before e s d least first))
+
+-- the bits of a byte
+blank_bits : (b : ℕ) → b ≡ blank_byte → b - 63 ≡ 0
+blank_bits b is = omega arith
+
+-- what stands after k of a stretch of them
+pub passed_stands : {registers : ℕ} (n : Notes) (s : Sheet) (seen : List Placed) (place count : ℕ) (bytes : List ℕ)
+    → count ≤ length bytes → AreBlank bytes count → StandsUnbroken registers n (Some s) (events_of seen)
+    → (k : ℕ) → k ≤ count
+    → StandsUnbroken registers (passed_by k n) (Some s) (events_of (seen ++ sixels_from place (take k bytes)))
+passed_stands {registers} n s seen place count bytes long blank u zero le =
+    let at = u.notes_are.column_is in
+    let still : n.column ≡ capped (n.column + 0) = omega (arith, at) in
+    subst (λ (l : List Placed). StandsUnbroken registers (passed_by 0 n) (Some s) (events_of l)) (sym (append-nil seen))
+    (subst (λ (c : ℕ). StandsUnbroken registers (record {
+      column = c;
+      band = n.band;
+      selected = n.selected;
+      named = n.named;
+      palette = n.palette;
+      painted = n.painted;
+    }) (Some s) (events_of seen)) still u)
+passed_stands {registers} n s seen place count bytes long blank u (suc k) le =
+    let before = seen ++ sixels_from place (take k bytes) in
+    let m : Notes = passed_by k n in
+    let v = passed_stands n s seen place count bytes long blank u k (omega arith) in
+    let none = blank_breaks_none m s (events_of before) v.notes_are v.sheet_is in
+    let p : Placed = record { place = place + k; event = Step (Sixel 0) } in
+    let after = judge_goes_on m (passed_by 1 m) (Some s) (Some s) before p v none
+    (notes_push m (events_of before) (sixel 0) v.notes_are none)
+    (drawn_still s (events_of before) (sixel 0) refl v.sheet_is) in
+    let bits : 0 ≡ get_or bytes k 0 - 63 = sym (blank_bits (get_or bytes k 0) (blank k (omega arith))) in
+    let events : before ++ p ∷ [] ≡ seen ++ sixels_from place (take (suc k) bytes) =
+    append_assoc seen (sixels_from place (take k bytes)) (p ∷ [])
+    ∙ ap (λ (l : List Placed). seen ++ l)
+    (ap (λ (b : ℕ). sixels_from place (take k bytes) ++ record { place = place + k; event = Step (Sixel b) } ∷ []) bits
+    ∙ sixels_more place (place + k) k bytes refl (omega arith)) in
+    let column : capped (capped (n.column + k) + 1) ≡ capped (n.column + suc k) = omega arith in
+    subst (λ (l : List Placed). StandsUnbroken registers (passed_by (suc k) n) (Some s) (events_of l)) events
+    (subst (λ (c : ℕ). StandsUnbroken registers (record {
+      column = c;
+      band = n.band;
+      selected = n.selected;
+      named = n.named;
+      palette = n.palette;
+      painted = n.painted;
+    }) (Some s) (events_of (before ++ p ∷ []))) column after)
+
 -- ---- where a rule was broken before
 
 pub broken_stays : {registers : ℕ} (seen more : List Placed) (f : Finding) → (i : ℕ) × IsFinding registers seen f i
@@ -363,9 +425,13 @@ judges_then registers place count bytes (Some f) n next sheet drawn seen long ea
 judges_then registers place count bytes None n next None drawn seen long each broken taken j = absurd (taken refl)
 judges_then registers place count bytes None n next (Some s) None seen long each broken taken j = absurd (taken refl)
 judges_then registers place count bytes None n next (Some s) (Some drawn) seen long each broken taken j =
-    let is = taken refl in
-    rw (is.next_is, is.drawn_is)
-    (stretch_stands n s seen place count is.register bytes long each is.painted_in is.fits j count (omega arith))
+    elim (taken refl) [
+      | inl is ↦
+          rw (is.next_is, is.drawn_is)
+          (stretch_stands n s seen place count is.register bytes long each is.painted_in is.fits j count (omega arith))
+      | inr is ↦
+          rw (is.next_is, is.drawn_is) (passed_stands n s seen place count bytes long is.blank j count (omega arith))
+    ]
 
 -- after a stretch of sixels
 pub stretch_taken : (registers place count : ℕ) (bytes : List ℕ) (old new : CheckerValue) (seen : List Placed)

@@ -1,5 +1,6 @@
 -- Stretches of sixels that break no rule.
-use Rattle.std.specs.Prelude.{◌≡◌, ◌+◌, ◌*◌, ◌≤◌, ℕ, true, false, Option, Some, IsSome, IsTrue, List, slice_index_or}
+use Rattle.std.specs.Prelude.{◌≡◌, ◌+◌, ◌*◌, ◌<◌, ◌≤◌, ◌⊎◌, ℕ, true, false, Option, Some, IsSome, IsTrue, List}
+use Rattle.std.specs.Prelude.{slice_index, slice_index_or}
 use Rattle.sixel_grammar.specs.declared.command.Command.{Command}
 use Rattle.sixel_grammar.specs.declared.command.Event.TheVariants.{Step}
 use Rattle.sixel_grammar.specs.declared.command.Placed.{Placed}
@@ -10,6 +11,7 @@ use Rattle.sixel_picture.specs.Stretches.{sixel_of, stretched_sheet}
 use Rattle.sixel_check.specs.declared.notes.Notes.{Notes}
 use Rattle.sixel_check.specs.Notes.{known_in}
 use Rattle.sixel_check.specs.Standing.{expects}
+use Rattle.sixel_check.specs.Verdicts.{capped}
 
 -- any command may come next
 abbrev pub MayStep : List Placed → Type 0
@@ -46,7 +48,34 @@ pub record IsStretched (bytes : List ℕ) (count : ℕ) (notes : Notes) (s : She
   pub next_is : next ≡ moved_by count notes
   pub drawn_is : drawn ≡ stretched_sheet s notes.column notes.band count (sixel_of bytes count) register
 
--- that, where there is a sheet
+-- the byte of a sixel without a bit
+abbrev pub blank_byte : ℕ
+blank_byte = 63
+
+-- so many bytes at the front are sixels without a bit
+abbrev pub AreBlank : List ℕ → ℕ → Type 0
+AreBlank bytes count = (k : ℕ) → k < count → slice_index bytes k ≡ blank_byte
+
+-- the notes after so many sixels without a bit
+abbrev pub passed_by : ℕ → Notes → Notes
+passed_by count notes = record {
+  column = capped (notes.column + count);
+  band = notes.band;
+  selected = notes.selected;
+  named = notes.named;
+  palette = notes.palette;
+  painted = notes.painted;
+}
+
+-- the notes and the sheet after a stretch without a bit, wherever it lies
+pub record IsPassed (bytes : List ℕ) (count : ℕ) (notes : Notes) (s : Sheet) (next : Notes) (drawn : Sheet) :
+    Type 0 where
+  pub blank : AreBlank bytes count
+  pub next_is : next ≡ passed_by count notes
+  pub drawn_is : drawn ≡ s
+
+-- either of these, where there is a sheet
 abbrev pub IsStretchedIn : List ℕ → ℕ → Notes → Option Sheet → Notes → Option Sheet → Type 0
-IsStretchedIn bytes count notes (Some s) next (Some drawn) = IsStretched bytes count notes s next drawn
+IsStretchedIn bytes count notes (Some s) next (Some drawn) =
+    IsStretched bytes count notes s next drawn ⊎ IsPassed bytes count notes s next drawn
 IsStretchedIn bytes count notes _ next _ = ⊥

@@ -81,14 +81,43 @@ fn keep_command<P: Plane>(
         Command::Repeat { count, bits } => {
             push_command(checker, place, Command::Repeat { count, bits })
         }
-        _ => keep_one(
-            checker,
-            Some(Placed {
-                place,
-                event: Event::Step(command),
-            }),
-        ),
+        _ => keep_other(checker, place, command),
     }
+}
+
+/// Pushes a command that isn't data, as `keep_command`. Between stretches stand selects, returns and next lines.
+#[inline(always)]
+fn keep_other<P: Plane>(
+    checker: &mut Checker<P>,
+    place: u64,
+    command: Command,
+) -> Result<(), AllocError>
+    requires { (registers : ℕ) × (seen : List PlacedValue) × StandsAfter registers checker.old seen
+        × MayCome seen (Some (command_at place command)) }
+    ensures kept { OnOk result (TakesEvents checker.old checker.new (command_at place command ∷ [])) }
+    ensures grows { OnErr result (MayGrowOver checker.old (command_at place command ∷ [])) }
+{
+    match command {
+        Command::Select(register) => push_command(checker, place, Command::Select(register)),
+        Command::CarriageReturn => push_command(checker, place, Command::CarriageReturn),
+        Command::NextLine => push_command(checker, place, Command::NextLine),
+        _ => push_rarely(checker, place, command),
+    }
+}
+
+/// Pushes a command of any kind.
+#[inline(never)]
+fn push_rarely<P: Plane>(
+    checker: &mut Checker<P>,
+    place: u64,
+    command: Command,
+) -> Result<(), AllocError>
+    requires { (registers : ℕ) × (seen : List PlacedValue) × StandsAfter registers checker.old seen
+        × MayCome seen (Some (command_at place command)) }
+    ensures kept { OnOk result (TakesEvents checker.old checker.new (command_at place command ∷ [])) }
+    ensures grows { OnErr result (MayGrowOver checker.old (command_at place command ∷ [])) }
+{
+    push_command(checker, place, command)
 }
 
 /// Reads one byte, and pushes the events that it completes.

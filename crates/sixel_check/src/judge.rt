@@ -15,7 +15,7 @@ ghost use Rattle.sixel_check.specs.Verdicts.{IsVerdict};
 
 use crate::notes::Notes;
 use crate::pixels::{breach_of, draw, picture_of};
-use crate::stretch::try_paint_stretch;
+use crate::stretch::try_take_stretch;
 use crate::verdict::{Finding, Verdict};
 use sixel_grammar::Placed;
 use sixel_picture::{Plane, Profile};
@@ -80,7 +80,7 @@ impl<P: Plane> Judge<P> {
     }
 
     /// Judges the sixels of so many data bytes at the front of `bytes`, where they break no rule and can be painted at
-    /// once, or where a rule was broken before. Whether it did; else nothing has changed.
+    /// once or have no bit, or where a rule was broken before. Whether it did; else nothing has changed.
     #[inline(always)]
     pub(crate) fn try_take_stretch(&mut self, bytes: &[u8], count: usize) -> bool
         requires stands { (registers : ℕ) × (seen : List PlacedValue)
@@ -96,14 +96,10 @@ impl<P: Plane> Judge<P> {
         if self.finding.is_some() {
             return true;
         }
-        let is_painted = match &mut self.plane {
-            Some(plane) => try_paint_stretch(&self.notes, plane, bytes, count),
+        match &mut self.plane {
+            Some(plane) => try_take_stretch(&mut self.notes, plane, bytes, count),
             None => false,
-        };
-        if is_painted {
-            self.notes.column += count as u64;
         }
-        is_painted
     }
 
     /// The verdict on a whole list.

@@ -1,5 +1,5 @@
 -- On the registers of a picture.
-use Rattle.std.proofs.Common.{◌≡◌, ◌≤◌, arith, Bool, true, ℕ, Option, None, List, [], ◌∷◌, All, IfSome, replicate}
+use Rattle.std.proofs.Common.{◌<◌, ◌≡◌, ◌≤◌, arith, Bool, true, ℕ, Option, None, List, [], ◌∷◌, All, IfSome, replicate}
 use Rattle.std.specs.List.{list_all}
 use Rattle.std.proofs.lemmas.Bool.{and_from, and_parts}
 use Rattle.std.proofs.lemmas.List.{length-replicate}
@@ -33,6 +33,10 @@ blank_palette profile = record {
 }
 
 -- no profile has more than 256 registers
+pub some_registers : (profile : Profile) → 0 < count_of profile
+some_registers Registers16 = omega arith
+some_registers Registers256 = omega arith
+
 pub at_most_256 : (profile : Profile) → count_of profile ≤ 256
 at_most_256 Registers16 = omega arith
 at_most_256 Registers256 = omega arith

@@ -7,7 +7,7 @@ use Rattle.std.specs.Int.Bits.{bit_or, or_zero_r}
 use Rattle.std.specs.Option.{option_flatten}
 use Rattle.std.proofs.lemmas.Bool.Decides.{nat_tests}
 use Rattle.std.proofs.lemmas.Bool.{and_parts, and_from, leb-true, ltb-true, le-leb, lt-ltb, le-ltb, eqb-true, eq-eqb}
-use Rattle.std.proofs.lemmas.Bool.{cases_lt}
+use Rattle.std.proofs.lemmas.Bool.{cond-true, cond-false, cases_lt}
 use Rattle.std.proofs.lemmas.Nat.{mod_below}
 use Rattle.std.proofs.lemmas.Nat.Bits.{bit_at-zero}
 use Rattle.sixel_picture.specs.Geometry.{covers}
@@ -15,7 +15,8 @@ use Rattle.sixel_picture.specs.Positions.{any_below}
 use Rattle.sixel_picture.specs.Sheets.{Sheet, cell, painted_sheet}
 use Rattle.sixel_picture.specs.BandPlanes.{is_covered, sheet_of_bands}
 use Rattle.std.proofs.lemmas.Bool.{cond-false}
-use Rattle.sixel_picture.specs.Stretches.{AreMapped, ArePainted, in_row, in_stretch, sixel_of, stretched_sheet}
+use Rattle.sixel_picture.specs.Stretches.{AreMapped, ArePainted, in_row, in_stretch, run_sixel, sixel_of}
+use Rattle.sixel_picture.specs.Stretches.{stretched_sheet}
 use Rattle.sixel_picture.proofs.SheetLemmas.{at_rows, length_rows}
 use Rattle.sixel_picture.proofs.CoverLemmas.{passes_below, any_below_at}
 use Rattle.sixel_picture.proofs.BandLemmas.{band_fits, covered_band, or_bit}
@@ -29,6 +30,27 @@ unfolding cell stretched_sheet
 cell-stretched s left band count f r x y p q = ap option_flatten (at_rows s.width s.height _ x y p q)
 
 -- ---- a column at a time
+
+-- the rows of a band
+in_band : (band line : ℕ) → (nat_le band line && nat_lt line (band + 1)) ≡ (line == band)
+in_band band line =
+    same_test _ _
+    (λ t.
+    let parts = and_parts (nat_le band line) (nat_lt line (band + 1)) t in
+    let low = leb-true _ _ parts.0 in
+    let high = ltb-true _ _ parts.1 in
+    eq-eqb line band (omega arith))
+    (λ t.
+    let same : line ≡ band = eqb-true line band t in
+    and_from _ _ (le-leb band line (omega arith)) (lt-ltb line (band + 1) (omega arith)))
+
+-- a run covers the pixels of its columns in its band, in the rows whose bits are set
+covered_there : (left count band bits x y : ℕ) → covers left count band 1 bits x y
+    ≡ (((nat_le left x && nat_lt x (left + count)) && (y / 6 == band)) && (bit_at bits (y % 6) == 1))
+covered_there left count band bits x y =
+    covered_band left count band bits x y
+    ∙ ap (λ (b : Bool). ((nat_le left x && nat_lt x (left + count)) && b) && (bit_at bits (y % 6) == 1))
+    (in_band band (y / 6))
 
 no_column : (left x k : ℕ) (b : Bool) (f : ℕ → ℕ)
     → (((nat_le left x && nat_lt x (left + 0)) && b) && (bit_at (f (x - left)) k == 1)) ≡ false
@@ -77,13 +99,13 @@ pub stretched_none : (s : Sheet) (left band : ℕ) (f : ℕ → ℕ) (r x y : �
 stretched_none s left band f r x y inside_x inside_y =
     cell-stretched s left band 0 f r x y inside_x inside_y
     ∙ ap (λ (t : Bool). cond t (Some r) (cell s x y))
-    (no_column left x (y % 6) (nat_le band (y / 6) && nat_lt (y / 6) (band + 1)) f)
+    (no_column left x (y % 6) (y / 6 == band) f)
 
 -- and one whose last column has no bit is the stretch before it
 pub stretched_blank : (s : Sheet) (left band n : ℕ) (f : ℕ → ℕ) (r x y : ℕ) → f n ≡ 0 → x < s.width → y < s.height
     → cell (stretched_sheet s left band (n + 1) f r) x y ≡ cell (stretched_sheet s left band n f r) x y
 stretched_blank s left band n f r x y none inside_x inside_y =
-    let b : Bool = nat_le band (y / 6) && nat_lt (y / 6) (band + 1) in
+    let b : Bool = y / 6 == band in
     cell-stretched s left band (n + 1) f r x y inside_x inside_y
     ∙ ap (λ (t : Bool). cond t (Some r) (cell s x y)) (blank_column left n x (y % 6) b f none)
     ∙ sym (cell-stretched s left band n f r x y inside_x inside_y)
@@ -99,8 +121,8 @@ stretched_more s left band n f r some =
     (λ x y. cond (covers (left + n) 1 band 1 (f n) x y) (Some r) (cell (stretched_sheet s left band n f r) x y))
     (λ x y. cond (in_stretch left band (n + 1) f x y) (Some r) (cell s x y)) None some
     (λ x y inside_x inside_y.
-    let b : Bool = nat_le band (y / 6) && nat_lt (y / 6) (band + 1) in
-    ap₂ (λ (t : Bool) (o : Option ℕ). cond t (Some r) o) (covered_band (left + n) 1 band (f n) x y)
+    let b : Bool = y / 6 == band in
+    ap₂ (λ (t : Bool) (o : Option ℕ). cond t (Some r) o) (covered_there (left + n) 1 band (f n) x y)
     (cell-stretched s left band n f r x y inside_x inside_y)
     ∙ sym (either _ (in_stretch left band n f x y) (Some r) (cell s x y))
     ∙ sym (ap (λ (t : Bool). cond t (Some r) (cell s x y)) (one_column left n x (y % 6) b f))))
@@ -147,23 +169,21 @@ module _ (w left band count n start : ℕ) (f : ℕ → ℕ) (fits : left + coun
       let same_row : y * w ≡ (6 * band + k) * w = ap (λ m. m * w) row in
       let lane : i - s ≡ x - left = omega (arith, same_row, begins) in
       and_from _ _ (and_from _ _ both.0
-      (and_from _ _ (le-leb band (y / 6) (omega arith)) (lt-ltb (y / 6) (band + 1) (omega arith))))
+      (eq-eqb (y / 6) band line))
       (ap₂ (λ j m. bit_at (f j) m == 1) (sym lane) bit ∙ eq-eqb _ _ set)
 
   from_stretch : in_stretch left band count f x y ≡ true → any_below 6 (in_row w start n f (y * w + x)) ≡ true
   from_stretch t =
       let i : ℕ = y * w + x in
       let parts = and_parts
-      ((nat_le left x && nat_lt x (left + count)) && (nat_le band (y / 6) && nat_lt (y / 6) (band + 1)))
+      ((nat_le left x && nat_lt x (left + count)) && (y / 6 == band))
       (bit_at (f (x - left)) (y % 6) == 1) t in
       let both = and_parts (nat_le left x && nat_lt x (left + count))
-      (nat_le band (y / 6) && nat_lt (y / 6) (band + 1)) parts.0 in
+      (y / 6 == band) parts.0 in
       let columns = and_parts (nat_le left x) (nat_lt x (left + count)) both.0 in
-      let rows = and_parts (nat_le band (y / 6)) (nat_lt (y / 6) (band + 1)) both.1 in
       let from = leb-true _ _ columns.0 in
       let to = ltb-true _ _ columns.1 in
-      let low = leb-true _ _ rows.0 in
-      let high = ltb-true _ _ rows.1 in
+      let line : y / 6 ≡ band = eqb-true (y / 6) band both.1 in
       let k : ℕ = y % 6 in
       let row : 6 * band + k ≡ y = omega arith in
       let begins : (6 * band + k) * w + left ≡ start + k * w = row_start k in
@@ -200,10 +220,11 @@ covered_column w left band count n covered f old new x y inside fits more none a
     let before : ℕ = get_or old i 0 in
     let byte = byte_after covered count n i before (get_or new i 0) f more none (mapped.changed i there) in
     let place : (nat_le covered i && nat_lt i (covered + count))
-    ≡ ((nat_le left x && nat_lt x (left + count)) && (nat_le band (y / 6) && nat_lt (y / 6) (band + 1))) =
+    ≡ ((nat_le left x && nat_lt x (left + count)) && (y / 6 == band)) =
     subst (λ (c : ℕ). (nat_le c i && nat_lt i (c + count))
-    ≡ ((nat_le left x && nat_lt x (left + count)) && (nat_le band (y / 6) && nat_lt (y / 6) (band + 1)))) (sym at)
-    (in_row_at w band (y / 6) x left count inside fits) in
+    ≡ ((nat_le left x && nat_lt x (left + count)) && (y / 6 == band))) (sym at)
+    (in_row_at w band (y / 6) x left count inside fits
+    ∙ ap (λ (b : Bool). (nat_le left x && nat_lt x (left + count)) && b) (in_band band (y / 6))) in
     ap (λ (b : ℕ). bit_at b (y % 6) == 1)
     (byte ∙ ap (λ (t : Bool). cond t (bit_or before (f (i - covered))) before) place)
     ∙ or_bit _ before (f (i - covered)) (y % 6)
@@ -211,22 +232,19 @@ covered_column w left band count n covered f old new x y inside fits more none a
     (lane_there _ refl)
   where
     lane_there : (t : Bool)
-        → ((nat_le left x && nat_lt x (left + count)) && (nat_le band (y / 6) && nat_lt (y / 6) (band + 1))) ≡ t
-        → (((nat_le left x && nat_lt x (left + count)) && (nat_le band (y / 6) && nat_lt (y / 6) (band + 1)))
+        → ((nat_le left x && nat_lt x (left + count)) && (y / 6 == band)) ≡ t
+        → (((nat_le left x && nat_lt x (left + count)) && (y / 6 == band))
         && (bit_at (f (y / 6 * w + x - covered)) (y % 6) == 1)) ≡ in_stretch left band count f x y
     lane_there true t =
         let both = and_parts (nat_le left x && nat_lt x (left + count))
-        (nat_le band (y / 6) && nat_lt (y / 6) (band + 1)) t in
+        (y / 6 == band) t in
         let columns = and_parts (nat_le left x) (nat_lt x (left + count)) both.0 in
-        let rows = and_parts (nat_le band (y / 6)) (nat_lt (y / 6) (band + 1)) both.1 in
         let from = leb-true _ _ columns.0 in
-        let low = leb-true _ _ rows.0 in
-        let high = ltb-true _ _ rows.1 in
-        let line : y / 6 ≡ band = omega arith in
+        let line : y / 6 ≡ band = eqb-true (y / 6) band both.1 in
         let same_row : y / 6 * w ≡ band * w = ap (λ m. m * w) line in
         let lane : y / 6 * w + x - covered ≡ x - left = omega (arith, same_row, at) in
         ap (λ (j : ℕ). ((nat_le left x && nat_lt x (left + count)) &&
-        (nat_le band (y / 6) && nat_lt (y / 6) (band + 1)))
+        (y / 6 == band))
         && (bit_at (f j) (y % 6) == 1)) lane
     lane_there false t = rw t refl
 
@@ -271,3 +289,36 @@ stretched_height s left band n f r = refl
 -- no sixel stands after a stretch
 pub none_past : (bytes : List ℕ) (count j : ℕ) → count ≤ j → sixel_of bytes count j ≡ 0
 none_past bytes count j past = cond-false _ _ _ (le-ltb j count past)
+
+-- ---- a run of few columns
+
+run_column : (left count x k bits : ℕ) (b : Bool)
+    → (((nat_le left x && nat_lt x (left + count)) && b) && (bit_at (run_sixel bits count (x - left)) k == 1))
+    ≡ (((nat_le left x && nat_lt x (left + count)) && b) && (bit_at bits k == 1))
+run_column left count x k bits b = elim (cases_lt x (left + count)) [
+  | inl below ↦ elim (cases_lt x left) [
+    | inl before ↦ grind (arith, nat_tests)
+    | inr from ↦
+        let here : run_sixel bits count (x - left) ≡ bits = cond-true _ _ _ (lt-ltb (x - left) count (omega arith)) in
+        ap (λ m. ((nat_le left x && nat_lt x (left + count)) && b) && (bit_at m k == 1)) here
+  ]
+  | inr past ↦ grind (arith, nat_tests)
+]
+
+-- a stretch of equal sixels is a run
+pub stretched_run : (s : Sheet) (left band count bits r : ℕ) → 0 < s.width
+    → stretched_sheet s left band count (run_sixel bits count) r ≡ painted_sheet s left band count bits r
+unfolding painted_sheet stretched_sheet
+stretched_run s left band count bits r some =
+    ap (λ (cells : List (Option ℕ)). record { width = s.width; height = s.height; cells = cells })
+    (same_rows s.width s.height
+    (λ x y. cond (in_stretch left band count (run_sixel bits count) x y) (Some r) (cell s x y))
+    (λ x y. cond (covers left count band 1 bits x y) (Some r) (cell s x y)) None some
+    (λ x y inside_x inside_y.
+    ap (λ (t : Bool). cond t (Some r) (cell s x y))
+    (run_column left count x (y % 6) bits (y / 6 == band)
+    ∙ sym (covered_there left count band bits x y))))
+
+-- no sixel stands after a run
+pub no_run_past : (bits count j : ℕ) → count ≤ j → run_sixel bits count j ≡ 0
+no_run_past bits count j past = cond-false _ _ _ (le-ltb j count past)

@@ -1,8 +1,7 @@
 -- On colours that are numbered as they are first seen.
 use Rattle.std.proofs.Common.{◌≡◌, ◌+◌, ◌<◌, ◌≤◌, ℕ, zero, suc, Bool, true, false, ◌||◌, Option, Some, None, List, []}
-use Rattle.std.proofs.Common.{◌∷◌, ◌++◌, length, cond, refl, sym, ap, ap₂, ◌∙◌, arith, zero-add, length-append}
-use Rattle.std.proofs.Common.{inl, inr}
-use Rattle.std.proofs.Common.{length-set}
+use Rattle.std.proofs.Common.{◌∷◌, ◌++◌, length, cond, refl, sym, ap, ap₂, ◌∙◌, arith, zero-add, length-append, inl}
+use Rattle.std.proofs.Common.{inr, length-set}
 use Rattle.std.specs.Prelude.{get_or, is_some, nat_lt, replicate, slice_set, position, unwrap_or}
 use Rattle.std.specs.List.{list_any, position_from, position_or_len}
 use Rattle.std.proofs.lemmas.Bool.Decides.{nat_tests}

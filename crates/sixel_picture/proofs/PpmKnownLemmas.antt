@@ -1,9 +1,7 @@
 -- On pixels whose registers are known by their samples.
-use Rattle.std.proofs.Common.{◌≡◌, ℕ, ◌+◌, ◌*◌, ◌<◌, ◌≤◌, true, Option, Some, List, []}
-use Rattle.std.proofs.Common.{Bool, Result, Ok, drop, false, length-append, suc, zero, add-one}
-use Rattle.std.proofs.Common.{◌==◌, ◌/◌, ◌%◌, ◌^◌, ◌-◌, cond, map, not, w8}
-use Rattle.std.proofs.Common.{◌∷◌, ◌++◌, length, take, get_or, replicate, refl, sym, ap, ap₂, subst, ◌∙◌}
-use Rattle.std.proofs.Common.{arith, append-nil}
+use Rattle.std.proofs.Common.{◌≡◌, ℕ, ◌+◌, ◌*◌, ◌<◌, ◌≤◌, true, Option, Some, List, [], Bool, Result, Ok, drop, false}
+use Rattle.std.proofs.Common.{length-append, suc, zero, add-one, ◌==◌, ◌/◌, ◌%◌, ◌^◌, ◌-◌, cond, map, not, w8, ◌∷◌}
+use Rattle.std.proofs.Common.{◌++◌, length, take, get_or, replicate, refl, sym, ap, ap₂, subst, ◌∙◌, arith, append-nil}
 use Rattle.std.proofs.Common.{inl, inr, append_assoc, length-set}
 use Rattle.std.specs.Prelude.{slice_set}
 use Rattle.std.specs.List.{list_any, position_from}

@@ -15,7 +15,8 @@ use Rattle.std.proofs.lemmas.Simd.{get_or-chunk, length-zip2, get_or-zip2, tops_
 use lib.Lanes.{chunk, put_chunk, top, zip2, sel_l}
 use Rattle.sixel_grammar.specs.Bytes.{is_data}
 use Rattle.sixel_picture.specs.Positions.{any_below}
-use Rattle.sixel_picture.specs.Stretches.{AreMapped, ArePainted, AreSixels, in_row, painted_by, sixel_of}
+use Rattle.sixel_picture.specs.Stretches.{AreEqual, AreMapped, ArePainted, AreSixels, in_row, painted_by, run_sixel}
+use Rattle.sixel_picture.specs.Stretches.{sixel_of}
 use Rattle.sixel_picture.proofs.PositionLemmas.{any_below_same}
 use Rattle.sixel_picture.proofs.LaneLemmas.{no_bit}
 
@@ -191,6 +192,31 @@ sixels_of at count bytes room are =
           ∙ sixel_or_none (get_or bytes (at + j) 0) count j (are j);
     })
 
+-- lanes of one sixel
+pub equal_of : (bits count : ℕ) → AreEqual bits count (sel_l
+    (map (top 7) (zip2 (λ a b. cond (nat_lt a b) 255 0) (range_with_len 0 16) (replicate 16 count)))
+    (replicate 16 bits) (replicate 16 0))
+equal_of bits count =
+    let taken = zip2 nat_lt (range_with_len 0 16) (replicate 16 count) in
+    let numbers : length (range_with_len 0 16) ≡ 16 = length-range 0 16 in
+    let counts : length (replicate 16 count) ≡ 16 = length-replicate 16 count in
+    let lanes : length (replicate 16 bits) ≡ 16 = length-replicate 16 bits in
+    let zeros : length {A = ℕ} (replicate 16 0) ≡ 16 = length-replicate {A = ℕ} 16 0 in
+    let tests : length taken ≡ 16 = length-zip2 nat_lt (range_with_len 0 16) (replicate 16 count)
+    (numbers ∙ sym counts) ∙ numbers in
+    subst (λ ms. AreEqual bits count (sel_l ms (replicate 16 bits) (replicate 16 0)))
+    (sym (tops_compared w8 nat_lt (range_with_len 0 16) (replicate 16 count)))
+    (record {
+      long = length-sel_l taken (replicate 16 bits) (replicate 16 0) (tests ∙ sym lanes) (tests ∙ sym zeros) ∙ tests;
+      each = λ j lt.
+          get_or-sel_l taken (replicate 16 bits) (replicate 16 0) j 0 (omega arith) (omega arith) (omega arith)
+          ∙ (λ i. cond
+          ((get_or-zip2 nat_lt (range_with_len 0 16) (replicate 16 count) j 0 0 false (omega arith) (omega arith)
+          ∙ ap₂ nat_lt (number j lt) (get_or-replicate 16 j count 0 lt)) i)
+          (get_or-replicate 16 j bits 0 lt i)
+          (get_or-replicate 16 j 0 0 lt i));
+    })
+
 -- ---- rows and groups after each other
 
 row_over : (r b a : Bool) (x o : ℕ) → cond r (cond b x (cond a x o)) (cond a x o) ≡ cond ((r && b) || a) x o
@@ -338,17 +364,36 @@ columns_more from n f sixels old mid new same before group = record {
 
 -- ---- a group of a stretch
 
+-- the lane is one of the columns that are left
+left_of : (count n few j : ℕ) → few ≤ count - n → (few < 16 → few ≡ count - n) → j < 16
+    → nat_lt j few ≡ nat_lt (n + j) count
+left_of count n few j most all lt = elim (cases_lt j few) [
+  | inl low ↦ lt-ltb j few low ∙ sym (lt-ltb (n + j) count (omega arith))
+  | inr high ↦
+      let few_is : few ≡ count - n = all (omega arith) in
+      le-ltb j few high ∙ sym (le-ltb (n + j) count (omega arith))
+]
+
 -- the lanes of a group hold the sixels of its columns
 pub lanes_of : (bytes lanes : List ℕ) (count n few : ℕ) → few ≤ count - n → (few < 16 → few ≡ count - n)
     → AreSixels bytes n few lanes → (j : ℕ) → j < 16 → get_or lanes j 0 ≡ sixel_of bytes count (n + j)
 lanes_of bytes lanes count n few most all are j lt =
-    let same : nat_lt j few ≡ nat_lt (n + j) count = elim (cases_lt j few) [
-      | inl low ↦ lt-ltb j few low ∙ sym (lt-ltb (n + j) count (omega arith))
-      | inr high ↦
-          let few_is : few ≡ count - n = all (omega arith) in
-          le-ltb j few high ∙ sym (le-ltb (n + j) count (omega arith))
-    ] in
+    let same = left_of count n few j most all lt in
     are.each j lt ∙ ap (λ (t : Bool). cond t (get_or bytes (n + j) 0 - 63) 0) same
+
+-- one more group, whose lanes hold the sixels of its columns
+group_then : (w start covered n next register : ℕ) (f : ℕ → ℕ) (lanes ro rm rn co cm cn : List ℕ) → next ≡ n + 16
+    → ((j : ℕ) → j < 16 → get_or lanes j 0 ≡ f (n + j))
+    → ArePainted 6 w start n f register ro rm × AreMapped covered n (λ j b. bit_or b (f j)) co cm
+    → ArePainted 6 w (start + n) 16 (λ j. get_or lanes j 0) register rm rn
+    → AreMapped (covered + n) 16 (λ j b. bit_or b (get_or lanes j 0)) cm cn
+    → ArePainted 6 w start next f register ro rn × AreMapped covered next (λ j b. bit_or b (f j)) co cn
+group_then w start covered n next register f lanes ro rm rn co cm cn end same before rows columns =
+    subst (λ (m : ℕ). ArePainted 6 w start m f register ro rn × AreMapped covered m (λ j b. bit_or b (f j)) co cn)
+    (sym end) (
+      groups_more w start n register f lanes ro rm rn same before.0 rows,
+      columns_more covered n f lanes co cm cn same before.1 columns,
+    )
 
 pub group_more : (w start covered n next register count few : ℕ) (bytes lanes ro rm rn co cm cn : List ℕ)
     → next ≡ n + 16 → few ≤ count - n → (few < 16 → few ≡ count - n) → AreSixels bytes n few lanes
@@ -360,13 +405,28 @@ pub group_more : (w start covered n next register count few : ℕ) (bytes lanes 
     × AreMapped covered next (λ j b. bit_or b (sixel_of bytes count j)) co cn
 group_more w start covered n next register count few bytes lanes ro rm rn co cm cn end most all are before rows
     columns =
-    let f : ℕ → ℕ = sixel_of bytes count in
-    let same = lanes_of bytes lanes count n few most all are in
-    subst (λ (m : ℕ). ArePainted 6 w start m f register ro rn × AreMapped covered m (λ j b. bit_or b (f j)) co cn)
-    (sym end) (
-      groups_more w start n register f lanes ro rm rn same before.0 rows,
-      columns_more covered n f lanes co cm cn same before.1 columns,
-    )
+    group_then w start covered n next register (sixel_of bytes count) lanes ro rm rn co cm cn end
+    (lanes_of bytes lanes count n few most all are) before rows columns
+
+-- ---- a group of a run
+
+-- the columns of a run that are left are a run
+run_there : (bits count n few j : ℕ) → few ≤ count - n → (few < 16 → few ≡ count - n) → j < 16
+    → run_sixel bits few j ≡ run_sixel bits count (n + j)
+run_there bits count n few j most all lt =
+    ap (λ (t : Bool). cond t bits 0) (left_of count n few j most all lt)
+
+pub run_more : (w start covered n next register count few bits : ℕ) (lanes ro rm rn co cm cn : List ℕ)
+    → next ≡ n + 16 → few ≤ count - n → (few < 16 → few ≡ count - n) → AreEqual bits few lanes
+    → ArePainted 6 w start n (run_sixel bits count) register ro rm
+    × AreMapped covered n (λ j b. bit_or b (run_sixel bits count j)) co cm
+    → ArePainted 6 w (start + n) 16 (λ j. get_or lanes j 0) register rm rn
+    → AreMapped (covered + n) 16 (λ j b. bit_or b (get_or lanes j 0)) cm cn
+    → ArePainted 6 w start next (run_sixel bits count) register ro rn
+    × AreMapped covered next (λ j b. bit_or b (run_sixel bits count j)) co cn
+run_more w start covered n next register count few bits lanes ro rm rn co cm cn end most all are before rows columns =
+    group_then w start covered n next register (run_sixel bits count) lanes ro rm rn co cm cn end
+    (λ j lt. are.each j lt ∙ run_there bits count n few j most all lt) before rows columns
 
 -- the data bytes of a group
 pub data_of : (bytes : List ℕ) (count n few j : ℕ) → ((j : ℕ) → j < count → is_data (get_or bytes j 0) ≡ true)

@@ -2,6 +2,7 @@
 use Rattle.std.specs.Prelude.{◌≡◌, ℕ, ◌+◌, ◌*◌, ◌-◌, ◌/◌, ◌%◌, ◌<◌, ◌==◌, ◌&&◌, Bool, Some, List, length, slice_index}
 use Rattle.std.specs.Prelude.{nat_le, nat_lt, if◌then◌else◌}
 use Rattle.std.specs.Int.{bit_at}
+use Rattle.sixel_picture.specs.Geometry.{band_rows}
 use Rattle.sixel_picture.specs.Positions.{any_below}
 use Rattle.sixel_picture.specs.Sheets.{Sheet, cell, row_by_row}
 
@@ -26,6 +27,15 @@ painted_by sixels bit register j old = if bit_at (slice_index sixels j) bit == 1
 abbrev pub sixel_of : List ℕ → ℕ → ℕ → ℕ
 sixel_of bytes count j = if nat_lt j count then slice_index bytes j - 63 else 0
 
+-- the sixel of a column of a run of so many columns, and none in the columns after them
+abbrev pub run_sixel : ℕ → ℕ → ℕ → ℕ
+run_sixel bits count j = if nat_lt j count then bits else 0
+
+-- so many lanes have the sixel, and the lanes after them none
+pub record AreEqual (bits count : ℕ) (lanes : List ℕ) : Type 0 where
+  pub long : length lanes ≡ 16
+  pub each : (j : ℕ) → j < 16 → slice_index lanes j ≡ run_sixel bits count j
+
 -- the byte stands in the row of bit k, in one of so many columns, and the column's sixel has the bit
 -- from row to row are `width` bytes
 abbrev pub in_row : ℕ → ℕ → ℕ → (ℕ → ℕ) → ℕ → ℕ → Bool
@@ -44,8 +54,8 @@ pub record ArePainted (bits width start count : ℕ) (sixel : ℕ → ℕ) (regi
 -- the pixel stands in the band, in one of so many columns from `left` on, and the column's sixel has the bit of its row
 abbrev pub in_stretch : ℕ → ℕ → ℕ → (ℕ → ℕ) → ℕ → ℕ → Bool
 in_stretch left band count sixel x y =
-    ((nat_le left x && nat_lt x (left + count)) && (nat_le band (y / 6) && nat_lt (y / 6) (band + 1)))
-    && (bit_at (sixel (x - left)) (y % 6) == 1)
+    ((nat_le left x && nat_lt x (left + count)) && (y / band_rows == band))
+    && (bit_at (sixel (x - left)) (y % band_rows) == 1)
 
 -- the sheet after a stretch: the pixels of the columns' set bits have the register, and the others are as before
 unfoldable pub stretched_sheet : Sheet → ℕ → ℕ → ℕ → (ℕ → ℕ) → ℕ → Sheet

@@ -1,21 +1,24 @@
 //! A plane of one byte a pixel, and of one byte for each column and band that says which rows are painted.
 
 ghost use Rattle.std.specs.Prelude.{◌≡◌, ◌==◌, ◌<◌, ◌≤◌, ◌+◌, ◌*◌, ◌⊎◌, ℕ, EachIndex, bit_or, length, slice_index};
-ghost use Rattle.std.specs.Prelude.{if◌then◌else◌, ◌%◌, ◌/◌, ◌-◌, IsTrue};
+ghost use Rattle.std.specs.Prelude.{false, true, if◌then◌else◌, ◌%◌, ◌/◌, ◌-◌, IsTrue};
 ghost use Rattle.sixel_grammar.specs.Bytes.{is_data};
 ghost use Rattle.sixel_picture.specs.Stretches.{sixel_of, stretched_sheet};
 ghost use Rattle.std.specs.Int.{bit_at, div_ceil};
 ghost use Rattle.sixel_picture.specs.BandPlanes.{is_covered};
 ghost use Rattle.sixel_picture.specs.Geometry.{covers};
 ghost use Rattle.sixel_picture.specs.Lanes.{AreChanged};
-ghost use Rattle.sixel_picture.specs.Sheets.{FirstUnpainted, RowsArePainted};
+ghost use Rattle.sixel_picture.specs.Sheets.{FirstUnpainted, RowsArePainted, painted_sheet};
 
 use crate::bits::{BAND_ROWS, is_set};
 use crate::lanes::{common_bits, fill, first_without, or_into};
 use crate::plane::Plane;
-use crate::stretch::{LANES, paint_groups};
+use crate::stretch::{LANES, paint_groups, paint_short_run};
 use std::alloc::{AllocError, Global};
 use std::marker::Model;
+
+/// How many columns a run has at most that is painted by groups of lanes: a longer one is quicker row by row.
+const MOST_SHORT: u32 = 64;
 
 /// The bits of all rows of a band.
 const ALL_ROWS: u8 = 63;
@@ -67,6 +70,9 @@ impl Plane for BandPlane {
     }
 
     fn paint_run(&mut self, column: u32, band: u32, count: u32, bits: u8, register: u8) {
+        if self.try_paint_short_run(column, band, count, bits, register) {
+            return;
+        }
         let width = self.width as usize;
         let start = band as usize * width + column as usize;
         cover(&mut self.coverage, start, count as usize, bits);
@@ -137,6 +143,47 @@ impl Plane for BandPlane {
             coverage: _,
         } = self;
         registers
+    }
+}
+
+impl BandPlane {
+    /// Paints a run of few columns at once, where its band has six rows and lanes have room; whether it did.
+    #[inline(always)]
+    fn try_paint_short_run(
+        &mut self,
+        column: u32,
+        band: u32,
+        count: u32,
+        bits: u8,
+        register: u8,
+    ) -> bool
+        requires { column + count ≤ self.old.width }
+        ensures painted { result ≡ true → self.new ≡ painted_sheet self.old column band count bits register }
+        ensures kept { result ≡ false → self.new ≡ self.old }
+    {
+        if count > MOST_SHORT || band >= self.height / BAND_ROWS {
+            return false;
+        }
+        let width = self.width as usize;
+        let count = count as usize;
+        let covered = band as usize * width + column as usize;
+        let start = BAND_ROWS as usize * band as usize * width + column as usize;
+        if self.coverage.len() < covered + count + LANES
+            || self.registers.len() < start + 5 * width + count + LANES
+        {
+            return false;
+        }
+        paint_short_run(
+            &mut self.registers,
+            &mut self.coverage,
+            width,
+            start,
+            covered,
+            count,
+            bits,
+            register,
+        );
+        true
     }
 }
 

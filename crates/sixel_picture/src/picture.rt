@@ -1,6 +1,8 @@
 //! A picture: its size, its palette, and a register for each pixel.
 
 ghost use Rattle.std.specs.Prelude.{◌≡◌, ◌<◌, ◌≤◌, ℕ, None, Some, MatchResult, length, nat_lt, slice_index};
+ghost use Rattle.std.specs.Prelude.{if◌then◌else◌, is_some, not};
+ghost use Rattle.sixel_picture.specs.Colours.{palette_at};
 ghost use Rattle.std.specs.List.{list_all};
 ghost use Rattle.sixel_picture.specs.Pictures.{IsAnyPicture, picture_fault, picture_of_parts, register_of};
 ghost use Rattle.sixel_picture.specs.Profiles.{count_of};
@@ -55,11 +57,21 @@ pub struct PictureFault {
     pub registers: Vec<u8>,
 }
 
-/// Whether each register is one of the profile's.
-fn all_below(profile: Profile, registers: &[u8]) -> bool
-    ensures { result ≡ list_all (λ r. nat_lt r (count_of profile)) registers.now }
+/// The first reason why these registers are none of a picture's. One look finds the greatest of them.
+fn reason_of_registers(palette: &Palette, registers: &[u8]) -> Option<PictureReason>
+    ensures { result
+        ≡ (if not (list_all (λ r. nat_lt r (length palette.now)) registers.now) then Some PictureReason.Register
+        else if not (list_all (λ r. is_some (palette_at palette.now r)) registers.now) then Some PictureReason.NoColour
+        else None) }
 {
-    (greatest(registers) as u16) < profile.count()
+    let greatest = greatest(registers);
+    if u16::from(greatest) >= palette.profile().count() {
+        Some(PictureReason::Register)
+    } else if !palette.has_all(registers, greatest) {
+        Some(PictureReason::NoColour)
+    } else {
+        None
+    }
 }
 
 /// The first reason why these parts make no picture.
@@ -70,12 +82,8 @@ fn reason_of(width: u32, height: u32, palette: &Palette, registers: &[u8]) -> Op
         Some(PictureReason::Size)
     } else if registers.len() != (width * height) as usize {
         Some(PictureReason::Count)
-    } else if !all_below(palette.profile(), registers) {
-        Some(PictureReason::Register)
-    } else if !palette.has_all(registers) {
-        Some(PictureReason::NoColour)
     } else {
-        None
+        reason_of_registers(palette, registers)
     }
 }
 

@@ -2,7 +2,8 @@
 
 ghost use Rattle.std.specs.Prelude.{◌≡◌, ◌<◌, ◌≤◌, ◌+◌, ◌*◌, ℕ, IsTrue, bit_or, length, slice_index};
 ghost use Rattle.sixel_grammar.specs.Bytes.{is_data};
-ghost use Rattle.sixel_picture.specs.Stretches.{AreMapped, ArePainted, AreSixels, painted_by, sixel_of};
+ghost use Rattle.sixel_picture.specs.Stretches.{AreEqual, AreMapped, ArePainted, AreSixels, painted_by, run_sixel};
+ghost use Rattle.sixel_picture.specs.Stretches.{sixel_of};
 
 use crate::bits::BAND_ROWS;
 use std::simd::prelude::*;
@@ -24,6 +25,16 @@ fn sixels_at(bytes: &[u8], at: usize, count: usize) -> u8x16
     let taken = u8x16::from_array(NUMBERS).simd_lt(u8x16::splat(count as u8));
     let sixels = u8x16::from_slice(&bytes[at..]) - u8x16::splat(b'?');
     taken.select(sixels, u8x16::splat(0))
+}
+
+/// The sixels of a run of so many columns, and none in the lanes after them.
+#[inline(always)]
+fn sixels_of_run(bits: u8, count: usize) -> u8x16
+    requires { count ≤ LANES }
+    ensures { AreEqual bits count result }
+{
+    let taken = u8x16::from_array(NUMBERS).simd_lt(u8x16::splat(count as u8));
+    taken.select(u8x16::splat(bits), u8x16::splat(0))
 }
 
 /// Paints the pixels of a row whose columns have the row's bit.
@@ -85,6 +96,32 @@ pub(crate) fn paint_groups(
         let done = group * LANES;
         let few = (count - done).min(LANES);
         let sixels = sixels_at(bytes, done, few);
+        cover_columns(coverage, covered + done, sixels);
+        paint_rows(registers, start + done, width, sixels, register);
+    }
+}
+
+/// Paints a run of so many columns, whose uppermost row begins at `start`, and its bytes of coverage at `covered`.
+pub(crate) fn paint_short_run(
+    registers: &mut [u8],
+    coverage: &mut [u8],
+    width: usize,
+    start: usize,
+    covered: usize,
+    count: usize,
+    bits: u8,
+    register: u8,
+)
+    requires rows { start + 5 * width + count + LANES ≤ length registers.old }
+    requires columns { covered + count + LANES ≤ length coverage.old }
+    ensures painted { (n : ℕ) × (count ≤ n)
+        × ArePainted 6 width start n (run_sixel bits count) register registers.old registers.new
+        × AreMapped covered n (λ j b. bit_or b (run_sixel bits count j)) coverage.old coverage.new }
+{
+    for group in 0..count.div_ceil(LANES) {
+        let done = group * LANES;
+        let few = LANES.min(count - done);
+        let sixels = sixels_of_run(bits, few);
         cover_columns(coverage, covered + done, sixels);
         paint_rows(registers, start + done, width, sixels, register);
     }

@@ -71,6 +71,45 @@ fn stretches_end_at_the_box(rt: HostRuntime) -> Result<(), Fail> {
     )
 }
 
+/// A stretch without a bit breaks no rule after raster attributes, wherever it lies and whatever is selected. The
+/// column moves on by it: what follows 24 bytes and 20 blank columns stands in column 21.
+#[test]
+fn stretches_without_a_bit(rt: HostRuntime) -> Result<(), Fail> {
+    agree(
+        &rt,
+        &[
+            ("EPq????????????????????E\\", "broken RasterFirst 3"),
+            (
+                "EPq\"1;1;1;1????????????????????#0;2;0;0;0#0$@E\\",
+                "portable 1 1",
+            ),
+            (
+                "EPq\"1;1;1;1#0;2;0;0;0#0@#1????????????????????E\\",
+                "portable 1 1",
+            ),
+            (
+                "EPq\"1;1;1;1#0;2;0;0;0#0@????????????????????-????????????????????E\\",
+                "portable 1 1",
+            ),
+            // all but the last
+            (
+                "EPq\"1;1;1;1#0;2;0;0;0#0@????????????????????@E\\",
+                "broken Outside 44 21 0",
+            ),
+            // a command of its own after the stretch
+            (
+                "EPq\"1;1;1;1#0;2;0;0;0#0@????????????????????!1@E\\",
+                "broken Outside 44 21 0",
+            ),
+            // all but the first
+            (
+                "EPq\"1;1;1;1#0;2;0;0;0#0@$?@????????????????????E\\",
+                "broken Outside 26 1 0",
+            ),
+        ],
+    )
+}
+
 /// The register of a stretch is known, has a colour, and counts as painted in.
 #[test]
 fn stretches_are_of_a_register(rt: HostRuntime) -> Result<(), Fail> {

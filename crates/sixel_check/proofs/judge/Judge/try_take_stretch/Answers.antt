@@ -6,8 +6,8 @@ use Rattle.sixel_check.proofs.NoteLemmas.{notes_below}
 use Rattle.sixel_check.proofs.JudgeLemmas.{unbroken_of}
 use Rattle.sixel_check.proofs.judge.Judge.try_take_stretch.Goals as goal
 
-pub try_paint_stretch-is_painted-requires-clause-below : goal.try_paint_stretch-is_painted-requires-clause-below
-try_paint_stretch-is_painted-requires-clause-below g c =
+pub try_take_stretch-requires-clause-below : goal.try_take_stretch-requires-clause-below
+try_take_stretch-requires-clause-below g c =
     let none : is_some c.args.self.now.finding ≡ false = sym c.is_some.ensures ∙ c.if-is_some.false in
     let q = c.requires.stands in
     notes_below c.args.self.now.notes (events_of q.1)

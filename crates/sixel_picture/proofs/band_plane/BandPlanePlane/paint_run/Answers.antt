@@ -1,4 +1,4 @@
-use Rattle.std.proofs.Common.{◌≡◌, ◌+◌, ◌*◌, ◌<◌, ◌≤◌, length, inl, inr, ap, ap₂, ◌∙◌, arith, rules}
+use Rattle.std.proofs.Common.{◌≡◌, ◌+◌, ◌*◌, ◌<◌, ◌≤◌, length, inl, inr, refl, ap, ap₂, ◌∙◌, arith, rules}
 use Rattle.std.proofs.lemmas.Bool.{cases_eq}
 use Rattle.std.proofs.lemmas.Nat.{row_fits_turned}
 use Rattle.std.proofs.lemmas.List.{take_at}
@@ -12,8 +12,10 @@ cover-requires c = elim (cases_eq c.args.bits 0) [
   | inl none ↦ inl none
   | inr some ↦
       let inside = c.self.inside in
-      let wide : inside.width ≡ c.args.self.now.width = ap (λ (s : Sheet). s.width) c.self.view_is in
-      let high : inside.height ≡ c.args.self.now.height = ap (λ (s : Sheet). s.height) c.self.view_is in
+      let wide : inside.width ≡ c.args.self.now.width = ap (λ (s : Sheet). s.width)
+          (c.self.view_is ∙ c.if-try_paint_short_run.ensures.kept refl) in
+      let high : inside.height ≡ c.args.self.now.height = ap (λ (s : Sheet). s.height)
+          (c.self.view_is ∙ c.if-try_paint_short_run.ensures.kept refl) in
       let room = run_fits inside.width inside.height c.args.column c.args.count c.args.band c.args.bits c.requires.bits
       (omega (arith, c.requires.columns, wide)) (rw high c.requires.rows) some in
       let stored : length c.deref_mut.result.now ≡ length inside.coverage.items = ap length c.deref_mut.ensures.value in
@@ -23,7 +25,8 @@ cover-requires c = elim (cases_eq c.args.bits 0) [
 pub fill_run-requires-clause-rows : goal.fill_run-requires-clause-rows
 fill_run-requires-clause-rows c = λ k small set.
     let inside = c.self.inside in
-    let high : inside.height ≡ c.args.self.now.height = ap (λ (s : Sheet). s.height) c.self.view_is in
+    let high : inside.height ≡ c.args.self.now.height = ap (λ (s : Sheet). s.height)
+        (c.self.view_is ∙ c.if-try_paint_short_run.ensures.kept refl) in
     let row = c.requires.rows k small set in
     let here : 6 * c.args.band + k < inside.height = omega (arith, high, row) in
     let room = row_fits_turned (6 * c.args.band + k) inside.width inside.width inside.height here (omega arith) in
@@ -34,7 +37,8 @@ fill_run-requires-clause-rows c = λ k small set.
 pub returns : goal.returns
 returns c =
     let inside = c.self.inside in
-    let wide : inside.width ≡ c.args.self.now.width = ap (λ (s : Sheet). s.width) c.self.view_is in
+    let wide : inside.width ≡ c.args.self.now.width = ap (λ (s : Sheet). s.width)
+        (c.self.view_is ∙ c.if-try_paint_short_run.ensures.kept refl) in
     let some : 0 < inside.width = search rules in
     let fits : c.args.column + c.args.count ≤ inside.width = omega (arith, c.requires.columns, wide) in
     let registers : length c.fill_run.new.registers ≡ inside.registers.len = omega arith in
@@ -46,4 +50,4 @@ returns c =
     c.self.invariant.each_pixel c.self.invariant.each_band (rw c.deref_mut.ensures.value at c.cover.ensures)
     (rw c.deref_mut-2.ensures.value at c.fill_run.ensures)
     ∙ ap (λ (s : Sheet). painted_sheet s c.args.column c.args.band c.args.count c.args.bits c.args.register)
-    c.self.view_is
+    (c.self.view_is ∙ c.if-try_paint_short_run.ensures.kept refl)

@@ -1,6 +1,6 @@
 use Rattle.std.proofs.Common.{◌∙◌, sym, arith}
-use Rattle.sixel_picture.proofs.PpmColourLemmas.{first_next, none_left, numbered_before, numbered_next}
-use Rattle.sixel_picture.proofs.PpmColourLemmas.{registers_kept, unused_next}
+use Rattle.sixel_picture.proofs.PpmColourLemmas.{first_next, none_left, numbered_before, numbered_next, registers_kept}
+use Rattle.sixel_picture.proofs.PpmColourLemmas.{unused_next}
 use Rattle.sixel_picture.proofs.ppm.colours.Colours.register_of.Goals as goal
 
 pub returns-in-Some-clause-numbers : goal.returns-in-Some-clause-numbers

@@ -1,0 +1,32 @@
+use Rattle.std.proofs.Common.{ℕ, ◌++◌, ◌∷◌, [], List, subst, sym}
+use Rattle.std.specs.Prelude.{OnErr}
+use Rattle.sixel_grammar.specs.declared.command.Command.{Command}
+use Rattle.sixel_grammar.specs.declared.command.Event.TheVariants.{Step}
+use Rattle.sixel_grammar.specs.declared.command.Placed.{Placed}
+use Rattle.sixel_check.specs.Growth.{MayGrowAmong}
+use Rattle.sixel_check.specs.Standing.{StandsAfter}
+use Rattle.sixel_check.proofs.checking.keep_other.Goals as goal
+
+pub returns-in-Select-clause-grows : goal.returns-in-Select-clause-grows
+returns-in-Select-clause-grows g c =
+    subst
+    (λ (k : Command). OnErr c.push_command.result ((registers : ℕ) (seen : List Placed)
+    → StandsAfter registers c.args.checker.now seen
+    → MayGrowAmong registers (seen ++ record { place = c.args.place; event = Step k } ∷ [])))
+    (sym c.in-Select.is) c.push_command.ensures.grows
+
+pub returns-in-CarriageReturn-clause-grows : goal.returns-in-CarriageReturn-clause-grows
+returns-in-CarriageReturn-clause-grows g c =
+    subst
+    (λ (k : Command). OnErr c.push_command-in-CarriageReturn.result ((registers : ℕ) (seen : List Placed)
+    → StandsAfter registers c.args.checker.now seen
+    → MayGrowAmong registers (seen ++ record { place = c.args.place; event = Step k } ∷ [])))
+    (sym c.in-CarriageReturn.is) c.push_command-in-CarriageReturn.ensures.grows
+
+pub returns-in-NextLine-clause-grows : goal.returns-in-NextLine-clause-grows
+returns-in-NextLine-clause-grows g c =
+    subst
+    (λ (k : Command). OnErr c.push_command-in-NextLine.result ((registers : ℕ) (seen : List Placed)
+    → StandsAfter registers c.args.checker.now seen
+    → MayGrowAmong registers (seen ++ record { place = c.args.place; event = Step k } ∷ [])))
+    (sym c.in-NextLine.is) c.push_command-in-NextLine.ensures.grows
