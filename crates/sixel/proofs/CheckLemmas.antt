@@ -17,7 +17,7 @@ use Rattle.sixel_check.specs.Verdicts.{IsVerdict}
 use Rattle.sixel_check.proofs.DecideLemmas.{verdict_exists}
 use Rattle.sixel_check.proofs.VerdictLemmas.{verdict_once}
 use Rattle.sixel.specs.declared.fault.RunFault.{RunFault}
-use Rattle.sixel.specs.declared.fault.RunFault.TheVariants.{Grammar, Ppm, NotRgb, OutOfMemory, Read, Write}
+use Rattle.sixel.specs.declared.fault.RunFault.TheVariants.{Grammar, Ppm, NotRgb, NoBox, OutOfMemory, Read, Write}
 use Rattle.sixel.specs.declared.task.Status.{Status}
 use Rattle.sixel.specs.Conversions.{of_input}
 use Rattle.sixel.specs.Outputs.{CheckGives, WroteBy, WroteNothing, status_of}
@@ -42,16 +42,19 @@ check-once registers bytes first second (Err (Grammar f)) (Err (Grammar e)) g h 
     (g.0 ∙ sym h.0, ap (λ (k : Fault). Err (Grammar k)) (fault_once bytes f e g.1 h.1))
 check-once registers bytes first second (Err (Ppm reason place)) b g h = absurd g
 check-once registers bytes first second (Err NotRgb) b g h = absurd g
+check-once registers bytes first second (Err NoBox) b g h = absurd g
 check-once registers bytes first second (Err OutOfMemory) b g h = absurd g
 check-once registers bytes first second (Err Read) b g h = absurd g
 check-once registers bytes first second (Err Write) b g h = absurd g
 check-once registers bytes first second (Ok s) (Err (Ppm reason place)) g h = absurd h
 check-once registers bytes first second (Ok s) (Err NotRgb) g h = absurd h
+check-once registers bytes first second (Ok s) (Err NoBox) g h = absurd h
 check-once registers bytes first second (Ok s) (Err OutOfMemory) g h = absurd h
 check-once registers bytes first second (Ok s) (Err Read) g h = absurd h
 check-once registers bytes first second (Ok s) (Err Write) g h = absurd h
 check-once registers bytes first second (Err (Grammar f)) (Err (Ppm reason place)) g h = absurd h
 check-once registers bytes first second (Err (Grammar f)) (Err NotRgb) g h = absurd h
+check-once registers bytes first second (Err (Grammar f)) (Err NoBox) g h = absurd h
 check-once registers bytes first second (Err (Grammar f)) (Err OutOfMemory) g h = absurd h
 check-once registers bytes first second (Err (Grammar f)) (Err Read) g h = absurd h
 check-once registers bytes first second (Err (Grammar f)) (Err Write) g h = absurd h

@@ -13,7 +13,7 @@ use Rattle.sixel_grammar.specs.Devices.{Puts}
 use Rattle.sixel_grammar.specs.Faults.{IsFaultOf}
 use Rattle.sixel_grammar.specs.Standing.{Refuses, StandsAfter, Takes}
 use Rattle.sixel.specs.declared.fault.RunFault.{RunFault}
-use Rattle.sixel.specs.declared.fault.RunFault.TheVariants.{Grammar, Ppm, NotRgb, OutOfMemory, Read, Write}
+use Rattle.sixel.specs.declared.fault.RunFault.TheVariants.{Grammar, Ppm, NotRgb, NoBox, OutOfMemory, Read, Write}
 use Rattle.sixel.specs.Feeding.{Feeds, RefusesAt, StopsIn}
 use Rattle.sixel.specs.Texts.{BeginsWith, event_line, list_text}
 use Rattle.sixel_grammar.proofs.DeviceLemmas.{Appends-then}
@@ -62,6 +62,7 @@ fed-drained (Err Write) reader piece had mid has ws w v events bytes e d kept fe
 fed-drained (Err Read) reader piece had mid has ws w v events bytes e d kept fed = fed
 fed-drained (Err (Ppm reason place)) reader piece had mid has ws w v events bytes e d kept fed = fed
 fed-drained (Err NotRgb) reader piece had mid has ws w v events bytes e d kept fed = fed
+fed-drained (Err NoBox) reader piece had mid has ws w v events bytes e d kept fed = fed
 fed-drained (Err OutOfMemory) reader piece had mid has ws w v events bytes e d kept fed = fed
 
 -- of the lines that were to be appended, a front went to the sink that failed
@@ -102,6 +103,7 @@ fed-stopped (Err Write) reader piece had mid has ws w v events bytes e kept grow
 fed-stopped (Err Read) reader piece had mid has ws w v events bytes e kept grows fed = absurd fed
 fed-stopped (Err (Ppm reason place)) reader piece had mid has ws w v events bytes e kept grows fed = absurd fed
 fed-stopped (Err NotRgb) reader piece had mid has ws w v events bytes e kept grows fed = absurd fed
+fed-stopped (Err NoBox) reader piece had mid has ws w v events bytes e kept grows fed = absurd fed
 fed-stopped (Err OutOfMemory) reader piece had mid has ws w v events bytes e kept grows fed = absurd fed
 
 -- the line of an event was put
@@ -208,6 +210,7 @@ failed-later Write after piece front part rest had mid has events more bytes is 
 failed-later Read after piece front part rest had mid has events more bytes is put fed = fed
 failed-later (Ppm reason place) after piece front part rest had mid has events more bytes is put fed = fed
 failed-later NotRgb after piece front part rest had mid has events more bytes is put fed = fed
+failed-later NoBox after piece front part rest had mid has events more bytes is put fed = fed
 failed-later OutOfMemory after piece front part rest had mid has events more bytes is put fed = fed
 
 -- wherever the reader stood, it then stands after these bytes more, and the lines of their events were appended

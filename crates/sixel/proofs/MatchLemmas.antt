@@ -1,18 +1,24 @@
 -- What an entry's getters read.
-use Rattle.std.proofs.Common.{◌||◌, ◌≡◌, ◌∙◌, ◌≤◌, ℕ, Bool, false, List, [], Option, Some, None, arith, codes, refl}
-use Rattle.std.proofs.Common.{slice_index, subst, sym, ap, ap₂}
-use Rattle.std.specs.Prelude.{option_map, Box, IfSome, Result, Ok, Err}
+use Rattle.std.proofs.Common.{◌||◌, ◌≡◌, ◌∙◌, ◌≤◌, ◌⊎◌, ℕ, Bool, true, false, List, [], Option, Some, None, arith, codes}
+use Rattle.std.proofs.Common.{refl, slice_index, subst, sym, ap, ap₂, inl, inr}
+use Rattle.std.specs.Prelude.{find, option_and_then, option_map, Box, IfSome, Result, Ok, Err}
+use Rattle.std.specs.Str.{bytes_eq}
 use Rattle.std.specs.Box.{box_value}
 use Rattle.std.specs.Str.Parse.{ParsesUnsigned}
 use Rattle.sixel_terminal.specs.Limits.{most_screen_side}
-use Rattle.clap.specs.Matches.{ReadsOne}
+use Rattle.clap.specs.Facts.{Entry}
+use Rattle.clap.specs.Matches.{ReadsOne, matched_of}
 use Rattle.clap.specs.Simple.{subcommand_rows}
-use Rattle.clap.specs.Walk.{Row, Text}
+use Rattle.clap.specs.Walk.{Row, Text, row_of, rows_of}
+use Rattle.clap.specs.declared.parser.matches.Found.{Found}
+use Rattle.clap.specs.declared.parser.matches.MatchedArg.{MatchedArg}
+use Rattle.clap.specs.declared.parser.matches.ValueSource.{ValueSource}
+use Rattle.clap.proofs.WalkLemmas.{find_row}
 use Rattle.clap.specs.declared.parser.matches.SubCommand.{SubCommand}
 use Rattle.clap.specs.declared.parser.matches.ArgMatches.TheViews.{out-SubCommand}
 use Rattle.sixel.specs.declared.task.Task.{Task}
-use Rattle.sixel.specs.declared.task.Task.TheVariants.{List as Listing, Check, Render, Show, Encode}
-use Rattle.sixel.specs.Words.{HasSide, IsSideText, IsTask}
+use Rattle.sixel.specs.declared.task.Task.TheVariants.{List as Listing, Check, Render, Show, ShowBox, Encode}
+use Rattle.sixel.specs.Words.{HasSide, IsSideText, IsTask, is_given, is_named, is_of_words}
 
 pub both_parts : {X Y : Type 0} (o : Option (X × Y)) (x : X) (y : Y) → option_map (λ p. p.0) o ≡ Some x
     → option_map (λ p. p.1) o ≡ Some y → o ≡ Some (x, y)
@@ -59,7 +65,27 @@ number_refused o gives (Some k) parses value out n h =
     let got = parses h.0 (Ok k) (value h.0 h.1) in
     out (omega (arith, got.1, h.2.value, h.2.least)) (omega (arith, got.1, h.2.value, h.2.most))
 
+-- ---- the words
+
+-- the source of an id's value, by its row
+pub source_rows : (f : Found) (id : Text) → option_and_then (λ (a : MatchedArg). a.source) (matched_of f id)
+    ≡ option_and_then (λ (r : Row). r.source) (find (λ r. bytes_eq r.id id) (rows_of f))
+source_rows f id = go (find (λ (e : Entry). bytes_eq e.0.now id) f.entries.items)
+    ∙ ap (option_and_then (λ (r : Row). r.source)) (sym (find_row f.entries.items id))
+  where
+    go : (o : Option Entry) → option_and_then (λ (a : MatchedArg). a.source) (option_map (λ e. e.1) o)
+        ≡ option_and_then (λ (r : Row). r.source) (option_map row_of o)
+    go None = refl
+    go (Some e) = refl
+
+pub named_by : (f : Found) (id : Text) (s : Option ValueSource)
+    → s ≡ option_and_then (λ (a : MatchedArg). a.source) (matched_of f id) → is_named id (rows_of f) ≡ is_of_words s
+named_by f id s e = ap is_of_words (sym (e ∙ source_rows f id))
+
 -- ---- the task of show
+
+not_both : (b : Bool) → b ≡ true → b ≡ false → ⊥
+not_both b e f = let bad : true ≡ false = sym e ∙ f in cc
 
 not_list : codes "show" ≡ codes "list" → ⊥
 not_list is = let first : 115 ≡ 108 = ap (λ (t : Text). slice_index t 0) is in omega (arith, first)
@@ -73,35 +99,57 @@ not_render is = let first : 115 ≡ 114 = ap (λ (t : Text). slice_index t 0) is
 not_encode : codes "show" ≡ codes "encode" → ⊥
 not_encode is = let first : 115 ≡ 101 = ap (λ (t : Text). slice_index t 0) is in omega (arith, first)
 
-pub without_width : (rows : List Row) (t : Task) → ((n : ℕ) → HasSide (codes "width") rows n → ⊥)
-    → IsTask (codes "show") rows t → ⊥
-without_width rows Listing none is = not_list is
-without_width rows (Check profile) none is = not_check is.0
-without_width rows (Render profile) none is = not_render is.0
-without_width rows (Encode profile) none is = not_encode is.0
-without_width rows (Show profile showing fill selects width height) none is = none width is.5
+pub without_width : (rows : List Row) (t : Task) → is_given (codes "box") rows ≡ false
+    → ((n : ℕ) → HasSide (codes "width") rows n → ⊥) → IsTask (codes "show") rows t → ⊥
+without_width rows Listing plain none is = not_list is
+without_width rows (Check profile) plain none is = not_check is.0
+without_width rows (Render profile) plain none is = not_render is.0
+without_width rows (Encode profile) plain none is = not_encode is.0
+without_width rows (Show profile showing fill selects width height) plain none is = none width is.6
+without_width rows (ShowBox profile showing fill selects) plain none is = not_both _ is.5 plain
 
-pub without_height : (rows : List Row) (t : Task) → ((n : ℕ) → HasSide (codes "height") rows n → ⊥)
-    → IsTask (codes "show") rows t → ⊥
-without_height rows Listing none is = not_list is
-without_height rows (Check profile) none is = not_check is.0
-without_height rows (Render profile) none is = not_render is.0
-without_height rows (Encode profile) none is = not_encode is.0
-without_height rows (Show profile showing fill selects width height) none is = none height is.6
+pub without_height : (rows : List Row) (t : Task) → is_given (codes "box") rows ≡ false
+    → ((n : ℕ) → HasSide (codes "height") rows n → ⊥) → IsTask (codes "show") rows t → ⊥
+without_height rows Listing plain none is = not_list is
+without_height rows (Check profile) plain none is = not_check is.0
+without_height rows (Render profile) plain none is = not_render is.0
+without_height rows (Encode profile) plain none is = not_encode is.0
+without_height rows (Show profile showing fill selects width height) plain none is = none height is.7
+without_height rows (ShowBox profile showing fill selects) plain none is = not_both _ is.5 plain
 
-name_in : Option (Text × List Row) → Text
+-- with the box, and a side beside it
+box_beside : (rows : List Row) (t : Task) → is_given (codes "box") rows ≡ true
+    → is_named (codes "width") rows ≡ true ⊎ is_named (codes "height") rows ≡ true → IsTask (codes "show") rows t → ⊥
+box_beside rows Listing boxed side is = not_list is
+box_beside rows (Check profile) boxed side is = not_check is.0
+box_beside rows (Render profile) boxed side is = not_render is.0
+box_beside rows (Encode profile) boxed side is = not_encode is.0
+box_beside rows (Show profile showing fill selects width height) boxed side is = not_both _ boxed is.5
+box_beside rows (ShowBox profile showing fill selects) boxed (inl named) is = not_both _ named is.6
+box_beside rows (ShowBox profile showing fill selects) boxed (inr named) is = not_both _ named is.7
+
+abbrev pub name_in : Option (Text × List Row) → Text
 name_in None = []
 name_in (Some p) = p.0
 
-rows_in : Option (Text × List Row) → List Row
+abbrev pub rows_in : Option (Text × List Row) → List Row
 rows_in None = []
 rows_in (Some p) = p.1
 
 -- the task of one name and its rows
 pub same_task : (o : Option (Text × List Row)) (n m : Text) (r s : List Row) (t : Task) → o ≡ Some (n, r)
     → o ≡ Some (m, s) → IsTask n r t → IsTask m s t
-unfolding name_in rows_in
 same_task o n m r s t e f is =
     let name : n ≡ m = sym (ap name_in e) ∙ ap name_in f in
     let rows : r ≡ s = sym (ap rows_in e) ∙ ap rows_in f in
     subst (λ (k : Text). IsTask k s t) name (subst (λ (k : List Row). IsTask n k t) rows is)
+
+-- the words name `show` with the box, and a side beside it
+pub none_named : (o : Option (Text × List Row)) (name : Text) (rows : List Row) (t : Task) → o ≡ Some (name, rows)
+    → IsTask name rows t → name_in o ≡ codes "show" → is_given (codes "box") (rows_in o) ≡ true
+    → is_named (codes "width") (rows_in o) ≡ true ⊎ is_named (codes "height") (rows_in o) ≡ true → ⊥
+none_named o name rows t e is called boxed side =
+    let n : name ≡ codes "show" = sym (ap name_in e) ∙ called in
+    let r : rows ≡ rows_in o = sym (ap rows_in e) in
+    box_beside (rows_in o) t boxed side
+    (subst (λ (k : Text). IsTask k (rows_in o) t) n (subst (λ (k : List Row). IsTask name k t) r is))

@@ -18,7 +18,7 @@ use Rattle.sixel_grammar.proofs.StandLemmas.{read_complete, read_short}
 use Rattle.sixel_grammar.proofs.TotalLemmas.{before_fault, place_past}
 use Rattle.sixel_grammar.proofs.UniqueLemmas.{complete_stays, document_complete, fault_stays}
 use Rattle.sixel.specs.declared.fault.RunFault.{RunFault}
-use Rattle.sixel.specs.declared.fault.RunFault.TheVariants.{Grammar, Ppm, NotRgb, OutOfMemory, Read, Write}
+use Rattle.sixel.specs.declared.fault.RunFault.TheVariants.{Grammar, Ppm, NotRgb, NoBox, OutOfMemory, Read, Write}
 use Rattle.sixel.specs.declared.task.Status.{Status}
 use Rattle.sixel.specs.declared.task.Status.TheVariants.{Done}
 use Rattle.sixel.specs.declared.task.Task.TheVariants.{List as Listing}
@@ -43,6 +43,7 @@ gives-begins bytes read more events is c short text (Err (Grammar fault)) g =
     (list_text m.0, g.1.2 ∙ ap list_text m.1 ∙ list_text-append events m.0)
 gives-begins bytes read more events is c short text (Err (Ppm reason place)) g = absurd g
 gives-begins bytes read more events is c short text (Err NotRgb) g = absurd g
+gives-begins bytes read more events is c short text (Err NoBox) g = absurd g
 gives-begins bytes read more events is c short text (Err OutOfMemory) g = absurd g
 gives-begins bytes read more events is c short text (Err Read) g = absurd g
 gives-begins bytes read more events is c short text (Err Write) g = absurd g
@@ -136,6 +137,7 @@ stopped-in bytes read piece rest left had mid has events r Write is put fed =
 stopped-in bytes read piece rest left had mid has events r Read is put fed = absurd fed
 stopped-in bytes read piece rest left had mid has events r (Ppm reason place) is put fed = absurd fed
 stopped-in bytes read piece rest left had mid has events r NotRgb is put fed = absurd fed
+stopped-in bytes read piece rest left had mid has events r NoBox is put fed = absurd fed
 stopped-in bytes read piece rest left had mid has events r OutOfMemory is put fed = absurd fed
 
 pub stopped : (a b c had mid has : Option (List ℕ)) (read piece : List ℕ) (events : List Placed) (r : Reader)
@@ -158,12 +160,14 @@ unrefused Write r piece mid has events read fed = ((λ e. cc), (λ e. cc))
 unrefused Read r piece mid has events read fed = absurd fed
 unrefused (Ppm reason place) r piece mid has events read fed = absurd fed
 unrefused NotRgb r piece mid has events read fed = absurd fed
+unrefused NoBox r piece mid has events read fed = absurd fed
 unrefused OutOfMemory r piece mid has events read fed = absurd fed
 
 pub not-read : (fault : RunFault) (n : ℕ) → (fault ≡ Read → ⊥) → failures_by {A = Status} Read (Err fault) n ≡ n
 not-read (Grammar f) n other = refl
 not-read (Ppm reason place) n other = refl
 not-read NotRgb n other = refl
+not-read NoBox n other = refl
 not-read OutOfMemory n other = refl
 not-read Read n other = absurd (other refl)
 not-read Write n other = refl

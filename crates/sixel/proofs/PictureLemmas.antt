@@ -21,7 +21,7 @@ use Rattle.sixel_check.specs.Checking.{Answers as CheckAnswers}
 use Rattle.sixel_check.specs.Verdicts.{IsVerdict}
 use Rattle.sixel_check.proofs.DecideLemmas.{verdict_exists}
 use Rattle.sixel.specs.declared.fault.RunFault.{RunFault}
-use Rattle.sixel.specs.declared.fault.RunFault.TheVariants.{Grammar, Ppm, NotRgb, OutOfMemory, Read, Write}
+use Rattle.sixel.specs.declared.fault.RunFault.TheVariants.{Grammar, Ppm, NotRgb, NoBox, OutOfMemory, Read, Write}
 use Rattle.sixel.specs.declared.task.Status.{Status}
 use Rattle.sixel.specs.declared.task.Status.TheVariants as status
 use Rattle.sixel.specs.declared.task.Status.TheVariants.{Done}
@@ -57,6 +57,8 @@ either registers bytes text (Ok s) g =
 either registers bytes text (Err (Ppm reason place)) g =
     inr (record { events = g.0; document = g.1; verdict = g.2.0; is = g.2.1; output = g.2.2 })
 either registers bytes text (Err NotRgb) g =
+    inr (record { events = g.0; document = g.1; verdict = g.2.0; is = g.2.1; output = g.2.2 })
+either registers bytes text (Err NoBox) g =
     inr (record { events = g.0; document = g.1; verdict = g.2.0; is = g.2.1; output = g.2.2 })
 either registers bytes text (Err OutOfMemory) g =
     inr (record { events = g.0; document = g.1; verdict = g.2.0; is = g.2.1; output = g.2.2 })

@@ -7,15 +7,16 @@ use Rattle.sixel_grammar.specs.declared.fault.Fault.{Fault}
 use Rattle.sixel_grammar.specs.Fronts.{CompleteIn}
 use Rattle.sixel_grammar.proofs.UniqueLemmas.{complete_once, document_once, fault_no_document, fault_once}
 use Rattle.sixel.specs.declared.fault.RunFault.{RunFault}
-use Rattle.sixel.specs.declared.fault.RunFault.TheVariants.{Grammar, Ppm, NotRgb, OutOfMemory, Read, Write}
+use Rattle.sixel.specs.declared.fault.RunFault.TheVariants.{Grammar, Ppm, NotRgb, NoBox, OutOfMemory, Read, Write}
 use Rattle.sixel.specs.declared.task.Status.{Status}
 use Rattle.sixel.specs.declared.task.Status.TheVariants.{Done}
 use Rattle.sixel.specs.declared.task.Task.{Task}
-use Rattle.sixel.specs.declared.task.Task.TheVariants.{List as Listing, Check, Render, Show, Encode}
+use Rattle.sixel.specs.declared.task.Task.TheVariants.{List as Listing, Check, Render, Show, ShowBox, Encode}
 use Rattle.sixel.specs.Outputs.{Gives, ListGives, ListsUnread, Wrote, WroteUnread}
-use Rattle.sixel.specs.Screens.{show_choices, show_terminal}
+use Rattle.sixel.specs.Screens.{screen_terminal, show_choices, show_terminal}
 use Rattle.sixel.specs.Texts.{Text, BeginsWith, list_text}
 use Rattle.sixel.proofs.OutputLemmas.{gives-begins}
+use Rattle.sixel.proofs.BoxLemmas.{box-gives, box-once}
 use Rattle.sixel.proofs.CheckLemmas.{check-gives, check-once}
 use Rattle.sixel.proofs.FileLemmas.{encode-gives, encode-once}
 use Rattle.sixel.proofs.PictureLemmas.{render-gives, render-once}
@@ -43,16 +44,19 @@ list-once bytes first second (Err (Grammar f)) (Err (Grammar e)) g h =
     )
 list-once bytes first second (Err (Ppm reason place)) b g h = absurd g
 list-once bytes first second (Err NotRgb) b g h = absurd g
+list-once bytes first second (Err NoBox) b g h = absurd g
 list-once bytes first second (Err OutOfMemory) b g h = absurd g
 list-once bytes first second (Err Read) b g h = absurd g
 list-once bytes first second (Err Write) b g h = absurd g
 list-once bytes first second (Ok s) (Err (Ppm reason place)) g h = absurd h
 list-once bytes first second (Ok s) (Err NotRgb) g h = absurd h
+list-once bytes first second (Ok s) (Err NoBox) g h = absurd h
 list-once bytes first second (Ok s) (Err OutOfMemory) g h = absurd h
 list-once bytes first second (Ok s) (Err Read) g h = absurd h
 list-once bytes first second (Ok s) (Err Write) g h = absurd h
 list-once bytes first second (Err (Grammar f)) (Err (Ppm reason place)) g h = absurd h
 list-once bytes first second (Err (Grammar f)) (Err NotRgb) g h = absurd h
+list-once bytes first second (Err (Grammar f)) (Err NoBox) g h = absurd h
 list-once bytes first second (Err (Grammar f)) (Err OutOfMemory) g h = absurd h
 list-once bytes first second (Err (Grammar f)) (Err Read) g h = absurd h
 list-once bytes first second (Err (Grammar f)) (Err Write) g h = absurd h
@@ -74,6 +78,8 @@ gives-once (Render profile) bytes first second a b g h = render-once _ bytes fir
 gives-once (Encode profile) bytes first second a b g h = encode-once _ bytes first second a b g h
 gives-once (Show profile showing fill selects width height) bytes first second a b g h =
     show-once (show_terminal profile (show_choices showing fill selects width height)) bytes first second a b g h
+gives-once (ShowBox profile showing fill selects) bytes first second a b g h =
+    box-once (screen_terminal profile showing fill selects) bytes first second a b g h
 
 pub gives : (task : Task) (bytes : List ℕ)
     → (text : Text) × (answer : Result Status RunFault) × Gives task bytes text answer
@@ -83,6 +89,7 @@ gives (Render profile) bytes = render-gives _ bytes
 gives (Encode profile) bytes = encode-gives _ bytes
 gives (Show profile showing fill selects width height) bytes =
     show-gives (show_terminal profile (show_choices showing fill selects width height)) bytes
+gives (ShowBox profile showing fill selects) bytes = box-gives (screen_terminal profile showing fill selects) bytes
 
 begins-all : (first second : Text) → first ≡ second → BeginsWith second first
 begins-all first second e = ([], sym e ∙ sym (append-nil first))
@@ -111,6 +118,8 @@ unflushed-unread (Encode profile) bytes left had mid has w kept =
     ([], Appends-keeps had mid has [] w kept, λ text answer g. (text, refl))
 unflushed-unread (Show profile showing fill selects width height) bytes left had mid has w kept =
     ([], Appends-keeps had mid has [] w kept, λ text answer g. (text, refl))
+unflushed-unread (ShowBox profile showing fill selects) bytes left had mid has w kept =
+    ([], Appends-keeps had mid has [] w kept, λ text answer g. (text, refl))
 
 unflushed-text : (task : Task) (bytes : List ℕ) (left had mid has : Option (List ℕ)) (answer : Result Status RunFault)
     (text : Text) → Gives task bytes text answer → Appends had mid text → Keeps mid has
@@ -131,6 +140,8 @@ unflushed-run task bytes left had mid has (Err (Ppm reason place)) w kept =
     unflushed-text task bytes left had mid has (Err (Ppm reason place)) w.0 w.1 w.2 kept
 unflushed-run task bytes left had mid has (Err NotRgb) w kept =
     unflushed-text task bytes left had mid has (Err NotRgb) w.0 w.1 w.2 kept
+unflushed-run task bytes left had mid has (Err NoBox) w kept =
+    unflushed-text task bytes left had mid has (Err NoBox) w.0 w.1 w.2 kept
 unflushed-run task bytes left had mid has (Err OutOfMemory) w kept =
     ([], Appends-keeps had mid has [] w kept, λ text answer g. (text, refl))
 unflushed-run task bytes left had mid has (Err Read) w kept = unflushed-unread task bytes left had mid has w kept
@@ -147,6 +158,8 @@ flushed-unread (Render profile) bytes left had mid has w kept = Appends-keeps ha
 flushed-unread (Encode profile) bytes left had mid has w kept = Appends-keeps had mid has [] w kept
 flushed-unread (Show profile showing fill selects width height) bytes left had mid has w kept =
     Appends-keeps had mid has [] w kept
+flushed-unread (ShowBox profile showing fill selects) bytes left had mid has w kept =
+    Appends-keeps had mid has [] w kept
 
 flushed-run : (task : Task) (bytes : List ℕ) (left had mid has : Option (List ℕ)) (answer : Result Status RunFault)
     → Wrote task bytes left answer had mid → Keeps mid has → Wrote task bytes left answer had has
@@ -156,6 +169,7 @@ flushed-run task bytes left had mid has (Err (Grammar fault)) w kept =
 flushed-run task bytes left had mid has (Err (Ppm reason place)) w kept =
     (w.0, w.1, Appends-keeps had mid has w.0 w.2 kept)
 flushed-run task bytes left had mid has (Err NotRgb) w kept = (w.0, w.1, Appends-keeps had mid has w.0 w.2 kept)
+flushed-run task bytes left had mid has (Err NoBox) w kept = (w.0, w.1, Appends-keeps had mid has w.0 w.2 kept)
 flushed-run task bytes left had mid has (Err OutOfMemory) w kept = Appends-keeps had mid has [] w kept
 flushed-run task bytes left had mid has (Err Read) w kept = flushed-unread task bytes left had mid has w kept
 flushed-run task bytes left had mid has (Err Write) w kept = (w.0, Appends-keeps had mid has w.0 w.1 kept, w.2)

@@ -20,7 +20,7 @@ use Rattle.sixel_terminal.specs.Displays.{Display}
 use Rattle.sixel_picture.proofs.SheetLemmas.{length_rows}
 use Rattle.sixel_terminal.specs.Drawing.{screen_on, shown_on}
 use Rattle.sixel.specs.declared.fault.RunFault.{RunFault}
-use Rattle.sixel.specs.declared.fault.RunFault.TheVariants.{Grammar, Ppm, NotRgb, OutOfMemory, Read, Write}
+use Rattle.sixel.specs.declared.fault.RunFault.TheVariants.{Grammar, Ppm, NotRgb, NoBox, OutOfMemory, Read, Write}
 use Rattle.sixel.specs.declared.task.Status.{Status}
 use Rattle.sixel.specs.declared.task.Status.TheVariants.{Done}
 use Rattle.sixel.specs.Conversions.{of_ppm}
@@ -59,18 +59,22 @@ show-once t bytes first second (Err (Grammar f)) (Err NotRgb) g h = absurd
     (fault_no_document bytes f g.1 (h.1.0, h.1.1))
 show-once t bytes first second (Err (Grammar f)) (Err (Grammar e)) g h =
     (g.0 ∙ sym h.0, ap (λ (k : Fault). Err (Grammar k)) (fault_once bytes f e g.1 h.1))
+show-once t bytes first second (Err NoBox) b g h = absurd g
 show-once t bytes first second (Err (Ppm reason place)) b g h = absurd g
 show-once t bytes first second (Err OutOfMemory) b g h = absurd g
 show-once t bytes first second (Err Read) b g h = absurd g
 show-once t bytes first second (Err Write) b g h = absurd g
+show-once t bytes first second (Ok s) (Err NoBox) g h = absurd h
 show-once t bytes first second (Ok s) (Err (Ppm reason place)) g h = absurd h
 show-once t bytes first second (Ok s) (Err OutOfMemory) g h = absurd h
 show-once t bytes first second (Ok s) (Err Read) g h = absurd h
 show-once t bytes first second (Ok s) (Err Write) g h = absurd h
+show-once t bytes first second (Err NotRgb) (Err NoBox) g h = absurd h
 show-once t bytes first second (Err NotRgb) (Err (Ppm reason place)) g h = absurd h
 show-once t bytes first second (Err NotRgb) (Err OutOfMemory) g h = absurd h
 show-once t bytes first second (Err NotRgb) (Err Read) g h = absurd h
 show-once t bytes first second (Err NotRgb) (Err Write) g h = absurd h
+show-once t bytes first second (Err (Grammar f)) (Err NoBox) g h = absurd h
 show-once t bytes first second (Err (Grammar f)) (Err (Ppm reason place)) g h = absurd h
 show-once t bytes first second (Err (Grammar f)) (Err OutOfMemory) g h = absurd h
 show-once t bytes first second (Err (Grammar f)) (Err Read) g h = absurd h

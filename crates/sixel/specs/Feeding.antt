@@ -7,7 +7,7 @@ use Rattle.sixel_grammar.specs.declared.reader.Reader.{Reader}
 use Rattle.sixel_grammar.specs.Faults.{IsFaultOf}
 use Rattle.sixel_grammar.specs.Standing.{StandsAfter}
 use Rattle.sixel.specs.declared.fault.RunFault.{RunFault}
-use Rattle.sixel.specs.declared.fault.RunFault.TheVariants.{Grammar, Ppm, NotRgb, OutOfMemory, Read, Write}
+use Rattle.sixel.specs.declared.fault.RunFault.TheVariants.{Grammar, Ppm, NotRgb, NoBox, OutOfMemory, Read, Write}
 use Rattle.sixel.specs.Texts.{Text, BeginsWith, list_text}
 
 -- the fault is that of the bytes and this front of the piece with one byte more, and lies at that byte; and the lines
@@ -49,5 +49,6 @@ Feeds (Err (Grammar fault)) reader piece had has events bytes = RefusesAt fault 
 Feeds (Err Write) reader piece had has events bytes = StopsIn piece had has events bytes
 Feeds (Err (Ppm reason place)) reader piece had has events bytes = ⊥
 Feeds (Err NotRgb) reader piece had has events bytes = ⊥
+Feeds (Err NoBox) reader piece had has events bytes = ⊥
 Feeds (Err Read) reader piece had has events bytes = ⊥
 Feeds (Err OutOfMemory) reader piece had has events bytes = ⊥

@@ -1,6 +1,6 @@
 -- What a run writes and answers.
-use Rattle.std.specs.Prelude.{◌≡◌, ◌⊎◌, ℕ, List, [], ◌≤◌, length, take, Option, Some, IfSome, IsTrue, IsFalse, Result}
-use Rattle.std.specs.Prelude.{Ok, Err, if◌then◌else◌}
+use Rattle.std.specs.Prelude.{◌≡◌, ◌⊎◌, ℕ, List, [], ◌≤◌, length, take, Option, Some, None, IfSome, IsTrue, IsFalse}
+use Rattle.std.specs.Prelude.{Result, Ok, Err, if◌then◌else◌}
 use Rattle.std.specs.Io.KnownBytes.{Appends, Consumes}
 use Rattle.sixel_grammar.specs.declared.command.Placed.{Placed}
 use Rattle.sixel_grammar.specs.Devices.{one_more}
@@ -21,13 +21,13 @@ use Rattle.sixel_check.specs.Verdicts.{IsVerdict}
 use Rattle.sixel_encode.specs.Canon.{canon_text}
 use Rattle.sixel.specs.Conversions.{of_ppm}
 use Rattle.sixel.specs.declared.fault.RunFault.{RunFault}
-use Rattle.sixel.specs.declared.fault.RunFault.TheVariants.{Grammar, Ppm, NotRgb, OutOfMemory, Read, Write}
+use Rattle.sixel.specs.declared.fault.RunFault.TheVariants.{Grammar, Ppm, NotRgb, NoBox, OutOfMemory, Read, Write}
 use Rattle.sixel.specs.declared.task.Status.{Status}
 use Rattle.sixel.specs.declared.task.Status.TheVariants as status
 use Rattle.sixel.specs.declared.task.Status.TheVariants.{Done}
 use Rattle.sixel.specs.declared.task.Task.{Task}
-use Rattle.sixel.specs.declared.task.Task.TheVariants.{List as Listing, Check, Render, Show, Encode}
-use Rattle.sixel.specs.Screens.{screen_text, show_choices, show_terminal}
+use Rattle.sixel.specs.declared.task.Task.TheVariants.{List as Listing, Check, Render, Show, ShowBox, Encode}
+use Rattle.sixel.specs.Screens.{declared_screen, screen_terminal, screen_text, show_choices, show_terminal}
 use Rattle.sixel.specs.Texts.{Text, BeginsWith, list_text, verdict_line}
 
 -- ---- lists
@@ -43,6 +43,7 @@ ListGives bytes text (Ok status) = (status ≡ Done)
 ListGives bytes text (Err (Grammar fault)) = IsFaultOf bytes fault × ListsFront (take fault.place bytes) text
 ListGives bytes text (Err (Ppm reason place)) = ⊥
 ListGives bytes text (Err NotRgb) = ⊥
+ListGives bytes text (Err NoBox) = ⊥
 ListGives bytes text (Err OutOfMemory) = ⊥
 ListGives bytes text (Err Read) = ⊥
 ListGives bytes text (Err Write) = ⊥
@@ -70,6 +71,7 @@ CheckGives registers bytes text (Ok status) =
 CheckGives registers bytes text (Err (Grammar fault)) = (text ≡ []) × IsFaultOf bytes fault
 CheckGives registers bytes text (Err (Ppm reason place)) = ⊥
 CheckGives registers bytes text (Err NotRgb) = ⊥
+CheckGives registers bytes text (Err NoBox) = ⊥
 CheckGives registers bytes text (Err OutOfMemory) = ⊥
 CheckGives registers bytes text (Err Read) = ⊥
 CheckGives registers bytes text (Err Write) = ⊥
@@ -115,10 +117,22 @@ ShowGives t bytes text (Ok status) = (status ≡ Done)
 ShowGives t bytes text (Err NotRgb) = (text ≡ [])
     × ((events : List Placed) × Document events bytes × IsFalse (are_rgb (screen_on t (events_of events))))
 ShowGives t bytes text (Err (Grammar fault)) = (text ≡ []) × IsFaultOf bytes fault
+ShowGives t bytes text (Err NoBox) = ⊥
 ShowGives t bytes text (Err (Ppm reason place)) = ⊥
 ShowGives t bytes text (Err OutOfMemory) = ⊥
 ShowGives t bytes text (Err Read) = ⊥
 ShowGives t bytes text (Err Write) = ⊥
+
+-- what the terminal whose screen has the sides of the declared box gives for a document; of a document without such a
+-- box `NoBox`, and of other bytes their fault, and nothing is written
+abbrev pub ShowBoxGives : (ℕ × ℕ → Display) → List ℕ → Text → Result Status RunFault → Type 0
+ShowBoxGives terminal bytes text (Err NoBox) = (text ≡ [])
+    × ((events : List Placed) × Document events bytes × (declared_screen (events_of events) ≡ None))
+ShowBoxGives terminal bytes text (Err (Grammar fault)) = (text ≡ []) × IsFaultOf bytes fault
+ShowBoxGives terminal bytes text answer =
+    (events : List Placed) × Document events bytes
+    × ((sides : ℕ × ℕ) × (declared_screen (events_of events) ≡ Some sides)
+    × ShowGives (terminal sides) bytes text answer)
 
 -- ---- tasks
 
@@ -129,6 +143,7 @@ HasSides (Check profile) = Unit {0}
 HasSides (Render profile) = Unit {0}
 HasSides (Encode profile) = Unit {0}
 HasSides (Show profile showing fill selects width height) = IsTrue (is_file_side width) × IsTrue (is_file_side height)
+HasSides (ShowBox profile showing fill selects) = Unit {0}
 
 -- what a task writes for these bytes, and its answer, where memory is ample and no device fails
 abbrev pub Gives : Task → List ℕ → Text → Result Status RunFault → Type 0
@@ -138,6 +153,8 @@ Gives (Render profile) bytes text answer = RenderGives (count_of profile) bytes 
 Gives (Encode profile) bytes text answer = EncodeGives (count_of profile) bytes text answer
 Gives (Show profile showing fill selects width height) bytes text answer =
     ShowGives (show_terminal profile (show_choices showing fill selects width height)) bytes text answer
+Gives (ShowBox profile showing fill selects) bytes text answer =
+    ShowBoxGives (screen_terminal profile showing fill selects) bytes text answer
 
 -- nothing was appended to what the sink `had`
 abbrev pub WroteNothing : Option (List ℕ) → Option (List ℕ) → Type 0
@@ -150,6 +167,7 @@ WroteUnread (Check profile) bytes left had has = WroteNothing had has
 WroteUnread (Render profile) bytes left had has = WroteNothing had has
 WroteUnread (Encode profile) bytes left had has = WroteNothing had has
 WroteUnread (Show profile showing fill selects width height) bytes left had has = WroteNothing had has
+WroteUnread (ShowBox profile showing fill selects) bytes left had has = WroteNothing had has
 
 -- a run of the task over these bytes, if they are known, may be refused for want of memory: a check and a picture only
 -- where raster attributes make a box in them, an encode only after a whole header
@@ -159,6 +177,7 @@ TakesMemory (Check profile) told = IfSome told (MayGrowIn (count_of profile))
 TakesMemory (Render profile) told = IfSome told (MayGrowIn (count_of profile))
 TakesMemory (Encode profile) told = IfSome told HasWholeHeader
 TakesMemory (Show profile showing fill selects width height) told = Unit {0}
+TakesMemory (ShowBox profile showing fill selects) told = Unit {0}
 
 -- a run that answered so appended to what the sink `had` the text that is given with the answer, or on `Write` a front
 -- of what is given, or on `Read` what `unread` says, or for want of memory nothing
@@ -170,6 +189,7 @@ WroteBy gives unread (Err (Grammar fault)) had has =
 WroteBy gives unread (Err (Ppm reason place)) had has =
     (text : Text) × gives text (Err (Ppm reason place)) × Appends had has text
 WroteBy gives unread (Err NotRgb) had has = (text : Text) × gives text (Err NotRgb) × Appends had has text
+WroteBy gives unread (Err NoBox) had has = (text : Text) × gives text (Err NoBox) × Appends had has text
 WroteBy gives unread (Err OutOfMemory) had has = WroteNothing had has
 WroteBy gives unread (Err Read) had has = unread had has
 WroteBy gives unread (Err Write) had has =

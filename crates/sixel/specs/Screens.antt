@@ -1,11 +1,14 @@
 -- The terminal on which a picture is shown, and the picture file of its screen.
-use Rattle.std.specs.Prelude.{ℕ, ◌*◌, ◌%◌, Bool, true, false, List, map, replicate, if◌then◌else◌}
+use Rattle.std.specs.Prelude.{ℕ, ◌*◌, ◌%◌, ◌&&◌, Bool, true, false, List, Option, map, replicate, if◌then◌else◌}
+use Rattle.std.specs.Bool.{then_some}
 use Rattle.std.specs.List.{range_with_len}
+use Rattle.std.specs.Option.{option_and_then}
 use Rattle.sixel_grammar.specs.declared.command.Event.{Event}
 use Rattle.sixel_picture.specs.declared.colour.Parts.{Parts}
 use Rattle.sixel_picture.specs.declared.colour.Parts.TheVariants.{Rgb}
-use Rattle.sixel_picture.specs.Ppm.{ppm_text}
+use Rattle.sixel_picture.specs.Ppm.{is_file_side, ppm_text}
 use Rattle.sixel_picture.specs.Profiles.{count_of}
+use Rattle.sixel_picture.specs.Rules.{raster_before}
 use Rattle.sixel_picture.specs.declared.profile.Profile.{Profile}
 use Rattle.sixel_picture.specs.declared.profile.Profile.TheVariants.{Registers16, Registers256}
 use Rattle.sixel_terminal.specs.declared.choices.Choices.{Choices}
@@ -53,6 +56,19 @@ white_screen choices = replicate (choices.screen_width * choices.screen_height) 
 -- the terminal of these choices, with the registers of the profile
 unfoldable pub show_terminal : Profile → Choices → Display
 show_terminal profile choices = display_of choices (greys profile) (white_screen choices)
+
+-- the sides of the screen that is as large as a box, if a screen can be: each side is from 1 to 4,096
+abbrev pub sides_of_box : ℕ → ℕ → Option (ℕ × ℕ)
+sides_of_box width height = then_some (is_file_side width && is_file_side height) (width, height)
+
+-- the sides of the screen that is as large as the declared box, which is that of the first raster attributes
+unfoldable pub declared_screen : List Event → Option (ℕ × ℕ)
+declared_screen events = option_and_then (λ a. sides_of_box a.width a.height) (raster_before events)
+
+-- the terminal with a screen of these sides
+abbrev pub screen_terminal : Profile → Bool → Bool → Bool → ℕ × ℕ → Display
+screen_terminal profile showing fill selects sides =
+    show_terminal profile (show_choices showing fill selects sides.0 sides.1)
 
 -- the picture file of what the terminal shows after the events
 unfoldable pub screen_text : Display → List Event → Text

@@ -20,7 +20,7 @@ use Rattle.sixel_check.specs.declared.verdict.Finding.{Finding}
 use Rattle.sixel_check.specs.declared.verdict.Verdict.{Verdict}
 use Rattle.sixel_check.specs.declared.verdict.Verdict.TheVariants.{Portable, Broken}
 use Rattle.sixel.specs.declared.fault.RunFault.{RunFault}
-use Rattle.sixel.specs.declared.fault.RunFault.TheVariants.{Grammar, Ppm, NotRgb, OutOfMemory, Read, Write}
+use Rattle.sixel.specs.declared.fault.RunFault.TheVariants.{Grammar, Ppm, NotRgb, NoBox, OutOfMemory, Read, Write}
 
 abbrev pub Text : Type 0
 Text = List ℕ
@@ -100,6 +100,7 @@ abbrev pub fault_parts : RunFault → List Text
 fault_parts (Grammar fault) = reason_name fault.reason ∷ codes "at" ∷ decimal fault.place ∷ []
 fault_parts (Ppm reason place) = ppm_reason_name reason ∷ codes "at" ∷ decimal place ∷ []
 fault_parts NotRgb = codes "NotRgb" ∷ []
+fault_parts NoBox = codes "NoBox" ∷ []
 fault_parts OutOfMemory = codes "out of memory" ∷ []
 fault_parts Read = codes "read failed" ∷ []
 fault_parts Write = codes "write failed" ∷ []

@@ -1,7 +1,7 @@
 -- The command line: what the words say, over the matches that `clap` states.
 use Rattle.std.specs.Prelude.{◌≡◌, ◌≢◌, ◌⊎◌, ◌≤◌, ℕ, Bool, false, true, List, [], ◌∷◌, Some, codes, pos, ⊤}
-use Rattle.std.specs.Prelude.{if◌then◌else◌}
-use Rattle.std.specs.Option.{option_map_or}
+use Rattle.std.specs.Prelude.{Option, find, if◌then◌else◌}
+use Rattle.std.specs.Option.{option_and_then, option_map_or}
 use Rattle.std.specs.Str.{bytes_eq}
 use Rattle.std.specs.Str.Parse.{IsNumeral, digits_value, without_leading_plus}
 use Rattle.sixel_picture.specs.declared.profile.Profile.{Profile}
@@ -13,6 +13,8 @@ use Rattle.clap.specs.Walk.{Row, Rule, Text, first_of, one_of}
 use Rattle.clap.specs.declared.builder.action.ArgAction.TheVariants.{SetTrue}
 use Rattle.clap.specs.declared.builder.value_parser.ValueParser.TheVariants as parser
 use Rattle.clap.specs.declared.error.kind.ErrorKind.TheVariants as kind
+use Rattle.clap.specs.declared.parser.matches.ValueSource.{ValueSource}
+use Rattle.clap.specs.declared.parser.matches.ValueSource.TheVariants.{CommandLine}
 use Rattle.sixel.specs.declared.task.Task.{Task}
 use Rattle.sixel.specs.declared.task.Task.TheVariants as task
 use Rattle.sixel.specs.declared.words.WordsFault.{WordsFault}
@@ -44,13 +46,14 @@ with_profile a name = with_subcommand a (with_rule (new_app name) (flag (codes "
 -- `show`
 abbrev pub show_app : App
 show_app =
-    with_rule (with_rule (with_rule (with_rule (with_rule (with_rule (new_app (codes "show"))
+    with_rule (with_rule (with_rule (with_rule (with_rule (with_rule (with_rule (new_app (codes "show"))
     (flag (codes "wide")))
     (flag (codes "showing")))
     (flag (codes "fill")))
     (flag (codes "define-selects")))
     (side (codes "width") (codes "800")))
-    (side (codes "height") (codes "480"))
+    (side (codes "height") (codes "480")))
+    (flag (codes "box"))
 
 -- `sixel`, which wants a subcommand
 abbrev pub sixel_app : App
@@ -66,6 +69,15 @@ sixel_app =
 -- the flag was given
 abbrev pub is_given : Text → List Row → Bool
 is_given name rows = option_map_or (λ text. bytes_eq text (codes "true")) (first_of name rows) false
+
+-- a value that the words give, and no default
+abbrev pub is_of_words : Option ValueSource → Bool
+is_of_words (Some CommandLine) = true
+is_of_words _ = false
+
+-- the words give the option
+abbrev pub is_named : Text → List Row → Bool
+is_named name rows = is_of_words (option_and_then (λ r. r.source) (find (λ r. bytes_eq r.id name) rows))
 
 -- the wide profile was asked for, or else it is that of 16 registers
 abbrev pub profile_of : List Row → Profile
@@ -83,6 +95,7 @@ abbrev pub HasSide : Text → List Row → ℕ → Type 0
 HasSide name rows n = (text : Text) × (one_of name rows ≡ Some text) × IsSideText text n
 
 -- the task of a subcommand's name and of its options' entries
+-- the box gives a screen its sides, or else the options for them do: the words that give both name no task
 abbrev pub IsTask : Text → List Row → Task → Type 0
 IsTask name rows task.List = name ≡ codes "list"
 IsTask name rows (task.Check profile) = (name ≡ codes "check") × (profile_of rows ≡ profile)
@@ -93,8 +106,17 @@ IsTask name rows (task.Show profile showing fill selects width height) = (name �
     × (is_given (codes "showing") rows ≡ showing)
     × (is_given (codes "fill") rows ≡ fill)
     × (is_given (codes "define-selects") rows ≡ selects)
+    × (is_given (codes "box") rows ≡ false)
     × HasSide (codes "width") rows width
     × HasSide (codes "height") rows height
+IsTask name rows (task.ShowBox profile showing fill selects) = (name ≡ codes "show")
+    × (profile_of rows ≡ profile)
+    × (is_given (codes "showing") rows ≡ showing)
+    × (is_given (codes "fill") rows ≡ fill)
+    × (is_given (codes "define-selects") rows ≡ selects)
+    × (is_given (codes "box") rows ≡ true)
+    × (is_named (codes "width") rows ≡ false)
+    × (is_named (codes "height") rows ≡ false)
 
 -- the task that the words give, of which the first is the program's name
 abbrev pub IsTaskOf : List Text → Task → Type 0

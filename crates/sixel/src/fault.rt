@@ -18,6 +18,10 @@ pub enum RunFault {
     /// A pixel's colour is one of hue, lightness and saturation, which a PPM has no place for. Nothing was written.
     #[error("NotRgb")]
     NotRgb,
+    /// A screen as large as the declared box was asked for, and no box is declared, or a side of it isn't from 1 to
+    /// 4,096 pixels. Nothing was written.
+    #[error("NoBox")]
+    NoBox,
     #[error("OutOfMemory")]
     OutOfMemory,
     /// The input could not be read.

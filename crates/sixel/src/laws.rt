@@ -8,8 +8,9 @@ ghost use Rattle.clap.specs.Takes.{takes};
 ghost use Rattle.sixel.specs.declared.fault.RunFault.{RunFault};
 ghost use Rattle.sixel.specs.declared.task.Status.{Status};
 ghost use Rattle.sixel.specs.declared.task.Task.{Task};
-ghost use Rattle.sixel.specs.declared.task.Task.TheVariants.{List as Listing, Show};
-ghost use Rattle.sixel.specs.Laws.{EncodedAnswers, EncodedChecks, EncodedIsPortable};
+ghost use Rattle.sixel.specs.declared.task.Task.TheVariants.{List as Listing, Show, ShowBox};
+ghost use Rattle.sixel.specs.Laws.{BoxIsShown, EncodedAnswers, EncodedChecks, EncodedIsPortable, FaultIsShown};
+ghost use Rattle.sixel.specs.Laws.{NoBoxIsShown};
 ghost use Rattle.sixel.specs.Outputs.{Gives};
 ghost use Rattle.sixel.specs.Texts.{Text};
 ghost use Rattle.sixel.specs.Words.{IsTaskOf, sixel_app};
@@ -46,4 +47,24 @@ pub fn the_word_show_gives_a_show()
     ensures taken { (program : Text) → takes sixel_app (program ∷ codes "show" ∷ []) ≡ true }
     ensures task { (program : Text) →
         IsTaskOf (program ∷ codes "show" ∷ []) (Show Registers16 false false false 800 480) }
+{}
+
+/// `show --box` gives what `show` gives on a screen with the sides of the declared box, where a screen can have them. Of
+/// another document it gives `NoBox` and no text, and of bytes that are no document their fault, as `show` does.
+pub fn a_box_is_shown_as_its_screen()
+    ensures shown { BoxIsShown }
+    ensures refused { NoBoxIsShown }
+    ensures faulty { FaultIsShown }
+{}
+
+/// The words `show --box` are taken, and show on a screen of the declared box as no flag asks, by 16 registers. With a
+/// side beside the box they give no task.
+pub fn the_words_show_box_give_a_box()
+    ensures taken { (program : Text) → takes sixel_app (program ∷ codes "show" ∷ codes "--box" ∷ []) ≡ true }
+    ensures task { (program : Text) →
+        IsTaskOf (program ∷ codes "show" ∷ codes "--box" ∷ []) (ShowBox Registers16 false false false) }
+    ensures no_width { (program : Text) (task : Task) →
+        IsTaskOf (program ∷ codes "show" ∷ codes "--box" ∷ codes "--width" ∷ codes "800" ∷ []) task → ⊥ }
+    ensures no_height { (program : Text) (task : Task) →
+        IsTaskOf (program ∷ codes "show" ∷ codes "--height" ∷ codes "480" ∷ codes "--box" ∷ []) task → ⊥ }
 {}

@@ -180,6 +180,7 @@ pub fn fault_line(fault: &RunFault) -> Line
         RunFault::Grammar(fault) => push_reason(&mut line, reason_name(fault.reason), fault.place),
         RunFault::Ppm { reason, place } => push_reason(&mut line, ppm_reason_name(*reason), *place),
         RunFault::NotRgb => push_all(&mut line, b"NotRgb"),
+        RunFault::NoBox => push_all(&mut line, b"NoBox"),
         RunFault::OutOfMemory => push_all(&mut line, b"out of memory"),
         RunFault::Read => push_all(&mut line, b"read failed"),
         RunFault::Write => push_all(&mut line, b"write failed"),

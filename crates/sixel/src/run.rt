@@ -8,6 +8,7 @@ mod encode;
 mod list;
 mod render;
 mod show;
+mod show_box;
 
 use crate::fault::RunFault;
 use crate::task::{Status, Task};
@@ -73,6 +74,12 @@ fn perform<S: Source, K: Sink>(
             let choices = show::show_choices(showing, fill, selects, width, height);
             show::show(alloc, profile, choices, input, output)
         }
+        Task::ShowBox {
+            profile,
+            showing,
+            fill,
+            selects,
+        } => show_box::show_box(alloc, profile, showing, fill, selects, input, output),
     }
 }
 

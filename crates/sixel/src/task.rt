@@ -34,6 +34,14 @@ pub enum Task {
         /// Its height, likewise.
         height: u32,
     },
+    /// The same, on a screen as large as the declared box, which is that of the first raster attributes. Its sides are
+    /// to be from 1 to 4,096 pixels.
+    ShowBox {
+        profile: Profile,
+        showing: bool,
+        fill: bool,
+        selects: bool,
+    },
     /// A PPM of Netpbm, of at most as many colours as the profile has registers, as a portable sixel picture.
     Encode {
         profile: Profile,

@@ -11,11 +11,12 @@ ghost use Rattle.std.specs.String.{string_bytes};
 ghost use Rattle.sixel_terminal.specs.Limits.{most_screen_side};
 ghost use Rattle.sixel.specs.declared.task.Task.{Task as ATask};
 ghost use Rattle.sixel.specs.Outputs.{HasSides};
-ghost use Rattle.sixel.specs.Words.{HasSide, IsRefusal, IsSortedOut, IsTask, IsTaskOf, flag, is_given, profile_of};
-ghost use Rattle.sixel.specs.Words.{show_app, side, sixel_app, with_plain, with_profile};
+ghost use Rattle.sixel.specs.Words.{HasSide, IsRefusal, IsSortedOut, IsTask, IsTaskOf, flag, is_given, is_named};
+ghost use Rattle.sixel.specs.Words.{profile_of, show_app, side, sixel_app, with_plain, with_profile};
 
 use crate::task::Task;
 use clap::error::ErrorKind;
+use clap::parser::ValueSource;
 use clap::{Arg, ArgAction, ArgMatches, Command, Error};
 use sixel_picture::Profile;
 use std::alloc::{AllocError, Global};
@@ -50,14 +51,40 @@ pub fn parse_words(alloc: Global, words: &[String]) -> Result<Task, WordsFault>
         Ok(matches) => matches,
         Err(error) => return Err(sorted_out(error)),
     };
-    // The parser lets no words through that name no task; what it states of them doesn't say so for all.
     match matches.subcommand() {
         Some((name, found)) => match task_of(name, found) {
             Some(task) => Ok(task),
-            None => Err(usage(alloc, "no task has this name")),
+            None => Err(untasked(alloc, found)),
         },
         None => Err(usage(alloc, "a subcommand is wanted")),
     }
+}
+
+/// A refusal of a box beside sides, with the text of the usage of `show`. The parser lets no other words through that
+/// name no task; what it states of them doesn't say so for all.
+fn untasked(alloc: Global, matches: &ArgMatches<'_>) -> WordsFault
+    ensures sorted { IsSortedOut result }
+    ensures refusal { IsRefusal result }
+{
+    let reason = match (is_named(matches, "width"), is_named(matches, "height")) {
+        (true, true) => {
+            "the argument '--box' cannot be used with:\n  --width <N>\n  --height <N>"
+        }
+        (true, false) => "the argument '--box' cannot be used with '--width <N>'",
+        (false, true) => "the argument '--box' cannot be used with '--height <N>'",
+        (false, false) => "no task has this name",
+    };
+    match show_error(alloc, reason) {
+        Ok(conflict) => WordsFault::Usage(conflict),
+        Err(_) => WordsFault::OutOfMemory,
+    }
+}
+
+fn show_error(alloc: Global, reason: &str) -> Result<Error, AllocError>
+    ensures { IfOk result (λ e. kind_of e ≡ ErrorKind.ArgumentConflict) }
+{
+    let mut command = show_command(alloc)?.bin_name("sixel show")?;
+    command.error(ErrorKind::ArgumentConflict, reason)
 }
 
 /// A refusal of the words for a reason of the program's own, with the text of the usage.
@@ -114,7 +141,7 @@ fn sixel_command<'a>(alloc: Global) -> Result<Command<'a>, AllocError>
     command.subcommand(show_command(alloc)?)
 }
 
-/// `show`, which has six options.
+/// `show`, which has seven options.
 fn show_command<'a>(alloc: Global) -> Result<Command<'a>, AllocError>
     ensures app { IfOk result (λ c. app_of c ≡ show_app) }
     ensures local { IfOk result (λ c. (fields_of c).has_globals ≡ false) }
@@ -144,7 +171,8 @@ fn show_command<'a>(alloc: Global) -> Result<Command<'a>, AllocError>
             "height",
             "480",
             "The height of the screen in pixels, 1 to 4096",
-        ))
+        ))?
+        .arg(flag_arg(alloc, "box", "Make the screen as large as the declared box"))
 }
 
 /// `--name`, which takes no value.
@@ -229,12 +257,15 @@ fn task_of(name: &str, matches: &ArgMatches<'_>) -> Option<Task>
     }
 }
 
-/// The task of `show` with these options.
+/// The task of `show` with these options: of the box, or of a screen whose sides they give.
 fn show_task(matches: &ArgMatches<'_>) -> Option<Task>
     ensures task { IfSome result (IsTask (codes "show") (rows_of (found_of matches.now))) }
     ensures sides { IfSome result HasSides }
     ensures none { IsNone result → (t : ATask) → IsTask (codes "show") (rows_of (found_of matches.now)) t → ⊥ }
 {
+    if flag_of(matches, "box") {
+        return box_task(matches);
+    }
     match (side_of(matches, "width"), side_of(matches, "height")) {
         (Some(width), Some(height)) => Some(Task::Show {
             profile: profile_of(matches),
@@ -246,6 +277,24 @@ fn show_task(matches: &ArgMatches<'_>) -> Option<Task>
         }),
         _ => None,
     }
+}
+
+/// The task of `show --box` with these options. With a side beside the box there is none.
+fn box_task(matches: &ArgMatches<'_>) -> Option<Task>
+    requires { is_given (codes "box") (rows_of (found_of matches.now)) ≡ true }
+    ensures task { IfSome result (IsTask (codes "show") (rows_of (found_of matches.now))) }
+    ensures sides { IfSome result HasSides }
+    ensures none { IsNone result → (t : ATask) → IsTask (codes "show") (rows_of (found_of matches.now)) t → ⊥ }
+{
+    if is_named(matches, "width") || is_named(matches, "height") {
+        return None;
+    }
+    Some(Task::ShowBox {
+        profile: profile_of(matches),
+        showing: flag_of(matches, "showing"),
+        fill: flag_of(matches, "fill"),
+        selects: flag_of(matches, "define-selects"),
+    })
 }
 
 /// The profile that the options name.
@@ -265,6 +314,17 @@ fn flag_of(matches: &ArgMatches<'_>, name: &str) -> bool
 {
     match matches.get_str(name) {
         Some(text) => text == "true",
+        None => false,
+    }
+}
+
+/// Whether the words give the option. A default doesn't count.
+fn is_named(matches: &ArgMatches<'_>, name: &str) -> bool
+    ensures { is_named name.now (rows_of (found_of matches.now)) ≡ result }
+{
+    match matches.value_source(name) {
+        Some(ValueSource::CommandLine) => true,
+        Some(ValueSource::DefaultValue) => false,
         None => false,
     }
 }

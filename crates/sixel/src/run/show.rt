@@ -67,7 +67,7 @@ pub fn show<S: Source, K: Sink>(
 }
 
 /// Writes these colours of a screen.
-fn write_screen<K: Sink>(
+pub fn write_screen<K: Sink>(
     choices: Choices,
     shown: &[Colour],
     output: &mut K,
@@ -88,7 +88,7 @@ fn write_screen<K: Sink>(
 
 /// The colours of the whole screen after the events.
 #[tactic(auto, unfolding(crate::specs::Screens::show_terminal))]
-fn screen_after(
+pub fn screen_after(
     alloc: Global,
     profile: Profile,
     choices: Choices,

@@ -119,6 +119,34 @@ fn a_standard_error_that_fails(rt: HostRuntime) {
             b"sixel: NotRgb\n"
         )
     );
+    let boxed = Task::ShowBox {
+        profile: Profile::Registers16,
+        showing: false,
+        fill: false,
+        selects: false,
+    };
+    let dot = b"P6\n1 1\n100\n\x00\x00\x00";
+    assert!(rt;
+        ends_so(
+            rt.alloc(),
+            boxed,
+            b"\x1bPq\"1;1;1;1#0@\x1b\\",
+            Exit::Done,
+            dot,
+            b""
+        )
+    );
+    let unboxed = b"\x1bPq#0@\x1b\\";
+    assert!(rt;
+        ends_so(
+            rt.alloc(),
+            boxed,
+            unboxed,
+            Exit::Refused,
+            b"",
+            b"sixel: NoBox\n"
+        )
+    );
     assert!(rt;
         ends_so(
             rt.alloc(),

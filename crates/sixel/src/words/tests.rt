@@ -59,6 +59,22 @@ fn names_the_task(rt: HostRuntime) -> Result<(), Fail> {
             "Show { profile: Registers16, showing: false, fill: false, selects: false, width: 800, height: 480 }",
         ),
         (
+            "sixel show --box",
+            "ShowBox { profile: Registers16, showing: false, fill: false, selects: false }",
+        ),
+        (
+            "sixel show --showing --box",
+            "ShowBox { profile: Registers16, showing: true, fill: false, selects: false }",
+        ),
+        (
+            "sixel show --box --fill --wide",
+            "ShowBox { profile: Registers256, showing: false, fill: true, selects: false }",
+        ),
+        (
+            "sixel show --wide --define-selects --box",
+            "ShowBox { profile: Registers256, showing: false, fill: false, selects: true }",
+        ),
+        (
             "sixel show --height 4096 --define-selects --fill --width 1 --showing",
             "Show { profile: Registers16, showing: true, fill: true, selects: true, width: 1, height: 4096 }",
         ),
@@ -122,6 +138,35 @@ fn refuses_other_words(rt: HostRuntime) -> Result<(), Fail> {
             "sixel show --width many",
             "usage error: invalid value 'many' for '--width <N>': invalid digit found in string",
         ),
+    ];
+    for (line, text) in rows {
+        assert!(rt; refuses(&rt, line, text)?, "{line}");
+    }
+    Ok(())
+}
+
+const BESIDE_WIDTH: &str = "usage error: the argument '--box' cannot be used with '--width <N>'
+
+Usage: sixel show [OPTIONS]";
+
+const BESIDE_HEIGHT: &str = "usage error: the argument '--box' cannot be used with '--height <N>'
+
+Usage: sixel show [OPTIONS]";
+
+const BESIDE_BOTH: &str = "usage error: the argument '--box' cannot be used with:
+  --width <N>
+  --height <N>
+
+Usage: sixel show [OPTIONS]";
+
+/// A box beside a side, also where that is the number that stands for none.
+#[test]
+fn refuses_a_box_beside_a_side(rt: HostRuntime) -> Result<(), Fail> {
+    let rows = [
+        ("sixel show --box --width 800", BESIDE_WIDTH),
+        ("sixel show --width=7 --wide --box", BESIDE_WIDTH),
+        ("sixel show --height=480 --fill --box", BESIDE_HEIGHT),
+        ("sixel show --height 2 --box --width 3", BESIDE_BOTH),
     ];
     for (line, text) in rows {
         assert!(rt; refuses(&rt, line, text)?, "{line}");
@@ -193,6 +238,7 @@ Options:
       --define-selects  Let a definition select its register
       --width <N>       The width of the screen in pixels, 1 to 4096 [default: 800]
       --height <N>      The height of the screen in pixels, 1 to 4096 [default: 480]
+      --box             Make the screen as large as the declared box
   -h, --help            Print help
 ";
     for line in ["sixel show --help", "sixel help show"] {

@@ -21,6 +21,9 @@ three = with_rule two (flag (codes "define-selects"))
 abbrev four : App
 four = with_rule three (side (codes "width") (codes "800"))
 
+abbrev five : App
+five = with_rule four (side (codes "height") (codes "480"))
+
 pub returns-clause-app : goal.returns-clause-app
 returns-clause-app c =
     let about : app_of c.about.result ≡ new_app (codes "show") = ap app_of_fields c.about.ensures ∙ c.new.ensures.app in
@@ -34,9 +37,11 @@ returns-clause-app c =
     c.in_ok-arg-4.ensures.shape c.flag_arg-3.ensures.local ∙ ap₂ with_rule a2 c.flag_arg-3.ensures.rule in
     let a4 : app_of c.in_ok-arg-5.field-0 ≡ four =
     c.in_ok-arg-5.ensures.shape c.side_arg.ensures.local ∙ ap₂ with_rule a3 c.side_arg.ensures.rule in
-    IfOk-weaker c.arg-6.result _ _
-    (λ r h. h.shape c.side_arg-2.ensures.local
-    ∙ ap₂ with_rule a4 c.side_arg-2.ensures.rule) c.arg-6.ensures
+    let a5 : app_of c.in_ok-arg-6.field-0 ≡ five =
+    c.in_ok-arg-6.ensures.shape c.side_arg-2.ensures.local ∙ ap₂ with_rule a4 c.side_arg-2.ensures.rule in
+    IfOk-weaker c.arg-7.result _ _
+    (λ r h. h.shape c.flag_arg-4.ensures.local
+    ∙ ap₂ with_rule a5 c.flag_arg-4.ensures.rule) c.arg-7.ensures
 
 pub returns-clause-local : goal.returns-clause-local
 returns-clause-local c =
@@ -52,4 +57,6 @@ returns-clause-local c =
     neither _ _ _ c.in_ok-arg-4.ensures.globals g2 c.flag_arg-3.ensures.local in
     let g4 : (fields_of c.in_ok-arg-5.field-0).has_globals ≡ false =
     neither _ _ _ c.in_ok-arg-5.ensures.globals g3 c.side_arg.ensures.local in
-    IfOk-weaker c.arg-6.result _ _ (λ r h. neither _ _ _ h.globals g4 c.side_arg-2.ensures.local) c.arg-6.ensures
+    let g5 : (fields_of c.in_ok-arg-6.field-0).has_globals ≡ false =
+    neither _ _ _ c.in_ok-arg-6.ensures.globals g4 c.side_arg-2.ensures.local in
+    IfOk-weaker c.arg-7.result _ _ (λ r h. neither _ _ _ h.globals g5 c.flag_arg-4.ensures.local) c.arg-7.ensures

@@ -179,6 +179,40 @@ const SHOWN_FAULT: Case = Case {
     calls: [(1, 9, 0), (5, 2, 0), (64, 1, 0)],
 };
 
+const BOX: Task = Task::ShowBox {
+    profile: Profile::Registers16,
+    showing: false,
+    fill: false,
+    selects: false,
+};
+
+/// One pixel, on a screen of its box: 26 bytes.
+const BOXED: Case = Case {
+    task: BOX,
+    bytes: PIXEL,
+    text: b"P6\n1 1\n100\n\x00\x00\x00",
+    answer: Ok(Status::Done),
+    calls: [(1, 27, 14), (5, 7, 3), (64, 2, 1)],
+};
+
+/// A document of 5 bytes without a box, which leaves no screen.
+const UNBOXED: Case = Case {
+    task: BOX,
+    bytes: b"\x1bPq\x1b\\",
+    text: b"",
+    answer: Err(RunFault::NoBox),
+    calls: [(1, 6, 0), (5, 2, 0), (64, 2, 0)],
+};
+
+/// A fault, which leaves none either.
+const BOXED_FAULT: Case = Case {
+    task: BOX,
+    bytes: LARGE,
+    text: b"",
+    answer: Err(TOO_LARGE),
+    calls: [(1, 9, 0), (5, 2, 0), (64, 1, 0)],
+};
+
 /// One black pixel in register 16: 28 bytes.
 const WIDE_PIXEL: &[u8] = b"\x1bPq\"1;1;1;1#16;2;0;0;0#16@\x1b\\";
 
@@ -428,6 +462,9 @@ fn each_call_of_a_device_fails(rt: HostRuntime) {
     assert!(rt; stops(rt.alloc(), ENCODED_FAULT));
     assert!(rt; stops(rt.alloc(), SHOWN));
     assert!(rt; stops(rt.alloc(), SHOWN_FAULT));
+    assert!(rt; stops(rt.alloc(), BOXED));
+    assert!(rt; stops(rt.alloc(), UNBOXED));
+    assert!(rt; stops(rt.alloc(), BOXED_FAULT));
 }
 
 #[test]
