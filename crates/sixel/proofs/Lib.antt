@@ -11,3 +11,6 @@ pub mod EndLemmas
 pub mod RoundTripLemmas
 pub mod MatchLemmas
 pub mod SixelLineLemmas
+pub mod ExplainLemmas
+pub mod NameLemmas
+pub mod WishLemmas

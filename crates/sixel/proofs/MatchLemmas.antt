@@ -1,6 +1,6 @@
 -- What an entry's getters read.
-use Rattle.std.proofs.Common.{◌||◌, ◌≡◌, ◌∙◌, ◌≤◌, ◌⊎◌, ℕ, Bool, true, false, List, [], Option, Some, None, arith, codes}
-use Rattle.std.proofs.Common.{refl, slice_index, subst, sym, ap, ap₂, inl, inr}
+use Rattle.std.proofs.Common.{◌||◌, ◌≡◌, ◌∙◌, ◌≤◌, ◌⊎◌, ℕ, Bool, true, false, List, [], Option, Some, None, arith}
+use Rattle.std.proofs.Common.{codes, refl, slice_index, subst, sym, ap, ap₂, inl, inr}
 use Rattle.std.specs.Prelude.{find, option_and_then, option_map, Box, IfSome, Result, Ok, Err}
 use Rattle.std.specs.Str.{bytes_eq}
 use Rattle.std.specs.Box.{box_value}
@@ -153,3 +153,9 @@ none_named o name rows t e is called boxed side =
     let r : rows ≡ rows_in o = sym (ap rows_in e) in
     box_beside (rows_in o) t boxed side
     (subst (λ (k : Text). IsTask k (rows_in o) t) n (subst (λ (k : List Row). IsTask name k t) r is))
+
+-- one subcommand has one name and its rows
+pub same_parts : (o : Option (Text × List Row)) (n m : Text) (r s : List Row) → o ≡ Some (n, r) → o ≡ Some (m, s)
+    → (n ≡ m) × (r ≡ s)
+unfolding name_in rows_in
+same_parts o n m r s e f = (sym (ap name_in e) ∙ ap name_in f, sym (ap rows_in e) ∙ ap rows_in f)

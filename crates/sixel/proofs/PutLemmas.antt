@@ -1,5 +1,7 @@
 -- Lines that are put one after another.
 use Rattle.std.proofs.Common.{◌≡◌, ◌∙◌, ℕ, List, [], ◌++◌, Option, Some, None, refl, sym, ap, append_assoc, inl, inr}
+use Rattle.std.proofs.Common.{length}
+use Rattle.std.proofs.Math.Seq.{take-length}
 use Rattle.std.specs.Prelude.{Result, Ok, Err}
 use Rattle.std.proofs.lemmas.List.{append-nil, append_cancel_left}
 use Rattle.std.specs.Io.KnownBytes.{Appends, Keeps}
@@ -40,3 +42,16 @@ pub is_put : {A E : Type 0} (r : Result A E) (text : Text) (taken : Option (List
     (failures : ℕ × ℕ) → Puts r taken.0 taken.1 text → CountsFailure r failures.0 failures.1 → IsPut text taken failures
 is_put (Ok x) text taken failures put counts = inl (put, counts)
 is_put (Err x) text taken failures put counts = inr (put.0, put.1, counts)
+
+-- a text that was put stays put at a flush
+pub stays_put : {A E : Type 0} (r : Result A E) (had mid has : Option (List ℕ)) (text : Text) → Appends had mid text
+    → Keeps mid has → Puts r had has text
+stays_put (Ok x) None mid has text put kept = tt
+stays_put (Ok x) (Some y) None has text put kept = absurd put
+stays_put (Ok x) (Some y) (Some z) None text put kept = absurd kept
+stays_put (Ok x) (Some y) (Some z) (Some w) text put kept = let same : w ≡ z = kept in same ∙ put
+stays_put (Err x) None mid has text put kept = (0, tt)
+stays_put (Err x) (Some y) None has text put kept = absurd put
+stays_put (Err x) (Some y) (Some z) None text put kept = absurd kept
+stays_put (Err x) (Some y) (Some z) (Some w) text put kept =
+    let same : w ≡ z = kept in (length text, same ∙ put ∙ ap (λ (t : Text). y ++ t) (sym (take-length text)))

@@ -1,7 +1,7 @@
 -- How the program ends.
 use Rattle.std.specs.Prelude.{◌≡◌, ◌≢◌, ◌⊎◌, ◌++◌, ℕ, List, [], Bool, false, true, take, Option, IfSome, Result, Ok}
 use Rattle.std.specs.Prelude.{Err, if◌then◌else◌}
-use Rattle.std.specs.Io.KnownBytes.{Appends}
+use Rattle.std.specs.Io.KnownBytes.{Appends, Keeps}
 use Rattle.sixel_grammar.specs.Devices.{one_more}
 use Rattle.sixel.specs.declared.exit.Exit.{Exit}
 use Rattle.sixel.specs.declared.exit.Exit.TheVariants.{Done, Broken, Refused, Usage}
@@ -13,6 +13,7 @@ use Rattle.sixel.specs.declared.task.Task.TheVariants as task
 use Rattle.sixel.specs.declared.words.WordsFault.{WordsFault}
 use Rattle.sixel.specs.declared.words.WordsFault.TheVariants as fault
 use Rattle.sixel.specs.declared.fault.RunFault.TheVariants as run
+use Rattle.sixel.specs.Explanations.{IsExplanation}
 use Rattle.sixel.specs.Formats.{advice}
 use Rattle.sixel.specs.Outputs.{CountsReads, CountsWrites, TakesMemory, Wrote}
 use Rattle.sixel.specs.Texts.{Text, fault_line, finding_line}
@@ -29,12 +30,6 @@ abbrev pub exit_for_answer : Result Status RunFault → Exit
 exit_for_answer (Ok status.Done) = Done
 exit_for_answer (Ok (status.Broken finding)) = Broken
 exit_for_answer (Err fault) = Refused
-
--- where the words give no task
-abbrev pub exit_for_words : WordsFault → Exit
-exit_for_words (fault.Help text) = Done
-exit_for_words (fault.Usage text) = Usage
-exit_for_words fault.OutOfMemory = Refused
 
 -- ---- what is said of a run
 
@@ -71,3 +66,37 @@ pub record RunEnds (t : Task) (front : List ℕ) (exit : Exit) (input : Option (
   pub flushed : answer ≢ Err run.Write → is_flushed ≡ true
   pub ends : exit ≡ exit_for_answer answer
   pub said : IsPut (complaint t answer ++ advice front answer) errors complaints
+
+-- ---- where the words give no task
+
+-- nothing was put to a sink
+abbrev pub IsLeft : Option (List ℕ) × Option (List ℕ) → ℕ × ℕ → Type 0
+IsLeft taken failures = Keeps taken.0 taken.1 × (failures.1 ≡ failures.0)
+
+-- some text was put, of which nothing is said here
+abbrev pub IsShown : Option (List ℕ) × Option (List ℕ) → ℕ × ℕ → Type 0
+IsShown taken failures = (text : Text) × IsPut text taken failures
+
+-- a text was put to the first sink, and that was flushed; or a front of it was, the first sink failed, and the second
+-- was put the line that says so
+abbrev pub Shows : Text → Exit → Option (List ℕ) × Option (List ℕ) → ℕ × ℕ → Bool
+    → Option (List ℕ) × Option (List ℕ) → ℕ × ℕ → Type 0
+Shows text exit output writes is_flushed errors complaints =
+    ((exit ≡ Done) × Appends output.0 output.1 text × (writes.1 ≡ writes.0) × (is_flushed ≡ true)
+    × IsLeft errors complaints)
+    ⊎ ((n : ℕ) × (exit ≡ Refused) × Appends output.0 output.1 (take n text) × (writes.1 ≡ one_more writes.0)
+    × IsPut (fault_line run.Write) errors complaints)
+
+-- how the program ends after these words, and what it has put to its two sinks: help and explanations to the first,
+-- usage and faults to the second
+-- the devices stand here as in `RunEnds`
+abbrev pub WordsEnd : WordsFault → Exit → Option (List ℕ) × Option (List ℕ) → ℕ × ℕ → Bool
+    → Option (List ℕ) × Option (List ℕ) → ℕ × ℕ → Type 0
+WordsEnd (fault.Help text) exit output writes is_flushed errors complaints =
+    (exit ≡ Done) × IsShown output writes × IsLeft errors complaints
+WordsEnd (fault.Explanation topic) exit output writes is_flushed errors complaints =
+    (text : Text) × IsExplanation topic text × Shows text exit output writes is_flushed errors complaints
+WordsEnd (fault.Usage text) exit output writes is_flushed errors complaints =
+    (exit ≡ Usage) × IsLeft output writes × IsShown errors complaints
+WordsEnd fault.OutOfMemory exit output writes is_flushed errors complaints =
+    (exit ≡ Refused) × IsLeft output writes × IsPut (fault_line run.OutOfMemory) errors complaints

@@ -5,6 +5,7 @@ pub mod Screens
 pub mod Outputs
 pub mod Feeding
 pub mod Laws
+pub mod Explanations
 pub mod Words
 pub mod Formats
 pub mod Exits

@@ -1,6 +1,6 @@
 -- The command line: what the words say, over the matches that `clap` states.
-use Rattle.std.specs.Prelude.{◌≡◌, ◌≢◌, ◌⊎◌, ◌≤◌, ℕ, Bool, false, true, List, [], ◌∷◌, Some, codes, pos, ⊤}
-use Rattle.std.specs.Prelude.{Option, find, if◌then◌else◌}
+use Rattle.std.specs.Prelude.{◌≡◌, ◌≢◌, ◌⊎◌, ◌≤◌, ℕ, Bool, false, true, List, [], ◌∷◌, Option, Some, codes, pos, ⊤}
+use Rattle.std.specs.Prelude.{find, if◌then◌else◌, option_map}
 use Rattle.std.specs.Option.{option_and_then, option_map_or}
 use Rattle.std.specs.Str.{bytes_eq}
 use Rattle.std.specs.Str.Parse.{IsNumeral, digits_value, without_leading_plus}
@@ -19,6 +19,7 @@ use Rattle.sixel.specs.declared.task.Task.{Task}
 use Rattle.sixel.specs.declared.task.Task.TheVariants as task
 use Rattle.sixel.specs.declared.words.WordsFault.{WordsFault}
 use Rattle.sixel.specs.declared.words.WordsFault.TheVariants as fault
+use Rattle.sixel.specs.Explanations.{topic_name}
 
 -- ---- the commands
 
@@ -55,14 +56,18 @@ show_app =
     (side (codes "height") (codes "480")))
     (flag (codes "box"))
 
+-- `explain`, which may be given a name
+abbrev pub explain_app : App
+explain_app = with_rule (new_app (codes "explain")) (record (new_rule (codes "name")) { value_names = 1 })
+
 -- `sixel`, which wants a subcommand
 abbrev pub sixel_app : App
 sixel_app =
-    with_subcommand
+    with_subcommand (with_subcommand
     (with_profile (with_profile (with_profile (with_plain
     (on_top (λ s. record s { subcommand_required = true }) (new_app (codes "sixel")))
     (codes "list")) (codes "check")) (codes "render")) (codes "encode"))
-    show_app.top
+    show_app.top) explain_app.top
 
 -- ---- the task
 
@@ -123,6 +128,30 @@ abbrev pub IsTaskOf : List Text → Task → Type 0
 IsTaskOf words t = (name : Text) × (rows : List Row)
     × (subcommand_of sixel_app words ≡ Some (name, rows)) × IsTask name rows t
 
+-- ---- explanations
+
+-- the words ask for the explanation of this name, or without one for the list of names
+abbrev pub AsksFor : List Text → Option Text → Type 0
+AsksFor words name = (rows : List Row)
+    × (subcommand_of sixel_app words ≡ Some (codes "explain", rows)) × (first_of (codes "name") rows ≡ name)
+
+-- the explanation, if it is one, is the one that a subcommand of this name with these options asks for
+abbrev pub IsAskedIn : Text → List Row → WordsFault → Type 0
+IsAskedIn name rows (fault.Explanation topic) =
+    (name ≡ codes "explain") × (first_of (codes "name") rows ≡ option_map topic_name topic)
+IsAskedIn name rows _ = ⊤
+
+-- and the one that these words ask for
+abbrev pub IsAskedBy : List Text → WordsFault → Type 0
+IsAskedBy words (fault.Explanation topic) = AsksFor words (option_map topic_name topic)
+IsAskedBy words _ = ⊤
+
+-- it is the explanation of this name, or there is no memory
+abbrev pub Explains : Option Text → WordsFault → Type 0
+Explains name (fault.Explanation topic) = option_map topic_name topic ≡ name
+Explains name fault.OutOfMemory = ⊤
+Explains name _ = ⊥
+
 -- ---- the refusals
 
 -- help holds what asks for help or the version, and usage neither that nor want of memory
@@ -130,10 +159,17 @@ abbrev pub IsSortedOut : WordsFault → Type 0
 IsSortedOut (fault.Usage error) = (kind_of error ≢ kind.DisplayHelp) × (kind_of error ≢ kind.DisplayVersion)
     × (kind_of error ≢ kind.OutOfMemory)
 IsSortedOut (fault.Help error) = (kind_of error ≡ kind.DisplayHelp) ⊎ (kind_of error ≡ kind.DisplayVersion)
+IsSortedOut (fault.Explanation topic) = ⊤
 IsSortedOut fault.OutOfMemory = ⊤
 
--- no help is shown
+-- it is no explanation
+abbrev pub IsUnexplained : WordsFault → Type 0
+IsUnexplained (fault.Explanation topic) = ⊥
+IsUnexplained _ = ⊤
+
+-- neither help nor an explanation is shown
 abbrev pub IsRefusal : WordsFault → Type 0
 IsRefusal (fault.Usage error) = ⊤
 IsRefusal (fault.Help error) = ⊥
+IsRefusal (fault.Explanation topic) = ⊥
 IsRefusal fault.OutOfMemory = ⊤

@@ -1,17 +1,23 @@
 //! How the program ends.
 
-ghost use Rattle.std.specs.Prelude.{◌≡◌, ◌≤◌, ◌++◌, length};
-ghost use Rattle.sixel.specs.Exits.{RunEnds, complaint, exit_code, exit_for_answer};
+ghost use Rattle.std.specs.Prelude.{◌≡◌, ◌≤◌, ◌++◌, OnOk, length, true};
+ghost use Rattle.sixel_grammar.specs.Devices.{CountsFailure, Puts};
+ghost use Rattle.sixel.specs.Exits.{RunEnds, complaint, exit_code, exit_for_answer, IsShown, WordsEnd};
+ghost use Rattle.sixel.specs.Explanations.{IsExplanation};
 ghost use Rattle.sixel.specs.Formats.{advice};
 ghost use Rattle.sixel.specs.Outputs.{HasSides};
+ghost use Rattle.sixel.specs.Texts.{Text};
 
+use crate::explanations::{Topic, explanation};
 use crate::fault::RunFault;
 use crate::formats::{advice_on, format_of};
-use crate::lines::{Line, fault_line, finding_line};
+use crate::lines::{Line, fault_line, finding_line, write_fault};
 use crate::run;
 use crate::task::{Status, Task};
+use crate::words::WordsFault;
 use arrayvec::ArrayVec;
-use sixel_grammar::{Sink, Source, put_all};
+use clap::Error;
+use sixel_grammar::{DeviceFault, Sink, Source, put_all};
 use sixel_picture::PpmReason;
 use std::alloc::Global;
 
@@ -113,4 +119,59 @@ pub fn report<S: Source, K: Sink, E: Sink>(
     let said = said_of(task, front, &answer);
     let _ = put_all(errors, said.as_slice());
     exit_of(answer)
+}
+
+/// Ends the program where the words give no task: shows the help or the explanation that was asked for, or says what
+/// is wrong. Where a text of help or usage can't be made or put, or the line of a fault, the program ends as it would.
+pub fn tell<K: Sink, E: Sink>(
+    alloc: Global,
+    fault: WordsFault,
+    output: &mut K,
+    errors: &mut E,
+) -> Exit
+    ensures { WordsEnd fault result
+        (K.taken output.old, K.taken output.new) (K.failure_count output.old, K.failure_count output.new)
+        (K.is_flushed output.new)
+        (E.taken errors.old, E.taken errors.new) (E.failure_count errors.old, E.failure_count errors.new) }
+{
+    match fault {
+        WordsFault::Help(text) => {
+            show(alloc, &text, output);
+            Exit::Done
+        }
+        WordsFault::Explanation(topic) => match write_explanation(topic, output) {
+            Ok(()) => Exit::Done,
+            Err(_) => {
+                let _ = write_fault(&RunFault::Write, errors);
+                Exit::Refused
+            }
+        },
+        WordsFault::Usage(text) => {
+            show(alloc, &text, errors);
+            Exit::Usage
+        }
+        WordsFault::OutOfMemory => {
+            let _ = write_fault(&RunFault::OutOfMemory, errors);
+            Exit::Refused
+        }
+    }
+}
+
+/// Puts a text of usage or help, if it can be made.
+fn show<K: Sink>(alloc: Global, text: &Error, out: &mut K)
+    ensures { IsShown (K.taken out.old, K.taken out.new) (K.failure_count out.old, K.failure_count out.new) }
+{
+    if let Ok(text) = format!(in alloc; "{text}") {
+        let _ = put_all(out, text.as_bytes());
+    }
+}
+
+/// Puts an explanation, or on an `Err` a front of it, and flushes.
+fn write_explanation<K: Sink>(topic: Option<Topic>, out: &mut K) -> Result<(), DeviceFault>
+    ensures bytes { (text : Text) × IsExplanation topic text × Puts result (K.taken out.old) (K.taken out.new) text }
+    ensures failures { CountsFailure result (K.failure_count out.old) (K.failure_count out.new) }
+    ensures flushed { OnOk result (K.is_flushed out.new ≡ true) }
+{
+    put_all(out, explanation(topic).as_bytes())?;
+    out.flush()
 }

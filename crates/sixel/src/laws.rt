@@ -1,19 +1,22 @@
 //! Laws about the definitions. Each function's contract is the law.
 
-ghost use Rattle.std.specs.Prelude.{◌≡◌, ◌∷◌, [], ℕ, List, Result, codes, false, true};
+ghost use Rattle.std.specs.Prelude.{◌≡◌, ◌∷◌, [], ℕ, Contains, List, None, Result, Some, codes, false, true};
 ghost use Rattle.sixel_picture.specs.Profiles.{count_of};
 ghost use Rattle.sixel_picture.specs.declared.profile.Profile.{Profile};
 ghost use Rattle.sixel_picture.specs.declared.profile.Profile.TheVariants.{Registers16};
+ghost use Rattle.sixel_check.specs.declared.rule.Rule.{Rule};
 ghost use Rattle.clap.specs.Takes.{takes};
+ghost use Rattle.sixel.specs.declared.explanations.Topic.{Topic};
 ghost use Rattle.sixel.specs.declared.fault.RunFault.{RunFault};
 ghost use Rattle.sixel.specs.declared.task.Status.{Status};
 ghost use Rattle.sixel.specs.declared.task.Task.{Task};
 ghost use Rattle.sixel.specs.declared.task.Task.TheVariants.{List as Listing, Show, ShowBox};
+ghost use Rattle.sixel.specs.Explanations.{listed_names, topic_name, topic_of};
 ghost use Rattle.sixel.specs.Laws.{BoxIsShown, EncodedAnswers, EncodedChecks, EncodedIsPortable, FaultIsShown};
 ghost use Rattle.sixel.specs.Laws.{NoBoxIsShown};
 ghost use Rattle.sixel.specs.Outputs.{Gives};
-ghost use Rattle.sixel.specs.Texts.{Text};
-ghost use Rattle.sixel.specs.Words.{IsTaskOf, sixel_app};
+ghost use Rattle.sixel.specs.Texts.{Text, rule_name};
+ghost use Rattle.sixel.specs.Words.{AsksFor, IsTaskOf, sixel_app};
 
 /// A task gives some text and answer for any bytes.
 pub fn tasks_give_an_output()
@@ -67,4 +70,24 @@ pub fn the_words_show_box_give_a_box()
         IsTaskOf (program ∷ codes "show" ∷ codes "--box" ∷ codes "--width" ∷ codes "800" ∷ []) task → ⊥ }
     ensures no_height { (program : Text) (task : Task) →
         IsTaskOf (program ∷ codes "show" ∷ codes "--height" ∷ codes "480" ∷ codes "--box" ∷ []) task → ⊥ }
+{}
+
+/// The name of each rule, which a line of `check` can hold, and of each fault is one of those that `explain` lists.
+pub fn each_name_is_listed()
+    ensures rules { (rule : Rule) → Contains listed_names (rule_name rule) }
+    ensures faults { (fault : RunFault) → Contains listed_names (topic_name (topic_of fault)) }
+{}
+
+/// The one word `explain` is taken, and asks for the list of names.
+pub fn the_word_explain_asks_for_the_list()
+    ensures taken { (program : Text) → takes sixel_app (program ∷ codes "explain" ∷ []) ≡ true }
+    ensures asked { (program : Text) → AsksFor (program ∷ codes "explain" ∷ []) None }
+{}
+
+/// After the word `explain` each name is taken, and asked for.
+pub fn each_name_can_be_asked_for()
+    ensures taken { (program : Text) (topic : Topic) →
+        takes sixel_app (program ∷ codes "explain" ∷ topic_name topic ∷ []) ≡ true }
+    ensures asked { (program : Text) (topic : Topic) →
+        AsksFor (program ∷ codes "explain" ∷ topic_name topic ∷ []) (Some (topic_name topic)) }
 {}

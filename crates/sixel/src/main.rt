@@ -1,20 +1,22 @@
 //! The program `sixel`: checks, lists, draws and writes sixel pictures, from standard input to standard output.
 #![tactic(auto)]
 
-ghost use Rattle.std.specs.Prelude.{◌≡◌, ◌≢◌, IfErr, IfOk, IfSome, Ok, false, is_ok, map, true};
+ghost use Rattle.std.specs.Prelude.{◌≡◌, ◌≢◌, IfErr, IfOk, IfSome, Ok, false, is_ok, map, true, Option, option_map};
 ghost use Rattle.std.specs.String.{string_bytes};
 ghost use Rattle.std.specs.Io.KnownBytes.{Consumes};
 ghost use Rattle.std.specs.Vec.Iter.{into_iter_items};
 ghost use Rattle.sixel_check.specs.declared.verdict.Finding.{Finding as AFinding};
-ghost use Rattle.sixel.specs.Exits.{exit_for_words};
 ghost use Rattle.sixel.specs.Outputs.{Gives, HasSides};
 ghost use Rattle.sixel.specs.Texts.{Text};
-ghost use Rattle.sixel.specs.Words.{IsSortedOut, IsTaskOf, sixel_app};
+ghost use Rattle.sixel.specs.Explanations.{topic_name};
+ghost use Rattle.sixel.specs.Words.{AsksFor, Explains, IsAskedBy, IsSortedOut, IsTaskOf, sixel_app};
+ghost use Rattle.sixel.specs.declared.explanations.Topic.{Topic as ATopic};
 ghost use Rattle.sixel.specs.declared.task.Status.{Status};
 ghost use Rattle.sixel.specs.declared.task.Task.{Task as ATask};
 ghost use Rattle.clap.specs.Takes.{takes};
 
 mod exit;
+mod explanations;
 mod fault;
 mod formats;
 pub mod laws;
@@ -27,12 +29,9 @@ mod watched;
 mod words;
 
 use arrayvec::ArrayVec;
-use clap::Error;
-use exit::{Exit, code_of, report};
-use fault::RunFault;
+use exit::{Exit, code_of, report, tell};
 use formats::FRONT;
-use lines::write_fault;
-use sixel_grammar::{FromRead, ToWrite, put_all};
+use sixel_grammar::{FromRead, ToWrite};
 use std::alloc::Global;
 use std::env::Args;
 use std::io::{ErrorKind, Read, Write};
@@ -44,7 +43,11 @@ use words::{WordsFault, parse_words, usage};
 fn main(rt: HostRuntime) -> ExitCode {
     let exit = match task_in(rt.alloc(), env::args(&rt)) {
         Ok(task) => execute(rt.alloc(), task, rt.stdin(), rt.stdout(), rt.stderr()),
-        Err(fault) => explain(rt.alloc(), fault, rt.stdout(), rt.stderr()),
+        Err(fault) => {
+            let mut output = ToWrite::new(rt.stdout());
+            let mut errors = ToWrite::new(rt.stderr());
+            tell(rt.alloc(), fault, &mut output, &mut errors)
+        }
     };
     ExitCode::from(code_of(exit))
 }
@@ -59,6 +62,12 @@ fn task_in(alloc: Global, arguments: io::Result<Args>) -> Result<Task, WordsFaul
     ensures accepted { IfErr result (λ fault. IfOk arguments (λ words.
         takes sixel_app (map string_bytes (into_iter_items words)) ≡ true → (t : ATask) →
         IsTaskOf (map string_bytes (into_iter_items words)) t → fault ≡ WordsFault.OutOfMemory)) }
+    ensures asked { IfErr result (λ fault. IfOk arguments (λ words.
+        IsAskedBy (map string_bytes (into_iter_items words)) fault)) }
+    ensures explained { IfErr result (λ fault. IfOk arguments (λ words.
+        takes sixel_app (map string_bytes (into_iter_items words)) ≡ true → (topic : Option ATopic) →
+        AsksFor (map string_bytes (into_iter_items words)) (option_map topic_name topic) →
+        Explains (option_map topic_name topic) fault)) }
 {
     let arguments = match arguments {
         Ok(arguments) => arguments,
@@ -113,38 +122,6 @@ fn first_bytes<R: Read>(task: Task, input: &mut R) -> ArrayVec<u8, FRONT>
         let _ = front.try_extend_from_slice(&piece[..count]);
     }
     front
-}
-
-/// Shows the help that was asked for, or says what is wrong with the words.
-fn explain<W: Write + Drop, E: Write + Drop>(
-    alloc: Global,
-    fault: WordsFault,
-    output: W,
-    errors: E,
-) -> Exit
-    ensures { result ≡ exit_for_words fault }
-{
-    match fault {
-        WordsFault::Help(text) => {
-            show(alloc, &text, output);
-            Exit::Done
-        }
-        WordsFault::Usage(text) => {
-            show(alloc, &text, errors);
-            Exit::Usage
-        }
-        WordsFault::OutOfMemory => {
-            let _ = write_fault(&RunFault::OutOfMemory, &mut ToWrite::new(errors));
-            Exit::Refused
-        }
-    }
-}
-
-/// Writes the text of usage or help. If it can't be made or written, the exit status stays.
-fn show<W: Write + Drop>(alloc: Global, text: &Error, out: W) {
-    if let Ok(text) = format!(in alloc; "{text}") {
-        let _ = put_all(&mut ToWrite::new(out), text.as_bytes());
-    }
 }
 
 #[cfg(test)]

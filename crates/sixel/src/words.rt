@@ -1,6 +1,7 @@
 //! The words of the command line.
 
 ghost use Rattle.std.specs.Prelude.{◌≡◌, ◌≤◌, ◌↔◌, ℕ, IfOk, IfErr, IfSome, IsNone, IsTrue, codes, false, map, true};
+ghost use Rattle.std.specs.Prelude.{Option, option_map};
 ghost use Rattle.clap.specs.Walk.{rows_of, rule_of};
 ghost use Rattle.clap.specs.Values.{kind_of};
 ghost use Rattle.clap.specs.Simple.{app_of};
@@ -12,8 +13,13 @@ ghost use Rattle.sixel_terminal.specs.Limits.{most_screen_side};
 ghost use Rattle.sixel.specs.declared.task.Task.{Task as ATask};
 ghost use Rattle.sixel.specs.Outputs.{HasSides};
 ghost use Rattle.sixel.specs.Words.{HasSide, IsRefusal, IsSortedOut, IsTask, IsTaskOf, flag, is_given, is_named};
-ghost use Rattle.sixel.specs.Words.{profile_of, show_app, side, sixel_app, with_plain, with_profile};
+ghost use Rattle.sixel.specs.Words.{profile_of, show_app, side, sixel_app, with_plain, with_profile, AsksFor, Explains};
+ghost use Rattle.sixel.specs.Words.{IsAskedBy, IsAskedIn, IsUnexplained, explain_app};
+ghost use Rattle.sixel.specs.Explanations.{topic_name};
+ghost use Rattle.sixel.specs.declared.explanations.Topic.{Topic as ATopic};
+ghost use Rattle.clap.specs.Walk.{first_of};
 
+use crate::explanations::{Topic, topic_named};
 use crate::task::Task;
 use clap::error::ErrorKind;
 use clap::parser::ValueSource;
@@ -31,6 +37,8 @@ pub enum WordsFault {
     Usage(Error),
     /// Help was asked for.
     Help(Error),
+    /// An explanation was asked for: of a topic, or the list of names.
+    Explanation(Option<Topic>),
     OutOfMemory,
 }
 
@@ -42,6 +50,10 @@ pub fn parse_words(alloc: Global, words: &[String]) -> Result<Task, WordsFault>
     ensures fault { IfErr result IsSortedOut }
     ensures accepted { IfErr result (λ fault. takes sixel_app (map string_bytes words.now) ≡ true →
         (t : ATask) → IsTaskOf (map string_bytes words.now) t → fault ≡ WordsFault.OutOfMemory) }
+    ensures asked { IfErr result (IsAskedBy (map string_bytes words.now)) }
+    ensures explained { IfErr result (λ fault. takes sixel_app (map string_bytes words.now) ≡ true →
+        (topic : Option ATopic) → AsksFor (map string_bytes words.now) (option_map topic_name topic) →
+        Explains (option_map topic_name topic) fault) }
 {
     let command = match sixel_command(alloc) {
         Ok(command) => command,
@@ -54,7 +66,7 @@ pub fn parse_words(alloc: Global, words: &[String]) -> Result<Task, WordsFault>
     match matches.subcommand() {
         Some((name, found)) => match task_of(name, found) {
             Some(task) => Ok(task),
-            None => Err(untasked(alloc, found)),
+            None => Err(without_task(alloc, name, found)),
         },
         None => Err(usage(alloc, "a subcommand is wanted")),
     }
@@ -105,7 +117,38 @@ fn usage_error(alloc: Global, reason: &str) -> Result<Error, AllocError>
     command.error(ErrorKind::ValueValidation, reason)
 }
 
-/// Each task is a subcommand. `show`, which has options, has a function of its own.
+/// What a subcommand that names no task comes to.
+fn without_task(alloc: Global, name: &str, matches: &ArgMatches<'_>) -> WordsFault
+    ensures sorted { IsSortedOut result }
+    ensures asked { IsAskedIn name.now (rows_of (found_of matches.now)) result }
+    ensures explained { name.now ≡ codes "explain" → (topic : Option ATopic) →
+        first_of (codes "name") (rows_of (found_of matches.now)) ≡ option_map topic_name topic →
+        Explains (option_map topic_name topic) result }
+{
+    match name {
+        "explain" => asked(alloc, matches),
+        _ => untasked(alloc, matches),
+    }
+}
+
+/// What these options of `explain` ask for.
+fn asked(alloc: Global, matches: &ArgMatches<'_>) -> WordsFault
+    ensures sorted { IsSortedOut result }
+    ensures asked { IsAskedIn (codes "explain") (rows_of (found_of matches.now)) result }
+    ensures explained { (topic : Option ATopic) →
+        first_of (codes "name") (rows_of (found_of matches.now)) ≡ option_map topic_name topic →
+        Explains (option_map topic_name topic) result }
+{
+    match matches.get_str("name") {
+        None => WordsFault::Explanation(None),
+        Some(name) => match topic_named(name) {
+            Some(topic) => WordsFault::Explanation(Some(topic)),
+            None => usage(alloc, "no rule and no refusal has this name"),
+        },
+    }
+}
+
+/// Each task is a subcommand, and so is `explain`. `show`, which has options, has a function of its own.
 fn sixel_command<'a>(alloc: Global) -> Result<Command<'a>, AllocError>
     ensures { IfOk result (λ c. app_of c ≡ sixel_app) }
 {
@@ -138,7 +181,23 @@ fn sixel_command<'a>(alloc: Global) -> Result<Command<'a>, AllocError>
         "encode",
         "Reads a PPM in place of a sixel picture, and writes it as a portable one",
     )?;
-    command.subcommand(show_command(alloc)?)
+    command
+        .subcommand(show_command(alloc)?)?
+        .subcommand(explain_command(alloc)?)
+}
+
+/// `explain`, which may be given a name.
+fn explain_command<'a>(alloc: Global) -> Result<Command<'a>, AllocError>
+    ensures app { IfOk result (λ c. app_of c ≡ explain_app) }
+    ensures local { IfOk result (λ c. (fields_of c).has_globals ≡ false) }
+{
+    Command::new(alloc, "explain")
+        .about("Explains a rule that check names or a refusal, or lists their names")
+        .arg(
+            Arg::new(alloc, "name").value_name("NAME").help(
+                "The name in the line that was written, such as Uncovered or FieldCount",
+            ),
+        )
 }
 
 /// `show`, which has seven options.
@@ -351,6 +410,7 @@ fn sorted_out(error: Error) -> WordsFault
     ensures sorted { IsSortedOut result }
     ensures memory { kind_of error ≡ ErrorKind.OutOfMemory → result ≡ WordsFault.OutOfMemory }
     ensures only { result ≡ WordsFault.OutOfMemory → kind_of error ≡ ErrorKind.OutOfMemory }
+    ensures unexplained { IsUnexplained result }
 {
     if error.kind() == ErrorKind::OutOfMemory {
         WordsFault::OutOfMemory

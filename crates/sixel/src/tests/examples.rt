@@ -190,6 +190,7 @@ fn each_reason_is_named(rt: HostRuntime) {
         ),
         (b"\x1bPq#1;2~\x1b\\".as_slice(), "sixel: FieldCount at 7\n"),
         (b"\x1bPq!3 ~\x1b\\".as_slice(), "sixel: BadRepeat at 5\n"),
+        (b"\x1bPq!3$\x1b\\".as_slice(), "sixel: BadRepeat at 5\n"),
         (b"\x1bPq$\x1b]".as_slice(), "sixel: BadTerminator at 5\n"),
         (b"\x1bPq@".as_slice(), "sixel: Truncated at 4\n"),
         (b"\x1bPq\x1b\\x".as_slice(), "sixel: Trailing at 5\n"),

@@ -2,11 +2,13 @@
 
 ghost use Rattle.sixel.specs.Outputs.{HasSides};
 
-use crate::exit::Exit;
+use crate::exit::{Exit, tell};
+use crate::explanations::Topic;
 use crate::task::Task;
 use crate::words::{WordsFault, parse_words};
-use crate::{execute, explain, task_in};
-use sixel_picture::Profile;
+use crate::{execute, task_in};
+use sixel_grammar::ToWrite;
+use sixel_picture::{PpmReason, Profile};
 use std::alloc::Global;
 use std::io;
 use std::io::{Error, ErrorKind, Write};
@@ -230,15 +232,15 @@ fn explains_so(
 ) -> bool {
     let mut written = Vec::new(alloc);
     let mut said = Vec::new(alloc);
-    let output = Narrow {
+    let mut output = ToWrite::new(Narrow {
         written: &mut written,
         room,
-    };
-    let errors = Narrow {
+    });
+    let mut errors = ToWrite::new(Narrow {
         written: &mut said,
         room,
-    };
-    let ended = explain(alloc, fault, output, errors);
+    });
+    let ended = tell(alloc, fault, &mut output, &mut errors);
     ended == exit
         && fills(written.as_slice(), text.as_bytes(), room)
         && fills(said.as_slice(), line.as_bytes(), room)
@@ -300,6 +302,34 @@ fn words_are_explained_as_far_as_there_is_room(rt: HostRuntime) -> Result<(), Fa
         let memory = unread(rt.alloc(), ErrorKind::OutOfMemory)?;
         let line = "sixel: out of memory\n";
         assert!(rt; explains_so(rt.alloc(), memory, room, Exit::Refused, "", line));
+    }
+    Ok(())
+}
+
+const MAXVAL: &str = "Maxval: a maximum of a PPM outside 1 to 255
+
+Refused: a maximum of a PPM outside 1 to 255. The place is the number's first
+digit.
+
+String: P6 1 1 256 LF
+Answer of encode: sixel: Maxval at 7
+
+Mend it: write samples of one byte, with the maximum 255.
+";
+
+/// An explanation goes to standard output. Where it can't be written whole, the program ends as a task would.
+#[test]
+fn an_explanation_is_written_or_refused(rt: HostRuntime) -> Result<(), Fail> {
+    for (room, exit, line) in [
+        (0, Exit::Refused, "sixel: write failed\n"),
+        (1, Exit::Refused, "sixel: write failed\n"),
+        (200, Exit::Refused, "sixel: write failed\n"),
+        (512, Exit::Done, ""),
+    ] {
+        let asked = fault_of(rt.alloc(), &["explain", "Maxval"])?;
+        assert!(rt; explains_so(rt.alloc(), asked, room, exit, MAXVAL, line));
+        let topic = WordsFault::Explanation(Some(Topic::Ppm(PpmReason::Maxval)));
+        assert!(rt; explains_so(rt.alloc(), topic, room, exit, MAXVAL, line));
     }
     Ok(())
 }

@@ -15,6 +15,7 @@ fn told(alloc: Global, fault: WordsFault) -> Result<String, AllocError> {
     match fault {
         WordsFault::Usage(text) => format!(in alloc; "usage {text}"),
         WordsFault::Help(text) => format!(in alloc; "help {text}"),
+        WordsFault::Explanation(topic) => format!(in alloc; "explain {topic:?}"),
         WordsFault::OutOfMemory => String::from_str(alloc, "out of memory"),
     }
 }
@@ -106,7 +107,7 @@ fn names_the_task(rt: HostRuntime) -> Result<(), Fail> {
 }
 
 const NO_COMMAND: &str = "usage error: 'sixel' requires a subcommand but one was not provided
-  [subcommands: list, check, render, encode, show, help]
+  [subcommands: list, check, render, encode, show, explain, help]
 
 Usage: sixel <COMMAND>";
 
@@ -125,6 +126,14 @@ fn refuses_other_words(rt: HostRuntime) -> Result<(), Fail> {
         (
             "sixel list twice",
             "usage error: unexpected argument 'twice' found\n\nUsage: sixel list",
+        ),
+        (
+            "sixel explain ratio",
+            "usage error: no rule and no refusal has this name\n\nUsage: sixel <COMMAND>",
+        ),
+        (
+            "sixel explain Ratio BoxSize",
+            "usage error: unexpected argument 'BoxSize' found\n\nUsage: sixel explain [NAME]",
         ),
         (
             "sixel show --width 0",
@@ -182,12 +191,13 @@ fn shows_help(rt: HostRuntime) -> Result<(), Fail> {
 Usage: sixel <COMMAND>
 
 Commands:
-  list    Lists what the picture says, a line for each command
-  check   Says whether the picture is portable, or which rule is broken first
-  render  Writes a portable picture as a PPM
-  encode  Reads a PPM in place of a sixel picture, and writes it as a portable one
-  show    Draws the picture as one terminal would, and writes its screen as a PPM
-  help    Print this message or the help of the given subcommand(s)
+  list     Lists what the picture says, a line for each command
+  check    Says whether the picture is portable, or which rule is broken first
+  render   Writes a portable picture as a PPM
+  encode   Reads a PPM in place of a sixel picture, and writes it as a portable one
+  show     Draws the picture as one terminal would, and writes its screen as a PPM
+  explain  Explains a rule that check names or a refusal, or lists their names
+  help     Print this message or the help of the given subcommand(s)
 
 Options:
   -h, --help  Print help
@@ -243,6 +253,42 @@ Options:
 ";
     for line in ["sixel show --help", "sixel help show"] {
         assert!(rt; says(&rt, line, show)?, "{line}");
+    }
+    Ok(())
+}
+
+/// The name in the line of `check` or of a fault is that of its explanation.
+#[test]
+fn asks_for_an_explanation(rt: HostRuntime) -> Result<(), Fail> {
+    let rows = [
+        ("sixel explain", "explain None"),
+        ("sixel explain Ratio", "explain Some(Rule(Ratio))"),
+        ("sixel explain EightBit", "explain Some(Rule(EightBit))"),
+        ("sixel explain BadByte", "explain Some(Grammar(BadByte))"),
+        ("sixel explain Trailing", "explain Some(Grammar(Trailing))"),
+        ("sixel explain Short", "explain Some(Ppm(Short))"),
+        ("sixel explain OutOfMemory", "explain Some(OutOfMemory)"),
+    ];
+    for (line, asked) in rows {
+        assert!(rt; says(&rt, line, asked)?, "{line}");
+    }
+    Ok(())
+}
+
+#[test]
+fn shows_the_name_of_explain(rt: HostRuntime) -> Result<(), Fail> {
+    let explain = "help Explains a rule that check names or a refusal, or lists their names
+
+Usage: sixel explain [NAME]
+
+Arguments:
+  [NAME]  The name in the line that was written, such as Uncovered or FieldCount
+
+Options:
+  -h, --help  Print help
+";
+    for line in ["sixel explain --help", "sixel help explain"] {
+        assert!(rt; says(&rt, line, explain)?, "{line}");
     }
     Ok(())
 }

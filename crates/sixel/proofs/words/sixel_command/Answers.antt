@@ -1,7 +1,7 @@
 use Rattle.std.proofs.Common.{◌≡◌, ◌∙◌, ap, ap₂, codes, true}
 use Rattle.std.proofs.lemmas.Result.{IfOk-weaker}
 use Rattle.clap.specs.Simple.{App, app_of, app_of_fields, new_app, on_top, with_subcommand}
-use Rattle.sixel.specs.Words.{show_app, with_plain, with_profile}
+use Rattle.sixel.specs.Words.{explain_app, show_app, with_plain, with_profile}
 use Rattle.sixel.proofs.words.sixel_command.Goals as goal
 
 -- `sixel` with no subcommand yet
@@ -21,6 +21,9 @@ three = with_profile two (codes "render")
 abbrev four : App
 four = with_profile three (codes "encode")
 
+abbrev five : App
+five = with_subcommand four show_app.top
+
 pub returns : goal.returns
 returns c =
     let about : app_of c.about.result ≡ new_app (codes "sixel") = ap app_of_fields c.about.ensures
@@ -37,6 +40,10 @@ returns c =
     let a4 : app_of c.in_ok-command-4.command ≡ four =
     c.in_ok-command-4.ensures ∙ ap (λ (a : App). with_profile a (codes "encode")) a3 in
     let show : app_of c.in_ok-show_command.field-0 ≡ show_app = c.in_ok-show_command.ensures.app in
-    IfOk-weaker c.subcommand.result _ _
-    (λ r h. h.shape c.in_ok-show_command.ensures.local ∙ ap₂ with_subcommand a4 (ap (λ (a : App). a.top) show))
-    c.subcommand.ensures
+    let a5 : app_of c.in_ok-subcommand.field-0 ≡ five =
+    c.in_ok-subcommand.ensures.shape c.in_ok-show_command.ensures.local
+    ∙ ap₂ with_subcommand a4 (ap (λ (a : App). a.top) show) in
+    let explain : app_of c.in_ok-explain_command.field-0 ≡ explain_app = c.in_ok-explain_command.ensures.app in
+    IfOk-weaker c.subcommand-2.result _ _
+    (λ r h. h.shape c.in_ok-explain_command.ensures.local ∙ ap₂ with_subcommand a5 (ap (λ (a : App). a.top) explain))
+    c.subcommand-2.ensures

@@ -34,7 +34,7 @@ returns-clause-painted c = λ _.
     c.paint_short_run.new.coverage some fits c.self.invariant.each_pixel c.self.invariant.each_band
     q.1 (no_run_past c.args.bits c.args.count) refl refl painted mapped
     ∙ stretched_run
-        (sheet_of_bands inside.width inside.height inside.registers.items inside.coverage.items) c.args.column
+    (sheet_of_bands inside.width inside.height inside.registers.items inside.coverage.items) c.args.column
     c.args.band c.args.count c.args.bits c.args.register some
     ∙ ap (λ (s : Sheet). painted_sheet s c.args.column c.args.band c.args.count c.args.bits c.args.register)
     c.self.view_is

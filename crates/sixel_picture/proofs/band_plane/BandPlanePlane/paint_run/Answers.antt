@@ -13,9 +13,9 @@ cover-requires c = elim (cases_eq c.args.bits 0) [
   | inr some ↦
       let inside = c.self.inside in
       let wide : inside.width ≡ c.args.self.now.width = ap (λ (s : Sheet). s.width)
-          (c.self.view_is ∙ c.if-try_paint_short_run.ensures.kept refl) in
+      (c.self.view_is ∙ c.if-try_paint_short_run.ensures.kept refl) in
       let high : inside.height ≡ c.args.self.now.height = ap (λ (s : Sheet). s.height)
-          (c.self.view_is ∙ c.if-try_paint_short_run.ensures.kept refl) in
+      (c.self.view_is ∙ c.if-try_paint_short_run.ensures.kept refl) in
       let room = run_fits inside.width inside.height c.args.column c.args.count c.args.band c.args.bits c.requires.bits
       (omega (arith, c.requires.columns, wide)) (rw high c.requires.rows) some in
       let stored : length c.deref_mut.result.now ≡ length inside.coverage.items = ap length c.deref_mut.ensures.value in
@@ -26,7 +26,7 @@ pub fill_run-requires-clause-rows : goal.fill_run-requires-clause-rows
 fill_run-requires-clause-rows c = λ k small set.
     let inside = c.self.inside in
     let high : inside.height ≡ c.args.self.now.height = ap (λ (s : Sheet). s.height)
-        (c.self.view_is ∙ c.if-try_paint_short_run.ensures.kept refl) in
+    (c.self.view_is ∙ c.if-try_paint_short_run.ensures.kept refl) in
     let row = c.requires.rows k small set in
     let here : 6 * c.args.band + k < inside.height = omega (arith, high, row) in
     let room = row_fits_turned (6 * c.args.band + k) inside.width inside.width inside.height here (omega arith) in
@@ -38,7 +38,7 @@ pub returns : goal.returns
 returns c =
     let inside = c.self.inside in
     let wide : inside.width ≡ c.args.self.now.width = ap (λ (s : Sheet). s.width)
-        (c.self.view_is ∙ c.if-try_paint_short_run.ensures.kept refl) in
+    (c.self.view_is ∙ c.if-try_paint_short_run.ensures.kept refl) in
     let some : 0 < inside.width = search rules in
     let fits : c.args.column + c.args.count ≤ inside.width = omega (arith, c.requires.columns, wide) in
     let registers : length c.fill_run.new.registers ≡ inside.registers.len = omega arith in
