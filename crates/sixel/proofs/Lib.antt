@@ -8,6 +8,8 @@ pub mod ScreenLemmas
 pub mod BoxLemmas
 pub mod RunLemmas
 pub mod EndLemmas
+pub mod FilesLemmas
+pub mod SeveralLemmas
 pub mod RoundTripLemmas
 pub mod MatchLemmas
 pub mod SixelLineLemmas

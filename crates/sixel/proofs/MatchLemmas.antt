@@ -1,7 +1,7 @@
 -- What an entry's getters read.
 use Rattle.std.proofs.Common.{◌||◌, ◌≡◌, ◌∙◌, ◌≤◌, ◌⊎◌, ℕ, Bool, true, false, List, [], Option, Some, None, arith}
 use Rattle.std.proofs.Common.{codes, refl, slice_index, subst, sym, ap, ap₂, inl, inr}
-use Rattle.std.specs.Prelude.{find, option_and_then, option_map, Box, IfSome, Result, Ok, Err}
+use Rattle.std.specs.Prelude.{find, option_and_then, option_map, map, string_bytes, Box, IfSome, IfOk, Result, Ok, Err}
 use Rattle.std.specs.Str.{bytes_eq}
 use Rattle.std.specs.Box.{box_value}
 use Rattle.std.specs.Str.Parse.{ParsesUnsigned}
@@ -18,7 +18,8 @@ use Rattle.clap.specs.declared.parser.matches.SubCommand.{SubCommand}
 use Rattle.clap.specs.declared.parser.matches.ArgMatches.TheViews.{out-SubCommand}
 use Rattle.sixel.specs.declared.task.Task.{Task}
 use Rattle.sixel.specs.declared.task.Task.TheVariants.{List as Listing, Check, Render, Show, ShowBox, Encode}
-use Rattle.sixel.specs.Words.{HasSide, IsSideText, IsTask, is_given, is_named, is_of_words}
+use Rattle.sixel.specs.declared.request.Request.{Request}
+use Rattle.sixel.specs.Words.{HasSide, IsSideText, IsTask, files_of, is_given, is_named, is_of_words}
 
 pub both_parts : {X Y : Type 0} (o : Option (X × Y)) (x : X) (y : Y) → option_map (λ p. p.0) o ≡ Some x
     → option_map (λ p. p.1) o ≡ Some y → o ≡ Some (x, y)
@@ -157,5 +158,17 @@ none_named o name rows t e is called boxed side =
 -- one subcommand has one name and its rows
 pub same_parts : (o : Option (Text × List Row)) (n m : Text) (r s : List Row) → o ≡ Some (n, r) → o ≡ Some (m, s)
     → (n ≡ m) × (r ≡ s)
-unfolding name_in rows_in
 same_parts o n m r s e f = (sym (ap name_in e) ∙ ap name_in f, sym (ap rows_in e) ∙ ap rows_in f)
+
+-- ---- what is asked for
+
+-- the task of a name and its rows, with what else they say
+pub request_is : {E : Type 0} (o : Option (Text × List Row)) (n : Text) (rows : List Row) (t : Task)
+    (r : Result Request E) → o ≡ Some (n, rows) → IsTask n rows t
+    → IfOk r (λ asked. asked.task ≡ t) → IfOk r (λ asked. is_given (codes "quiet") rows ≡ asked.is_quiet)
+    → IfOk r (λ asked. files_of rows ≡ map string_bytes asked.files.items)
+    → IfOk r (λ asked. (name : Text) × (given : List Row) × (o ≡ Some (name, given)) × IsTask name given asked.task
+    × (is_given (codes "quiet") given ≡ asked.is_quiet) × (files_of given ≡ map string_bytes asked.files.items))
+request_is o n rows t (Err fault) e is task quiet files = tt
+request_is o n rows t (Ok asked) e is task quiet files =
+    (n, rows, e, subst (λ (k : Task). IsTask n rows k) (sym task) is, quiet, files)

@@ -9,3 +9,4 @@ pub mod Explanations
 pub mod Words
 pub mod Formats
 pub mod Exits
+pub mod Files

@@ -76,6 +76,15 @@ CheckGives registers bytes text (Err OutOfMemory) = ⊥
 CheckGives registers bytes text (Err Read) = ⊥
 CheckGives registers bytes text (Err Write) = ⊥
 
+-- the answer of a check, and the line that it writes
+abbrev pub answer_of : Result Verdict RunFault → Result Status RunFault
+answer_of (Ok verdict) = Ok (status_of verdict)
+answer_of (Err fault) = Err fault
+
+abbrev pub line_of : Result Verdict RunFault → Text
+line_of (Ok verdict) = verdict_line verdict
+line_of (Err fault) = []
+
 -- ---- pictures
 
 -- the picture file of a portable picture, if all its colours are of red, green and blue

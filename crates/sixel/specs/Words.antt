@@ -1,6 +1,6 @@
 -- The command line: what the words say, over the matches that `clap` states.
 use Rattle.std.specs.Prelude.{◌≡◌, ◌≢◌, ◌⊎◌, ◌≤◌, ℕ, Bool, false, true, List, [], ◌∷◌, Option, Some, codes, pos, ⊤}
-use Rattle.std.specs.Prelude.{find, if◌then◌else◌, option_map}
+use Rattle.std.specs.Prelude.{find, if◌then◌else◌, option_map, unwrap_or}
 use Rattle.std.specs.Option.{option_and_then, option_map_or}
 use Rattle.std.specs.Str.{bytes_eq}
 use Rattle.std.specs.Str.Parse.{IsNumeral, digits_value, without_leading_plus}
@@ -9,8 +9,8 @@ use Rattle.sixel_picture.specs.declared.profile.Profile.TheVariants.{Registers16
 use Rattle.sixel_terminal.specs.Limits.{most_screen_side}
 use Rattle.clap.specs.Simple.{App, new_app, new_rule, on_top, subcommand_of, with_rule, with_subcommand}
 use Rattle.clap.specs.Values.{kind_of}
-use Rattle.clap.specs.Walk.{Row, Rule, Text, first_of, one_of}
-use Rattle.clap.specs.declared.builder.action.ArgAction.TheVariants.{SetTrue}
+use Rattle.clap.specs.Walk.{Row, Rule, Text, all_of, first_of, one_of}
+use Rattle.clap.specs.declared.builder.action.ArgAction.TheVariants.{Append, SetTrue}
 use Rattle.clap.specs.declared.builder.value_parser.ValueParser.TheVariants as parser
 use Rattle.clap.specs.declared.error.kind.ErrorKind.TheVariants as kind
 use Rattle.clap.specs.declared.parser.matches.ValueSource.{ValueSource}
@@ -23,13 +23,25 @@ use Rattle.sixel.specs.Explanations.{topic_name}
 
 -- ---- the commands
 
+-- `FILE`, which may be left out
+abbrev pub file : Rule
+file = new_rule (codes "FILE")
+
+-- `FILE`, any number of times
+abbrev pub files : Rule
+files = record (new_rule (codes "FILE")) { action = Some Append }
+
 -- with one subcommand more, which has no options
 abbrev pub with_plain : App → Text → App
-with_plain a name = with_subcommand a (new_app name).top
+with_plain a name = with_subcommand a (with_rule (new_app name) file).top
 
 -- `--name`, which takes no value
 abbrev pub flag : Text → Rule
 flag name = record (new_rule name) { long = Some name; action = Some SetTrue }
+
+-- `--quiet` or `-q`
+abbrev pub quiet : Rule
+quiet = record (flag (codes "quiet")) { short = Some 113 }
 
 -- `--name N`, a number from 1 to 4,096, which is `fallback` where the option isn't given
 abbrev pub side : Text → Text → Rule
@@ -42,31 +54,36 @@ side name fallback = record (new_rule name) {
 
 -- with one subcommand more, which may be told to take the wide profile
 abbrev pub with_profile : App → Text → App
-with_profile a name = with_subcommand a (with_rule (new_app name) (flag (codes "wide"))).top
+with_profile a name = with_subcommand a (with_rule (with_rule (new_app name) (flag (codes "wide"))) file).top
+
+-- `check`
+abbrev pub check_app : App
+check_app = with_rule (with_rule (with_rule (new_app (codes "check")) (flag (codes "wide"))) quiet) files
 
 -- `show`
 abbrev pub show_app : App
 show_app =
-    with_rule (with_rule (with_rule (with_rule (with_rule (with_rule (with_rule (new_app (codes "show"))
+    with_rule (with_rule (with_rule (with_rule (with_rule (with_rule (with_rule (with_rule (new_app (codes "show"))
     (flag (codes "wide")))
     (flag (codes "showing")))
     (flag (codes "fill")))
     (flag (codes "define-selects")))
     (side (codes "width") (codes "800")))
     (side (codes "height") (codes "480")))
-    (flag (codes "box"))
+    (flag (codes "box")))
+    file
 
 -- `explain`, which may be given a name
 abbrev pub explain_app : App
 explain_app = with_rule (new_app (codes "explain")) (record (new_rule (codes "name")) { value_names = 1 })
 
--- `sixel`, which wants a subcommand
+-- `sixel`, which tells its version and wants a subcommand
 abbrev pub sixel_app : App
 sixel_app =
     with_subcommand (with_subcommand
-    (with_profile (with_profile (with_profile (with_plain
-    (on_top (λ s. record s { subcommand_required = true }) (new_app (codes "sixel")))
-    (codes "list")) (codes "check")) (codes "render")) (codes "encode"))
+    (with_profile (with_profile (with_subcommand (with_plain
+    (on_top (λ s. record s { has_version = true; subcommand_required = true }) (new_app (codes "sixel")))
+    (codes "list")) check_app.top) (codes "render")) (codes "encode"))
     show_app.top) explain_app.top
 
 -- ---- the task
@@ -127,6 +144,18 @@ IsTask name rows (task.ShowBox profile showing fill selects) = (name ≡ codes "
 abbrev pub IsTaskOf : List Text → Task → Type 0
 IsTaskOf words t = (name : Text) × (rows : List Row)
     × (subcommand_of sixel_app words ≡ Some (name, rows)) × IsTask name rows t
+
+-- ---- what else is asked for
+
+-- the names of the files, in the order of the words
+abbrev pub files_of : List Row → List Text
+files_of rows = unwrap_or (all_of (codes "FILE") rows) []
+
+-- what the words give, of which the first is the program's name: the task, whether no verdict is wanted, and the files
+abbrev pub IsRequestOf : List Text → Task → Bool → List Text → Type 0
+IsRequestOf words t is_quiet names = (name : Text) × (rows : List Row)
+    × (subcommand_of sixel_app words ≡ Some (name, rows)) × IsTask name rows t
+    × (is_given (codes "quiet") rows ≡ is_quiet) × (files_of rows ≡ names)
 
 -- ---- explanations
 

@@ -46,7 +46,7 @@ pub fn code_of(exit: Exit) -> u8
 }
 
 /// How the program ends after a run.
-fn exit_of(answer: Result<Status, RunFault>) -> Exit
+pub fn exit_of(answer: Result<Status, RunFault>) -> Exit
     ensures { result ≡ exit_for_answer answer }
 {
     match answer {
@@ -69,7 +69,7 @@ fn complaint(task: Task, answer: &Result<Status, RunFault>) -> Line
 
 /// What makes a PPM of an input that begins with these bytes, where its header is refused at the mark of another
 /// format; else nothing.
-fn advice(front: &[u8], answer: &Result<Status, RunFault>) -> &'static str
+pub fn advice(front: &[u8], answer: &Result<Status, RunFault>) -> &'static str
     ensures text { result.now ≡ advice front.now answer.now }
     ensures short { length result.now ≤ 96 }
 {

@@ -100,6 +100,6 @@ Short: a PPM that ends before its last sample
 NotRgb: a colour of hue, lightness and saturation that would stand in a PPM
 NoBox: a text that declares no box that a screen can have
 OutOfMemory: memory was wanting
-Read: the input couldn't be read
+Read: an input that couldn't be opened or read
 Write: the output couldn't be written
 ";

@@ -1,6 +1,7 @@
 //! Laws about the definitions. Each function's contract is the law.
 
-ghost use Rattle.std.specs.Prelude.{◌≡◌, ◌∷◌, [], ℕ, Contains, List, None, Result, Some, codes, false, true};
+ghost use Rattle.std.specs.Prelude.{◌≡◌, ◌≤◌, ◌∷◌, ◌++◌, [], ℕ, All, Bool, Contains, List, None, Ok, Result, Some};
+ghost use Rattle.std.specs.Prelude.{codes, false, map, true};
 ghost use Rattle.sixel_picture.specs.Profiles.{count_of};
 ghost use Rattle.sixel_picture.specs.declared.profile.Profile.{Profile};
 ghost use Rattle.sixel_picture.specs.declared.profile.Profile.TheVariants.{Registers16};
@@ -10,10 +11,12 @@ ghost use Rattle.sixel.specs.declared.explanations.Topic.{Topic};
 ghost use Rattle.sixel.specs.declared.fault.RunFault.{RunFault};
 ghost use Rattle.sixel.specs.declared.task.Status.{Status};
 ghost use Rattle.sixel.specs.declared.task.Task.{Task};
-ghost use Rattle.sixel.specs.declared.task.Task.TheVariants.{List as Listing, Show, ShowBox};
+ghost use Rattle.sixel.specs.declared.task.Task.TheVariants.{Check, List as Listing, Show, ShowBox};
 ghost use Rattle.sixel.specs.Explanations.{listed_names, topic_name, topic_of};
 ghost use Rattle.sixel.specs.Laws.{BoxIsShown, EncodedAnswers, EncodedChecks, EncodedIsPortable, FaultIsShown};
 ghost use Rattle.sixel.specs.Laws.{NoBoxIsShown};
+ghost use Rattle.sixel.specs.Exits.{exit_code};
+ghost use Rattle.sixel.specs.Files.{FileEnd, IsFileEnd, exit_of_end, files_exit, files_text};
 ghost use Rattle.sixel.specs.Outputs.{Gives};
 ghost use Rattle.sixel.specs.Texts.{Text, rule_name};
 ghost use Rattle.sixel.specs.Words.{AsksFor, IsTaskOf, sixel_app};
@@ -52,8 +55,8 @@ pub fn the_word_show_gives_a_show()
         IsTaskOf (program ∷ codes "show" ∷ []) (Show Registers16 false false false 800 480) }
 {}
 
-/// `show --box` gives what `show` gives on a screen with the sides of the declared box, where a screen can have them. Of
-/// another document it gives `NoBox` and no text, and of bytes that are no document their fault, as `show` does.
+/// `show --box` gives what `show` gives on a screen with the sides of the declared box, where a screen can have them.
+/// Of another document it gives `NoBox` and no text, and of bytes that are no document their fault, as `show` does.
 pub fn a_box_is_shown_as_its_screen()
     ensures shown { BoxIsShown }
     ensures refused { NoBoxIsShown }
@@ -70,6 +73,21 @@ pub fn the_words_show_box_give_a_box()
         IsTaskOf (program ∷ codes "show" ∷ codes "--box" ∷ codes "--width" ∷ codes "800" ∷ []) task → ⊥ }
     ensures no_height { (program : Text) (task : Task) →
         IsTaskOf (program ∷ codes "show" ∷ codes "--height" ∷ codes "480" ∷ codes "--box" ∷ []) task → ⊥ }
+{}
+
+/// The output of a check of several files is the line of each, one after another, with its name before it, and each
+/// line is the one that a check of the file's bytes alone writes. The exit status is the greatest: no file has one of a
+/// greater number, and it is that of one of them.
+pub fn several_files_are_checked_one_by_one()
+    ensures joined { (is_quiet : Bool) (front rest : List FileEnd) →
+        files_text is_quiet (front ++ rest) ≡ files_text is_quiet front ++ files_text is_quiet rest }
+    ensures named { (e : FileEnd) (status : Status) → e.answer ≡ Ok status →
+        files_text false (e ∷ []) ≡ e.name ++ codes ": " ++ e.line }
+    ensures alone { (profile : Profile) (e : FileEnd) (bytes : List ℕ) (status : Status) → IsFileEnd profile e →
+        e.told ≡ Some bytes → e.answer ≡ Ok status → Gives (Check profile) bytes e.line (Ok status) }
+    ensures greatest { (ends : List FileEnd) → All (λ e. exit_code (exit_of_end e) ≤ exit_code (files_exit ends)) ends }
+    ensures reached { (e : FileEnd) (more : List FileEnd) →
+        Contains (map exit_of_end (e ∷ more)) (files_exit (e ∷ more)) }
 {}
 
 /// The name of each rule, which a line of `check` can hold, and of each fault is one of those that `explain` lists.

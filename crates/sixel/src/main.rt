@@ -1,7 +1,7 @@
-//! The program `sixel`: checks, lists, draws and writes sixel pictures, from standard input to standard output.
+//! The program `sixel`: checks, lists, draws and writes sixel pictures.
 #![tactic(auto)]
 
-ghost use Rattle.std.specs.Prelude.{◌≡◌, ◌≢◌, IfErr, IfOk, IfSome, Ok, false, is_ok, map, true, Option, option_map};
+ghost use Rattle.std.specs.Prelude.{◌≡◌, ◌≢◌, [], IfErr, IfOk, IfSome, Ok, false, is_ok, map, true, Option, option_map};
 ghost use Rattle.std.specs.String.{string_bytes};
 ghost use Rattle.std.specs.Io.KnownBytes.{Consumes};
 ghost use Rattle.std.specs.Vec.Iter.{into_iter_items};
@@ -9,7 +9,7 @@ ghost use Rattle.sixel_check.specs.declared.verdict.Finding.{Finding as AFinding
 ghost use Rattle.sixel.specs.Outputs.{Gives, HasSides};
 ghost use Rattle.sixel.specs.Texts.{Text};
 ghost use Rattle.sixel.specs.Explanations.{topic_name};
-ghost use Rattle.sixel.specs.Words.{AsksFor, Explains, IsAskedBy, IsSortedOut, IsTaskOf, sixel_app};
+ghost use Rattle.sixel.specs.Words.{AsksFor, Explains, IsAskedBy, IsRequestOf, IsSortedOut, IsTaskOf, sixel_app};
 ghost use Rattle.sixel.specs.declared.explanations.Topic.{Topic as ATopic};
 ghost use Rattle.sixel.specs.declared.task.Status.{Status};
 ghost use Rattle.sixel.specs.declared.task.Task.{Task as ATask};
@@ -18,31 +18,48 @@ ghost use Rattle.clap.specs.Takes.{takes};
 mod exit;
 mod explanations;
 mod fault;
+mod files;
+mod folder;
 mod formats;
 pub mod laws;
 mod lines;
+mod request;
 mod run;
+#[cfg(test)]
+mod shelf;
 mod sixel_line;
 mod task;
 #[cfg(test)]
 mod watched;
 mod words;
 
-use arrayvec::ArrayVec;
-use exit::{Exit, code_of, report, tell};
-use formats::FRONT;
+use exit::{Exit, code_of, tell};
+use files::{announce, answer, front_of};
+use folder::{Folder, System};
+use request::Request;
 use sixel_grammar::{FromRead, ToWrite};
 use std::alloc::Global;
 use std::env::Args;
-use std::io::{ErrorKind, Read, Write};
+use std::io::{ErrorKind, IsTerminal, Read, Write};
 use std::process::ExitCode;
 use std::{env, io};
-use task::Task;
 use words::{WordsFault, parse_words, usage};
 
 fn main(rt: HostRuntime) -> ExitCode {
     let exit = match task_in(rt.alloc(), env::args(&rt)) {
-        Ok(task) => execute(rt.alloc(), task, rt.stdin(), rt.stdout(), rt.stderr()),
+        Ok(request) => {
+            let folder = System::new(&rt);
+            let is_terminal = rt.stdin().is_terminal();
+            execute(
+                rt.alloc(),
+                &request,
+                &folder,
+                is_terminal,
+                rt.stdin(),
+                rt.stdout(),
+                rt.stderr(),
+            )
+        }
         Err(fault) => {
             let mut output = ToWrite::new(rt.stdout());
             let mut errors = ToWrite::new(rt.stderr());
@@ -52,11 +69,14 @@ fn main(rt: HostRuntime) -> ExitCode {
     ExitCode::from(code_of(exit))
 }
 
-/// The task that these arguments name, of which the first is the program's name; none where they couldn't be read.
-fn task_in(alloc: Global, arguments: io::Result<Args>) -> Result<Task, WordsFault>
-    ensures task { IfOk result (λ task. IfOk arguments (λ words.
-        IsTaskOf (map string_bytes (into_iter_items words)) task)) }
-    ensures sides { IfOk result HasSides }
+/// What these arguments ask for, of which the first is the program's name; nothing where they couldn't be read.
+fn task_in(alloc: Global, arguments: io::Result<Args>) -> Result<Request, WordsFault>
+    ensures task { IfOk result (λ asked. IfOk arguments (λ words.
+        IsTaskOf (map string_bytes (into_iter_items words)) asked.task)) }
+    ensures request { IfOk result (λ asked. IfOk arguments (λ words.
+        IsRequestOf (map string_bytes (into_iter_items words))
+        asked.task asked.is_quiet (map string_bytes asked.files.items))) }
+    ensures sides { IfOk result (λ asked. HasSides asked.task) }
     ensures unread { IfErr arguments (λ error. is_ok result ≡ false) }
     ensures fault { IfErr result IsSortedOut }
     ensures accepted { IfErr result (λ fault. IfOk arguments (λ words.
@@ -80,48 +100,38 @@ fn task_in(alloc: Global, arguments: io::Result<Args>) -> Result<Task, WordsFaul
     }
 }
 
-/// Runs the task over streams, of which the third gets the line that `report` puts.
-fn execute<R: Read + Drop, W: Write + Drop, E: Write + Drop>(
+/// Does what is asked for over streams, of which the third gets what `answer` says.
+fn execute<F: Folder, R: Read + Drop, W: Write + Drop, E: Write + Drop>(
     alloc: Global,
-    task: Task,
+    request: &Request,
+    folder: &F,
+    is_terminal: bool,
     input: R,
     output: W,
     errors: E,
 ) -> Exit
-    requires { HasSides task }
-    ensures done { result ≡ Exit.Done → IfSome (R.remaining input) (λ bytes.
-        (text : Text) × Gives task bytes text (Ok Status.Done)) }
-    ensures broken { result ≡ Exit.Broken → IfSome (R.remaining input) (λ bytes.
-        (text : Text) × (finding : AFinding) × Gives task bytes text (Ok (Status.Broken finding))) }
+    requires { HasSides request.now.task }
+    ensures done { request.now.files.items ≡ [] → result ≡ Exit.Done → IfSome (R.remaining input) (λ bytes.
+        (text : Text) × Gives request.now.task bytes text (Ok Status.Done)) }
+    ensures broken { request.now.files.items ≡ [] → result ≡ Exit.Broken → IfSome (R.remaining input) (λ bytes.
+        (text : Text) × (finding : AFinding) × Gives request.now.task bytes text (Ok (Status.Broken finding))) }
     ensures no_usage { result ≢ Exit.Usage }
 {
     let mut input = input;
-    let front = first_bytes(task, &mut input);
+    let front = front_of(request, &mut input);
     let mut input = FromRead::new(front.as_slice().chain(input));
     let mut output = ToWrite::new(output);
     let mut errors = ToWrite::new(errors);
-    report(
+    announce(request, is_terminal, &mut errors);
+    answer(
         alloc,
-        task,
+        request,
+        folder,
         front.as_slice(),
         &mut input,
         &mut output,
         &mut errors,
     )
-}
-
-/// What the input of `encode` begins with, as far as one read gives it. Of another task's input nothing is read, and
-/// where the read fails, the next one meets that.
-fn first_bytes<R: Read>(task: Task, input: &mut R) -> ArrayVec<u8, FRONT>
-    ensures { Consumes (R.remaining input.old) (R.remaining input.new) result.items }
-{
-    let mut front = ArrayVec::new();
-    if let Task::Encode { .. } = task {
-        let mut piece = [0; FRONT];
-        let count = input.read(&mut piece).unwrap_or(0);
-        let _ = front.try_extend_from_slice(&piece[..count]);
-    }
-    front
 }
 
 #[cfg(test)]

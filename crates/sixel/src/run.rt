@@ -3,7 +3,7 @@
 ghost use Rattle.std.specs.Prelude.{◌≡◌, ◌≢◌, Err, IfSome, true};
 ghost use Rattle.sixel.specs.Outputs.{CountsReads, CountsWrites, HasSides, TakesMemory, Wrote, failures_by};
 
-mod check;
+pub mod check;
 mod encode;
 mod list;
 mod render;

@@ -1,14 +1,34 @@
+ghost use Rattle.std.specs.Prelude.{◌≡◌};
 ghost use Rattle.sixel.specs.Outputs.{HasSides};
 
 mod examples;
 mod exhausted;
 mod formats;
-mod streams;
+pub mod streams;
 
 use crate::execute;
 use crate::exit::Exit;
+use crate::request::Request;
+use crate::shelf::Shelf;
 use crate::task::Task;
 use std::alloc::Global;
+
+/// No file can be opened.
+const NO_FILES: Shelf<'static> = Shelf {
+    files: &[],
+    cut: &[],
+};
+
+/// What asks for a task on standard input.
+fn plain(alloc: Global, task: Task) -> Request
+    ensures { result.task ≡ task }
+{
+    Request {
+        task,
+        is_quiet: false,
+        files: Vec::new(alloc),
+    }
+}
 
 /// Whether a task on the bytes ends so, and writes this to standard output and this to standard error.
 fn ends(alloc: Global, task: Task, bytes: &[u8], exit: Exit, written: &[u8], said: &[u8]) -> bool
@@ -16,6 +36,15 @@ fn ends(alloc: Global, task: Task, bytes: &[u8], exit: Exit, written: &[u8], sai
 {
     let mut output = Vec::new(alloc);
     let mut errors = Vec::new(alloc);
-    let ended = execute(alloc, task, bytes, &mut output, &mut errors);
+    let request = plain(alloc, task);
+    let ended = execute(
+        alloc,
+        &request,
+        &NO_FILES,
+        false,
+        bytes,
+        &mut output,
+        &mut errors,
+    );
     ended == exit && output.as_slice() == written && errors.as_slice() == said
 }

@@ -12,14 +12,18 @@ ghost use Rattle.std.specs.String.{string_bytes};
 ghost use Rattle.sixel_terminal.specs.Limits.{most_screen_side};
 ghost use Rattle.sixel.specs.declared.task.Task.{Task as ATask};
 ghost use Rattle.sixel.specs.Outputs.{HasSides};
-ghost use Rattle.sixel.specs.Words.{HasSide, IsRefusal, IsSortedOut, IsTask, IsTaskOf, flag, is_given, is_named};
-ghost use Rattle.sixel.specs.Words.{profile_of, show_app, side, sixel_app, with_plain, with_profile, AsksFor, Explains};
-ghost use Rattle.sixel.specs.Words.{IsAskedBy, IsAskedIn, IsUnexplained, explain_app};
+ghost use Rattle.sixel.specs.Words.{AsksFor, Explains, HasSide, IsAskedBy, IsAskedIn, IsRefusal, IsRequestOf};
+ghost use Rattle.sixel.specs.Words.{IsSortedOut, IsTask, IsTaskOf, IsUnexplained, check_app, explain_app, file, files};
+ghost use Rattle.sixel.specs.Words.{files_of, flag, is_given, is_named, profile_of, quiet, show_app, side, sixel_app};
+ghost use Rattle.sixel.specs.Words.{with_plain, with_profile};
 ghost use Rattle.sixel.specs.Explanations.{topic_name};
 ghost use Rattle.sixel.specs.declared.explanations.Topic.{Topic as ATopic};
 ghost use Rattle.clap.specs.Walk.{first_of};
 
+mod help;
+
 use crate::explanations::{Topic, topic_named};
+use crate::request::Request;
 use crate::task::Task;
 use clap::error::ErrorKind;
 use clap::parser::ValueSource;
@@ -29,6 +33,9 @@ use std::alloc::{AllocError, Global};
 
 /// The greatest side of a screen, in pixels.
 const MOST_SCREEN_SIDE: u32 = 4096;
+
+/// What `--version` says behind the program's name.
+const VERSION: &str = "1.0.0";
 
 /// Why words give no task. `Usage` and `Help` hold the text to show, which ends with a line feed.
 #[derive(Debug, Drop)]
@@ -42,11 +49,13 @@ pub enum WordsFault {
     OutOfMemory,
 }
 
-/// The task that the words give. The first of them is the program's name. `Usage` and `Help` hold the text of clap for
-/// these words.
-pub fn parse_words(alloc: Global, words: &[String]) -> Result<Task, WordsFault>
-    ensures task { IfOk result (IsTaskOf (map string_bytes words.now)) }
-    ensures sides { IfOk result HasSides }
+/// What the words ask for. The first of them is the program's name. `Usage` and `Help` hold the text of clap for these
+/// words.
+pub fn parse_words(alloc: Global, words: &[String]) -> Result<Request, WordsFault>
+    ensures task { IfOk result (λ asked. IsTaskOf (map string_bytes words.now) asked.task) }
+    ensures request { IfOk result (λ asked.
+        IsRequestOf (map string_bytes words.now) asked.task asked.is_quiet (map string_bytes asked.files.items)) }
+    ensures sides { IfOk result (λ asked. HasSides asked.task) }
     ensures fault { IfErr result IsSortedOut }
     ensures accepted { IfErr result (λ fault. takes sixel_app (map string_bytes words.now) ≡ true →
         (t : ATask) → IsTaskOf (map string_bytes words.now) t → fault ≡ WordsFault.OutOfMemory) }
@@ -65,7 +74,7 @@ pub fn parse_words(alloc: Global, words: &[String]) -> Result<Task, WordsFault>
     };
     match matches.subcommand() {
         Some((name, found)) => match task_of(name, found) {
-            Some(task) => Ok(task),
+            Some(task) => request_of(alloc, task, found),
             None => Err(without_task(alloc, name, found)),
         },
         None => Err(usage(alloc, "a subcommand is wanted")),
@@ -143,43 +152,43 @@ fn asked(alloc: Global, matches: &ArgMatches<'_>) -> WordsFault
         None => WordsFault::Explanation(None),
         Some(name) => match topic_named(name) {
             Some(topic) => WordsFault::Explanation(Some(topic)),
-            None => usage(alloc, "no rule and no refusal has this name"),
+            None => usage(
+                alloc,
+                "no rule and no refusal has this name; 'sixel explain' lists them",
+            ),
         },
     }
 }
 
-/// Each task is a subcommand, and so is `explain`. `show`, which has options, has a function of its own.
+/// Each task is a subcommand, and so is `explain`. `check` and `show`, which have options, have functions of their own.
 fn sixel_command<'a>(alloc: Global) -> Result<Command<'a>, AllocError>
     ensures { IfOk result (λ c. app_of c ≡ sixel_app) }
 {
     let mut command = Command::new(alloc, "sixel")
-        .about(
-            "Checks, lists, draws and writes sixel pictures, from standard input to standard output",
-        )
+        .about("Checks, lists, draws and writes sixel pictures, from files or standard input")
+        .version(VERSION)
         .subcommand_required(true);
     command = with_plain_command(
         alloc,
         command,
         "list",
         "Lists what the picture says, a line for each command",
+        help::LIST,
     )?;
-    command = with_profile_command(
-        alloc,
-        command,
-        "check",
-        "Says whether the picture is portable, or which rule is broken first",
-    )?;
+    command = command.subcommand(check_command(alloc)?)?;
     command = with_profile_command(
         alloc,
         command,
         "render",
         "Writes a portable picture as a PPM",
+        help::RENDER,
     )?;
     command = with_profile_command(
         alloc,
         command,
         "encode",
-        "Reads a PPM in place of a sixel picture, and writes it as a portable one",
+        "Writes a PPM as a portable picture",
+        help::ENCODE,
     )?;
     command
         .subcommand(show_command(alloc)?)?
@@ -193,6 +202,7 @@ fn explain_command<'a>(alloc: Global) -> Result<Command<'a>, AllocError>
 {
     Command::new(alloc, "explain")
         .about("Explains a rule that check names or a refusal, or lists their names")
+        .after_help(help::EXPLAIN)
         .arg(
             Arg::new(alloc, "name").value_name("NAME").help(
                 "The name in the line that was written, such as Uncovered or FieldCount",
@@ -200,13 +210,27 @@ fn explain_command<'a>(alloc: Global) -> Result<Command<'a>, AllocError>
         )
 }
 
-/// `show`, which has seven options.
+/// `check`, which takes any number of files.
+fn check_command<'a>(alloc: Global) -> Result<Command<'a>, AllocError>
+    ensures app { IfOk result (λ c. app_of c ≡ check_app) }
+    ensures local { IfOk result (λ c. (fields_of c).has_globals ≡ false) }
+{
+    Command::new(alloc, "check")
+        .about("Says whether the picture is portable, or which rule is broken first")
+        .after_help(help::CHECK)
+        .arg(wide_arg(alloc))?
+        .arg(quiet_arg(alloc))?
+        .arg(files_arg(alloc))
+}
+
+/// `show`, which has seven options and may be given a file.
 fn show_command<'a>(alloc: Global) -> Result<Command<'a>, AllocError>
     ensures app { IfOk result (λ c. app_of c ≡ show_app) }
     ensures local { IfOk result (λ c. (fields_of c).has_globals ≡ false) }
 {
     Command::new(alloc, "show")
-        .about("Draws the picture as one terminal would, and writes its screen as a PPM")
+        .about("Draws the picture on one terminal, and writes its screen as a PPM")
+        .after_help(help::SHOW)
         .arg(wide_arg(alloc))?
         .arg(flag_arg(
             alloc,
@@ -223,15 +247,16 @@ fn show_command<'a>(alloc: Global) -> Result<Command<'a>, AllocError>
             alloc,
             "width",
             "800",
-            "The width of the screen in pixels, 1 to 4096",
+            "The screen's width in pixels, 1 to 4096",
         ))?
         .arg(side_arg(
             alloc,
             "height",
             "480",
-            "The height of the screen in pixels, 1 to 4096",
+            "The screen's height in pixels, 1 to 4096",
         ))?
-        .arg(flag_arg(alloc, "box", "Make the screen as large as the declared box"))
+        .arg(flag_arg(alloc, "box", "Make the screen as large as the declared box"))?
+        .arg(file_arg(alloc))
 }
 
 /// `--name`, which takes no value.
@@ -264,10 +289,16 @@ fn with_plain_command<'a>(
     command: Command<'a>,
     name: &'a str,
     about: &'a str,
+    more: &'a str,
 ) -> Result<Command<'a>, AllocError>
     ensures { IfOk result (λ c. app_of c ≡ with_plain (app_of command.entry) name.entry.now) }
 {
-    command.subcommand(Command::new(alloc, name).about(about))
+    command.subcommand(
+        Command::new(alloc, name)
+            .about(about)
+            .after_help(more)
+            .arg(file_arg(alloc))?,
+    )
 }
 
 /// The command with one subcommand more, which may be told to take the wide profile.
@@ -276,10 +307,17 @@ fn with_profile_command<'a>(
     command: Command<'a>,
     name: &'a str,
     about: &'a str,
+    more: &'a str,
 ) -> Result<Command<'a>, AllocError>
     ensures { IfOk result (λ c. app_of c ≡ with_profile (app_of command.entry) name.entry.now) }
 {
-    command.subcommand(Command::new(alloc, name).about(about).arg(wide_arg(alloc))?)
+    command.subcommand(
+        Command::new(alloc, name)
+            .about(about)
+            .after_help(more)
+            .arg(wide_arg(alloc))?
+            .arg(file_arg(alloc))?,
+    )
 }
 
 /// `--wide`, which names the profile of 256 registers.
@@ -292,6 +330,71 @@ fn wide_arg<'a>(alloc: Global) -> Arg<'a>
         "wide",
         "Let a picture use 256 colour registers, and not 16",
     )
+}
+
+/// `-q` or `--quiet`.
+fn quiet_arg<'a>(alloc: Global) -> Arg<'a>
+    ensures rule { rule_of result ≡ quiet }
+    ensures local { result.global ≡ false }
+{
+    flag_arg(alloc, "quiet", "Write no verdict: the exit status tells it").short('q')
+}
+
+/// `FILE`, which may be left out.
+fn file_arg<'a>(alloc: Global) -> Arg<'a>
+    ensures rule { rule_of result ≡ file }
+    ensures local { result.global ≡ false }
+{
+    Arg::new(alloc, "FILE").help("The file to read in place of standard input; `-` is that")
+}
+
+/// `FILE`, any number of times.
+fn files_arg<'a>(alloc: Global) -> Arg<'a>
+    ensures rule { rule_of result ≡ files }
+    ensures local { result.global ≡ false }
+{
+    Arg::new(alloc, "FILE").action(ArgAction::Append).help(
+        "Files to read, in turn, in place of standard input; `-` is that",
+    )
+}
+
+/// The task with what else the options of its subcommand say.
+fn request_of(alloc: Global, task: Task, matches: &ArgMatches<'_>) -> Result<Request, WordsFault>
+    ensures task { IfOk result (λ asked. asked.task ≡ task) }
+    ensures quiet { IfOk result (λ asked.
+        is_given (codes "quiet") (rows_of (found_of matches.now)) ≡ asked.is_quiet) }
+    ensures files { IfOk result (λ asked.
+        files_of (rows_of (found_of matches.now)) ≡ map string_bytes asked.files.items) }
+    ensures memory { IfErr result (λ fault. fault ≡ WordsFault.OutOfMemory) }
+{
+    match files_of(alloc, matches) {
+        Ok(files) => Ok(Request {
+            task,
+            is_quiet: flag_of(matches, "quiet"),
+            files,
+        }),
+        Err(_) => Err(WordsFault::OutOfMemory),
+    }
+}
+
+/// The names of the files, in the order of the words.
+fn files_of(alloc: Global, matches: &ArgMatches<'_>) -> Result<Vec<String>, AllocError>
+    ensures { IfOk result (λ files. files_of (rows_of (found_of matches.now)) ≡ map string_bytes files.items) }
+{
+    match matches.get_raw("FILE") {
+        Some(names) => copies(alloc, names),
+        None => Ok(Vec::new(alloc)),
+    }
+}
+
+fn copies(alloc: Global, names: &[&str]) -> Result<Vec<String>, AllocError>
+    ensures { IfOk result (λ copied. map string_bytes copied.items ≡ map (λ name. name.now) names.now) }
+{
+    let mut copied = Vec::new(alloc);
+    for name in names {
+        copied.push(String::from_str(alloc, name)?)?;
+    }
+    Ok(copied)
 }
 
 /// The task of a subcommand.

@@ -6,7 +6,7 @@ use Rattle.std.specs.Vec.Iter.{into_iter_items}
 use Rattle.std.proofs.lemmas.Iterator.{items_from_collect}
 use Rattle.std.proofs.lemmas.Iterator.Adapters.{YieldsList-from_vec}
 use Rattle.sixel.specs.Explanations.{topic_name}
-use Rattle.sixel.specs.Words.{AsksFor, Explains, IsAskedBy, IsTaskOf, sixel_app}
+use Rattle.sixel.specs.Words.{AsksFor, Explains, IsAskedBy, IsRequestOf, IsTaskOf, sixel_app}
 use Rattle.sixel.specs.declared.explanations.Topic.{Topic as ATopic}
 use Rattle.sixel.specs.declared.task.Task.{Task as ATask}
 use Rattle.sixel.specs.declared.words.WordsFault.TheVariants as fault
@@ -19,8 +19,18 @@ returns-in-Ok-collect-clause-task c =
     items_from_collect {E = Unit {0}} (Ok c.in-Ok-collect.words) c.in-Ok-collect.ensures.ran
     (YieldsList-from_vec had refl c.in-Ok.arguments.rest.ok.0) in
     rw c.in-Ok.is
-    (subst (λ ws. IfOk c.parse_words.result (IsTaskOf (map string_bytes ws))) (c.as_slice.ensures.value ∙ same)
-    c.parse_words.ensures.task)
+    (subst (λ ws. IfOk c.parse_words.result (λ asked. IsTaskOf (map string_bytes ws) asked.task))
+    (c.as_slice.ensures.value ∙ same) c.parse_words.ensures.task)
+
+pub returns-in-Ok-collect-clause-request : goal.returns-in-Ok-collect-clause-request
+returns-in-Ok-collect-clause-request c =
+    let had = into_iter_items c.in-Ok.arguments in
+    let same : c.in-Ok-collect.words.items ≡ had =
+    items_from_collect {E = Unit {0}} (Ok c.in-Ok-collect.words) c.in-Ok-collect.ensures.ran
+    (YieldsList-from_vec had refl c.in-Ok.arguments.rest.ok.0) in
+    rw c.in-Ok.is
+    (subst (λ ws. IfOk c.parse_words.result (λ asked. IsRequestOf (map string_bytes ws) asked.task asked.is_quiet
+    (map string_bytes asked.files.items))) (c.as_slice.ensures.value ∙ same) c.parse_words.ensures.request)
 
 pub returns-in-Ok-collect-clause-accepted : goal.returns-in-Ok-collect-clause-accepted
 returns-in-Ok-collect-clause-accepted c =

@@ -85,7 +85,8 @@ the byte 90), at most three numbers and q.
 String: ESC P p ESC \\
 Answer of check: sixel: NotSixel at 2
 
-Mend it: take away what stands before the string. It begins with its ESC P.
+Mend it: take away what stands before the string. It begins with its ESC P, and
+after its numbers stands q.
 ";
 
 const BAD_BYTE: &str = "BadByte: a byte that may not stand there
@@ -216,20 +217,21 @@ Refused: a sample of a PPM above its maximum. The place is the sample's.
 String: P6 1 1 100 eee
 Answer of encode: sixel: Sample at 11
 
-Mend it: write the maximum that the samples have.
+Mend it: declare a maximum that no sample is above, at most 255.
 ";
 
 const TOO_MANY_COLOURS: &str =
     "TooManyColours: a PPM of more than 16 colours, or with --wide more than 256
 
 Refused: more than 16 colours in a PPM, with --wide more than 256, counted as
-percentages. The place is the first sample of the first pixel in the 17th, or
-the 257th.
+percentages. The place is the first sample of the first pixel in the 17th
+colour, or the 257th.
 
 String: P6 17 1 100 000111222333444555666777888999:::;;;<<<===>>>???@@@
 Answer of encode: sixel: TooManyColours at 60
 
-Mend it: bring the picture to 16 colours first, or to 256 and take --wide.
+Mend it: bring the picture to 16 colours first, as by pnmquant 16, or to 256 and
+take --wide.
 ";
 
 const SHORT: &str = "Short: a PPM that ends before its last sample
@@ -262,7 +264,8 @@ have no width and height from 1 to 4,096. Nothing is written.
 String: ESC P q #0@ ESC \\
 Answer of show --box: sixel: NoBox
 
-Mend it: give the screen's sides, by --width and --height.
+Mend it: leave --box out, and give the screen's sides by --width and --height;
+or write raster attributes with the true size.
 ";
 
 pub const OUT_OF_MEMORY: &str = "OutOfMemory: memory was wanting
@@ -273,11 +276,13 @@ says nothing of the input.
 Mend it: try again when other programs have given memory back.
 ";
 
-pub const READ: &str = "Read: the input couldn't be read
+pub const READ: &str = "Read: an input that couldn't be opened or read
 
-Refused: with the line sixel: read failed, where the input couldn't be read.
+Refused: with the line sixel: read failed, where the input, or a file that is
+named, couldn't be opened or read. Of a file the name stands in the line.
 
-Mend it: look at what was handed over as the input: a folder can't be read.
+Mend it: look whether the file is there under that name, may be read, and is no
+folder.
 ";
 
 pub const WRITE: &str = "Write: the output couldn't be written

@@ -133,11 +133,13 @@ out of range. In system 2 (red, green, blue) each is a percentage, 0 to 100; in
 system 1 the hue goes to 360, lightness and saturation to 100.
 
 Terminals: one takes the nearest value in range, another ignores the definition.
+In another colour system the definition gives no colour, and that of the
+register before it differs between terminals.
 
 Smallest string: ESC P q #0;2;255;0;0 ESC \\
 Answer of check: broken ColourValue 3
 
-Mend it: write percentages, and not 0 to 255.
+Mend it: write system 2 and percentages, and not 0 to 255.
 ";
 
 const REPEAT_ZERO: &str = "RepeatZero: a repeat of 0

@@ -1,5 +1,5 @@
 use crate::fault::RunFault;
-use crate::lines::{write_fault, write_finding};
+use crate::lines::{finding_line, write_fault};
 use sixel_check::{Finding, Rule};
 use sixel_grammar::{DeviceFault, Fault, Reason, SliceSink};
 use sixel_picture::PpmReason;
@@ -28,9 +28,7 @@ fn says(fault: RunFault, line: &str) -> bool {
 
 /// Whether this is the line of the finding.
 fn finds(finding: &Finding, line: &str) -> bool {
-    let mut room = [0; 96];
-    let mut out = SliceSink::new(&mut room, 96, None);
-    write_finding(finding, &mut out) == Ok(()) && out.written() == line.as_bytes()
+    finding_line(finding).as_slice() == line.as_bytes()
 }
 
 #[test]

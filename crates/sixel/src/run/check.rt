@@ -1,10 +1,11 @@
 //! Checks a sixel picture, and writes the verdict.
 
-ghost use Rattle.std.specs.Prelude.{◌≡◌, Err, IfSome};
+ghost use Rattle.std.specs.Prelude.{◌≡◌, ◌≢◌, [], Err, IfSome, Some};
 ghost use Rattle.sixel_picture.specs.Profiles.{count_of};
 ghost use Rattle.sixel_check.specs.Growth.{MayGrowIn};
 ghost use Rattle.sixel.specs.declared.fault.RunFault.TheVariants.{Read};
-ghost use Rattle.sixel.specs.Outputs.{CheckGives, CountsWrites, WroteBy, WroteNothing, failures_by, status_of};
+ghost use Rattle.sixel.specs.Outputs.{CheckGives, CountsWrites, WroteBy, WroteNothing, answer_of, failures_by, line_of};
+ghost use Rattle.sixel.specs.Outputs.{status_of};
 
 use crate::fault::RunFault;
 use crate::lines::write_verdict;
@@ -34,8 +35,21 @@ pub fn check<S: Source, K: Sink>(
     }
 }
 
+/// Reads the whole input, and answers with the verdict, whose line isn't written.
+pub fn judge<S: Source>(alloc: Global, profile: Profile, input: &mut S) -> Result<Verdict, RunFault>
+    ensures judged { IfSome (S.remaining input.old) (λ bytes.
+        WroteBy (CheckGives (count_of profile) bytes) WroteNothing
+        (answer_of result) (Some []) (Some (line_of result))) }
+    ensures memory { answer_of result ≡ Err RunFault.OutOfMemory →
+        IfSome (S.remaining input.old) (MayGrowIn (count_of profile)) }
+    ensures reads { S.failure_count input.new ≡ failures_by Read (answer_of result) (S.failure_count input.old) }
+    ensures unwritten { answer_of result ≢ Err RunFault.Write }
+{
+    Ok(sixel_check::check(alloc, profile, input)?)
+}
+
 /// What comes of a verdict.
-fn status_of(verdict: &Verdict) -> Status
+pub fn status_of(verdict: &Verdict) -> Status
     ensures { result ≡ status_of verdict.now }
 {
     match verdict {

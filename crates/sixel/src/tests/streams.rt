@@ -5,6 +5,7 @@ ghost use Rattle.sixel.specs.Outputs.{HasSides};
 use crate::exit::{Exit, tell};
 use crate::explanations::Topic;
 use crate::task::Task;
+use crate::tests::{NO_FILES, plain};
 use crate::words::{WordsFault, parse_words};
 use crate::{execute, task_in};
 use sixel_grammar::ToWrite;
@@ -28,9 +29,10 @@ const ENCODE: Task = Task::Encode {
 
 /// A stream that takes so many bytes, one a call, and then fails.
 #[derive(Drop)]
-struct Narrow<'a> {
-    written: &'a mut Vec<u8>,
-    room: usize,
+pub struct Narrow<'a> {
+    pub written: &'a mut Vec<u8>,
+    pub room: usize,
+    pub is_flushable: bool,
 }
 
 impl Write for Narrow<'_> {
@@ -47,7 +49,11 @@ impl Write for Narrow<'_> {
     }
 
     fn flush(&mut self) -> io::Result<()> {
-        Ok(())
+        if self.is_flushable {
+            Ok(())
+        } else {
+            Err(Error::other("broken"))
+        }
     }
 }
 
@@ -73,8 +79,18 @@ fn ends_in(
     let errors = Narrow {
         written: &mut said,
         room,
+        is_flushable: true,
     };
-    let ended = execute(alloc, task, bytes, &mut output, errors);
+    let request = plain(alloc, task);
+    let ended = execute(
+        alloc,
+        &request,
+        &NO_FILES,
+        false,
+        bytes,
+        &mut output,
+        errors,
+    );
     ended == exit && output.as_slice() == text && fills(said.as_slice(), line, room)
 }
 
@@ -203,13 +219,16 @@ fn refuses_with(alloc: Global, room: usize, line: &[u8]) -> bool {
     let output = Narrow {
         written: &mut written,
         room: 5,
+        is_flushable: true,
     };
     let errors = Narrow {
         written: &mut said,
         room,
+        is_flushable: true,
     };
     let bytes = b"\x1bPq\"1;1;1;1#0;2;0;0;0#0@\x1b\\".as_slice();
-    let ended = execute(alloc, CHECK, bytes, output, errors);
+    let request = plain(alloc, CHECK);
+    let ended = execute(alloc, &request, &NO_FILES, false, bytes, output, errors);
     ended == Exit::Refused && written.as_slice() == b"porta".as_slice() && said.as_slice() == line
 }
 
@@ -235,10 +254,12 @@ fn explains_so(
     let mut output = ToWrite::new(Narrow {
         written: &mut written,
         room,
+        is_flushable: true,
     });
     let mut errors = ToWrite::new(Narrow {
         written: &mut said,
         room,
+        is_flushable: true,
     });
     let ended = tell(alloc, fault, &mut output, &mut errors);
     ended == exit
@@ -269,10 +290,21 @@ fn unread(alloc: Global, reason: ErrorKind) -> Result<WordsFault, Fail> {
 
 const HELP: &str = "Lists what the picture says, a line for each command
 
-Usage: sixel list
+Usage: sixel list [FILE]
+
+Arguments:
+  [FILE]  The file to read in place of standard input; `-` is that
 
 Options:
   -h, --help  Print help
+
+Reads sixel text from FILE, or without one from standard input. Writes a line
+for the start, for each command and for the end to standard output: its place in
+bytes, what it is, its numbers. What comes before a fault is listed too.
+
+Exit status: 0 done, 2 refused, 3 wrong words.
+
+Example: sixel list plot.six
 ";
 
 const UNKNOWN: &str = "error: unrecognized subcommand 'view'
@@ -292,7 +324,7 @@ For more information, try '--help'.
 /// Help goes to standard output, and all else to standard error. Where it can't be written the exit status stays.
 #[test]
 fn words_are_explained_as_far_as_there_is_room(rt: HostRuntime) -> Result<(), Fail> {
-    for room in [0, 1, 20, 512] {
+    for room in [0, 1, 20, 1024] {
         let help = fault_of(rt.alloc(), &["list", "--help"])?;
         assert!(rt; explains_so(rt.alloc(), help, room, Exit::Done, HELP, ""));
         let unknown = fault_of(rt.alloc(), &["view"])?;

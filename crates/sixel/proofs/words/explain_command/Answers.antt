@@ -11,8 +11,8 @@ named r = record r { value_names = 1 }
 
 pub returns-clause-app : goal.returns-clause-app
 returns-clause-app c =
-    let about : app_of c.about.result ≡ new_app (codes "explain") = ap app_of_fields c.about.ensures
-    ∙ c.new.ensures.app in
+    let about : app_of c.after_help.result ≡ new_app (codes "explain") =
+    ap app_of_fields c.after_help.ensures ∙ ap app_of_fields c.about.ensures ∙ c.new.ensures.app in
     let local : c.help.result.global ≡ false =
     rw (c.help.ensures, c.value_name.ensures) c.new-2.ensures.optional.1 in
     let rule : rule_of c.help.result ≡ named (new_rule (codes "name")) =
@@ -21,8 +21,8 @@ returns-clause-app c =
 
 pub returns-clause-local : goal.returns-clause-local
 returns-clause-local c =
-    let about : (fields_of c.about.result).has_globals ≡ false =
-    ap (λ f. f.has_globals) c.about.ensures ∙ c.new.ensures.local in
+    let about : (fields_of c.after_help.result).has_globals ≡ false =
+    ap (λ f. f.has_globals) c.after_help.ensures ∙ ap (λ f. f.has_globals) c.about.ensures ∙ c.new.ensures.local in
     let local : c.help.result.global ≡ false =
     rw (c.help.ensures, c.value_name.ensures) c.new-2.ensures.optional.1 in
     IfOk-weaker c.arg.result _ _ (λ r h. neither _ _ _ h.globals about local) c.arg.ensures

@@ -1,6 +1,7 @@
 use Rattle.std.proofs.Common.{◌≡◌, ◌∙◌, ap, refl, sym, map}
 use Rattle.std.specs.Prelude.{option_map}
 use Rattle.std.specs.String.{string_bytes}
+use Rattle.std.proofs.lemmas.Result.{IfErr-weaker, IfOk-weaker}
 use Rattle.clap.specs.Walk.{rows_of}
 use Rattle.clap.specs.Matches.{found_of}
 use Rattle.clap.specs.Takes.{takes}
@@ -8,11 +9,11 @@ use Rattle.clap.specs.Simple.{App, app_of, is_simple, subcommand_of, subcommand_
 use Rattle.sixel.specs.Words.{sixel_app}
 use Rattle.sixel.specs.Explanations.{topic_name}
 use Rattle.sixel.proofs.ExplainLemmas.{asked_by, same_wish, unasked}
-use Rattle.sixel.proofs.MatchLemmas.{both_parts, name_rows, same_task}
+use Rattle.sixel.proofs.MatchLemmas.{both_parts, name_rows, request_is, same_task}
 use Rattle.sixel.proofs.words.parse_words.Goals as goal
 
-pub returns-in-Some-task_of-clause-task : goal.returns-in-Some-task_of-clause-task
-returns-in-Some-task_of-clause-task c =
+pub returns-in-Some-task_of-clause-request : goal.returns-in-Some-task_of-clause-request
+returns-in-Some-task_of-clause-request c =
     let words = map string_bytes c.args.words.now in
     let m = c.in-Ok-try_get_matches_from.matches in
     let h = c.in-Ok-try_get_matches_from.ensures.matches (ap is_simple c.in-Ok.ensures) in
@@ -20,7 +21,14 @@ returns-in-Some-task_of-clause-task c =
     c.in-Ok.ensures in
     let met = both_parts (subcommand_rows_of m) c.in-Some.name.now (rows_of (found_of c.in-Some.found.now))
     (name_rows _ ∙ sym c.in-Some.ensures.name) (sym c.in-Some.ensures.rows) in
-    (c.in-Some.name.now, rows_of (found_of c.in-Some.found.now), sym sub ∙ met, c.in-Some-task_of.ensures.task)
+    request_is (subcommand_of sixel_app words) c.in-Some.name.now (rows_of (found_of c.in-Some.found.now))
+    c.in-Some-task_of.task c.request_of.result (sym sub ∙ met) c.in-Some-task_of.ensures.task
+    c.request_of.ensures.task c.request_of.ensures.quiet c.request_of.ensures.files
+
+pub returns-in-Some-task_of-clause-task : goal.returns-in-Some-task_of-clause-task
+returns-in-Some-task_of-clause-task c =
+    IfOk-weaker c.request_of.result _ _ (λ asked is. (is.0, is.1, is.2, is.3))
+    (returns-in-Some-task_of-clause-request c)
 
 pub returns-in-Err-try_get_matches_from-clause-accepted :
     goal.returns-in-Err-try_get_matches_from-clause-accepted
@@ -42,6 +50,14 @@ returns-in-Some-clause-accepted c = λ taken t is.
     absurd (c.in-None-task_of.ensures.none refl t
     (same_task (subcommand_of sixel_app words) is.0 c.in-Some.name.now is.1 (rows_of (found_of c.in-Some.found.now)) t
     is.2 (sym sub ∙ met) is.3))
+
+pub returns-in-Some-task_of-clause-accepted : goal.returns-in-Some-task_of-clause-accepted
+returns-in-Some-task_of-clause-accepted c =
+    IfErr-weaker c.request_of.result _ _ (λ fault is taken t given. is) c.request_of.ensures.memory
+
+pub returns-in-Some-task_of-clause-explained : goal.returns-in-Some-task_of-clause-explained
+returns-in-Some-task_of-clause-explained c =
+    IfErr-weaker c.request_of.result _ _ (λ fault is taken topic asks. rw is tt) c.request_of.ensures.memory
 
 pub returns-in-Err-try_get_matches_from-clause-asked : goal.returns-in-Err-try_get_matches_from-clause-asked
 returns-in-Err-try_get_matches_from-clause-asked c =

@@ -24,9 +24,13 @@ four = with_rule three (side (codes "width") (codes "800"))
 abbrev five : App
 five = with_rule four (side (codes "height") (codes "480"))
 
+abbrev six : App
+six = with_rule five (flag (codes "box"))
+
 pub returns-clause-app : goal.returns-clause-app
 returns-clause-app c =
-    let about : app_of c.about.result ≡ new_app (codes "show") = ap app_of_fields c.about.ensures ∙ c.new.ensures.app in
+    let about : app_of c.after_help.result ≡ new_app (codes "show") =
+    ap app_of_fields (c.after_help.ensures) ∙ ap app_of_fields c.about.ensures ∙ c.new.ensures.app in
     let a0 : app_of c.in_ok-arg.field-0 ≡ zero =
     c.in_ok-arg.ensures.shape c.wide_arg.ensures.local ∙ ap₂ with_rule about c.wide_arg.ensures.rule in
     let a1 : app_of c.in_ok-arg-2.field-0 ≡ one =
@@ -39,14 +43,15 @@ returns-clause-app c =
     c.in_ok-arg-5.ensures.shape c.side_arg.ensures.local ∙ ap₂ with_rule a3 c.side_arg.ensures.rule in
     let a5 : app_of c.in_ok-arg-6.field-0 ≡ five =
     c.in_ok-arg-6.ensures.shape c.side_arg-2.ensures.local ∙ ap₂ with_rule a4 c.side_arg-2.ensures.rule in
-    IfOk-weaker c.arg-7.result _ _
-    (λ r h. h.shape c.flag_arg-4.ensures.local
-    ∙ ap₂ with_rule a5 c.flag_arg-4.ensures.rule) c.arg-7.ensures
+    let a6 : app_of c.in_ok-arg-7.field-0 ≡ six =
+    c.in_ok-arg-7.ensures.shape c.flag_arg-4.ensures.local ∙ ap₂ with_rule a5 c.flag_arg-4.ensures.rule in
+    IfOk-weaker c.arg-8.result _ _
+    (λ r h. h.shape c.file_arg.ensures.local ∙ ap₂ with_rule a6 c.file_arg.ensures.rule) c.arg-8.ensures
 
 pub returns-clause-local : goal.returns-clause-local
 returns-clause-local c =
-    let about : (fields_of c.about.result).has_globals ≡ false =
-    ap (λ f. f.has_globals) c.about.ensures ∙ c.new.ensures.local in
+    let about : (fields_of c.after_help.result).has_globals ≡ false =
+    ap (λ f. f.has_globals) c.after_help.ensures ∙ ap (λ f. f.has_globals) c.about.ensures ∙ c.new.ensures.local in
     let g0 : (fields_of c.in_ok-arg.field-0).has_globals ≡ false =
     neither _ _ _ c.in_ok-arg.ensures.globals about c.wide_arg.ensures.local in
     let g1 : (fields_of c.in_ok-arg-2.field-0).has_globals ≡ false =
@@ -59,4 +64,6 @@ returns-clause-local c =
     neither _ _ _ c.in_ok-arg-5.ensures.globals g3 c.side_arg.ensures.local in
     let g5 : (fields_of c.in_ok-arg-6.field-0).has_globals ≡ false =
     neither _ _ _ c.in_ok-arg-6.ensures.globals g4 c.side_arg-2.ensures.local in
-    IfOk-weaker c.arg-7.result _ _ (λ r h. neither _ _ _ h.globals g5 c.flag_arg-4.ensures.local) c.arg-7.ensures
+    let g6 : (fields_of c.in_ok-arg-7.field-0).has_globals ≡ false =
+    neither _ _ _ c.in_ok-arg-7.ensures.globals g5 c.flag_arg-4.ensures.local in
+    IfOk-weaker c.arg-8.result _ _ (λ r h. neither _ _ _ h.globals g6 c.file_arg.ensures.local) c.arg-8.ensures

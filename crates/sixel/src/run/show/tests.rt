@@ -101,8 +101,8 @@ fn selects_by_a_definition_or_not(rt: HostRuntime) {
     assert!(rt; shows_with(rt.alloc(), selects, 1, bytes, red, Ok(Status::Done)));
 }
 
-/// Two columns are painted where a box of one is declared, by a string with controls of 8 bits: the terminal takes these,
-/// and doesn't clip.
+/// Two columns are painted where a box of one is declared, by a string with controls of 8 bits: the terminal takes
+/// these, and doesn't clip.
 #[test]
 fn takes_eight_bits_and_clips_nothing(rt: HostRuntime) {
     let bytes = b"\x90q\"1;1;1;1#0;2;0;0;0#0!2@\x9c";

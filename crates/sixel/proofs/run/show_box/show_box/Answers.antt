@@ -48,5 +48,6 @@ returns-clause-wrote g c =
     ∙ sym c.declared_screen.ensures.value ∙ c.in-Some.is)
     (λ bytes doc.
     chosen profile choices
-    (show_choices c.args.showing c.args.fill c.args.selects c.in-Some.width c.in-Some.height) bytes c.write_screen.result had has c.show_choices-choices.ensures
+    (show_choices c.args.showing c.args.fill c.args.selects c.in-Some.width c.in-Some.height) bytes
+    c.write_screen.result had has c.show_choices-choices.ensures
     (c.write_screen.ensures.wrote profile events bytes doc shown))

@@ -1,0 +1,431 @@
+-- On checks of several files.
+use Rattle.std.proofs.Common.{◌≡◌, ◌∙◌, ◌+◌, ◌-◌, ◌^◌, ◌<◌, ℕ, Bool, true, false, List, [], ◌∷◌, ◌++◌, length, take}
+use Rattle.std.proofs.Common.{drop, Option, Some, None, refl, sym, ap, ap₂, subst, arith, inl, inr, flat_map, fold, map}
+use Rattle.std.specs.Prelude.{◌≢◌, Result, Ok, Err, IfSome, String, string_bytes, if◌then◌else◌}
+use Rattle.std.specs.Global.{Global}
+use Rattle.std.specs.Fmt.{option_append}
+use Rattle.std.specs.Result.{IsErrAnd}
+use Rattle.std.specs.Io.KnownBytes.{Appends, Consumes, Keeps}
+use Rattle.std.proofs.lemmas.Bool.{cases_lt}
+use Rattle.std.proofs.Common.{get_or}
+use Rattle.std.proofs.lemmas.List.{append-nil, take-append-drop, take_more}
+use Rattle.std.proofs.lemmas.List.Elements.{All-push}
+use Rattle.std.proofs.lemmas.Grind.{flat_map-append}
+use Rattle.std.proofs.lemmas.List.{map-append}
+use Rattle.std.proofs.lemmas.List.Sums.{fold_push}
+use Rattle.sixel_grammar.specs.Devices.{Puts, one_more}
+use Rattle.std.proofs.Math.Seq.{take-length}
+use Rattle.sixel_grammar.proofs.SinkLemmas.{Appends-keeps, Appends-none, puts-then}
+use Rattle.sixel_grammar.proofs.DeviceLemmas.{Appends-then}
+use Rattle.sixel_picture.specs.declared.profile.Profile.{Profile}
+use Rattle.sixel.specs.declared.exit.Exit.{Exit}
+use Rattle.sixel.specs.declared.exit.Exit.TheVariants as exit
+use Rattle.sixel.specs.declared.fault.RunFault.{RunFault}
+use Rattle.sixel.specs.declared.fault.RunFault.TheVariants as run
+use Rattle.sixel.specs.declared.task.Status.{Status}
+use Rattle.sixel.specs.declared.task.Status.TheVariants as status
+use Rattle.sixel.specs.declared.task.Task.{Task}
+use Rattle.sixel.specs.declared.task.Task.TheVariants as task
+use Rattle.sixel.specs.declared.task.Task.TheVariants.{Check}
+use Rattle.sixel.specs.Exits.{IsPut, complaint, exit_for_answer}
+use Rattle.sixel.specs.Files.{AreChecked, AreCut, FileEnd, HasFailed, IsChecked, IsFileEnd, IsFront, IsSaid, NamedEnds}
+use Rattle.sixel.specs.Files.{FileEnds, FilesEnd, RequestEnds, Tells, is_dash, complaint_of, exit_of_end}
+use Rattle.sixel.specs.Files.{files_complaint, files_exit, files_text, greatest, left_after, named_complaint, names_of}
+use Rattle.sixel.specs.Files.{text_of, told_of, worse}
+use Rattle.sixel.specs.Outputs.{Gives, TakesMemory, Wrote}
+use Rattle.sixel.specs.Texts.{Text, fault_line, fault_parts}
+use Rattle.sixel_check.specs.declared.verdict.Finding.{Finding}
+use Rattle.sixel.proofs.EndLemmas.{broken_gives, chained, done_gives}
+
+-- ---- what is said of one file
+
+pub said_none : (name : Text) (profile : Profile) (status : Status)
+    → named_complaint name (Check profile) (Ok status) ≡ []
+said_none name profile status.Done = refl
+said_none name profile (status.Broken finding) = refl
+
+-- of standard input too
+pub unsaid : (profile : Profile) (status : Status) → complaint (Check profile) (Ok status) ≡ []
+unsaid profile status.Done = refl
+unsaid profile (status.Broken finding) = refl
+
+-- a count of failures that rose, or stands at its end
+one_more_failed : (a : ℕ) → HasFailed (a, one_more a)
+one_more_failed a = elim (cases_lt (a + 1) (2 ^ 64 - 1)) [
+  | inl below ↦ inl (omega arith)
+  | inr past ↦ inr (omega arith)
+]
+
+failed_more : (a b : ℕ) → HasFailed (a, b) → HasFailed (a, one_more b)
+failed_more a b (inl rose) = elim (cases_lt (b + 1) (2 ^ 64 - 1)) [
+  | inl below ↦ inl (omega (arith, rose))
+  | inr past ↦ inr (omega arith)
+]
+failed_more a b (inr end) = inr (omega (arith, end))
+
+pub said_more : (first more : Text) (e₀ e₁ e₂ : Option (List ℕ)) (c₀ c₁ c₂ : ℕ) → IsSaid first (e₀, e₁) (c₀, c₁)
+    → IsPut more (e₁, e₂) (c₁, c₂) → IsSaid (first ++ more) (e₀, e₂) (c₀, c₂)
+said_more first more e₀ e₁ e₂ c₀ c₁ c₂ (inl said) (inl put) =
+    inl (Appends-then e₀ e₁ e₂ first more (first ++ more) said.0 put.0 refl, put.1 ∙ said.1)
+said_more first more e₀ e₁ e₂ c₀ c₁ c₂ (inl said) (inr cut) =
+    inr (subst (λ (n : ℕ). HasFailed (c₀, n)) (ap one_more (sym said.1) ∙ sym cut.2) (one_more_failed c₀))
+said_more first more e₀ e₁ e₂ c₀ c₁ c₂ (inr failed) (inl put) =
+    inr (subst (λ (n : ℕ). HasFailed (c₀, n)) (sym put.1) failed)
+said_more first more e₀ e₁ e₂ c₀ c₁ c₂ (inr failed) (inr cut) =
+    inr (subst (λ (n : ℕ). HasFailed (c₀, n)) (sym cut.2) (failed_more c₀ c₁ failed))
+
+-- ---- one file more
+
+pub none_checked : (profile : Profile) (q : Bool) (contents : Text → Option (List ℕ)) (i o e : Option (List ℕ))
+    (w c : ℕ)
+    → AreChecked profile q contents [] [] exit.Done (i, i) (o, o) (w, w) (e, e) (c, c)
+unfolding Tells
+none_checked profile q contents i o e w c = record {
+  names_are = refl;
+  each = λ i e short. let no : ⊥ = omega (arith, short) in absurd no;
+  tells = refl;
+  exits = refl;
+  lines = Appends-none o;
+  unfailed = refl;
+  said = inl (Appends-none e, refl);
+}
+
+-- the names of the files so far, with one more
+pub more_names : (names : List (String Global)) (i : ℕ) (item : String Global) (name : Text) → i < length names
+    → item ≡ get_or names i item → name ≡ string_bytes item
+    → map string_bytes (take (i + 1) names) ≡ map string_bytes (take i names) ++ name ∷ []
+more_names names i item name short is named =
+    ap (map string_bytes) (take_more names i item short ∙ ap (λ (s : String Global). take i names ++ s ∷ []) (sym is))
+    ∙ map-append string_bytes (take i names) (item ∷ [])
+    ∙ ap (λ (t : Text). map string_bytes (take i names) ++ t ∷ []) (sym named)
+
+-- and those after it
+pub all_names : (names : List (String Global)) (i : ℕ) (item : String Global) (name : Text) → i < length names
+    → item ≡ get_or names i item → name ≡ string_bytes item
+    → map string_bytes names
+    ≡ (map string_bytes (take i names) ++ name ∷ []) ++ map string_bytes (drop (i + 1) names)
+all_names names i item name short is named =
+    ap (map string_bytes) (sym (take-append-drop (i + 1) names))
+    ∙ map-append string_bytes (take (i + 1) names) (drop (i + 1) names)
+    ∙ ap (λ (ts : List Text). ts ++ map string_bytes (drop (i + 1) names)) (more_names names i item name short is named)
+
+pub tells_more : (contents : Text → Option (List ℕ)) (a b c : Option (List ℕ)) (ends : List FileEnd) (e : FileEnd)
+    → Tells contents a ends b → e.told ≡ told_of contents b e.name → c ≡ left_after b e.name e.left
+    → Tells contents a (ends ++ e ∷ []) c
+unfolding Tells
+tells_more contents a b c [] e tells told left = (
+  subst (λ (o : Option (List ℕ)). e.told ≡ told_of contents o e.name) tells told,
+  subst (λ (o : Option (List ℕ)). c ≡ left_after o e.name e.left) tells left,
+)
+tells_more contents a b c (x ∷ ends) e tells told left =
+    (tells.0, tells_more contents (left_after a x.name x.left) b c ends e tells.1 told left)
+
+text_more : (f : FileEnd → Text) (ends : List FileEnd) (e : FileEnd)
+    → flat_map f (ends ++ e ∷ []) ≡ flat_map f ends ++ f e
+text_more f ends e =
+    flat_map-append f ends (e ∷ []) ∙ ap (λ (t : Text). flat_map f ends ++ t) (append-nil (f e))
+
+exits_more : (ends : List FileEnd) (e : FileEnd) → files_exit (ends ++ e ∷ []) ≡ worse (files_exit ends) (exit_of_end e)
+exits_more ends e =
+    ap greatest (map-append exit_of_end ends (e ∷ []))
+    ∙ fold_push worse exit.Done (map exit_of_end ends) (exit_of_end e)
+
+names_more : (ends : List FileEnd) (e : FileEnd) → names_of (ends ++ e ∷ []) ≡ names_of ends ++ e.name ∷ []
+names_more ends e = map-append (λ e. e.name) ends (e ∷ [])
+
+module _ (profile : Profile) (q : Bool) (contents : Text → Option (List ℕ)) (ends : List FileEnd) (names : List Text)
+    (name : Text) (x : Exit) (i₀ i₁ o₀ o₁ e₀ e₁ : Option (List ℕ)) (w₀ w₁ c₀ c₁ : ℕ)
+    (before : AreChecked profile q contents ends names x (i₀, i₁) (o₀, o₁) (w₀, w₁) (e₀, e₁) (c₀, c₁)) where
+  pub checked_more : {E : Type 0} (y : Exit) (i₂ o₂ e₂ : Option (List ℕ)) (w₂ c₂ : ℕ)
+      → IsChecked {E = E} profile q contents name (Ok y) (i₁, i₂) (o₁, o₂) (w₁, w₂) (e₁, e₂) (c₁, c₂)
+      → (all : List FileEnd) × AreChecked profile q contents all (names ++ name ∷ []) (worse x y) (i₀, i₂) (o₀, o₂)
+      (w₀, w₂) (e₀, e₂) (c₀, c₂)
+  checked_more y i₂ o₂ e₂ w₂ c₂ one = (
+    ends ++ one.e ∷ [],
+    record {
+      names_are = ap₂ (λ (ns : List Text) (n : Text). ns ++ n ∷ []) before.names_are (sym one.name_is)
+          ∙ sym (names_more ends one.e);
+      each = All-push (IsFileEnd profile) ends one.e before.each one.is_end;
+      tells = tells_more contents i₀ i₁ i₂ ends one.e before.tells
+          (rw one.name_is one.told) (rw one.name_is one.left);
+      exits = ap₂ worse before.exits one.outcome.0 ∙ sym (exits_more ends one.e);
+      lines = Appends-then o₀ o₁ o₂ (files_text q ends) (text_of q one.e) _ before.lines
+          (rw one.name_is one.outcome.1) (text_more (text_of q) ends one.e);
+      unfailed = one.outcome.2 ∙ before.unfailed;
+      said = subst (λ (t : Text). IsSaid t (e₀, e₂) (c₀, c₂)) (sym (text_more (complaint_of profile) ends one.e))
+          (said_more _ _ e₀ e₁ e₂ c₀ c₁ c₂ before.said (rw one.name_is one.outcome.3));
+    },
+  )
+
+  pub cut_after : {E : Type 0} (f : E) (all rest : List Text) (i₂ o₂ e₂ e₃ : Option (List ℕ)) (w₂ c₂ c₃ : ℕ)
+      → all ≡ (names ++ name ∷ []) ++ rest
+      → IsChecked {E = E} profile q contents name (Err f) (i₁, i₂) (o₁, o₂) (w₁, w₂) (e₁, e₂) (c₁, c₂)
+      → IsPut (fault_line run.Write) (e₂, e₃) (c₂, c₃)
+      → AreCut profile q contents all exit.Refused (i₀, i₂) (o₀, o₂) (w₀, w₂) (e₀, e₃) (c₀, c₃)
+  cut_after f all rest i₂ o₂ e₂ e₃ w₂ c₂ c₃ is one put =
+      let text : Text = files_text q ends ++ text_of q one.e in
+      let cut = puts-then {A = Unit {0}} (Err f) o₀ o₁ o₂ (files_text q ends) (text_of q one.e) before.lines
+      (rw one.name_is one.outcome.0) in
+      let none : files_complaint profile (ends ++ one.e ∷ []) ≡ files_complaint profile ends =
+      text_more (complaint_of profile) ends one.e
+      ∙ ap (λ (t : Text). files_complaint profile ends ++ t) (rw one.name_is one.outcome.3)
+      ∙ append-nil (files_complaint profile ends) in
+      record {
+        ends = ends ++ one.e ∷ [];
+        rest = rest;
+        count = cut.0;
+        wanted = one.outcome.1;
+        names_are = is ∙ ap (λ (ns : List Text). ns ++ rest)
+            (ap₂ (λ (ns : List Text) (n : Text). ns ++ n ∷ []) before.names_are (sym one.name_is)
+            ∙ sym (names_more ends one.e));
+        each = All-push (IsFileEnd profile) ends one.e before.each one.is_end;
+        tells = tells_more contents i₀ i₁ i₂ ends one.e before.tells
+            (rw one.name_is one.told) (rw one.name_is one.left);
+        exits = refl;
+        lines = subst (λ (t : Text). Appends o₀ o₂ (take cut.0 t)) (sym (text_more (text_of q) ends one.e)) cut.1;
+        failed = one.outcome.2 ∙ ap one_more before.unfailed;
+        said = rw none
+            (said_more (files_complaint profile ends) (fault_line run.Write) e₀ e₁ e₃ c₀ c₁ c₃ before.said
+            (subst (λ (o : Option (List ℕ)). IsPut (fault_line run.Write) (o, e₃) (c₁, c₃)) one.outcome.4
+            (subst (λ (n : ℕ). IsPut (fault_line run.Write) (e₂, e₃) (n, c₃)) one.outcome.5 put)));
+      }
+
+-- ---- one file
+
+-- a call that failed put a front
+pub puts_failed : {A E : Type 0} (Q : E → Type 0) (r : Result A E) (a b : Option (List ℕ)) (text : Text) → IsErrAnd r Q
+    → ((n : ℕ) × Appends a b (take n text)) → Puts r a b text
+puts_failed Q (Ok x) a b text failed front = absurd failed
+puts_failed Q (Err f) a b text failed front = front
+
+-- some bytes were put, and then a front of others
+pub cut_then : (a b c : Option (List ℕ)) (xs ys : List ℕ) → Appends a b xs → ((n : ℕ) × Appends b c (take n ys))
+    → (n : ℕ) × Appends a c (take n (xs ++ ys))
+cut_then a b c xs ys put cut = puts-then {A = Unit {0}} {E = Unit {0}} (Err (tt {0})) a b c xs ys put cut
+
+-- the bytes that were read are a front
+pub front_consumed : (told rest : Option (List ℕ)) (front : List ℕ) → Consumes told rest front → IsFront told front
+front_consumed None rest front consumed = tt
+front_consumed (Some bytes) None front consumed = absurd consumed
+front_consumed (Some bytes) (Some rest) front consumed = (rest, consumed)
+
+pub no_front : (told : Option (List ℕ)) → IsFront told []
+no_front None = tt
+no_front (Some bytes) = (bytes, refl)
+
+memory_chained : (t : Task) (told rest : Option (List ℕ)) (front : List ℕ) → Consumes told rest front
+    → TakesMemory t (option_append (Some front) rest) → TakesMemory t told
+memory_chained task.List told rest front consumed takes = absurd takes
+memory_chained (task.Check profile) told rest front consumed takes = chained _ told rest front consumed takes
+memory_chained (task.Render profile) told rest front consumed takes = chained _ told rest front consumed takes
+memory_chained (task.Encode profile) told rest front consumed takes = chained _ told rest front consumed takes
+memory_chained (task.Show profile showing fill selects width height) told rest front consumed takes = tt
+memory_chained (task.ShowBox profile showing fill selects) told rest front consumed takes = tt
+
+-- a run over the bytes that were read and the rest is one over all of them
+pub named_chained : (t : Task) (name : Text) (front : List ℕ) (x : Exit) (told rest left : Option (List ℕ))
+    (o : Option (List ℕ) × Option (List ℕ)) (w : ℕ × ℕ) (f : Bool) (e : Option (List ℕ) × Option (List ℕ)) (c : ℕ × ℕ)
+    → Consumes told rest front → NamedEnds t name front x (option_append (Some front) rest, left) o w f e c
+    → NamedEnds t name front x (told, left) o w f e c
+named_chained t name front x told rest left o w f e c consumed ended = record {
+  answer = ended.answer;
+  wrote = elim ended.wrote [
+    | inl unread ↦ inl unread
+    | inr wrote ↦ inr (
+      chained (λ (bytes : List ℕ). Wrote t bytes left ended.answer o.0 o.1) told rest front consumed wrote.0,
+      wrote.1,
+    )
+  ];
+  memory = λ is. memory_chained t told rest front consumed (ended.memory is);
+  written = ended.written;
+  ends = ended.ends;
+  said = ended.said;
+}
+
+-- a file that couldn't be opened
+pub unopened : (profile : Profile) (name : Text) (told : Option (List ℕ)) → IsFileEnd profile (record {
+  name = name;
+  told = told;
+  left = None;
+  line = [];
+  answer = Err run.Read;
+})
+unopened profile name None = record { wrote = tt; memory = λ is. cc; written = λ is. cc }
+unopened profile name (Some bytes) = record { wrote = refl; memory = λ is. cc; written = λ is. cc }
+
+-- behind the name
+pub named_tail : (fault : RunFault)
+    → drop 6 (fault_line fault) ≡ flat_map (λ part. 32 ∷ part) (fault_parts fault) ++ 10 ∷ []
+named_tail fault = refl
+
+-- ---- when all files are checked
+
+module _ (profile : Profile) (q : Bool) (contents : Text → Option (List ℕ)) (ends : List FileEnd) (names : List Text)
+    (x : Exit) (i₀ i₁ o₀ o₁ o₂ e₀ e₁ : Option (List ℕ)) (w₀ w₁ w₂ c₀ c₁ : ℕ)
+    (before : AreChecked profile q contents ends names x (i₀, i₁) (o₀, o₁) (w₀, w₁) (e₀, e₁) (c₀, c₁)) where
+  pub checked_flushed : Keeps o₁ o₂ → w₂ ≡ w₁
+      → AreChecked profile q contents ends names x (i₀, i₁) (o₀, o₂) (w₀, w₂) (e₀, e₁) (c₀, c₁)
+  checked_flushed kept same = record {
+    names_are = before.names_are;
+    each = before.each;
+    tells = before.tells;
+    exits = before.exits;
+    lines = Appends-keeps o₀ o₁ o₂ (files_text q ends) before.lines kept;
+    unfailed = same ∙ before.unfailed;
+    said = before.said;
+  }
+
+  pub cut_at_flush : (e₂ : Option (List ℕ)) (c₂ : ℕ) → q ≡ false → Keeps o₁ o₂ → w₂ ≡ one_more w₁
+      → IsPut (fault_line run.Write) (e₁, e₂) (c₁, c₂)
+      → AreCut profile q contents names exit.Refused (i₀, i₁) (o₀, o₂) (w₀, w₂) (e₀, e₂) (c₀, c₂)
+  cut_at_flush e₂ c₂ wanted kept failed put =
+      let text : Text = files_text q ends in
+      record {
+        ends = ends;
+        rest = [];
+        count = length text;
+        wanted = wanted;
+        names_are = before.names_are ∙ sym (append-nil (names_of ends));
+        each = before.each;
+        tells = before.tells;
+        exits = refl;
+        lines = subst (λ (t : Text). Appends o₀ o₂ t) (sym (take-length text))
+            (Appends-keeps o₀ o₁ o₂ text before.lines kept);
+        failed = failed ∙ ap one_more before.unfailed;
+        said = said_more (files_complaint profile ends) (fault_line run.Write) e₀ e₁ e₂ c₀ c₁ c₂ before.said put;
+      }
+
+-- ---- a task over a file
+
+module _ (t : Task) (contents : Text → Option (List ℕ)) (name : Text) (given : List ℕ)
+    (o : Option (List ℕ) × Option (List ℕ))
+    (w : ℕ × ℕ) (f : Bool) (e : Option (List ℕ) × Option (List ℕ)) (c : ℕ × ℕ) where
+  pub dash_ends : (x : Exit) (i₀ i₁ : Option (List ℕ)) → is_dash name ≡ true
+      → NamedEnds t name given x (i₀, i₁) o w f e c → FileEnds t contents name given x (i₀, i₁) o w f e c
+  dash_ends x i₀ i₁ dash ended = record {
+    front = given;
+    left = i₁;
+    given_front = λ is. refl;
+    own_front = λ is. let no : true ≡ false = sym dash ∙ is in cc;
+    stays = rw dash refl;
+    ended = rw dash ended;
+  }
+
+  pub file_ends : (x : Exit) (i rest left : Option (List ℕ)) (front : List ℕ) → is_dash name ≡ false
+      → Consumes (contents name) rest front
+      → NamedEnds t name front x (option_append (Some front) rest, left) o w f e c
+      → FileEnds t contents name given x (i, i) o w f e c
+  file_ends x i rest left front file consumed ended = record {
+    front = front;
+    left = left;
+    given_front = λ is. let no : true ≡ false = sym is ∙ file in cc;
+    own_front = λ is. front_consumed (contents name) rest front consumed;
+    stays = rw file refl;
+    ended = rw file (named_chained t name front x (contents name) rest left o w f e c consumed ended);
+  }
+
+pub unopened_ends : (t : Task) (contents : Text → Option (List ℕ)) (name : Text) (given : List ℕ)
+    (i o : Option (List ℕ))
+    (w : ℕ) (f : Bool) (e : Option (List ℕ) × Option (List ℕ)) (c : ℕ × ℕ) → is_dash name ≡ false
+    → IsPut (named_complaint name t (Err run.Read)) e c
+    → FileEnds t contents name given exit.Refused (i, i) (o, o) (w, w) f e c
+unopened_ends t contents name given i o w f e c file put = record {
+  front = [];
+  left = None;
+  given_front = λ is. let no : true ≡ false = sym is ∙ file in cc;
+  own_front = λ is. no_front (contents name);
+  stays = rw file refl;
+  ended = record {
+    answer = Err run.Read;
+    wrote = inl (refl, Appends-none o);
+    memory = λ is. cc;
+    written = refl;
+    ends = refl;
+    said = subst (λ (text : Text). IsPut text e c) (sym (append-nil (named_complaint name t (Err run.Read)))) put;
+  };
+}
+
+-- ---- what is asked for
+
+-- where no file is named, the task ran over standard input
+pub request_runs : (t : Task) (q : Bool) (contents : Text → Option (List ℕ)) (front : List ℕ) (x : Exit)
+    (i : Option (List ℕ) × Option (List ℕ)) (r : ℕ × ℕ) (o : Option (List ℕ) × Option (List ℕ)) (w : ℕ × ℕ) (f : Bool)
+    (e : Option (List ℕ) × Option (List ℕ)) (c : ℕ × ℕ) → RequestEnds t q [] contents front x i r o w f e c
+    → (answer : Result Status RunFault) × (x ≡ exit_for_answer answer)
+    × ((had : Option (List ℕ)) × (has : Option (List ℕ))
+    × IfSome i.0 (λ bytes. Wrote t bytes i.1 answer had has))
+request_runs (task.Check profile) true contents front x i r o w f e c ended =
+    (ended.0.answer, ended.0.ends, (Some [], Some ended.0.line, ended.0.wrote))
+request_runs (task.Check profile) false contents front x i r o w f e c ended =
+    (ended.answer, ended.ends, (o.0, o.1, ended.wrote))
+request_runs task.List q contents front x i r o w f e c ended = (ended.answer, ended.ends, (o.0, o.1, ended.wrote))
+request_runs (task.Render profile) q contents front x i r o w f e c ended =
+    (ended.answer, ended.ends, (o.0, o.1, ended.wrote))
+request_runs (task.Encode profile) q contents front x i r o w f e c ended =
+    (ended.answer, ended.ends, (o.0, o.1, ended.wrote))
+request_runs (task.Show profile showing fill selects width height) q contents front x i r o w f e c ended =
+    (ended.answer, ended.ends, (o.0, o.1, ended.wrote))
+request_runs (task.ShowBox profile showing fill selects) q contents front x i r o w f e c ended =
+    (ended.answer, ended.ends, (o.0, o.1, ended.wrote))
+
+answer_no_usage : (a : Result Status RunFault) → exit_for_answer a ≢ exit.Usage
+answer_no_usage (Ok status.Done) = λ (is : exit.Done ≡ exit.Usage). cc
+answer_no_usage (Ok (status.Broken finding)) = λ (is : exit.Broken ≡ exit.Usage). cc
+answer_no_usage (Err fault) = λ (is : exit.Refused ≡ exit.Usage). cc
+
+one_of_two : (b : Bool) (x y : Exit) → x ≢ exit.Usage → y ≢ exit.Usage → (if b then y else x) ≢ exit.Usage
+one_of_two true x y nx ny = ny
+one_of_two false x y nx ny = nx
+
+greatest_no_usage : (x : Exit) (ends : List FileEnd) → x ≢ exit.Usage
+    → fold worse x (map exit_of_end ends) ≢ exit.Usage
+greatest_no_usage x [] other = other
+greatest_no_usage x (e ∷ ends) other =
+    greatest_no_usage (worse x (exit_of_end e)) ends (one_of_two _ x (exit_of_end e) other (answer_no_usage e.answer))
+
+files_no_usage : (profile : Profile) (q : Bool) (contents : Text → Option (List ℕ)) (names : List Text) (x : Exit)
+    (i o : Option (List ℕ) × Option (List ℕ)) (w : ℕ × ℕ) (f : Bool) (e : Option (List ℕ) × Option (List ℕ)) (c : ℕ × ℕ)
+    → FilesEnd profile q contents names x i o w f e c → x ≢ exit.Usage
+files_no_usage profile q contents names x i o w f e c (inl checked) is =
+    greatest_no_usage exit.Done checked.0 (λ (none : exit.Done ≡ exit.Usage). cc) (sym checked.1.exits ∙ is)
+files_no_usage profile q contents names x i o w f e c (inr cut) is =
+    let no : exit.Refused ≡ exit.Usage = sym cut.exits ∙ is in cc
+
+pub request_no_usage : (t : Task) (q : Bool) (names : List Text) (contents : Text → Option (List ℕ)) (front : List ℕ)
+    (x : Exit) (i : Option (List ℕ) × Option (List ℕ)) (r : ℕ × ℕ) (o : Option (List ℕ) × Option (List ℕ)) (w : ℕ × ℕ)
+    (f : Bool) (e : Option (List ℕ) × Option (List ℕ)) (c : ℕ × ℕ)
+    → RequestEnds t q names contents front x i r o w f e c → x ≢ exit.Usage
+request_no_usage t q [] contents front x i r o w f e c ended is =
+    let ran = request_runs t q contents front x i r o w f e c ended in
+    answer_no_usage ran.0 (sym ran.1 ∙ is)
+request_no_usage (task.Check profile) q (name ∷ more) contents front x i r o w f e c ended is =
+    files_no_usage profile q contents (name ∷ more) x i o w f e c ended is
+request_no_usage task.List q (name ∷ more) contents front x i r o w f e c ended is =
+    answer_no_usage ended.ended.answer (sym ended.ended.ends ∙ is)
+request_no_usage (task.Render profile) q (name ∷ more) contents front x i r o w f e c ended is =
+    answer_no_usage ended.ended.answer (sym ended.ended.ends ∙ is)
+request_no_usage (task.Encode profile) q (name ∷ more) contents front x i r o w f e c ended is =
+    answer_no_usage ended.ended.answer (sym ended.ended.ends ∙ is)
+request_no_usage (task.Show profile showing fill selects width height) q (name ∷ more) contents front x i r o w f e c
+    ended is =
+    answer_no_usage ended.ended.answer (sym ended.ended.ends ∙ is)
+request_no_usage (task.ShowBox profile showing fill selects) q (name ∷ more) contents front x i r o w f e c ended is =
+    answer_no_usage ended.ended.answer (sym ended.ended.ends ∙ is)
+
+pub request_done : (t : Task) (q : Bool) (names : List Text) (contents : Text → Option (List ℕ)) (front : List ℕ)
+    (x : Exit) (i : Option (List ℕ) × Option (List ℕ)) (r : ℕ × ℕ) (o : Option (List ℕ) × Option (List ℕ)) (w : ℕ × ℕ)
+    (f : Bool) (e : Option (List ℕ) × Option (List ℕ)) (c : ℕ × ℕ)
+    → RequestEnds t q names contents front x i r o w f e c → names ≡ [] → x ≡ exit.Done
+    → IfSome i.0 (λ bytes. (text : Text) × Gives t bytes text (Ok status.Done))
+request_done t q names contents front x i r o w f e c ended none is =
+    let ran = request_runs t q contents front x i r o w f e c (rw none at ended) in
+    done_gives t i.0 i.1 ran.0 ran.2.0 ran.2.1 ran.2.2 (sym ran.1 ∙ is)
+
+pub request_broken : (t : Task) (q : Bool) (names : List Text) (contents : Text → Option (List ℕ)) (front : List ℕ)
+    (x : Exit) (i : Option (List ℕ) × Option (List ℕ)) (r : ℕ × ℕ) (o : Option (List ℕ) × Option (List ℕ)) (w : ℕ × ℕ)
+    (f : Bool) (e : Option (List ℕ) × Option (List ℕ)) (c : ℕ × ℕ)
+    → RequestEnds t q names contents front x i r o w f e c → names ≡ [] → x ≡ exit.Broken
+    → IfSome i.0 (λ bytes. (text : Text) × (finding : Finding) × Gives t bytes text (Ok (status.Broken finding)))
+request_broken t q names contents front x i r o w f e c ended none is =
+    let ran = request_runs t q contents front x i r o w f e c (rw none at ended) in
+    broken_gives t i.0 i.1 ran.0 ran.2.0 ran.2.1 ran.2.2 (sym ran.1 ∙ is)

@@ -1,0 +1,14 @@
+use Rattle.sixel.specs.Outputs.{answer_of, line_of}
+use Rattle.sixel.proofs.files.check_named.Goals as goal
+
+pub returns : goal.returns
+returns g c = (
+  line_of c.judge-judged.result,
+  answer_of c.judge-judged.result,
+  record {
+    wrote = c.judge-judged.ensures.judged;
+    memory = c.judge-judged.ensures.memory;
+    written = c.judge-judged.ensures.unwritten;
+  },
+  c.put_judged.ensures,
+)

@@ -1,0 +1,14 @@
+use Rattle.std.proofs.lemmas.Grind.{flat_map-append}
+use Rattle.std.proofs.lemmas.List.{append-nil}
+use Rattle.sixel.specs.Files.{named, text_of}
+use Rattle.sixel.proofs.SeveralLemmas.{alone, greatest_of, reached}
+use Rattle.sixel.proofs.laws.several_files_are_checked_one_by_one.Goals as goal
+
+pub returns : goal.returns
+returns c = record {
+  joined = λ is_quiet front rest. flat_map-append (text_of is_quiet) front rest;
+  named = λ e status answer. rw answer (append-nil (named e.name e.line));
+  alone = alone;
+  greatest = greatest_of;
+  reached = reached;
+}

@@ -1,0 +1,475 @@
+//! Files in place of standard input, and checks that write no verdict.
+
+ghost use Rattle.std.specs.Prelude.{◌≡◌, ◌≢◌, ◌∷◌, ◌++◌, [], ℕ, List, Option, Some, IfOk, IfErr, IfSome, codes, false};
+ghost use Rattle.std.specs.Prelude.{Bool, Result, map, take, true};
+ghost use Rattle.std.specs.Io.KnownBytes.{Appends, Consumes, Keeps};
+ghost use Rattle.std.specs.List.{list_any};
+ghost use Rattle.std.specs.String.{string_bytes};
+ghost use Rattle.sixel_grammar.specs.Devices.{CountsFailure, NeverFlushes, Puts, one_more};
+ghost use Rattle.sixel_picture.specs.declared.profile.Profile.{Profile as AProfile};
+ghost use Rattle.sixel.specs.declared.task.Task.{Task as ATask};
+ghost use Rattle.sixel.specs.declared.task.Task.TheVariants.{Check};
+ghost use Rattle.sixel.specs.Exits.{IsPut, RunEnds, exit_for_answer};
+ghost use Rattle.sixel.specs.Files.{FileEnds, FilesEnd, IsChecked, IsFileEnd, IsOutcome, NamedEnds, QuietEnds};
+ghost use Rattle.sixel.specs.Files.{RequestEnds, awaits_text, is_dash, named_complaint, notice, reads_input, worse};
+ghost use Rattle.sixel.specs.Formats.{advice};
+ghost use Rattle.sixel.specs.Outputs.{HasSides, answer_of, line_of};
+ghost use Rattle.sixel.specs.Texts.{Text, fault_line};
+ghost use Rattle.sixel.specs.declared.fault.RunFault.{RunFault as AFault};
+ghost use Rattle.sixel.specs.declared.task.Status.{Status as AStatus};
+
+use crate::exit::{Exit, advice, code_of, exit_of, report};
+use crate::fault::RunFault;
+use crate::folder::Folder;
+use crate::formats::FRONT;
+use crate::lines::{fault_line, finding_line, verdict_line, write_fault};
+use crate::request::Request;
+use crate::run;
+use crate::run::check::{judge, status_of};
+use crate::task::{Status, Task};
+use arrayvec::ArrayVec;
+use sixel_check::Verdict;
+use sixel_grammar::{DeviceFault, FromRead, Sink, Source, put_all};
+use sixel_picture::Profile;
+use std::alloc::Global;
+use std::io::Read;
+
+/// Room for a line with the longest name that a file can have, which has 4,095 bytes.
+const ROOM: usize = 4352;
+
+/// What is said before a check that reads a terminal.
+const WAITING: &[u8] = b"sixel: waiting for sixel text on standard input\n";
+
+/// Whether standard input is read: no file is named, or one by the name of that.
+fn reads_input(names: &[String]) -> bool
+    ensures { result ≡ reads_input (map string_bytes names.now) }
+{
+    names.is_empty() || names_input(names)
+}
+
+fn names_input(names: &[String]) -> bool
+    ensures { result ≡ list_any is_dash (map string_bytes names.now) }
+{
+    for name in names {
+        if name.as_str() == "-" {
+            return true;
+        }
+    }
+    false
+}
+
+/// Whether a check is asked for that reads standard input.
+fn awaits_text(request: &Request) -> bool
+    ensures { result ≡ awaits_text request.now.task (map string_bytes request.now.files.items) }
+{
+    match request.task {
+        Task::Check { .. } => reads_input(request.files.as_slice()),
+        _ => false,
+    }
+}
+
+/// What is said before a task is done: where a check reads a terminal, that it waits.
+fn notice(request: &Request, is_terminal: bool) -> &'static [u8]
+    ensures { result.now ≡ notice is_terminal request.now.task (map string_bytes request.now.files.items) }
+{
+    if is_terminal && awaits_text(request) {
+        WAITING
+    } else {
+        b""
+    }
+}
+
+/// Says that sixel text is waited for, where a check reads standard input and that is a terminal.
+pub fn announce<E: Sink>(request: &Request, is_terminal: bool, errors: &mut E)
+    ensures { IsPut (notice is_terminal request.now.task (map string_bytes request.now.files.items))
+        (E.taken errors.old, E.taken errors.new) (E.failure_count errors.old, E.failure_count errors.new) }
+{
+    let _ = put_all(errors, notice(request, is_terminal));
+}
+
+/// What standard input begins with, as far as it is known; where it isn't read, nothing is read of it.
+pub fn front_of<R: Read>(request: &Request, input: &mut R) -> ArrayVec<u8, FRONT>
+    ensures front { Consumes (R.remaining input.old) (R.remaining input.new) result.items }
+    ensures unread { reads_input (map string_bytes request.now.files.items) ≡ false → input.new ≡ input.old }
+{
+    if reads_input(request.files.as_slice()) {
+        first_bytes(request.task, input)
+    } else {
+        ArrayVec::new()
+    }
+}
+
+/// What the input of `encode` begins with, as far as one read gives it. Of another task's input nothing is read, and
+/// where the read fails, the next one meets that.
+fn first_bytes<R: Read>(task: Task, input: &mut R) -> ArrayVec<u8, FRONT>
+    ensures { Consumes (R.remaining input.old) (R.remaining input.new) result.items }
+{
+    let mut front = ArrayVec::new();
+    if let Task::Encode { .. } = task {
+        let mut piece = [0; FRONT];
+        let count = input.read(&mut piece).unwrap_or(0);
+        let _ = front.try_extend_from_slice(&piece[..count]);
+    }
+    front
+}
+
+/// A name between what comes before and after it, where there is room.
+fn joined(before: &[u8], name: &str, after: &[u8], rest: &[u8]) -> Option<ArrayVec<u8, ROOM>>
+    ensures { IfSome result (λ line. line.items ≡ before.now ++ name.now ++ after.now ++ rest.now) }
+{
+    let mut line = ArrayVec::new();
+    line.try_extend_from_slice(before).ok()?;
+    line.try_extend_from_slice(name.as_bytes()).ok()?;
+    line.try_extend_from_slice(after).ok()?;
+    line.try_extend_from_slice(rest).ok()?;
+    Some(line)
+}
+
+/// Puts a name between what comes before and after it, in one piece: the lines of programs that write to one pipe don't
+/// mix. No file has a name that is too long for that.
+fn put_named<K: Sink>(
+    out: &mut K,
+    before: &[u8],
+    name: &str,
+    after: &[u8],
+    rest: &[u8],
+) -> Result<(), DeviceFault>
+    ensures bytes { Puts result (K.taken out.old) (K.taken out.new) (before.now ++ name.now ++ after.now ++ rest.now) }
+    ensures failures { CountsFailure result (K.failure_count out.old) (K.failure_count out.new) }
+{
+    match joined(before, name, after, rest) {
+        Some(line) => put_all(out, line.as_slice()),
+        None => put_parts(out, before, name, after, rest),
+    }
+}
+
+/// The same, in as many pieces as there are parts.
+fn put_parts<K: Sink>(
+    out: &mut K,
+    before: &[u8],
+    name: &str,
+    after: &[u8],
+    rest: &[u8],
+) -> Result<(), DeviceFault>
+    ensures bytes { Puts result (K.taken out.old) (K.taken out.new) (before.now ++ name.now ++ after.now ++ rest.now) }
+    ensures failures { CountsFailure result (K.failure_count out.old) (K.failure_count out.new) }
+{
+    put_all(out, before)?;
+    put_all(out, name.as_bytes())?;
+    put_all(out, after)?;
+    put_all(out, rest)
+}
+
+/// Puts the line of why a run over a file was refused, or of which rule kept its picture from being rendered.
+fn put_complaint<E: Sink>(
+    task: Task,
+    name: &str,
+    answer: &Result<Status, RunFault>,
+    errors: &mut E,
+) -> Result<(), DeviceFault>
+    ensures bytes { Puts result (E.taken errors.old) (E.taken errors.new) (named_complaint name.now task answer.now) }
+    ensures failures { CountsFailure result (E.failure_count errors.old) (E.failure_count errors.new) }
+{
+    match answer {
+        Ok(Status::Broken(finding)) if matches!(task, Task::Render { .. }) => {
+            put_named(errors, b"", name, b": ", finding_line(finding).as_slice())
+        }
+        Ok(_) => Ok(()),
+        Err(RunFault::Write) => write_fault(&RunFault::Write, errors),
+        Err(fault) => put_named(
+            errors,
+            b"sixel: ",
+            name,
+            b":",
+            &fault_line(fault).as_slice()[6..],
+        ),
+    }
+}
+
+/// The same, and after it what makes a PPM of a file of another format, by its first bytes.
+fn put_said<E: Sink>(
+    task: Task,
+    name: &str,
+    front: &[u8],
+    answer: &Result<Status, RunFault>,
+    errors: &mut E,
+) -> Result<(), DeviceFault>
+    ensures bytes { Puts result (E.taken errors.old) (E.taken errors.new)
+        (named_complaint name.now task answer.now ++ advice front.now answer.now) }
+    ensures failures { CountsFailure result (E.failure_count errors.old) (E.failure_count errors.new) }
+{
+    put_complaint(task, name, answer, errors)?;
+    put_all(errors, advice(front, answer).as_bytes())
+}
+
+/// Runs a task over a file that is open. `front` is what it begins with, as far as that is known.
+fn report_named<S: Source, K: Sink, E: Sink>(
+    alloc: Global,
+    task: Task,
+    name: &str,
+    front: &[u8],
+    input: &mut S,
+    output: &mut K,
+    errors: &mut E,
+) -> Exit
+    requires { HasSides task }
+    ensures { NamedEnds task name.now front.now result (S.remaining input.old, S.remaining input.new)
+        (K.taken output.old, K.taken output.new) (K.failure_count output.old, K.failure_count output.new)
+        (K.is_flushed output.new)
+        (E.taken errors.old, E.taken errors.new) (E.failure_count errors.old, E.failure_count errors.new) }
+{
+    let answer = run::run(alloc, task, input, output);
+    let _ = put_said(task, name, front, &answer, errors);
+    exit_of(answer)
+}
+
+/// Runs a task over the file of this name, or over standard input where the name is `-`. `front` is what standard
+/// input begins with, as far as that is known.
+fn report_file<F: Folder, S: Source, K: Sink, E: Sink>(
+    alloc: Global,
+    task: Task,
+    name: &str,
+    folder: &F,
+    front: &[u8],
+    input: &mut S,
+    output: &mut K,
+    errors: &mut E,
+) -> Exit
+    requires { HasSides task }
+    ensures { FileEnds task (F.contents folder.now) name.now front.now result
+        (S.remaining input.old, S.remaining input.new)
+        (K.taken output.old, K.taken output.new) (K.failure_count output.old, K.failure_count output.new)
+        (K.is_flushed output.new)
+        (E.taken errors.old, E.taken errors.new) (E.failure_count errors.old, E.failure_count errors.new) }
+{
+    if name == "-" {
+        return report_named(alloc, task, name, front, input, output, errors);
+    }
+    match folder.open(name) {
+        Ok(file) => {
+            let mut file = file;
+            let front = first_bytes(task, &mut file);
+            let mut file = FromRead::new(front.as_slice().chain(file));
+            report_named(
+                alloc,
+                task,
+                name,
+                front.as_slice(),
+                &mut file,
+                output,
+                errors,
+            )
+        }
+        Err(_) => {
+            let _ = put_complaint(task, name, &Err(RunFault::Read), errors);
+            Exit::Refused
+        }
+    }
+}
+
+/// Checks standard input, and writes no verdict.
+fn check_quietly<S: Source, E: Sink>(
+    alloc: Global,
+    profile: Profile,
+    input: &mut S,
+    errors: &mut E,
+) -> Exit
+    ensures { QuietEnds profile result
+        (S.remaining input.old, S.remaining input.new) (S.failure_count input.old, S.failure_count input.new)
+        (E.taken errors.old, E.taken errors.new) (E.failure_count errors.old, E.failure_count errors.new) }
+{
+    match judge(alloc, profile, input) {
+        Ok(verdict) => exit_of(Ok(status_of(&verdict))),
+        Err(fault) => {
+            let _ = write_fault(&fault, errors);
+            Exit::Refused
+        }
+    }
+}
+
+/// Puts what is written of a checked file, and what is said of it; on an `Err` the first sink failed.
+fn put_judged<K: Sink, E: Sink>(
+    profile: Profile,
+    is_quiet: bool,
+    name: &str,
+    judged: Result<Verdict, RunFault>,
+    output: &mut K,
+    errors: &mut E,
+) -> Result<Exit, DeviceFault>
+    ensures { IsOutcome profile is_quiet name.now (line_of judged) (answer_of judged) result
+        (K.taken output.old, K.taken output.new) (K.failure_count output.old, K.failure_count output.new)
+        (E.taken errors.old, E.taken errors.new) (E.failure_count errors.old, E.failure_count errors.new) }
+{
+    match judged {
+        Ok(verdict) => {
+            if !is_quiet {
+                put_named(output, b"", name, b": ", verdict_line(&verdict).as_slice())?;
+            }
+            Ok(exit_of(Ok(status_of(&verdict))))
+        }
+        Err(fault) => {
+            let _ = put_complaint(Task::Check { profile }, name, &Err(fault), errors);
+            Ok(Exit::Refused)
+        }
+    }
+}
+
+/// Checks a file that is open.
+fn check_named<S: Source, K: Sink, E: Sink>(
+    alloc: Global,
+    profile: Profile,
+    is_quiet: bool,
+    name: &str,
+    input: &mut S,
+    output: &mut K,
+    errors: &mut E,
+) -> Result<Exit, DeviceFault>
+    ensures { (line : Text) × (answer : Result AStatus AFault)
+        × IsFileEnd profile (record {
+          name = name.now;
+          told = S.remaining input.old;
+          left = S.remaining input.new;
+          line = line;
+          answer = answer;
+        })
+        × IsOutcome profile is_quiet name.now line answer result
+        (K.taken output.old, K.taken output.new) (K.failure_count output.old, K.failure_count output.new)
+        (E.taken errors.old, E.taken errors.new) (E.failure_count errors.old, E.failure_count errors.new) }
+{
+    let judged = judge(alloc, profile, input);
+    put_judged(profile, is_quiet, name, judged, output, errors)
+}
+
+/// Checks the file of this name, or standard input where the name is `-`.
+fn check_file<F: Folder, S: Source, K: Sink, E: Sink>(
+    alloc: Global,
+    profile: Profile,
+    is_quiet: bool,
+    name: &str,
+    folder: &F,
+    input: &mut S,
+    output: &mut K,
+    errors: &mut E,
+) -> Result<Exit, DeviceFault>
+    ensures { IsChecked profile is_quiet (F.contents folder.now) name.now result
+        (S.remaining input.old, S.remaining input.new)
+        (K.taken output.old, K.taken output.new) (K.failure_count output.old, K.failure_count output.new)
+        (E.taken errors.old, E.taken errors.new) (E.failure_count errors.old, E.failure_count errors.new) }
+{
+    if name == "-" {
+        return check_named(alloc, profile, is_quiet, name, input, output, errors);
+    }
+    match folder.open(name) {
+        Ok(file) => {
+            let mut file = FromRead::new(file);
+            check_named(alloc, profile, is_quiet, name, &mut file, output, errors)
+        }
+        Err(_) => put_judged(profile, is_quiet, name, Err(RunFault::Read), output, errors),
+    }
+}
+
+/// The exit status of the greater number.
+fn worse(a: Exit, b: Exit) -> Exit
+    ensures { result ≡ worse a b }
+{
+    if code_of(a) < code_of(b) { b } else { a }
+}
+
+/// Says that the output failed.
+fn unwritten<E: Sink>(errors: &mut E) -> Exit
+    ensures exit { result ≡ Exit.Refused }
+    ensures said { IsPut (fault_line RunFault.Write)
+        (E.taken errors.old, E.taken errors.new) (E.failure_count errors.old, E.failure_count errors.new) }
+{
+    let _ = write_fault(&RunFault::Write, errors);
+    Exit::Refused
+}
+
+/// Checks the files of these names in turn, also after one that is refused. The exit status is the greatest of theirs.
+fn check_files<F: Folder, S: Source, K: Sink, E: Sink>(
+    alloc: Global,
+    profile: Profile,
+    is_quiet: bool,
+    names: &[String],
+    folder: &F,
+    input: &mut S,
+    output: &mut K,
+    errors: &mut E,
+) -> Exit
+    ensures { FilesEnd profile is_quiet (F.contents folder.now) (map string_bytes names.now) result
+        (S.remaining input.old, S.remaining input.new)
+        (K.taken output.old, K.taken output.new) (K.failure_count output.old, K.failure_count output.new)
+        (K.is_flushed output.new)
+        (E.taken errors.old, E.taken errors.new) (E.failure_count errors.old, E.failure_count errors.new) }
+{
+    let mut exit = Exit::Done;
+    for name in names {
+        match check_file(
+            alloc,
+            profile,
+            is_quiet,
+            name.as_str(),
+            folder,
+            input,
+            output,
+            errors,
+        ) {
+            Ok(next) => exit = worse(exit, next),
+            Err(_) => return unwritten(errors),
+        }
+    }
+    if is_quiet {
+        return exit;
+    }
+    match output.flush() {
+        Ok(()) => exit,
+        Err(_) => unwritten(errors),
+    }
+}
+
+/// Does what is asked for. A task over a file reads the first that is named; a check reads them all. `front` is what
+/// standard input begins with, as far as it is known.
+pub fn answer<F: Folder, S: Source, K: Sink, E: Sink>(
+    alloc: Global,
+    request: &Request,
+    folder: &F,
+    front: &[u8],
+    input: &mut S,
+    output: &mut K,
+    errors: &mut E,
+) -> Exit
+    requires { HasSides request.now.task }
+    ensures { RequestEnds request.now.task request.now.is_quiet (map string_bytes request.now.files.items)
+        (F.contents folder.now) front.now result
+        (S.remaining input.old, S.remaining input.new) (S.failure_count input.old, S.failure_count input.new)
+        (K.taken output.old, K.taken output.new) (K.failure_count output.old, K.failure_count output.new)
+        (K.is_flushed output.new)
+        (E.taken errors.old, E.taken errors.new) (E.failure_count errors.old, E.failure_count errors.new) }
+{
+    let names = request.files.as_slice();
+    let is_quiet = request.is_quiet;
+    match (request.task, names) {
+        (Task::Check { profile }, []) if is_quiet => check_quietly(alloc, profile, input, errors),
+        (task, []) => report(alloc, task, front, input, output, errors),
+        (Task::Check { profile }, _) => {
+            check_files(
+                alloc, profile, is_quiet, names, folder, input, output, errors,
+            )
+        }
+        (task, [name, ..]) => {
+            report_file(
+                alloc,
+                task,
+                name.as_str(),
+                folder,
+                front,
+                input,
+                output,
+                errors,
+            )
+        }
+    }
+}
+
+#[cfg(test)]
+mod tests;
