@@ -6,6 +6,7 @@ use Rattle.std.specs.Global.{Global}
 use Rattle.std.specs.Fmt.{option_append}
 use Rattle.std.specs.Result.{IsErrAnd}
 use Rattle.std.specs.Io.KnownBytes.{Appends, Consumes, Keeps}
+use Rattle.std.proofs.KnownBytes.{Appends-trans}
 use Rattle.std.proofs.lemmas.Bool.{cases_lt}
 use Rattle.std.proofs.Common.{get_or}
 use Rattle.std.proofs.lemmas.List.{append-nil, take-append-drop, take_more}
@@ -163,15 +164,14 @@ module _ (profile : Profile) (q : Bool) (contents : Text → Option (List ℕ)) 
       → IsPut (fault_line run.Write) (e₂, e₃) (c₂, c₃)
       → AreCut profile q contents all exit.Refused (i₀, i₂) (o₀, o₂) (w₀, w₂) (e₀, e₃) (c₀, c₃)
   cut_after f all rest i₂ o₂ e₂ e₃ w₂ c₂ c₃ is one put =
-      let text : Text = files_text q ends ++ text_of q one.e in
-      let cut = puts-then {A = Unit {0}} (Err f) o₀ o₁ o₂ (files_text q ends) (text_of q one.e) before.lines
-      (rw one.name_is one.outcome.0) in
+      let cut : (count : ℕ) × Appends o₁ o₂ (take count (text_of q one.e)) = rw one.name_is one.outcome.0 in
       let none : files_complaint profile (ends ++ one.e ∷ []) ≡ files_complaint profile ends =
       text_more (complaint_of profile) ends one.e
       ∙ ap (λ (t : Text). files_complaint profile ends ++ t) (rw one.name_is one.outcome.3)
       ∙ append-nil (files_complaint profile ends) in
       record {
-        ends = ends ++ one.e ∷ [];
+        whole = ends;
+        last = Some one.e;
         rest = rest;
         count = cut.0;
         wanted = one.outcome.1;
@@ -182,7 +182,8 @@ module _ (profile : Profile) (q : Bool) (contents : Text → Option (List ℕ)) 
         tells = tells_more contents i₀ i₁ i₂ ends one.e before.tells
             (rw one.name_is one.told) (rw one.name_is one.left);
         exits = refl;
-        lines = subst (λ (t : Text). Appends o₀ o₂ (take cut.0 t)) (sym (text_more (text_of q) ends one.e)) cut.1;
+        lines = Appends-trans o₀ o₁ o₂ (files_text q ends) _ before.lines
+            (rw (append-nil (text_of q one.e)) cut.1);
         failed = one.outcome.2 ∙ ap one_more before.unfailed;
         said = rw none
             (said_more (files_complaint profile ends) (fault_line run.Write) e₀ e₁ e₃ c₀ c₁ c₃ before.said
@@ -279,20 +280,21 @@ module _ (profile : Profile) (q : Bool) (contents : Text → Option (List ℕ)) 
       → IsPut (fault_line run.Write) (e₁, e₂) (c₁, c₂)
       → AreCut profile q contents names exit.Refused (i₀, i₁) (o₀, o₂) (w₀, w₂) (e₀, e₂) (c₀, c₂)
   cut_at_flush e₂ c₂ wanted kept failed put =
-      let text : Text = files_text q ends in
+      let none : ends ++ [] ≡ ends = append-nil ends in
       record {
-        ends = ends;
+        whole = ends;
+        last = None;
         rest = [];
-        count = length text;
+        count = 0;
         wanted = wanted;
-        names_are = before.names_are ∙ sym (append-nil (names_of ends));
-        each = before.each;
-        tells = before.tells;
+        names_are = before.names_are ∙ sym (append-nil (names_of (ends ++ [])) ∙ ap names_of none);
+        each = rw none before.each;
+        tells = rw none before.tells;
         exits = refl;
-        lines = subst (λ (t : Text). Appends o₀ o₂ t) (sym (take-length text))
-            (Appends-keeps o₀ o₁ o₂ text before.lines kept);
+        lines = rw (append-nil (files_text q ends)) (Appends-keeps o₀ o₁ o₂ (files_text q ends) before.lines kept);
         failed = failed ∙ ap one_more before.unfailed;
-        said = said_more (files_complaint profile ends) (fault_line run.Write) e₀ e₁ e₂ c₀ c₁ c₂ before.said put;
+        said = rw none
+            (said_more (files_complaint profile ends) (fault_line run.Write) e₀ e₁ e₂ c₀ c₁ c₂ before.said put);
       }
 
 -- ---- a task over a file

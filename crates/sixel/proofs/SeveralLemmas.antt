@@ -1,4 +1,5 @@
 -- The exit statuses of several files, and the line of each.
+use Rattle.std.proofs.Common.{ap₂, Result, Err, ◌++◌}
 use Rattle.std.proofs.Common.{◌≡◌, ◌≤◌, ◌∷◌, ℕ, Bool, true, false, List, [], Some, arith, refl, sym, fold, length, map}
 use Rattle.std.proofs.Common.{slice_index_or, subst, suc, zero, inl, inr, ◌<◌}
 use Rattle.std.specs.Prelude.{◌⊎◌, All, Contains, Ok, nat_lt, if◌then◌else◌}
@@ -7,10 +8,13 @@ use Rattle.std.proofs.lemmas.List.Elements.{All-cons, All-nil}
 use Rattle.sixel_picture.specs.declared.profile.Profile.{Profile}
 use Rattle.sixel.specs.declared.exit.Exit.{Exit}
 use Rattle.sixel.specs.declared.exit.Exit.TheVariants as exit
+use Rattle.sixel_grammar.specs.declared.fault.Fault.{Fault}
+use Rattle.sixel.specs.declared.fault.RunFault.{RunFault}
+use Rattle.sixel.specs.declared.fault.RunFault.TheVariants as run
 use Rattle.sixel.specs.declared.task.Status.{Status}
 use Rattle.sixel.specs.declared.task.Task.TheVariants.{Check}
 use Rattle.sixel.specs.Exits.{exit_code}
-use Rattle.sixel.specs.Files.{FileEnd, IsFileEnd, exit_of_end, files_exit, worse}
+use Rattle.sixel.specs.Files.{FileEnd, IsFileEnd, exit_of_end, file_text, files_exit, files_text, worse}
 use Rattle.sixel.specs.Outputs.{Gives, Wrote}
 use Rattle.sixel.specs.Texts.{Text}
 
@@ -84,6 +88,22 @@ reached e more =
     (fold_reached (exit_of_end e) exits)
 
 -- ---- the line of one
+
+silent : (name line : Text) (answer : Result Status RunFault) → file_text true name line answer ≡ []
+silent name line (Ok status) = refl
+silent name line (Err fault) = refl
+
+pub quiet : (ends : List FileEnd) → files_text true ends ≡ []
+quiet [] = refl
+quiet (e ∷ ends) = ap₂ (λ (a b : Text). a ++ b) (silent e.name e.line e.answer) (quiet ends)
+
+pub faulty : (profile : Profile) (e : FileEnd) (bytes : List ℕ) (fault : Fault) → IsFileEnd profile e
+    → e.told ≡ Some bytes → e.answer ≡ Err (run.Grammar fault)
+    → Gives (Check profile) bytes [] (Err (run.Grammar fault))
+faulty profile e bytes fault is told answer =
+    let wrote : Wrote (Check profile) bytes e.left (Err (run.Grammar fault)) (Some []) (Some e.line) =
+    rw (told, answer) at is.wrote in
+    (refl, wrote.1.1)
 
 pub alone : (profile : Profile) (e : FileEnd) (bytes : List ℕ) (status : Status) → IsFileEnd profile e
     → e.told ≡ Some bytes → e.answer ≡ Ok status → Gives (Check profile) bytes e.line (Ok status)

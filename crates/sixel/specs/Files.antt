@@ -2,6 +2,7 @@
 use Rattle.std.specs.Prelude.{◌≡◌, ◌≢◌, ◌⊎◌, ◌-◌, ◌^◌, ◌<◌, ◌==◌, ◌&&◌, ◌||◌, ℕ, Bool, length, true, false, List, []}
 use Rattle.std.specs.Prelude.{◌∷◌, ◌++◌, codes, flat_map, fold, map, take, nat_lt, Option, Some, IfSome, Result, Ok}
 use Rattle.std.specs.Prelude.{Err, if◌then◌else◌}
+use Rattle.std.specs.Prelude.{option_to_list}
 use Rattle.std.specs.Io.KnownBytes.{Appends}
 use Rattle.std.specs.List.{All, list_any}
 use Rattle.std.specs.Str.{bytes_eq}
@@ -207,23 +208,25 @@ pub record AreChecked (profile : Profile) (is_quiet : Bool) (contents : Text →
   pub unfailed : writes.1 ≡ writes.0
   pub said : IsSaid (files_complaint profile ends) errors complaints
 
--- the output failed at one of the files, which is the last that was read, or when it was flushed: a front of the lines
--- was appended
+-- the output failed at one of the files, which is the last that was read, or when it was flushed: the lines of those
+-- before were appended, and a front of its own
 pub record AreCut (profile : Profile) (is_quiet : Bool) (contents : Text → Option (List ℕ)) (names : List Text)
     (exit : Exit) (input : Option (List ℕ) × Option (List ℕ)) (output : Option (List ℕ) × Option (List ℕ))
     (writes : ℕ × ℕ)
     (errors : Option (List ℕ) × Option (List ℕ)) (complaints : ℕ × ℕ) : Type 0 where
-  pub ends : List FileEnd
+  pub whole : List FileEnd
+  pub last : Option FileEnd
   pub rest : List Text
   pub count : ℕ
   pub wanted : is_quiet ≡ false
-  pub names_are : names ≡ names_of ends ++ rest
-  pub each : All (IsFileEnd profile) ends
-  pub tells : Tells contents input.0 ends input.1
+  pub names_are : names ≡ names_of (whole ++ option_to_list last) ++ rest
+  pub each : All (IsFileEnd profile) (whole ++ option_to_list last)
+  pub tells : Tells contents input.0 (whole ++ option_to_list last) input.1
   pub exits : exit ≡ Refused
-  pub lines : Appends output.0 output.1 (take count (files_text is_quiet ends))
+  pub lines : Appends output.0 output.1
+      (files_text is_quiet whole ++ take count (files_text is_quiet (option_to_list last)))
   pub failed : writes.1 ≡ one_more writes.0
-  pub said : IsSaid (files_complaint profile ends ++ fault_line run.Write) errors complaints
+  pub said : IsSaid (files_complaint profile (whole ++ option_to_list last) ++ fault_line run.Write) errors complaints
 
 -- each file was checked, and the first sink is flushed, unless no verdict is wanted; or the first sink failed
 abbrev pub FilesEnd : Profile → Bool → (Text → Option (List ℕ)) → List Text → Exit

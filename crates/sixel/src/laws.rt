@@ -1,6 +1,6 @@
 //! Laws about the definitions. Each function's contract is the law.
 
-ghost use Rattle.std.specs.Prelude.{◌≡◌, ◌≤◌, ◌∷◌, ◌++◌, [], ℕ, All, Bool, Contains, List, None, Ok, Result, Some};
+ghost use Rattle.std.specs.Prelude.{◌≡◌, ◌≤◌, ◌∷◌, ◌++◌, [], ℕ, All, Bool, Contains, List, None, Err, Ok, Result, Some};
 ghost use Rattle.std.specs.Prelude.{codes, false, map, true};
 ghost use Rattle.sixel_picture.specs.Profiles.{count_of};
 ghost use Rattle.sixel_picture.specs.declared.profile.Profile.{Profile};
@@ -8,7 +8,9 @@ ghost use Rattle.sixel_picture.specs.declared.profile.Profile.TheVariants.{Regis
 ghost use Rattle.sixel_check.specs.declared.rule.Rule.{Rule};
 ghost use Rattle.clap.specs.Takes.{takes};
 ghost use Rattle.sixel.specs.declared.explanations.Topic.{Topic};
+ghost use Rattle.sixel_grammar.specs.declared.fault.Fault.{Fault};
 ghost use Rattle.sixel.specs.declared.fault.RunFault.{RunFault};
+ghost use Rattle.sixel.specs.declared.fault.RunFault.TheVariants.{Grammar};
 ghost use Rattle.sixel.specs.declared.task.Status.{Status};
 ghost use Rattle.sixel.specs.declared.task.Task.{Task};
 ghost use Rattle.sixel.specs.declared.task.Task.TheVariants.{Check, List as Listing, Show, ShowBox};
@@ -76,8 +78,9 @@ pub fn the_words_show_box_give_a_box()
 {}
 
 /// The output of a check of several files is the line of each, one after another, with its name before it, and each
-/// line is the one that a check of the file's bytes alone writes. The exit status is the greatest: no file has one of a
-/// greater number, and it is that of one of them.
+/// line is the one that a check of the file's bytes alone writes. Of a refused file there is none, and the grammar's
+/// fault is that of its bytes alone; where no verdict is wanted, there is none of any. The exit status is the greatest:
+/// no file has one of a greater number, and it is that of one of them.
 pub fn several_files_are_checked_one_by_one()
     ensures joined { (is_quiet : Bool) (front rest : List FileEnd) →
         files_text is_quiet (front ++ rest) ≡ files_text is_quiet front ++ files_text is_quiet rest }
@@ -85,6 +88,12 @@ pub fn several_files_are_checked_one_by_one()
         files_text false (e ∷ []) ≡ e.name ++ codes ": " ++ e.line }
     ensures alone { (profile : Profile) (e : FileEnd) (bytes : List ℕ) (status : Status) → IsFileEnd profile e →
         e.told ≡ Some bytes → e.answer ≡ Ok status → Gives (Check profile) bytes e.line (Ok status) }
+    ensures refused { (is_quiet : Bool) (e : FileEnd) (fault : RunFault) → e.answer ≡ Err fault →
+        files_text is_quiet (e ∷ []) ≡ [] }
+    ensures quiet { (ends : List FileEnd) → files_text true ends ≡ [] }
+    ensures faulty { (profile : Profile) (e : FileEnd) (bytes : List ℕ) (fault : Fault) → IsFileEnd profile e →
+        e.told ≡ Some bytes → e.answer ≡ Err (Grammar fault) →
+        Gives (Check profile) bytes [] (Err (Grammar fault)) }
     ensures greatest { (ends : List FileEnd) → All (λ e. exit_code (exit_of_end e) ≤ exit_code (files_exit ends)) ends }
     ensures reached { (e : FileEnd) (more : List FileEnd) →
         Contains (map exit_of_end (e ∷ more)) (files_exit (e ∷ more)) }

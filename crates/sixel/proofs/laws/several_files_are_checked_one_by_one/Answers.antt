@@ -1,7 +1,8 @@
+use Rattle.std.proofs.Common.{refl}
 use Rattle.std.proofs.lemmas.Grind.{flat_map-append}
 use Rattle.std.proofs.lemmas.List.{append-nil}
 use Rattle.sixel.specs.Files.{named, text_of}
-use Rattle.sixel.proofs.SeveralLemmas.{alone, greatest_of, reached}
+use Rattle.sixel.proofs.SeveralLemmas.{alone, faulty, greatest_of, quiet, reached}
 use Rattle.sixel.proofs.laws.several_files_are_checked_one_by_one.Goals as goal
 
 pub returns : goal.returns
@@ -9,6 +10,9 @@ returns c = record {
   joined = λ is_quiet front rest. flat_map-append (text_of is_quiet) front rest;
   named = λ e status answer. rw answer (append-nil (named e.name e.line));
   alone = alone;
+  refused = λ is_quiet e fault answer. rw answer refl;
+  quiet = quiet;
+  faulty = faulty;
   greatest = greatest_of;
   reached = reached;
 }
