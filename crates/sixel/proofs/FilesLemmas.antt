@@ -15,7 +15,6 @@ use Rattle.std.proofs.lemmas.Grind.{flat_map-append}
 use Rattle.std.proofs.lemmas.List.{map-append}
 use Rattle.std.proofs.lemmas.List.Sums.{fold_push}
 use Rattle.sixel_grammar.specs.Devices.{Puts, one_more}
-use Rattle.std.proofs.Math.Seq.{take-length}
 use Rattle.sixel_grammar.proofs.SinkLemmas.{Appends-keeps, Appends-none, puts-then}
 use Rattle.sixel_grammar.proofs.DeviceLemmas.{Appends-then}
 use Rattle.sixel_picture.specs.declared.profile.Profile.{Profile}
@@ -31,8 +30,8 @@ use Rattle.sixel.specs.declared.task.Task.TheVariants.{Check}
 use Rattle.sixel.specs.Exits.{IsPut, complaint, exit_for_answer}
 use Rattle.sixel.specs.Files.{AreChecked, AreCut, FileEnd, HasFailed, IsChecked, IsFileEnd, IsFront, IsSaid, NamedEnds}
 use Rattle.sixel.specs.Files.{FileEnds, FilesEnd, RequestEnds, Tells, is_dash, complaint_of, exit_of_end}
-use Rattle.sixel.specs.Files.{files_complaint, files_exit, files_text, greatest, left_after, named_complaint, names_of}
-use Rattle.sixel.specs.Files.{text_of, told_of, worse}
+use Rattle.sixel.specs.Files.{failures_past, files_complaint, files_exit, files_text, greatest, left_after}
+use Rattle.sixel.specs.Files.{named_complaint, names_of, text_of, told_of, worse}
 use Rattle.sixel.specs.Outputs.{Gives, TakesMemory, Wrote}
 use Rattle.sixel.specs.Texts.{Text, fault_line, fault_parts}
 use Rattle.sixel_check.specs.declared.verdict.Finding.{Finding}
@@ -78,13 +77,14 @@ said_more first more e₀ e₁ e₂ c₀ c₁ c₂ (inr failed) (inr cut) =
 -- ---- one file more
 
 pub none_checked : (profile : Profile) (q : Bool) (contents : Text → Option (List ℕ)) (i o e : Option (List ℕ))
-    (w c : ℕ)
-    → AreChecked profile q contents [] [] exit.Done (i, i) (o, o) (w, w) (e, e) (c, c)
+    (r w c : ℕ)
+    → AreChecked profile q contents [] [] exit.Done (i, i) (r, r) (o, o) (w, w) (e, e) (c, c)
 unfolding Tells
-none_checked profile q contents i o e w c = record {
+none_checked profile q contents i o e r w c = record {
   names_are = refl;
   each = λ i e short. let no : ⊥ = omega (arith, short) in absurd no;
   tells = refl;
+  counted = refl;
   exits = refl;
   lines = Appends-none o;
   unfailed = refl;
@@ -131,17 +131,22 @@ exits_more ends e =
     ap greatest (map-append exit_of_end ends (e ∷ []))
     ∙ fold_push worse exit.Done (map exit_of_end ends) (exit_of_end e)
 
+counted_more : (ends : List FileEnd) (e : FileEnd) (a b c : ℕ) → b ≡ fold failures_past a ends
+    → c ≡ failures_past b e → c ≡ fold failures_past a (ends ++ e ∷ [])
+counted_more ends e a b c before is =
+    is ∙ ap (λ (n : ℕ). failures_past n e) before ∙ sym (fold_push failures_past a ends e)
+
 names_more : (ends : List FileEnd) (e : FileEnd) → names_of (ends ++ e ∷ []) ≡ names_of ends ++ e.name ∷ []
 names_more ends e = map-append (λ e. e.name) ends (e ∷ [])
 
 module _ (profile : Profile) (q : Bool) (contents : Text → Option (List ℕ)) (ends : List FileEnd) (names : List Text)
-    (name : Text) (x : Exit) (i₀ i₁ o₀ o₁ e₀ e₁ : Option (List ℕ)) (w₀ w₁ c₀ c₁ : ℕ)
-    (before : AreChecked profile q contents ends names x (i₀, i₁) (o₀, o₁) (w₀, w₁) (e₀, e₁) (c₀, c₁)) where
-  pub checked_more : {E : Type 0} (y : Exit) (i₂ o₂ e₂ : Option (List ℕ)) (w₂ c₂ : ℕ)
-      → IsChecked {E = E} profile q contents name (Ok y) (i₁, i₂) (o₁, o₂) (w₁, w₂) (e₁, e₂) (c₁, c₂)
-      → (all : List FileEnd) × AreChecked profile q contents all (names ++ name ∷ []) (worse x y) (i₀, i₂) (o₀, o₂)
-      (w₀, w₂) (e₀, e₂) (c₀, c₂)
-  checked_more y i₂ o₂ e₂ w₂ c₂ one = (
+    (name : Text) (x : Exit) (i₀ i₁ o₀ o₁ e₀ e₁ : Option (List ℕ)) (r₀ r₁ w₀ w₁ c₀ c₁ : ℕ)
+    (before : AreChecked profile q contents ends names x (i₀, i₁) (r₀, r₁) (o₀, o₁) (w₀, w₁) (e₀, e₁) (c₀, c₁)) where
+  pub checked_more : {E : Type 0} (y : Exit) (i₂ o₂ e₂ : Option (List ℕ)) (r₂ w₂ c₂ : ℕ)
+      → IsChecked {E = E} profile q contents name (Ok y) (i₁, i₂) (r₁, r₂) (o₁, o₂) (w₁, w₂) (e₁, e₂) (c₁, c₂)
+      → (all : List FileEnd) × AreChecked profile q contents all (names ++ name ∷ []) (worse x y) (i₀, i₂) (r₀, r₂)
+      (o₀, o₂) (w₀, w₂) (e₀, e₂) (c₀, c₂)
+  checked_more y i₂ o₂ e₂ r₂ w₂ c₂ one = (
     ends ++ one.e ∷ [],
     record {
       names_are = ap₂ (λ (ns : List Text) (n : Text). ns ++ n ∷ []) before.names_are (sym one.name_is)
@@ -149,6 +154,7 @@ module _ (profile : Profile) (q : Bool) (contents : Text → Option (List ℕ)) 
       each = All-push (IsFileEnd profile) ends one.e before.each one.is_end;
       tells = tells_more contents i₀ i₁ i₂ ends one.e before.tells
           (rw one.name_is one.told) (rw one.name_is one.left);
+      counted = counted_more ends one.e r₀ r₁ r₂ before.counted one.counted;
       exits = ap₂ worse before.exits one.outcome.0 ∙ sym (exits_more ends one.e);
       lines = Appends-then o₀ o₁ o₂ (files_text q ends) (text_of q one.e) _ before.lines
           (rw one.name_is one.outcome.1) (text_more (text_of q) ends one.e);
@@ -158,12 +164,12 @@ module _ (profile : Profile) (q : Bool) (contents : Text → Option (List ℕ)) 
     },
   )
 
-  pub cut_after : {E : Type 0} (f : E) (all rest : List Text) (i₂ o₂ e₂ e₃ : Option (List ℕ)) (w₂ c₂ c₃ : ℕ)
+  pub cut_after : {E : Type 0} (f : E) (all rest : List Text) (i₂ o₂ e₂ e₃ : Option (List ℕ)) (r₂ w₂ c₂ c₃ : ℕ)
       → all ≡ (names ++ name ∷ []) ++ rest
-      → IsChecked {E = E} profile q contents name (Err f) (i₁, i₂) (o₁, o₂) (w₁, w₂) (e₁, e₂) (c₁, c₂)
+      → IsChecked {E = E} profile q contents name (Err f) (i₁, i₂) (r₁, r₂) (o₁, o₂) (w₁, w₂) (e₁, e₂) (c₁, c₂)
       → IsPut (fault_line run.Write) (e₂, e₃) (c₂, c₃)
-      → AreCut profile q contents all exit.Refused (i₀, i₂) (o₀, o₂) (w₀, w₂) (e₀, e₃) (c₀, c₃)
-  cut_after f all rest i₂ o₂ e₂ e₃ w₂ c₂ c₃ is one put =
+      → AreCut profile q contents all exit.Refused (i₀, i₂) (r₀, r₂) (o₀, o₂) (w₀, w₂) (e₀, e₃) (c₀, c₃)
+  cut_after f all rest i₂ o₂ e₂ e₃ r₂ w₂ c₂ c₃ is one put =
       let cut : (count : ℕ) × Appends o₁ o₂ (take count (text_of q one.e)) = rw one.name_is one.outcome.0 in
       let none : files_complaint profile (ends ++ one.e ∷ []) ≡ files_complaint profile ends =
       text_more (complaint_of profile) ends one.e
@@ -181,6 +187,7 @@ module _ (profile : Profile) (q : Bool) (contents : Text → Option (List ℕ)) 
         each = All-push (IsFileEnd profile) ends one.e before.each one.is_end;
         tells = tells_more contents i₀ i₁ i₂ ends one.e before.tells
             (rw one.name_is one.told) (rw one.name_is one.left);
+        counted = counted_more ends one.e r₀ r₁ r₂ before.counted one.counted;
         exits = refl;
         lines = Appends-trans o₀ o₁ o₂ (files_text q ends) _ before.lines
             (rw (append-nil (text_of q one.e)) cut.1);
@@ -223,21 +230,30 @@ memory_chained (task.Encode profile) told rest front consumed takes = chained _ 
 memory_chained (task.Show profile showing fill selects width height) told rest front consumed takes = tt
 memory_chained (task.ShowBox profile showing fill selects) told rest front consumed takes = tt
 
+-- where the rest isn't told, nothing was
+untold : (told rest : Option (List ℕ)) (front : List ℕ) → Consumes told rest front
+    → option_append (Some front) rest ≡ None → told ≡ None
+untold None rest front consumed none = refl
+untold (Some bytes) None front consumed none = absurd consumed
+untold (Some bytes) (Some rest) front consumed none = cc
+
 -- a run over the bytes that were read and the rest is one over all of them
 pub named_chained : (t : Task) (name : Text) (front : List ℕ) (x : Exit) (told rest left : Option (List ℕ))
-    (o : Option (List ℕ) × Option (List ℕ)) (w : ℕ × ℕ) (f : Bool) (e : Option (List ℕ) × Option (List ℕ)) (c : ℕ × ℕ)
-    → Consumes told rest front → NamedEnds t name front x (option_append (Some front) rest, left) o w f e c
-    → NamedEnds t name front x (told, left) o w f e c
-named_chained t name front x told rest left o w f e c consumed ended = record {
+    (r : ℕ × ℕ) (o : Option (List ℕ) × Option (List ℕ)) (w : ℕ × ℕ) (f : Bool)
+    (e : Option (List ℕ) × Option (List ℕ)) (c : ℕ × ℕ)
+    → Consumes told rest front → NamedEnds t name front x (option_append (Some front) rest, left) r o w f e c
+    → NamedEnds t name front x (told, left) r o w f e c
+named_chained t name front x told rest left r o w f e c consumed ended = record {
   answer = ended.answer;
   wrote = elim ended.wrote [
-    | inl unread ↦ inl unread
+    | inl unread ↦ inl (untold told rest front consumed unread.0, unread.1, unread.2)
     | inr wrote ↦ inr (
       chained (λ (bytes : List ℕ). Wrote t bytes left ended.answer o.0 o.1) told rest front consumed wrote.0,
       wrote.1,
     )
   ];
   memory = λ is. memory_chained t told rest front consumed (ended.memory is);
+  read = ended.read;
   written = ended.written;
   ends = ended.ends;
   said = ended.said;
@@ -262,14 +278,15 @@ named_tail fault = refl
 -- ---- when all files are checked
 
 module _ (profile : Profile) (q : Bool) (contents : Text → Option (List ℕ)) (ends : List FileEnd) (names : List Text)
-    (x : Exit) (i₀ i₁ o₀ o₁ o₂ e₀ e₁ : Option (List ℕ)) (w₀ w₁ w₂ c₀ c₁ : ℕ)
-    (before : AreChecked profile q contents ends names x (i₀, i₁) (o₀, o₁) (w₀, w₁) (e₀, e₁) (c₀, c₁)) where
+    (x : Exit) (i₀ i₁ o₀ o₁ o₂ e₀ e₁ : Option (List ℕ)) (r₀ r₁ w₀ w₁ w₂ c₀ c₁ : ℕ)
+    (before : AreChecked profile q contents ends names x (i₀, i₁) (r₀, r₁) (o₀, o₁) (w₀, w₁) (e₀, e₁) (c₀, c₁)) where
   pub checked_flushed : Keeps o₁ o₂ → w₂ ≡ w₁
-      → AreChecked profile q contents ends names x (i₀, i₁) (o₀, o₂) (w₀, w₂) (e₀, e₁) (c₀, c₁)
+      → AreChecked profile q contents ends names x (i₀, i₁) (r₀, r₁) (o₀, o₂) (w₀, w₂) (e₀, e₁) (c₀, c₁)
   checked_flushed kept same = record {
     names_are = before.names_are;
     each = before.each;
     tells = before.tells;
+    counted = before.counted;
     exits = before.exits;
     lines = Appends-keeps o₀ o₁ o₂ (files_text q ends) before.lines kept;
     unfailed = same ∙ before.unfailed;
@@ -278,7 +295,7 @@ module _ (profile : Profile) (q : Bool) (contents : Text → Option (List ℕ)) 
 
   pub cut_at_flush : (e₂ : Option (List ℕ)) (c₂ : ℕ) → q ≡ false → Keeps o₁ o₂ → w₂ ≡ one_more w₁
       → IsPut (fault_line run.Write) (e₁, e₂) (c₁, c₂)
-      → AreCut profile q contents names exit.Refused (i₀, i₁) (o₀, o₂) (w₀, w₂) (e₀, e₂) (c₀, c₂)
+      → AreCut profile q contents names exit.Refused (i₀, i₁) (r₀, r₁) (o₀, o₂) (w₀, w₂) (e₀, e₂) (c₀, c₂)
   cut_at_flush e₂ c₂ wanted kept failed put =
       let none : ends ++ [] ≡ ends = append-nil ends in
       record {
@@ -290,6 +307,7 @@ module _ (profile : Profile) (q : Bool) (contents : Text → Option (List ℕ)) 
         names_are = before.names_are ∙ sym (append-nil (names_of (ends ++ [])) ∙ ap names_of none);
         each = rw none before.each;
         tells = rw none before.tells;
+        counted = rw none before.counted;
         exits = refl;
         lines = rw (append-nil (files_text q ends)) (Appends-keeps o₀ o₁ o₂ (files_text q ends) before.lines kept);
         failed = failed ∙ ap one_more before.unfailed;
@@ -302,45 +320,55 @@ module _ (profile : Profile) (q : Bool) (contents : Text → Option (List ℕ)) 
 module _ (t : Task) (contents : Text → Option (List ℕ)) (name : Text) (given : List ℕ)
     (o : Option (List ℕ) × Option (List ℕ))
     (w : ℕ × ℕ) (f : Bool) (e : Option (List ℕ) × Option (List ℕ)) (c : ℕ × ℕ) where
-  pub dash_ends : (x : Exit) (i₀ i₁ : Option (List ℕ)) → is_dash name ≡ true
-      → NamedEnds t name given x (i₀, i₁) o w f e c → FileEnds t contents name given x (i₀, i₁) o w f e c
-  dash_ends x i₀ i₁ dash ended = record {
+  pub dash_ends : (x : Exit) (i₀ i₁ : Option (List ℕ)) (r : ℕ × ℕ) → is_dash name ≡ true
+      → NamedEnds t name given x (i₀, i₁) r o w f e c → FileEnds t contents name given x (i₀, i₁) r o w f e c
+  dash_ends x i₀ i₁ r dash ended = record {
     front = given;
     left = i₁;
+    failed = r;
     given_front = λ is. refl;
     own_front = λ is. let no : true ≡ false = sym dash ∙ is in cc;
     stays = rw dash refl;
+    own_failures = λ is. refl;
+    no_failure = λ is. let no : true ≡ false = sym dash ∙ is in cc;
     ended = rw dash ended;
   }
 
-  pub file_ends : (x : Exit) (i rest left : Option (List ℕ)) (front : List ℕ) → is_dash name ≡ false
-      → Consumes (contents name) rest front
-      → NamedEnds t name front x (option_append (Some front) rest, left) o w f e c
-      → FileEnds t contents name given x (i, i) o w f e c
-  file_ends x i rest left front file consumed ended = record {
+  pub file_ends : (x : Exit) (i rest left : Option (List ℕ)) (n : ℕ) (r : ℕ × ℕ) (front : List ℕ)
+      → is_dash name ≡ false → Consumes (contents name) rest front
+      → NamedEnds t name front x (option_append (Some front) rest, left) r o w f e c
+      → FileEnds t contents name given x (i, i) (n, n) o w f e c
+  file_ends x i rest left n r front file consumed ended = record {
     front = front;
     left = left;
+    failed = r;
     given_front = λ is. let no : true ≡ false = sym is ∙ file in cc;
     own_front = λ is. front_consumed (contents name) rest front consumed;
     stays = rw file refl;
-    ended = rw file (named_chained t name front x (contents name) rest left o w f e c consumed ended);
+    own_failures = λ is. let no : true ≡ false = sym is ∙ file in cc;
+    no_failure = λ is. refl;
+    ended = rw file (named_chained t name front x (contents name) rest left r o w f e c consumed ended);
   }
 
 pub unopened_ends : (t : Task) (contents : Text → Option (List ℕ)) (name : Text) (given : List ℕ)
     (i o : Option (List ℕ))
-    (w : ℕ) (f : Bool) (e : Option (List ℕ) × Option (List ℕ)) (c : ℕ × ℕ) → is_dash name ≡ false
-    → IsPut (named_complaint name t (Err run.Read)) e c
-    → FileEnds t contents name given exit.Refused (i, i) (o, o) (w, w) f e c
-unopened_ends t contents name given i o w f e c file put = record {
+    (r w : ℕ) (f : Bool) (e : Option (List ℕ) × Option (List ℕ)) (c : ℕ × ℕ) → is_dash name ≡ false
+    → contents name ≡ None → IsPut (named_complaint name t (Err run.Read)) e c
+    → FileEnds t contents name given exit.Refused (i, i) (r, r) (o, o) (w, w) f e c
+unopened_ends t contents name given i o r w f e c file none put = record {
   front = [];
   left = None;
+  failed = (0, one_more 0);
   given_front = λ is. let no : true ≡ false = sym is ∙ file in cc;
   own_front = λ is. no_front (contents name);
   stays = rw file refl;
+  own_failures = λ is. let no : true ≡ false = sym is ∙ file in cc;
+  no_failure = λ is. refl;
   ended = record {
     answer = Err run.Read;
-    wrote = inl (refl, Appends-none o);
+    wrote = inl (rw file none, refl, Appends-none o);
     memory = λ is. cc;
+    read = inl refl;
     written = refl;
     ends = refl;
     said = subst (λ (text : Text). IsPut text e c) (sym (append-nil (named_complaint name t (Err run.Read)))) put;
@@ -386,11 +414,12 @@ greatest_no_usage x (e ∷ ends) other =
     greatest_no_usage (worse x (exit_of_end e)) ends (one_of_two _ x (exit_of_end e) other (answer_no_usage e.answer))
 
 files_no_usage : (profile : Profile) (q : Bool) (contents : Text → Option (List ℕ)) (names : List Text) (x : Exit)
-    (i o : Option (List ℕ) × Option (List ℕ)) (w : ℕ × ℕ) (f : Bool) (e : Option (List ℕ) × Option (List ℕ)) (c : ℕ × ℕ)
-    → FilesEnd profile q contents names x i o w f e c → x ≢ exit.Usage
-files_no_usage profile q contents names x i o w f e c (inl checked) is =
+    (i : Option (List ℕ) × Option (List ℕ)) (r : ℕ × ℕ) (o : Option (List ℕ) × Option (List ℕ)) (w : ℕ × ℕ)
+    (f : Bool) (e : Option (List ℕ) × Option (List ℕ)) (c : ℕ × ℕ)
+    → FilesEnd profile q contents names x i r o w f e c → x ≢ exit.Usage
+files_no_usage profile q contents names x i r o w f e c (inl checked) is =
     greatest_no_usage exit.Done checked.0 (λ (none : exit.Done ≡ exit.Usage). cc) (sym checked.1.exits ∙ is)
-files_no_usage profile q contents names x i o w f e c (inr cut) is =
+files_no_usage profile q contents names x i r o w f e c (inr cut) is =
     let no : exit.Refused ≡ exit.Usage = sym cut.exits ∙ is in cc
 
 pub request_no_usage : (t : Task) (q : Bool) (names : List Text) (contents : Text → Option (List ℕ)) (front : List ℕ)
@@ -401,7 +430,7 @@ request_no_usage t q [] contents front x i r o w f e c ended is =
     let ran = request_runs t q contents front x i r o w f e c ended in
     answer_no_usage ran.0 (sym ran.1 ∙ is)
 request_no_usage (task.Check profile) q (name ∷ more) contents front x i r o w f e c ended is =
-    files_no_usage profile q contents (name ∷ more) x i o w f e c ended is
+    files_no_usage profile q contents (name ∷ more) x i r o w f e c ended is
 request_no_usage task.List q (name ∷ more) contents front x i r o w f e c ended is =
     answer_no_usage ended.ended.answer (sym ended.ended.ends ∙ is)
 request_no_usage (task.Render profile) q (name ∷ more) contents front x i r o w f e c ended is =

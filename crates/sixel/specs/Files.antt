@@ -1,6 +1,6 @@
 -- Files in place of standard input, and checks that write no verdict.
 use Rattle.std.specs.Prelude.{◌≡◌, ◌≢◌, ◌⊎◌, ◌-◌, ◌^◌, ◌<◌, ◌==◌, ◌&&◌, ◌||◌, ℕ, Bool, length, true, false, List, []}
-use Rattle.std.specs.Prelude.{◌∷◌, ◌++◌, codes, flat_map, fold, map, take, nat_lt, Option, Some, IfSome, Result, Ok}
+use Rattle.std.specs.Prelude.{◌∷◌, ◌++◌, codes, flat_map, fold, map, take, nat_lt, Option, Some, None, IfSome, Result, Ok}
 use Rattle.std.specs.Prelude.{Err, if◌then◌else◌}
 use Rattle.std.specs.Prelude.{option_to_list}
 use Rattle.std.specs.Io.KnownBytes.{Appends}
@@ -17,7 +17,7 @@ use Rattle.sixel.specs.declared.task.Status.TheVariants as status
 use Rattle.sixel.specs.declared.task.Task.{Task}
 use Rattle.sixel.specs.declared.task.Task.TheVariants.{Check}
 use Rattle.sixel.specs.Exits.{IsPut, RunEnds, complaint, exit_code, exit_for_answer, is_render}
-use Rattle.sixel.specs.Outputs.{CountsWrites, TakesMemory, WroteNothing, Wrote, failures_by}
+use Rattle.sixel.specs.Outputs.{CountsReads, CountsWrites, TakesMemory, WroteNothing, Wrote, failures_by}
 use Rattle.sixel.specs.Formats.{advice}
 use Rattle.sixel.specs.Texts.{BeginsWith, Text, fault_line, fault_parts, finding_line, line}
 
@@ -68,16 +68,17 @@ notice is_terminal t names =
 -- answer and wrote what a run writes that has it, or the file couldn't be opened; and the second sink was put the line
 -- that is said of it, and what is said of an input of another format, by the bytes that are given as the first of the
 -- file
--- of each sink stands here what it was before and after: the bytes that it tells, and its count of failures; and of the
--- first whether it is flushed in the end
+-- of the file and of each sink stands here what it was before and after: the bytes that it tells, and its count of
+-- failures; and of the first sink whether it is flushed in the end
 pub record NamedEnds (t : Task) (name : Text) (front : List ℕ) (exit : Exit) (told : Option (List ℕ) × Option (List ℕ))
-    (output : Option (List ℕ) × Option (List ℕ)) (writes : ℕ × ℕ) (is_flushed : Bool)
+    (reads : ℕ × ℕ) (output : Option (List ℕ) × Option (List ℕ)) (writes : ℕ × ℕ) (is_flushed : Bool)
     (errors : Option (List ℕ) × Option (List ℕ)) (complaints : ℕ × ℕ) : Type 0 where
   pub answer : Result Status RunFault
-  pub wrote : ((answer ≡ Err run.Read) × WroteNothing output.0 output.1)
+  pub wrote : ((told.0 ≡ None) × (answer ≡ Err run.Read) × WroteNothing output.0 output.1)
       ⊎ (IfSome told.0 (λ bytes. Wrote t bytes told.1 answer output.0 output.1)
       × (answer ≢ Err run.Write → is_flushed ≡ true))
   pub memory : answer ≡ Err run.OutOfMemory → TakesMemory t told.0
+  pub read : CountsReads answer reads.0 reads.1
   pub written : CountsWrites answer writes.0 writes.1
   pub ends : exit ≡ exit_for_answer answer
   pub said : IsPut (named_complaint name t answer ++ advice front answer) errors complaints
@@ -91,17 +92,21 @@ abbrev pub IsFront : Option (List ℕ) → List ℕ → Type 0
 IsFront told front = IfSome told (λ bytes. BeginsWith bytes front)
 
 -- a task over the file of this name ended so, over what standard input had and has, of which `given` are the first
--- bytes
+-- bytes; its count of failures is that of the file by its name, and stays beside another file
 pub record FileEnds (t : Task) (contents : Text → Option (List ℕ)) (name : Text) (given : List ℕ) (exit : Exit)
-    (input : Option (List ℕ) × Option (List ℕ)) (output : Option (List ℕ) × Option (List ℕ)) (writes : ℕ × ℕ)
-    (is_flushed : Bool) (errors : Option (List ℕ) × Option (List ℕ)) (complaints : ℕ × ℕ) : Type 0 where
+    (input : Option (List ℕ) × Option (List ℕ)) (reads : ℕ × ℕ) (output : Option (List ℕ) × Option (List ℕ))
+    (writes : ℕ × ℕ) (is_flushed : Bool) (errors : Option (List ℕ) × Option (List ℕ)) (complaints : ℕ × ℕ)
+    : Type 0 where
   pub front : List ℕ
   pub left : Option (List ℕ)
+  pub failed : ℕ × ℕ
   pub given_front : is_dash name ≡ true → front ≡ given
   pub own_front : is_dash name ≡ false → IsFront (contents name) front
   pub stays : input.1 ≡ left_after input.0 name left
+  pub own_failures : is_dash name ≡ true → failed ≡ reads
+  pub no_failure : is_dash name ≡ false → reads.1 ≡ reads.0
   pub ended : NamedEnds t name front exit
-      (told_of contents input.0 name, left) output writes is_flushed errors complaints
+      (told_of contents input.0 name, left) failed output writes is_flushed errors complaints
 
 -- ---- checks of several files
 
@@ -174,10 +179,14 @@ Tells contents had [] has = has ≡ had
 Tells contents had (e ∷ rest) has =
     (e.told ≡ told_of contents had e.name) × Tells contents (left_after had e.name e.left) rest has
 
+-- the failures of standard input so far, after the check of a file: one more where that was its own, and a read failed
+abbrev pub failures_past : ℕ → FileEnd → ℕ
+failures_past count e = if is_dash e.name then failures_by run.Read e.answer count else count
+
 -- a check of a file ended so, over what standard input had and has, and did this to the two sinks
 pub record IsChecked {E : Type 0} (profile : Profile) (is_quiet : Bool) (contents : Text → Option (List ℕ))
     (name : Text)
-    (result : Result Exit E) (input : Option (List ℕ) × Option (List ℕ))
+    (result : Result Exit E) (input : Option (List ℕ) × Option (List ℕ)) (reads : ℕ × ℕ)
     (output : Option (List ℕ) × Option (List ℕ)) (writes : ℕ × ℕ)
     (errors : Option (List ℕ) × Option (List ℕ)) (complaints : ℕ × ℕ) : Type 0 where
   pub e : FileEnd
@@ -185,6 +194,7 @@ pub record IsChecked {E : Type 0} (profile : Profile) (is_quiet : Bool) (content
   pub told : e.told ≡ told_of contents input.0 name
   pub left : input.1 ≡ left_after input.0 name e.left
   pub is_end : IsFileEnd profile e
+  pub counted : reads.1 ≡ failures_past reads.0 e
   pub outcome : IsOutcome profile is_quiet name e.line e.answer result output writes errors complaints
 
 -- a call on a sink failed
@@ -197,12 +207,13 @@ IsSaid text taken failures = (Appends taken.0 taken.1 text × (failures.1 ≡ fa
 
 -- files of these names were checked in turn and ended so
 pub record AreChecked (profile : Profile) (is_quiet : Bool) (contents : Text → Option (List ℕ)) (ends : List FileEnd)
-    (names : List Text) (exit : Exit) (input : Option (List ℕ) × Option (List ℕ))
+    (names : List Text) (exit : Exit) (input : Option (List ℕ) × Option (List ℕ)) (reads : ℕ × ℕ)
     (output : Option (List ℕ) × Option (List ℕ)) (writes : ℕ × ℕ)
     (errors : Option (List ℕ) × Option (List ℕ)) (complaints : ℕ × ℕ) : Type 0 where
   pub names_are : names ≡ names_of ends
   pub each : All (IsFileEnd profile) ends
   pub tells : Tells contents input.0 ends input.1
+  pub counted : reads.1 ≡ fold failures_past reads.0 ends
   pub exits : exit ≡ files_exit ends
   pub lines : Appends output.0 output.1 (files_text is_quiet ends)
   pub unfailed : writes.1 ≡ writes.0
@@ -211,8 +222,8 @@ pub record AreChecked (profile : Profile) (is_quiet : Bool) (contents : Text →
 -- the output failed at one of the files, which is the last that was read, or when it was flushed: the lines of those
 -- before were appended, and a front of its own
 pub record AreCut (profile : Profile) (is_quiet : Bool) (contents : Text → Option (List ℕ)) (names : List Text)
-    (exit : Exit) (input : Option (List ℕ) × Option (List ℕ)) (output : Option (List ℕ) × Option (List ℕ))
-    (writes : ℕ × ℕ)
+    (exit : Exit) (input : Option (List ℕ) × Option (List ℕ)) (reads : ℕ × ℕ)
+    (output : Option (List ℕ) × Option (List ℕ)) (writes : ℕ × ℕ)
     (errors : Option (List ℕ) × Option (List ℕ)) (complaints : ℕ × ℕ) : Type 0 where
   pub whole : List FileEnd
   pub last : Option FileEnd
@@ -222,6 +233,7 @@ pub record AreCut (profile : Profile) (is_quiet : Bool) (contents : Text → Opt
   pub names_are : names ≡ names_of (whole ++ option_to_list last) ++ rest
   pub each : All (IsFileEnd profile) (whole ++ option_to_list last)
   pub tells : Tells contents input.0 (whole ++ option_to_list last) input.1
+  pub counted : reads.1 ≡ fold failures_past reads.0 (whole ++ option_to_list last)
   pub exits : exit ≡ Refused
   pub lines : Appends output.0 output.1
       (files_text is_quiet whole ++ take count (files_text is_quiet (option_to_list last)))
@@ -230,13 +242,13 @@ pub record AreCut (profile : Profile) (is_quiet : Bool) (contents : Text → Opt
 
 -- each file was checked, and the first sink is flushed, unless no verdict is wanted; or the first sink failed
 abbrev pub FilesEnd : Profile → Bool → (Text → Option (List ℕ)) → List Text → Exit
-    → Option (List ℕ) × Option (List ℕ) → Option (List ℕ) × Option (List ℕ) → ℕ × ℕ → Bool
+    → Option (List ℕ) × Option (List ℕ) → ℕ × ℕ → Option (List ℕ) × Option (List ℕ) → ℕ × ℕ → Bool
     → Option (List ℕ) × Option (List ℕ) → ℕ × ℕ → Type 0
-FilesEnd profile is_quiet contents names exit input output writes is_flushed errors complaints =
+FilesEnd profile is_quiet contents names exit input reads output writes is_flushed errors complaints =
     ((ends : List FileEnd)
-    × AreChecked profile is_quiet contents ends names exit input output writes errors complaints
+    × AreChecked profile is_quiet contents ends names exit input reads output writes errors complaints
     × (is_quiet ≡ false → is_flushed ≡ true))
-    ⊎ AreCut profile is_quiet contents names exit input output writes errors complaints
+    ⊎ AreCut profile is_quiet contents names exit input reads output writes errors complaints
 
 -- ---- requests
 
@@ -264,6 +276,6 @@ RequestEnds t is_quiet [] contents front exit input reads output writes is_flush
     RunEnds t front exit input reads output writes is_flushed errors complaints
 RequestEnds (Check profile) is_quiet (name ∷ more) contents front exit input reads output writes is_flushed errors
     complaints =
-    FilesEnd profile is_quiet contents (name ∷ more) exit input output writes is_flushed errors complaints
+    FilesEnd profile is_quiet contents (name ∷ more) exit input reads output writes is_flushed errors complaints
 RequestEnds t is_quiet (name ∷ more) contents front exit input reads output writes is_flushed errors complaints =
-    FileEnds t contents name front exit input output writes is_flushed errors complaints
+    FileEnds t contents name front exit input reads output writes is_flushed errors complaints

@@ -13,9 +13,10 @@ ghost use Rattle.sixel.specs.Exits.{IsPut, RunEnds, exit_for_answer};
 ghost use Rattle.sixel.specs.Files.{FileEnds, FilesEnd, IsChecked, IsFileEnd, IsOutcome, NamedEnds, QuietEnds};
 ghost use Rattle.sixel.specs.Files.{RequestEnds, awaits_text, is_dash, named_complaint, notice, reads_input, worse};
 ghost use Rattle.sixel.specs.Formats.{advice};
-ghost use Rattle.sixel.specs.Outputs.{HasSides, answer_of, line_of};
+ghost use Rattle.sixel.specs.Outputs.{HasSides, answer_of, failures_by, line_of};
 ghost use Rattle.sixel.specs.Texts.{Text, fault_line};
 ghost use Rattle.sixel.specs.declared.fault.RunFault.{RunFault as AFault};
+ghost use Rattle.sixel.specs.declared.fault.RunFault.TheVariants.{Read as ReadFault};
 ghost use Rattle.sixel.specs.declared.task.Status.{Status as AStatus};
 
 use crate::exit::{Exit, advice, code_of, exit_of, report};
@@ -213,7 +214,8 @@ fn report_named<S: Source, K: Sink, E: Sink>(
     errors: &mut E,
 ) -> Exit
     requires { HasSides task }
-    ensures { NamedEnds task name.now front.now result (S.remaining input.old, S.remaining input.new)
+    ensures { NamedEnds task name.now front.now result
+        (S.remaining input.old, S.remaining input.new) (S.failure_count input.old, S.failure_count input.new)
         (K.taken output.old, K.taken output.new) (K.failure_count output.old, K.failure_count output.new)
         (K.is_flushed output.new)
         (E.taken errors.old, E.taken errors.new) (E.failure_count errors.old, E.failure_count errors.new) }
@@ -237,7 +239,7 @@ fn report_file<F: Folder, S: Source, K: Sink, E: Sink>(
 ) -> Exit
     requires { HasSides task }
     ensures { FileEnds task (F.contents folder.now) name.now front.now result
-        (S.remaining input.old, S.remaining input.new)
+        (S.remaining input.old, S.remaining input.new) (S.failure_count input.old, S.failure_count input.new)
         (K.taken output.old, K.taken output.new) (K.failure_count output.old, K.failure_count output.new)
         (K.is_flushed output.new)
         (E.taken errors.old, E.taken errors.new) (E.failure_count errors.old, E.failure_count errors.new) }
@@ -332,6 +334,7 @@ fn check_named<S: Source, K: Sink, E: Sink>(
           line = line;
           answer = answer;
         })
+        × (S.failure_count input.new ≡ failures_by ReadFault answer (S.failure_count input.old))
         × IsOutcome profile is_quiet name.now line answer result
         (K.taken output.old, K.taken output.new) (K.failure_count output.old, K.failure_count output.new)
         (E.taken errors.old, E.taken errors.new) (E.failure_count errors.old, E.failure_count errors.new) }
@@ -352,7 +355,7 @@ fn check_file<F: Folder, S: Source, K: Sink, E: Sink>(
     errors: &mut E,
 ) -> Result<Exit, DeviceFault>
     ensures { IsChecked profile is_quiet (F.contents folder.now) name.now result
-        (S.remaining input.old, S.remaining input.new)
+        (S.remaining input.old, S.remaining input.new) (S.failure_count input.old, S.failure_count input.new)
         (K.taken output.old, K.taken output.new) (K.failure_count output.old, K.failure_count output.new)
         (E.taken errors.old, E.taken errors.new) (E.failure_count errors.old, E.failure_count errors.new) }
 {
@@ -361,7 +364,8 @@ fn check_file<F: Folder, S: Source, K: Sink, E: Sink>(
     }
     match folder.open(name) {
         Ok(file) => {
-            let mut file = FromRead::new(file);
+            let none: &[u8] = &[];
+            let mut file = FromRead::new(none.chain(file));
             check_named(alloc, profile, is_quiet, name, &mut file, output, errors)
         }
         Err(_) => put_judged(profile, is_quiet, name, Err(RunFault::Read), output, errors),
@@ -397,7 +401,7 @@ fn check_files<F: Folder, S: Source, K: Sink, E: Sink>(
     errors: &mut E,
 ) -> Exit
     ensures { FilesEnd profile is_quiet (F.contents folder.now) (map string_bytes names.now) result
-        (S.remaining input.old, S.remaining input.new)
+        (S.remaining input.old, S.remaining input.new) (S.failure_count input.old, S.failure_count input.new)
         (K.taken output.old, K.taken output.new) (K.failure_count output.old, K.failure_count output.new)
         (K.is_flushed output.new)
         (E.taken errors.old, E.taken errors.new) (E.failure_count errors.old, E.failure_count errors.new) }

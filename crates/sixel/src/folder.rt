@@ -1,10 +1,11 @@
 //! Where files are found by their names.
 
-ghost use Rattle.std.specs.Prelude.{◌≡◌, IfOk, ℕ, List, None, Option};
+ghost use Rattle.std.specs.Prelude.{◌≡◌, IfErr, IfOk, ℕ, List, None, Option};
 
 use sixel_grammar::DeviceFault;
 use std::fs::File;
-use std::io::Read;
+use std::io;
+use std::io::{Read, Stdin};
 
 /// Opens files by their names.
 pub trait Folder {
@@ -14,9 +15,26 @@ pub trait Folder {
     /// The bytes of the file of a name, where the folder tells them.
     ghost contents: { Self → List ℕ → Option (List ℕ) };
 
-    /// The file of this name, from its start.
+    /// The file of this name, from its start. One whose bytes are told can be opened.
     fn open(&self, name: &str) -> Result<Self::Opened, DeviceFault>
-        ensures { IfOk result (λ file. Self.Opened.remaining file ≡ contents self.now name.now) };
+        ensures opened { IfOk result (λ file. Self.Opened.remaining file ≡ contents self.now name.now) }
+        ensures unopened { IfErr result (λ fault. contents self.now name.now ≡ None) };
+}
+
+/// What a task reads: standard input, or a file. As one type, so that each task is compiled once.
+#[derive(Drop)]
+pub enum Input {
+    Standard(Stdin),
+    Named(File),
+}
+
+impl Read for Input {
+    fn read(&mut self, buf: &mut [u8]) -> io::Result<usize> {
+        match self {
+            Input::Standard(input) => input.read(buf),
+            Input::Named(file) => file.read(buf),
+        }
+    }
 }
 
 /// The folders of the system, which tell no bytes.
@@ -32,13 +50,13 @@ impl<'a> System<'a> {
 }
 
 impl<'a> Folder for System<'a> {
-    type Opened = File;
+    type Opened = Input;
 
     ghost contents = { λ folder name. None };
 
-    fn open(&self, name: &str) -> Result<File, DeviceFault> {
+    fn open(&self, name: &str) -> Result<Input, DeviceFault> {
         match File::open(self.rt, name) {
-            Ok(file) => Ok(file),
+            Ok(file) => Ok(Input::Named(file)),
             Err(_) => Err(DeviceFault),
         }
     }

@@ -35,7 +35,7 @@ mod words;
 
 use exit::{Exit, code_of, tell};
 use files::{announce, answer, front_of};
-use folder::{Folder, System};
+use folder::{Folder, Input, System};
 use request::Request;
 use sixel_grammar::{FromRead, ToWrite};
 use std::alloc::Global;
@@ -55,7 +55,7 @@ fn main(rt: HostRuntime) -> ExitCode {
                 &request,
                 &folder,
                 is_terminal,
-                rt.stdin(),
+                Input::Standard(rt.stdin()),
                 rt.stdout(),
                 rt.stderr(),
             )

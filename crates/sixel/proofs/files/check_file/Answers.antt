@@ -20,5 +20,6 @@ returns-in-Err g c =
       told = rw file refl;
       left = rw file refl;
       is_end = unopened c.args.profile _ _;
+      counted = rw file refl;
       outcome = c.put_judged.ensures;
     }

@@ -10,5 +10,6 @@ returns g c = (
     memory = c.judge-judged.ensures.memory;
     written = c.judge-judged.ensures.unwritten;
   },
+  c.judge-judged.ensures.reads,
   c.put_judged.ensures,
 )
