@@ -11,7 +11,7 @@ ghost use Rattle.sixel_picture.specs.Lanes.{AreChanged};
 ghost use Rattle.sixel_picture.specs.Sheets.{FirstUnpainted, RowsArePainted, painted_sheet};
 
 use crate::bits::{BAND_ROWS, is_set};
-use crate::lanes::{common_bits, fill, first_without, or_into};
+use crate::lanes::{common_bits, fill, first_without, or_into, zeros};
 use crate::plane::Plane;
 use crate::stretch::{LANES, paint_groups, paint_short_run};
 use std::alloc::{AllocError, Global};
@@ -51,8 +51,8 @@ impl Plane for BandPlane {
     ghost sheet = { λ p. p };
 
     fn blank(alloc: Global, width: u32, height: u32) -> Result<BandPlane, AllocError> {
-        let registers = vec![in alloc; 0; (width * height) as usize]?;
-        let coverage = vec![in alloc; 0; (width * height.div_ceil(BAND_ROWS)) as usize]?;
+        let registers = zeros(alloc, (width * height) as usize)?;
+        let coverage = zeros(alloc, (width * height.div_ceil(BAND_ROWS)) as usize)?;
         Ok(BandPlane {
             width,
             height,

@@ -1,14 +1,30 @@
 //! Work on bytes in a row, 32 lanes at a time.
 
-ghost use Rattle.std.specs.Prelude.{◌≡◌, ◌==◌, ◌+◌, ◌<◌, ◌≤◌, ℕ, length, bit_or, drop, not, slice_index, take};
+ghost use Rattle.std.specs.Prelude.{◌≡◌, ◌==◌, ◌+◌, ◌<◌, ◌≤◌, ℕ, IfOk, length, bit_or, drop, not, replicate, slice_index, take};
 ghost use Rattle.std.specs.Int.{bit_at};
 ghost use Rattle.std.specs.List.{prefix_len};
 ghost use Rattle.sixel_picture.specs.Lanes.{AreChanged, IsFirst};
 
+use std::alloc::{AllocError, Global};
 use std::simd::prelude::*;
 
 /// How many bytes are taken at once.
 const LANES: usize = 32;
+
+/// How many zeros are written at once: as many as `memset` writes by lanes, and not by one instruction a byte.
+const ZEROS: usize = 2_048;
+
+/// So many zeros. They take one growth.
+pub(crate) fn zeros(alloc: Global, count: usize) -> Result<Vec<u8>, AllocError>
+    ensures { IfOk result (λ bytes. bytes.items ≡ replicate count 0) }
+{
+    let mut bytes = Vec::with_capacity(alloc, count)?;
+    for piece in 0..count / ZEROS {
+        bytes.resize((piece + 1) * ZEROS, 0)?;
+    }
+    bytes.resize(count, 0)?;
+    Ok(bytes)
+}
 
 /// Gives the bytes from `from` up to `to` a value.
 pub(crate) fn fill(bytes: &mut [u8], from: usize, to: usize, value: u8)
