@@ -32,21 +32,7 @@ fn keep_one<P: Plane>(checker: &mut Checker<P>, placed: Option<Placed>) -> Resul
 {
     match placed {
         None => Ok(()),
-        Some(placed) => keep_event(checker, placed),
-    }
-}
-
-/// Pushes an event, by what is known of commands where it is one.
-#[inline(always)]
-fn keep_event<P: Plane>(checker: &mut Checker<P>, placed: Placed) -> Result<(), AllocError>
-    requires { (registers : ℕ) × (seen : List PlacedValue) × StandsAfter registers checker.old seen
-        × MayCome seen (Some placed) }
-    ensures kept { OnOk result (TakesEvents checker.old checker.new (placed ∷ [])) }
-    ensures grows { OnErr result (MayGrowOver checker.old (placed ∷ [])) }
-{
-    match placed.event {
-        Event::Step(command) => keep_command(checker, placed.place, command),
-        _ => checker.push(&placed),
+        Some(placed) => checker.push(&placed),
     }
 }
 
