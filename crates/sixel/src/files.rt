@@ -100,18 +100,33 @@ pub fn front_of<R: Read>(request: &Request, input: &mut R) -> ArrayVec<u8, FRONT
     }
 }
 
-/// What the input of `encode` begins with, as far as one read gives it. Of another task's input nothing is read, and
-/// where the read fails, the next one meets that.
+/// What the input of `encode` begins with, as far as it is known: it is read until there is enough, or a read gives
+/// nothing or fails, and the next one meets that. Of another task's input nothing is read.
 fn first_bytes<R: Read>(task: Task, input: &mut R) -> ArrayVec<u8, FRONT>
     ensures { Consumes (R.remaining input.old) (R.remaining input.new) result.items }
 {
     let mut front = ArrayVec::new();
     if let Task::Encode { .. } = task {
-        let mut piece = [0; FRONT];
-        let count = input.read(&mut piece).unwrap_or(0);
-        let _ = front.try_extend_from_slice(&piece[..count]);
+        for _ in 0..FRONT {
+            if !read_more(input, &mut front) {
+                break;
+            }
+        }
     }
     front
+}
+
+/// Reads once, as much as there is room for behind what the input begins with. Whether there is room still, and the read
+/// gave something.
+fn read_more<R: Read>(input: &mut R, front: &mut ArrayVec<u8, FRONT>) -> bool
+    ensures { (more : List ℕ) × Consumes (R.remaining input.old) (R.remaining input.new) more
+        × (front.new.items ≡ front.old.items ++ more) }
+{
+    let mut piece = [0; FRONT];
+    let room = front.remaining_capacity();
+    let count = input.read(&mut piece[..room]).unwrap_or(0);
+    let _ = front.try_extend_from_slice(&piece[..count]);
+    count > 0 && !front.is_full()
 }
 
 /// A name between what comes before and after it, where there is room.

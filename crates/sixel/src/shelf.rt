@@ -15,7 +15,7 @@ pub struct Shelf<'a> {
     pub cut: &'a [(&'a str, &'a [u8])],
 }
 
-/// What is left of an open file, of which a read gives five bytes at most.
+/// What is left of an open file, of which a read gives three bytes at most: fewer than the mark of a PNG has.
 #[derive(Drop)]
 pub struct Opened<'a> {
     rest: &'a [u8],
@@ -50,7 +50,7 @@ impl Read for Opened<'_> {
         if self.rest.is_empty() && self.is_cut {
             return Err(Error::other("broken"));
         }
-        let count = buf.len().min(self.rest.len()).min(5);
+        let count = buf.len().min(self.rest.len()).min(3);
         let (front, rest) = self.rest.split_at(count);
         buf[..count].copy_from_slice(front);
         self.rest = rest;
