@@ -9,7 +9,7 @@ use Rattle.sixel.specs.declared.words.WordsFault.TheVariants as fault
 use Rattle.sixel.specs.Explanations.{topic_name}
 use Rattle.sixel.specs.Texts.{Text}
 use Rattle.sixel.proofs.MatchLemmas.{same_parts}
-use Rattle.sixel.specs.Words.{AsksFor, IsAskedBy, IsAskedIn, IsRefusal, IsUnexplained, sixel_app}
+use Rattle.sixel.specs.Words.{AsksFor, IsAskedBy, IsAskedIn, IsNoHelp, IsRefusal, IsUnexplained, sixel_app}
 
 -- a topic is asked for by its name
 pub by_name : (topic : Option Topic) (name : Text) → Some name ≡ option_map topic_name topic
@@ -45,3 +45,10 @@ pub same_wish : (words : List Text) (wanted : Option Text) (name : Text) (rows :
 same_wish words wanted name rows asks is =
     let same = same_parts (subcommand_of sixel_app words) (codes "explain") name asks.0 rows asks.1 is in
     (sym same.0, subst (λ (r : List Row). first_of (codes "name") r ≡ wanted) same.1 asks.2)
+
+-- a refusal is no help
+pub refused_unhelped : (f : WordsFault) → IsRefusal f → IsNoHelp f
+refused_unhelped (fault.Explanation topic) is = absurd is
+refused_unhelped (fault.Usage error) is = tt
+refused_unhelped (fault.Help error) is = absurd is
+refused_unhelped fault.OutOfMemory is = tt

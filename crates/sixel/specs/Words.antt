@@ -202,3 +202,8 @@ IsRefusal (fault.Usage error) = ⊤
 IsRefusal (fault.Help error) = ⊥
 IsRefusal (fault.Explanation topic) = ⊥
 IsRefusal fault.OutOfMemory = ⊤
+
+-- no help is shown, and no version
+abbrev pub IsNoHelp : WordsFault → Type 0
+IsNoHelp (fault.Help error) = ⊥
+IsNoHelp _ = ⊤

@@ -9,7 +9,8 @@ ghost use Rattle.sixel_check.specs.declared.verdict.Finding.{Finding as AFinding
 ghost use Rattle.sixel.specs.Outputs.{Gives, HasSides};
 ghost use Rattle.sixel.specs.Texts.{Text};
 ghost use Rattle.sixel.specs.Explanations.{topic_name};
-ghost use Rattle.sixel.specs.Words.{AsksFor, Explains, IsAskedBy, IsRequestOf, IsSortedOut, IsTaskOf, sixel_app};
+ghost use Rattle.sixel.specs.Words.{AsksFor, Explains, IsAskedBy, IsNoHelp, IsRequestOf, IsSortedOut, IsTaskOf};
+ghost use Rattle.sixel.specs.Words.{sixel_app};
 ghost use Rattle.sixel.specs.declared.explanations.Topic.{Topic as ATopic};
 ghost use Rattle.sixel.specs.declared.task.Status.{Status};
 ghost use Rattle.sixel.specs.declared.task.Task.{Task as ATask};
@@ -88,6 +89,8 @@ fn task_in(alloc: Global, arguments: io::Result<Args>) -> Result<Request, WordsF
         takes sixel_app (map string_bytes (into_iter_items words)) ≡ true → (topic : Option ATopic) →
         AsksFor (map string_bytes (into_iter_items words)) (option_map topic_name topic) →
         Explains (option_map topic_name topic) fault)) }
+    ensures unhelped { IfErr result (λ fault. IfOk arguments (λ words.
+        takes sixel_app (map string_bytes (into_iter_items words)) ≡ true → IsNoHelp fault)) }
 {
     let arguments = match arguments {
         Ok(arguments) => arguments,

@@ -13,7 +13,8 @@ ghost use Rattle.sixel_terminal.specs.Limits.{most_screen_side};
 ghost use Rattle.sixel.specs.declared.task.Task.{Task as ATask};
 ghost use Rattle.sixel.specs.Outputs.{HasSides};
 ghost use Rattle.sixel.specs.Words.{AsksFor, Explains, HasSide, IsAskedBy, IsAskedIn, IsRefusal, IsRequestOf};
-ghost use Rattle.sixel.specs.Words.{IsSortedOut, IsTask, IsTaskOf, IsUnexplained, check_app, explain_app, file, files};
+ghost use Rattle.sixel.specs.Words.{IsNoHelp, IsSortedOut, IsTask, IsTaskOf, IsUnexplained, check_app, explain_app};
+ghost use Rattle.sixel.specs.Words.{file, files};
 ghost use Rattle.sixel.specs.Words.{files_of, flag, is_given, is_named, profile_of, quiet, show_app, side, sixel_app};
 ghost use Rattle.sixel.specs.Words.{with_plain, with_profile};
 ghost use Rattle.sixel.specs.Explanations.{topic_name};
@@ -63,6 +64,7 @@ pub fn parse_words(alloc: Global, words: &[String]) -> Result<Request, WordsFaul
     ensures explained { IfErr result (λ fault. takes sixel_app (map string_bytes words.now) ≡ true →
         (topic : Option ATopic) → AsksFor (map string_bytes words.now) (option_map topic_name topic) →
         Explains (option_map topic_name topic) fault) }
+    ensures unhelped { IfErr result (λ fault. takes sixel_app (map string_bytes words.now) ≡ true → IsNoHelp fault) }
 {
     let command = match sixel_command(alloc) {
         Ok(command) => command,
@@ -133,6 +135,7 @@ fn without_task(alloc: Global, name: &str, matches: &ArgMatches<'_>) -> WordsFau
     ensures explained { name.now ≡ codes "explain" → (topic : Option ATopic) →
         first_of (codes "name") (rows_of (found_of matches.now)) ≡ option_map topic_name topic →
         Explains (option_map topic_name topic) result }
+    ensures unhelped { IsNoHelp result }
 {
     match name {
         "explain" => asked(alloc, matches),
@@ -147,17 +150,34 @@ fn asked(alloc: Global, matches: &ArgMatches<'_>) -> WordsFault
     ensures explained { (topic : Option ATopic) →
         first_of (codes "name") (rows_of (found_of matches.now)) ≡ option_map topic_name topic →
         Explains (option_map topic_name topic) result }
+    ensures unhelped { IsNoHelp result }
 {
     match matches.get_str("name") {
         None => WordsFault::Explanation(None),
         Some(name) => match topic_named(name) {
             Some(topic) => WordsFault::Explanation(Some(topic)),
-            None => usage(
-                alloc,
-                "no rule and no refusal has this name; 'sixel explain' lists them",
-            ),
+            None => unexplained(alloc),
         },
     }
+}
+
+/// A refusal of a name that has no explanation, with the text of the usage of `explain`.
+fn unexplained(alloc: Global) -> WordsFault
+    ensures sorted { IsSortedOut result }
+    ensures refusal { IsRefusal result }
+{
+    let reason = "no rule and no refusal has this name; 'sixel explain' lists them";
+    match explain_error(alloc, reason) {
+        Ok(unnamed) => WordsFault::Usage(unnamed),
+        Err(_) => WordsFault::OutOfMemory,
+    }
+}
+
+fn explain_error(alloc: Global, reason: &str) -> Result<Error, AllocError>
+    ensures { IfOk result (λ e. kind_of e ≡ ErrorKind.ValueValidation) }
+{
+    let mut command = explain_command(alloc)?.bin_name("sixel explain")?;
+    command.error(ErrorKind::ValueValidation, reason)
 }
 
 /// Each task is a subcommand, and so is `explain`. `check` and `show`, which have options, have functions of their own.

@@ -6,7 +6,7 @@ use Rattle.std.specs.Vec.Iter.{into_iter_items}
 use Rattle.std.proofs.lemmas.Iterator.{items_from_collect}
 use Rattle.std.proofs.lemmas.Iterator.Adapters.{YieldsList-from_vec}
 use Rattle.sixel.specs.Explanations.{topic_name}
-use Rattle.sixel.specs.Words.{AsksFor, Explains, IsAskedBy, IsRequestOf, IsTaskOf, sixel_app}
+use Rattle.sixel.specs.Words.{AsksFor, Explains, IsAskedBy, IsNoHelp, IsRequestOf, IsTaskOf, sixel_app}
 use Rattle.sixel.specs.declared.explanations.Topic.{Topic as ATopic}
 use Rattle.sixel.specs.declared.task.Task.{Task as ATask}
 use Rattle.sixel.specs.declared.words.WordsFault.TheVariants as fault
@@ -67,3 +67,13 @@ returns-in-Ok-collect-clause-explained c =
     → (topic : Option ATopic) → AsksFor (map string_bytes ws) (option_map topic_name topic)
     → Explains (option_map topic_name topic) refusal)) (c.as_slice.ensures.value ∙ same)
     c.parse_words.ensures.explained)
+
+pub returns-in-Ok-collect-clause-unhelped : goal.returns-in-Ok-collect-clause-unhelped
+returns-in-Ok-collect-clause-unhelped c =
+    let had = into_iter_items c.in-Ok.arguments in
+    let same : c.in-Ok-collect.words.items ≡ had =
+    items_from_collect {E = Unit {0}} (Ok c.in-Ok-collect.words) c.in-Ok-collect.ensures.ran
+    (YieldsList-from_vec had refl c.in-Ok.arguments.rest.ok.0) in
+    rw c.in-Ok.is
+    (subst (λ ws. IfErr c.parse_words.result (λ refusal. takes sixel_app (map string_bytes ws) ≡ true
+    → IsNoHelp refusal)) (c.as_slice.ensures.value ∙ same) c.parse_words.ensures.unhelped)

@@ -246,7 +246,7 @@ fn refuses_other_words(rt: HostRuntime) -> Result<(), Fail> {
         ),
         (
             "sixel explain ratio",
-            "usage error: no rule and no refusal has this name; 'sixel explain' lists them\n\nUsage: sixel <COMMAND>",
+            "usage error: no rule and no refusal has this name; 'sixel explain' lists them\n\nUsage: sixel explain [NAME]",
         ),
         (
             "sixel explain Ratio BoxSize",

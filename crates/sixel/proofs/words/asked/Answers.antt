@@ -2,7 +2,7 @@ use Rattle.std.proofs.Common.{◌≡◌, ◌∙◌, Some, None, codes, refl, sym
 use Rattle.clap.specs.Walk.{first_of, rows_of}
 use Rattle.clap.specs.Matches.{found_of}
 use Rattle.clap.proofs.WalkLemmas.{first_value-rows}
-use Rattle.sixel.proofs.ExplainLemmas.{by_name}
+use Rattle.sixel.proofs.ExplainLemmas.{by_name, refused_unhelped}
 use Rattle.sixel.proofs.words.asked.Goals as goal
 
 pub returns-in-None-clause-asked : goal.returns-in-None-clause-asked
@@ -39,3 +39,8 @@ returns-in-None-topic_named-clause-explained c = λ topic is.
     let found : first_of (codes "name") (rows_of f) ≡ Some c.in-Some.name.now =
     sym (first_value-rows f (codes "name")) ∙ sym c.in-Some.ensures in
     absurd (by_name topic c.in-Some.name.now (sym found ∙ is) (c.in-None-topic_named.ensures.none refl))
+
+pub returns-in-None-topic_named-clause-unhelped :
+    goal.returns-in-None-topic_named-clause-unhelped
+returns-in-None-topic_named-clause-unhelped c =
+    refused_unhelped c.unexplained.result c.unexplained.ensures.refusal

@@ -95,3 +95,15 @@ returns-in-Some-clause-explained c = λ taken topic asks.
     let wish = same_wish words (option_map topic_name topic) c.in-Some.name.now
     (rows_of (found_of c.in-Some.found.now)) asks (sym sub ∙ met) in
     c.without_task.ensures.explained wish.0 topic wish.1
+
+pub returns-in-Err-try_get_matches_from-clause-unhelped :
+    goal.returns-in-Err-try_get_matches_from-clause-unhelped
+returns-in-Err-try_get_matches_from-clause-unhelped c = λ taken.
+    let words = map string_bytes c.args.words.now in
+    let same : takes (app_of c.in-Ok.command) words ≡ takes sixel_app words = ap (λ (a : App). takes a words)
+    c.in-Ok.ensures in
+    rw (c.sorted_out.ensures.memory (c.in-Err-try_get_matches_from.ensures.passes (same ∙ taken))) tt
+
+pub returns-in-Some-task_of-clause-unhelped : goal.returns-in-Some-task_of-clause-unhelped
+returns-in-Some-task_of-clause-unhelped c =
+    IfErr-weaker c.request_of.result _ _ (λ fault is taken. rw is tt) c.request_of.ensures.memory
