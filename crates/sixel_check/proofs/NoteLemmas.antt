@@ -97,7 +97,7 @@ palette_push registers n before (Step (Define register system x y z)) s h k =
     ∙ left_define registers register system x y z found.0 before lt found.1)
 palette_push registers n before e s h k = s ∙ left_idle registers before e (λ r. refl)
 
--- ---- the registers in which was painted
+-- ---- the registers that were painted in
 
 length_painted : (b : Bool) (o : Option ℕ) (xs : List Bool)
     → length (if b then option_map_or (λ r. set xs r true) o xs else xs) ≡ length xs

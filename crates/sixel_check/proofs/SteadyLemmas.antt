@@ -1,4 +1,4 @@
--- On registers in which was painted: where no rule is broken, they keep their colours.
+-- On registers that were painted in: where no rule is broken, they keep their colours.
 use Rattle.std.proofs.Common.{◌≡◌, ◌<◌, ◌≤◌, ◌+◌, ◌-◌, ℕ, zero, suc, Bool, true, false, ◌&&◌, cond, not, Some, None}
 use Rattle.std.proofs.Common.{List, [], ◌∷◌, ◌++◌, length, take, refl, ap, ◌∙◌, arith, add-zero, add-suc}
 use Rattle.std.specs.Prelude.{◌==◌, slice_get, IsFalse, IsSome}
@@ -26,7 +26,7 @@ use Rattle.sixel_check.specs.Laws.{PaintedColourIsLeft}
 use Rattle.sixel_check.proofs.ColourLemmas.{IsSound, each_sound, known_in_range, made, map_defined}
 use Rattle.sixel_check.proofs.OptionLemmas.{some_from, some_value}
 
--- ---- a definition of a register in which was painted
+-- ---- a definition of a register that was painted in
 
 same_definition : (d e : Definition) → is_same_definition d e ≡ true → e ≡ d
 same_definition d e h =
@@ -56,7 +56,7 @@ redefine_step before q r s x y z d true same kept defined painted =
     let alike : not (is_same_definition d (made s x y z)) ≡ false = rw (painted_q, at_q) at kept in
     ap Some (same_definition d (made s x y z) (not-false _ alike))
 
--- one event more leaves the definition of a register in which was painted
+-- one event more leaves the definition of a register that was painted in
 steady_step : (n r : ℕ) (before : List Event) (x : Event) (d : Definition) → Keeps n before x
     → definition_of before r ≡ Some d → is_painted_in before r ≡ true
     → option_or (definition_where (λ q. q == r) x) (definition_of before r) ≡ Some d
@@ -64,7 +64,7 @@ steady_step n r before (Step (Define q s x y z)) d k defined painted =
     redefine_step before q r s x y z d (q == r) (eqb-true q r) k.redefined defined painted
 steady_step n r before _ d k defined painted = defined
 
--- the last definition of the register, in which was painted
+-- the last definition of the register, which was painted in
 pub record IsSteady (r : ℕ) (d : Definition) (before : List Event) : Type 0 where
   pub defined : definition_of before r ≡ Some d
   pub painted : is_painted_in before r ≡ true

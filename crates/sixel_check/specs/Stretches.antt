@@ -28,7 +28,7 @@ pub record Fits (notes : Notes) (count : ℕ) (s : Sheet) : Type 0 where
   pub columns : notes.column + count ≤ s.width
   pub rows : band_rows * notes.band + band_rows ≤ s.height
 
--- the notes after so many sixels in a register in which was painted before
+-- the notes after so many sixels in a register that was painted in before
 abbrev pub moved_by : ℕ → Notes → Notes
 moved_by count notes = record {
   column = notes.column + count;

@@ -64,7 +64,8 @@ fn push_command<P: Plane>(
     checker.push(&Placed { place, event })
 }
 
-/// Pushes a command. Nearly all are data, and where their kind is known, the compiler leaves out what others need.
+/// Pushes a command that a byte completed alone, which is data: where the kind is known, the compiler leaves out what
+/// others need.
 #[inline(always)]
 fn keep_command<P: Plane>(
     checker: &mut Checker<P>,
@@ -81,26 +82,6 @@ fn keep_command<P: Plane>(
         Command::Repeat { count, bits } => {
             push_command(checker, place, Command::Repeat { count, bits })
         }
-        _ => keep_other(checker, place, command),
-    }
-}
-
-/// Pushes a command that isn't data, as `keep_command`. Between stretches stand selects, returns and next lines.
-#[inline(always)]
-fn keep_other<P: Plane>(
-    checker: &mut Checker<P>,
-    place: u64,
-    command: Command,
-) -> Result<(), AllocError>
-    requires { (registers : ℕ) × (seen : List PlacedValue) × StandsAfter registers checker.old seen
-        × MayCome seen (Some (command_at place command)) }
-    ensures kept { OnOk result (TakesEvents checker.old checker.new (command_at place command ∷ [])) }
-    ensures grows { OnErr result (MayGrowOver checker.old (command_at place command ∷ [])) }
-{
-    match command {
-        Command::Select(register) => push_command(checker, place, Command::Select(register)),
-        Command::CarriageReturn => push_command(checker, place, Command::CarriageReturn),
-        Command::NextLine => push_command(checker, place, Command::NextLine),
         _ => push_rarely(checker, place, command),
     }
 }

@@ -25,7 +25,7 @@ pub enum Rule {
     Unselected = 8,
     /// A command that paints in a register without a definition before it.
     Undefined = 9,
-    /// A definition of a register in which was painted, with another colour than it has.
+    /// A definition of a register that was already painted in, with another colour than it has.
     Redefined = 10,
     /// A command with a set bit that falls outside the box.
     Outside = 11,

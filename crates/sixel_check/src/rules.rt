@@ -117,7 +117,7 @@ fn breaks_undefined(notes: &Notes, event: &Event) -> bool
     }
 }
 
-/// A definition of a register in which was painted, in another colour than it has.
+/// A definition of a register that was already painted in, with another colour than it has.
 #[inline(always)]
 fn breaks_redefined(notes: &Notes, event: &Event) -> bool
     ensures { result ≡ noted.redefined_in notes.now event.now }

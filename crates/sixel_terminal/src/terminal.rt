@@ -9,7 +9,7 @@ ghost use Rattle.sixel_terminal.specs.Displays.{HasRoom, IsInClass};
 ghost use Rattle.sixel_terminal.specs.Limits.{display_of, is_ground_below, terminal_fault};
 
 use crate::choices::{Choices, Ground};
-use sixel_picture::Colour;
+use sixel_picture::{Colour, LEAST_REGISTERS, MOST_REGISTERS};
 use std::marker::Model;
 
 /// The greatest side of a screen, in pixels.
@@ -78,7 +78,7 @@ fn fault_of(choices: Choices, colours: &[Colour], screen: &[Colour]) -> Option<T
     ensures { result ≡ terminal_fault choices colours.now screen.now }
 {
     let registers = colours.len();
-    if registers < 16 || registers > 256 {
+    if registers < LEAST_REGISTERS || registers > MOST_REGISTERS {
         return Some(TerminalReason::Registers);
     }
     if choices.selected as usize >= registers {

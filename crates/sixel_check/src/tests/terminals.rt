@@ -56,8 +56,7 @@ fn choices_of(number: u8, width: u32, height: u32) -> Choices {
     }
 }
 
-/// A colour for each register of the profile: register n starts as 6n percent of red, green and blue, by the rest of
-/// 101.
+/// A colour for each register of the profile: register n starts as 6n modulo 101 percent of red, green and blue.
 pub(super) fn greys(alloc: Global, profile: Profile) -> Result<Vec<Colour>, Fail> {
     let mut colours = Vec::with_capacity(alloc, 256)?;
     for register in 0..profile.count() {
@@ -306,7 +305,7 @@ fn shows_seventeenth(rt: &impl AllocGlobal, choices: Choices) -> Result<bool, Fa
     )
 }
 
-/// Whether one of 256 registers shows the colour in which the last one starts: 1,530 by the rest of 101.
+/// Whether one of 256 registers shows the colour in which the last one starts: 1,530 modulo 101.
 fn shows_last_undefined(rt: &impl AllocGlobal, choices: Choices) -> Result<bool, Fail> {
     let colours = greys(rt.alloc(), Profile::Registers256)?;
     shows(rt, LAST_UNDEFINED, choices, colours, &[grey(15)])
