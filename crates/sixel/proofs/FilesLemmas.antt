@@ -1,5 +1,5 @@
 -- On checks of several files.
-use Rattle.std.proofs.Common.{◌≡◌, ◌∙◌, ◌+◌, ◌-◌, ◌^◌, ◌<◌, ℕ, Bool, true, false, List, [], ◌∷◌, ◌++◌, length, take}
+use Rattle.std.proofs.Common.{◌≡◌, ◌∙◌, ◌+◌, ◌-◌, ◌<◌, ℕ, Bool, true, false, List, [], ◌∷◌, ◌++◌, length, take}
 use Rattle.std.proofs.Common.{drop, Option, Some, None, refl, sym, ap, ap₂, subst, arith, inl, inr, flat_map, fold, map}
 use Rattle.std.specs.Prelude.{◌≢◌, Result, Ok, Err, IfSome, String, string_bytes, if◌then◌else◌}
 use Rattle.std.specs.Global.{Global}
@@ -7,10 +7,9 @@ use Rattle.std.specs.Fmt.{option_append}
 use Rattle.std.specs.Result.{IsErrAnd}
 use Rattle.std.specs.Io.KnownBytes.{Appends, Consumes, Keeps}
 use Rattle.std.proofs.KnownBytes.{Appends-trans}
-use Rattle.std.proofs.lemmas.Bool.{cases_lt}
 use Rattle.std.proofs.Common.{get_or}
 use Rattle.std.proofs.lemmas.List.{append-nil, take-append-drop, take_more}
-use Rattle.std.proofs.lemmas.List.Elements.{All-push}
+use Rattle.std.proofs.lemmas.List.Elements.{All-cons, All-nil, All-push}
 use Rattle.std.proofs.lemmas.Grind.{flat_map-append}
 use Rattle.std.proofs.lemmas.List.{map-append}
 use Rattle.std.proofs.lemmas.List.Sums.{fold_push}
@@ -28,10 +27,11 @@ use Rattle.sixel.specs.declared.task.Task.{Task}
 use Rattle.sixel.specs.declared.task.Task.TheVariants as task
 use Rattle.sixel.specs.declared.task.Task.TheVariants.{Check}
 use Rattle.sixel.specs.Exits.{IsPut, complaint, exit_for_answer}
-use Rattle.sixel.specs.Files.{AreChecked, AreCut, FileEnd, HasFailed, IsChecked, IsFileEnd, IsFront, IsSaid, NamedEnds}
-use Rattle.sixel.specs.Files.{FileEnds, FilesEnd, RequestEnds, Tells, is_dash, complaint_of, exit_of_end}
-use Rattle.sixel.specs.Files.{failures_past, files_complaint, files_exit, files_text, greatest, left_after}
-use Rattle.sixel.specs.Files.{named_complaint, names_of, text_of, told_of, worse}
+use Rattle.sixel.specs.Files.{AreChecked, ArePut, AreCut, FileEnd, IsChecked, IsFileEnd, IsFront, NamedEnds}
+use Rattle.sixel.specs.Files.{FileEnds, FilesEnd, RequestEnds, Tells, SaysOfCheck, is_dash, complaints_of}
+use Rattle.sixel.specs.Files.{exit_of_end, failures_past, files_exit, files_text, greatest, left_after}
+use Rattle.sixel.specs.Files.{named_complaint, named_fault_line, names_of, said_of, said_of_check, text_of, told_of}
+use Rattle.sixel.specs.Files.{worse}
 use Rattle.sixel.specs.Outputs.{Gives, TakesMemory, Wrote}
 use Rattle.sixel.specs.Texts.{Text, fault_line, fault_parts}
 use Rattle.sixel_check.specs.declared.verdict.Finding.{Finding}
@@ -39,40 +39,36 @@ use Rattle.sixel.proofs.EndLemmas.{broken_gives, chained, done_gives}
 
 -- ---- what is said of one file
 
-pub said_none : (name : Text) (profile : Profile) (status : Status)
-    → named_complaint name (Check profile) (Ok status) ≡ []
-said_none name profile status.Done = refl
-said_none name profile (status.Broken finding) = refl
-
--- of standard input too
+-- a check that isn't refused says nothing
 pub unsaid : (profile : Profile) (status : Status) → complaint (Check profile) (Ok status) ≡ []
 unsaid profile status.Done = refl
 unsaid profile (status.Broken finding) = refl
 
--- a count of failures that rose, or stands at its end
-one_more_failed : (a : ℕ) → HasFailed (a, one_more a)
-one_more_failed a = elim (cases_lt (a + 1) (2 ^ 64 - 1)) [
-  | inl below ↦ inl (omega arith)
-  | inr past ↦ inr (omega arith)
-]
+-- ---- what is put
 
-failed_more : (a b : ℕ) → HasFailed (a, b) → HasFailed (a, one_more b)
-failed_more a b (inl rose) = elim (cases_lt (b + 1) (2 ^ 64 - 1)) [
-  | inl below ↦ inl (omega (arith, rose))
-  | inr past ↦ inr (omega arith)
-]
-failed_more a b (inr end) = inr (omega (arith, end))
+pub none_put : (e : Option (List ℕ)) (c : ℕ) → ArePut [] (e, e) (c, c)
+unfolding ArePut
+none_put e c = (refl, refl)
 
-pub said_more : (first more : Text) (e₀ e₁ e₂ : Option (List ℕ)) (c₀ c₁ c₂ : ℕ) → IsSaid first (e₀, e₁) (c₀, c₁)
-    → IsPut more (e₁, e₂) (c₁, c₂) → IsSaid (first ++ more) (e₀, e₂) (c₀, c₂)
-said_more first more e₀ e₁ e₂ c₀ c₁ c₂ (inl said) (inl put) =
-    inl (Appends-then e₀ e₁ e₂ first more (first ++ more) said.0 put.0 refl, put.1 ∙ said.1)
-said_more first more e₀ e₁ e₂ c₀ c₁ c₂ (inl said) (inr cut) =
-    inr (subst (λ (n : ℕ). HasFailed (c₀, n)) (ap one_more (sym said.1) ∙ sym cut.2) (one_more_failed c₀))
-said_more first more e₀ e₁ e₂ c₀ c₁ c₂ (inr failed) (inl put) =
-    inr (subst (λ (n : ℕ). HasFailed (c₀, n)) (sym put.1) failed)
-said_more first more e₀ e₁ e₂ c₀ c₁ c₂ (inr failed) (inr cut) =
-    inr (subst (λ (n : ℕ). HasFailed (c₀, n)) (sym cut.2) (failed_more c₀ c₁ failed))
+pub one_put : (text : Text) (e : Option (List ℕ) × Option (List ℕ)) (c : ℕ × ℕ) → IsPut text e c
+    → ArePut (text ∷ []) e c
+unfolding ArePut
+one_put text e c put = (e.1, c.1, put, (refl, refl))
+
+-- what is said of a check was put
+pub said_put : (name : Text) (answer : Result Status RunFault) (e : Option (List ℕ) × Option (List ℕ)) (c : ℕ × ℕ)
+    → SaysOfCheck name answer e c → ArePut (said_of_check name answer) e c
+unfolding ArePut
+said_put name (Ok status) e c says = says
+said_put name (Err fault) e c says = one_put (named_fault_line name fault) e c says
+
+-- texts were put, and then others
+pub put_then : (texts more : List Text) (e₀ e₁ e₂ : Option (List ℕ)) (c₀ c₁ c₂ : ℕ)
+    → ArePut texts (e₀, e₁) (c₀, c₁) → ArePut more (e₁, e₂) (c₁, c₂) → ArePut (texts ++ more) (e₀, e₂) (c₀, c₂)
+unfolding ArePut
+put_then [] more e₀ e₁ e₂ c₀ c₁ c₂ none are = rw (sym none.0, sym none.1) are
+put_then (text ∷ texts) more e₀ e₁ e₂ c₀ c₁ c₂ before are =
+    (before.0, before.1, before.2, put_then texts more before.0 e₁ e₂ before.1 c₁ c₂ before.3 are)
 
 -- ---- one file more
 
@@ -88,7 +84,7 @@ none_checked profile q contents i o e r w c = record {
   exits = refl;
   lines = Appends-none o;
   unfailed = refl;
-  said = inl (Appends-none e, refl);
+  said = none_put e c;
 }
 
 -- the names of the files so far, with one more
@@ -121,10 +117,10 @@ tells_more contents a b c [] e tells told left = (
 tells_more contents a b c (x ∷ ends) e tells told left =
     (tells.0, tells_more contents (left_after a x.name x.left) b c ends e tells.1 told left)
 
-text_more : (f : FileEnd → Text) (ends : List FileEnd) (e : FileEnd)
+text_more : {X : Type 0} (f : FileEnd → List X) (ends : List FileEnd) (e : FileEnd)
     → flat_map f (ends ++ e ∷ []) ≡ flat_map f ends ++ f e
-text_more f ends e =
-    flat_map-append f ends (e ∷ []) ∙ ap (λ (t : Text). flat_map f ends ++ t) (append-nil (f e))
+text_more {X} f ends e =
+    flat_map-append f ends (e ∷ []) ∙ ap (λ (t : List X). flat_map f ends ++ t) (append-nil (f e))
 
 exits_more : (ends : List FileEnd) (e : FileEnd) → files_exit (ends ++ e ∷ []) ≡ worse (files_exit ends) (exit_of_end e)
 exits_more ends e =
@@ -159,8 +155,9 @@ module _ (profile : Profile) (q : Bool) (contents : Text → Option (List ℕ)) 
       lines = Appends-then o₀ o₁ o₂ (files_text q ends) (text_of q one.e) _ before.lines
           (rw one.name_is one.outcome.1) (text_more (text_of q) ends one.e);
       unfailed = one.outcome.2 ∙ before.unfailed;
-      said = subst (λ (t : Text). IsSaid t (e₀, e₂) (c₀, c₂)) (sym (text_more (complaint_of profile) ends one.e))
-          (said_more _ _ e₀ e₁ e₂ c₀ c₁ c₂ before.said (rw one.name_is one.outcome.3));
+      said = rw (text_more said_of ends one.e)
+          (put_then (complaints_of ends) (said_of one.e) e₀ e₁ e₂ c₀ c₁ c₂ before.said
+          (said_put one.e.name one.e.answer (e₁, e₂) (c₁, c₂) (rw one.name_is one.outcome.3)));
     },
   )
 
@@ -171,10 +168,6 @@ module _ (profile : Profile) (q : Bool) (contents : Text → Option (List ℕ)) 
       → AreCut profile q contents all exit.Refused (i₀, i₂) (r₀, r₂) (o₀, o₂) (w₀, w₂) (e₀, e₃) (c₀, c₃)
   cut_after f all rest i₂ o₂ e₂ e₃ r₂ w₂ c₂ c₃ is one put =
       let cut : (count : ℕ) × Appends o₁ o₂ (take count (text_of q one.e)) = rw one.name_is one.outcome.0 in
-      let none : files_complaint profile (ends ++ one.e ∷ []) ≡ files_complaint profile ends =
-      text_more (complaint_of profile) ends one.e
-      ∙ ap (λ (t : Text). files_complaint profile ends ++ t) (rw one.name_is one.outcome.3)
-      ∙ append-nil (files_complaint profile ends) in
       record {
         whole = ends;
         last = Some one.e;
@@ -192,8 +185,10 @@ module _ (profile : Profile) (q : Bool) (contents : Text → Option (List ℕ)) 
         lines = Appends-trans o₀ o₁ o₂ (files_text q ends) _ before.lines
             (rw (append-nil (text_of q one.e)) cut.1);
         failed = one.outcome.2 ∙ ap one_more before.unfailed;
-        said = rw none
-            (said_more (files_complaint profile ends) (fault_line run.Write) e₀ e₁ e₃ c₀ c₁ c₃ before.said
+        silent = All-cons (λ (e : FileEnd). said_of e ≡ []) one.e [] (rw one.name_is one.outcome.3)
+            (All-nil (λ (e : FileEnd). said_of e ≡ []));
+        said = put_then (complaints_of ends) (fault_line run.Write ∷ []) e₀ e₁ e₃ c₀ c₁ c₃ before.said
+            (one_put (fault_line run.Write) (e₁, e₃) (c₁, c₃)
             (subst (λ (o : Option (List ℕ)). IsPut (fault_line run.Write) (o, e₃) (c₁, c₃)) one.outcome.4
             (subst (λ (n : ℕ). IsPut (fault_line run.Write) (e₂, e₃) (n, c₃)) one.outcome.5 put)));
       }
@@ -311,8 +306,9 @@ module _ (profile : Profile) (q : Bool) (contents : Text → Option (List ℕ)) 
         exits = refl;
         lines = rw (append-nil (files_text q ends)) (Appends-keeps o₀ o₁ o₂ (files_text q ends) before.lines kept);
         failed = failed ∙ ap one_more before.unfailed;
-        said = rw none
-            (said_more (files_complaint profile ends) (fault_line run.Write) e₀ e₁ e₂ c₀ c₁ c₂ before.said put);
+        silent = All-nil (λ (e : FileEnd). said_of e ≡ []);
+        said = put_then (complaints_of ends) (fault_line run.Write ∷ []) e₀ e₁ e₂ c₀ c₁ c₂ before.said
+            (one_put (fault_line run.Write) (e₁, e₂) (c₁, c₂) put);
       }
 
 -- ---- a task over a file

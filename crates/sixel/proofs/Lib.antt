@@ -10,6 +10,7 @@ pub mod RunLemmas
 pub mod EndLemmas
 pub mod FilesLemmas
 pub mod SeveralLemmas
+pub mod StatusLemmas
 pub mod RoundTripLemmas
 pub mod MatchLemmas
 pub mod SixelLineLemmas

@@ -1,9 +1,14 @@
 -- The exit statuses of several files, and the line of each.
-use Rattle.std.proofs.Common.{ap₂, Result, Err, ◌++◌}
+use Rattle.std.proofs.Common.{ap, ap₂, append_assoc, Result, Err, ◌++◌}
 use Rattle.std.proofs.Common.{◌≡◌, ◌≤◌, ◌∷◌, ℕ, Bool, true, false, List, [], Some, arith, refl, sym, fold, length, map}
-use Rattle.std.proofs.Common.{slice_index_or, subst, suc, zero, inl, inr, ◌<◌}
+use Rattle.std.proofs.Common.{slice_index_or, subst, suc, zero, inl, inr, ◌<◌, ◌+◌, ◌-◌, ◌^◌, ◌∙◌, Option}
 use Rattle.std.specs.Prelude.{◌⊎◌, All, Contains, Ok, nat_lt, if◌then◌else◌}
-use Rattle.std.proofs.lemmas.Bool.{ltb-false, ltb-true}
+use Rattle.std.specs.List.{concat}
+use Rattle.std.proofs.lemmas.List.{append-nil}
+use Rattle.std.proofs.lemmas.Bool.{cases_lt, ltb-false, ltb-true}
+use Rattle.sixel_grammar.specs.Devices.{one_more}
+use Rattle.sixel_grammar.proofs.SinkLemmas.{Appends-none}
+use Rattle.sixel_grammar.proofs.DeviceLemmas.{Appends-then}
 use Rattle.std.proofs.lemmas.List.Elements.{All-cons, All-nil}
 use Rattle.sixel_picture.specs.declared.profile.Profile.{Profile}
 use Rattle.sixel.specs.declared.exit.Exit.{Exit}
@@ -13,8 +18,9 @@ use Rattle.sixel.specs.declared.fault.RunFault.{RunFault}
 use Rattle.sixel.specs.declared.fault.RunFault.TheVariants as run
 use Rattle.sixel.specs.declared.task.Status.{Status}
 use Rattle.sixel.specs.declared.task.Task.TheVariants.{Check}
-use Rattle.sixel.specs.Exits.{exit_code}
-use Rattle.sixel.specs.Files.{FileEnd, IsFileEnd, exit_of_end, file_text, files_exit, files_text, worse}
+use Rattle.sixel.specs.Exits.{IsPut, exit_code}
+use Rattle.sixel.specs.Files.{ArePut, FileEnd, HasFailed, IsFileEnd, IsSaid, exit_of_end, file_text, files_exit}
+use Rattle.sixel.specs.Files.{files_text, worse}
 use Rattle.sixel.specs.Outputs.{Gives, Wrote}
 use Rattle.sixel.specs.Texts.{Text}
 
@@ -49,8 +55,8 @@ greatest_of ends = all_no_less exit.Done ends
 
 -- ---- one of them
 
-contains_later : (x v : Exit) (exits : List Exit) → Contains exits v → Contains (x ∷ exits) v
-contains_later x v exits has = (suc has.0, omega (arith, has.1), has.2)
+pub contains_later : {X : Type 0} (x v : X) (xs : List X) → Contains xs v → Contains (x ∷ xs) v
+contains_later x v xs has = (suc has.0, omega (arith, has.1), has.2)
 
 -- one more behind the first
 contains_behind : (x y v : Exit) (exits : List Exit) (k : ℕ) → k < length (x ∷ exits)
@@ -86,6 +92,47 @@ reached e more =
     let exits = map exit_of_end more in
     subst (λ (w : Exit). Contains (exit_of_end e ∷ exits) (fold worse w exits)) (sym (from_done (exit_of_end e)))
     (fold_reached (exit_of_end e) exits)
+
+-- ---- what is said of all
+
+-- a count of failures that rose, or stands at its end
+one_more_failed : (a : ℕ) → HasFailed (a, one_more a)
+one_more_failed a = elim (cases_lt (a + 1) (2 ^ 64 - 1)) [
+  | inl below ↦ inl (omega arith)
+  | inr past ↦ inr (omega arith)
+]
+
+failed_more : (a b : ℕ) → HasFailed (a, b) → HasFailed (a, one_more b)
+failed_more a b (inl rose) = elim (cases_lt (b + 1) (2 ^ 64 - 1)) [
+  | inl below ↦ inl (omega (arith, rose))
+  | inr past ↦ inr (omega arith)
+]
+failed_more a b (inr end) = inr (omega (arith, end))
+
+said_more : (first more : Text) (e₀ e₁ e₂ : Option (List ℕ)) (c₀ c₁ c₂ : ℕ) → IsSaid first (e₀, e₁) (c₀, c₁)
+    → IsPut more (e₁, e₂) (c₁, c₂) → IsSaid (first ++ more) (e₀, e₂) (c₀, c₂)
+said_more first more e₀ e₁ e₂ c₀ c₁ c₂ (inl said) (inl put) =
+    inl (Appends-then e₀ e₁ e₂ first more (first ++ more) said.0 put.0 refl, put.1 ∙ said.1)
+said_more first more e₀ e₁ e₂ c₀ c₁ c₂ (inl said) (inr cut) =
+    inr (subst (λ (n : ℕ). HasFailed (c₀, n)) (ap one_more (sym said.1) ∙ sym cut.2) (one_more_failed c₀))
+said_more first more e₀ e₁ e₂ c₀ c₁ c₂ (inr failed) (inl put) =
+    inr (subst (λ (n : ℕ). HasFailed (c₀, n)) (sym put.1) failed)
+said_more first more e₀ e₁ e₂ c₀ c₁ c₂ (inr failed) (inr cut) =
+    inr (subst (λ (n : ℕ). HasFailed (c₀, n)) (sym cut.2) (failed_more c₀ c₁ failed))
+
+said_on : (first : Text) (texts : List Text) (e₀ e₁ e₂ : Option (List ℕ)) (c₀ c₁ c₂ : ℕ)
+    → IsSaid first (e₀, e₁) (c₀, c₁) → ArePut texts (e₁, e₂) (c₁, c₂) → IsSaid (first ++ concat texts) (e₀, e₂) (c₀, c₂)
+unfolding ArePut
+said_on first [] e₀ e₁ e₂ c₀ c₁ c₂ said none = rw (append-nil first, none.0, none.1) said
+said_on first (text ∷ rest) e₀ e₁ e₂ c₀ c₁ c₂ said are =
+    subst (λ (t : Text). IsSaid t (e₀, e₂) (c₀, c₂)) (append_assoc first text (concat rest))
+    (said_on (first ++ text) rest e₀ are.0 e₂ c₀ are.1 c₂
+    (said_more first text e₀ e₁ are.0 c₀ c₁ are.1 said are.2) are.3)
+
+pub said_whole : (texts : List Text) (taken : Option (List ℕ) × Option (List ℕ)) (failures : ℕ × ℕ)
+    → ArePut texts taken failures → IsSaid (concat texts) taken failures
+said_whole texts taken failures are =
+    said_on [] texts taken.0 taken.0 taken.1 failures.0 failures.0 failures.1 (inl (Appends-none taken.0, refl)) are
 
 -- ---- the line of one
 

@@ -51,8 +51,8 @@ IsPut text taken failures =
     ⊎ ((n : ℕ) × Appends taken.0 taken.1 (take n text) × (failures.1 ≡ one_more failures.0))
 
 -- a run of the task had some answer. The source and the first sink are as after such a run, the program ends as after
--- it, and the second sink was put the line that is said of it, and what is said of an input of another format, by the
--- bytes that are given as its first
+-- it, and to the second sink were put the line that is said of it, and what is said of an input of another format, by
+-- the bytes that are given as its first
 -- of each device stands here what it was before and after: the bytes that it tells, and its count of failures; and of
 -- the first sink whether it is flushed in the end
 pub record RunEnds (t : Task) (front : List ℕ) (exit : Exit) (input : Option (List ℕ) × Option (List ℕ)) (reads : ℕ × ℕ)
@@ -77,8 +77,8 @@ IsLeft taken failures = Keeps taken.0 taken.1 × (failures.1 ≡ failures.0)
 abbrev pub IsShown : Option (List ℕ) × Option (List ℕ) → ℕ × ℕ → Type 0
 IsShown taken failures = (text : Text) × IsPut text taken failures
 
--- a text was put to the first sink, and that was flushed; or a front of it was, the first sink failed, and the second
--- was put the line that says so
+-- a text was put to the first sink, and that was flushed; or a front of it was, the first sink failed, and the line that
+-- says so was put to the second
 abbrev pub Shows : Text → Exit → Option (List ℕ) × Option (List ℕ) → ℕ × ℕ → Bool
     → Option (List ℕ) × Option (List ℕ) → ℕ × ℕ → Type 0
 Shows text exit output writes is_flushed errors complaints =

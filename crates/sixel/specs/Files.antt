@@ -1,13 +1,14 @@
 -- Files in place of standard input, and checks that write no verdict.
-use Rattle.std.specs.Prelude.{◌≡◌, ◌≢◌, ◌⊎◌, ◌-◌, ◌^◌, ◌<◌, ◌==◌, ◌&&◌, ◌||◌, ℕ, Bool, length, true, false, List, []}
+use Rattle.std.specs.Prelude.{◌≡◌, ◌≢◌, ◌⊎◌, ◌-◌, ◌^◌, ◌<◌, ◌≤◌, ◌==◌, ◌&&◌, ◌||◌, ℕ, Bool, length, true, false, List, []}
 use Rattle.std.specs.Prelude.{◌∷◌, ◌++◌, codes, flat_map, fold, map, take, nat_lt, Option, Some, None, IfSome, Result, Ok}
 use Rattle.std.specs.Prelude.{Err, if◌then◌else◌}
 use Rattle.std.specs.Prelude.{option_to_list}
 use Rattle.std.specs.Io.KnownBytes.{Appends}
-use Rattle.std.specs.List.{All, list_any}
+use Rattle.std.specs.List.{All, filter, list_any}
 use Rattle.std.specs.Str.{bytes_eq}
 use Rattle.sixel_grammar.specs.Devices.{one_more}
 use Rattle.sixel_picture.specs.declared.profile.Profile.{Profile}
+use Rattle.sixel_check.specs.declared.verdict.Finding.{Finding}
 use Rattle.sixel.specs.declared.exit.Exit.{Exit}
 use Rattle.sixel.specs.declared.exit.Exit.TheVariants.{Done, Refused}
 use Rattle.sixel.specs.declared.fault.RunFault.{RunFault}
@@ -17,7 +18,7 @@ use Rattle.sixel.specs.declared.task.Status.TheVariants as status
 use Rattle.sixel.specs.declared.task.Task.{Task}
 use Rattle.sixel.specs.declared.task.Task.TheVariants.{Check}
 use Rattle.sixel.specs.Exits.{IsPut, RunEnds, complaint, exit_code, exit_for_answer, is_render}
-use Rattle.sixel.specs.Outputs.{CountsReads, CountsWrites, TakesMemory, WroteNothing, Wrote, failures_by}
+use Rattle.sixel.specs.Outputs.{CountsReads, CountsWrites, Gives, TakesMemory, WroteNothing, Wrote, failures_by}
 use Rattle.sixel.specs.Formats.{advice}
 use Rattle.sixel.specs.Texts.{BeginsWith, Text, fault_line, fault_parts, finding_line, line}
 
@@ -50,6 +51,30 @@ told_of contents input name = if is_dash name then input else contents name
 abbrev pub reads_input : List Text → Bool
 reads_input names = length names == 0 || list_any is_dash names
 
+-- the names of what a task reads: that of standard input where none is given, all of them for a check, and the first
+-- for any other task
+abbrev pub names_read : Task → List Text → List Text
+names_read t [] = codes "-" ∷ []
+names_read (Check profile) (name ∷ more) = name ∷ more
+names_read t (name ∷ more) = name ∷ []
+
+-- standard input is named once at most
+abbrev pub NamesInputOnce : List Text → Type 0
+NamesInputOnce names = length (filter is_dash names) ≤ 1
+
+-- where these bytes are told, the task gives for them that it is done
+abbrev pub IsDoneOver : Task → Option (List ℕ) → Type 0
+IsDoneOver t told = IfSome told (λ bytes. (text : Text) × Gives t bytes text (Ok status.Done))
+
+-- where these bytes are told, the task gives for them a broken rule
+abbrev pub IsBrokenOver : Task → Option (List ℕ) → Type 0
+IsBrokenOver t told =
+    IfSome told (λ bytes. (text : Text) × (finding : Finding) × Gives t bytes text (Ok (status.Broken finding)))
+
+-- where these bytes are told, the task gives a status for them, and so doesn't refuse them
+abbrev pub IsJudgedOver : Task → Option (List ℕ) → Type 0
+IsJudgedOver t told = IfSome told (λ bytes. (text : Text) × (status : Status) × Gives t bytes text (Ok status))
+
 -- a check reads standard input
 abbrev pub awaits_text : Task → List Text → Bool
 awaits_text (Check profile) names = reads_input names
@@ -65,9 +90,9 @@ notice is_terminal t names =
 -- ---- one file
 
 -- a task over a file of this name, of whose bytes these are told before and after, ended so: a run of it had some
--- answer and wrote what a run writes that has it, or the file couldn't be opened; and the second sink was put the line
--- that is said of it, and what is said of an input of another format, by the bytes that are given as the first of the
--- file
+-- answer and wrote what a run writes that has it, or the file couldn't be opened; and to the second sink were put the
+-- line that is said of it, and what is said of an input of another format, by the bytes that are given as the first of
+-- the file
 -- of the file and of each sink stands here what it was before and after: the bytes that it tells, and its count of
 -- failures; and of the first sink whether it is flushed in the end
 pub record NamedEnds (t : Task) (name : Text) (front : List ℕ) (exit : Exit) (told : Option (List ℕ) × Option (List ℕ))
@@ -133,15 +158,21 @@ file_text is_quiet name line (Err fault) = []
 abbrev pub text_of : Bool → FileEnd → Text
 text_of is_quiet e = file_text is_quiet e.name e.line e.answer
 
-abbrev pub complaint_of : Profile → FileEnd → Text
-complaint_of profile e = named_complaint e.name (Check profile) e.answer
-
 -- the lines of several files, one after another
 abbrev pub files_text : Bool → List FileEnd → Text
 files_text is_quiet ends = flat_map (text_of is_quiet) ends
 
-abbrev pub files_complaint : Profile → List FileEnd → Text
-files_complaint profile ends = flat_map (complaint_of profile) ends
+-- what is said of the check of a file of this name: a line where it is refused
+abbrev pub said_of_check : Text → Result Status RunFault → List Text
+said_of_check name (Ok status) = []
+said_of_check name (Err fault) = named_fault_line name fault ∷ []
+
+abbrev pub said_of : FileEnd → List Text
+said_of e = said_of_check e.name e.answer
+
+-- the lines that are said of several files
+abbrev pub complaints_of : List FileEnd → List Text
+complaints_of ends = flat_map said_of ends
 
 -- the one of the greater number
 abbrev pub worse : Exit → Exit → Exit
@@ -160,18 +191,30 @@ files_exit ends = greatest (map exit_of_end ends)
 abbrev pub names_of : List FileEnd → List Text
 names_of ends = map (λ e. e.name) ends
 
--- what a check of this name, which wrote this line and had this answer, did to the two sinks: they were put what is
--- written and said of it; or a front of that went to the first one, which failed
-abbrev pub IsOutcome : {E : Type 0} → Profile → Bool → Text → Text → Result Status RunFault → Result Exit E
+-- the texts were put to a sink in turn, each whole, or a front of it where a call failed; after that the next one is
+-- still put
+unfoldable pub ArePut : List Text → Option (List ℕ) × Option (List ℕ) → ℕ × ℕ → Type 0
+ArePut [] taken failures = (taken.1 ≡ taken.0) × (failures.1 ≡ failures.0)
+ArePut (text ∷ rest) taken failures = (between : Option (List ℕ)) × (count : ℕ)
+    × IsPut text (taken.0, between) (failures.0, count) × ArePut rest (between, taken.1) (count, failures.1)
+
+-- the check of a file of this name had this answer, and what is said of it was put to a sink
+abbrev pub SaysOfCheck : Text → Result Status RunFault → Option (List ℕ) × Option (List ℕ) → ℕ × ℕ → Type 0
+SaysOfCheck name (Ok status) errors complaints = (errors.1 ≡ errors.0) × (complaints.1 ≡ complaints.0)
+SaysOfCheck name (Err fault) errors complaints = IsPut (named_fault_line name fault) errors complaints
+
+-- what a check of this name, which wrote this line and had this answer, did to the two sinks: what is written and
+-- what is said of it was put to them; or a front of the first was, and that sink failed
+abbrev pub IsOutcome : {E : Type 0} → Bool → Text → Text → Result Status RunFault → Result Exit E
     → Option (List ℕ) × Option (List ℕ) → ℕ × ℕ → Option (List ℕ) × Option (List ℕ) → ℕ × ℕ → Type 0
-IsOutcome profile is_quiet name line answer (Ok exit) output writes errors complaints =
+IsOutcome is_quiet name line answer (Ok exit) output writes errors complaints =
     (exit ≡ exit_for_answer answer)
     × Appends output.0 output.1 (file_text is_quiet name line answer) × (writes.1 ≡ writes.0)
-    × IsPut (named_complaint name (Check profile) answer) errors complaints
-IsOutcome profile is_quiet name line answer (Err fault) output writes errors complaints =
+    × SaysOfCheck name answer errors complaints
+IsOutcome is_quiet name line answer (Err fault) output writes errors complaints =
     ((count : ℕ) × Appends output.0 output.1 (take count (file_text is_quiet name line answer)))
-    × (is_quiet ≡ false) × (writes.1 ≡ one_more writes.0) × (named_complaint name (Check profile) answer ≡ [])
-    × (errors.1 ≡ errors.0) × (complaints.1 ≡ complaints.0)
+    × (is_quiet ≡ false) × (writes.1 ≡ one_more writes.0)
+    × (said_of_check name answer ≡ []) × (errors.1 ≡ errors.0) × (complaints.1 ≡ complaints.0)
 
 -- the bytes that were told of each file in turn, from what standard input had to what it has
 unfoldable pub Tells : (Text → Option (List ℕ)) → Option (List ℕ) → List FileEnd → Option (List ℕ) → Type 0
@@ -195,9 +238,9 @@ pub record IsChecked {E : Type 0} (profile : Profile) (is_quiet : Bool) (content
   pub left : input.1 ≡ left_after input.0 name e.left
   pub is_end : IsFileEnd profile e
   pub counted : reads.1 ≡ failures_past reads.0 e
-  pub outcome : IsOutcome profile is_quiet name e.line e.answer result output writes errors complaints
+  pub outcome : IsOutcome is_quiet name e.line e.answer result output writes errors complaints
 
--- a call on a sink failed
+-- a call on a sink failed: its count of failures rose, or stands at the greatest `u64`
 abbrev pub HasFailed : ℕ × ℕ → Type 0
 HasFailed failures = (failures.0 < failures.1) ⊎ (failures.1 ≡ 2 ^ 64 - 1)
 
@@ -217,7 +260,7 @@ pub record AreChecked (profile : Profile) (is_quiet : Bool) (contents : Text →
   pub exits : exit ≡ files_exit ends
   pub lines : Appends output.0 output.1 (files_text is_quiet ends)
   pub unfailed : writes.1 ≡ writes.0
-  pub said : IsSaid (files_complaint profile ends) errors complaints
+  pub said : ArePut (complaints_of ends) errors complaints
 
 -- the output failed at one of the files, which is the last that was read, or when it was flushed: the lines of those
 -- before were appended, and a front of its own
@@ -238,7 +281,8 @@ pub record AreCut (profile : Profile) (is_quiet : Bool) (contents : Text → Opt
   pub lines : Appends output.0 output.1
       (files_text is_quiet whole ++ take count (files_text is_quiet (option_to_list last)))
   pub failed : writes.1 ≡ one_more writes.0
-  pub said : IsSaid (files_complaint profile (whole ++ option_to_list last) ++ fault_line run.Write) errors complaints
+  pub silent : All (λ e. said_of e ≡ []) (option_to_list last)
+  pub said : ArePut (complaints_of whole ++ fault_line run.Write ∷ []) errors complaints
 
 -- each file was checked, and the first sink is flushed, unless no verdict is wanted; or the first sink failed
 abbrev pub FilesEnd : Profile → Bool → (Text → Option (List ℕ)) → List Text → Exit

@@ -1,15 +1,13 @@
 //! Files in place of standard input, and checks that write no verdict.
 
-ghost use Rattle.std.specs.Prelude.{◌≡◌, ◌≢◌, ◌∷◌, ◌++◌, [], ℕ, List, Option, Some, IfOk, IfErr, IfSome, codes, false};
-ghost use Rattle.std.specs.Prelude.{Bool, Result, map, take, true};
-ghost use Rattle.std.specs.Io.KnownBytes.{Appends, Consumes, Keeps};
+ghost use Rattle.std.specs.Prelude.{◌≡◌, ◌++◌, [], ℕ, List, Option, Some, IfSome, false};
+ghost use Rattle.std.specs.Prelude.{◌⊎◌, Result, length, map, true};
+ghost use Rattle.std.specs.Io.KnownBytes.{Consumes};
 ghost use Rattle.std.specs.List.{list_any};
 ghost use Rattle.std.specs.String.{string_bytes};
-ghost use Rattle.sixel_grammar.specs.Devices.{CountsFailure, NeverFlushes, Puts, one_more};
-ghost use Rattle.sixel_picture.specs.declared.profile.Profile.{Profile as AProfile};
-ghost use Rattle.sixel.specs.declared.task.Task.{Task as ATask};
+ghost use Rattle.sixel_grammar.specs.Devices.{CountsFailure, Puts};
 ghost use Rattle.sixel.specs.declared.task.Task.TheVariants.{Check};
-ghost use Rattle.sixel.specs.Exits.{IsPut, RunEnds, exit_for_answer};
+ghost use Rattle.sixel.specs.Exits.{IsPut};
 ghost use Rattle.sixel.specs.Files.{FileEnds, FilesEnd, IsChecked, IsFileEnd, IsOutcome, NamedEnds, QuietEnds};
 ghost use Rattle.sixel.specs.Files.{RequestEnds, awaits_text, is_dash, named_complaint, notice, reads_input, worse};
 ghost use Rattle.sixel.specs.Formats.{advice};
@@ -37,6 +35,9 @@ use std::io::Read;
 
 /// Room for a line with the longest name that a file can have, which has 4,095 bytes.
 const ROOM: usize = 4352;
+
+/// How many bytes of the line of a fault stand before a file's name: those of `sixel:`.
+const MARK: usize = 6;
 
 /// What is said before a check that reads a terminal.
 const WAITING: &[u8] = b"sixel: waiting for sixel text on standard input\n";
@@ -101,7 +102,7 @@ pub fn front_of<R: Read>(request: &Request, input: &mut R) -> ArrayVec<u8, FRONT
 }
 
 /// What the input of `encode` begins with, as far as it is known: it is read until there is enough, or a read gives
-/// nothing or fails, and the next one meets that. Of another task's input nothing is read.
+/// nothing or fails. A failure that doesn't come again is passed over. Of another task's input nothing is read.
 fn first_bytes<R: Read>(task: Task, input: &mut R) -> ArrayVec<u8, FRONT>
     ensures { Consumes (R.remaining input.old) (R.remaining input.new) result.items }
 {
@@ -116,10 +117,11 @@ fn first_bytes<R: Read>(task: Task, input: &mut R) -> ArrayVec<u8, FRONT>
     front
 }
 
-/// Reads once, as much as there is room for behind what the input begins with. Whether there is room still, and the read
-/// gave something.
+/// Reads once, as much as there is room for, and keeps it behind `front`. Whether something came and there is room for
+/// more.
 fn read_more<R: Read>(input: &mut R, front: &mut ArrayVec<u8, FRONT>) -> bool
-    ensures { (more : List ℕ) × Consumes (R.remaining input.old) (R.remaining input.new) more
+    ensures stops { result ≡ false → (length front.new.items ≡ 4) ⊎ (front.new.items ≡ front.old.items) }
+    ensures kept { (more : List ℕ) × Consumes (R.remaining input.old) (R.remaining input.new) more
         × (front.new.items ≡ front.old.items ++ more) }
 {
     let mut piece = [0; FRONT];
@@ -197,7 +199,7 @@ fn put_complaint<E: Sink>(
             b"sixel: ",
             name,
             b":",
-            &fault_line(fault).as_slice()[6..],
+            &fault_line(fault).as_slice()[MARK..],
         ),
     }
 }
@@ -313,7 +315,7 @@ fn put_judged<K: Sink, E: Sink>(
     output: &mut K,
     errors: &mut E,
 ) -> Result<Exit, DeviceFault>
-    ensures { IsOutcome profile is_quiet name.now (line_of judged) (answer_of judged) result
+    ensures { IsOutcome is_quiet name.now (line_of judged) (answer_of judged) result
         (K.taken output.old, K.taken output.new) (K.failure_count output.old, K.failure_count output.new)
         (E.taken errors.old, E.taken errors.new) (E.failure_count errors.old, E.failure_count errors.new) }
 {
@@ -350,7 +352,7 @@ fn check_named<S: Source, K: Sink, E: Sink>(
           answer = answer;
         })
         × (S.failure_count input.new ≡ failures_by ReadFault answer (S.failure_count input.old))
-        × IsOutcome profile is_quiet name.now line answer result
+        × IsOutcome is_quiet name.now line answer result
         (K.taken output.old, K.taken output.new) (K.failure_count output.old, K.failure_count output.new)
         (E.taken errors.old, E.taken errors.new) (E.failure_count errors.old, E.failure_count errors.new) }
 {

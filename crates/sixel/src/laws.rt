@@ -1,7 +1,8 @@
 //! Laws about the definitions. Each function's contract is the law.
 
 ghost use Rattle.std.specs.Prelude.{◌≡◌, ◌≤◌, ◌∷◌, ◌++◌, [], ℕ, All, Bool, Contains, List, None, Err, Ok, Result, Some};
-ghost use Rattle.std.specs.Prelude.{codes, false, map, true};
+ghost use Rattle.std.specs.Prelude.{Option, codes, false, map, true};
+ghost use Rattle.std.specs.List.{concat};
 ghost use Rattle.sixel_picture.specs.Profiles.{count_of};
 ghost use Rattle.sixel_picture.specs.declared.profile.Profile.{Profile};
 ghost use Rattle.sixel_picture.specs.declared.profile.Profile.TheVariants.{Registers16};
@@ -18,7 +19,7 @@ ghost use Rattle.sixel.specs.Explanations.{listed_names, topic_name, topic_of};
 ghost use Rattle.sixel.specs.Laws.{BoxIsShown, EncodedAnswers, EncodedChecks, EncodedIsPortable, FaultIsShown};
 ghost use Rattle.sixel.specs.Laws.{NoBoxIsShown};
 ghost use Rattle.sixel.specs.Exits.{exit_code};
-ghost use Rattle.sixel.specs.Files.{FileEnd, IsFileEnd, exit_of_end, files_exit, files_text};
+ghost use Rattle.sixel.specs.Files.{ArePut, FileEnd, IsFileEnd, IsSaid, exit_of_end, files_exit, files_text};
 ghost use Rattle.sixel.specs.Outputs.{Gives};
 ghost use Rattle.sixel.specs.Texts.{Text, rule_name};
 ghost use Rattle.sixel.specs.Words.{AsksFor, IsTaskOf, sixel_app};
@@ -80,7 +81,8 @@ pub fn the_words_show_box_give_a_box()
 /// The output of a check of several files is the line of each, one after another, with its name before it, and each
 /// line is the one that a check of the file's bytes alone writes. Of a refused file there is none, and the grammar's
 /// fault is that of its bytes alone; where no verdict is wanted, there is none of any. The exit status is the greatest:
-/// no file has one of a greater number, and it is that of one of them.
+/// no file has one of a greater number, and it is that of one of them. Texts that were put one after another stand joined
+/// behind what the sink had, unless a call on it failed.
 pub fn several_files_are_checked_one_by_one()
     ensures joined { (is_quiet : Bool) (front rest : List FileEnd) →
         files_text is_quiet (front ++ rest) ≡ files_text is_quiet front ++ files_text is_quiet rest }
@@ -97,6 +99,8 @@ pub fn several_files_are_checked_one_by_one()
     ensures greatest { (ends : List FileEnd) → All (λ e. exit_code (exit_of_end e) ≤ exit_code (files_exit ends)) ends }
     ensures reached { (e : FileEnd) (more : List FileEnd) →
         Contains (map exit_of_end (e ∷ more)) (files_exit (e ∷ more)) }
+    ensures said { (texts : List Text) (taken : Option (List ℕ) × Option (List ℕ)) (failures : ℕ × ℕ) →
+        ArePut texts taken failures → IsSaid (concat texts) taken failures }
 {}
 
 /// The name of each rule, which a line of `check` can hold, and of each fault is one of those that `explain` lists.

@@ -1,18 +1,16 @@
 //! The program `sixel`: checks, lists, draws and writes sixel pictures.
 #![tactic(auto)]
 
-ghost use Rattle.std.specs.Prelude.{◌≡◌, ◌≢◌, [], IfErr, IfOk, IfSome, Ok, false, is_ok, map, true, Option, option_map};
+ghost use Rattle.std.specs.Prelude.{◌≡◌, ◌≢◌, All, Contains, IfErr, IfOk, false, is_ok, map, true, Option, option_map};
 ghost use Rattle.std.specs.String.{string_bytes};
-ghost use Rattle.std.specs.Io.KnownBytes.{Consumes};
 ghost use Rattle.std.specs.Vec.Iter.{into_iter_items};
-ghost use Rattle.sixel_check.specs.declared.verdict.Finding.{Finding as AFinding};
-ghost use Rattle.sixel.specs.Outputs.{Gives, HasSides};
+ghost use Rattle.sixel.specs.Files.{IsBrokenOver, IsDoneOver, IsJudgedOver, NamesInputOnce, names_read, told_of};
+ghost use Rattle.sixel.specs.Outputs.{HasSides};
 ghost use Rattle.sixel.specs.Texts.{Text};
 ghost use Rattle.sixel.specs.Explanations.{topic_name};
-ghost use Rattle.sixel.specs.Words.{AsksFor, Explains, IsAskedBy, IsNoHelp, IsRequestOf, IsSortedOut, IsTaskOf};
-ghost use Rattle.sixel.specs.Words.{sixel_app};
+ghost use Rattle.sixel.specs.Words.{AsksFor, Explains, IsAskedBy, IsNoHelp, IsRefusal, IsRequestOf, IsSortedOut};
+ghost use Rattle.sixel.specs.Words.{IsTaskOf, sixel_app};
 ghost use Rattle.sixel.specs.declared.explanations.Topic.{Topic as ATopic};
-ghost use Rattle.sixel.specs.declared.task.Status.{Status};
 ghost use Rattle.sixel.specs.declared.task.Task.{Task as ATask};
 ghost use Rattle.clap.specs.Takes.{takes};
 
@@ -79,6 +77,7 @@ fn task_in(alloc: Global, arguments: io::Result<Args>) -> Result<Request, WordsF
         asked.task asked.is_quiet (map string_bytes asked.files.items))) }
     ensures sides { IfOk result (λ asked. HasSides asked.task) }
     ensures unread { IfErr arguments (λ error. is_ok result ≡ false) }
+    ensures refused { IfErr arguments (λ error. IfErr result IsRefusal) }
     ensures fault { IfErr result IsSortedOut }
     ensures accepted { IfErr result (λ fault. IfOk arguments (λ words.
         takes sixel_app (map string_bytes (into_iter_items words)) ≡ true → (t : ATask) →
@@ -114,10 +113,16 @@ fn execute<F: Folder, R: Read + Drop, W: Write + Drop, E: Write + Drop>(
     errors: E,
 ) -> Exit
     requires { HasSides request.now.task }
-    ensures done { request.now.files.items ≡ [] → result ≡ Exit.Done → IfSome (R.remaining input) (λ bytes.
-        (text : Text) × Gives request.now.task bytes text (Ok Status.Done)) }
-    ensures broken { request.now.files.items ≡ [] → result ≡ Exit.Broken → IfSome (R.remaining input) (λ bytes.
-        (text : Text) × (finding : AFinding) × Gives request.now.task bytes text (Ok (Status.Broken finding))) }
+    ensures done { result ≡ Exit.Done → All (λ name.
+        IsDoneOver request.now.task (told_of (F.contents folder.now) (R.remaining input) name))
+        (names_read request.now.task (map string_bytes request.now.files.items)) }
+    ensures broken { result ≡ Exit.Broken →
+        NamesInputOnce (names_read request.now.task (map string_bytes request.now.files.items)) → (name : Text)
+        × Contains (names_read request.now.task (map string_bytes request.now.files.items)) name
+        × IsBrokenOver request.now.task (told_of (F.contents folder.now) (R.remaining input) name) }
+    ensures judged { result ≡ Exit.Broken → All (λ name.
+        IsJudgedOver request.now.task (told_of (F.contents folder.now) (R.remaining input) name))
+        (names_read request.now.task (map string_bytes request.now.files.items)) }
     ensures no_usage { result ≢ Exit.Usage }
 {
     let mut input = input;

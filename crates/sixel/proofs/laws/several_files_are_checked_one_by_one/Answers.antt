@@ -2,7 +2,7 @@ use Rattle.std.proofs.Common.{refl}
 use Rattle.std.proofs.lemmas.Grind.{flat_map-append}
 use Rattle.std.proofs.lemmas.List.{append-nil}
 use Rattle.sixel.specs.Files.{named, text_of}
-use Rattle.sixel.proofs.SeveralLemmas.{alone, faulty, greatest_of, quiet, reached}
+use Rattle.sixel.proofs.SeveralLemmas.{alone, faulty, greatest_of, quiet, reached, said_whole}
 use Rattle.sixel.proofs.laws.several_files_are_checked_one_by_one.Goals as goal
 
 pub returns : goal.returns
@@ -15,4 +15,5 @@ returns c = record {
   faulty = faulty;
   greatest = greatest_of;
   reached = reached;
+  said = said_whole;
 }
