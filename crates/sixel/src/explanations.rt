@@ -78,7 +78,7 @@ ColourValue: a colour system other than 1 and 2, or a coordinate out of range
 RepeatZero: a repeat of 0
 Unselected: painting where no register is known
 Undefined: painting in a register that was not defined
-Redefined: another colour for a register in which was painted
+Redefined: another colour for a register already painted in
 Outside: a set bit outside the box
 Uncovered: a pixel of the box under no set bit, at the terminator
 EightBit: the byte 90 as the introducer, or 9C as the terminator

@@ -6,7 +6,7 @@ use std::alloc::AllocError;
 use thiserror::Error;
 
 /// Why a run gave no result. Its `Display` is the variant's name; the line that the program prints is that of
-/// `write_fault`.
+/// `lines::fault_line`.
 #[derive(Clone, Copy, Debug, PartialEq, Eq, Error)]
 pub enum RunFault {
     /// The input is no document: why, and after how many bytes.

@@ -3,6 +3,9 @@
 use sixel_check::Finding;
 use sixel_picture::Profile;
 
+/// The greatest side of a screen, in pixels.
+pub const MOST_SCREEN_SIDE: u32 = 4096;
+
 /// What is to be done with the input.
 #[derive(Clone, Copy, Debug, PartialEq, Eq)]
 pub enum Task {
@@ -19,7 +22,7 @@ pub enum Task {
         profile: Profile,
     },
     /// The screen of one terminal after a sixel picture, written as a PPM of Netpbm. It has the registers of the
-    /// profile: of 16, register n starts as the grey of 6n percent, and of 256 as that of the rest of n by 101. The
+    /// profile: of 16, register n starts as the grey of 6n percent, and of 256 as that of n modulo 101 percent. The
     /// screen is white, and the picture begins at its top left.
     Show {
         profile: Profile,

@@ -25,15 +25,12 @@ mod help;
 
 use crate::explanations::{Topic, topic_named};
 use crate::request::Request;
-use crate::task::Task;
+use crate::task::{MOST_SCREEN_SIDE, Task};
 use clap::error::ErrorKind;
 use clap::parser::ValueSource;
 use clap::{Arg, ArgAction, ArgMatches, Command, Error};
 use sixel_picture::Profile;
 use std::alloc::{AllocError, Global};
-
-/// The greatest side of a screen, in pixels.
-const MOST_SCREEN_SIDE: u32 = 4096;
 
 /// What `--version` says behind the program's name.
 const VERSION: &str = "1.0.0";

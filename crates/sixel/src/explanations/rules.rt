@@ -60,7 +60,7 @@ attributes; or by the terminator, where there are none at all.
 Terminals: one that fills the declared box wipes what was painted before; and
 before raster attributes a sixel pixel may be two or more pixels tall.
 
-Smallest string: ESC P q ESC \\
+String: ESC P q ESC \\
 Answer of check: broken RasterFirst 3
 
 Mend it: write \"1;1;WIDTH;HEIGHT, with the true size, right after the
@@ -74,7 +74,7 @@ Broken by raster attributes after raster attributes.
 Terminals: one that fills the declared box wipes what was painted between the
 two.
 
-Smallest string: ESC P q \"1;1;1;1\"1;1;1;1 ESC \\
+String: ESC P q \"1;1;1;1\"1;1;1;1 ESC \\
 Answer of check: broken RasterTwice 11
 
 Mend it: write them once, when the size of the whole picture is known.
@@ -88,7 +88,7 @@ too, and so do numbers that are left out, which are 0.
 Terminals: the height of a sixel pixel. With any other ratio it may be any
 number of pixels.
 
-Smallest string: ESC P q \"2;1;1;1 ESC \\
+String: ESC P q \"2;1;1;1 ESC \\
 Answer of check: broken Ratio 3
 
 Mend it: write 1;1, and stretch the picture yourself.
@@ -102,7 +102,7 @@ number that is left out is 0.
 Terminals: they don't differ here. 2,048 is the largest side that this program
 holds, and of an empty box nothing can be promised.
 
-Smallest string: ESC P q \"1;1 ESC \\
+String: ESC P q \"1;1 ESC \\
 Answer of check: broken BoxSize 3
 
 Mend it: declare the size. Scale a larger picture down, or cut it into several
@@ -117,7 +117,7 @@ Broken by a selection or a definition of a register above 15; with --wide, above
 Terminals: the VT340 has 16 registers, and register numbers are taken modulo the
 count: 16 is register 0 there, and a register of its own on a terminal with 256.
 
-Smallest string: ESC P q #16 ESC \\
+String: ESC P q #16 ESC \\
 Answer of check: broken Register 3
 
 Mend it: bring the picture to 16 colours and number them from 0. Or check with
@@ -136,7 +136,7 @@ Terminals: one takes the nearest value in range, another ignores the definition.
 In another colour system the definition gives no colour, and that of the
 register before it differs between terminals.
 
-Smallest string: ESC P q #0;2;255;0;0 ESC \\
+String: ESC P q #0;2;255;0;0 ESC \\
 Answer of check: broken ColourValue 3
 
 Mend it: write system 2 and percentages, and not 0 to 255.
@@ -148,7 +148,7 @@ Broken by a repeat with the count 0, or without a count.
 
 Terminals: no column, or one.
 
-Smallest string: ESC P q \"1;1;1;1!0@ ESC \\
+String: ESC P q \"1;1;1;1!0@ ESC \\
 Answer of check: broken RepeatZero 11
 
 Mend it: leave a repeat of nothing out.
@@ -162,7 +162,7 @@ or the last definition since is of another one.
 Terminals: any register may be selected at the start, and a definition may
 select its register or not.
 
-Smallest string: ESC P q \"1;1;1;1@ ESC \\
+String: ESC P q \"1;1;1;1@ ESC \\
 Answer of check: broken Unselected 11
 
 Mend it: select after the last definition, and again after each later one.
@@ -175,21 +175,21 @@ it.
 
 Terminals: the colours that the registers start with.
 
-Smallest string: ESC P q \"1;1;1;1#0@ ESC \\
+String: ESC P q \"1;1;1;1#0@ ESC \\
 Answer of check: broken Undefined 13
 
 Mend it: define each register that is painted in, black too.
 ";
 
-const REDEFINED: &str = "Redefined: another colour for a register in which was painted
+const REDEFINED: &str = "Redefined: another colour for a register already painted in
 
-Broken by a definition of a register in which was painted, with another colour
-than its latest one.
+Broken by a definition of a register that was already painted in, with another
+colour than its latest one.
 
 Terminals: a pixel keeps the colour that its register had at painting, or shows
 the one that it has at the end.
 
-Smallest string: ESC P q \"1;1;1;1#0;2;0;0;0#0@#0;2;100;0;0 ESC \\
+String: ESC P q \"1;1;1;1#0;2;0;0;0#0@#0;2;100;0;0 ESC \\
 Answer of check: broken Redefined 24
 
 Mend it: give the second colour a register of its own. A picture has at most 16
@@ -205,7 +205,7 @@ the box.
 Terminals: one paints a pixel outside the box, over whatever stands beside the
 picture; another cuts it off.
 
-Smallest string: ESC P q \"1;1;1;1#0;2;0;0;0#0~ ESC \\
+String: ESC P q \"1;1;1;1#0;2;0;0;0#0~ ESC \\
 Answer of check: broken Outside 23 0 1
 
 Mend it: declare the true size; and where the height is no multiple of six,
@@ -221,7 +221,7 @@ two numbers after the place are the column and the row of the first such pixel.
 Terminals: raster attributes fill the box with some colour, or leave it as it
 was.
 
-Smallest string: ESC P q \"1;1;1;1 ESC \\
+String: ESC P q \"1;1;1;1 ESC \\
 Answer of check: broken Uncovered 11 0 0
 
 Mend it: paint the background too, in a colour of its own. A picture with
@@ -242,7 +242,7 @@ konsole show nothing of a string that begins with 90, and mlterm shows it. (The
 sources of foot 1.13 and konsole 22.12 say so; foot ends at 9C a string that ESC
 P began.)
 
-Smallest string: 90 q ESC \\
+String: 90 q ESC \\
 Answer of check: broken EightBit 0
 
 Mend it: write ESC P and ESC \\.

@@ -10,13 +10,10 @@ ghost use Rattle.sixel.specs.Screens.{declared_screen, screen_terminal, sides_of
 
 use super::show::{screen_after, show_choices, write_screen};
 use crate::fault::RunFault;
-use crate::task::Status;
+use crate::task::{MOST_SCREEN_SIDE, Status};
 use sixel_grammar::{Command, Event, Placed, Sink, Source, read_all};
 use sixel_picture::Profile;
 use std::alloc::Global;
-
-/// The greatest side of a screen, in pixels.
-const MOST_SCREEN_SIDE: u16 = 4096;
 
 /// Reads the whole document, draws it on a terminal with a screen as large as the declared box, and writes the screen.
 /// It doesn't flush. The terminal is that of `show` with these choices.
@@ -83,7 +80,7 @@ fn sides_of_box(width: u16, height: u16) -> Option<(u32, u32)>
 fn is_side(side: u16) -> bool
     ensures { result ≡ is_file_side side }
 {
-    1 <= side && side <= MOST_SCREEN_SIDE
+    1 <= side && u32::from(side) <= MOST_SCREEN_SIDE
 }
 
 #[cfg(test)]
