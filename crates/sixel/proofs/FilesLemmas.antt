@@ -254,6 +254,11 @@ named_chained t name front x told rest left r o w f e c consumed ended = record 
   said = ended.said;
 }
 
+-- nothing before what is told
+pub none_before : (told : Option (List ℕ)) → option_append (Some []) told ≡ told
+none_before None = refl
+none_before (Some bytes) = refl
+
 -- a file that couldn't be opened
 pub unopened : (profile : Profile) (name : Text) (told : Option (List ℕ)) → IsFileEnd profile (record {
   name = name;
