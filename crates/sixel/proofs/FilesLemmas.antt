@@ -1,7 +1,7 @@
 -- On checks of several files.
 use Rattle.std.proofs.Common.{◌≡◌, ◌∙◌, ◌+◌, ◌-◌, ◌<◌, ℕ, Bool, true, false, List, [], ◌∷◌, ◌++◌, length, take}
-use Rattle.std.proofs.Common.{drop, Option, Some, None, refl, sym, ap, ap₂, subst, arith, inl, inr, flat_map, fold, map}
-use Rattle.std.specs.Prelude.{◌≢◌, Result, Ok, Err, IfSome, String, string_bytes, if◌then◌else◌}
+use Rattle.std.proofs.Common.{codes, drop, Option, Some, None, refl, sym, ap, ap₂, subst, arith, inl, inr, flat_map, fold, map}
+use Rattle.std.specs.Prelude.{◌≢◌, ◌⊎◌, Result, Ok, Err, IfSome, String, string_bytes, if◌then◌else◌}
 use Rattle.std.specs.Global.{Global}
 use Rattle.std.specs.Fmt.{option_append}
 use Rattle.std.specs.Result.{IsErrAnd}
@@ -26,16 +26,15 @@ use Rattle.sixel.specs.declared.task.Status.TheVariants as status
 use Rattle.sixel.specs.declared.task.Task.{Task}
 use Rattle.sixel.specs.declared.task.Task.TheVariants as task
 use Rattle.sixel.specs.declared.task.Task.TheVariants.{Check}
-use Rattle.sixel.specs.Exits.{IsPut, complaint, exit_for_answer}
+use Rattle.sixel.specs.Exits.{IsPut, RunEnds, complaint, exit_for_answer}
 use Rattle.sixel.specs.Files.{AreChecked, ArePut, AreCut, FileEnd, IsChecked, IsFileEnd, IsFront, NamedEnds}
 use Rattle.sixel.specs.Files.{FileEnds, FilesEnd, RequestEnds, Tells, SaysOfCheck, is_dash, complaints_of}
 use Rattle.sixel.specs.Files.{exit_of_end, failures_past, files_exit, files_text, greatest, left_after}
-use Rattle.sixel.specs.Files.{named_complaint, named_fault_line, names_of, said_of, said_of_check, text_of, told_of}
-use Rattle.sixel.specs.Files.{worse}
-use Rattle.sixel.specs.Outputs.{Gives, TakesMemory, Wrote}
+use Rattle.sixel.specs.Files.{named_complaint, named_fault_line, names_of, names_read, said_of, said_of_check}
+use Rattle.sixel.specs.Files.{text_of, told_of, worse}
+use Rattle.sixel.specs.Outputs.{TakesMemory, Wrote}
 use Rattle.sixel.specs.Texts.{Text, fault_line, fault_parts}
-use Rattle.sixel_check.specs.declared.verdict.Finding.{Finding}
-use Rattle.sixel.proofs.EndLemmas.{broken_gives, chained, done_gives}
+use Rattle.sixel.proofs.EndLemmas.{chained}
 
 -- ---- what is said of one file
 
@@ -378,26 +377,72 @@ unopened_ends t contents name given i o r w f e c file none put = record {
 
 -- ---- what is asked for
 
--- where no file is named, the task ran over standard input
-pub request_runs : (t : Task) (q : Bool) (contents : Text → Option (List ℕ)) (front : List ℕ) (x : Exit)
-    (i : Option (List ℕ) × Option (List ℕ)) (r : ℕ × ℕ) (o : Option (List ℕ) × Option (List ℕ)) (w : ℕ × ℕ) (f : Bool)
-    (e : Option (List ℕ) × Option (List ℕ)) (c : ℕ × ℕ) → RequestEnds t q [] contents front x i r o w f e c
-    → (answer : Result Status RunFault) × (x ≡ exit_for_answer answer)
-    × ((had : Option (List ℕ)) × (has : Option (List ℕ))
-    × IfSome i.0 (λ bytes. Wrote t bytes i.1 answer had has))
-request_runs (task.Check profile) true contents front x i r o w f e c ended =
-    (ended.0.answer, ended.0.ends, (Some [], Some ended.0.line, ended.0.wrote))
-request_runs (task.Check profile) false contents front x i r o w f e c ended =
-    (ended.answer, ended.ends, (o.0, o.1, ended.wrote))
-request_runs task.List q contents front x i r o w f e c ended = (ended.answer, ended.ends, (o.0, o.1, ended.wrote))
-request_runs (task.Render profile) q contents front x i r o w f e c ended =
-    (ended.answer, ended.ends, (o.0, o.1, ended.wrote))
-request_runs (task.Encode profile) q contents front x i r o w f e c ended =
-    (ended.answer, ended.ends, (o.0, o.1, ended.wrote))
-request_runs (task.Show profile showing fill selects width height) q contents front x i r o w f e c ended =
-    (ended.answer, ended.ends, (o.0, o.1, ended.wrote))
-request_runs (task.ShowBox profile showing fill selects) q contents front x i r o w f e c ended =
-    (ended.answer, ended.ends, (o.0, o.1, ended.wrote))
+-- a run of the task over these bytes, where they are told, had an answer, and the exit status is that of it
+abbrev pub IsRunOver : Task → Exit → Option (List ℕ) → Type 0
+IsRunOver t x told = (answer : Result Status RunFault) × (x ≡ exit_for_answer answer)
+    × ((left : Option (List ℕ)) × (had : Option (List ℕ)) × (has : Option (List ℕ))
+    × IfSome told (λ bytes. Wrote t bytes left answer had has))
+
+run_ends : (t : Task) (front : List ℕ) (x : Exit) (i : Option (List ℕ) × Option (List ℕ)) (r : ℕ × ℕ)
+    (o : Option (List ℕ) × Option (List ℕ)) (w : ℕ × ℕ) (f : Bool) (e : Option (List ℕ) × Option (List ℕ))
+    (c : ℕ × ℕ) → RunEnds t front x i r o w f e c → IsRunOver t x i.0
+run_ends t front x i r o w f e c ended = (ended.answer, ended.ends, (i.1, o.0, o.1, ended.wrote))
+
+named_ends : (t : Task) (name : Text) (front : List ℕ) (x : Exit) (told : Option (List ℕ) × Option (List ℕ))
+    (r : ℕ × ℕ) (o : Option (List ℕ) × Option (List ℕ)) (w : ℕ × ℕ) (f : Bool)
+    (e : Option (List ℕ) × Option (List ℕ)) (c : ℕ × ℕ) → NamedEnds t name front x told r o w f e c
+    → IsRunOver t x told.0
+named_ends t name front x told r o w f e c ended = (
+  ended.answer,
+  ended.ends,
+  (
+    told.1,
+    o.0,
+    o.1,
+    elim ended.wrote [
+      | inl unread ↦ rw unread.0 tt
+      | inr wrote ↦ wrote.0
+    ],
+  ),
+)
+
+module _ (contents : Text → Option (List ℕ)) (front : List ℕ) (x : Exit) (i : Option (List ℕ) × Option (List ℕ))
+    (r : ℕ × ℕ) (o : Option (List ℕ) × Option (List ℕ)) (w : ℕ × ℕ) (f : Bool)
+    (e : Option (List ℕ) × Option (List ℕ)) (c : ℕ × ℕ) where
+  -- one input was read, or files were checked
+  abbrev pub HasRead : Task → Bool → List Text → Type 0
+  HasRead t q names =
+      ((name : Text) × (names_read t names ≡ name ∷ []) × IsRunOver t x (told_of contents i.0 name))
+      ⊎ ((profile : Profile) × (t ≡ Check profile) × (names_read t names ≡ names)
+      × FilesEnd profile q contents names x i r o w f e c)
+
+  pub request_read : (t : Task) (q : Bool) (names : List Text)
+      → RequestEnds t q names contents front x i r o w f e c → HasRead t q names
+  request_read (task.Check profile) true [] ended =
+      inl (codes "-", refl, (ended.0.answer, ended.0.ends, (i.1, Some [], Some ended.0.line, ended.0.wrote)))
+  request_read (task.Check profile) false [] ended =
+      inl (codes "-", refl, run_ends (Check profile) front x i r o w f e c ended)
+  request_read (task.Check profile) q (name ∷ more) ended = inr (profile, refl, refl, ended)
+  request_read task.List q [] ended =
+      inl (codes "-", refl, run_ends task.List front x i r o w f e c ended)
+  request_read task.List q (name ∷ more) ended =
+      inl (name, refl, named_ends task.List name _ x _ _ o w f e c ended.ended)
+  request_read (task.Render profile) q [] ended =
+      inl (codes "-", refl, run_ends (task.Render profile) front x i r o w f e c ended)
+  request_read (task.Render profile) q (name ∷ more) ended =
+      inl (name, refl, named_ends (task.Render profile) name _ x _ _ o w f e c ended.ended)
+  request_read (task.Encode profile) q [] ended =
+      inl (codes "-", refl, run_ends (task.Encode profile) front x i r o w f e c ended)
+  request_read (task.Encode profile) q (name ∷ more) ended =
+      inl (name, refl, named_ends (task.Encode profile) name _ x _ _ o w f e c ended.ended)
+  request_read (task.Show profile showing fill selects width height) q [] ended =
+      inl (codes "-", refl, run_ends (task.Show profile showing fill selects width height) front x i r o w f e c ended)
+  request_read (task.Show profile showing fill selects width height) q (name ∷ more) ended =
+      inl (name, refl, named_ends (task.Show profile showing fill selects width height) name _ x _ _ o w f e c ended.ended)
+  request_read (task.ShowBox profile showing fill selects) q [] ended =
+      inl (codes "-", refl, run_ends (task.ShowBox profile showing fill selects) front x i r o w f e c ended)
+  request_read (task.ShowBox profile showing fill selects) q (name ∷ more) ended =
+      inl (name, refl, named_ends (task.ShowBox profile showing fill selects) name _ x _ _ o w f e c ended.ended)
 
 answer_no_usage : (a : Result Status RunFault) → exit_for_answer a ≢ exit.Usage
 answer_no_usage (Ok status.Done) = λ (is : exit.Done ≡ exit.Usage). cc
@@ -427,37 +472,8 @@ pub request_no_usage : (t : Task) (q : Bool) (names : List Text) (contents : Tex
     (x : Exit) (i : Option (List ℕ) × Option (List ℕ)) (r : ℕ × ℕ) (o : Option (List ℕ) × Option (List ℕ)) (w : ℕ × ℕ)
     (f : Bool) (e : Option (List ℕ) × Option (List ℕ)) (c : ℕ × ℕ)
     → RequestEnds t q names contents front x i r o w f e c → x ≢ exit.Usage
-request_no_usage t q [] contents front x i r o w f e c ended is =
-    let ran = request_runs t q contents front x i r o w f e c ended in
-    answer_no_usage ran.0 (sym ran.1 ∙ is)
-request_no_usage (task.Check profile) q (name ∷ more) contents front x i r o w f e c ended is =
-    files_no_usage profile q contents (name ∷ more) x i r o w f e c ended is
-request_no_usage task.List q (name ∷ more) contents front x i r o w f e c ended is =
-    answer_no_usage ended.ended.answer (sym ended.ended.ends ∙ is)
-request_no_usage (task.Render profile) q (name ∷ more) contents front x i r o w f e c ended is =
-    answer_no_usage ended.ended.answer (sym ended.ended.ends ∙ is)
-request_no_usage (task.Encode profile) q (name ∷ more) contents front x i r o w f e c ended is =
-    answer_no_usage ended.ended.answer (sym ended.ended.ends ∙ is)
-request_no_usage (task.Show profile showing fill selects width height) q (name ∷ more) contents front x i r o w f e c
-    ended is =
-    answer_no_usage ended.ended.answer (sym ended.ended.ends ∙ is)
-request_no_usage (task.ShowBox profile showing fill selects) q (name ∷ more) contents front x i r o w f e c ended is =
-    answer_no_usage ended.ended.answer (sym ended.ended.ends ∙ is)
-
-pub request_done : (t : Task) (q : Bool) (names : List Text) (contents : Text → Option (List ℕ)) (front : List ℕ)
-    (x : Exit) (i : Option (List ℕ) × Option (List ℕ)) (r : ℕ × ℕ) (o : Option (List ℕ) × Option (List ℕ)) (w : ℕ × ℕ)
-    (f : Bool) (e : Option (List ℕ) × Option (List ℕ)) (c : ℕ × ℕ)
-    → RequestEnds t q names contents front x i r o w f e c → names ≡ [] → x ≡ exit.Done
-    → IfSome i.0 (λ bytes. (text : Text) × Gives t bytes text (Ok status.Done))
-request_done t q names contents front x i r o w f e c ended none is =
-    let ran = request_runs t q contents front x i r o w f e c (rw none at ended) in
-    done_gives t i.0 i.1 ran.0 ran.2.0 ran.2.1 ran.2.2 (sym ran.1 ∙ is)
-
-pub request_broken : (t : Task) (q : Bool) (names : List Text) (contents : Text → Option (List ℕ)) (front : List ℕ)
-    (x : Exit) (i : Option (List ℕ) × Option (List ℕ)) (r : ℕ × ℕ) (o : Option (List ℕ) × Option (List ℕ)) (w : ℕ × ℕ)
-    (f : Bool) (e : Option (List ℕ) × Option (List ℕ)) (c : ℕ × ℕ)
-    → RequestEnds t q names contents front x i r o w f e c → names ≡ [] → x ≡ exit.Broken
-    → IfSome i.0 (λ bytes. (text : Text) × (finding : Finding) × Gives t bytes text (Ok (status.Broken finding)))
-request_broken t q names contents front x i r o w f e c ended none is =
-    let ran = request_runs t q contents front x i r o w f e c (rw none at ended) in
-    broken_gives t i.0 i.1 ran.0 ran.2.0 ran.2.1 ran.2.2 (sym ran.1 ∙ is)
+request_no_usage t q names contents front x i r o w f e c ended is =
+    elim (request_read contents front x i r o w f e c t q names ended) [
+      | inl one ↦ answer_no_usage one.2.0 (sym one.2.1 ∙ is)
+      | inr checked ↦ files_no_usage checked.0 q contents names x i r o w f e c checked.3 is
+    ]

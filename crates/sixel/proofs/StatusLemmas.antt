@@ -1,6 +1,6 @@
 -- What an exit status says of each file that was read.
 use Rattle.std.proofs.Common.{◌≡◌, ◌∙◌, ◌≤◌, ◌∷◌, ℕ, Bool, true, false, List, [], Option, Some, None, arith, inl, inr}
-use Rattle.std.proofs.Common.{codes, length, map, refl, subst, suc, sym, zero}
+use Rattle.std.proofs.Common.{length, map, refl, subst, suc, sym, zero}
 use Rattle.std.specs.Prelude.{All, Contains, Err, IfSome, Ok, Result, cond, if◌then◌else◌, slice_index_or}
 use Rattle.std.specs.Fmt.{option_append}
 use Rattle.std.specs.Io.KnownBytes.{Consumes}
@@ -13,38 +13,16 @@ use Rattle.sixel.specs.declared.fault.RunFault.{RunFault}
 use Rattle.sixel.specs.declared.task.Status.{Status}
 use Rattle.sixel.specs.declared.task.Status.TheVariants as status
 use Rattle.sixel.specs.declared.task.Task.{Task}
-use Rattle.sixel.specs.declared.task.Task.TheVariants as task
 use Rattle.sixel.specs.declared.task.Task.TheVariants.{Check}
 use Rattle.sixel.specs.Exits.{exit_code, exit_for_answer}
 use Rattle.sixel.specs.Outputs.{Wrote}
-use Rattle.sixel.specs.Files.{FileEnd, FilesEnd, IsBrokenOver, IsDoneOver, IsFileEnd, IsJudgedOver, NamedEnds}
+use Rattle.sixel.specs.Files.{FileEnd, FilesEnd, IsBrokenOver, IsDoneOver, IsFileEnd, IsJudgedOver}
 use Rattle.sixel.specs.Files.{NamesInputOnce, RequestEnds, Tells, exit_of_end, files_exit, is_dash, left_after, names_of, names_read}
 use Rattle.sixel.specs.Files.{told_of}
 use Rattle.sixel.specs.Texts.{Text}
 use Rattle.sixel.proofs.EndLemmas.{broken_gives, chained, done_gives}
-use Rattle.sixel.proofs.FilesLemmas.{request_broken, request_done}
+use Rattle.sixel.proofs.FilesLemmas.{request_read}
 use Rattle.sixel.proofs.SeveralLemmas.{contains_later, greatest_of, reached}
-
--- ---- one file
-
-module _ (t : Task) (name : Text) (front : List ℕ) (x : Exit) (told : Option (List ℕ) × Option (List ℕ))
-    (r : ℕ × ℕ) (o : Option (List ℕ) × Option (List ℕ)) (w : ℕ × ℕ) (f : Bool)
-    (e : Option (List ℕ) × Option (List ℕ)) (c : ℕ × ℕ) (ended : NamedEnds t name front x told r o w f e c) where
-  named_done : x ≡ exit.Done → IsDoneOver t told.0
-  named_done is = elim ended.wrote [
-    | inl unread ↦ rw unread.0 tt
-    | inr wrote ↦ done_gives t told.0 told.1 ended.answer o.0 o.1 wrote.0 (sym ended.ends ∙ is)
-  ]
-
-  named_broken : x ≡ exit.Broken → IsBrokenOver t told.0
-  named_broken is = elim ended.wrote [
-    | inl unread ↦ rw unread.0 tt
-    | inr wrote ↦ broken_gives t told.0 told.1 ended.answer o.0 o.1 wrote.0 (sym ended.ends ∙ is)
-  ]
-
-pub judged_where_broken : (t : Task) (told : Option (List ℕ)) → IsBrokenOver t told → IsJudgedOver t told
-judged_where_broken t None broken = tt
-judged_where_broken t (Some bytes) broken = (broken.0, status.Broken broken.1, broken.2)
 
 -- ---- checks of several files
 
@@ -187,77 +165,49 @@ module _ (profile : Profile) (q : Bool) (contents : Text → Option (List ℕ)) 
 
 -- ---- what is asked for
 
-module _ (q : Bool) (contents : Text → Option (List ℕ)) (front : List ℕ) (x : Exit)
+module _ (t : Task) (q : Bool) (names : List Text) (contents : Text → Option (List ℕ)) (front : List ℕ) (x : Exit)
     (i : Option (List ℕ) × Option (List ℕ)) (r : ℕ × ℕ) (o : Option (List ℕ) × Option (List ℕ)) (w : ℕ × ℕ)
-    (f : Bool) (e : Option (List ℕ) × Option (List ℕ)) (c : ℕ × ℕ) where
-  one_name : (P : Option (List ℕ) → Type 0) (name : Text) → P (told_of contents i.0 name)
+    (f : Bool) (e : Option (List ℕ) × Option (List ℕ)) (c : ℕ × ℕ)
+    (ended : RequestEnds t q names contents front x i r o w f e c) where
+  all_of_one : (P : Option (List ℕ) → Type 0) (name : Text) → P (told_of contents i.0 name)
       → All (λ n. P (told_of contents i.0 n)) (name ∷ [])
-  one_name P name p = All-cons (λ n. P (told_of contents i.0 n)) name [] p (All-nil (λ n. P (told_of contents i.0 n)))
+  all_of_one P name p =
+      All-cons (λ n. P (told_of contents i.0 n)) name [] p (All-nil (λ n. P (told_of contents i.0 n)))
 
-  pub all_read_done : (t : Task) (names : List Text) → RequestEnds t q names contents front x i r o w f e c
-      → x ≡ exit.Done → All (λ name. IsDoneOver t (told_of contents i.0 name)) (names_read t names)
-  all_read_done t [] ended is =
-      one_name (IsDoneOver t) (codes "-") (request_done t q [] contents front x i r o w f e c ended refl is)
-  all_read_done (task.Check profile) (name ∷ more) ended is =
-      files_done profile q contents (name ∷ more) x i r o w f e c ended is
-  all_read_done task.List (name ∷ more) ended is =
-      one_name (IsDoneOver task.List) name (named_done _ _ _ _ _ _ _ _ _ _ _ ended.ended is)
-  all_read_done (task.Render profile) (name ∷ more) ended is =
-      one_name (IsDoneOver (task.Render profile)) name (named_done _ _ _ _ _ _ _ _ _ _ _ ended.ended is)
-  all_read_done (task.Encode profile) (name ∷ more) ended is =
-      one_name (IsDoneOver (task.Encode profile)) name (named_done _ _ _ _ _ _ _ _ _ _ _ ended.ended is)
-  all_read_done (task.Show profile showing fill selects width height) (name ∷ more) ended is =
-      one_name (IsDoneOver (task.Show profile showing fill selects width height)) name (named_done _ _ _ _ _ _ _ _ _ _ _ ended.ended is)
-  all_read_done (task.ShowBox profile showing fill selects) (name ∷ more) ended is =
-      one_name (IsDoneOver (task.ShowBox profile showing fill selects)) name (named_done _ _ _ _ _ _ _ _ _ _ _ ended.ended is)
+  pub all_read_done : x ≡ exit.Done → All (λ name. IsDoneOver t (told_of contents i.0 name)) (names_read t names)
+  all_read_done is = elim (request_read contents front x i r o w f e c t q names ended) [
+    | inl one ↦
+        let run = one.2.2 in
+        rw one.1 (all_of_one (IsDoneOver t) one.0
+        (done_gives t _ run.0 one.2.0 run.1 run.2 run.3 (sym one.2.1 ∙ is)))
+    | inr checked ↦
+        rw (checked.2, checked.1) (files_done checked.0 q contents names x i r o w f e c checked.3 is)
+  ]
 
-  pub all_read_judged : (t : Task) (names : List Text) → RequestEnds t q names contents front x i r o w f e c
-      → x ≡ exit.Broken → All (λ name. IsJudgedOver t (told_of contents i.0 name)) (names_read t names)
-  all_read_judged t [] ended is =
-      one_name (IsJudgedOver t) (codes "-")
-      (judged_where_broken t i.0 (request_broken t q [] contents front x i r o w f e c ended refl is))
-  all_read_judged (task.Check profile) (name ∷ more) ended is =
-      files_judged profile q contents (name ∷ more) x i r o w f e c ended is
-  all_read_judged task.List (name ∷ more) ended is =
-      one_name (IsJudgedOver task.List) name
-      (judged_where_broken task.List _ (named_broken _ _ _ _ _ _ _ _ _ _ _ ended.ended is))
-  all_read_judged (task.Render profile) (name ∷ more) ended is =
-      one_name (IsJudgedOver (task.Render profile)) name
-      (judged_where_broken (task.Render profile) _ (named_broken _ _ _ _ _ _ _ _ _ _ _ ended.ended is))
-  all_read_judged (task.Encode profile) (name ∷ more) ended is =
-      one_name (IsJudgedOver (task.Encode profile)) name
-      (judged_where_broken (task.Encode profile) _ (named_broken _ _ _ _ _ _ _ _ _ _ _ ended.ended is))
-  all_read_judged (task.Show profile showing fill selects width height) (name ∷ more) ended is =
-      one_name (IsJudgedOver (task.Show profile showing fill selects width height)) name
-      (judged_where_broken (task.Show profile showing fill selects width height) _ (named_broken _ _ _ _ _ _ _ _ _ _ _ ended.ended is))
-  all_read_judged (task.ShowBox profile showing fill selects) (name ∷ more) ended is =
-      one_name (IsJudgedOver (task.ShowBox profile showing fill selects)) name
-      (judged_where_broken (task.ShowBox profile showing fill selects) _ (named_broken _ _ _ _ _ _ _ _ _ _ _ ended.ended is))
+  pub all_read_judged : x ≡ exit.Broken → All (λ name. IsJudgedOver t (told_of contents i.0 name)) (names_read t names)
+  all_read_judged is = elim (request_read contents front x i r o w f e c t q names ended) [
+    | inl one ↦
+        let run = one.2.2 in
+        let ends : exit_for_answer one.2.0 ≡ exit.Broken = sym one.2.1 ∙ is in
+        rw one.1 (all_of_one (IsJudgedOver t) one.0
+        (judged_gives t _ run.0 one.2.0 run.1 run.2 run.3 (rw ends (omega arith))))
+    | inr checked ↦
+        rw (checked.2, checked.1) (files_judged checked.0 q contents names x i r o w f e c checked.3 is)
+  ]
 
-  abbrev one_broken_of : Task → List Text → Type 0
-  one_broken_of t names = (name : Text) × Contains names name × IsBrokenOver t (told_of contents i.0 name)
-
-  only_breaks : (t : Task) (name : Text) → IsBrokenOver t (told_of contents i.0 name) → one_broken_of t (name ∷ [])
-  only_breaks t name broken = (name, (0, omega arith, refl), broken)
-
-  pub one_read_broken : (t : Task) (names : List Text) → RequestEnds t q names contents front x i r o w f e c
-      → x ≡ exit.Broken → NamesInputOnce (names_read t names) → one_broken_of t (names_read t names)
-  one_read_broken t [] ended is once =
-      only_breaks t (codes "-") (request_broken t q [] contents front x i r o w f e c ended refl is)
-  one_read_broken (task.Check profile) (name ∷ more) ended is once =
-      files_broken profile q contents (name ∷ more) x i r o w f e c ended is once
-  one_read_broken task.List (name ∷ more) ended is once =
-      only_breaks task.List name (named_broken _ _ _ _ _ _ _ _ _ _ _ ended.ended is)
-  one_read_broken (task.Render profile) (name ∷ more) ended is once =
-      only_breaks (task.Render profile) name (named_broken _ _ _ _ _ _ _ _ _ _ _ ended.ended is)
-  one_read_broken (task.Encode profile) (name ∷ more) ended is once =
-      only_breaks (task.Encode profile) name (named_broken _ _ _ _ _ _ _ _ _ _ _ ended.ended is)
-  one_read_broken (task.Show profile showing fill selects width height) (name ∷ more) ended is once =
-      only_breaks (task.Show profile showing fill selects width height) name
-      (named_broken _ _ _ _ _ _ _ _ _ _ _ ended.ended is)
-  one_read_broken (task.ShowBox profile showing fill selects) (name ∷ more) ended is once =
-      only_breaks (task.ShowBox profile showing fill selects) name
-      (named_broken _ _ _ _ _ _ _ _ _ _ _ ended.ended is)
+  pub one_read_broken : x ≡ exit.Broken → NamesInputOnce (names_read t names) → (name : Text)
+      × Contains (names_read t names) name × IsBrokenOver t (told_of contents i.0 name)
+  one_read_broken is once = elim (request_read contents front x i r o w f e c t q names ended) [
+    | inl one ↦
+        let run = one.2.2 in (
+          one.0,
+          rw one.1 (0, omega arith, refl),
+          broken_gives t _ run.0 one.2.0 run.1 run.2 run.3 (sym one.2.1 ∙ is),
+        )
+    | inr checked ↦
+        rw (checked.2, checked.1) (files_broken checked.0 q contents names x i r o w f e c checked.3 is
+        (rw checked.2 at once))
+  ]
 
 -- what is said of the bytes that were read and the rest of standard input is said of all that it had
 pub told_chained : (P : List ℕ → Type 0) (contents : Text → Option (List ℕ)) (told rest : Option (List ℕ))
