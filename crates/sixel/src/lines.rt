@@ -248,6 +248,15 @@ pub fn finding_line(finding: &Finding) -> Line
     line
 }
 
+/// Writes the line of a finding, or on an `Err` a front of it. It doesn't flush.
+pub fn write_finding<K: Sink>(finding: &Finding, out: &mut K) -> Result<(), DeviceFault>
+    ensures bytes { Puts result (K.taken out.old) (K.taken out.new) (finding_line finding.now) }
+    ensures unflushed { NeverFlushes (K.is_flushed out.old) (K.is_flushed out.new) }
+    ensures failures { CountsFailure result (K.failure_count out.old) (K.failure_count out.new) }
+{
+    put_all(out, finding_line(finding).as_slice())
+}
+
 /// The line of a portable picture.
 fn portable_line(picture: &Picture) -> Line
     ensures { result.items ≡ portable_line picture.now }
@@ -266,7 +275,10 @@ pub fn write_verdict<K: Sink>(verdict: &Verdict, out: &mut K) -> Result<(), Devi
     ensures unflushed { NeverFlushes (K.is_flushed out.old) (K.is_flushed out.new) }
     ensures failures { CountsFailure result (K.failure_count out.old) (K.failure_count out.new) }
 {
-    put_all(out, verdict_line(verdict).as_slice())
+    match verdict {
+        Verdict::Portable(picture) => put_all(out, portable_line(picture).as_slice()),
+        Verdict::Broken(finding) => write_finding(finding, out),
+    }
 }
 
 /// The line of a verdict.
