@@ -1,5 +1,5 @@
 -- On checks of several files.
-use Rattle.std.proofs.Common.{◌≡◌, ◌∙◌, ◌+◌, ◌-◌, ◌<◌, ℕ, Bool, true, false, List, [], ◌∷◌, ◌++◌, length, take}
+use Rattle.std.proofs.Common.{◌≡◌, ◌∙◌, ◌+◌, ◌<◌, ℕ, Bool, true, false, List, [], ◌∷◌, ◌++◌, length, take}
 use Rattle.std.proofs.Common.{codes, drop, Option, Some, None, refl, sym, ap, ap₂, subst, arith, inl, inr, flat_map, fold, map}
 use Rattle.std.specs.Prelude.{◌≢◌, ◌⊎◌, Result, Ok, Err, IfSome, String, string_bytes, if◌then◌else◌}
 use Rattle.std.specs.Global.{Global}

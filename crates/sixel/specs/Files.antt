@@ -20,18 +20,19 @@ use Rattle.sixel.specs.declared.task.Task.TheVariants.{Check}
 use Rattle.sixel.specs.Exits.{IsPut, RunEnds, complaint, exit_code, exit_for_answer, is_render}
 use Rattle.sixel.specs.Outputs.{CountsReads, CountsWrites, Gives, TakesMemory, WroteNothing, Wrote, failures_by}
 use Rattle.sixel.specs.Formats.{advice}
+use Rattle.sixel.specs.Names.{printed}
 use Rattle.sixel.specs.Texts.{BeginsWith, Text, fault_line, fault_parts, finding_line, line}
 
 -- ---- names
 
 -- a name before a line
 abbrev pub named : Text → Text → Text
-named name text = name ++ codes ": " ++ text
+named name text = printed name ++ codes ": " ++ text
 
 -- the line of a fault in a file of this name; that the output can't be written is the fault of no file
 abbrev pub named_fault_line : Text → RunFault → Text
 named_fault_line name run.Write = fault_line run.Write
-named_fault_line name fault = line (codes "sixel: " ++ name ++ codes ":") (fault_parts fault)
+named_fault_line name fault = line (codes "sixel: " ++ printed name ++ codes ":") (fault_parts fault)
 
 -- the line of a refusal, or of the broken rule that kept a picture from being rendered; else none
 abbrev pub named_complaint : Text → Task → Result Status RunFault → Text

@@ -22,6 +22,7 @@ use crate::fault::RunFault;
 use crate::folder::Folder;
 use crate::formats::FRONT;
 use crate::lines::{fault_line, finding_line, verdict_line, write_fault};
+use crate::names::put_named;
 use crate::request::Request;
 use crate::run;
 use crate::run::check::{judge, status_of};
@@ -32,9 +33,6 @@ use sixel_grammar::{DeviceFault, FromRead, Sink, Source, put_all};
 use sixel_picture::Profile;
 use std::alloc::Global;
 use std::io::Read;
-
-/// Room for a line with the longest name that a file can have, which has 4,095 bytes.
-const ROOM: usize = 4352;
 
 /// How many bytes of the line of a fault stand before a file's name: those of `sixel:`.
 const MARK: usize = 6;
@@ -129,53 +127,6 @@ fn read_more<R: Read>(input: &mut R, front: &mut ArrayVec<u8, FRONT>) -> bool
     let count = input.read(&mut piece[..room]).unwrap_or(0);
     let _ = front.try_extend_from_slice(&piece[..count]);
     count > 0 && !front.is_full()
-}
-
-/// A name between what comes before and after it, where there is room.
-fn joined(before: &[u8], name: &str, after: &[u8], rest: &[u8]) -> Option<ArrayVec<u8, ROOM>>
-    ensures { IfSome result (λ line. line.items ≡ before.now ++ name.now ++ after.now ++ rest.now) }
-{
-    let mut line = ArrayVec::new();
-    line.try_extend_from_slice(before).ok()?;
-    line.try_extend_from_slice(name.as_bytes()).ok()?;
-    line.try_extend_from_slice(after).ok()?;
-    line.try_extend_from_slice(rest).ok()?;
-    Some(line)
-}
-
-/// Puts a name between what comes before and after it, in one piece: the lines of programs that write to one pipe don't
-/// mix. No file has a name that is too long for that.
-fn put_named<K: Sink>(
-    out: &mut K,
-    before: &[u8],
-    name: &str,
-    after: &[u8],
-    rest: &[u8],
-) -> Result<(), DeviceFault>
-    ensures bytes { Puts result (K.taken out.old) (K.taken out.new) (before.now ++ name.now ++ after.now ++ rest.now) }
-    ensures failures { CountsFailure result (K.failure_count out.old) (K.failure_count out.new) }
-{
-    match joined(before, name, after, rest) {
-        Some(line) => put_all(out, line.as_slice()),
-        None => put_parts(out, before, name, after, rest),
-    }
-}
-
-/// The same, in as many pieces as there are parts.
-fn put_parts<K: Sink>(
-    out: &mut K,
-    before: &[u8],
-    name: &str,
-    after: &[u8],
-    rest: &[u8],
-) -> Result<(), DeviceFault>
-    ensures bytes { Puts result (K.taken out.old) (K.taken out.new) (before.now ++ name.now ++ after.now ++ rest.now) }
-    ensures failures { CountsFailure result (K.failure_count out.old) (K.failure_count out.new) }
-{
-    put_all(out, before)?;
-    put_all(out, name.as_bytes())?;
-    put_all(out, after)?;
-    put_all(out, rest)
 }
 
 /// Puts the line of why a run over a file was refused, or of which rule kept its picture from being rendered.

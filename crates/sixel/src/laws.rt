@@ -1,6 +1,6 @@
 //! Laws about the definitions. Each function's contract is the law.
 
-ghost use Rattle.std.specs.Prelude.{◌≡◌, ◌≤◌, ◌∷◌, ◌++◌, [], ℕ, All, Bool, Contains, List, None, Err, Ok, Result, Some};
+ghost use Rattle.std.specs.Prelude.{◌≡◌, ◌<◌, ◌≤◌, ◌∷◌, ◌++◌, [], ℕ, All, Bool, Contains, List, None, Err, Ok, Result, Some};
 ghost use Rattle.std.specs.Prelude.{Option, codes, false, map, true};
 ghost use Rattle.std.specs.List.{concat};
 ghost use Rattle.sixel_picture.specs.Profiles.{count_of};
@@ -20,6 +20,7 @@ ghost use Rattle.sixel.specs.Laws.{BoxIsShown, EncodedAnswers, EncodedChecks, En
 ghost use Rattle.sixel.specs.Laws.{NoBoxIsShown};
 ghost use Rattle.sixel.specs.Exits.{exit_code};
 ghost use Rattle.sixel.specs.Files.{ArePut, FileEnd, IsFileEnd, IsSaid, exit_of_end, files_exit, files_text};
+ghost use Rattle.sixel.specs.Names.{is_control, printed};
 ghost use Rattle.sixel.specs.Outputs.{Gives};
 ghost use Rattle.sixel.specs.Texts.{Text, rule_name};
 ghost use Rattle.sixel.specs.Words.{AsksFor, IsTaskOf, sixel_app};
@@ -87,7 +88,7 @@ pub fn several_files_are_checked_one_by_one()
     ensures joined { (is_quiet : Bool) (front rest : List FileEnd) →
         files_text is_quiet (front ++ rest) ≡ files_text is_quiet front ++ files_text is_quiet rest }
     ensures named { (e : FileEnd) (status : Status) → e.answer ≡ Ok status →
-        files_text false (e ∷ []) ≡ e.name ++ codes ": " ++ e.line }
+        files_text false (e ∷ []) ≡ printed e.name ++ codes ": " ++ e.line }
     ensures alone { (profile : Profile) (e : FileEnd) (bytes : List ℕ) (status : Status) → IsFileEnd profile e →
         e.told ≡ Some bytes → e.answer ≡ Ok status → Gives (Check profile) bytes e.line (Ok status) }
     ensures refused { (is_quiet : Bool) (e : FileEnd) (fault : RunFault) → e.answer ≡ Err fault →
@@ -101,6 +102,13 @@ pub fn several_files_are_checked_one_by_one()
         Contains (map exit_of_end (e ∷ more)) (files_exit (e ∷ more)) }
     ensures said { (texts : List Text) (taken : Option (List ℕ) × Option (List ℕ)) (failures : ℕ × ℕ) →
         ArePut texts taken failures → IsSaid (concat texts) taken failures }
+{}
+
+/// The name of a file is printed without control characters, so that it can't end a line; and one that has none is
+/// printed as it is.
+pub fn names_are_printed_without_controls()
+    ensures clean { (name : Text) → All (λ byte. byte < 256) name → All (λ byte. is_control byte ≡ false) (printed name) }
+    ensures plain { (name : Text) → All (λ byte. is_control byte ≡ false) name → printed name ≡ name }
 {}
 
 /// The name of each rule, which a line of `check` can hold, and of each fault is one of those that `explain` lists.

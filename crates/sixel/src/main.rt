@@ -22,6 +22,7 @@ mod folder;
 mod formats;
 pub mod laws;
 mod lines;
+mod names;
 mod request;
 mod run;
 #[cfg(test)]

@@ -1,0 +1,20 @@
+-- Names of files as they are printed.
+use Rattle.std.specs.Prelude.{◌+◌, ◌-◌, ◌/◌, ◌%◌, ◌==◌, ◌||◌, ℕ, Bool, [], ◌∷◌, nat_lt, flat_map, if◌then◌else◌}
+use Rattle.sixel.specs.Texts.{Text}
+
+-- a number below 16 as a hexadecimal digit: 0 to 9, A to F
+abbrev pub hex_digit : ℕ → ℕ
+hex_digit n = if nat_lt n 10 then 48 + n else 65 + (n - 10)
+
+-- the control characters: those below 20 and 7F, hexadecimal
+abbrev pub is_control : ℕ → Bool
+is_control byte = nat_lt byte 0x20 || byte == 0x7F
+
+-- a byte of a name as it is printed: a control character by its number, so that a line feed is the four bytes \x0A
+abbrev pub printed_byte : ℕ → Text
+printed_byte byte =
+    if is_control byte then 92 ∷ 120 ∷ hex_digit (byte / 16) ∷ hex_digit (byte % 16) ∷ [] else byte ∷ []
+
+-- a name as it is printed
+abbrev pub printed : Text → Text
+printed name = flat_map printed_byte name
