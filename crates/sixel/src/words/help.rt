@@ -30,7 +30,8 @@ Exit status: 0 done, 1 broken, 2 refused, 3 wrong words.
 Example: sixel render plot.six > plot.ppm";
 
 pub const ENCODE: &str = "Reads a PPM (P6) of at most 16 colours, with --wide of 256, from FILE, or
-without one from standard input. Writes sixel text to standard output.
+without one from standard input. Writes sixel text to standard output. A sample
+becomes the nearest percentage.
 
 Exit status: 0 done, 2 refused, 3 wrong words.
 
@@ -38,11 +39,12 @@ Example: sixel encode plot.ppm > plot.six";
 
 pub const SHOW: &str = "Reads sixel text from FILE, or without one from standard input. Writes the
 screen of one terminal, which the options choose, to standard output as a PPM.
---box goes with neither --width nor --height.
+What lies off the screen is left out. Without --wide register 16 is register 0,
+17 is 1 and so on. --box goes with neither --width nor --height.
 
 Exit status: 0 done, 2 refused, 3 wrong words.
 
-Example: sixel show --box plot.six > plot.ppm";
+Example: sixel show --wide --box plot.six > plot.ppm";
 
 pub const EXPLAIN: &str =
     "Reads nothing. Writes to standard output what the rule or the refusal means,

@@ -440,11 +440,12 @@ Options:
 
 Reads sixel text from FILE, or without one from standard input. Writes the
 screen of one terminal, which the options choose, to standard output as a PPM.
---box goes with neither --width nor --height.
+What lies off the screen is left out. Without --wide register 16 is register 0,
+17 is 1 and so on. --box goes with neither --width nor --height.
 
 Exit status: 0 done, 2 refused, 3 wrong words.
 
-Example: sixel show --box plot.six > plot.ppm
+Example: sixel show --wide --box plot.six > plot.ppm
 ";
     for line in ["sixel show --help", "sixel help show"] {
         assert!(rt; says(&rt, line, show)?, "{line}");
