@@ -10,10 +10,10 @@ use Rattle.sixel_run.specs.declared.task.Status.{Status}
 use Rattle.sixel_run.specs.declared.task.Status.TheVariants as status
 use Rattle.sixel_run.specs.declared.task.Task.{Task}
 use Rattle.sixel_run.specs.declared.task.Task.TheVariants as task
-use Rattle.sixel.specs.declared.words.WordsFault.{WordsFault}
-use Rattle.sixel.specs.declared.words.WordsFault.TheVariants as fault
+use Rattle.sixel_words.specs.declared.words.WordsFault.{WordsFault}
+use Rattle.sixel_words.specs.declared.words.WordsFault.TheVariants as fault
 use Rattle.sixel_run.specs.declared.fault.RunFault.TheVariants as run
-use Rattle.sixel.specs.Explanations.{IsExplanation}
+use Rattle.sixel_words.specs.Explanations.{IsExplanation}
 use Rattle.sixel.specs.Formats.{advice}
 use Rattle.sixel_run.specs.Outputs.{CountsReads, CountsWrites, TakesMemory, Wrote}
 use Rattle.sixel_run.specs.Texts.{Text, fault_line, finding_line}

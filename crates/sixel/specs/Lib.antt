@@ -1,5 +1,3 @@
-pub mod Explanations
-pub mod Words
 pub mod Formats
 pub mod Exits
 pub mod Names

@@ -3,19 +3,18 @@
 ghost use Rattle.std.specs.Prelude.{◌≡◌, ◌≤◌, ◌++◌, OnOk, length, true};
 ghost use Rattle.sixel_grammar.specs.Devices.{CountsFailure, Puts};
 ghost use Rattle.sixel.specs.Exits.{RunEnds, complaint, exit_code, exit_for_answer, IsShown, WordsEnd};
-ghost use Rattle.sixel.specs.Explanations.{IsExplanation};
+ghost use Rattle.sixel_words.specs.Explanations.{IsExplanation};
 ghost use Rattle.sixel.specs.Formats.{advice};
 ghost use Rattle.sixel_run.specs.Outputs.{HasSides};
 ghost use Rattle.sixel_run.specs.Texts.{Text};
 
-use crate::explanations::{Topic, explanation};
 use crate::formats::{advice_on, format_of};
-use crate::words::WordsFault;
 use arrayvec::ArrayVec;
 use clap::Error;
 use sixel_grammar::{DeviceFault, Sink, Source, put_all};
 use sixel_picture::PpmReason;
 use sixel_run::{Line, RunFault, Status, Task, fault_line, finding_line, run, write_fault};
+use sixel_words::{Topic, WordsFault, explanation};
 use std::alloc::Global;
 
 /// How the program ends.

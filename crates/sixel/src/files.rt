@@ -21,12 +21,12 @@ use crate::exit::{Exit, advice, code_of, exit_of, report};
 use crate::folder::Folder;
 use crate::formats::FRONT;
 use crate::names::put_named;
-use crate::request::Request;
 use arrayvec::ArrayVec;
 use sixel_check::Verdict;
 use sixel_grammar::{DeviceFault, FromRead, Sink, Source, put_all};
 use sixel_picture::Profile;
 use sixel_run::{RunFault, Status, Task, fault_line, finding_line, judge, run, status_of, verdict_line, write_fault};
+use sixel_words::Request;
 use std::alloc::Global;
 use std::io::Read;
 

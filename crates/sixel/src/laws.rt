@@ -1,51 +1,19 @@
 //! Laws about the definitions. Each function's contract is the law.
 
-ghost use Rattle.std.specs.Prelude.{◌≡◌, ◌<◌, ◌≤◌, ◌∷◌, ◌++◌, [], ℕ, All, Bool, Contains, List, None, Err, Ok, Result, Some};
+ghost use Rattle.std.specs.Prelude.{◌≡◌, ◌<◌, ◌≤◌, ◌∷◌, ◌++◌, [], ℕ, All, Bool, Contains, List, Err, Ok, Some};
 ghost use Rattle.std.specs.Prelude.{Option, codes, false, map, true};
 ghost use Rattle.std.specs.List.{concat};
 ghost use Rattle.sixel_picture.specs.declared.profile.Profile.{Profile};
-ghost use Rattle.sixel_picture.specs.declared.profile.Profile.TheVariants.{Registers16};
-ghost use Rattle.sixel_check.specs.declared.rule.Rule.{Rule};
-ghost use Rattle.clap.specs.Takes.{takes};
-ghost use Rattle.sixel.specs.declared.explanations.Topic.{Topic};
 ghost use Rattle.sixel_grammar.specs.declared.fault.Fault.{Fault};
 ghost use Rattle.sixel_run.specs.declared.fault.RunFault.{RunFault};
 ghost use Rattle.sixel_run.specs.declared.fault.RunFault.TheVariants.{Grammar};
 ghost use Rattle.sixel_run.specs.declared.task.Status.{Status};
-ghost use Rattle.sixel_run.specs.declared.task.Task.{Task};
-ghost use Rattle.sixel_run.specs.declared.task.Task.TheVariants.{Check, List as Listing, Show, ShowBox};
-ghost use Rattle.sixel.specs.Explanations.{listed_names, topic_name, topic_of};
+ghost use Rattle.sixel_run.specs.declared.task.Task.TheVariants.{Check};
 ghost use Rattle.sixel.specs.Exits.{exit_code};
 ghost use Rattle.sixel.specs.Files.{ArePut, FileEnd, IsFileEnd, IsSaid, exit_of_end, files_exit, files_text};
 ghost use Rattle.sixel.specs.Names.{is_control, printed};
 ghost use Rattle.sixel_run.specs.Outputs.{Gives};
-ghost use Rattle.sixel_run.specs.Texts.{Text, rule_name};
-ghost use Rattle.sixel.specs.Words.{AsksFor, IsTaskOf, sixel_app};
-
-/// The one word `list` after the program's name is taken, and gives the list.
-pub fn the_word_list_gives_a_list()
-    ensures taken { (program : Text) → takes sixel_app (program ∷ codes "list" ∷ []) ≡ true }
-    ensures task { (program : Text) → IsTaskOf (program ∷ codes "list" ∷ []) Listing }
-{}
-
-/// The one word `show` is taken, and shows as no flag asks, by 16 registers on a screen of 800 by 480 pixels.
-pub fn the_word_show_gives_a_show()
-    ensures taken { (program : Text) → takes sixel_app (program ∷ codes "show" ∷ []) ≡ true }
-    ensures task { (program : Text) →
-        IsTaskOf (program ∷ codes "show" ∷ []) (Show Registers16 false false false 800 480) }
-{}
-
-/// The words `show --box` are taken, and show on a screen of the declared box as no flag asks, by 16 registers. With a
-/// side beside the box they give no task.
-pub fn the_words_show_box_give_a_box()
-    ensures taken { (program : Text) → takes sixel_app (program ∷ codes "show" ∷ codes "--box" ∷ []) ≡ true }
-    ensures task { (program : Text) →
-        IsTaskOf (program ∷ codes "show" ∷ codes "--box" ∷ []) (ShowBox Registers16 false false false) }
-    ensures no_width { (program : Text) (task : Task) →
-        IsTaskOf (program ∷ codes "show" ∷ codes "--box" ∷ codes "--width" ∷ codes "800" ∷ []) task → ⊥ }
-    ensures no_height { (program : Text) (task : Task) →
-        IsTaskOf (program ∷ codes "show" ∷ codes "--height" ∷ codes "480" ∷ codes "--box" ∷ []) task → ⊥ }
-{}
+ghost use Rattle.sixel_run.specs.Texts.{Text};
 
 /// The output of a check of several files is the line of each, one after another, with its name before it, and each
 /// line is the one that a check of the file's bytes alone writes. Of a refused file there is none, and the grammar's
@@ -77,24 +45,4 @@ pub fn several_files_are_checked_one_by_one()
 pub fn names_are_printed_without_controls()
     ensures clean { (name : Text) → All (λ byte. byte < 256) name → All (λ byte. is_control byte ≡ false) (printed name) }
     ensures plain { (name : Text) → All (λ byte. is_control byte ≡ false) name → printed name ≡ name }
-{}
-
-/// The name of each rule, which a line of `check` can hold, and of each fault is one of those that `explain` lists.
-pub fn each_name_is_listed()
-    ensures rules { (rule : Rule) → Contains listed_names (rule_name rule) }
-    ensures faults { (fault : RunFault) → Contains listed_names (topic_name (topic_of fault)) }
-{}
-
-/// The one word `explain` is taken, and asks for the list of names.
-pub fn the_word_explain_asks_for_the_list()
-    ensures taken { (program : Text) → takes sixel_app (program ∷ codes "explain" ∷ []) ≡ true }
-    ensures asked { (program : Text) → AsksFor (program ∷ codes "explain" ∷ []) None }
-{}
-
-/// After the word `explain` each name is taken, and asked for.
-pub fn each_name_can_be_asked_for()
-    ensures taken { (program : Text) (topic : Topic) →
-        takes sixel_app (program ∷ codes "explain" ∷ topic_name topic ∷ []) ≡ true }
-    ensures asked { (program : Text) (topic : Topic) →
-        AsksFor (program ∷ codes "explain" ∷ topic_name topic ∷ []) (Some (topic_name topic)) }
 {}

@@ -7,36 +7,32 @@ ghost use Rattle.std.specs.Vec.Iter.{into_iter_items};
 ghost use Rattle.sixel.specs.Files.{IsBrokenOver, IsDoneOver, IsJudgedOver, NamesInputOnce, names_read, told_of};
 ghost use Rattle.sixel_run.specs.Outputs.{HasSides};
 ghost use Rattle.sixel_run.specs.Texts.{Text};
-ghost use Rattle.sixel.specs.Explanations.{topic_name};
-ghost use Rattle.sixel.specs.Words.{AsksFor, Explains, IsAskedBy, IsNoHelp, IsRefusal, IsRequestOf, IsSortedOut};
-ghost use Rattle.sixel.specs.Words.{IsTaskOf, sixel_app};
-ghost use Rattle.sixel.specs.declared.explanations.Topic.{Topic as ATopic};
+ghost use Rattle.sixel_words.specs.Explanations.{topic_name};
+ghost use Rattle.sixel_words.specs.Words.{AsksFor, Explains, IsAskedBy, IsNoHelp, IsRefusal, IsRequestOf, IsSortedOut};
+ghost use Rattle.sixel_words.specs.Words.{IsTaskOf, sixel_app};
+ghost use Rattle.sixel_words.specs.declared.explanations.Topic.{Topic as ATopic};
 ghost use Rattle.sixel_run.specs.declared.task.Task.{Task as ATask};
 ghost use Rattle.clap.specs.Takes.{takes};
 
 mod exit;
-mod explanations;
 mod files;
 mod folder;
 mod formats;
 pub mod laws;
 mod names;
-mod request;
 #[cfg(test)]
 mod shelf;
-mod words;
 
 use exit::{Exit, code_of, tell};
 use files::{announce, answer, front_of};
 use folder::{Folder, Input, System};
-use request::Request;
 use sixel_grammar::{FromRead, ToWrite};
+use sixel_words::{Request, WordsFault, parse_words, usage};
 use std::alloc::Global;
 use std::env::Args;
 use std::io::{ErrorKind, IsTerminal, Read, Write};
 use std::process::ExitCode;
 use std::{env, io};
-use words::{WordsFault, parse_words, usage};
 
 fn main(rt: HostRuntime) -> ExitCode {
     let exit = match task_in(rt.alloc(), env::args(&rt)) {

@@ -7,9 +7,9 @@ pub mod streams;
 
 use crate::execute;
 use crate::exit::Exit;
-use crate::request::Request;
 use crate::shelf::Shelf;
 use sixel_run::Task;
+use sixel_words::Request;
 use std::alloc::Global;
 
 /// No file can be opened.

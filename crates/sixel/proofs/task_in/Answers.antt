@@ -5,11 +5,11 @@ use Rattle.std.specs.String.{string_bytes}
 use Rattle.std.specs.Vec.Iter.{into_iter_items}
 use Rattle.std.proofs.lemmas.Iterator.{items_from_collect}
 use Rattle.std.proofs.lemmas.Iterator.Adapters.{YieldsList-from_vec}
-use Rattle.sixel.specs.Explanations.{topic_name}
-use Rattle.sixel.specs.Words.{AsksFor, Explains, IsAskedBy, IsNoHelp, IsRequestOf, IsTaskOf, sixel_app}
-use Rattle.sixel.specs.declared.explanations.Topic.{Topic as ATopic}
+use Rattle.sixel_words.specs.Explanations.{topic_name}
+use Rattle.sixel_words.specs.Words.{AsksFor, Explains, IsAskedBy, IsNoHelp, IsRequestOf, IsTaskOf, sixel_app}
+use Rattle.sixel_words.specs.declared.explanations.Topic.{Topic as ATopic}
 use Rattle.sixel_run.specs.declared.task.Task.{Task as ATask}
-use Rattle.sixel.specs.declared.words.WordsFault.TheVariants as fault
+use Rattle.sixel_words.specs.declared.words.WordsFault.TheVariants as fault
 use Rattle.sixel.proofs.task_in.Goals as goal
 
 pub returns-in-Ok-collect-clause-task : goal.returns-in-Ok-collect-clause-task

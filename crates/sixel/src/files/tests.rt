@@ -10,11 +10,11 @@ mod tasks;
 
 use crate::execute;
 use crate::exit::Exit;
-use crate::request::Request;
 use crate::shelf::Shelf;
 use crate::tests::streams::Narrow;
 use sixel_picture::Profile;
 use sixel_run::Task;
+use sixel_words::Request;
 use std::alloc::{AllocError, Global};
 use std::io;
 use std::io::Read;

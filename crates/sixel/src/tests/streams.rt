@@ -3,13 +3,12 @@
 ghost use Rattle.sixel_run.specs.Outputs.{HasSides};
 
 use crate::exit::{Exit, tell};
-use crate::explanations::Topic;
 use crate::tests::{NO_FILES, plain};
-use crate::words::{WordsFault, parse_words};
 use crate::{execute, task_in};
 use sixel_grammar::ToWrite;
 use sixel_picture::{PpmReason, Profile};
 use sixel_run::Task;
+use sixel_words::{Topic, WordsFault, parse_words};
 use std::alloc::Global;
 use std::io;
 use std::io::{Error, ErrorKind, Write};

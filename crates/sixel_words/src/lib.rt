@@ -1,0 +1,11 @@
+//! The words of the command line: what they ask for, and what `explain` says.
+#![tactic(auto)]
+
+mod explanations;
+pub mod laws;
+mod request;
+mod words;
+
+pub use explanations::{Topic, explanation};
+pub use request::Request;
+pub use words::{WordsFault, parse_words, usage};
