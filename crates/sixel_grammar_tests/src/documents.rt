@@ -1,11 +1,11 @@
 //! Documents and what they say, byte by byte and in pieces.
 
-use crate::tests::words::{PICTURE, PICTURE_IN_WORDS, all_in_words, answer_in_words, in_words};
-use crate::{
+use crate::words::{PICTURE, PICTURE_IN_WORDS, all_in_words, answer_in_words, in_words};
+use arrayvec::ArrayVec;
+use sixel_grammar::{
     Command, Completed, Event, Fault, InputFault, Placed, Plain, Reader, Reason, SliceSource,
     read_all,
 };
-use arrayvec::ArrayVec;
 use std::process::Abort;
 use std::test::Fail;
 

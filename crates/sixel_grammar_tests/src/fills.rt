@@ -1,7 +1,7 @@
 //! How often `read_all` fills from its source.
 
-use crate::tests::words::{PICTURE, PICTURE_IN_WORDS, answer_in_words};
-use crate::{DeviceFault, SliceSource, Source, read_all};
+use crate::words::{PICTURE, PICTURE_IN_WORDS, answer_in_words};
+use sixel_grammar::{DeviceFault, SliceSource, Source, read_all};
 use std::test::Fail;
 
 /// A source, and how often it was filled from.
