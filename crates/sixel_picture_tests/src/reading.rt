@@ -2,12 +2,9 @@
 
 ghost use Rattle.std.specs.Prelude.{◌<◌, None};
 
-use super::parts_of;
-use crate::colour::Parts;
-use crate::picture::Picture;
-use crate::ppm::{PpmFault, PpmReason, read_ppm};
-use crate::profile::Profile;
+use crate::pictures::{parts_of, register_of};
 use sixel_grammar::{DeviceFault, SliceSource, Source};
+use sixel_picture::{Parts, Picture, PpmFault, PpmReason, Profile, read_ppm};
 use std::alloc::{AllocError, Global};
 use std::test::Fail;
 
@@ -53,6 +50,19 @@ fn colour(picture: &Picture, register: u8) -> Option<Parts> {
     parts_of(picture.palette().get(register))
 }
 
+/// Whether these are the registers of the picture's pixels, row by row.
+fn has_registers(picture: &Picture, registers: &[u8]) -> bool {
+    let mut rest = registers.iter();
+    for y in 0..picture.height() {
+        for x in 0..picture.width() {
+            if rest.next().copied() != register_of(picture, x, y) {
+                return false;
+            }
+        }
+    }
+    rest.next().is_none()
+}
+
 /// Whether the picture has this size, these registers and, from register 0 on, these colours alone.
 fn is_picture(
     picture: &Picture,
@@ -65,7 +75,7 @@ fn is_picture(
             return false;
         }
     }
-    picture.width() == width && picture.height() == height && picture.registers() == registers
+    picture.width() == width && picture.height() == height && has_registers(picture, registers)
 }
 
 /// Whether the bytes, in pieces of a size, are this picture.

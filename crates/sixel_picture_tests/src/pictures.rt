@@ -2,21 +2,17 @@
 
 ghost use Rattle.std.specs.Prelude.{None};
 
-use crate::byte_plane::BytePlane;
-use crate::colour::{Colour, Parts};
-use crate::palette::Palette;
-use crate::picture::{Picture, PictureFault, PictureReason};
-use crate::plane::Plane;
-use crate::ppm::{PpmFault, write_ppm, write_ppm_colours};
-use crate::profile::Profile;
+use crate::planes;
 use sixel_grammar::{DeviceFault, Sink, SliceSink};
+use sixel_picture::{
+    BytePlane, Colour, Palette, Parts, Picture, PictureFault, PictureReason, PpmFault, Profile,
+    write_ppm, write_ppm_colours,
+};
 use std::alloc::{AllocError, Global};
 use std::test::Fail;
 
-mod planes;
-mod reading;
-
-fn parts_of(colour: Option<Colour>) -> Option<Parts> {
+/// The parts of a colour, where there is one.
+pub(crate) fn parts_of(colour: Option<Colour>) -> Option<Parts> {
     match colour {
         Some(colour) => Some(colour.parts()),
         None => None,
@@ -181,7 +177,7 @@ fn picture_of(
 }
 
 /// The register of a pixel, where it lies in the picture.
-fn register_of(picture: &Picture, x: u32, y: u32) -> Option<u8> {
+pub(crate) fn register_of(picture: &Picture, x: u32, y: u32) -> Option<u8> {
     let (width, height) = (picture.width(), picture.height());
     if x >= width || y >= height {
         return None;

@@ -1,0 +1,9 @@
+//! The tests of `sixel_picture`: worked examples of colours, pictures, planes and picture files.
+#![tactic(auto)]
+
+#[cfg(test)]
+mod pictures;
+#[cfg(test)]
+mod planes;
+#[cfg(test)]
+mod reading;
