@@ -2,8 +2,12 @@
 #![tactic(auto)]
 
 #[cfg(test)]
+mod limits;
+#[cfg(test)]
 mod pictures;
 #[cfg(test)]
 mod planes;
 #[cfg(test)]
 mod reading;
+#[cfg(test)]
+mod writing;
