@@ -100,61 +100,50 @@ pub(crate) fn reads(
     }
 }
 
+/// A row: the bytes, the reason of their fault, its place.
+type Row = (&'static [u8], PpmReason, u64);
+
+const FAULTS: &[Row] = &[
+    (b"", PpmReason::Short, 0),
+    (b"x", PpmReason::Header, 0),
+    (b"P5 1 1 100", PpmReason::Header, 1),
+    (b"P61 1 100\n", PpmReason::Header, 2),
+    (b"P6 x", PpmReason::Header, 3),
+    (b"P6 1x1 100\n", PpmReason::Header, 4),
+    (b"P6 1 1 100#\n", PpmReason::Header, 10),
+    (b"P6 1 1 256#\n", PpmReason::Header, 10),
+    (b"P6 0x", PpmReason::Header, 4),
+    (b"P6 0", PpmReason::Short, 4),
+    (b"P6 0 1 100\n", PpmReason::Size, 3),
+    (b"P6 2049 1 100\n", PpmReason::Size, 3),
+    // 2^32 + 1 and 2^64 + 1 are not 1.
+    (b"P6 4294967297 1 100\n", PpmReason::Size, 3),
+    (b"P6 18446744073709551617 1 100\n", PpmReason::Size, 3),
+    (b"P6 1 0 100\n", PpmReason::Size, 5),
+    (b"P6 1 2049#", PpmReason::Size, 5),
+    (b"P6 2048 2048 0 ", PpmReason::Maxval, 13),
+    (b"P6 1 1 0\n", PpmReason::Maxval, 7),
+    (b"P6 1 1 256\n", PpmReason::Maxval, 7),
+    (b"P6 1 1 1\n\x02", PpmReason::Sample, 9),
+    (b"P6 1 1 100\n\x64\x65", PpmReason::Sample, 12),
+    (b"P6 1 1 100\n\x00\x00\x65", PpmReason::Sample, 13),
+    (b"P6 1 1 100\n\x00\x00", PpmReason::Short, 13),
+    (b"P6 1 1 1\n\x00\x00\x00\x00", PpmReason::Trailing, 12),
+    (b"P6 1 1 100\n\x00\x00\x00\x00", PpmReason::Trailing, 14),
+    (b"P6 1 1 100\n\x00\x00\x00\xff\xff", PpmReason::Trailing, 14),
+];
+
+/// Files with a fault. The proof of a test that calls it doesn't read the table.
+fn faults() -> &'static [Row] {
+    FAULTS
+}
+
 #[test]
-fn faults_have_reasons_and_places(rt: HostRuntime) -> Result<(), Fail> {
-    for (bytes, reason, place) in [
-        (b"".as_slice(), PpmReason::Short, 0),
-        (b"x".as_slice(), PpmReason::Header, 0),
-        (b"P5 1 1 100".as_slice(), PpmReason::Header, 1),
-        (b"P61 1 100\n".as_slice(), PpmReason::Header, 2),
-        (b"P6 x".as_slice(), PpmReason::Header, 3),
-        (b"P6 1x1 100\n".as_slice(), PpmReason::Header, 4),
-        (b"P6 1 1 100#\n".as_slice(), PpmReason::Header, 10),
-        (b"P6 1 1 256#\n".as_slice(), PpmReason::Header, 10),
-        (b"P6 0x".as_slice(), PpmReason::Header, 4),
-        (b"P6 0".as_slice(), PpmReason::Short, 4),
-        (b"P6 0 1 100\n".as_slice(), PpmReason::Size, 3),
-        (b"P6 2049 1 100\n".as_slice(), PpmReason::Size, 3),
-        // 2^32 + 1 and 2^64 + 1 are not 1.
-        (b"P6 4294967297 1 100\n".as_slice(), PpmReason::Size, 3),
-        (
-            b"P6 18446744073709551617 1 100\n".as_slice(),
-            PpmReason::Size,
-            3,
-        ),
-        (b"P6 1 0 100\n".as_slice(), PpmReason::Size, 5),
-        (b"P6 1 2049#".as_slice(), PpmReason::Size, 5),
-        (b"P6 2048 2048 0 ".as_slice(), PpmReason::Maxval, 13),
-        (b"P6 1 1 0\n".as_slice(), PpmReason::Maxval, 7),
-        (b"P6 1 1 256\n".as_slice(), PpmReason::Maxval, 7),
-        (b"P6 1 1 1\n\x02".as_slice(), PpmReason::Sample, 9),
-        (b"P6 1 1 100\n\x64\x65".as_slice(), PpmReason::Sample, 12),
-        (
-            b"P6 1 1 100\n\x00\x00\x65".as_slice(),
-            PpmReason::Sample,
-            13,
-        ),
-        (b"P6 1 1 100\n\x00\x00".as_slice(), PpmReason::Short, 13),
-        (
-            b"P6 1 1 1\n\x00\x00\x00\x00".as_slice(),
-            PpmReason::Trailing,
-            12,
-        ),
-        (
-            b"P6 1 1 100\n\x00\x00\x00\x00".as_slice(),
-            PpmReason::Trailing,
-            14,
-        ),
-        (
-            b"P6 1 1 100\n\x00\x00\x00\xff\xff".as_slice(),
-            PpmReason::Trailing,
-            14,
-        ),
-    ] {
-        let expected = format(reason, place);
+fn faults_have_reasons_and_places(rt: HostRuntime) {
+    for (bytes, reason, place) in faults() {
+        let expected = format(*reason, *place);
         assert!(rt; agrees(rt.alloc(), bytes, 12, expected), "place {place}");
     }
-    Ok(())
 }
 
 /// A header and so many pixels (i, 0, 0) after it.
@@ -289,7 +278,7 @@ fn fronts_are_short(rt: HostRuntime) -> Result<(), Fail> {
             "front {count}"
         );
     }
-    assert_eq!(rt; fault(rt.alloc(), RED, 1), None);
+    assert!(rt; fault(rt.alloc(), RED, 1).is_none());
     Ok(())
 }
 
