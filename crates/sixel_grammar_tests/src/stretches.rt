@@ -1,6 +1,6 @@
 //! Stretches of data bytes that are read at once.
 
-use crate::{Reader, Stretch};
+use sixel_grammar::{Reader, Stretch};
 
 /// What a reader that was fed this front makes of the piece; `None` where it refuses the front.
 fn stretch_after(front: &[u8], piece: &[u8]) -> Option<Stretch> {

@@ -4,10 +4,7 @@ ghost use Rattle.std.specs.Prelude.{◌≡◌, ◌<◌, ◌≤◌, ◌+◌, ◌*
 ghost use Rattle.sixel_grammar.specs.Bytes.{is_data};
 ghost use Rattle.std.specs.Int.{bit_at};
 
-use crate::band_plane::BandPlane;
-use crate::bits::is_set;
-use crate::byte_plane::BytePlane;
-use crate::plane::Plane;
+use sixel_picture::{BandPlane, BytePlane, Plane, is_set};
 use std::alloc::{AllocError, Global};
 use std::test::Fail;
 
@@ -285,7 +282,7 @@ fn planes_of_any_size_are_made_blank(rt: HostRuntime) {
 }
 
 /// Whether one of two planes is made at least, and each that is made is blank.
-pub(super) fn one_is_blank<P: Plane>(alloc: Global) -> bool {
+fn one_is_blank<P: Plane>(alloc: Global) -> bool {
     match (
         is_made_blank::<P>(alloc, 3, 7),
         is_made_blank::<P>(alloc, 3, 7),
@@ -294,6 +291,12 @@ pub(super) fn one_is_blank<P: Plane>(alloc: Global) -> bool {
         (Some(is_blank), None) | (None, Some(is_blank)) => is_blank,
         (None, None) => false,
     }
+}
+
+/// Under `rt try --test --fail-alloc N` the N-th growth is refused: those of the first plane are 1 and 2.
+#[test]
+fn a_refused_growth_is_answered(rt: HostRuntime) {
+    assert!(rt; one_is_blank::<BytePlane>(rt.alloc()));
 }
 
 /// Under `rt try --test --fail-alloc N` the N-th growth is refused: those of the first plane are 1 and 2.

@@ -1,6 +1,6 @@
 //! Each byte value after each thing that can be open, by the table of what may follow.
 
-use crate::{Fault, Reader, Reason};
+use sixel_grammar::{Fault, Reader, Reason};
 use std::process::Abort;
 
 /// Byte values.

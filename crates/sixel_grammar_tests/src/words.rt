@@ -1,14 +1,14 @@
 //! Events and answers in words.
 
-use crate::{Command, Event, Fault, InputFault, Placed};
 use arrayvec::ArrayVec;
+use sixel_grammar::{Command, Event, Fault, InputFault, Placed};
 use std::test::Fail;
 
 /// The smallest portable picture, 26 bytes.
-pub(super) const PICTURE: &[u8] = b"\x1bPq\"1;1;1;1#0;2;0;0;0#0@\x1b\\";
+pub(crate) const PICTURE: &[u8] = b"\x1bPq\"1;1;1;1#0;2;0;0;0#0@\x1b\\";
 
 /// What it says.
-pub(super) const PICTURE_IN_WORDS: &str =
+pub(crate) const PICTURE_IN_WORDS: &str =
     "0 start false [0], 3 raster 1 1 1 1, 11 define 0 2 0 0 0, 21 select 0, 23 sixel 1, 24 finish false";
 
 fn listed(numbers: &[u16]) -> ArrayVec<u16, 5> {
@@ -51,7 +51,7 @@ fn command_in_words(rt: &impl AllocGlobal, command: &Command) -> Result<String, 
 }
 
 /// One event in words: its place, its name, its numbers.
-pub(super) fn in_words(rt: &impl AllocGlobal, placed: &Placed) -> Result<String, Fail> {
+pub(crate) fn in_words(rt: &impl AllocGlobal, placed: &Placed) -> Result<String, Fail> {
     let alloc = rt.alloc();
     let place = placed.place;
     let text = match &placed.event {
@@ -70,7 +70,7 @@ pub(super) fn in_words(rt: &impl AllocGlobal, placed: &Placed) -> Result<String,
 }
 
 /// All of them, with `, ` between two.
-pub(super) fn all_in_words(rt: &impl AllocGlobal, events: &[Placed]) -> Result<String, Fail> {
+pub(crate) fn all_in_words(rt: &impl AllocGlobal, events: &[Placed]) -> Result<String, Fail> {
     let mut text = String::new(rt.alloc());
     for placed in events {
         if !text.is_empty() {
@@ -82,7 +82,7 @@ pub(super) fn all_in_words(rt: &impl AllocGlobal, events: &[Placed]) -> Result<S
 }
 
 /// The events, or why there are none.
-pub(super) fn answer_in_words(
+pub(crate) fn answer_in_words(
     rt: &impl AllocGlobal,
     answer: &Result<Vec<Placed>, InputFault>,
 ) -> Result<String, Fail> {

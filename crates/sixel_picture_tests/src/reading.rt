@@ -2,12 +2,9 @@
 
 ghost use Rattle.std.specs.Prelude.{◌<◌, None};
 
-use super::parts_of;
-use crate::colour::Parts;
-use crate::picture::Picture;
-use crate::ppm::{PpmFault, PpmReason, read_ppm};
-use crate::profile::Profile;
+use crate::pictures::{parts_of, register_of};
 use sixel_grammar::{DeviceFault, SliceSource, Source};
+use sixel_picture::{Parts, Picture, PpmFault, PpmReason, Profile, read_ppm};
 use std::alloc::{AllocError, Global};
 use std::test::Fail;
 
@@ -25,7 +22,7 @@ fn read(alloc: Global, bytes: &[u8], piece: usize) -> Result<Picture, PpmFault>
 }
 
 /// The fault of the bytes in pieces of a size.
-fn fault(alloc: Global, bytes: &[u8], piece: usize) -> Option<PpmFault>
+pub(crate) fn fault(alloc: Global, bytes: &[u8], piece: usize) -> Option<PpmFault>
     requires { 0 < piece }
 {
     match read(alloc, bytes, piece) {
@@ -34,12 +31,17 @@ fn fault(alloc: Global, bytes: &[u8], piece: usize) -> Option<PpmFault>
     }
 }
 
-fn format(reason: PpmReason, place: u64) -> Option<PpmFault> {
+pub(crate) fn format(reason: PpmReason, place: u64) -> Option<PpmFault> {
     Some(PpmFault::Format { reason, place })
 }
 
 /// Whether the bytes have this fault, or none, in pieces of up to so many bytes and in one piece.
-fn agrees(alloc: Global, bytes: &[u8], pieces: usize, expected: Option<PpmFault>) -> bool {
+pub(crate) fn agrees(
+    alloc: Global,
+    bytes: &[u8],
+    pieces: usize,
+    expected: Option<PpmFault>,
+) -> bool {
     for more in 0..pieces.min(64) {
         if fault(alloc, bytes, more + 1) != expected {
             return false;
@@ -51,6 +53,19 @@ fn agrees(alloc: Global, bytes: &[u8], pieces: usize, expected: Option<PpmFault>
 /// The colour of a register of the picture.
 fn colour(picture: &Picture, register: u8) -> Option<Parts> {
     parts_of(picture.palette().get(register))
+}
+
+/// Whether these are the registers of the picture's pixels, row by row.
+fn has_registers(picture: &Picture, registers: &[u8]) -> bool {
+    let mut rest = registers.iter();
+    for y in 0..picture.height() {
+        for x in 0..picture.width() {
+            if rest.next().copied() != register_of(picture, x, y) {
+                return false;
+            }
+        }
+    }
+    rest.next().is_none()
 }
 
 /// Whether the picture has this size, these registers and, from register 0 on, these colours alone.
@@ -65,11 +80,11 @@ fn is_picture(
             return false;
         }
     }
-    picture.width() == width && picture.height() == height && picture.registers() == registers
+    picture.width() == width && picture.height() == height && has_registers(picture, registers)
 }
 
 /// Whether the bytes, in pieces of a size, are this picture.
-fn reads(
+pub(crate) fn reads(
     alloc: Global,
     bytes: &[u8],
     piece: usize,
@@ -85,61 +100,50 @@ fn reads(
     }
 }
 
+/// A row: the bytes, the reason of their fault, its place.
+type Row = (&'static [u8], PpmReason, u64);
+
+const FAULTS: &[Row] = &[
+    (b"", PpmReason::Short, 0),
+    (b"x", PpmReason::Header, 0),
+    (b"P5 1 1 100", PpmReason::Header, 1),
+    (b"P61 1 100\n", PpmReason::Header, 2),
+    (b"P6 x", PpmReason::Header, 3),
+    (b"P6 1x1 100\n", PpmReason::Header, 4),
+    (b"P6 1 1 100#\n", PpmReason::Header, 10),
+    (b"P6 1 1 256#\n", PpmReason::Header, 10),
+    (b"P6 0x", PpmReason::Header, 4),
+    (b"P6 0", PpmReason::Short, 4),
+    (b"P6 0 1 100\n", PpmReason::Size, 3),
+    (b"P6 2049 1 100\n", PpmReason::Size, 3),
+    // 2^32 + 1 and 2^64 + 1 are not 1.
+    (b"P6 4294967297 1 100\n", PpmReason::Size, 3),
+    (b"P6 18446744073709551617 1 100\n", PpmReason::Size, 3),
+    (b"P6 1 0 100\n", PpmReason::Size, 5),
+    (b"P6 1 2049#", PpmReason::Size, 5),
+    (b"P6 2048 2048 0 ", PpmReason::Maxval, 13),
+    (b"P6 1 1 0\n", PpmReason::Maxval, 7),
+    (b"P6 1 1 256\n", PpmReason::Maxval, 7),
+    (b"P6 1 1 1\n\x02", PpmReason::Sample, 9),
+    (b"P6 1 1 100\n\x64\x65", PpmReason::Sample, 12),
+    (b"P6 1 1 100\n\x00\x00\x65", PpmReason::Sample, 13),
+    (b"P6 1 1 100\n\x00\x00", PpmReason::Short, 13),
+    (b"P6 1 1 1\n\x00\x00\x00\x00", PpmReason::Trailing, 12),
+    (b"P6 1 1 100\n\x00\x00\x00\x00", PpmReason::Trailing, 14),
+    (b"P6 1 1 100\n\x00\x00\x00\xff\xff", PpmReason::Trailing, 14),
+];
+
+/// Files with a fault. The proof of a test that calls it doesn't read the table.
+fn faults() -> &'static [Row] {
+    FAULTS
+}
+
 #[test]
-fn faults_have_reasons_and_places(rt: HostRuntime) -> Result<(), Fail> {
-    for (bytes, reason, place) in [
-        (b"".as_slice(), PpmReason::Short, 0),
-        (b"x".as_slice(), PpmReason::Header, 0),
-        (b"P5 1 1 100".as_slice(), PpmReason::Header, 1),
-        (b"P61 1 100\n".as_slice(), PpmReason::Header, 2),
-        (b"P6 x".as_slice(), PpmReason::Header, 3),
-        (b"P6 1x1 100\n".as_slice(), PpmReason::Header, 4),
-        (b"P6 1 1 100#\n".as_slice(), PpmReason::Header, 10),
-        (b"P6 1 1 256#\n".as_slice(), PpmReason::Header, 10),
-        (b"P6 0x".as_slice(), PpmReason::Header, 4),
-        (b"P6 0".as_slice(), PpmReason::Short, 4),
-        (b"P6 0 1 100\n".as_slice(), PpmReason::Size, 3),
-        (b"P6 2049 1 100\n".as_slice(), PpmReason::Size, 3),
-        // 2^32 + 1 and 2^64 + 1 are not 1.
-        (b"P6 4294967297 1 100\n".as_slice(), PpmReason::Size, 3),
-        (
-            b"P6 18446744073709551617 1 100\n".as_slice(),
-            PpmReason::Size,
-            3,
-        ),
-        (b"P6 1 0 100\n".as_slice(), PpmReason::Size, 5),
-        (b"P6 1 2049#".as_slice(), PpmReason::Size, 5),
-        (b"P6 2048 2048 0 ".as_slice(), PpmReason::Maxval, 13),
-        (b"P6 1 1 0\n".as_slice(), PpmReason::Maxval, 7),
-        (b"P6 1 1 256\n".as_slice(), PpmReason::Maxval, 7),
-        (b"P6 1 1 1\n\x02".as_slice(), PpmReason::Sample, 9),
-        (b"P6 1 1 100\n\x64\x65".as_slice(), PpmReason::Sample, 12),
-        (
-            b"P6 1 1 100\n\x00\x00\x65".as_slice(),
-            PpmReason::Sample,
-            13,
-        ),
-        (b"P6 1 1 100\n\x00\x00".as_slice(), PpmReason::Short, 13),
-        (
-            b"P6 1 1 1\n\x00\x00\x00\x00".as_slice(),
-            PpmReason::Trailing,
-            12,
-        ),
-        (
-            b"P6 1 1 100\n\x00\x00\x00\x00".as_slice(),
-            PpmReason::Trailing,
-            14,
-        ),
-        (
-            b"P6 1 1 100\n\x00\x00\x00\xff\xff".as_slice(),
-            PpmReason::Trailing,
-            14,
-        ),
-    ] {
-        let expected = format(reason, place);
+fn faults_have_reasons_and_places(rt: HostRuntime) {
+    for (bytes, reason, place) in faults() {
+        let expected = format(*reason, *place);
         assert!(rt; agrees(rt.alloc(), bytes, 12, expected), "place {place}");
     }
-    Ok(())
 }
 
 /// A header and so many pixels (i, 0, 0) after it.
@@ -274,7 +278,7 @@ fn fronts_are_short(rt: HostRuntime) -> Result<(), Fail> {
             "front {count}"
         );
     }
-    assert_eq!(rt; fault(rt.alloc(), RED, 1), None);
+    assert!(rt; fault(rt.alloc(), RED, 1).is_none());
     Ok(())
 }
 
@@ -339,152 +343,6 @@ fn a_failed_source_is_called_no_more(rt: HostRuntime) -> Result<(), Fail> {
         Err(fault) => assert_eq!(rt; fault, PpmFault::Read),
     }
     assert_eq!(rt; source.calls, 1);
-    Ok(())
-}
-
-/// A front, so many bytes of filler, and the rest.
-fn filled(
-    alloc: Global,
-    front: &[u8],
-    filler: u8,
-    count: usize,
-    rest: &[u8],
-) -> Result<Vec<u8>, AllocError> {
-    let mut bytes = front.to_vec(alloc)?;
-    for _ in 0..count {
-        bytes.push(filler)?;
-    }
-    bytes.extend_from_slice(rest)?;
-    Ok(bytes)
-}
-
-/// Whether `P6` with so many bytes of filler and the rest of a file has this fault, or none.
-fn header_agrees(
-    alloc: Global,
-    filler: u8,
-    count: usize,
-    rest: &[u8],
-    expected: Option<PpmFault>,
-) -> Result<bool, AllocError> {
-    let bytes = filled(alloc, b"P6", filler, count, rest)?;
-    Ok(fault(alloc, &bytes, 4_096) == expected && agrees(alloc, &bytes, 1, expected))
-}
-
-#[test]
-fn headers_have_a_limit(rt: HostRuntime) -> Result<(), Fail> {
-    let limit = format(PpmReason::Header, 65_536);
-    let short = format(PpmReason::Short, 65_536);
-    let size = format(PpmReason::Size, 65_534);
-    let maxval = format(PpmReason::Maxval, 65_534);
-    let longest = filled(rt.alloc(), b"P6", b' ', 65_526, b"1 1 100\n\x00\x00\x00")?;
-    let black = [Parts::Rgb(0, 0, 0)];
-    for piece in [1, 4_096, 65_536] {
-        assert!(rt;
-            reads(rt.alloc(), &longest, piece, (1, 1), &[0], &black),
-            "pieces of {piece}"
-        );
-    }
-    for (filler, count, rest, expected) in [
-        (b' ', 65_527, b"1 1 100\n\x00\x00\x00".as_slice(), limit),
-        (b' ', 65_527, b"1 1 256\n\x00\x00\x00".as_slice(), limit),
-        (b' ', 65_534, b"".as_slice(), short),
-        (b' ', 65_535, b"".as_slice(), limit),
-        (b'#', 65_534, b"".as_slice(), short),
-        (b'#', 65_534, b"\n1 1 100\n".as_slice(), limit),
-        (b' ', 65_532, b"0 1 100\n".as_slice(), size),
-        (b' ', 65_530, b"1 0 1".as_slice(), size),
-        (b' ', 65_528, b"1 1 0\n".as_slice(), maxval),
-        (b' ', 65_529, b"1 1 0\n".as_slice(), limit),
-    ] {
-        let agrees = header_agrees(rt.alloc(), filler, count, rest, expected)?;
-        assert!(rt; agrees, "filler {count}");
-    }
-    Ok(())
-}
-
-/// Whether `P6 ` with so many digits and the rest of a file has this fault, or none.
-fn number_agrees(
-    alloc: Global,
-    digit: u8,
-    count: usize,
-    rest: &[u8],
-    expected: Option<PpmFault>,
-) -> Result<bool, AllocError> {
-    let bytes = filled(alloc, b"P6 ", digit, count, rest)?;
-    Ok(fault(alloc, &bytes, 65_536) == expected)
-}
-
-#[test]
-fn long_numbers_do_not_wrap(rt: HostRuntime) -> Result<(), Fail> {
-    let size = format(PpmReason::Size, 3);
-    let header = format(PpmReason::Header, 60_003);
-    for (digit, count, rest, expected) in [
-        (b'9', 1_000, b" 1 100\n".as_slice(), size),
-        (b'9', 60_000, b" 1 100\n".as_slice(), size),
-        (b'9', 60_000, b"x".as_slice(), header),
-        (b'0', 60_000, b"1 1 1\n\x00\x00\x00".as_slice(), None),
-        (b'0', 60_000, b" 1 1\n\x00\x00\x00".as_slice(), size),
-    ] {
-        let agrees = number_agrees(rt.alloc(), digit, count, rest, expected)?;
-        assert!(rt; agrees, "{count} digits");
-    }
-    Ok(())
-}
-
-/// The longest header and 2,048 pixels by 16 without the last one: 163,837 bytes. They have 16 colours.
-fn wide(alloc: Global) -> Result<Vec<u8>, AllocError> {
-    let mut bytes = filled(alloc, b"P6", b' ', 65_524, b"2048 16 2\n")?;
-    for colour in 0u8..16 {
-        bytes.extend_from_slice(&[colour / 9, colour / 3 % 3, colour % 3])?;
-    }
-    bytes.resize(163_837, 0)?;
-    Ok(bytes)
-}
-
-#[test]
-fn a_wide_picture_is_read_or_refused_at_its_end(rt: HostRuntime) -> Result<(), Fail> {
-    for (end, expected) in [
-        ([0, 0, 0].as_slice(), None),
-        ([0, 0].as_slice(), format(PpmReason::Short, 163_839)),
-        ([0, 0, 3].as_slice(), format(PpmReason::Sample, 163_839)),
-        (
-            [0, 0, 0, 0].as_slice(),
-            format(PpmReason::Trailing, 163_840),
-        ),
-        (
-            [2, 2, 2].as_slice(),
-            format(PpmReason::TooManyColours, 163_837),
-        ),
-    ] {
-        let mut bytes = wide(rt.alloc())?;
-        bytes.extend_from_slice(end)?;
-        assert_eq!(rt; fault(rt.alloc(), &bytes, 65_536), expected);
-    }
-    Ok(())
-}
-
-/// The largest picture: black pixels, and a red one at the end.
-#[test]
-fn the_largest_picture_is_read(rt: HostRuntime) -> Result<(), Fail> {
-    let bytes = filled(
-        rt.alloc(),
-        b"P6 2048 2048 100\n",
-        0,
-        12_582_909,
-        b"\x64\x00\x00",
-    )?;
-    let registers = filled(rt.alloc(), b"", 0, 4_194_303, b"\x01")?;
-    let colours = [Parts::Rgb(0, 0, 0), Parts::Rgb(100, 0, 0)];
-    assert!(rt;
-        reads(
-            rt.alloc(),
-            &bytes,
-            65_536,
-            (2_048, 2_048),
-            &registers,
-            &colours
-        )
-    );
     Ok(())
 }
 

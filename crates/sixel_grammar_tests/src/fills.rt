@@ -1,7 +1,7 @@
 //! How often `read_all` fills from its source.
 
-use crate::tests::words::{PICTURE, PICTURE_IN_WORDS, answer_in_words};
-use crate::{DeviceFault, SliceSource, Source, read_all};
+use crate::words::{PICTURE, PICTURE_IN_WORDS, answer_in_words};
+use sixel_grammar::{DeviceFault, SliceSource, Source, read_all};
 use std::test::Fail;
 
 /// A source, and how often it was filled from.
@@ -65,28 +65,33 @@ fn each_fill_fails_in_turn(rt: HostRuntime) -> Result<(), Fail> {
     Ok(())
 }
 
-/// The piece that holds the fault is the last one, also where the next fill would fail. At the end there is one fill
-/// more.
+/// Whether reading the bytes has this fault after so many fills, where the next one would fail.
+fn ends_after(
+    rt: &impl AllocGlobal,
+    bytes: &[u8],
+    piece: usize,
+    fault: &str,
+    fills: u64,
+) -> Result<bool, Fail> {
+    agrees_after(rt, bytes, piece, Some(fills), fault, fills)
+}
+
+/// The piece that holds the fault is the last one, also where the next fill would fail.
 #[test]
 fn a_source_is_left_alone_after_a_fault(rt: HostRuntime) -> Result<(), Fail> {
     for (piece, fills) in [(1, 13), (2, 7), (5, 3), (12, 2), (13, 1), (64, 1)] {
-        assert!(rt;
-            agrees_after(&rt, FAULTY, piece, Some(fills), "BadByte 12", fills)?,
-            "in pieces of {piece}"
-        );
+        let ends = ends_after(&rt, FAULTY, piece, "BadByte 12", fills)?;
+        assert!(rt; ends, "in pieces of {piece}");
     }
+    Ok(())
+}
+
+/// At the end there is one fill more.
+#[test]
+fn a_source_is_left_alone_after_its_end(rt: HostRuntime) -> Result<(), Fail> {
     for (piece, fills) in [(1, 26), (5, 6), (24, 3), (25, 2), (64, 2)] {
-        assert!(rt;
-            agrees_after(
-                &rt,
-                &PICTURE[..25],
-                piece,
-                Some(fills),
-                "Truncated 25",
-                fills
-            )?,
-            "in pieces of {piece}"
-        );
+        let ends = ends_after(&rt, &PICTURE[..25], piece, "Truncated 25", fills)?;
+        assert!(rt; ends, "in pieces of {piece}");
     }
     Ok(())
 }

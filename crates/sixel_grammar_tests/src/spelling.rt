@@ -1,7 +1,7 @@
 //! The fixed spelling, and what can be spelled.
 
-use crate::{Command, Event, Sink, SliceSink, put_all, write_event};
 use arrayvec::ArrayVec;
+use sixel_grammar::{Command, Event, Sink, SliceSink, put_all, write_event};
 
 fn start(eight: bool, numbers: &[u16]) -> Event {
     let mut parameters = ArrayVec::new();

@@ -1,8 +1,10 @@
 //! The devices over readers, writers and slices, and the block before a sink.
 
-use crate::tests::words::{PICTURE, PICTURE_IN_WORDS, answer_in_words};
-use crate::{Block, DeviceFault, FromRead, Sink, SliceSink, Source, ToWrite, put_all, read_all};
+use crate::words::{PICTURE, PICTURE_IN_WORDS, answer_in_words};
 use arrayvec::ArrayVec;
+use sixel_grammar::{
+    Block, DeviceFault, FromRead, Sink, SliceSink, Source, ToWrite, put_all, read_all,
+};
 use std::io;
 use std::io::{Error, ErrorKind, Read, Write};
 use std::test::Fail;

@@ -1,7 +1,7 @@
 //! Each byte of the smallest picture in turn: the end before it, and a byte that can't come in its place.
 
-use crate::tests::words::PICTURE;
-use crate::{Fault, Reader, Reason};
+use crate::words::PICTURE;
+use sixel_grammar::{Fault, Reader, Reason};
 
 /// Why CAN (18) can't stand at the place.
 fn reason_at(place: u64) -> Reason {
