@@ -1,32 +1,24 @@
-//! What no contract says: that the definitions are the format's and the class's, by worked examples.
+//! What the tests share: colours, choices, terminals, and what they show.
 
-mod choices;
-mod clipping;
-mod colours;
-mod drawing;
-mod eight_bits;
-mod making;
-
-use crate::choices::{Choices, Ground};
-use crate::terminal::Terminal;
 use sixel_grammar::{InputFault, Placed, SliceSource, read_all};
 use sixel_picture::{Colour, Parts};
+use sixel_terminal::{Choices, Ground, Terminal};
 use std::alloc::Global;
 use std::test::Fail;
 
-const BLACK: Parts = Parts::Rgb(0, 0, 0);
+pub(crate) const BLACK: Parts = Parts::Rgb(0, 0, 0);
 
-const RED: Parts = Parts::Rgb(100, 0, 0);
+pub(crate) const RED: Parts = Parts::Rgb(100, 0, 0);
 
-const WHITE: Parts = Parts::Rgb(100, 100, 100);
+pub(crate) const WHITE: Parts = Parts::Rgb(100, 100, 100);
 
 /// A grey of this many percent.
-fn grey(percent: u8) -> Parts {
+pub(crate) fn grey(percent: u8) -> Parts {
     Parts::Rgb(percent, percent, percent)
 }
 
 /// A terminal that binds at painting, keeps its ground and has its origin at the top left.
-fn plain_choices(width: u32, height: u32) -> Choices {
+pub(crate) fn plain_choices(width: u32, height: u32) -> Choices {
     Choices {
         binds_at_showing: false,
         selects: false,
@@ -45,7 +37,7 @@ fn plain_choices(width: u32, height: u32) -> Choices {
 }
 
 /// Register n starts as 6n percent of red, green and blue, from 17 on modulo 101.
-fn grey_colours(alloc: Global, count: u16) -> Result<Vec<Colour>, Fail> {
+pub(crate) fn grey_colours(alloc: Global, count: u16) -> Result<Vec<Colour>, Fail> {
     let mut colours = Vec::with_capacity(alloc, count as usize)?;
     for register in 0..count {
         let percent = (register as u32 * 6 % 101) as u8;
@@ -55,30 +47,30 @@ fn grey_colours(alloc: Global, count: u16) -> Result<Vec<Colour>, Fail> {
 }
 
 /// A white screen.
-fn white_screen(alloc: Global, pixels: usize) -> Result<Vec<Colour>, Fail> {
+pub(crate) fn white_screen(alloc: Global, pixels: usize) -> Result<Vec<Colour>, Fail> {
     let white = Colour::rgb(100, 100, 100).ok_or("white")?;
     Ok(vec![in alloc; white; pixels]?)
 }
 
 /// A terminal of these choices with so many grey registers and a white screen.
-fn terminal(alloc: Global, choices: Choices, registers: u16) -> Result<Terminal, Fail> {
+pub(crate) fn terminal(alloc: Global, choices: Choices, registers: u16) -> Result<Terminal, Fail> {
     let pixels = (choices.screen_width as usize).saturating_mul(choices.screen_height as usize);
     let colours = grey_colours(alloc, registers)?;
     Ok(Terminal::new(choices, colours, white_screen(alloc, pixels)?).or(Err("a terminal"))?)
 }
 
 /// What reading a text gives.
-fn document(alloc: Global, text: &[u8]) -> Result<Vec<Placed>, InputFault> {
+pub(crate) fn document(alloc: Global, text: &[u8]) -> Result<Vec<Placed>, InputFault> {
     read_all(alloc, &mut SliceSource::new(text, 64, None))
 }
 
 /// The events of a document.
-fn events_of(alloc: Global, text: &[u8]) -> Result<Vec<Placed>, Fail> {
+pub(crate) fn events_of(alloc: Global, text: &[u8]) -> Result<Vec<Placed>, Fail> {
     Ok(document(alloc, text).or(Err("a document"))?)
 }
 
 /// What a terminal of so many grey registers and a white screen shows after a document.
-fn shown_of(
+pub(crate) fn shown_of(
     alloc: Global,
     choices: Choices,
     registers: u16,
@@ -90,7 +82,7 @@ fn shown_of(
 }
 
 /// Whether a terminal of so many registers shows this after a document.
-fn is_shown(
+pub(crate) fn is_shown(
     alloc: Global,
     choices: Choices,
     registers: u16,
@@ -101,7 +93,7 @@ fn is_shown(
 }
 
 /// The coordinates of colours.
-fn parts_of(alloc: Global, colours: &[Colour]) -> Result<Vec<Parts>, Fail> {
+pub(crate) fn parts_of(alloc: Global, colours: &[Colour]) -> Result<Vec<Parts>, Fail> {
     let mut parts = Vec::with_capacity(alloc, colours.len())?;
     for colour in colours {
         parts.push(colour.parts())?;

@@ -1,8 +1,7 @@
 //! Which parts make a terminal, and where it has room.
 
-use crate::choices::{Choices, Ground};
-use crate::terminal::{Terminal, TerminalReason};
-use crate::tests::{grey_colours, plain_choices, terminal};
+use crate::fixtures::{grey_colours, plain_choices, terminal};
+use sixel_terminal::{Choices, Ground, Terminal, TerminalReason};
 use std::alloc::Global;
 use std::test::Fail;
 

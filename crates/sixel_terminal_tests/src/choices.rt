@@ -1,7 +1,7 @@
 //! What each choice of a terminal does to what it shows.
 
-use crate::choices::{Choices, Ground};
-use crate::tests::{BLACK, RED, WHITE, grey, is_shown, plain_choices};
+use crate::fixtures::{BLACK, RED, WHITE, grey, is_shown, plain_choices};
+use sixel_terminal::{Choices, Ground};
 use std::test::Fail;
 
 /// A pixel painted in register 0, which is black, and then another colour of register 0.

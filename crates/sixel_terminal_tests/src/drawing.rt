@@ -1,12 +1,11 @@
 //! Where events paint, and what paints last.
 
-use crate::choices::{Choices, Ground};
-use crate::terminal::Terminal;
-use crate::tests::{
+use crate::fixtures::{
     BLACK, RED, WHITE, document, events_of, grey, is_shown, parts_of, plain_choices, terminal,
 };
 use sixel_grammar::{Command, Event, Placed};
 use sixel_picture::{Colour, Parts};
+use sixel_terminal::{Choices, Ground, Terminal};
 use std::alloc::{AllocError, Global};
 use std::test::Fail;
 
@@ -173,6 +172,15 @@ fn copies(alloc: Global, colour: Colour, count: usize) -> Result<Vec<Colour>, Al
     vec![in alloc; colour; count]
 }
 
+/// A terminal of black registers and one white pixel, also where a growth was refused.
+fn terminal_in_turn(alloc: Global, choices: Choices) -> Result<Terminal, Fail> {
+    let black = Colour::rgb(0, 0, 0).ok_or("black")?;
+    let white = Colour::rgb(100, 100, 100).ok_or("white")?;
+    let colours = copies(alloc, black, 16).or_else(|_| copies(alloc, black, 16))?;
+    let screen = copies(alloc, white, 1).or_else(|_| copies(alloc, white, 1))?;
+    Ok(Terminal::new(choices, colours, screen).or(Err("a terminal"))?)
+}
+
 /// Whether a terminal shows the colour after a document, or does at the next call where a growth was refused.
 fn shows_in_turn(
     alloc: Global,
@@ -180,11 +188,7 @@ fn shows_in_turn(
     text: &[u8],
     expected: Parts,
 ) -> Result<bool, Fail> {
-    let black = Colour::rgb(0, 0, 0).ok_or("black")?;
-    let white = Colour::rgb(100, 100, 100).ok_or("white")?;
-    let colours = copies(alloc, black, 16).or_else(|_| copies(alloc, black, 16))?;
-    let screen = copies(alloc, white, 1).or_else(|_| copies(alloc, white, 1))?;
-    let terminal = Terminal::new(choices, colours, screen).or(Err("a terminal"))?;
+    let terminal = terminal_in_turn(alloc, choices)?;
     let events = document(alloc, text).or_else(|_| document(alloc, text));
     let events = events.or(Err("a document"))?;
     let first = shows(alloc, &terminal, &events, expected);

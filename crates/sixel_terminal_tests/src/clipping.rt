@@ -1,8 +1,8 @@
 //! Terminals that clip data to the declared box.
 
-use crate::choices::{Choices, Ground};
-use crate::tests::{BLACK, RED, WHITE, grey, is_shown, plain_choices};
+use crate::fixtures::{BLACK, RED, WHITE, grey, is_shown, plain_choices};
 use sixel_picture::Parts;
+use sixel_terminal::{Choices, Ground};
 use std::alloc::Global;
 use std::test::Fail;
 

@@ -1,8 +1,8 @@
 //! Registers and their colours.
 
-use crate::choices::Choices;
-use crate::tests::{BLACK, RED, grey, is_shown, plain_choices};
+use crate::fixtures::{BLACK, RED, grey, is_shown, plain_choices};
 use sixel_picture::Parts;
+use sixel_terminal::Choices;
 use std::test::Fail;
 
 /// A definition in a system that there isn't, and a pixel without a select.

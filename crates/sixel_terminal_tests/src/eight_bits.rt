@@ -1,12 +1,11 @@
 //! Terminals without 8-bit controls.
 
-use crate::choices::{Choices, Ground};
-use crate::terminal::Terminal;
-use crate::tests::{
+use crate::fixtures::{
     BLACK, RED, WHITE, events_of, grey, grey_colours, is_shown, parts_of, plain_choices, terminal,
 };
 use sixel_grammar::{Event, Placed};
 use sixel_picture::Parts;
+use sixel_terminal::{Choices, Ground, Terminal};
 use std::alloc::Global;
 use std::test::Fail;
 
