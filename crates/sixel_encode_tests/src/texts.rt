@@ -1,54 +1,11 @@
-//! The worked examples of the encoder.
+//! Pictures and their texts.
 
-mod plain;
-
-use crate::writing::{EncodeFault, encode};
+use crate::fixtures::{Entry, all_entries, picture_of};
+use sixel_encode::{EncodeFault, encode};
 use sixel_grammar::SliceSink;
-use sixel_picture::{Colour, Palette, Parts, Picture, Profile};
+use sixel_picture::{Parts, Picture, Profile};
 use std::alloc::{AllocError, Global};
 use std::test::Fail;
-
-/// One entry of a palette: a register and its colour.
-type Entry = (u8, Parts);
-
-fn colour_of(parts: Parts) -> Result<Colour, Fail> {
-    let colour = match parts {
-        Parts::Rgb(red, green, blue) => Colour::rgb(red, green, blue),
-        Parts::Hls(hue, lightness, saturation) => Colour::hls(hue, lightness, saturation),
-    };
-    Ok(colour.ok_or("a colour")?)
-}
-
-fn palette_of(profile: Profile, entries: &[Entry]) -> Result<Palette, Fail> {
-    let mut palette = Palette::new(profile);
-    for (register, colour) in entries {
-        if u16::from(*register) < palette.profile().count() {
-            palette.set(*register, colour_of(*colour)?);
-        }
-    }
-    Ok(palette)
-}
-
-fn picture_of(
-    alloc: Global,
-    profile: Profile,
-    (width, height): (u32, u32),
-    entries: &[Entry],
-    registers: &[u8],
-) -> Result<Picture, Fail> {
-    let palette = palette_of(profile, entries)?;
-    let registers = registers.to_vec(alloc)?;
-    Ok(Picture::new(width, height, palette, registers).or(Err("a picture"))?)
-}
-
-/// Each register of the profile, in one colour.
-fn all_entries(alloc: Global, profile: Profile) -> Result<Vec<Entry>, AllocError> {
-    let mut entries = Vec::new(alloc);
-    for register in 0..profile.count() {
-        entries.push((register as u8, Parts::Rgb(10, 20, 30)))?;
-    }
-    Ok(entries)
-}
 
 /// The registers of the picture in `examples/hi.six`.
 const HI: [u8; 98] = [
@@ -60,6 +17,21 @@ const HI: [u8; 98] = [
     1, 1, 2, 2, 1, 1, 2, 2, 1, 1, 2, 2, 1, 1, //
     1, 1, 1, 1, 1, 1, 1, 1, 1, 1, 1, 1, 1, 1, //
 ];
+
+/// Whether the picture has the text.
+fn has_text(
+    alloc: Global,
+    profile: Profile,
+    size: (u32, u32),
+    entries: &[Entry],
+    registers: &[u8],
+    expected: &str,
+) -> Result<bool, Fail> {
+    let picture = picture_of(alloc, profile, size, entries, registers)?;
+    let mut room = [0; 100];
+    let mut sink = SliceSink::new(&mut room, 7, None);
+    Ok(encode(&picture, &mut sink) == Ok(()) && sink.written() == expected.as_bytes())
+}
 
 #[test]
 fn pictures_have_their_texts(rt: HostRuntime) -> Result<(), Fail> {
@@ -134,12 +106,11 @@ fn pictures_have_their_texts(rt: HostRuntime) -> Result<(), Fail> {
              #1~~@@vv@@~~@@~~$#2??}}GG}}??}}-#1!14@\x1b\\",
         ),
     ] {
-        let size = (width, height);
-        let picture = picture_of(rt.alloc(), Profile::Registers16, size, entries, registers)?;
-        let mut room = [0; 100];
-        let mut sink = SliceSink::new(&mut room, 7, None);
-        assert_eq!(rt; encode(&picture, &mut sink), Ok(()));
-        assert_eq!(rt; sink.written(), expected.as_bytes());
+        let (profile, size) = (Profile::Registers16, (width, height));
+        assert!(rt;
+            has_text(rt.alloc(), profile, size, entries, registers, expected)?,
+            "{expected}"
+        );
     }
     Ok(())
 }
@@ -163,12 +134,11 @@ fn wide_pictures_have_their_texts(rt: HostRuntime) -> Result<(), Fail> {
             "\x1bP0;1q\"1;1;3;1#9;2;0;0;0#100;2;100;0;0#200;2;0;0;0#255;2;0;0;0#9?@$#100??@$#255@\x1b\\",
         ),
     ] {
-        let size = (width, 1);
-        let picture = picture_of(rt.alloc(), Profile::Registers256, size, entries, registers)?;
-        let mut room = [0; 100];
-        let mut sink = SliceSink::new(&mut room, 7, None);
-        assert_eq!(rt; encode(&picture, &mut sink), Ok(()));
-        assert_eq!(rt; sink.written(), expected.as_bytes());
+        let (profile, size) = (Profile::Registers256, (width, 1));
+        assert!(rt;
+            has_text(rt.alloc(), profile, size, entries, registers, expected)?,
+            "{expected}"
+        );
     }
     Ok(())
 }

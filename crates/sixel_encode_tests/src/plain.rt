@@ -1,7 +1,7 @@
 //! The encoder against a plain, slow one.
 
-use super::{all_entries, picture_of};
-use crate::writing::encode;
+use crate::fixtures::{all_entries, picture_of};
+use sixel_encode::encode;
 use sixel_grammar::SliceSink;
 use sixel_picture::Profile;
 use std::alloc::{AllocError, Global};
