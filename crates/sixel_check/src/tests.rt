@@ -4,14 +4,11 @@ mod corners;
 mod differences;
 mod documents;
 mod faults;
-mod fills;
-mod growth;
 mod limits;
 mod pairs;
 mod plain;
 mod profiles;
 mod steps;
-mod stretches;
 mod terminals;
 
 use crate::checking::check_bytes;

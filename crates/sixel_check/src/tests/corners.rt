@@ -2,61 +2,9 @@
 //!
 //! Offsets: `"1;1;1;1` is 3 to 10, so a first definition stands at 11, and what follows `#0;2;0;0;0` at 21.
 
-use crate::tests::documents::picture_of;
 use crate::tests::{agree, agrees, joined, times};
-use sixel_picture::Colour;
 use std::alloc::AllocError;
-use std::process::Abort;
 use std::test::Fail;
-
-/// The text is portable, and register 0 is left with this colour.
-fn agree_left(
-    rt: &(impl AllocGlobal + Abort),
-    text: &str,
-    colour: Option<Colour>,
-) -> Result<(), Fail> {
-    let picture = picture_of(rt, text)?;
-    assert!(rt;
-        colour.is_some() && picture.palette().get(0) == colour,
-        "{text}"
-    );
-    Ok(())
-}
-
-/// A register may be defined as often as one likes, as long as nothing was painted in it. It keeps the last colour.
-#[test]
-fn definitions_before_all_painting(rt: HostRuntime) -> Result<(), Fail> {
-    // as A, B, A
-    agree_left(
-        &rt,
-        "EPq\"1;1;1;1#0;2;0;0;0#0;2;1;0;0#0;2;0;0;0#0@E\\",
-        Colour::rgb(0, 0, 0),
-    )?;
-    // as A, B
-    agree_left(
-        &rt,
-        "EPq\"1;1;1;1#0;2;0;0;0#0;2;1;0;0#0@E\\",
-        Colour::rgb(1, 0, 0),
-    )?;
-    // as A, and as B after data without a bit
-    agree_left(
-        &rt,
-        "EPq\"1;1;1;1#0;2;0;0;0#0?!9?$#0;2;1;0;0#0@E\\",
-        Colour::rgb(1, 0, 0),
-    )?;
-    // as A, B, and as B again once it was painted in
-    agree_left(
-        &rt,
-        "EPq\"1;1;1;1#0;2;0;0;0#0;2;1;0;0#0@#0;2;1;0;0E\\",
-        Colour::rgb(1, 0, 0),
-    )?;
-    // as A, B, and as A in the other system
-    agree_left(
-        &rt,
-        "EPq\"1;1;1;1#0;2;0;0;0#0;2;1;0;0#0;1;0;0;0#0@E\\",
-        Colour::hls(0, 0, 0),
-    )
-}
 
 /// Once a register was painted in, its latest colour alone may be repeated.
 #[test]
@@ -198,17 +146,9 @@ fn the_largest_box(rt: HostRuntime) -> Result<(), Fail> {
     Ok(())
 }
 
-/// A hue is at most 360, lightness and saturation at most 100; so is each of red, green and blue.
+/// A hue past 360, and each other coordinate past 100.
 #[test]
-fn colours_at_their_edges(rt: HostRuntime) -> Result<(), Fail> {
-    let hue = "EPq\"1;1;1;1#0;1;360;100;100#0@E\\";
-    agree_left(&rt, hue, Colour::hls(360, 100, 100))?;
-    let least = "EPq\"1;1;1;1#0;1;0;0;0#0@E\\";
-    agree_left(&rt, least, Colour::hls(0, 0, 0))?;
-    let hundred_and_one = "EPq\"1;1;1;1#0;1;101;100;100#0@E\\";
-    agree_left(&rt, hundred_and_one, Colour::hls(101, 100, 100))?;
-    let white = "EPq\"1;1;1;1#0;2;100;100;100#0@E\\";
-    agree_left(&rt, white, Colour::rgb(100, 100, 100))?;
+fn colours_past_their_edges(rt: HostRuntime) -> Result<(), Fail> {
     agree(
         &rt,
         &[

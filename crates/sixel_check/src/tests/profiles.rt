@@ -2,9 +2,8 @@
 //!
 //! Offsets: `"1;1;1;1` is 3 to 10, so a first definition stands at 11.
 
-use crate::tests::documents::{black, picture_by};
 use crate::tests::limits::agrees_each_way;
-use sixel_picture::{Picture, Profile};
+use sixel_picture::Profile;
 use std::process::Abort;
 use std::test::Fail;
 
@@ -130,44 +129,4 @@ fn agree_by_both(rt: &(impl AllocGlobal + Abort), rows: &[(&str, &str, &str)]) -
 #[test]
 fn each_profile_judges_by_its_registers(rt: HostRuntime) -> Result<(), Fail> {
     agree_by_both(&rt, DOCUMENTS)
-}
-
-/// Whether this register is black, and no other has a colour.
-fn is_black_alone(picture: &Picture, register: u8) -> bool {
-    for other in 0..=255u8 {
-        let expected = if other == register { black() } else { None };
-        if picture.palette().get(other) != expected {
-            return false;
-        }
-    }
-    true
-}
-
-/// Whether the picture is one black pixel in this register, and of the profile.
-fn is_left(picture: &Picture, profile: Profile, register: u8) -> bool {
-    picture.profile() == profile
-        && picture.width() == 1
-        && picture.height() == 1
-        && picture.register_at(0, 0) == register
-        && is_black_alone(picture, register)
-}
-
-/// Whether a black pixel in this register leaves such a picture.
-fn leaves(rt: &impl AllocGlobal, profile: Profile, register: u8) -> Result<bool, Fail> {
-    let alloc = rt.alloc();
-    let text = format!(in alloc; "EPq\"1;1;1;1#{register};2;0;0;0#{register}@E\\")?;
-    let picture = picture_by(rt, profile, text.as_str())?;
-    Ok(is_left(&picture, profile, register))
-}
-
-/// The picture has the profile of the check, whatever registers it uses.
-#[test]
-fn a_picture_has_the_profile_of_its_check(rt: HostRuntime) -> Result<(), Fail> {
-    for register in [0, 15] {
-        assert!(rt; leaves(&rt, Profile::Registers16, register)?, "{register}");
-    }
-    for register in [0, 15, 16, 255] {
-        assert!(rt; leaves(&rt, Profile::Registers256, register)?, "{register}");
-    }
-    Ok(())
 }

@@ -7,8 +7,8 @@ ghost use Rattle.sixel_check.specs.Standing.{StandsAfter};
 use crate::checker::Checker;
 use crate::tests::documents::documents;
 use crate::tests::{bytes_of, events_of, in_words};
-use sixel_grammar::{Command, Event, Placed};
-use sixel_picture::{BytePlane, Plane, Profile};
+use sixel_grammar::Placed;
+use sixel_picture::{BytePlane, Profile};
 use std::process::Abort;
 use std::test::Fail;
 
@@ -49,15 +49,6 @@ fn verdict_of(rt: &impl AllocGlobal, checker: Checker<BytePlane>) -> Result<Stri
     }
     let verdict = checker.finish()?;
     in_words(rt, &Ok(verdict))
-}
-
-/// The events of the smallest portable picture.
-fn smallest(rt: &impl AllocGlobal) -> Result<Vec<Placed>, Fail> {
-    let picture = b"\x1bPq\"1;1;1;1#0;2;0;0;0#0@\x1b\\";
-    match events_of(rt.alloc(), picture) {
-        Ok(events) => Ok(events),
-        Err(_) => Err(Fail::from("no document")),
-    }
 }
 
 /// The verdict on the events of a document, pushed one by one; none where the bytes are no document.
@@ -110,74 +101,5 @@ fn worked_documents_event_by_event(rt: HostRuntime) -> Result<(), Fail> {
     each_agrees(&rt, documents())?;
     let eight_bits = b"\x90q\"1;1;1;1#0;2;0;0;0#0@\x9c";
     assert!(rt; agrees_on_events(&rt, Profile::Registers16, eight_bits, "broken EightBit 0")?);
-    Ok(())
-}
-
-/// A command of each kind, also such as break a rule.
-const COMMANDS: [Command; 7] = [
-    Command::Sixel(63),
-    Command::Repeat { count: 0, bits: 1 },
-    Command::Raster {
-        pan: 1,
-        pad: 1,
-        width: 1,
-        height: 1,
-    },
-    Command::Select(16),
-    Command::Define {
-        register: 0,
-        system: 3,
-        x: 0,
-        y: 0,
-        z: 0,
-    },
-    Command::CarriageReturn,
-    Command::NextLine,
-];
-
-/// A start without a parameter.
-fn start_of(eight: bool) -> Event {
-    Event::Start {
-        eight,
-        parameters: Default::default(),
-    }
-}
-
-/// Whether the checker expects such a start or not, and such an end or not.
-fn expects_ends<P: Plane>(checker: &Checker<P>, eight: bool, start: bool, more: bool) -> bool {
-    checker.expects(&start_of(eight)) == start && checker.expects(&Event::Finish { eight }) == more
-}
-
-/// Whether it expects commands of any kind or not.
-fn expects_commands<P: Plane>(checker: &Checker<P>, more: bool) -> bool {
-    for command in COMMANDS {
-        if checker.expects(&Event::Step(command)) != more {
-            return false;
-        }
-    }
-    true
-}
-
-/// Whether the checker expects a start or not, and commands of any kind and an end or not.
-pub(super) fn expects_so<P: Plane>(checker: &Checker<P>, start: bool, more: bool) -> bool {
-    expects_ends(checker, false, start, more)
-        && expects_ends(checker, true, start, more)
-        && expects_commands(checker, more)
-}
-
-/// A start comes first and at no other time. Then commands of any kind come, and an end at any time; after it comes
-/// nothing.
-#[test]
-fn each_kind_of_event_is_expected_in_its_turn(rt: HostRuntime) -> Result<(), Fail> {
-    let events = smallest(&rt)?;
-    for count in 0..=events.len() {
-        let checker = pushed(&rt, Profile::Registers16, &events[..count])?;
-        let whole = count == 6;
-        assert_eq!(rt; checker.is_whole(), whole, "{count}");
-        assert!(rt;
-            expects_so(&checker, count == 0, count > 0 && !whole),
-            "{count}"
-        );
-    }
     Ok(())
 }

@@ -3,9 +3,8 @@
 //! A stretch is painted at once where its register was painted in before, it lies in the box with all six rows, and 16
 //! bytes follow it. Offsets: in `"1;1;20;12` the first definition stands at 13, and what follows `#0;2;0;0;0` at 23.
 
-use crate::checking::check;
-use crate::tests::documents::picture_of;
-use crate::tests::{agree, bytes_of, is_said, times};
+use crate::fixtures::{agree, bytes_of, is_said, picture_of, times};
+use sixel_check::check;
 use sixel_grammar::SliceSource;
 use sixel_picture::{Picture, Profile};
 use std::process::Abort;

@@ -6,12 +6,9 @@ ghost use Rattle.sixel_grammar.specs.Spelling.{IsSpellable};
 ghost use Rattle.sixel_grammar.specs.declared.command.Placed.{Placed as PlacedValue};
 ghost use Rattle.sixel_check.specs.Standing.{StandsAfter, expects};
 
-use crate::checker::Checker;
-use crate::checking::{check, check_bytes};
-use crate::rule::Rule;
-use crate::tests::documents::{black, is_left};
-use crate::tests::steps::expects_so;
-use crate::verdict::Verdict;
+use crate::fixtures::{black, is_left};
+use crate::steps::expects_so;
+use sixel_check::{Checker, Rule, Verdict, check, check_bytes};
 use sixel_grammar::{InputFault, Placed, Reader, SliceSource};
 use sixel_picture::{BandPlane, BytePlane, Plane, Profile};
 use std::test::Fail;

@@ -1,7 +1,7 @@
 //! How often a check fills from its source.
 
-use crate::checking::check;
-use crate::tests::is_said;
+use crate::fixtures::is_said;
+use sixel_check::check;
 use sixel_grammar::{DeviceFault, SliceSource, Source};
 use sixel_picture::Profile;
 use std::test::Fail;
