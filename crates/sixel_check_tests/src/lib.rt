@@ -2,14 +2,38 @@
 #![tactic(auto)]
 
 #[cfg(test)]
+mod corners;
+#[cfg(test)]
+mod differences;
+#[cfg(test)]
+mod documents;
+#[cfg(test)]
+mod events;
+#[cfg(test)]
+mod faults;
+#[cfg(test)]
 mod fills;
 #[cfg(test)]
 mod fixtures;
 #[cfg(test)]
 mod growth;
 #[cfg(test)]
+mod limits;
+#[cfg(test)]
+mod made;
+#[cfg(test)]
+mod outside;
+#[cfg(test)]
+mod pairs;
+#[cfg(test)]
 mod pictures;
+#[cfg(test)]
+mod plain;
+#[cfg(test)]
+mod profiles;
 #[cfg(test)]
 mod steps;
 #[cfg(test)]
 mod stretches;
+#[cfg(test)]
+mod terminals;

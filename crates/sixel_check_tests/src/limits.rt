@@ -1,8 +1,8 @@
 //! Columns, rows and numbers far past any box.
 
-use crate::tests::documents::agrees_in_three;
-use crate::tests::steps::agrees_on_events;
-use crate::tests::{agrees_by, bytes_of, joined, times};
+use crate::documents::agrees_in_three;
+use crate::events::agrees_on_events;
+use crate::fixtures::{agrees_by, bytes_of, joined, times};
 use sixel_picture::Profile;
 use std::alloc::AllocError;
 use std::process::Abort;
@@ -18,7 +18,7 @@ fn with_many(rt: &impl AllocGlobal, command: &str, more: &str) -> Result<String,
 }
 
 /// Whether the answer by the profile is the same on the bytes, from a source, and on the events.
-pub(super) fn agrees_each_way(
+pub(crate) fn agrees_each_way(
     rt: &impl AllocGlobal,
     profile: Profile,
     text: &str,

@@ -2,7 +2,7 @@
 //!
 //! Offsets: `"1;1;1;1` is 3 to 10, so a first definition stands at 11, and what follows `#0;2;0;0;0` at 21.
 
-use crate::tests::{agree, agrees, joined, times};
+use crate::fixtures::{agree, agrees, joined, times};
 use std::alloc::AllocError;
 use std::test::Fail;
 

@@ -1,10 +1,9 @@
 //! Worked documents, whole and in pieces.
 
-use crate::checking::{check, check_bytes};
-use crate::tests::{agree, bytes_of, is_said};
-use crate::verdict::Verdict;
+use crate::fixtures::{agree, bytes_of, is_said};
+use sixel_check::{check, check_bytes};
 use sixel_grammar::SliceSource;
-use sixel_picture::{Picture, Profile};
+use sixel_picture::Profile;
 use std::process::Abort;
 use std::test::Fail;
 
@@ -129,7 +128,7 @@ const DOCUMENTS: &[(&str, &str)] = &[
 ];
 
 /// The worked documents and their answers. The proof of a test that calls it doesn't read the table.
-pub(super) fn documents() -> &'static [(&'static str, &'static str)] {
+pub(crate) fn documents() -> &'static [(&'static str, &'static str)] {
     DOCUMENTS
 }
 
@@ -151,7 +150,7 @@ fn agrees_in(
 }
 
 /// Whether it is, in pieces of one byte, of a few, and of them all.
-pub(super) fn agrees_in_three(
+pub(crate) fn agrees_in_three(
     rt: &impl AllocGlobal,
     profile: Profile,
     bytes: &[u8],
@@ -210,17 +209,4 @@ fn eight_bits(rt: HostRuntime) -> Result<(), Fail> {
     );
     assert!(rt; agrees_in_pieces(&rt, bytes, "broken EightBit 0")?);
     Ok(())
-}
-
-/// The picture of a document that is portable by the profile.
-pub(super) fn picture_by(
-    rt: &impl AllocGlobal,
-    profile: Profile,
-    text: &str,
-) -> Result<Picture, Fail> {
-    let bytes = bytes_of(rt, text)?;
-    match check_bytes(rt.alloc(), profile, &bytes) {
-        Ok(Verdict::Portable(picture)) => Ok(picture),
-        _ => Err(Fail::from("no picture")),
-    }
 }

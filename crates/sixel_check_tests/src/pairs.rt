@@ -6,7 +6,7 @@
 //! The rows are written for 16 registers. By 256 registers they hold with 256 and 257 in place of 16 and 17: no answer
 //! names a place behind such a number.
 
-use crate::tests::agrees_by;
+use crate::fixtures::agrees_by;
 use sixel_picture::Profile;
 use std::alloc::AllocError;
 use std::process::Abort;

@@ -1,9 +1,8 @@
 //! That what three of the rules name is a difference: two terminals of the class show two colours there.
 
-use crate::checking::check_bytes;
-use crate::tests::terminals::{grey, greys};
-use crate::tests::{bytes_of, events_of, finding_in_words};
-use crate::verdict::{Finding, Verdict};
+use crate::fixtures::{bytes_of, events_of, finding_in_words};
+use crate::terminals::{grey, greys};
+use sixel_check::{Finding, Verdict, check_bytes};
 use sixel_picture::{Colour, Profile};
 use sixel_terminal::{Choices, Ground, Terminal};
 use std::test::Fail;

@@ -1,7 +1,6 @@
 //! What 128 terminals of the class show after portable documents, and after broken ones.
 
-use crate::tests::documents::picture_by;
-use crate::tests::{agrees, bytes_of, events_of, joined};
+use crate::fixtures::{agrees, bytes_of, events_of, joined, picture_by};
 use sixel_grammar::Placed;
 use sixel_picture::{Colour, Parts, Picture, Profile};
 use sixel_terminal::{Choices, Ground, Terminal};
@@ -29,7 +28,7 @@ const PORTABLE: [&str; 9] = [
 ];
 
 /// A grey of this many percent.
-pub(super) fn grey(percent: u8) -> Parts {
+pub(crate) fn grey(percent: u8) -> Parts {
     Parts::Rgb(percent, percent, percent)
 }
 
@@ -57,7 +56,7 @@ fn choices_of(number: u8, width: u32, height: u32) -> Choices {
 }
 
 /// A colour for each register of the profile: register n starts as 6n modulo 101 percent of red, green and blue.
-pub(super) fn greys(alloc: Global, profile: Profile) -> Result<Vec<Colour>, Fail> {
+pub(crate) fn greys(alloc: Global, profile: Profile) -> Result<Vec<Colour>, Fail> {
     let mut colours = Vec::with_capacity(alloc, 256)?;
     for register in 0..profile.count() {
         let percent = (register.saturating_mul(6) % 101) as u8;

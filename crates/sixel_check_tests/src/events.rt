@@ -1,44 +1,16 @@
-//! A checker, event by event.
+//! The verdict of a checker that is given the events one by one.
 
-ghost use Rattle.std.specs.Prelude.{ℕ, List, IfOk, OnOk};
+ghost use Rattle.std.specs.Prelude.{ℕ, List};
 ghost use Rattle.sixel_grammar.specs.declared.command.Placed.{Placed as PlacedValue};
 ghost use Rattle.sixel_check.specs.Standing.{StandsAfter};
 
-use crate::checker::Checker;
-use crate::tests::documents::documents;
-use crate::tests::{bytes_of, events_of, in_words};
-use sixel_grammar::Placed;
+use crate::documents::documents;
+use crate::fixtures::{bytes_of, events_of, in_words};
+use crate::steps::pushed;
+use sixel_check::Checker;
 use sixel_picture::{BytePlane, Profile};
 use std::process::Abort;
 use std::test::Fail;
-
-/// Pushes an event that may come.
-fn push_next(checker: &mut Checker<BytePlane>, placed: &Placed) -> Result<(), Fail>
-    requires { (registers : ℕ) × (seen : List PlacedValue) × StandsAfter registers checker.old seen }
-    ensures { OnOk result ((registers : ℕ) × (seen : List PlacedValue) × StandsAfter registers checker.new seen) }
-{
-    if !checker.expects(&placed.event) || !placed.event.is_spellable() {
-        return Err(Fail::from("an event that may not come"));
-    }
-    checker.push(placed)?;
-    Ok(())
-}
-
-/// A checker by the profile that has seen these events.
-fn pushed(
-    rt: &impl AllocGlobal,
-    profile: Profile,
-    events: &[Placed],
-) -> Result<Checker<BytePlane>, Fail>
-    ensures { IfOk result (λ checker. (registers : ℕ) × (seen : List PlacedValue)
-        × StandsAfter registers checker seen) }
-{
-    let mut checker: Checker<BytePlane> = Checker::new(rt.alloc(), profile);
-    for placed in events {
-        push_next(&mut checker, placed)?;
-    }
-    Ok(checker)
-}
 
 /// The verdict of a checker that has seen a whole list.
 fn verdict_of(rt: &impl AllocGlobal, checker: Checker<BytePlane>) -> Result<String, Fail>
@@ -67,7 +39,7 @@ fn answer_by_events(
 }
 
 /// Whether it is so.
-pub(super) fn agrees_on_events(
+pub(crate) fn agrees_on_events(
     rt: &impl AllocGlobal,
     profile: Profile,
     bytes: &[u8],

@@ -9,8 +9,8 @@
 //! 0 1 2 3 4 5 6 7 8 9 0 1 2 3 4 5 6 7 8 9 0 1 2 3 4 5
 //! ```
 
-use crate::tests::bytes_of;
-use crate::tests::documents::{agrees_in_three, documents};
+use crate::documents::{agrees_in_three, documents};
+use crate::fixtures::bytes_of;
 use sixel_picture::Profile;
 use std::process::Abort;
 use std::test::Fail;
