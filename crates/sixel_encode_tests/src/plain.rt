@@ -3,7 +3,7 @@
 use crate::fixtures::{all_entries, picture_of};
 use sixel_encode::encode;
 use sixel_grammar::SliceSink;
-use sixel_picture::Profile;
+use sixel_picture::{Picture, Profile};
 use std::alloc::{AllocError, Global};
 use std::test::Fail;
 
@@ -117,19 +117,20 @@ fn plain_text(
     Ok(text)
 }
 
-/// So many registers of the profile, in runs that a seed chooses, the longest of them of this length.
+/// The registers of a picture of this size, in runs that the size chooses, the longest of them of this length.
 fn registers_in_runs(
     alloc: Global,
     profile: Profile,
     longest: u64,
-    count: usize,
-    seed: u64,
+    (width, height): (u32, u32),
 ) -> Result<Vec<u8>, AllocError> {
     let mut registers = Vec::new(alloc);
-    let mut state = seed;
+    let mut state = u64::from(width)
+        .wrapping_mul(1_000)
+        .wrapping_add(u64::from(height));
     let mut left: u64 = 0;
     let mut register: u8 = 0;
-    for _ in 0..count {
+    for _ in 0..width.wrapping_mul(height) {
         if left == 0 {
             state = state
                 .wrapping_mul(6_364_136_223_846_793_005)
@@ -143,6 +144,13 @@ fn registers_in_runs(
     Ok(registers)
 }
 
+/// Whether the picture has the text.
+fn has_text(picture: &Picture, expected: &str) -> bool {
+    let mut room = [0; 8_192];
+    let mut sink = SliceSink::new(&mut room, 1_000, None);
+    encode(picture, &mut sink) == Ok(()) && sink.written() == expected.as_bytes()
+}
+
 /// Whether a picture of this size has the plain text, with runs of at most this length.
 fn has_plain_text(
     alloc: Global,
@@ -151,22 +159,12 @@ fn has_plain_text(
     width: u32,
     height: u32,
 ) -> Result<bool, Fail> {
-    let count = width.wrapping_mul(height) as usize;
-    let seed = u64::from(width)
-        .wrapping_mul(1_000)
-        .wrapping_add(u64::from(height));
     let entries = all_entries(alloc, profile)?;
-    let registers = registers_in_runs(alloc, profile, longest, count, seed)?;
-    let expected = plain_text(
-        alloc,
-        profile,
-        (width as usize, height as usize),
-        &registers,
-    )?;
+    let registers = registers_in_runs(alloc, profile, longest, (width, height))?;
     let picture = picture_of(alloc, profile, (width, height), &entries, &registers)?;
-    let mut room = [0; 8_192];
-    let mut sink = SliceSink::new(&mut room, 1_000, None);
-    Ok(encode(&picture, &mut sink) == Ok(()) && sink.written() == expected.as_bytes())
+    let size = (width as usize, height as usize);
+    let expected = plain_text(alloc, profile, size, &registers)?;
+    Ok(has_text(&picture, &expected))
 }
 
 /// Whether pictures of this width and of some heights have the plain text.
