@@ -1,25 +1,22 @@
+//! How the program ends over streams in memory.
+
 ghost use Rattle.std.specs.Prelude.{◌≡◌};
 ghost use Rattle.sixel_run.specs.Outputs.{HasSides};
 
-mod examples;
-mod formats;
-pub mod streams;
-
-use sixel_program::execute;
-use sixel_program::Exit;
 use crate::shelf::Shelf;
+use sixel_program::{Exit, execute};
 use sixel_run::Task;
 use sixel_words::Request;
 use std::alloc::Global;
 
 /// No file can be opened.
-const NO_FILES: Shelf<'static> = Shelf {
+pub const NO_FILES: Shelf<'static> = Shelf {
     files: &[],
     cut: &[],
 };
 
 /// What asks for a task on standard input.
-fn plain(alloc: Global, task: Task) -> Request
+pub fn plain(alloc: Global, task: Task) -> Request
     ensures { result.task ≡ task }
 {
     Request {
@@ -30,7 +27,7 @@ fn plain(alloc: Global, task: Task) -> Request
 }
 
 /// Whether a task on the bytes ends so, and writes this to standard output and this to standard error.
-fn ends(alloc: Global, task: Task, bytes: &[u8], exit: Exit, written: &[u8], said: &[u8]) -> bool
+pub fn ends(alloc: Global, task: Task, bytes: &[u8], exit: Exit, written: &[u8], said: &[u8]) -> bool
     requires { HasSides task }
 {
     let mut output = Vec::new(alloc);

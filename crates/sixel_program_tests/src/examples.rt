@@ -1,9 +1,9 @@
 //! The strings of docs/RULES.md and of the small files of examples/. The script examples/run looks that each stands
 //! here.
 
-use super::ends;
-use sixel_program::Exit;
+use crate::ends::ends;
 use sixel_picture::Profile;
+use sixel_program::Exit;
 use sixel_run::Task;
 use std::alloc::Global;
 

@@ -8,16 +8,15 @@ mod notices;
 mod system;
 mod tasks;
 
-use sixel_program::execute;
-use sixel_program::Exit;
 use crate::shelf::Shelf;
 use crate::streams::Narrow;
 use sixel_picture::Profile;
+use sixel_program::{Exit, execute};
 use sixel_run::Task;
 use sixel_words::Request;
 use std::alloc::{AllocError, Global};
-use std::io;
 use std::io::Read;
+use std::io;
 use std::test::Fail;
 
 /// One black pixel.

@@ -1,8 +1,8 @@
 //! What is said where `encode` meets a file of another format, worked out by hand.
 
-use sixel_program::Exit;
 use crate::ends::ends;
 use sixel_picture::Profile;
+use sixel_program::Exit;
 use sixel_run::Task;
 
 const ENCODE: Task = Task::Encode {

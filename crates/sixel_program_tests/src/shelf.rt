@@ -2,10 +2,10 @@
 
 ghost use Rattle.std.specs.Prelude.{None};
 
-use sixel_program::Folder;
 use sixel_grammar::DeviceFault;
-use std::io;
+use sixel_program::Folder;
 use std::io::{Error, Read};
+use std::io;
 
 /// Files in memory, by their names. A file of another name can't be opened.
 #[derive(Clone, Copy)]

@@ -2,17 +2,15 @@
 
 ghost use Rattle.sixel_run.specs.Outputs.{HasSides};
 
-use sixel_program::{Exit, tell};
 use crate::ends::{NO_FILES, plain};
-use sixel_program::execute;
-use sixel_words::task_in;
 use sixel_grammar::ToWrite;
 use sixel_picture::{PpmReason, Profile};
+use sixel_program::{Exit, execute, tell};
 use sixel_run::Task;
-use sixel_words::{Topic, WordsFault, parse_words};
+use sixel_words::{Topic, WordsFault, parse_words, task_in};
 use std::alloc::Global;
-use std::io;
 use std::io::{Error, ErrorKind, Write};
+use std::io;
 use std::test::Fail;
 
 const CHECK: Task = Task::Check {

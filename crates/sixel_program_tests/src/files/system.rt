@@ -1,9 +1,7 @@
 //! Files of the system.
 
 use super::{check_of, request_of};
-use sixel_program::execute;
-use sixel_program::Exit;
-use sixel_program::System;
+use sixel_program::{Exit, System, execute};
 use std::test::Fail;
 
 /// An empty file, a folder, which can be opened and not read, and a name of nothing.

@@ -1,0 +1,15 @@
+//! Tests of the program over streams and folders in memory.
+#![tactic(auto)]
+
+#[cfg(test)]
+mod ends;
+#[cfg(test)]
+mod examples;
+#[cfg(test)]
+mod files;
+#[cfg(test)]
+mod formats;
+#[cfg(test)]
+mod shelf;
+#[cfg(test)]
+mod streams;
