@@ -63,6 +63,13 @@ pub fn text_of(
         flushes,
     } = ended;
     let got = columns(alloc, *status, output.as_slice(), said.as_slice())?;
-    let wanted = columns(alloc, row.status, row.output.as_slice(), row.said.as_slice())?;
-    format!(in alloc; "{file}:{line}: {words}: {cutting:?}, {flushes} flushes\n  got    {got}\n  wanted {wanted}")
+    let wanted = columns(
+        alloc,
+        row.status,
+        row.output.as_slice(),
+        row.said.as_slice(),
+    )?;
+    format!(in alloc;
+        "{file}:{line}: {words}: {cutting:?}, {flushes} flushes\n  got    {got}\n  wanted {wanted}"
+    )
 }
