@@ -4,7 +4,7 @@ use crate::format::Row;
 use crate::tasks::MOST_SHORT;
 use std::alloc::{AllocError, Global};
 
-/// Whether the row is a verdict on a short document that ends with ESC `\`, so that each of its prefixes is no document.
+/// Whether the row is a verdict on a short document that ends with ESC `\`, so that no prefix of it is one.
 pub fn has_prefixes(row: &Row<'_>) -> bool {
     row.input.len() <= MOST_SHORT
         && row.status < 2
