@@ -23,6 +23,3 @@ pub use checker::Checker;
 pub use checking::{check, check_bytes};
 pub use rule::Rule;
 pub use verdict::{Finding, Verdict};
-
-#[cfg(test)]
-mod tests;

@@ -87,6 +87,3 @@ fn first_outside(
     }
     None
 }
-
-#[cfg(test)]
-mod tests;

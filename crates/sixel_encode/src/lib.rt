@@ -10,6 +10,3 @@ mod repeats;
 mod writing;
 
 pub use writing::{EncodeFault, encode};
-
-#[cfg(test)]
-mod tests;

@@ -28,6 +28,3 @@ pub use slice_sink::SliceSink;
 pub use slice_source::SliceSource;
 pub use to_write::ToWrite;
 pub use writing::write_event;
-
-#[cfg(test)]
-mod tests;

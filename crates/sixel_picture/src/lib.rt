@@ -23,6 +23,3 @@ pub use picture::{Picture, PictureFault, PictureReason};
 pub use plane::Plane;
 pub use ppm::{PpmFault, PpmReason, read_ppm, write_ppm, write_ppm_colours};
 pub use profile::{LEAST_REGISTERS, MOST_REGISTERS, Profile};
-
-#[cfg(test)]
-mod tests;

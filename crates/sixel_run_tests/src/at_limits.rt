@@ -1,10 +1,9 @@
 //! Runs on long inputs, and on numbers and places at their limits.
 
-use crate::fault::RunFault;
-use crate::run::tests::{Limits, agrees, run_watched};
-use crate::task::{Status, Task};
+use crate::runs::{Limits, agrees, run_watched};
 use sixel_check::{Finding, Rule};
 use sixel_picture::{PpmReason, Profile};
+use sixel_run::{RunFault, Status, Task};
 use std::alloc::{AllocError, Global};
 use std::test::Fail;
 

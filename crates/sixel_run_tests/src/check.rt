@@ -1,9 +1,8 @@
-use crate::fault::RunFault;
-use crate::run::tests::agrees;
-use crate::task::{Status, Task};
+use crate::runs::agrees;
 use sixel_check::{Finding, Rule};
 use sixel_grammar::{Fault, Reason};
 use sixel_picture::Profile;
+use sixel_run::{RunFault, Status, Task};
 use std::alloc::Global;
 
 /// Whether the bytes have this line and this answer in the profile, in pieces of each size.

@@ -1,7 +1,6 @@
-use crate::fault::RunFault;
-use crate::run::tests::agrees_in_pieces;
-use crate::task::{Status, Task};
+use crate::runs::agrees_in_pieces;
 use sixel_picture::{PpmReason, Profile};
+use sixel_run::{RunFault, Status, Task};
 use std::alloc::Global;
 
 /// Whether the bytes in pieces are encoded as this text, with this answer, in both profiles.

@@ -2,12 +2,10 @@
 
 ghost use Rattle.sixel_run.specs.Outputs.{HasSides};
 
-use crate::fault::RunFault;
-use crate::run::run;
-use crate::task::{Status, Task};
 use sixel_check::{Verdict, check};
 use sixel_grammar::{InputFault, SliceSink, SliceSource};
 use sixel_picture::{BandPlane, BytePlane, Colour, Picture, Plane, PpmFault, Profile, read_ppm};
+use sixel_run::{RunFault, Status, Task, run};
 use std::alloc::{AllocError, Global};
 use std::test::Fail;
 

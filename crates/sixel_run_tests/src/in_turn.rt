@@ -2,12 +2,11 @@
 
 ghost use Rattle.sixel_run.specs.Outputs.{HasSides};
 
-use crate::fault::RunFault;
-use crate::run::tests::{Limits, Ran, run_watched};
-use crate::task::{Status, Task};
+use crate::runs::{Limits, Ran, run_watched};
 use sixel_check::{Finding, Rule};
 use sixel_grammar::{Fault, Reason};
 use sixel_picture::{PpmReason, Profile};
+use sixel_run::{RunFault, Status, Task};
 use std::alloc::Global;
 
 /// A task on some bytes, and what it writes and answers where no device fails.

@@ -1,8 +1,7 @@
-use crate::fault::RunFault;
-use crate::lines::{finding_line, write_fault};
 use sixel_check::{Finding, Rule};
 use sixel_grammar::{DeviceFault, Fault, Reason, SliceSink};
 use sixel_picture::PpmReason;
+use sixel_run::{RunFault, finding_line, write_fault};
 use std::test::Fail;
 
 const GRAMMAR: RunFault = RunFault::Grammar(Fault {

@@ -1,9 +1,8 @@
-use crate::fault::RunFault;
-use crate::run::tests::agrees_in_pieces;
-use crate::task::{Status, Task};
+use crate::runs::agrees_in_pieces;
 use sixel_check::{Finding, Rule};
 use sixel_grammar::{Fault, Reason};
 use sixel_picture::Profile;
+use sixel_run::{RunFault, Status, Task};
 use std::alloc::Global;
 
 /// Whether the bytes in pieces are rendered as this file, with this answer, in both profiles.

@@ -1,16 +1,10 @@
-mod at_limits;
-mod in_turn;
-mod round_trip;
-mod screens;
-mod wide;
+//! Runs over devices that count their calls and fail where they are told to.
 
 ghost use Rattle.sixel_run.specs.Outputs.{HasSides};
 
-use crate::fault::RunFault;
-use crate::run::run;
-use crate::task::{Status, Task};
 use crate::watched::{Calls, Watched};
 use sixel_grammar::{Fault, Reason, SliceSink, SliceSource};
+use sixel_run::{RunFault, Status, Task, run};
 use std::alloc::Global;
 
 /// What a run over watched devices answered and wrote into the room, and the calls that they saw.

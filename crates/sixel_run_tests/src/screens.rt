@@ -3,9 +3,9 @@
 ghost use Rattle.std.specs.Prelude.{IsTrue};
 ghost use Rattle.sixel_picture.specs.Ppm.{is_file_side};
 
-use crate::run::tests::agrees_in_pieces;
-use crate::task::{Status, Task};
+use crate::runs::agrees_in_pieces;
 use sixel_picture::Profile;
+use sixel_run::{Status, Task};
 use std::alloc::Global;
 
 /// Whether a screen of this size with no option is written as this picture file.

@@ -1,10 +1,9 @@
 ghost use Rattle.std.specs.Prelude.{IsTrue};
 ghost use Rattle.sixel_picture.specs.Ppm.{is_file_side};
 
-use crate::fault::RunFault;
-use crate::run::tests::agrees_in_pieces;
-use crate::task::{Status, Task};
+use crate::runs::agrees_in_pieces;
 use sixel_picture::Profile;
+use sixel_run::{RunFault, Status, Task};
 use std::alloc::Global;
 
 /// Whether the bytes are shown in the profile as this file on a screen of one row, with this answer. The options are

@@ -1,10 +1,9 @@
 ghost use Rattle.sixel_run.specs.Outputs.{HasSides};
 
-use crate::fault::RunFault;
-use crate::run::tests::{Limits, agrees_in_pieces, run_watched};
-use crate::task::{Status, Task};
+use crate::runs::{Limits, agrees_in_pieces, run_watched};
 use sixel_grammar::{Fault, Reason};
 use sixel_picture::Profile;
+use sixel_run::{RunFault, Status, Task};
 use std::alloc::{AllocError, Global};
 use std::test::Fail;
 

@@ -2,14 +2,12 @@
 
 ghost use Rattle.sixel_run.specs.Outputs.{HasSides};
 
-use crate::fault::RunFault;
-use crate::run::run;
-use crate::run::tests::agrees;
-use crate::run::tests::round_trip::{encode_into, is_encoded_as, push_pixel, sends};
-use crate::task::{Status, Task};
+use crate::runs::agrees;
+use crate::round_trip::{encode_into, is_encoded_as, push_pixel, sends};
 use sixel_check::{Finding, Rule, Verdict, check_bytes};
 use sixel_grammar::{SliceSink, SliceSource};
 use sixel_picture::{Colour, Palette, Picture, PpmReason, Profile};
+use sixel_run::{RunFault, Status, Task, run};
 use std::alloc::{AllocError, Global};
 use std::test::Fail;
 

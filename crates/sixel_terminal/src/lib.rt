@@ -9,6 +9,3 @@ mod terminal;
 
 pub use choices::{Choices, Ground};
 pub use terminal::{Terminal, TerminalFault, TerminalReason};
-
-#[cfg(test)]
-mod tests;

@@ -1,9 +1,0 @@
-pub mod PutLemmas
-pub mod EndLemmas
-pub mod FilesLemmas
-pub mod SeveralLemmas
-pub mod StatusLemmas
-pub mod MatchLemmas
-pub mod ExplainLemmas
-pub mod NameLemmas
-pub mod WishLemmas

@@ -1,6 +1,0 @@
-pub mod Explanations
-pub mod Words
-pub mod Formats
-pub mod Exits
-pub mod Names
-pub mod Files

@@ -1,0 +1,213 @@
+//! That what three of the rules name is a difference: two terminals of the class show two colours there.
+
+use crate::fixtures::{bytes_of, events_of, finding_in_words};
+use crate::terminals::{grey, greys};
+use sixel_check::{Finding, Verdict, check_bytes};
+use sixel_picture::{Colour, Profile};
+use sixel_terminal::{Choices, Ground, Terminal};
+use std::test::Fail;
+
+/// A text with `E` for ESC, its finding in words, and the width and the height of the screen.
+#[derive(Clone, Copy)]
+struct Row {
+    text: &'static str,
+    finding: &'static str,
+    width: u32,
+    height: u32,
+}
+
+/// A pixel of the box stays blank: the second of a row, and the second of a column.
+const UNCOVERED: [Row; 2] = [
+    Row {
+        text: "EPq\"1;1;2;1#0;2;0;0;0#0@E\\",
+        finding: "broken Uncovered 24 1 0",
+        width: 2,
+        height: 1,
+    },
+    Row {
+        text: "EPq\"1;1;1;2#0;2;0;0;0#0@E\\",
+        finding: "broken Uncovered 24 0 1",
+        width: 1,
+        height: 2,
+    },
+];
+
+/// A pixel below the box is painted, and one to the right of it.
+const OUTSIDE: [Row; 2] = [
+    Row {
+        text: "EPq\"1;1;1;1#0;2;0;0;0#0AE\\",
+        finding: "broken Outside 23 0 1",
+        width: 1,
+        height: 2,
+    },
+    Row {
+        text: "EPq\"1;1;1;1#0;2;0;0;0#0!2@E\\",
+        finding: "broken Outside 23 1 0",
+        width: 2,
+        height: 1,
+    },
+];
+
+/// The smallest picture with controls of 8 bits, at its start and at its end, and at its end alone.
+const EIGHT_BIT: [Row; 2] = [
+    Row {
+        text: "\u{90}q\"1;1;1;1#0;2;0;0;0#0@\u{9c}",
+        finding: "broken EightBit 0",
+        width: 1,
+        height: 1,
+    },
+    Row {
+        text: "EPq\"1;1;1;1#0;2;0;0;0#0@\u{9c}",
+        finding: "broken EightBit 24",
+        width: 1,
+        height: 1,
+    },
+];
+
+/// Nothing stands between an introducer of 8 bits and the end.
+const NOTHING: Row = Row {
+    text: "\u{90}qE\\",
+    finding: "broken EightBit 0",
+    width: 1,
+    height: 1,
+};
+
+/// A terminal on a screen of one grey, and the percent of red, green and blue that it shows at the pixel.
+#[derive(Clone, Copy)]
+struct Side {
+    clips: bool,
+    eight_bit: bool,
+    screen: u8,
+    shown: u8,
+}
+
+/// The terminal of `sixel show`: it doesn't clip, has controls of 8 bits, and has a screen of 100 percent.
+const fn stated(shown: u8) -> Side {
+    Side {
+        clips: false,
+        eight_bit: true,
+        screen: 100,
+        shown,
+    }
+}
+
+/// What the terminal of `sixel show` chooses, with no option, but for two choices.
+fn choices_of(row: &Row, side: &Side) -> Choices {
+    Choices {
+        binds_at_showing: false,
+        selects: false,
+        ground: Ground::Kept,
+        selected: 0,
+        zero: 1,
+        clamps: true,
+        tall: 1,
+        clips: side.clips,
+        eight_bit: side.eight_bit,
+        screen_width: row.width,
+        screen_height: row.height,
+        origin_x: 0,
+        origin_y: 0,
+    }
+}
+
+/// The finding of a text by the profile.
+fn finding_of(rt: &impl AllocGlobal, profile: Profile, text: &str) -> Result<Finding, Fail> {
+    let bytes = bytes_of(rt, text)?;
+    match check_bytes(rt.alloc(), profile, &bytes).or(Err("a document"))? {
+        Verdict::Broken(finding) => Ok(finding),
+        Verdict::Portable(_) => Err("a broken rule")?,
+    }
+}
+
+/// Whether the finding is that of the row.
+fn is_found(rt: &impl AllocGlobal, profile: Profile, row: &Row) -> Result<bool, Fail> {
+    let finding = finding_of(rt, profile, row.text)?;
+    Ok(finding_in_words(rt, &finding)?.as_str() == row.finding)
+}
+
+/// The number in row order of the pixel that the finding names, or of the first where it names none.
+fn pixel_of(row: &Row, finding: &Finding) -> usize {
+    let (x, y) = finding.pixel.unwrap_or((0, 0));
+    (y.saturating_mul(row.width as u64).saturating_add(x)) as usize
+}
+
+/// Whether the terminal shows its colour at the pixel that the check names.
+fn shows(rt: &impl AllocGlobal, profile: Profile, row: &Row, side: &Side) -> Result<bool, Fail> {
+    let alloc = rt.alloc();
+    let bytes = bytes_of(rt, row.text)?;
+    let events = events_of(alloc, &bytes).or(Err("a document"))?;
+    let pixels = (row.width as usize).saturating_mul(row.height as usize);
+    let colour = Colour::rgb(side.screen, side.screen, side.screen).ok_or("a grey")?;
+    let screen = vec![in alloc; colour; pixels]?;
+    let terminal = Terminal::new(choices_of(row, side), greys(alloc, profile)?, screen).or(Err(
+        "a terminal",
+    ))?;
+    let shown = terminal.show(alloc, events.as_slice())?;
+    let pixel = pixel_of(row, &finding_of(rt, profile, row.text)?);
+    let colour = shown.as_slice().get(pixel).ok_or("a pixel")?;
+    Ok(colour.parts() == grey(side.shown))
+}
+
+/// Whether the row has its finding by both profiles, and the two terminals show their colours there.
+fn differs(rt: &impl AllocGlobal, row: &Row, one: &Side, other: &Side) -> Result<bool, Fail> {
+    for profile in [Profile::Registers16, Profile::Registers256] {
+        let agrees = is_found(rt, profile, row)?
+            && shows(rt, profile, row, one)?
+            && shows(rt, profile, row, other)?;
+        if !agrees {
+            return Ok(false);
+        }
+    }
+    Ok(true)
+}
+
+/// Two that keep their ground show what stood there.
+#[test]
+fn terminals_differ_where_a_pixel_is_uncovered(rt: HostRuntime) -> Result<(), Fail> {
+    let bright = stated(100);
+    let dark = Side {
+        screen: 50,
+        ..stated(50)
+    };
+    for row in &UNCOVERED {
+        assert!(rt; differs(&rt, row, &bright, &dark)?, "{}", row.text);
+    }
+    Ok(())
+}
+
+/// One paints in register 0, and on one that clips what stood there is left.
+#[test]
+fn terminals_differ_where_a_pixel_is_outside(rt: HostRuntime) -> Result<(), Fail> {
+    let clips = Side {
+        clips: true,
+        ..stated(100)
+    };
+    for row in &OUTSIDE {
+        assert!(rt; differs(&rt, row, &stated(0), &clips)?, "{}", row.text);
+    }
+    Ok(())
+}
+
+/// One shows the picture, and one without controls of 8 bits shows nothing of it.
+#[test]
+fn terminals_differ_on_the_controls_of_a_picture(rt: HostRuntime) -> Result<(), Fail> {
+    let without = Side {
+        eight_bit: false,
+        ..stated(100)
+    };
+    for row in &EIGHT_BIT {
+        assert!(rt; differs(&rt, row, &stated(0), &without)?, "{}", row.text);
+    }
+    Ok(())
+}
+
+/// So no difference is promised of an introducer.
+#[test]
+fn terminals_agree_on_an_introducer_without_a_picture(rt: HostRuntime) -> Result<(), Fail> {
+    let without = Side {
+        eight_bit: false,
+        ..stated(100)
+    };
+    assert!(rt; differs(&rt, &NOTHING, &stated(100), &without)?);
+    Ok(())
+}

@@ -1,0 +1,175 @@
+//! What the tests share: documents with `E` for ESC, answers in words, pictures left.
+
+use sixel_check::{Finding, Verdict, check_bytes};
+use sixel_grammar::{Fault, InputFault, Placed, SliceSource, read_all};
+use sixel_picture::{Colour, Picture, Profile};
+use std::alloc::{AllocError, Global};
+use std::process::Abort;
+use std::test::Fail;
+
+/// The byte of a sign: its code, but that `E` stands for ESC. So the control U+0090 is the introducer of 8 bits, and
+/// U+009C the terminator.
+fn byte_of(sign: char) -> Result<u8, Fail> {
+    if sign == 'E' {
+        return Ok(0x1b);
+    }
+    Ok(u8::try_from(sign).or(Err("a byte"))?)
+}
+
+/// The bytes of a text in which `E` stands for ESC.
+pub(crate) fn bytes_of(rt: &impl AllocGlobal, text: &str) -> Result<Vec<u8>, Fail> {
+    let mut bytes = Vec::new(rt.alloc());
+    for sign in text.chars() {
+        bytes.push(byte_of(sign)?)?;
+    }
+    Ok(bytes)
+}
+
+/// The parts one after another.
+pub(crate) fn joined(rt: &impl AllocGlobal, parts: &[&str]) -> Result<String, AllocError> {
+    let mut text = String::new(rt.alloc());
+    for part in parts {
+        text.push_str(part)?;
+    }
+    Ok(text)
+}
+
+/// A part so many times.
+pub(crate) fn times(rt: &impl AllocGlobal, part: &str, count: u32) -> Result<String, AllocError> {
+    let mut text = String::new(rt.alloc());
+    for _ in 0..count {
+        text.push_str(part)?;
+    }
+    Ok(text)
+}
+
+/// The events of a document.
+pub(crate) fn events_of(alloc: Global, bytes: &[u8]) -> Result<Vec<Placed>, InputFault> {
+    read_all(alloc, &mut SliceSource::new(bytes, 64, None))
+}
+
+fn picture_in_words(rt: &impl AllocGlobal, picture: &Picture) -> Result<String, AllocError> {
+    let (width, height) = (picture.width(), picture.height());
+    format!(in rt.alloc(); "portable {width} {height}")
+}
+
+pub(crate) fn finding_in_words(
+    rt: &impl AllocGlobal,
+    finding: &Finding,
+) -> Result<String, AllocError> {
+    let Finding { rule, place, pixel } = *finding;
+    match pixel {
+        Some((x, y)) => format!(in rt.alloc(); "broken {rule:?} {place} {x} {y}"),
+        None => format!(in rt.alloc(); "broken {rule:?} {place}"),
+    }
+}
+
+fn fault_in_words(rt: &impl AllocGlobal, fault: &InputFault) -> Result<String, AllocError> {
+    match fault {
+        InputFault::Grammar(Fault { reason, place }) => {
+            format!(in rt.alloc(); "{reason:?} {place}")
+        }
+        InputFault::OutOfMemory => "out of memory".to_string(rt.alloc()),
+        InputFault::Read => "read failed".to_string(rt.alloc()),
+    }
+}
+
+/// An answer in words.
+pub(crate) fn in_words(
+    rt: &impl AllocGlobal,
+    answer: &Result<Verdict, InputFault>,
+) -> Result<String, Fail> {
+    Ok(match answer {
+        Ok(Verdict::Portable(picture)) => picture_in_words(rt, picture)?,
+        Ok(Verdict::Broken(finding)) => finding_in_words(rt, finding)?,
+        Err(fault) => fault_in_words(rt, fault)?,
+    })
+}
+
+/// Whether the answer is so in words.
+pub(crate) fn is_said(
+    rt: &impl AllocGlobal,
+    answer: &Result<Verdict, InputFault>,
+    expected: &str,
+) -> Result<bool, Fail> {
+    Ok(in_words(rt, answer)?.as_str() == expected)
+}
+
+/// Whether the answer by the profile, on a text in which `E` stands for ESC, is so.
+pub(crate) fn agrees_by(
+    rt: &impl AllocGlobal,
+    profile: Profile,
+    text: &str,
+    expected: &str,
+) -> Result<bool, Fail> {
+    let bytes = bytes_of(rt, text)?;
+    is_said(rt, &check_bytes(rt.alloc(), profile, &bytes), expected)
+}
+
+/// Whether it is, by 16 registers.
+pub(crate) fn agrees(rt: &impl AllocGlobal, text: &str, expected: &str) -> Result<bool, Fail> {
+    agrees_by(rt, Profile::Registers16, text, expected)
+}
+
+/// Each text, in which `E` stands for ESC, has its answer by the profile.
+pub(crate) fn agree_by(
+    rt: &(impl AllocGlobal + Abort),
+    profile: Profile,
+    rows: &[(&str, &str)],
+) -> Result<(), Fail> {
+    for (text, expected) in rows {
+        assert!(rt; agrees_by(rt, profile, text, expected)?, "{text}");
+    }
+    Ok(())
+}
+
+/// Each has its answer by 16 registers.
+pub(crate) fn agree(rt: &(impl AllocGlobal + Abort), rows: &[(&str, &str)]) -> Result<(), Fail> {
+    agree_by(rt, Profile::Registers16, rows)
+}
+
+/// The picture of a document that is portable by the profile.
+pub(crate) fn picture_by(
+    rt: &impl AllocGlobal,
+    profile: Profile,
+    text: &str,
+) -> Result<Picture, Fail> {
+    let bytes = bytes_of(rt, text)?;
+    match check_bytes(rt.alloc(), profile, &bytes) {
+        Ok(Verdict::Portable(picture)) => Ok(picture),
+        _ => Err(Fail::from("no picture")),
+    }
+}
+
+/// The picture of a document that is portable by 16 registers.
+pub(crate) fn picture_of(rt: &impl AllocGlobal, text: &str) -> Result<Picture, Fail> {
+    picture_by(rt, Profile::Registers16, text)
+}
+
+/// Whether the first registers have these colours, and the others have none.
+pub(crate) fn has_colours(picture: &Picture, colours: &[Option<Colour>]) -> bool {
+    for register in 0..=255u8 {
+        let expected = colours.get(register as usize).copied().flatten();
+        if picture.palette().get(register) != expected {
+            return false;
+        }
+    }
+    true
+}
+
+/// Whether the picture of one pixel has this register, registers 0 and 1 have these colours, and the others have none.
+pub(crate) fn is_left(
+    picture: &Picture,
+    register: u8,
+    first: Option<Colour>,
+    second: Option<Colour>,
+) -> bool {
+    picture.width() == 1
+        && picture.height() == 1
+        && picture.register_at(0, 0) == register
+        && has_colours(picture, &[first, second])
+}
+
+pub(crate) fn black() -> Option<Colour> {
+    Colour::rgb(0, 0, 0)
+}

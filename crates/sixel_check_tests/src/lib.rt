@@ -1,0 +1,39 @@
+//! What no contract of `sixel_check` says: that the definitions are those of the worked documents.
+#![tactic(auto)]
+
+#[cfg(test)]
+mod corners;
+#[cfg(test)]
+mod differences;
+#[cfg(test)]
+mod documents;
+#[cfg(test)]
+mod events;
+#[cfg(test)]
+mod faults;
+#[cfg(test)]
+mod fills;
+#[cfg(test)]
+mod fixtures;
+#[cfg(test)]
+mod growth;
+#[cfg(test)]
+mod limits;
+#[cfg(test)]
+mod made;
+#[cfg(test)]
+mod outside;
+#[cfg(test)]
+mod pairs;
+#[cfg(test)]
+mod pictures;
+#[cfg(test)]
+mod plain;
+#[cfg(test)]
+mod profiles;
+#[cfg(test)]
+mod steps;
+#[cfg(test)]
+mod stretches;
+#[cfg(test)]
+mod terminals;

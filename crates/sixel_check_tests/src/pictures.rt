@@ -1,0 +1,208 @@
+//! The pictures that portable documents leave, worked out by hand.
+
+use crate::fixtures::{black, has_colours, is_left, picture_by, picture_of};
+use sixel_picture::{Colour, Picture, Profile};
+use std::alloc::{AllocError, Global};
+use std::process::Abort;
+use std::test::Fail;
+
+/// The text leaves such a picture.
+fn agree_left(
+    rt: &(impl AllocGlobal + Abort),
+    text: &str,
+    register: u8,
+    first: Option<Colour>,
+    second: Option<Colour>,
+) -> Result<(), Fail> {
+    let picture = picture_of(rt, text)?;
+    assert!(rt; is_left(&picture, register, first, second), "{text}");
+    Ok(())
+}
+
+fn red() -> Option<Colour> {
+    Colour::rgb(100, 0, 0)
+}
+
+/// The picture has the last register over each pixel, and the registers that were defined, used or not.
+#[test]
+fn pictures_left(rt: HostRuntime) -> Result<(), Fail> {
+    agree_left(&rt, "EPq\"1;1;1;1#0;2;0;0;0#0@E\\", 0, black(), None)?;
+    agree_left(
+        &rt,
+        "EPq\"1;1;1;1#1#0;2;0;0;0#1;2;100;0;0@E\\",
+        1,
+        black(),
+        red(),
+    )?;
+    agree_left(
+        &rt,
+        "EPq\"1;1;1;1#0;2;0;0;0#1;2;100;0;0#0@$#1@E\\",
+        1,
+        black(),
+        red(),
+    )?;
+    agree_left(
+        &rt,
+        "EPq\"1;1;1;1#0;2;0;0;0#1;2;100;0;0#1@$#0@E\\",
+        0,
+        black(),
+        red(),
+    )?;
+    let hue = "EPq\"1;1;1;1#0;1;360;50;100#0@E\\";
+    agree_left(&rt, hue, 0, Colour::hls(360, 50, 100), None)?;
+    // an unused register has its last colour too
+    let unused = "EPq\"1;1;1;1#1;2;1;1;1#0;2;0;0;0#0@#1;2;100;0;0E\\";
+    agree_left(&rt, unused, 0, black(), red())
+}
+
+/// The rows of two letters in register 2 on a ground of register 1, by the register of each pixel. They are worked out
+/// from the bits: `~` is all six rows, `@` the first and `}` the others, `G` the fourth and `v` the others.
+const LETTERS: [&str; 7] = [
+    "11111111111111",
+    "11221122112211",
+    "11221122112211",
+    "11222222112211",
+    "11221122112211",
+    "11221122112211",
+    "11111111111111",
+];
+
+/// The registers of a row of the picture, as digits.
+fn row_of(alloc: Global, picture: &Picture, y: u32) -> Result<Vec<u8>, AllocError> {
+    let mut row = Vec::new(alloc);
+    if y < picture.height() {
+        for x in 0..picture.width() {
+            row.push(b'0'.saturating_add(picture.register_at(x, y)))?;
+        }
+    }
+    Ok(row)
+}
+
+/// Whether this is the row of the picture.
+fn is_row(alloc: Global, picture: &Picture, y: u32, expected: &str) -> Result<bool, AllocError> {
+    Ok(row_of(alloc, picture, y)?.as_slice() == expected.as_bytes())
+}
+
+/// Whether these are the rows of the picture.
+fn has_rows(alloc: Global, picture: &Picture, rows: &[&str]) -> Result<bool, AllocError> {
+    for (y, expected) in (0..7u32).zip(rows) {
+        if !is_row(alloc, picture, y, expected)? {
+            return Ok(false);
+        }
+    }
+    Ok(picture.width() == 14 && picture.height() == 7)
+}
+
+#[test]
+fn the_picture_of_two_letters(rt: HostRuntime) -> Result<(), Fail> {
+    let picture = picture_of(
+        &rt,
+        "EPq\"1;1;14;7#0;2;0;0;0#1;2;100;100;0#2;2;0;100;0#1~~@@vv@@~~@@~~$#2??}}GG}}??}}??-#1!14@E\\",
+    )?;
+    assert!(rt; has_rows(rt.alloc(), &picture, &LETTERS)?);
+    let colours = [black(), Colour::rgb(100, 100, 0), Colour::rgb(0, 100, 0)];
+    assert!(rt; has_colours(&picture, &colours));
+    Ok(())
+}
+
+/// Whether this register is black, and no other has a colour.
+fn is_black_alone(picture: &Picture, register: u8) -> bool {
+    for other in 0..=255u8 {
+        let expected = if other == register { black() } else { None };
+        if picture.palette().get(other) != expected {
+            return false;
+        }
+    }
+    true
+}
+
+/// Whether the picture is one black pixel in this register, and of the profile.
+fn is_black_of(picture: &Picture, profile: Profile, register: u8) -> bool {
+    picture.profile() == profile
+        && picture.width() == 1
+        && picture.height() == 1
+        && picture.register_at(0, 0) == register
+        && is_black_alone(picture, register)
+}
+
+/// Whether a black pixel in this register leaves such a picture.
+fn leaves(rt: &impl AllocGlobal, profile: Profile, register: u8) -> Result<bool, Fail> {
+    let alloc = rt.alloc();
+    let text = format!(in alloc; "EPq\"1;1;1;1#{register};2;0;0;0#{register}@E\\")?;
+    let picture = picture_by(rt, profile, text.as_str())?;
+    Ok(is_black_of(&picture, profile, register))
+}
+
+/// The picture has the profile of the check, whatever registers it uses.
+#[test]
+fn a_picture_has_the_profile_of_its_check(rt: HostRuntime) -> Result<(), Fail> {
+    for register in [0, 15] {
+        assert!(rt; leaves(&rt, Profile::Registers16, register)?, "{register}");
+    }
+    for register in [0, 15, 16, 255] {
+        assert!(rt; leaves(&rt, Profile::Registers256, register)?, "{register}");
+    }
+    Ok(())
+}
+
+/// The text is portable, and register 0 is left with this colour.
+fn agree_first(
+    rt: &(impl AllocGlobal + Abort),
+    text: &str,
+    colour: Option<Colour>,
+) -> Result<(), Fail> {
+    let picture = picture_of(rt, text)?;
+    assert!(rt;
+        colour.is_some() && picture.palette().get(0) == colour,
+        "{text}"
+    );
+    Ok(())
+}
+
+/// A register may be defined as often as one likes, as long as nothing was painted in it. It keeps the last colour.
+#[test]
+fn definitions_before_all_painting(rt: HostRuntime) -> Result<(), Fail> {
+    // as A, B, A
+    agree_first(
+        &rt,
+        "EPq\"1;1;1;1#0;2;0;0;0#0;2;1;0;0#0;2;0;0;0#0@E\\",
+        Colour::rgb(0, 0, 0),
+    )?;
+    // as A, B
+    agree_first(
+        &rt,
+        "EPq\"1;1;1;1#0;2;0;0;0#0;2;1;0;0#0@E\\",
+        Colour::rgb(1, 0, 0),
+    )?;
+    // as A, and as B after data without a bit
+    agree_first(
+        &rt,
+        "EPq\"1;1;1;1#0;2;0;0;0#0?!9?$#0;2;1;0;0#0@E\\",
+        Colour::rgb(1, 0, 0),
+    )?;
+    // as A, B, and as B again once it was painted in
+    agree_first(
+        &rt,
+        "EPq\"1;1;1;1#0;2;0;0;0#0;2;1;0;0#0@#0;2;1;0;0E\\",
+        Colour::rgb(1, 0, 0),
+    )?;
+    // as A, B, and as A in the other system
+    agree_first(
+        &rt,
+        "EPq\"1;1;1;1#0;2;0;0;0#0;2;1;0;0#0;1;0;0;0#0@E\\",
+        Colour::hls(0, 0, 0),
+    )
+}
+
+/// A hue is at most 360, lightness and saturation at most 100; so is each of red, green and blue.
+#[test]
+fn colours_at_their_edges(rt: HostRuntime) -> Result<(), Fail> {
+    let hue = "EPq\"1;1;1;1#0;1;360;100;100#0@E\\";
+    agree_first(&rt, hue, Colour::hls(360, 100, 100))?;
+    let least = "EPq\"1;1;1;1#0;1;0;0;0#0@E\\";
+    agree_first(&rt, least, Colour::hls(0, 0, 0))?;
+    let hundred_and_one = "EPq\"1;1;1;1#0;1;101;100;100#0@E\\";
+    agree_first(&rt, hundred_and_one, Colour::hls(101, 100, 100))?;
+    let white = "EPq\"1;1;1;1#0;2;100;100;100#0@E\\";
+    agree_first(&rt, white, Colour::rgb(100, 100, 100))
+}

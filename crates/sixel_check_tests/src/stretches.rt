@@ -1,0 +1,185 @@
+//! Stretches of sixels that are painted at once, worked out by hand.
+//!
+//! A stretch is painted at once where its register was painted in before, it lies in the box with all six rows, and 16
+//! bytes follow it. Offsets: in `"1;1;20;12` the first definition stands at 13, and what follows `#0;2;0;0;0` at 23.
+
+use crate::fixtures::{agree, bytes_of, is_said, picture_of, times};
+use sixel_check::check;
+use sixel_grammar::SliceSource;
+use sixel_picture::{Picture, Profile};
+use std::test::Fail;
+
+/// Each column and row of a stretch is painted, and no other.
+#[test]
+fn stretches_are_painted_whole(rt: HostRuntime) -> Result<(), Fail> {
+    agree(
+        &rt,
+        &[
+            (
+                "EPq\"1;1;20;12#0;2;0;0;0#0@$~~~~~~~~~~~~~~~~~~~~-~~~~~~~~~~~~~~~~~~~~E\\",
+                "portable 20 12",
+            ),
+            // the uppermost row of the last column is missing, and then the lowest of it
+            (
+                "EPq\"1;1;20;12#0;2;0;0;0#0@$~~~~~~~~~~~~~~~~~~~}-~~~~~~~~~~~~~~~~~~~~E\\",
+                "broken Uncovered 68 19 0",
+            ),
+            (
+                "EPq\"1;1;20;12#0;2;0;0;0#0@$~~~~~~~~~~~~~~~~~~~^-~~~~~~~~~~~~~~~~~~~~E\\",
+                "broken Uncovered 68 19 5",
+            ),
+            // the column after the stretch
+            (
+                "EPq\"1;1;20;12#0;2;0;0;0#0@$~~~~~~~~~~~~~~~~~~~-~~~~~~~~~~~~~~~~~~~~E\\",
+                "broken Uncovered 67 19 0",
+            ),
+        ],
+    )
+}
+
+/// A stretch may end at the box's last column and not after it, but for columns without a bit.
+#[test]
+fn stretches_end_at_the_box(rt: HostRuntime) -> Result<(), Fail> {
+    agree(
+        &rt,
+        &[
+            (
+                "EPq\"1;1;20;12#0;2;0;0;0#0@$~~~~~~~~~~~~~~~~~~~~~-~~~~~~~~~~~~~~~~~~~~E\\",
+                "broken Outside 47 20 0",
+            ),
+            (
+                "EPq\"1;1;20;12#0;2;0;0;0#0@$~~~~~~~~~~~~~~~~~~~~?-~~~~~~~~~~~~~~~~~~~~E\\",
+                "portable 20 12",
+            ),
+            // a band of two rows
+            (
+                "EPq\"1;1;20;8#0;2;0;0;0#0@$~~~~~~~~~~~~~~~~~~~~-BBBBBBBBBBBBBBBBBBBBE\\",
+                "portable 20 8",
+            ),
+            (
+                "EPq\"1;1;20;8#0;2;0;0;0#0@$~~~~~~~~~~~~~~~~~~~~-BBBBBBBFBBBBBBBBBBBBE\\",
+                "broken Outside 54 7 8",
+            ),
+            // a band below the box
+            (
+                "EPq\"1;1;20;6#0;2;0;0;0#0@$~~~~~~~~~~~~~~~~~~~~-???@???????????????????????E\\",
+                "broken Outside 50 3 6",
+            ),
+        ],
+    )
+}
+
+/// A stretch without a bit breaks no rule after raster attributes, wherever it lies and whatever is selected. The
+/// column moves on by it: what follows 24 bytes and 20 blank columns stands in column 21.
+#[test]
+fn stretches_without_a_bit(rt: HostRuntime) -> Result<(), Fail> {
+    agree(
+        &rt,
+        &[
+            ("EPq????????????????????E\\", "broken RasterFirst 3"),
+            (
+                "EPq\"1;1;1;1????????????????????#0;2;0;0;0#0$@E\\",
+                "portable 1 1",
+            ),
+            (
+                "EPq\"1;1;1;1#0;2;0;0;0#0@#1????????????????????E\\",
+                "portable 1 1",
+            ),
+            (
+                "EPq\"1;1;1;1#0;2;0;0;0#0@????????????????????-????????????????????E\\",
+                "portable 1 1",
+            ),
+            // all but the last
+            (
+                "EPq\"1;1;1;1#0;2;0;0;0#0@????????????????????@E\\",
+                "broken Outside 44 21 0",
+            ),
+            // a command of its own after the stretch
+            (
+                "EPq\"1;1;1;1#0;2;0;0;0#0@????????????????????!1@E\\",
+                "broken Outside 44 21 0",
+            ),
+            // all but the first
+            (
+                "EPq\"1;1;1;1#0;2;0;0;0#0@$?@????????????????????E\\",
+                "broken Outside 26 1 0",
+            ),
+        ],
+    )
+}
+
+/// The register of a stretch is known, has a colour, and counts as painted in.
+#[test]
+fn stretches_are_of_a_register(rt: HostRuntime) -> Result<(), Fail> {
+    agree(
+        &rt,
+        &[
+            (
+                "EPq\"1;1;20;6#0;2;0;0;0#0~$#1??~~~~~~~~~~~~~~~~~~~~~~~~E\\",
+                "broken Undefined 30",
+            ),
+            (
+                "EPq\"1;1;20;6#0;2;0;0;0#0~$#1;2;0;0;0??~~~~~~~~~~~~~~~~~~~~~~~~E\\",
+                "broken Unselected 38",
+            ),
+            // without a bit it paints in none
+            (
+                "EPq\"1;1;20;6#0;2;0;0;0#0~$#1;2;0;0;0?????????????????$#0~~~~~~~~~~~~~~~~~~~~E\\",
+                "portable 20 6",
+            ),
+            (
+                "EPq\"1;1;20;6#0;2;0;0;0#0@$~~~~~~~~~~~~~~~~~~~~$#0;2;1;0;0#0????????????E\\",
+                "broken Redefined 47",
+            ),
+        ],
+    )
+}
+
+/// Whether each pixel of a picture of 20 by 6 is in register 1 where its row is 1 and its column odd, or at the top
+/// left, and in register 0 elsewhere.
+fn is_striped(picture: &Picture) -> bool {
+    if (picture.width(), picture.height()) != (20, 6) {
+        return false;
+    }
+    for y in 0..6 {
+        for x in 0..20 {
+            let is_striped = y == 1 && x % 2 == 1 || x == 0 && y == 0;
+            if picture.register_at(x, y) != u8::from(is_striped) {
+                return false;
+            }
+        }
+    }
+    true
+}
+
+/// A stretch paints the bits of its bytes over what was painted before.
+#[test]
+fn stretches_paint_over(rt: HostRuntime) -> Result<(), Fail> {
+    let text =
+        "EPq\"1;1;20;6#0;2;0;0;0#1;2;9;9;9#0@$~~~~~~~~~~~~~~~~~~~~$#1@$?A?A?A?A?A?A?A?A?A?A$??????????????????E\\";
+    let picture = picture_of(&rt, text)?;
+    assert!(rt; is_striped(&picture));
+    Ok(())
+}
+
+/// Groups of 16 columns, whole or not, and pieces that end within a stretch.
+#[test]
+fn stretches_of_any_length(rt: HostRuntime) -> Result<(), Fail> {
+    for count in [1, 15, 16, 17, 31, 32, 33, 64] {
+        let band = times(&rt, "~", count)?;
+        let text = format!(in rt.alloc();
+            "EPq\"1;1;{count};18#0;2;0;0;0#0@$!{count}?$@$!{count}~-{band}-{band}$????????????????E\\"
+        )?;
+        let expected = format!(in rt.alloc(); "portable {count} 18")?;
+        let bytes = bytes_of(&rt, &text)?;
+        for piece in [1, 7, 16, 30, 200] {
+            let mut source = SliceSource::new(&bytes, piece, None);
+            let answer = check(rt.alloc(), Profile::Registers16, &mut source);
+            assert!(rt;
+                is_said(&rt, &answer, &expected)?,
+                "{count} columns, pieces of {piece}"
+            );
+        }
+    }
+    Ok(())
+}

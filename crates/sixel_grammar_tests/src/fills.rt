@@ -1,0 +1,97 @@
+//! How often `read_all` fills from its source.
+
+use crate::words::{PICTURE, PICTURE_IN_WORDS, answer_in_words};
+use sixel_grammar::{DeviceFault, SliceSource, Source, read_all};
+use std::test::Fail;
+
+/// A source, and how often it was filled from.
+#[derive(Drop)]
+struct Counted<S> {
+    source: S,
+    fills: u64,
+}
+
+impl<S: Source> Source for Counted<S> {
+    ghost remaining = { λ c. S.remaining c.source };
+
+    ghost failure_count = { λ c. S.failure_count c.source };
+
+    fn fill(&mut self, piece: &mut [u8]) -> Result<usize, DeviceFault> {
+        self.fills = self.fills.saturating_add(1);
+        self.source.fill(piece)
+    }
+
+    fn failures(&self) -> u64 {
+        self.source.failures()
+    }
+}
+
+/// Whether reading the bytes in pieces, with a fill that fails or none, has this answer after so many fills.
+fn agrees_after(
+    rt: &impl AllocGlobal,
+    bytes: &[u8],
+    piece: usize,
+    fail_at: Option<u64>,
+    expected: &str,
+    fills: u64,
+) -> Result<bool, Fail> {
+    let mut counted = Counted {
+        source: SliceSource::new(bytes, piece.max(1), fail_at),
+        fills: 0,
+    };
+    let answer = read_all(rt.alloc(), &mut counted);
+    Ok(answer_in_words(rt, &answer)?.as_str() == expected && counted.fills == fills)
+}
+
+/// CAN at 12, in the middle of 26 bytes.
+const FAULTY: &[u8] = b"\x1bPq\"1;1;1;1#\x18;2;0;0;0#0@\x1b\\";
+
+/// So many fills give all bytes, and one more finds the end; each of them fails in turn, and then none does.
+#[test]
+fn each_fill_fails_in_turn(rt: HostRuntime) -> Result<(), Fail> {
+    for (piece, fills) in [(1, 27), (5, 7), (64, 2)] {
+        for fill in 0..fills {
+            let filled = fill + 1;
+            assert!(rt;
+                agrees_after(&rt, PICTURE, piece, Some(fill), "read failed", filled)?,
+                "fill {fill} in pieces of {piece}"
+            );
+        }
+        assert!(rt;
+            agrees_after(&rt, PICTURE, piece, Some(fills), PICTURE_IN_WORDS, fills)?,
+            "in pieces of {piece}"
+        );
+    }
+    Ok(())
+}
+
+/// Whether reading the bytes has this fault after so many fills, where the next one would fail.
+fn ends_after(
+    rt: &impl AllocGlobal,
+    bytes: &[u8],
+    piece: usize,
+    fault: &str,
+    fills: u64,
+) -> Result<bool, Fail> {
+    agrees_after(rt, bytes, piece, Some(fills), fault, fills)
+}
+
+/// The piece that holds the fault is the last one, also where the next fill would fail.
+#[test]
+fn a_source_is_left_alone_after_a_fault(rt: HostRuntime) -> Result<(), Fail> {
+    for (piece, fills) in [(1, 13), (2, 7), (5, 3), (12, 2), (13, 1), (64, 1)] {
+        let ends = ends_after(&rt, FAULTY, piece, "BadByte 12", fills)?;
+        assert!(rt; ends, "in pieces of {piece}");
+    }
+    Ok(())
+}
+
+/// At the end there is one fill more.
+#[test]
+fn a_source_is_left_alone_after_its_end(rt: HostRuntime) -> Result<(), Fail> {
+    for (piece, fills) in [(1, 26), (5, 6), (24, 3), (25, 2), (64, 2)] {
+        let ends = ends_after(&rt, &PICTURE[..25], piece, "Truncated 25", fills)?;
+        assert!(rt; ends, "in pieces of {piece}");
+    }
+    Ok(())
+}

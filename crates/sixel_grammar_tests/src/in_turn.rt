@@ -1,0 +1,47 @@
+//! Each byte of the smallest picture in turn: the end before it, and a byte that can't come in its place.
+
+use crate::words::PICTURE;
+use sixel_grammar::{Fault, Reader, Reason};
+
+/// Why CAN (18) can't stand at the place.
+fn reason_at(place: u64) -> Reason {
+    match place {
+        0..=2 => Reason::NotSixel,
+        3..=24 => Reason::BadByte,
+        25 => Reason::BadTerminator,
+        _ => Reason::Trailing,
+    }
+}
+
+/// Why the picture's front so long is no document; none where it is the whole picture.
+fn end_at(place: u64) -> Result<(), Fault> {
+    let reason = Reason::Truncated;
+    if place < 26 {
+        Err(Fault { reason, place })
+    } else {
+        Ok(())
+    }
+}
+
+/// Whether the front of the picture is read, its end has its answer, and CAN after it is a fault that stays.
+fn is_refused_after(front: &[u8]) -> bool {
+    let mut reader = Reader::new();
+    if front.iter().any(|byte| reader.feed(*byte).is_err()) {
+        return false;
+    }
+    let place = front.len() as u64;
+    let reason = reason_at(place);
+    let fault = Fault { reason, place };
+    reader.finish() == end_at(place)
+        && reader.feed(0x18).err() == Some(fault)
+        && reader.feed(b'@').err() == Some(fault)
+        && reader.feed_plain(b'@').is_none()
+        && reader.finish() == Err(fault)
+}
+
+#[test]
+fn each_byte_is_refused_in_turn(rt: HostRuntime) {
+    for count in 0..27 {
+        assert!(rt; is_refused_after(&PICTURE[..count]), "after {count} bytes");
+    }
+}

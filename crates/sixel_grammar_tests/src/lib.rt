@@ -1,0 +1,19 @@
+//! The tests of `sixel_grammar`: that its definitions are the format's, by its tables and worked documents.
+#![tactic(auto)]
+
+#[cfg(test)]
+mod devices;
+#[cfg(test)]
+mod documents;
+#[cfg(test)]
+mod faults;
+#[cfg(test)]
+mod fills;
+#[cfg(test)]
+mod in_turn;
+#[cfg(test)]
+mod spelling;
+#[cfg(test)]
+mod stretches;
+#[cfg(test)]
+mod words;

@@ -1,0 +1,58 @@
+//! Stretches of data bytes that are read at once.
+
+use sixel_grammar::{Reader, Stretch};
+
+/// What a reader that was fed this front makes of the piece; `None` where it refuses the front.
+fn stretch_after(front: &[u8], piece: &[u8]) -> Option<Stretch> {
+    let mut reader = Reader::new();
+    if front.iter().any(|byte| reader.feed(*byte).is_err()) {
+        return None;
+    }
+    Some(reader.feed_stretch(piece))
+}
+
+/// Whether the stretch begins at the place, and has so many bytes.
+fn is_stretch(front: &[u8], piece: &[u8], place: u64, count: usize) -> bool {
+    stretch_after(front, piece) == Some(Stretch { place, count })
+}
+
+/// A stretch ends before the first byte that is no data byte, and at the piece's end.
+#[test]
+fn data_bytes_after_each_other(rt: HostRuntime) {
+    assert!(rt; is_stretch(b"\x1bPq", b"?~@", 3, 3));
+    assert!(rt; is_stretch(b"\x1bPq", b"", 3, 0));
+    assert!(rt; is_stretch(b"\x1bPq", b"??~~@@A$A", 3, 7));
+    assert!(rt; is_stretch(b"\x1bPq", b"!5@", 3, 0));
+    assert!(rt; is_stretch(b"\x1bPq~", b"\n~", 4, 0));
+    assert!(rt; is_stretch(b"\x1bPq~$", b"~~~~~~~~~~~~~~>~~~~~", 5, 14));
+    assert!(rt; is_stretch(b"\x1bPq~$", b"~~~~~~~~~~~~~~~>~~~~", 5, 15));
+    assert!(rt; is_stretch(b"\x1bPq~$", b"~~~~~~~~~~~~~~~~>~~~", 5, 16));
+    assert!(rt; is_stretch(b"\x1bPq~$", b"~~~~~~~~~~~~~~~~~~\x7f~", 5, 18));
+    assert!(rt;
+        is_stretch(
+            b"\x1bPq~$",
+            b"~~~~~~~~~~~~~~~~~~~\xff~~~~~~~~~~~~~~~~",
+            5,
+            19
+        )
+    );
+    assert!(rt;
+        is_stretch(
+            b"\x1bPq~$",
+            b"~~~~~~~~~~~~~~~~~~~~~~~~~~~~~~~~~~~~~~~~",
+            5,
+            40
+        )
+    );
+}
+
+/// None is read where a command is open, before the picture, and after it.
+#[test]
+fn no_sixels_where_none_may_come(rt: HostRuntime) {
+    assert!(rt; is_stretch(b"", b"~~", 0, 0));
+    assert!(rt; is_stretch(b"\x1bP", b"~~", 2, 0));
+    assert!(rt; is_stretch(b"\x1bPq!3", b"~~", 5, 0));
+    assert!(rt; is_stretch(b"\x1bPq#1", b"~~", 5, 0));
+    assert!(rt; is_stretch(b"\x1bPq\x1b", b"~~", 4, 0));
+    assert!(rt; is_stretch(b"\x1bPq\x1b\\", b"~~", 5, 0));
+}

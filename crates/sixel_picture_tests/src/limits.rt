@@ -1,0 +1,158 @@
+//! Reading picture files at the limits: long headers, long numbers, large pictures.
+
+use crate::reading::{agrees, fault, format, reads};
+use sixel_picture::{Parts, PpmFault, PpmReason};
+use std::alloc::{AllocError, Global};
+use std::test::Fail;
+
+/// A front, so many bytes of filler, and the rest.
+fn filled(
+    alloc: Global,
+    front: &[u8],
+    filler: u8,
+    count: usize,
+    rest: &[u8],
+) -> Result<Vec<u8>, AllocError> {
+    let mut bytes = front.to_vec(alloc)?;
+    for _ in 0..count {
+        bytes.push(filler)?;
+    }
+    bytes.extend_from_slice(rest)?;
+    Ok(bytes)
+}
+
+/// Whether `P6` with so many bytes of filler and the rest of a file has this fault, or none.
+fn header_agrees(
+    alloc: Global,
+    filler: u8,
+    count: usize,
+    rest: &[u8],
+    expected: Option<PpmFault>,
+) -> Result<bool, AllocError> {
+    let bytes = filled(alloc, b"P6", filler, count, rest)?;
+    Ok(fault(alloc, &bytes, 4_096) == expected && agrees(alloc, &bytes, 1, expected))
+}
+
+#[test]
+fn headers_have_a_limit(rt: HostRuntime) -> Result<(), Fail> {
+    let limit = format(PpmReason::Header, 65_536);
+    let short = format(PpmReason::Short, 65_536);
+    let size = format(PpmReason::Size, 65_534);
+    let maxval = format(PpmReason::Maxval, 65_534);
+    let longest = filled(rt.alloc(), b"P6", b' ', 65_526, b"1 1 100\n\x00\x00\x00")?;
+    let black = [Parts::Rgb(0, 0, 0)];
+    for piece in [1, 4_096, 65_536] {
+        assert!(rt;
+            reads(rt.alloc(), &longest, piece, (1, 1), &[0], &black),
+            "pieces of {piece}"
+        );
+    }
+    for (filler, count, rest, expected) in [
+        (b' ', 65_527, b"1 1 100\n\x00\x00\x00".as_slice(), limit),
+        (b' ', 65_527, b"1 1 256\n\x00\x00\x00".as_slice(), limit),
+        (b' ', 65_534, b"".as_slice(), short),
+        (b' ', 65_535, b"".as_slice(), limit),
+        (b'#', 65_534, b"".as_slice(), short),
+        (b'#', 65_534, b"\n1 1 100\n".as_slice(), limit),
+        (b' ', 65_532, b"0 1 100\n".as_slice(), size),
+        (b' ', 65_530, b"1 0 1".as_slice(), size),
+        (b' ', 65_528, b"1 1 0\n".as_slice(), maxval),
+        (b' ', 65_529, b"1 1 0\n".as_slice(), limit),
+    ] {
+        let agrees = header_agrees(rt.alloc(), filler, count, rest, expected)?;
+        assert!(rt; agrees, "filler {count}");
+    }
+    Ok(())
+}
+
+/// Whether `P6 ` with so many digits and the rest of a file has this fault, or none.
+fn number_agrees(
+    alloc: Global,
+    digit: u8,
+    count: usize,
+    rest: &[u8],
+    expected: Option<PpmFault>,
+) -> Result<bool, AllocError> {
+    let bytes = filled(alloc, b"P6 ", digit, count, rest)?;
+    Ok(fault(alloc, &bytes, 65_536) == expected)
+}
+
+#[test]
+fn long_numbers_do_not_wrap(rt: HostRuntime) -> Result<(), Fail> {
+    let size = format(PpmReason::Size, 3);
+    let header = format(PpmReason::Header, 60_003);
+    for (digit, count, rest, expected) in [
+        (b'9', 1_000, b" 1 100\n".as_slice(), size),
+        (b'9', 60_000, b" 1 100\n".as_slice(), size),
+        (b'9', 60_000, b"x".as_slice(), header),
+        (b'0', 60_000, b"1 1 1\n\x00\x00\x00".as_slice(), None),
+        (b'0', 60_000, b" 1 1\n\x00\x00\x00".as_slice(), size),
+    ] {
+        let agrees = number_agrees(rt.alloc(), digit, count, rest, expected)?;
+        assert!(rt; agrees, "{count} digits");
+    }
+    Ok(())
+}
+
+/// The longest header and 2,048 pixels by 16 without the last one: 163,837 bytes. They have 16 colours.
+fn wide(alloc: Global) -> Result<Vec<u8>, AllocError> {
+    let mut bytes = filled(alloc, b"P6", b' ', 65_524, b"2048 16 2\n")?;
+    for colour in 0u8..16 {
+        bytes.extend_from_slice(&[colour / 9, colour / 3 % 3, colour % 3])?;
+    }
+    bytes.resize(163_837, 0)?;
+    Ok(bytes)
+}
+
+/// Whether that picture with these bytes at its end has this fault, or none.
+fn wide_agrees(alloc: Global, end: &[u8], expected: Option<PpmFault>) -> Result<bool, AllocError> {
+    let mut bytes = wide(alloc)?;
+    bytes.extend_from_slice(end)?;
+    Ok(fault(alloc, &bytes, 65_536) == expected)
+}
+
+#[test]
+fn a_wide_picture_is_read_or_refused_at_its_end(rt: HostRuntime) -> Result<(), Fail> {
+    for (end, expected) in [
+        ([0, 0, 0].as_slice(), None),
+        ([0, 0].as_slice(), format(PpmReason::Short, 163_839)),
+        ([0, 0, 3].as_slice(), format(PpmReason::Sample, 163_839)),
+        (
+            [0, 0, 0, 0].as_slice(),
+            format(PpmReason::Trailing, 163_840),
+        ),
+        (
+            [2, 2, 2].as_slice(),
+            format(PpmReason::TooManyColours, 163_837),
+        ),
+    ] {
+        let agrees = wide_agrees(rt.alloc(), end, expected)?;
+        assert!(rt; agrees, "end {end:?}");
+    }
+    Ok(())
+}
+
+/// The largest picture: black pixels, and a red one at the end.
+#[test]
+fn the_largest_picture_is_read(rt: HostRuntime) -> Result<(), Fail> {
+    let bytes = filled(
+        rt.alloc(),
+        b"P6 2048 2048 100\n",
+        0,
+        12_582_909,
+        b"\x64\x00\x00",
+    )?;
+    let registers = filled(rt.alloc(), b"", 0, 4_194_303, b"\x01")?;
+    let colours = [Parts::Rgb(0, 0, 0), Parts::Rgb(100, 0, 0)];
+    assert!(rt;
+        reads(
+            rt.alloc(),
+            &bytes,
+            65_536,
+            (2_048, 2_048),
+            &registers,
+            &colours
+        )
+    );
+    Ok(())
+}

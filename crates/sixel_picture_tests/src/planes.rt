@@ -1,0 +1,388 @@
+//! Both planes are given the same runs, and show the same pixels.
+
+ghost use Rattle.std.specs.Prelude.{◌≡◌, ◌<◌, ◌≤◌, ◌+◌, ◌*◌, ℕ, IsTrue, length, slice_index};
+ghost use Rattle.sixel_grammar.specs.Bytes.{is_data};
+ghost use Rattle.std.specs.Int.{bit_at};
+
+use sixel_picture::{BandPlane, BytePlane, Plane, is_set};
+use std::alloc::{AllocError, Global};
+use std::test::Fail;
+
+/// A run of columns in a band.
+#[derive(Clone, Copy)]
+struct Run {
+    column: u32,
+    band: u32,
+    count: u32,
+    bits: u8,
+    register: u8,
+}
+
+/// Whether the rows of the set bits lie above `height`.
+fn rows_fit(bits: u8, band: u32, height: u32) -> bool
+    requires { band < 1000 }
+    ensures { IsTrue result → (k : ℕ) → k < 6 → bit_at bits k ≡ 1 → 6 * band + k < height }
+{
+    for bit in 0..6 {
+        if is_set(bits, bit) && 6 * band + bit >= height {
+            return false;
+        }
+    }
+    true
+}
+
+/// Paints a run, or tells that it doesn't lie in the plane.
+fn paint<P: Plane>(plane: &mut P, run: Run) -> bool {
+    let Run {
+        column,
+        band,
+        count,
+        bits,
+        register,
+    } = run;
+    let width = plane.width();
+    let height = plane.height();
+    let in_columns = column <= width && count <= width - column;
+    if in_columns && bits <= 63 && band < 1000 && rows_fit(bits, band, height) {
+        plane.paint_run(column, band, count, bits, register);
+        return true;
+    }
+    false
+}
+
+/// The register of a pixel, where it lies in the plane and isn't blank.
+fn pixel<P: Plane>(plane: &P, x: u32, y: u32) -> Option<u8> {
+    if x < plane.width() && y < plane.height() {
+        plane.register_at(x, y)
+    } else {
+        None
+    }
+}
+
+/// Whether the planes show the same pixel there.
+fn is_same_pixel<P: Plane, Q: Plane>(one: &P, other: &Q, x: u32, y: u32) -> bool {
+    pixel(one, x, y) == pixel(other, x, y)
+}
+
+/// Whether the planes show the same in these columns of a row.
+fn is_same_row<P: Plane, Q: Plane>(one: &P, other: &Q, columns: u32, row: u32) -> bool {
+    for column in 0..columns {
+        if !is_same_pixel(one, other, column, row) {
+            return false;
+        }
+    }
+    true
+}
+
+/// Whether the planes show the same pixels.
+fn is_same<P: Plane, Q: Plane>(one: &P, other: &Q) -> bool {
+    let (width, height) = (one.width(), one.height());
+    for row in 0..height {
+        if !is_same_row(one, other, width, row) {
+            return false;
+        }
+    }
+    (width, height) == (other.width(), other.height()) && one.first_blank() == other.first_blank()
+}
+
+/// Paints a run in both planes, and tells whether they took it and show the same.
+fn paint_both(bytes: &mut BytePlane, bands: &mut BandPlane, run: Run) -> bool {
+    paint(bytes, run) && paint(bands, run) && is_same(bytes, bands)
+}
+
+/// Nine runs that leave a plane of nine rows without a blank pixel. Some overlap, some have no bits or no columns.
+fn run_at(width: u32, index: u32) -> Run
+    requires { 0 < width }
+{
+    let last = width - 1;
+    let (column, band, count, bits, register) = match index {
+        0 => (0, 900, width, 0, 15),
+        1 => (width, 1, 0, 7, 15),
+        2 => (last, 1, 1, 1, 2),
+        3 => (0, 0, last, 63, 1),
+        4 => (width / 3, 0, width / 2, 21, 5),
+        5 => (last, 0, 1, 62, 3),
+        6 => (last, 0, 1, 1, 4),
+        7 => (0, 1, last, 3, 6),
+        _ => (0, 1, width, 6, 0),
+    };
+    Run {
+        column,
+        band,
+        count,
+        bits,
+        register,
+    }
+}
+
+#[test]
+fn both_planes_show_the_same(rt: HostRuntime) -> Result<(), Fail> {
+    for width in [1, 31, 32, 33, 64, 2048] {
+        assert!(rt; 0 < width && width <= 2048);
+        let mut bytes = BytePlane::blank(rt.alloc(), width, 9)?;
+        let mut bands = BandPlane::blank(rt.alloc(), width, 9)?;
+        assert!(rt; is_same(&bytes, &bands), "blank, {width} wide");
+        for index in 0..9 {
+            let run = run_at(width, index);
+            assert!(rt;
+                paint_both(&mut bytes, &mut bands, run),
+                "run {index}, {width} wide"
+            );
+        }
+        assert_eq!(rt; bands.first_blank(), None, "{width} wide");
+    }
+    Ok(())
+}
+
+/// Whether so many bytes at the front are data bytes.
+fn are_sixels(bytes: &[u8], count: usize) -> bool
+    requires { count ≤ length bytes.now }
+    ensures { IsTrue result → (j : ℕ) → j < count → IsTrue (is_data (slice_index bytes.now j)) }
+{
+    for index in 0..count {
+        if bytes[index] < b'?' || bytes[index] > b'~' {
+            return false;
+        }
+    }
+    true
+}
+
+/// Paints a stretch of so many bytes in a register at once; whether the plane could.
+fn stretch(plane: &mut BandPlane, column: u32, bytes: &[u8], count: u32, register: u8) -> bool {
+    let width = plane.width();
+    let is_inside = column <= width && count <= width - column && plane.height() >= 6;
+    let count = count as usize;
+    is_inside
+        && count <= bytes.len()
+        && are_sixels(bytes, count)
+        && plane.try_paint_stretch(column, 0, bytes, count, register)
+}
+
+/// Paints so many columns of the bytes in a register, one by one.
+fn columns(plane: &mut BytePlane, column: u32, bytes: &[u8], count: u32, register: u8) -> bool {
+    for (index, byte) in bytes.iter().take(count as usize).enumerate() {
+        let run = Run {
+            column: column.saturating_add(index as u32),
+            band: 0,
+            count: 1,
+            bits: byte.wrapping_sub(b'?'),
+            register,
+        };
+        if !paint(plane, run) {
+            return false;
+        }
+    }
+    true
+}
+
+/// Each of the 64 data bytes, in an order in which neighbours differ in many bits, and 16 bytes after them.
+const SIXELS: &[u8] =
+    b"?~@}A|B{CzDyExFwGvHuItJsKrLqMpNoOnPmQlRkSjTiUhVgWfXeYdZc[b\\a]`^_~~~~~~~~~~~~~~~~";
+
+/// A stretch is painted as its columns one by one, with whole groups of 16 and without.
+#[test]
+fn stretches_are_their_columns(rt: HostRuntime) -> Result<(), Fail> {
+    for (column, count) in [
+        (0, 1),
+        (3, 15),
+        (1, 16),
+        (0, 17),
+        (31, 31),
+        (2, 32),
+        (5, 33),
+        (36, 64),
+    ] {
+        let mut bytes = BytePlane::blank(rt.alloc(), 100, 12)?;
+        let mut bands = BandPlane::blank(rt.alloc(), 100, 12)?;
+        assert!(rt;
+            stretch(&mut bands, column, SIXELS, count, 7),
+            "{count} at {column}"
+        );
+        assert!(rt; columns(&mut bytes, column, SIXELS, count, 7));
+        assert!(rt; is_same(&bytes, &bands), "{count} at {column}");
+        assert!(rt;
+            stretch(&mut bands, 0, &SIXELS[1..], 40, 255)
+                && columns(&mut bytes, 0, &SIXELS[1..], 40, 255)
+        );
+        assert!(rt; is_same(&bytes, &bands), "over {count} at {column}");
+    }
+    Ok(())
+}
+
+/// Without 16 bytes after it, or columns of the plane, a stretch isn't painted at once, and nothing changes.
+#[test]
+fn stretches_want_room_for_lanes(rt: HostRuntime) -> Result<(), Fail> {
+    let mut plane = BandPlane::blank(rt.alloc(), 40, 6)?;
+    assert!(rt; !stretch(&mut plane, 0, &SIXELS[..20], 5, 7));
+    assert!(rt; is_blank(&plane, 40, 6));
+    assert!(rt; !stretch(&mut plane, 20, SIXELS, 20, 7));
+    assert!(rt; is_blank(&plane, 40, 6));
+    assert!(rt; stretch(&mut plane, 20, SIXELS, 4, 7));
+    assert_eq!(rt; plane.first_blank(), Some((0, 0)));
+    Ok(())
+}
+
+#[test]
+fn the_columns_after_whole_groups_are_looked_at(rt: HostRuntime) -> Result<(), Fail> {
+    let mut plane = BandPlane::blank(rt.alloc(), 33, 6)?;
+    for (column, count, bits, register, expected) in [
+        (0, 32, 63, 1, Some((32, 0))),
+        (32, 1, 62, 2, Some((32, 0))),
+        (32, 1, 1, 2, None),
+    ] {
+        let run = Run {
+            column,
+            band: 0,
+            count,
+            bits,
+            register,
+        };
+        assert!(rt; paint(&mut plane, run));
+        assert_eq!(rt; plane.first_blank(), expected, "after column {column}");
+    }
+    Ok(())
+}
+
+/// Whether the plane has this size, and no pixel with a register.
+fn is_blank<P: Plane>(plane: &P, width: u32, height: u32) -> bool {
+    for y in 0..height {
+        for x in 0..width {
+            if pixel(plane, x, y).is_some() {
+                return false;
+            }
+        }
+    }
+    (plane.width(), plane.height()) == (width, height) && plane.first_blank() == Some((0, 0))
+}
+
+/// Whether a new plane is blank; `None` where a growth was refused.
+fn is_made_blank<P: Plane>(alloc: Global, width: u32, height: u32) -> Option<bool> {
+    if width < 1 || width > 2048 || height < 1 || height > 2048 {
+        return Some(false);
+    }
+    let plane = P::blank(alloc, width, height).ok()?;
+    Some(is_blank(&plane, width, height))
+}
+
+#[test]
+fn planes_of_any_size_are_made_blank(rt: HostRuntime) {
+    for (width, height) in [
+        (1, 1),
+        (1_025, 7),
+        (2_047, 5),
+        (2_048, 2_047),
+        (2_048, 2_048),
+    ] {
+        let made = Some(true);
+        let bytes = is_made_blank::<BytePlane>(rt.alloc(), width, height);
+        assert!(rt; bytes == made, "bytes, {width} by {height}");
+        let bands = is_made_blank::<BandPlane>(rt.alloc(), width, height);
+        assert!(rt; bands == made, "bands, {width} by {height}");
+    }
+}
+
+/// Whether one of two planes is made at least, and each that is made is blank.
+fn one_is_blank<P: Plane>(alloc: Global) -> bool {
+    match (
+        is_made_blank::<P>(alloc, 3, 7),
+        is_made_blank::<P>(alloc, 3, 7),
+    ) {
+        (Some(first), Some(second)) => first && second,
+        (Some(is_blank), None) | (None, Some(is_blank)) => is_blank,
+        (None, None) => false,
+    }
+}
+
+/// Under `rt try --test --fail-alloc N` the N-th growth is refused: those of the first plane are 1 and 2.
+#[test]
+fn a_refused_growth_is_answered(rt: HostRuntime) {
+    assert!(rt; one_is_blank::<BytePlane>(rt.alloc()));
+}
+
+/// Under `rt try --test --fail-alloc N` the N-th growth is refused: those of the first plane are 1 and 2.
+#[test]
+fn a_refused_growth_of_bands_is_answered(rt: HostRuntime) {
+    assert!(rt; one_is_blank::<BandPlane>(rt.alloc()));
+}
+
+/// Whether the plane takes the run, and then has this first blank pixel, and shows these two pixels.
+fn paints<P: Plane>(
+    plane: &mut P,
+    run: Run,
+    blank: Option<(u32, u32)>,
+    shown: (Option<u8>, Option<u8>),
+) -> bool {
+    paint(plane, run)
+        && plane.first_blank() == blank
+        && (pixel(plane, 1, 5), pixel(plane, 0, 6)) == shown
+}
+
+/// Whether a plane of 2 by 7 pixels is painted as it should, until no pixel is blank.
+fn is_filled<P: Plane>(plane: &mut P) -> bool {
+    if (plane.width(), plane.height()) != (2, 7) || plane.first_blank() != Some((0, 0)) {
+        return false;
+    }
+    for (column, band, count, bits, register, blank, last) in [
+        (0, 0, 2, 63, 3, Some((0, 6)), None),
+        (0, 1, 1, 1, 4, Some((1, 6)), Some(4)),
+        (1, 1, 1, 1, 4, None, Some(4)),
+    ] {
+        let run = Run {
+            column,
+            band,
+            count,
+            bits,
+            register,
+        };
+        if !paints(plane, run, blank, (Some(3), last)) {
+            return false;
+        }
+    }
+    true
+}
+
+/// The registers of a plane that is filled so.
+const FILLED: [u8; 14] = [3, 3, 3, 3, 3, 3, 3, 3, 3, 3, 3, 3, 4, 4];
+
+/// Whether a plane has these registers, once it is filled.
+fn is_painted_by_runs<P: Plane>(alloc: Global) -> Result<bool, AllocError> {
+    let mut plane = P::blank(alloc, 2, 7)?;
+    if !is_filled(&mut plane) || plane.first_blank().is_some() {
+        return Ok(false);
+    }
+    Ok(plane.into_registers().as_slice() == FILLED.as_slice())
+}
+
+/// Whether a plane of one pixel takes register 255, the greatest, as any other.
+fn takes_the_greatest_register<P: Plane>(alloc: Global) -> Result<bool, AllocError> {
+    let mut plane = P::blank(alloc, 1, 1)?;
+    let run = Run {
+        column: 0,
+        band: 0,
+        count: 1,
+        bits: 1,
+        register: 255,
+    };
+    let is_painted = paint(&mut plane, run);
+    Ok(is_painted && plane.first_blank().is_none() && pixel(&plane, 0, 0) == Some(255))
+}
+
+#[test]
+fn each_byte_is_a_register(rt: HostRuntime) -> Result<(), Fail> {
+    assert!(rt;
+        takes_the_greatest_register::<BytePlane>(rt.alloc())?,
+        "bytes"
+    );
+    assert!(rt;
+        takes_the_greatest_register::<BandPlane>(rt.alloc())?,
+        "bands"
+    );
+    Ok(())
+}
+
+#[test]
+fn planes_are_painted_by_runs(rt: HostRuntime) -> Result<(), Fail> {
+    assert!(rt; is_painted_by_runs::<BytePlane>(rt.alloc())?, "bytes");
+    assert!(rt; is_painted_by_runs::<BandPlane>(rt.alloc())?, "bands");
+    Ok(())
+}

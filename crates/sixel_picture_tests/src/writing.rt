@@ -1,0 +1,203 @@
+//! Picture files that are written: worked examples, and sinks that fail.
+
+ghost use Rattle.std.specs.Prelude.{None};
+
+use crate::pictures::{picture_of, red_and_blue, set};
+use sixel_grammar::{DeviceFault, Sink, SliceSink};
+use sixel_picture::{Colour, Palette, Picture, PpmFault, Profile, write_ppm, write_ppm_colours};
+use std::alloc::{AllocError, Global};
+use std::test::Fail;
+
+/// The PPM of two pixels side by side, red and blue.
+const TWO_PIXELS: &[u8] = b"P6\n2 1\n100\n\x64\x00\x00\x00\x00\x64";
+
+/// The PPM of a black pixel.
+const BLACK: &[u8] = b"P6\n1 1\n100\n\x00\x00\x00";
+
+/// Whether the picture is written so: the answer, and what a sink has that takes so many bytes a call and fails at one.
+fn writes(
+    picture: &Picture,
+    room: &mut [u8],
+    most: usize,
+    fail_at: Option<u64>,
+    answer: Result<(), PpmFault>,
+    text: &[u8],
+) -> bool {
+    let mut sink = SliceSink::new(room, most.max(1), fail_at);
+    write_ppm(picture, &mut sink) == answer && sink.written() == text
+}
+
+/// Whether the picture of these registers side by side is written so into a sink with room for it.
+fn is_written(
+    alloc: Global,
+    palette: Palette,
+    registers: &[u8],
+    answer: Result<(), PpmFault>,
+    text: &[u8],
+) -> Result<bool, Fail> {
+    let width = registers.len().min(2) as u32;
+    let picture = picture_of(alloc, width, 1, palette, registers)?;
+    Ok(writes(&picture, &mut [0; 32], 32, None, answer, text))
+}
+
+/// A palette in which register 0 is black, and register 1 a hue.
+fn black_and_hue() -> Palette {
+    let mut palette = Palette::new(Profile::Registers16);
+    set(&mut palette, 0, Colour::rgb(0, 0, 0));
+    set(&mut palette, 1, Colour::hls(120, 50, 100));
+    palette
+}
+
+#[test]
+fn pictures_are_written_as_ppm(rt: HostRuntime) -> Result<(), Fail> {
+    let refused = Err(PpmFault::NotRgb);
+    for (palette, registers, answer, text) in [
+        (
+            red_and_blue(Profile::Registers16),
+            [0, 3].as_slice(),
+            Ok(()),
+            TWO_PIXELS,
+        ),
+        // A hue that no pixel has.
+        (black_and_hue(), [0].as_slice(), Ok(()), BLACK),
+        (black_and_hue(), [1].as_slice(), refused, b"".as_slice()),
+        (black_and_hue(), [0, 1].as_slice(), refused, b"".as_slice()),
+    ] {
+        assert!(rt; is_written(rt.alloc(), palette, registers, answer, text)?);
+    }
+    Ok(())
+}
+
+/// Whether the colours are written so, after what the sink has.
+fn writes_colours(
+    sink: &mut SliceSink<'_>,
+    colours: &[Colour; 2],
+    answer: Result<(), PpmFault>,
+    text: &[u8],
+) -> bool {
+    write_ppm_colours(2, 1, colours, sink) == answer && sink.written() == text
+}
+
+#[test]
+fn colours_are_written_as_ppm(rt: HostRuntime) -> Result<(), Fail> {
+    let red = Colour::rgb(100, 0, 0).ok_or("red")?;
+    let blue = Colour::rgb(0, 0, 100).ok_or("blue")?;
+    let hue = Colour::hls(360, 50, 100).ok_or("a hue")?;
+    let mut room = [0; 32];
+    let mut sink = SliceSink::new(&mut room, 32, None);
+    assert!(rt; writes_colours(&mut sink, &[red, hue], Err(PpmFault::NotRgb), b""));
+    assert!(rt; writes_colours(&mut sink, &[red, blue], Ok(()), TWO_PIXELS));
+    Ok(())
+}
+
+/// Whether a sink that fails before the end of the text has a front of it: one that takes a byte a call and fails at
+/// one, and one with too little room.
+fn fails_in_turn(picture: &Picture, text: &[u8]) -> bool {
+    let failed = Err(PpmFault::Write);
+    for count in 0..text.len() {
+        let front = &text[..count];
+        let mut room = [0; 32];
+        if !writes(picture, &mut room, 1, Some(count as u64), failed, front)
+            || !writes(picture, &mut room[..count.min(32)], 4, None, failed, front)
+        {
+            return false;
+        }
+    }
+    true
+}
+
+#[test]
+fn failing_sinks_have_a_front_of_the_text(rt: HostRuntime) -> Result<(), Fail> {
+    let two = picture_of(
+        rt.alloc(),
+        2,
+        1,
+        red_and_blue(Profile::Registers16),
+        &[0, 3],
+    )?;
+    assert!(rt; fails_in_turn(&two, TWO_PIXELS), "two pixels");
+    let mut palette = Palette::new(Profile::Registers16);
+    set(&mut palette, 0, Colour::rgb(0, 0, 0));
+    let black = picture_of(rt.alloc(), 1, 1, palette, &[0])?;
+    assert!(rt; fails_in_turn(&black, BLACK), "a black pixel");
+    Ok(())
+}
+
+/// Takes all that it is given, and counts the calls.
+#[derive(Drop)]
+struct CountingSink {
+    takes: u32,
+    is_flushed: bool,
+}
+
+impl Sink for CountingSink {
+    ghost taken = { λ s. None };
+
+    ghost failure_count = { λ s. 0 };
+
+    ghost is_flushed = { λ s. s.is_flushed };
+
+    fn take(&mut self, piece: &[u8]) -> Result<usize, DeviceFault> {
+        self.takes = self.takes.saturating_add(1);
+        self.is_flushed = false;
+        Ok(piece.len())
+    }
+
+    fn flush(&mut self) -> Result<(), DeviceFault> {
+        self.is_flushed = true;
+        Ok(())
+    }
+
+    fn failures(&self) -> u64 {
+        0
+    }
+}
+
+/// The text of 300 by 200 blue pixels: 180,015 bytes.
+fn large_text(alloc: Global) -> Result<Vec<u8>, AllocError> {
+    let mut text = Vec::from_slice(alloc, b"P6\n300 200\n100\n")?;
+    for _ in 0..60_000 {
+        text.extend_from_slice(&[0, 0, 100])?;
+    }
+    Ok(text)
+}
+
+/// How often a sink is called that takes all of the picture's text at once, where the picture is written.
+fn takes_of(picture: &Picture) -> Option<u32> {
+    let mut sink = CountingSink {
+        takes: 0,
+        is_flushed: false,
+    };
+    match write_ppm(picture, &mut sink) {
+        Ok(()) => Some(sink.takes),
+        Err(_) => None,
+    }
+}
+
+/// A block of 65,536 bytes takes the header's 15 and 21,840 pixels'.
+#[test]
+fn large_pictures_leave_in_blocks(rt: HostRuntime) -> Result<(), Fail> {
+    let registers = vec![in rt.alloc(); 3; 300 * 200]?;
+    let picture = picture_of(
+        rt.alloc(),
+        300,
+        200,
+        red_and_blue(Profile::Registers16),
+        registers.as_slice(),
+    )?;
+    let text = large_text(rt.alloc())?;
+    let text = text.as_slice();
+    let mut room = vec![in rt.alloc(); 0; 200_000]?;
+    assert!(rt;
+        writes(&picture, &mut room, 100_000, None, Ok(()), text),
+        "the whole text"
+    );
+    let first = text.get(..65_535).ok_or("a block")?;
+    let failed = Err(PpmFault::Write);
+    assert!(rt;
+        writes(&picture, &mut room, 100_000, Some(1), failed, first),
+        "the first block"
+    );
+    assert_eq!(rt; takes_of(&picture), Some(3));
+    Ok(())
+}

@@ -1,0 +1,38 @@
+-- What the end of a run says of its bytes.
+use Rattle.std.proofs.Common.{◌≡◌, ℕ, List, Option, Some, None, subst, sym}
+use Rattle.std.specs.Prelude.{Result, Ok, Err, IfSome}
+use Rattle.std.specs.Fmt.{option_append}
+use Rattle.std.specs.Io.KnownBytes.{Consumes}
+use Rattle.sixel_check.specs.declared.verdict.Finding.{Finding}
+use Rattle.sixel_program.specs.declared.exit.Exit.TheVariants as exit
+use Rattle.sixel_run.specs.declared.fault.RunFault.{RunFault}
+use Rattle.sixel_run.specs.declared.task.Status.{Status}
+use Rattle.sixel_run.specs.declared.task.Status.TheVariants as status
+use Rattle.sixel_run.specs.declared.task.Task.{Task}
+use Rattle.sixel_program.specs.Exits.{exit_for_answer}
+use Rattle.sixel_run.specs.Outputs.{Gives, Wrote}
+use Rattle.sixel_run.specs.Texts.{Text}
+
+pub done_gives : (t : Task) (told left : Option (List ℕ)) (a : Result Status RunFault) (had has : Option (List ℕ))
+    → IfSome told (λ bytes. Wrote t bytes left a had has) → exit_for_answer a ≡ exit.Done
+    → IfSome told (λ bytes. (text : Text) × Gives t bytes text (Ok status.Done))
+done_gives t None left a had has wrote is = tt
+done_gives t (Some bytes) left (Ok status.Done) had has wrote is = (wrote.0, wrote.1)
+done_gives t (Some bytes) left (Ok (status.Broken finding)) had has wrote is =
+    let no : exit.Broken ≡ exit.Done = is in cc
+done_gives t (Some bytes) left (Err fault) had has wrote is = let no : exit.Refused ≡ exit.Done = is in cc
+
+pub broken_gives : (t : Task) (told left : Option (List ℕ)) (a : Result Status RunFault) (had has : Option (List ℕ))
+    → IfSome told (λ bytes. Wrote t bytes left a had has) → exit_for_answer a ≡ exit.Broken
+    → IfSome told (λ bytes. (text : Text) × (finding : Finding) × Gives t bytes text (Ok (status.Broken finding)))
+broken_gives t None left a had has wrote is = tt
+broken_gives t (Some bytes) left (Ok status.Done) had has wrote is = let no : exit.Done ≡ exit.Broken = is in cc
+broken_gives t (Some bytes) left (Ok (status.Broken finding)) had has wrote is = (wrote.0, finding, wrote.1)
+broken_gives t (Some bytes) left (Err fault) had has wrote is = let no : exit.Refused ≡ exit.Broken = is in cc
+
+-- what is said of the bytes of a reader of which some were read holds of those bytes and its rest
+pub chained : (P : List ℕ → Type 0) (told rest : Option (List ℕ)) (front : List ℕ) → Consumes told rest front
+    → IfSome (option_append (Some front) rest) P → IfSome told P
+chained P None rest front consumed h = tt
+chained P (Some bytes) None front consumed h = absurd consumed
+chained P (Some bytes) (Some rest) front consumed h = subst P (sym consumed) h

@@ -1,0 +1,5 @@
+pub mod PutLemmas
+pub mod EndLemmas
+pub mod FilesLemmas
+pub mod SeveralLemmas
+pub mod StatusLemmas

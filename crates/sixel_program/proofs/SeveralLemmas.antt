@@ -1,0 +1,160 @@
+-- The exit statuses of several files, and the line of each.
+use Rattle.std.proofs.Common.{ap, ap₂, append_assoc, Result, Err, ◌++◌}
+use Rattle.std.proofs.Common.{◌≡◌, ◌≤◌, ◌∷◌, ℕ, Bool, true, false, List, [], Some, arith, refl, sym, fold, length, map}
+use Rattle.std.proofs.Common.{slice_index_or, subst, suc, zero, inl, inr, ◌<◌, ◌+◌, ◌-◌, ◌^◌, ◌∙◌, Option}
+use Rattle.std.specs.Prelude.{◌⊎◌, All, Contains, Ok, nat_lt, if◌then◌else◌}
+use Rattle.std.specs.List.{concat}
+use Rattle.std.proofs.lemmas.List.{append-nil}
+use Rattle.std.proofs.lemmas.Bool.{cases_lt, ltb-false, ltb-true}
+use Rattle.sixel_grammar.specs.Devices.{one_more}
+use Rattle.sixel_grammar.proofs.SinkLemmas.{Appends-none}
+use Rattle.sixel_grammar.proofs.DeviceLemmas.{Appends-then}
+use Rattle.std.proofs.lemmas.List.Elements.{All-cons, All-nil}
+use Rattle.sixel_picture.specs.declared.profile.Profile.{Profile}
+use Rattle.sixel_program.specs.declared.exit.Exit.{Exit}
+use Rattle.sixel_program.specs.declared.exit.Exit.TheVariants as exit
+use Rattle.sixel_grammar.specs.declared.fault.Fault.{Fault}
+use Rattle.sixel_run.specs.declared.fault.RunFault.{RunFault}
+use Rattle.sixel_run.specs.declared.fault.RunFault.TheVariants as run
+use Rattle.sixel_run.specs.declared.task.Status.{Status}
+use Rattle.sixel_run.specs.declared.task.Task.TheVariants.{Check}
+use Rattle.sixel_program.specs.Exits.{IsPut, exit_code}
+use Rattle.sixel_program.specs.Files.{ArePut, FileEnd, HasFailed, IsFileEnd, IsSaid, exit_of_end, file_text, files_exit}
+use Rattle.sixel_program.specs.Files.{files_text, worse}
+use Rattle.sixel_run.specs.Outputs.{Gives, Wrote}
+use Rattle.sixel_run.specs.Texts.{Text}
+
+-- ---- the greatest
+
+abbrev no_less : Exit → Exit → Type 0
+no_less a b = exit_code a ≤ exit_code b
+
+-- the worse of two is no less than either
+chosen : (b : Bool) (x y : Exit) → nat_lt (exit_code x) (exit_code y) ≡ b
+    → no_less x (if b then y else x) × no_less y (if b then y else x)
+chosen true x y e = (omega (arith, ltb-true (exit_code x) (exit_code y) e), omega arith)
+chosen false x y e = (omega arith, ltb-false (exit_code x) (exit_code y) e)
+
+worse_of : (x y : Exit) → no_less x (worse x y) × no_less y (worse x y)
+worse_of x y = chosen (nat_lt (exit_code x) (exit_code y)) x y refl
+
+fold_no_less : (x : Exit) (exits : List Exit) → no_less x (fold worse x exits)
+fold_no_less x [] = omega arith
+fold_no_less x (y ∷ exits) = omega (arith, (worse_of x y).0, fold_no_less (worse x y) exits)
+
+all_no_less : (x : Exit) (ends : List FileEnd)
+    → All (λ e. no_less (exit_of_end e) (fold worse x (map exit_of_end ends))) ends
+all_no_less x [] = All-nil (λ e. no_less (exit_of_end e) x)
+all_no_less x (e ∷ ends) =
+    let y = worse x (exit_of_end e) in
+    All-cons (λ a. no_less (exit_of_end a) (fold worse y (map exit_of_end ends))) e ends
+    (omega (arith, (worse_of x (exit_of_end e)).1, fold_no_less y (map exit_of_end ends))) (all_no_less y ends)
+
+pub greatest_of : (ends : List FileEnd) → All (λ e. no_less (exit_of_end e) (files_exit ends)) ends
+greatest_of ends = all_no_less exit.Done ends
+
+-- ---- one of them
+
+pub contains_later : {X : Type 0} (x v : X) (xs : List X) → Contains xs v → Contains (x ∷ xs) v
+contains_later x v xs has = (suc has.0, omega (arith, has.1), has.2)
+
+-- one more behind the first
+contains_behind : (x y v : Exit) (exits : List Exit) (k : ℕ) → k < length (x ∷ exits)
+    → slice_index_or (x ∷ exits) k v ≡ v → Contains (x ∷ y ∷ exits) v
+contains_behind x y v exits zero below is = (0, omega arith, is)
+contains_behind x y v exits (suc k) below is = (suc (suc k), omega (arith, below), is)
+
+one_of : (b : Bool) (x y : Exit) → ((if b then y else x) ≡ x) ⊎ ((if b then y else x) ≡ y)
+one_of true x y = inr refl
+one_of false x y = inl refl
+
+-- a fold from the first of a list is one of them
+fold_reached : (x : Exit) (exits : List Exit) → Contains (x ∷ exits) (fold worse x exits)
+fold_reached x [] = (0, omega arith, refl)
+fold_reached x (y ∷ exits) = elim (one_of (nat_lt (exit_code x) (exit_code y)) x y) [
+  | inl first ↦
+      let has = fold_reached x exits in
+      subst (λ (w : Exit). Contains (x ∷ y ∷ exits) (fold worse w exits)) (sym first)
+      (contains_behind x y (fold worse x exits) exits has.0 has.1 has.2)
+  | inr second ↦
+      subst (λ (w : Exit). Contains (x ∷ y ∷ exits) (fold worse w exits)) (sym second)
+      (contains_later x (fold worse y exits) (y ∷ exits) (fold_reached y exits))
+]
+
+from_done : (x : Exit) → worse exit.Done x ≡ x
+from_done exit.Done = refl
+from_done exit.Broken = refl
+from_done exit.Refused = refl
+from_done exit.Usage = refl
+
+pub reached : (e : FileEnd) (more : List FileEnd) → Contains (map exit_of_end (e ∷ more)) (files_exit (e ∷ more))
+reached e more =
+    let exits = map exit_of_end more in
+    subst (λ (w : Exit). Contains (exit_of_end e ∷ exits) (fold worse w exits)) (sym (from_done (exit_of_end e)))
+    (fold_reached (exit_of_end e) exits)
+
+-- ---- what is said of all
+
+-- a count of failures that rose, or stands at its end
+one_more_failed : (a : ℕ) → HasFailed (a, one_more a)
+one_more_failed a = elim (cases_lt (a + 1) (2 ^ 64 - 1)) [
+  | inl below ↦ inl (omega arith)
+  | inr past ↦ inr (omega arith)
+]
+
+failed_more : (a b : ℕ) → HasFailed (a, b) → HasFailed (a, one_more b)
+failed_more a b (inl rose) = elim (cases_lt (b + 1) (2 ^ 64 - 1)) [
+  | inl below ↦ inl (omega (arith, rose))
+  | inr past ↦ inr (omega arith)
+]
+failed_more a b (inr end) = inr (omega (arith, end))
+
+said_more : (first more : Text) (e₀ e₁ e₂ : Option (List ℕ)) (c₀ c₁ c₂ : ℕ) → IsSaid first (e₀, e₁) (c₀, c₁)
+    → IsPut more (e₁, e₂) (c₁, c₂) → IsSaid (first ++ more) (e₀, e₂) (c₀, c₂)
+said_more first more e₀ e₁ e₂ c₀ c₁ c₂ (inl said) (inl put) =
+    inl (Appends-then e₀ e₁ e₂ first more (first ++ more) said.0 put.0 refl, put.1 ∙ said.1)
+said_more first more e₀ e₁ e₂ c₀ c₁ c₂ (inl said) (inr cut) =
+    inr (subst (λ (n : ℕ). HasFailed (c₀, n)) (ap one_more (sym said.1) ∙ sym cut.2) (one_more_failed c₀))
+said_more first more e₀ e₁ e₂ c₀ c₁ c₂ (inr failed) (inl put) =
+    inr (subst (λ (n : ℕ). HasFailed (c₀, n)) (sym put.1) failed)
+said_more first more e₀ e₁ e₂ c₀ c₁ c₂ (inr failed) (inr cut) =
+    inr (subst (λ (n : ℕ). HasFailed (c₀, n)) (sym cut.2) (failed_more c₀ c₁ failed))
+
+said_on : (first : Text) (texts : List Text) (e₀ e₁ e₂ : Option (List ℕ)) (c₀ c₁ c₂ : ℕ)
+    → IsSaid first (e₀, e₁) (c₀, c₁) → ArePut texts (e₁, e₂) (c₁, c₂) → IsSaid (first ++ concat texts) (e₀, e₂) (c₀, c₂)
+unfolding ArePut
+said_on first [] e₀ e₁ e₂ c₀ c₁ c₂ said none = rw (append-nil first, none.0, none.1) said
+said_on first (text ∷ rest) e₀ e₁ e₂ c₀ c₁ c₂ said are =
+    subst (λ (t : Text). IsSaid t (e₀, e₂) (c₀, c₂)) (append_assoc first text (concat rest))
+    (said_on (first ++ text) rest e₀ are.0 e₂ c₀ are.1 c₂
+    (said_more first text e₀ e₁ are.0 c₀ c₁ are.1 said are.2) are.3)
+
+pub said_whole : (texts : List Text) (taken : Option (List ℕ) × Option (List ℕ)) (failures : ℕ × ℕ)
+    → ArePut texts taken failures → IsSaid (concat texts) taken failures
+said_whole texts taken failures are =
+    said_on [] texts taken.0 taken.0 taken.1 failures.0 failures.0 failures.1 (inl (Appends-none taken.0, refl)) are
+
+-- ---- the line of one
+
+silent : (name line : Text) (answer : Result Status RunFault) → file_text true name line answer ≡ []
+silent name line (Ok status) = refl
+silent name line (Err fault) = refl
+
+pub quiet : (ends : List FileEnd) → files_text true ends ≡ []
+quiet [] = refl
+quiet (e ∷ ends) = ap₂ (λ (a b : Text). a ++ b) (silent e.name e.line e.answer) (quiet ends)
+
+pub faulty : (profile : Profile) (e : FileEnd) (bytes : List ℕ) (fault : Fault) → IsFileEnd profile e
+    → e.told ≡ Some bytes → e.answer ≡ Err (run.Grammar fault)
+    → Gives (Check profile) bytes [] (Err (run.Grammar fault))
+faulty profile e bytes fault is told answer =
+    let wrote : Wrote (Check profile) bytes e.left (Err (run.Grammar fault)) (Some []) (Some e.line) =
+    rw (told, answer) at is.wrote in
+    (refl, wrote.1.1)
+
+pub alone : (profile : Profile) (e : FileEnd) (bytes : List ℕ) (status : Status) → IsFileEnd profile e
+    → e.told ≡ Some bytes → e.answer ≡ Ok status → Gives (Check profile) bytes e.line (Ok status)
+alone profile e bytes status is told answer =
+    let wrote : Wrote (Check profile) bytes e.left (Ok status) (Some []) (Some e.line) = rw
+    (told, answer) at is.wrote in
+    subst (λ (text : Text). Gives (Check profile) bytes text (Ok status)) (sym wrote.2) wrote.1

@@ -1,0 +1,223 @@
+-- What an exit status says of each file that was read.
+use Rattle.std.proofs.Common.{◌≡◌, ◌∙◌, ◌≤◌, ◌∷◌, ℕ, Bool, true, false, List, [], Option, Some, None, arith, inl, inr}
+use Rattle.std.proofs.Common.{length, map, refl, subst, suc, sym, zero}
+use Rattle.std.specs.Prelude.{All, Contains, Err, IfSome, Ok, Result, cond, if◌then◌else◌, slice_index_or}
+use Rattle.std.specs.Fmt.{option_append}
+use Rattle.std.specs.Io.KnownBytes.{Consumes}
+use Rattle.std.specs.List.{filter}
+use Rattle.std.proofs.lemmas.List.Elements.{All-cons, All-head, All-nil, All-tail, All-weaker}
+use Rattle.sixel_picture.specs.declared.profile.Profile.{Profile}
+use Rattle.sixel_program.specs.declared.exit.Exit.{Exit}
+use Rattle.sixel_program.specs.declared.exit.Exit.TheVariants as exit
+use Rattle.sixel_run.specs.declared.fault.RunFault.{RunFault}
+use Rattle.sixel_run.specs.declared.task.Status.{Status}
+use Rattle.sixel_run.specs.declared.task.Status.TheVariants as status
+use Rattle.sixel_run.specs.declared.task.Task.{Task}
+use Rattle.sixel_run.specs.declared.task.Task.TheVariants.{Check}
+use Rattle.sixel_program.specs.Exits.{exit_code, exit_for_answer}
+use Rattle.sixel_run.specs.Outputs.{Wrote}
+use Rattle.sixel_program.specs.Files.{FileEnd, FilesEnd, IsBrokenOver, IsDoneOver, IsFileEnd, IsJudgedOver}
+use Rattle.sixel_program.specs.Files.{NamesInputOnce, RequestEnds, Tells, exit_of_end, files_exit, is_dash, left_after, names_of, names_read}
+use Rattle.sixel_program.specs.Files.{told_of}
+use Rattle.sixel_run.specs.Texts.{Text}
+use Rattle.sixel_program.proofs.EndLemmas.{broken_gives, chained, done_gives}
+use Rattle.sixel_program.proofs.FilesLemmas.{request_read}
+use Rattle.sixel_program.proofs.SeveralLemmas.{contains_later, greatest_of, reached}
+
+-- ---- checks of several files
+
+-- what holds of a name when it is read after a file holds of it before that, since standard input is then the same, or
+-- was that file
+earlier : (P : Option (List ℕ) → Type 0) (a b : Bool) (had left first later : Option (List ℕ))
+    → P (if a then had else first) → P (if b then (if a then left else had) else later) → P (if b then had else later)
+earlier P true true had left first later p q = p
+earlier P false true had left first later p q = q
+earlier P a false had left first later p q = q
+
+-- what holds of the bytes of each file holds of each name
+told_each : (P : Option (List ℕ) → Type 0) (contents : Text → Option (List ℕ)) (had has : Option (List ℕ))
+    (ends : List FileEnd) → Tells contents had ends has → All (λ e. P e.told) ends
+    → All (λ name. P (told_of contents had name)) (names_of ends)
+unfolding Tells
+told_each P contents had has [] tells each = All-nil (λ name. P (told_of contents had name))
+told_each P contents had has (e ∷ rest) tells each =
+    let first : P (told_of contents had e.name) = subst P tells.0 (All-head (λ e. P e.told) e rest each) in
+    All-cons (λ name. P (told_of contents had name)) e.name (names_of rest) first
+    (All-weaker (λ name. P (told_of contents (left_after had e.name e.left) name))
+    (λ name. P (told_of contents had name))
+    (λ name later. earlier P (is_dash e.name) (is_dash name) had e.left (contents e.name) (contents name) first later)
+    (names_of rest)
+    (told_each P contents (left_after had e.name e.left) has rest tells.1 (All-tail (λ e. P e.told) e rest each)))
+
+least : (x : Exit) → exit_code x ≤ exit_code exit.Done → x ≡ exit.Done
+least exit.Done below = refl
+least exit.Broken below = absurd (omega (arith, below))
+least exit.Refused below = absurd (omega (arith, below))
+least exit.Usage below = absurd (omega (arith, below))
+
+judged_gives : (t : Task) (told left : Option (List ℕ)) (a : Result Status RunFault) (had has : Option (List ℕ))
+    → IfSome told (λ bytes. Wrote t bytes left a had has) → exit_code (exit_for_answer a) ≤ exit_code exit.Broken
+    → IsJudgedOver t told
+judged_gives t None left a had has wrote below = tt
+judged_gives t (Some bytes) left (Ok status.Done) had has wrote below = (wrote.0, status.Done, wrote.1)
+judged_gives t (Some bytes) left (Ok (status.Broken finding)) had has wrote below =
+    (wrote.0, status.Broken finding, wrote.1)
+judged_gives t (Some bytes) left (Err fault) had has wrote below = absurd (omega (arith, below))
+
+module _ (profile : Profile) (ends : List FileEnd) (each : All (IsFileEnd profile) ends) where
+  each_done : files_exit ends ≡ exit.Done → All (λ e. IsDoneOver (Check profile) e.told) ends
+  each_done is = λ k d short.
+      let e = slice_index_or ends k d in
+      done_gives (Check profile) e.told e.left e.answer (Some []) (Some e.line) (each k d short).wrote
+      (least (exit_of_end e)
+      (subst (λ (x : Exit). exit_code (exit_of_end e) ≤ exit_code x) is (greatest_of ends k d short)))
+
+  each_judged : files_exit ends ≡ exit.Broken → All (λ e. IsJudgedOver (Check profile) e.told) ends
+  each_judged is = λ k d short.
+      let e = slice_index_or ends k d in
+      judged_gives (Check profile) e.told e.left e.answer (Some []) (Some e.line) (each k d short).wrote
+      (subst (λ (x : Exit). exit_code (exit_of_end e) ≤ exit_code x) is (greatest_of ends k d short))
+
+-- of names of which none is that of standard input, with one more
+none_more : (b : Bool) (name : Text) (dashes : List Text) → length (cond b (name ∷ dashes) dashes) ≤ 0
+    → (b ≡ false) × (length dashes ≤ 0)
+none_more true name dashes short = absurd (omega (arith, short))
+none_more false name dashes short = (refl, short)
+
+no_dash : (names : List Text) (name : Text) → length (filter is_dash names) ≤ 0 → Contains names name
+    → is_dash name ≡ false
+no_dash [] name short (k, below, is) = absurd (omega (arith, below))
+no_dash (first ∷ names) name short (zero, below, is) =
+    subst (λ (n : Text). is_dash n ≡ false) is (none_more (is_dash first) first (filter is_dash names) short).0
+no_dash (first ∷ names) name short (suc k, below, is) =
+    no_dash names name (none_more (is_dash first) first (filter is_dash names) short).1 (k, omega (arith, below), is)
+
+once_more : (b : Bool) (name : Text) (dashes : List Text) → length (cond b (name ∷ dashes) dashes) ≤ 1
+    → (length dashes ≤ 1) × (b ≡ true → length dashes ≤ 0)
+once_more true name dashes short = (omega (arith, short), λ is. omega (arith, short))
+once_more false name dashes short = (short, λ is. let no : false ≡ true = is in cc)
+
+-- what holds of a name when it is read after a file holds of it before, where it isn't a second time that of standard
+-- input
+earlier_once : (P : Option (List ℕ) → Type 0) (a b : Bool) (had left later : Option (List ℕ))
+    → (a ≡ true → b ≡ false) → P (if b then (if a then left else had) else later) → P (if b then had else later)
+earlier_once P true true had left later once q = let no : true ≡ false = once refl in cc
+earlier_once P false true had left later once q = q
+earlier_once P a false had left later once q = q
+
+module _ (profile : Profile) (contents : Text → Option (List ℕ)) where
+  told_broken : (had has : Option (List ℕ)) (ends : List FileEnd) → Tells contents had ends has
+      → All (IsFileEnd profile) ends → NamesInputOnce (names_of ends) → Contains (map exit_of_end ends) exit.Broken
+      → (name : Text) × Contains (names_of ends) name × IsBrokenOver (Check profile) (told_of contents had name)
+  unfolding Tells
+  told_broken had has [] tells each once (k, below, is) = absurd (omega (arith, below))
+  told_broken had has (e ∷ rest) tells each once (zero, below, is) =
+      let end = All-head (IsFileEnd profile) e rest each in (
+        e.name,
+        (0, omega arith, refl),
+        subst (IsBrokenOver (Check profile)) tells.0
+            (broken_gives (Check profile) e.told e.left e.answer (Some []) (Some e.line) end.wrote is),
+      )
+  told_broken had has (e ∷ rest) tells each once (suc k, below, is) =
+      let short = once_more (is_dash e.name) e.name (filter is_dash (names_of rest)) once in
+      let found = told_broken (left_after had e.name e.left) has rest tells.1
+      (All-tail (IsFileEnd profile) e rest each) short.0 (k, omega (arith, below), is) in (
+        found.0,
+        contains_later e.name found.0 (names_of rest) found.1,
+        earlier_once (IsBrokenOver (Check profile)) (is_dash e.name) (is_dash found.0) had e.left (contents found.0)
+            (λ dash. no_dash (names_of rest) found.0 (short.1 dash) found.1) found.2,
+      )
+
+one_broken : (ends : List FileEnd) → files_exit ends ≡ exit.Broken → Contains (map exit_of_end ends) exit.Broken
+one_broken [] is = let no : exit.Done ≡ exit.Broken = is in cc
+one_broken (e ∷ more) is = subst (Contains (map exit_of_end (e ∷ more))) is (reached e more)
+
+module _ (profile : Profile) (q : Bool) (contents : Text → Option (List ℕ)) (names : List Text) (x : Exit)
+    (i : Option (List ℕ) × Option (List ℕ)) (r : ℕ × ℕ) (o : Option (List ℕ) × Option (List ℕ)) (w : ℕ × ℕ)
+    (f : Bool) (e : Option (List ℕ) × Option (List ℕ)) (c : ℕ × ℕ) where
+  files_done : FilesEnd profile q contents names x i r o w f e c → x ≡ exit.Done
+      → All (λ name. IsDoneOver (Check profile) (told_of contents i.0 name)) names
+  files_done (inl checked) is =
+      let are = checked.1 in
+      subst (All (λ name. IsDoneOver (Check profile) (told_of contents i.0 name))) (sym are.names_are)
+      (told_each (IsDoneOver (Check profile)) contents i.0 i.1 checked.0 are.tells
+      (each_done profile checked.0 are.each (sym are.exits ∙ is)))
+  files_done (inr cut) is = let no : exit.Refused ≡ exit.Done = sym cut.exits ∙ is in cc
+
+  files_judged : FilesEnd profile q contents names x i r o w f e c → x ≡ exit.Broken
+      → All (λ name. IsJudgedOver (Check profile) (told_of contents i.0 name)) names
+  files_judged (inl checked) is =
+      let are = checked.1 in
+      subst (All (λ name. IsJudgedOver (Check profile) (told_of contents i.0 name))) (sym are.names_are)
+      (told_each (IsJudgedOver (Check profile)) contents i.0 i.1 checked.0 are.tells
+      (each_judged profile checked.0 are.each (sym are.exits ∙ is)))
+  files_judged (inr cut) is = let no : exit.Refused ≡ exit.Broken = sym cut.exits ∙ is in cc
+
+  files_broken : FilesEnd profile q contents names x i r o w f e c → x ≡ exit.Broken → NamesInputOnce names
+      → (name : Text) × Contains names name × IsBrokenOver (Check profile) (told_of contents i.0 name)
+  files_broken (inl checked) is once =
+      let are = checked.1 in
+      subst (λ (ns : List Text). (name : Text) × Contains ns name
+      × IsBrokenOver (Check profile) (told_of contents i.0 name)) (sym are.names_are)
+      (told_broken profile contents i.0 i.1 checked.0 are.tells are.each
+      (subst NamesInputOnce are.names_are once) (one_broken checked.0 (sym are.exits ∙ is)))
+  files_broken (inr cut) is once = let no : exit.Refused ≡ exit.Broken = sym cut.exits ∙ is in cc
+
+-- ---- what is asked for
+
+module _ (t : Task) (q : Bool) (names : List Text) (contents : Text → Option (List ℕ)) (front : List ℕ) (x : Exit)
+    (i : Option (List ℕ) × Option (List ℕ)) (r : ℕ × ℕ) (o : Option (List ℕ) × Option (List ℕ)) (w : ℕ × ℕ)
+    (f : Bool) (e : Option (List ℕ) × Option (List ℕ)) (c : ℕ × ℕ)
+    (ended : RequestEnds t q names contents front x i r o w f e c) where
+  all_of_one : (P : Option (List ℕ) → Type 0) (name : Text) → P (told_of contents i.0 name)
+      → All (λ n. P (told_of contents i.0 n)) (name ∷ [])
+  all_of_one P name p =
+      All-cons (λ n. P (told_of contents i.0 n)) name [] p (All-nil (λ n. P (told_of contents i.0 n)))
+
+  pub all_read_done : x ≡ exit.Done → All (λ name. IsDoneOver t (told_of contents i.0 name)) (names_read t names)
+  all_read_done is = elim (request_read contents front x i r o w f e c t q names ended) [
+    | inl one ↦
+        let run = one.2.2 in
+        rw one.1 (all_of_one (IsDoneOver t) one.0
+        (done_gives t _ run.0 one.2.0 run.1 run.2 run.3 (sym one.2.1 ∙ is)))
+    | inr checked ↦
+        rw (checked.2, checked.1) (files_done checked.0 q contents names x i r o w f e c checked.3 is)
+  ]
+
+  pub all_read_judged : x ≡ exit.Broken → All (λ name. IsJudgedOver t (told_of contents i.0 name)) (names_read t names)
+  all_read_judged is = elim (request_read contents front x i r o w f e c t q names ended) [
+    | inl one ↦
+        let run = one.2.2 in
+        let ends : exit_for_answer one.2.0 ≡ exit.Broken = sym one.2.1 ∙ is in
+        rw one.1 (all_of_one (IsJudgedOver t) one.0
+        (judged_gives t _ run.0 one.2.0 run.1 run.2 run.3 (rw ends (omega arith))))
+    | inr checked ↦
+        rw (checked.2, checked.1) (files_judged checked.0 q contents names x i r o w f e c checked.3 is)
+  ]
+
+  pub one_read_broken : x ≡ exit.Broken → NamesInputOnce (names_read t names) → (name : Text)
+      × Contains (names_read t names) name × IsBrokenOver t (told_of contents i.0 name)
+  one_read_broken is once = elim (request_read contents front x i r o w f e c t q names ended) [
+    | inl one ↦
+        let run = one.2.2 in (
+          one.0,
+          rw one.1 (0, omega arith, refl),
+          broken_gives t _ run.0 one.2.0 run.1 run.2 run.3 (sym one.2.1 ∙ is),
+        )
+    | inr checked ↦
+        rw (checked.2, checked.1) (files_broken checked.0 q contents names x i r o w f e c checked.3 is
+        (rw checked.2 at once))
+  ]
+
+-- what is said of the bytes that were read and the rest of standard input is said of all that it had
+pub told_chained : (P : List ℕ → Type 0) (contents : Text → Option (List ℕ)) (told rest : Option (List ℕ))
+    (front : List ℕ) (name : Text) → Consumes told rest front
+    → IfSome (told_of contents (option_append (Some front) rest) name) P → IfSome (told_of contents told name) P
+told_chained P contents told rest front name consumed =
+    either P (is_dash name) told rest front (contents name) consumed
+  where
+    either : (P : List ℕ → Type 0) (b : Bool) (told rest : Option (List ℕ)) (front : List ℕ)
+        (other : Option (List ℕ)) → Consumes told rest front
+        → IfSome (if b then option_append (Some front) rest else other) P → IfSome (if b then told else other) P
+    either P true told rest front other consumed h = chained P told rest front consumed h
+    either P false told rest front other consumed h = h

@@ -1,0 +1,15 @@
+use Rattle.sixel_program.proofs.PutLemmas.{is_put}
+use Rattle.sixel_program.proofs.exit.report.Goals as goal
+
+pub returns : goal.returns
+returns g c = record {
+  answer = c.run-answer.result;
+  wrote = c.run-answer.ensures.wrote;
+  memory = c.run-answer.ensures.memory;
+  read = c.run-answer.ensures.reads;
+  written = c.run-answer.ensures.writes;
+  flushed = c.run-answer.ensures.flushed;
+  ends = c.exit_of.ensures;
+  said = is_put c.put_all.result _ _ _
+      (rw (c.as_slice.ensures.value, c.said_of-said.ensures) at c.put_all.ensures.bytes) c.put_all.ensures.failures;
+}

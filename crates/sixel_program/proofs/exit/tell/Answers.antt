@@ -1,0 +1,18 @@
+use Rattle.std.proofs.Common.{inr, refl}
+use Rattle.sixel_program.proofs.PutLemmas.{is_put}
+use Rattle.sixel_program.proofs.exit.tell.Goals as goal
+
+pub returns-in-Err : goal.returns-in-Err
+returns-in-Err g c =
+    let shown = c.in-Err.ensures.bytes in
+    rw c.in-Explanation.is (
+      shown.0,
+      shown.1,
+      inr (
+        shown.2.0,
+        refl,
+        shown.2.1,
+        c.in-Err.ensures.failures,
+        is_put c.write_fault.result _ _ _ c.write_fault.ensures.bytes c.write_fault.ensures.failures,
+      ),
+    )

@@ -1,0 +1,53 @@
+use Rattle.std.proofs.Common.{◌≡◌, ◌∙◌, [], None, false, refl, sym, true}
+use Rattle.std.specs.Prelude.{Err}
+use Rattle.sixel_run.specs.declared.fault.RunFault.TheVariants.{Read}
+use Rattle.sixel_program.specs.Files.{is_dash}
+use Rattle.sixel_program.proofs.FilesLemmas.{none_before, unopened}
+use Rattle.sixel_program.proofs.files.check_file.Goals as goal
+
+pub returns-in-Err : goal.returns-in-Err
+returns-in-Err g c =
+    let file : is_dash c.args.name.now ≡ false = sym c.eq.ensures ∙ c.if-eq.false in
+    record {
+      e = record {
+        name = c.args.name.now;
+        told = g.F.Folder.contents c.args.folder.now c.args.name.now;
+        left = None;
+        line = [];
+        answer = Err Read;
+      };
+      name_is = refl;
+      told = rw file refl;
+      left = rw file refl;
+      is_end = unopened c.args.profile _ _;
+      counted = rw file refl;
+      outcome = c.put_judged.ensures;
+    }
+
+pub returns-in-Ok : goal.returns-in-Ok
+returns-in-Ok g c =
+    let file : is_dash c.args.name.now ≡ false = sym c.eq.ensures ∙ c.if-eq.false in
+    let checked = c.check_named-in-Ok.ensures in
+    record {
+      e = record { name = c.args.name.now; told = _; left = _; line = checked.0; answer = checked.1 };
+      name_is = refl;
+      told = rw file (c.new-file.ensures.bytes ∙ c.chain.ensures.bytes ∙ none_before _ ∙ c.in-Ok.ensures.opened);
+      left = rw file refl;
+      is_end = checked.2;
+      counted = rw file refl;
+      outcome = checked.4;
+    }
+
+pub returns-then-eq : goal.returns-then-eq
+returns-then-eq g c =
+    let dash : is_dash c.args.name.now ≡ true = sym c.eq.ensures ∙ c.if-eq.true in
+    let checked = c.check_named.ensures in
+    record {
+      e = record { name = c.args.name.now; told = _; left = _; line = checked.0; answer = checked.1 };
+      name_is = refl;
+      told = rw dash refl;
+      left = rw dash refl;
+      is_end = checked.2;
+      counted = rw dash checked.3;
+      outcome = checked.4;
+    }

@@ -1,0 +1,14 @@
+use Rattle.std.proofs.Common.{inr}
+use Rattle.sixel_program.proofs.PutLemmas.{is_put}
+use Rattle.sixel_program.proofs.files.report_named.Goals as goal
+
+pub returns : goal.returns
+returns g c = record {
+  answer = c.run-answer.result;
+  wrote = inr (c.run-answer.ensures.wrote, c.run-answer.ensures.flushed);
+  memory = c.run-answer.ensures.memory;
+  read = c.run-answer.ensures.reads;
+  written = c.run-answer.ensures.writes;
+  ends = c.exit_of.ensures;
+  said = is_put c.put_said.result _ _ _ c.put_said.ensures.bytes c.put_said.ensures.failures;
+}

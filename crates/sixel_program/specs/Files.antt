@@ -1,0 +1,326 @@
+-- Files in place of standard input, and checks that write no verdict.
+use Rattle.std.specs.Prelude.{◌≡◌, ◌≢◌, ◌⊎◌, ◌-◌, ◌^◌, ◌<◌, ◌≤◌, ◌==◌, ◌&&◌, ◌||◌, ℕ, Bool, length, true, false, List, []}
+use Rattle.std.specs.Prelude.{◌∷◌, ◌++◌, codes, flat_map, fold, map, take, nat_lt, Option, Some, None, IfSome, Result, Ok}
+use Rattle.std.specs.Prelude.{Err, if◌then◌else◌}
+use Rattle.std.specs.Prelude.{option_to_list}
+use Rattle.std.specs.Io.KnownBytes.{Appends}
+use Rattle.std.specs.List.{All, filter, list_any}
+use Rattle.std.specs.Str.{bytes_eq}
+use Rattle.sixel_grammar.specs.Devices.{one_more}
+use Rattle.sixel_picture.specs.declared.profile.Profile.{Profile}
+use Rattle.sixel_check.specs.declared.verdict.Finding.{Finding}
+use Rattle.sixel_program.specs.declared.exit.Exit.{Exit}
+use Rattle.sixel_program.specs.declared.exit.Exit.TheVariants.{Done, Refused}
+use Rattle.sixel_run.specs.declared.fault.RunFault.{RunFault}
+use Rattle.sixel_run.specs.declared.fault.RunFault.TheVariants as run
+use Rattle.sixel_run.specs.declared.task.Status.{Status}
+use Rattle.sixel_run.specs.declared.task.Status.TheVariants as status
+use Rattle.sixel_run.specs.declared.task.Task.{Task}
+use Rattle.sixel_run.specs.declared.task.Task.TheVariants.{Check}
+use Rattle.sixel_program.specs.Exits.{IsPut, RunEnds, complaint, exit_code, exit_for_answer, is_render}
+use Rattle.sixel_run.specs.Outputs.{CountsReads, CountsWrites, Gives, TakesMemory, WroteNothing, Wrote, failures_by}
+use Rattle.sixel_program.specs.Formats.{advice}
+use Rattle.sixel_program.specs.Names.{printed}
+use Rattle.sixel_run.specs.Texts.{BeginsWith, Text, fault_line, fault_parts, finding_line, line}
+
+-- ---- names
+
+-- a name before a line
+abbrev pub named : Text → Text → Text
+named name text = printed name ++ codes ": " ++ text
+
+-- the line of a fault in a file of this name; that the output can't be written is the fault of no file
+abbrev pub named_fault_line : Text → RunFault → Text
+named_fault_line name run.Write = fault_line run.Write
+named_fault_line name fault = line (codes "sixel: " ++ printed name ++ codes ":") (fault_parts fault)
+
+-- the line of a refusal, or of the broken rule that kept a picture from being rendered; else none
+abbrev pub named_complaint : Text → Task → Result Status RunFault → Text
+named_complaint name t (Ok status.Done) = []
+named_complaint name t (Ok (status.Broken finding)) = if is_render t then named name (finding_line finding) else []
+named_complaint name t (Err fault) = named_fault_line name fault
+
+-- this name is that of standard input
+abbrev pub is_dash : Text → Bool
+is_dash name = bytes_eq name (codes "-")
+
+-- the bytes that are read for a name: those that standard input has left, or those of the file
+abbrev pub told_of : (Text → Option (List ℕ)) → Option (List ℕ) → Text → Option (List ℕ)
+told_of contents input name = if is_dash name then input else contents name
+
+-- standard input is read: no file is named, or one by the name of that
+abbrev pub reads_input : List Text → Bool
+reads_input names = length names == 0 || list_any is_dash names
+
+-- the names of what a task reads: that of standard input where none is given, all of them for a check, and the first
+-- for any other task
+abbrev pub names_read : Task → List Text → List Text
+names_read t [] = codes "-" ∷ []
+names_read (Check profile) (name ∷ more) = name ∷ more
+names_read t (name ∷ more) = name ∷ []
+
+-- standard input is named once at most
+abbrev pub NamesInputOnce : List Text → Type 0
+NamesInputOnce names = length (filter is_dash names) ≤ 1
+
+-- where these bytes are told, the task gives for them that it is done
+abbrev pub IsDoneOver : Task → Option (List ℕ) → Type 0
+IsDoneOver t told = IfSome told (λ bytes. (text : Text) × Gives t bytes text (Ok status.Done))
+
+-- where these bytes are told, the task gives for them a broken rule
+abbrev pub IsBrokenOver : Task → Option (List ℕ) → Type 0
+IsBrokenOver t told =
+    IfSome told (λ bytes. (text : Text) × (finding : Finding) × Gives t bytes text (Ok (status.Broken finding)))
+
+-- where these bytes are told, the task gives a status for them, and so doesn't refuse them
+abbrev pub IsJudgedOver : Task → Option (List ℕ) → Type 0
+IsJudgedOver t told = IfSome told (λ bytes. (text : Text) × (status : Status) × Gives t bytes text (Ok status))
+
+-- a check reads standard input
+abbrev pub awaits_text : Task → List Text → Bool
+awaits_text (Check profile) names = reads_input names
+awaits_text t names = false
+
+-- what is said before a check that reads a terminal
+abbrev pub notice : Bool → Task → List Text → Text
+notice is_terminal t names =
+    if is_terminal && awaits_text t names
+    then codes "sixel: waiting for sixel text on standard input" ++ 10 ∷ []
+    else []
+
+-- ---- one file
+
+-- a task over a file of this name, of whose bytes these are told before and after, ended so: a run of it had some
+-- answer and wrote what a run writes that has it, or the file couldn't be opened; and to the second sink were put the
+-- line that is said of it, and what is said of an input of another format, by the bytes that are given as the first of
+-- the file
+-- of the file and of each sink stands here what it was before and after: the bytes that it tells, and its count of
+-- failures; and of the first sink whether it is flushed in the end
+pub record NamedEnds (t : Task) (name : Text) (front : List ℕ) (exit : Exit) (told : Option (List ℕ) × Option (List ℕ))
+    (reads : ℕ × ℕ) (output : Option (List ℕ) × Option (List ℕ)) (writes : ℕ × ℕ) (is_flushed : Bool)
+    (errors : Option (List ℕ) × Option (List ℕ)) (complaints : ℕ × ℕ) : Type 0 where
+  pub answer : Result Status RunFault
+  pub wrote : ((told.0 ≡ None) × (answer ≡ Err run.Read) × WroteNothing output.0 output.1)
+      ⊎ (IfSome told.0 (λ bytes. Wrote t bytes told.1 answer output.0 output.1)
+      × (answer ≢ Err run.Write → is_flushed ≡ true))
+  pub memory : answer ≡ Err run.OutOfMemory → TakesMemory t told.0
+  pub read : CountsReads answer reads.0 reads.1
+  pub written : CountsWrites answer writes.0 writes.1
+  pub ends : exit ≡ exit_for_answer answer
+  pub said : IsPut (named_complaint name t answer ++ advice front answer) errors complaints
+
+-- what standard input has left after a file
+abbrev pub left_after : Option (List ℕ) → Text → Option (List ℕ) → Option (List ℕ)
+left_after input name left = if is_dash name then left else input
+
+-- the bytes begin so, if they are known
+abbrev pub IsFront : Option (List ℕ) → List ℕ → Type 0
+IsFront told front = IfSome told (λ bytes. BeginsWith bytes front)
+
+-- a task over the file of this name ended so, over what standard input had and has, of which `given` are the first
+-- bytes; its count of failures is that of the file by its name, and stays beside another file
+pub record FileEnds (t : Task) (contents : Text → Option (List ℕ)) (name : Text) (given : List ℕ) (exit : Exit)
+    (input : Option (List ℕ) × Option (List ℕ)) (reads : ℕ × ℕ) (output : Option (List ℕ) × Option (List ℕ))
+    (writes : ℕ × ℕ) (is_flushed : Bool) (errors : Option (List ℕ) × Option (List ℕ)) (complaints : ℕ × ℕ)
+    : Type 0 where
+  pub front : List ℕ
+  pub left : Option (List ℕ)
+  pub failed : ℕ × ℕ
+  pub given_front : is_dash name ≡ true → front ≡ given
+  pub own_front : is_dash name ≡ false → IsFront (contents name) front
+  pub stays : input.1 ≡ left_after input.0 name left
+  pub own_failures : is_dash name ≡ true → failed ≡ reads
+  pub no_failure : is_dash name ≡ false → reads.1 ≡ reads.0
+  pub ended : NamedEnds t name front exit
+      (told_of contents input.0 name, left) failed output writes is_flushed errors complaints
+
+-- ---- checks of several files
+
+-- how the check of a file ended: the bytes that its source told before and after, the line that a run of the check
+-- wrote, and its answer
+pub record FileEnd : Type 0 where
+  pub name : Text
+  pub told : Option (List ℕ)
+  pub left : Option (List ℕ)
+  pub line : Text
+  pub answer : Result Status RunFault
+
+-- a run of the check over those bytes may end so
+pub record IsFileEnd (profile : Profile) (e : FileEnd) : Type 0 where
+  pub wrote : IfSome e.told (λ bytes. Wrote (Check profile) bytes e.left e.answer (Some []) (Some e.line))
+  pub memory : e.answer ≡ Err run.OutOfMemory → TakesMemory (Check profile) e.told
+  pub written : e.answer ≢ Err run.Write
+
+-- what is written of a file: its name and the line of the verdict; nothing where none is wanted, or there is none
+abbrev pub file_text : Bool → Text → Text → Result Status RunFault → Text
+file_text is_quiet name line (Ok status) = if is_quiet then [] else named name line
+file_text is_quiet name line (Err fault) = []
+
+abbrev pub text_of : Bool → FileEnd → Text
+text_of is_quiet e = file_text is_quiet e.name e.line e.answer
+
+-- the lines of several files, one after another
+abbrev pub files_text : Bool → List FileEnd → Text
+files_text is_quiet ends = flat_map (text_of is_quiet) ends
+
+-- what is said of the check of a file of this name: a line where it is refused
+abbrev pub said_of_check : Text → Result Status RunFault → List Text
+said_of_check name (Ok status) = []
+said_of_check name (Err fault) = named_fault_line name fault ∷ []
+
+abbrev pub said_of : FileEnd → List Text
+said_of e = said_of_check e.name e.answer
+
+-- the lines that are said of several files
+abbrev pub complaints_of : List FileEnd → List Text
+complaints_of ends = flat_map said_of ends
+
+-- the one of the greater number
+abbrev pub worse : Exit → Exit → Exit
+worse a b = if nat_lt (exit_code a) (exit_code b) then b else a
+
+-- the greatest of the files' exit statuses
+abbrev pub greatest : List Exit → Exit
+greatest exits = fold worse Done exits
+
+abbrev pub exit_of_end : FileEnd → Exit
+exit_of_end e = exit_for_answer e.answer
+
+abbrev pub files_exit : List FileEnd → Exit
+files_exit ends = greatest (map exit_of_end ends)
+
+abbrev pub names_of : List FileEnd → List Text
+names_of ends = map (λ e. e.name) ends
+
+-- the texts were put to a sink in turn, each whole, or a front of it where a call failed; after that the next one is
+-- still put
+unfoldable pub ArePut : List Text → Option (List ℕ) × Option (List ℕ) → ℕ × ℕ → Type 0
+ArePut [] taken failures = (taken.1 ≡ taken.0) × (failures.1 ≡ failures.0)
+ArePut (text ∷ rest) taken failures = (between : Option (List ℕ)) × (count : ℕ)
+    × IsPut text (taken.0, between) (failures.0, count) × ArePut rest (between, taken.1) (count, failures.1)
+
+-- the check of a file of this name had this answer, and what is said of it was put to a sink
+abbrev pub SaysOfCheck : Text → Result Status RunFault → Option (List ℕ) × Option (List ℕ) → ℕ × ℕ → Type 0
+SaysOfCheck name (Ok status) errors complaints = (errors.1 ≡ errors.0) × (complaints.1 ≡ complaints.0)
+SaysOfCheck name (Err fault) errors complaints = IsPut (named_fault_line name fault) errors complaints
+
+-- what a check of this name, which wrote this line and had this answer, did to the two sinks: what is written and
+-- what is said of it was put to them; or a front of the first was, and that sink failed
+abbrev pub IsOutcome : {E : Type 0} → Bool → Text → Text → Result Status RunFault → Result Exit E
+    → Option (List ℕ) × Option (List ℕ) → ℕ × ℕ → Option (List ℕ) × Option (List ℕ) → ℕ × ℕ → Type 0
+IsOutcome is_quiet name line answer (Ok exit) output writes errors complaints =
+    (exit ≡ exit_for_answer answer)
+    × Appends output.0 output.1 (file_text is_quiet name line answer) × (writes.1 ≡ writes.0)
+    × SaysOfCheck name answer errors complaints
+IsOutcome is_quiet name line answer (Err fault) output writes errors complaints =
+    ((count : ℕ) × Appends output.0 output.1 (take count (file_text is_quiet name line answer)))
+    × (is_quiet ≡ false) × (writes.1 ≡ one_more writes.0)
+    × (said_of_check name answer ≡ []) × (errors.1 ≡ errors.0) × (complaints.1 ≡ complaints.0)
+
+-- the bytes that were told of each file in turn, from what standard input had to what it has
+unfoldable pub Tells : (Text → Option (List ℕ)) → Option (List ℕ) → List FileEnd → Option (List ℕ) → Type 0
+Tells contents had [] has = has ≡ had
+Tells contents had (e ∷ rest) has =
+    (e.told ≡ told_of contents had e.name) × Tells contents (left_after had e.name e.left) rest has
+
+-- the failures of standard input so far, after the check of a file: one more where that was its own, and a read failed
+abbrev pub failures_past : ℕ → FileEnd → ℕ
+failures_past count e = if is_dash e.name then failures_by run.Read e.answer count else count
+
+-- a check of a file ended so, over what standard input had and has, and did this to the two sinks
+pub record IsChecked {E : Type 0} (profile : Profile) (is_quiet : Bool) (contents : Text → Option (List ℕ))
+    (name : Text)
+    (result : Result Exit E) (input : Option (List ℕ) × Option (List ℕ)) (reads : ℕ × ℕ)
+    (output : Option (List ℕ) × Option (List ℕ)) (writes : ℕ × ℕ)
+    (errors : Option (List ℕ) × Option (List ℕ)) (complaints : ℕ × ℕ) : Type 0 where
+  pub e : FileEnd
+  pub name_is : e.name ≡ name
+  pub told : e.told ≡ told_of contents input.0 name
+  pub left : input.1 ≡ left_after input.0 name e.left
+  pub is_end : IsFileEnd profile e
+  pub counted : reads.1 ≡ failures_past reads.0 e
+  pub outcome : IsOutcome is_quiet name e.line e.answer result output writes errors complaints
+
+-- a call on a sink failed: its count of failures rose, or stands at the greatest `u64`
+abbrev pub HasFailed : ℕ × ℕ → Type 0
+HasFailed failures = (failures.0 < failures.1) ⊎ (failures.1 ≡ 2 ^ 64 - 1)
+
+-- the text was appended to what a sink had, or a call on it failed
+abbrev pub IsSaid : Text → Option (List ℕ) × Option (List ℕ) → ℕ × ℕ → Type 0
+IsSaid text taken failures = (Appends taken.0 taken.1 text × (failures.1 ≡ failures.0)) ⊎ HasFailed failures
+
+-- files of these names were checked in turn and ended so
+pub record AreChecked (profile : Profile) (is_quiet : Bool) (contents : Text → Option (List ℕ)) (ends : List FileEnd)
+    (names : List Text) (exit : Exit) (input : Option (List ℕ) × Option (List ℕ)) (reads : ℕ × ℕ)
+    (output : Option (List ℕ) × Option (List ℕ)) (writes : ℕ × ℕ)
+    (errors : Option (List ℕ) × Option (List ℕ)) (complaints : ℕ × ℕ) : Type 0 where
+  pub names_are : names ≡ names_of ends
+  pub each : All (IsFileEnd profile) ends
+  pub tells : Tells contents input.0 ends input.1
+  pub counted : reads.1 ≡ fold failures_past reads.0 ends
+  pub exits : exit ≡ files_exit ends
+  pub lines : Appends output.0 output.1 (files_text is_quiet ends)
+  pub unfailed : writes.1 ≡ writes.0
+  pub said : ArePut (complaints_of ends) errors complaints
+
+-- the output failed at one of the files, which is the last that was read, or when it was flushed: the lines of those
+-- before were appended, and a front of its own
+pub record AreCut (profile : Profile) (is_quiet : Bool) (contents : Text → Option (List ℕ)) (names : List Text)
+    (exit : Exit) (input : Option (List ℕ) × Option (List ℕ)) (reads : ℕ × ℕ)
+    (output : Option (List ℕ) × Option (List ℕ)) (writes : ℕ × ℕ)
+    (errors : Option (List ℕ) × Option (List ℕ)) (complaints : ℕ × ℕ) : Type 0 where
+  pub whole : List FileEnd
+  pub last : Option FileEnd
+  pub rest : List Text
+  pub count : ℕ
+  pub wanted : is_quiet ≡ false
+  pub names_are : names ≡ names_of (whole ++ option_to_list last) ++ rest
+  pub each : All (IsFileEnd profile) (whole ++ option_to_list last)
+  pub tells : Tells contents input.0 (whole ++ option_to_list last) input.1
+  pub counted : reads.1 ≡ fold failures_past reads.0 (whole ++ option_to_list last)
+  pub exits : exit ≡ Refused
+  pub lines : Appends output.0 output.1
+      (files_text is_quiet whole ++ take count (files_text is_quiet (option_to_list last)))
+  pub failed : writes.1 ≡ one_more writes.0
+  pub silent : All (λ e. said_of e ≡ []) (option_to_list last)
+  pub said : ArePut (complaints_of whole ++ fault_line run.Write ∷ []) errors complaints
+
+-- each file was checked, and the first sink is flushed, unless no verdict is wanted; or the first sink failed
+abbrev pub FilesEnd : Profile → Bool → (Text → Option (List ℕ)) → List Text → Exit
+    → Option (List ℕ) × Option (List ℕ) → ℕ × ℕ → Option (List ℕ) × Option (List ℕ) → ℕ × ℕ → Bool
+    → Option (List ℕ) × Option (List ℕ) → ℕ × ℕ → Type 0
+FilesEnd profile is_quiet contents names exit input reads output writes is_flushed errors complaints =
+    ((ends : List FileEnd)
+    × AreChecked profile is_quiet contents ends names exit input reads output writes errors complaints
+    × (is_quiet ≡ false → is_flushed ≡ true))
+    ⊎ AreCut profile is_quiet contents names exit input reads output writes errors complaints
+
+-- ---- requests
+
+-- a check of standard input of which only the status is wanted ended so: `line` is the one that a run of it writes
+pub record QuietEnds (profile : Profile) (exit : Exit) (input : Option (List ℕ) × Option (List ℕ)) (reads : ℕ × ℕ)
+    (errors : Option (List ℕ) × Option (List ℕ)) (complaints : ℕ × ℕ) : Type 0 where
+  pub answer : Result Status RunFault
+  pub line : Text
+  pub wrote : IfSome input.0 (λ bytes. Wrote (Check profile) bytes input.1 answer (Some []) (Some line))
+  pub memory : answer ≡ Err run.OutOfMemory → TakesMemory (Check profile) input.0
+  pub read : reads.1 ≡ failures_by run.Read answer reads.0
+  pub written : answer ≢ Err run.Write
+  pub ends : exit ≡ exit_for_answer answer
+  pub said : IsPut (complaint (Check profile) answer) errors complaints
+
+-- what is asked for ended so, over standard input, of which `front` are the first bytes: the task over that where no
+-- file is named; a check of all files that are named, and any other task over the first of them
+abbrev pub RequestEnds : Task → Bool → List Text → (Text → Option (List ℕ)) → List ℕ → Exit
+    → Option (List ℕ) × Option (List ℕ) → ℕ × ℕ → Option (List ℕ) × Option (List ℕ) → ℕ × ℕ → Bool
+    → Option (List ℕ) × Option (List ℕ) → ℕ × ℕ → Type 0
+RequestEnds (Check profile) true [] contents front exit input reads output writes is_flushed errors complaints =
+    QuietEnds profile exit input reads errors complaints
+    × (output.1 ≡ output.0) × (writes.1 ≡ writes.0)  -- nothing went to the first sink
+RequestEnds t is_quiet [] contents front exit input reads output writes is_flushed errors complaints =
+    RunEnds t front exit input reads output writes is_flushed errors complaints
+RequestEnds (Check profile) is_quiet (name ∷ more) contents front exit input reads output writes is_flushed errors
+    complaints =
+    FilesEnd profile is_quiet contents (name ∷ more) exit input reads output writes is_flushed errors complaints
+RequestEnds t is_quiet (name ∷ more) contents front exit input reads output writes is_flushed errors complaints =
+    FileEnds t contents name front exit input reads output writes is_flushed errors complaints

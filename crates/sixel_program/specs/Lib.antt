@@ -1,0 +1,4 @@
+pub mod Formats
+pub mod Exits
+pub mod Names
+pub mod Files

@@ -1,0 +1,55 @@
+//! What is asked for, over streams and a folder.
+
+ghost use Rattle.std.specs.Prelude.{◌≡◌, ◌≢◌, All, Contains, map};
+ghost use Rattle.std.specs.String.{string_bytes};
+ghost use Rattle.sixel_program.specs.Files.{IsBrokenOver, IsDoneOver, IsJudgedOver, NamesInputOnce, names_read, told_of};
+ghost use Rattle.sixel_run.specs.Outputs.{HasSides};
+ghost use Rattle.sixel_run.specs.Texts.{Text};
+
+use crate::exit::Exit;
+use crate::files::{announce, answer, front_of};
+use crate::folder::Folder;
+use sixel_grammar::{FromRead, ToWrite};
+use sixel_words::Request;
+use std::alloc::Global;
+use std::io::{Read, Write};
+
+/// Does what is asked for over streams, of which the third gets what `answer` says.
+pub fn execute<F: Folder, R: Read + Drop, W: Write + Drop, E: Write + Drop>(
+    alloc: Global,
+    request: &Request,
+    folder: &F,
+    is_terminal: bool,
+    input: R,
+    output: W,
+    errors: E,
+) -> Exit
+    requires { HasSides request.now.task }
+    ensures done { result ≡ Exit.Done → All (λ name.
+        IsDoneOver request.now.task (told_of (F.contents folder.now) (R.remaining input) name))
+        (names_read request.now.task (map string_bytes request.now.files.items)) }
+    ensures broken { result ≡ Exit.Broken →
+        NamesInputOnce (names_read request.now.task (map string_bytes request.now.files.items)) → (name : Text)
+        × Contains (names_read request.now.task (map string_bytes request.now.files.items)) name
+        × IsBrokenOver request.now.task (told_of (F.contents folder.now) (R.remaining input) name) }
+    ensures judged { result ≡ Exit.Broken → All (λ name.
+        IsJudgedOver request.now.task (told_of (F.contents folder.now) (R.remaining input) name))
+        (names_read request.now.task (map string_bytes request.now.files.items)) }
+    ensures no_usage { result ≢ Exit.Usage }
+{
+    let mut input = input;
+    let front = front_of(request, &mut input);
+    let mut input = FromRead::new(front.as_slice().chain(input));
+    let mut output = ToWrite::new(output);
+    let mut errors = ToWrite::new(errors);
+    announce(request, is_terminal, &mut errors);
+    answer(
+        alloc,
+        request,
+        folder,
+        front.as_slice(),
+        &mut input,
+        &mut output,
+        &mut errors,
+    )
+}

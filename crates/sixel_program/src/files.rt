@@ -1,0 +1,446 @@
+//! Files in place of standard input, and checks that write no verdict.
+
+ghost use Rattle.std.specs.Prelude.{◌≡◌, ◌++◌, [], ℕ, List, Option, Some, IfSome, false};
+ghost use Rattle.std.specs.Prelude.{◌⊎◌, Result, length, map, true};
+ghost use Rattle.std.specs.Io.KnownBytes.{Consumes};
+ghost use Rattle.std.specs.List.{list_any};
+ghost use Rattle.std.specs.String.{string_bytes};
+ghost use Rattle.sixel_grammar.specs.Devices.{CountsFailure, Puts};
+ghost use Rattle.sixel_run.specs.declared.task.Task.TheVariants.{Check};
+ghost use Rattle.sixel_program.specs.Exits.{IsPut};
+ghost use Rattle.sixel_program.specs.Files.{FileEnds, FilesEnd, IsChecked, IsFileEnd, IsOutcome, NamedEnds, QuietEnds};
+ghost use Rattle.sixel_program.specs.Files.{RequestEnds, awaits_text, is_dash, named_complaint, notice, reads_input, worse};
+ghost use Rattle.sixel_program.specs.Formats.{advice};
+ghost use Rattle.sixel_run.specs.Outputs.{HasSides, answer_of, failures_by, line_of};
+ghost use Rattle.sixel_run.specs.Texts.{Text, fault_line};
+ghost use Rattle.sixel_run.specs.declared.fault.RunFault.{RunFault as AFault};
+ghost use Rattle.sixel_run.specs.declared.fault.RunFault.TheVariants.{Read as ReadFault};
+ghost use Rattle.sixel_run.specs.declared.task.Status.{Status as AStatus};
+
+use crate::exit::{Exit, advice, code_of, exit_of, report};
+use crate::folder::Folder;
+use crate::formats::FRONT;
+use crate::names::put_named;
+use arrayvec::ArrayVec;
+use sixel_check::Verdict;
+use sixel_grammar::{DeviceFault, FromRead, Sink, Source, put_all};
+use sixel_picture::Profile;
+use sixel_run::{
+    RunFault, Status, Task, fault_line, finding_line, judge, run, status_of, verdict_line,
+    write_fault,
+};
+use sixel_words::Request;
+use std::alloc::Global;
+use std::io::Read;
+
+/// How many bytes of the line of a fault stand before a file's name: those of `sixel:`.
+const MARK: usize = 6;
+
+/// What is said before a check that reads a terminal.
+const WAITING: &[u8] = b"sixel: waiting for sixel text on standard input\n";
+
+/// Whether standard input is read: no file is named, or one by the name of that.
+fn reads_input(names: &[String]) -> bool
+    ensures { result ≡ reads_input (map string_bytes names.now) }
+{
+    names.is_empty() || names_input(names)
+}
+
+fn names_input(names: &[String]) -> bool
+    ensures { result ≡ list_any is_dash (map string_bytes names.now) }
+{
+    for name in names {
+        if name.as_str() == "-" {
+            return true;
+        }
+    }
+    false
+}
+
+/// Whether a check is asked for that reads standard input.
+fn awaits_text(request: &Request) -> bool
+    ensures { result ≡ awaits_text request.now.task (map string_bytes request.now.files.items) }
+{
+    match request.task {
+        Task::Check { .. } => reads_input(request.files.as_slice()),
+        _ => false,
+    }
+}
+
+/// What is said before a task is done: where a check reads a terminal, that it waits.
+fn notice(request: &Request, is_terminal: bool) -> &'static [u8]
+    ensures { result.now ≡ notice is_terminal request.now.task (map string_bytes request.now.files.items) }
+{
+    if is_terminal && awaits_text(request) {
+        WAITING
+    } else {
+        b""
+    }
+}
+
+/// Says that sixel text is waited for, where a check reads standard input and that is a terminal.
+pub fn announce<E: Sink>(request: &Request, is_terminal: bool, errors: &mut E)
+    ensures { IsPut (notice is_terminal request.now.task (map string_bytes request.now.files.items))
+        (E.taken errors.old, E.taken errors.new) (E.failure_count errors.old, E.failure_count errors.new) }
+{
+    let _ = put_all(errors, notice(request, is_terminal));
+}
+
+/// What standard input begins with, as far as it is known; where it isn't read, nothing is read of it.
+pub fn front_of<R: Read>(request: &Request, input: &mut R) -> ArrayVec<u8, FRONT>
+    ensures front { Consumes (R.remaining input.old) (R.remaining input.new) result.items }
+    ensures unread { reads_input (map string_bytes request.now.files.items) ≡ false → input.new ≡ input.old }
+{
+    if reads_input(request.files.as_slice()) {
+        first_bytes(request.task, input)
+    } else {
+        ArrayVec::new()
+    }
+}
+
+/// What the input of `encode` begins with, as far as it is known: it is read until there is enough, or a read gives
+/// nothing or fails. A failure that doesn't come again is passed over. Of another task's input nothing is read.
+fn first_bytes<R: Read>(task: Task, input: &mut R) -> ArrayVec<u8, FRONT>
+    ensures { Consumes (R.remaining input.old) (R.remaining input.new) result.items }
+{
+    let mut front = ArrayVec::new();
+    if let Task::Encode { .. } = task {
+        for _ in 0..FRONT {
+            if !read_more(input, &mut front) {
+                break;
+            }
+        }
+    }
+    front
+}
+
+/// Reads once, as much as there is room for, and keeps it behind `front`. Whether something came and there is room for
+/// more.
+fn read_more<R: Read>(input: &mut R, front: &mut ArrayVec<u8, FRONT>) -> bool
+    ensures stops { result ≡ false → (length front.new.items ≡ 4) ⊎ (front.new.items ≡ front.old.items) }
+    ensures kept { (more : List ℕ) × Consumes (R.remaining input.old) (R.remaining input.new) more
+        × (front.new.items ≡ front.old.items ++ more) }
+{
+    let mut piece = [0; FRONT];
+    let room = front.remaining_capacity();
+    let count = input.read(&mut piece[..room]).unwrap_or(0);
+    let _ = front.try_extend_from_slice(&piece[..count]);
+    count > 0 && !front.is_full()
+}
+
+/// Puts the line of why a run over a file was refused, or of which rule kept its picture from being rendered.
+fn put_complaint<E: Sink>(
+    task: Task,
+    name: &str,
+    answer: &Result<Status, RunFault>,
+    errors: &mut E,
+) -> Result<(), DeviceFault>
+    ensures bytes { Puts result (E.taken errors.old) (E.taken errors.new) (named_complaint name.now task answer.now) }
+    ensures failures { CountsFailure result (E.failure_count errors.old) (E.failure_count errors.new) }
+{
+    match answer {
+        Ok(Status::Broken(finding)) if matches!(task, Task::Render { .. }) => {
+            put_named(errors, b"", name, b": ", finding_line(finding).as_slice())
+        }
+        Ok(_) => Ok(()),
+        Err(RunFault::Write) => write_fault(&RunFault::Write, errors),
+        Err(fault) => put_named(
+            errors,
+            b"sixel: ",
+            name,
+            b":",
+            &fault_line(fault).as_slice()[MARK..],
+        ),
+    }
+}
+
+/// The same, and after it what makes a PPM of a file of another format, by its first bytes.
+fn put_said<E: Sink>(
+    task: Task,
+    name: &str,
+    front: &[u8],
+    answer: &Result<Status, RunFault>,
+    errors: &mut E,
+) -> Result<(), DeviceFault>
+    ensures bytes { Puts result (E.taken errors.old) (E.taken errors.new)
+        (named_complaint name.now task answer.now ++ advice front.now answer.now) }
+    ensures failures { CountsFailure result (E.failure_count errors.old) (E.failure_count errors.new) }
+{
+    put_complaint(task, name, answer, errors)?;
+    put_all(errors, advice(front, answer).as_bytes())
+}
+
+/// Runs a task over a file that is open. `front` is what it begins with, as far as that is known.
+fn report_named<S: Source, K: Sink, E: Sink>(
+    alloc: Global,
+    task: Task,
+    name: &str,
+    front: &[u8],
+    input: &mut S,
+    output: &mut K,
+    errors: &mut E,
+) -> Exit
+    requires { HasSides task }
+    ensures { NamedEnds task name.now front.now result
+        (S.remaining input.old, S.remaining input.new) (S.failure_count input.old, S.failure_count input.new)
+        (K.taken output.old, K.taken output.new) (K.failure_count output.old, K.failure_count output.new)
+        (K.is_flushed output.new)
+        (E.taken errors.old, E.taken errors.new) (E.failure_count errors.old, E.failure_count errors.new) }
+{
+    let answer = run(alloc, task, input, output);
+    let _ = put_said(task, name, front, &answer, errors);
+    exit_of(answer)
+}
+
+/// Runs a task over the file of this name, or over standard input where the name is `-`. `front` is what standard
+/// input begins with, as far as that is known.
+fn report_file<F: Folder, S: Source, K: Sink, E: Sink>(
+    alloc: Global,
+    task: Task,
+    name: &str,
+    folder: &F,
+    front: &[u8],
+    input: &mut S,
+    output: &mut K,
+    errors: &mut E,
+) -> Exit
+    requires { HasSides task }
+    ensures { FileEnds task (F.contents folder.now) name.now front.now result
+        (S.remaining input.old, S.remaining input.new) (S.failure_count input.old, S.failure_count input.new)
+        (K.taken output.old, K.taken output.new) (K.failure_count output.old, K.failure_count output.new)
+        (K.is_flushed output.new)
+        (E.taken errors.old, E.taken errors.new) (E.failure_count errors.old, E.failure_count errors.new) }
+{
+    if name == "-" {
+        return report_named(alloc, task, name, front, input, output, errors);
+    }
+    match folder.open(name) {
+        Ok(file) => {
+            let mut file = file;
+            let front = first_bytes(task, &mut file);
+            let mut file = FromRead::new(front.as_slice().chain(file));
+            report_named(
+                alloc,
+                task,
+                name,
+                front.as_slice(),
+                &mut file,
+                output,
+                errors,
+            )
+        }
+        Err(_) => {
+            let _ = put_complaint(task, name, &Err(RunFault::Read), errors);
+            Exit::Refused
+        }
+    }
+}
+
+/// Checks standard input, and writes no verdict.
+fn check_quietly<S: Source, E: Sink>(
+    alloc: Global,
+    profile: Profile,
+    input: &mut S,
+    errors: &mut E,
+) -> Exit
+    ensures { QuietEnds profile result
+        (S.remaining input.old, S.remaining input.new) (S.failure_count input.old, S.failure_count input.new)
+        (E.taken errors.old, E.taken errors.new) (E.failure_count errors.old, E.failure_count errors.new) }
+{
+    match judge(alloc, profile, input) {
+        Ok(verdict) => exit_of(Ok(status_of(&verdict))),
+        Err(fault) => {
+            let _ = write_fault(&fault, errors);
+            Exit::Refused
+        }
+    }
+}
+
+/// Puts what is written of a checked file, and what is said of it; on an `Err` the first sink failed.
+fn put_judged<K: Sink, E: Sink>(
+    profile: Profile,
+    is_quiet: bool,
+    name: &str,
+    judged: Result<Verdict, RunFault>,
+    output: &mut K,
+    errors: &mut E,
+) -> Result<Exit, DeviceFault>
+    ensures { IsOutcome is_quiet name.now (line_of judged) (answer_of judged) result
+        (K.taken output.old, K.taken output.new) (K.failure_count output.old, K.failure_count output.new)
+        (E.taken errors.old, E.taken errors.new) (E.failure_count errors.old, E.failure_count errors.new) }
+{
+    match judged {
+        Ok(verdict) => {
+            if !is_quiet {
+                put_named(output, b"", name, b": ", verdict_line(&verdict).as_slice())?;
+            }
+            Ok(exit_of(Ok(status_of(&verdict))))
+        }
+        Err(fault) => {
+            let _ = put_complaint(Task::Check { profile }, name, &Err(fault), errors);
+            Ok(Exit::Refused)
+        }
+    }
+}
+
+/// Checks a file that is open.
+fn check_named<S: Source, K: Sink, E: Sink>(
+    alloc: Global,
+    profile: Profile,
+    is_quiet: bool,
+    name: &str,
+    input: &mut S,
+    output: &mut K,
+    errors: &mut E,
+) -> Result<Exit, DeviceFault>
+    ensures { (line : Text) × (answer : Result AStatus AFault)
+        × IsFileEnd profile (record {
+          name = name.now;
+          told = S.remaining input.old;
+          left = S.remaining input.new;
+          line = line;
+          answer = answer;
+        })
+        × (S.failure_count input.new ≡ failures_by ReadFault answer (S.failure_count input.old))
+        × IsOutcome is_quiet name.now line answer result
+        (K.taken output.old, K.taken output.new) (K.failure_count output.old, K.failure_count output.new)
+        (E.taken errors.old, E.taken errors.new) (E.failure_count errors.old, E.failure_count errors.new) }
+{
+    let judged = judge(alloc, profile, input);
+    put_judged(profile, is_quiet, name, judged, output, errors)
+}
+
+/// Checks the file of this name, or standard input where the name is `-`.
+fn check_file<F: Folder, S: Source, K: Sink, E: Sink>(
+    alloc: Global,
+    profile: Profile,
+    is_quiet: bool,
+    name: &str,
+    folder: &F,
+    input: &mut S,
+    output: &mut K,
+    errors: &mut E,
+) -> Result<Exit, DeviceFault>
+    ensures { IsChecked profile is_quiet (F.contents folder.now) name.now result
+        (S.remaining input.old, S.remaining input.new) (S.failure_count input.old, S.failure_count input.new)
+        (K.taken output.old, K.taken output.new) (K.failure_count output.old, K.failure_count output.new)
+        (E.taken errors.old, E.taken errors.new) (E.failure_count errors.old, E.failure_count errors.new) }
+{
+    if name == "-" {
+        return check_named(alloc, profile, is_quiet, name, input, output, errors);
+    }
+    match folder.open(name) {
+        Ok(file) => {
+            let none: &[u8] = &[];
+            let mut file = FromRead::new(none.chain(file));
+            check_named(alloc, profile, is_quiet, name, &mut file, output, errors)
+        }
+        Err(_) => put_judged(profile, is_quiet, name, Err(RunFault::Read), output, errors),
+    }
+}
+
+/// The exit status of the greater number.
+fn worse(a: Exit, b: Exit) -> Exit
+    ensures { result ≡ worse a b }
+{
+    if code_of(a) < code_of(b) { b } else { a }
+}
+
+/// Says that the output failed.
+fn unwritten<E: Sink>(errors: &mut E) -> Exit
+    ensures exit { result ≡ Exit.Refused }
+    ensures said { IsPut (fault_line RunFault.Write)
+        (E.taken errors.old, E.taken errors.new) (E.failure_count errors.old, E.failure_count errors.new) }
+{
+    let _ = write_fault(&RunFault::Write, errors);
+    Exit::Refused
+}
+
+/// Checks the files of these names in turn, also after one that is refused. The exit status is the greatest of theirs.
+fn check_files<F: Folder, S: Source, K: Sink, E: Sink>(
+    alloc: Global,
+    profile: Profile,
+    is_quiet: bool,
+    names: &[String],
+    folder: &F,
+    input: &mut S,
+    output: &mut K,
+    errors: &mut E,
+) -> Exit
+    ensures { FilesEnd profile is_quiet (F.contents folder.now) (map string_bytes names.now) result
+        (S.remaining input.old, S.remaining input.new) (S.failure_count input.old, S.failure_count input.new)
+        (K.taken output.old, K.taken output.new) (K.failure_count output.old, K.failure_count output.new)
+        (K.is_flushed output.new)
+        (E.taken errors.old, E.taken errors.new) (E.failure_count errors.old, E.failure_count errors.new) }
+{
+    let mut exit = Exit::Done;
+    for name in names {
+        match check_file(
+            alloc,
+            profile,
+            is_quiet,
+            name.as_str(),
+            folder,
+            input,
+            output,
+            errors,
+        ) {
+            Ok(next) => exit = worse(exit, next),
+            Err(_) => return unwritten(errors),
+        }
+    }
+    if is_quiet {
+        return exit;
+    }
+    match output.flush() {
+        Ok(()) => exit,
+        Err(_) => unwritten(errors),
+    }
+}
+
+/// Does what is asked for. A task over a file reads the first that is named; a check reads them all. `front` is what
+/// standard input begins with, as far as it is known.
+pub fn answer<F: Folder, S: Source, K: Sink, E: Sink>(
+    alloc: Global,
+    request: &Request,
+    folder: &F,
+    front: &[u8],
+    input: &mut S,
+    output: &mut K,
+    errors: &mut E,
+) -> Exit
+    requires { HasSides request.now.task }
+    ensures { RequestEnds request.now.task request.now.is_quiet (map string_bytes request.now.files.items)
+        (F.contents folder.now) front.now result
+        (S.remaining input.old, S.remaining input.new) (S.failure_count input.old, S.failure_count input.new)
+        (K.taken output.old, K.taken output.new) (K.failure_count output.old, K.failure_count output.new)
+        (K.is_flushed output.new)
+        (E.taken errors.old, E.taken errors.new) (E.failure_count errors.old, E.failure_count errors.new) }
+{
+    let names = request.files.as_slice();
+    let is_quiet = request.is_quiet;
+    match (request.task, names) {
+        (Task::Check { profile }, []) if is_quiet => check_quietly(alloc, profile, input, errors),
+        (task, []) => report(alloc, task, front, input, output, errors),
+        (Task::Check { profile }, _) => {
+            check_files(
+                alloc, profile, is_quiet, names, folder, input, output, errors,
+            )
+        }
+        (task, [name, ..]) => {
+            report_file(
+                alloc,
+                task,
+                name.as_str(),
+                folder,
+                front,
+                input,
+                output,
+                errors,
+            )
+        }
+    }
+}
+
+#[cfg(test)]
+mod tests;

@@ -1,0 +1,48 @@
+//! Laws about the definitions. Each function's contract is the law.
+
+ghost use Rattle.std.specs.Prelude.{◌≡◌, ◌<◌, ◌≤◌, ◌∷◌, ◌++◌, [], ℕ, All, Bool, Contains, List, Err, Ok, Some};
+ghost use Rattle.std.specs.Prelude.{Option, codes, false, map, true};
+ghost use Rattle.std.specs.List.{concat};
+ghost use Rattle.sixel_picture.specs.declared.profile.Profile.{Profile};
+ghost use Rattle.sixel_grammar.specs.declared.fault.Fault.{Fault};
+ghost use Rattle.sixel_run.specs.declared.fault.RunFault.{RunFault};
+ghost use Rattle.sixel_run.specs.declared.fault.RunFault.TheVariants.{Grammar};
+ghost use Rattle.sixel_run.specs.declared.task.Status.{Status};
+ghost use Rattle.sixel_run.specs.declared.task.Task.TheVariants.{Check};
+ghost use Rattle.sixel_program.specs.Exits.{exit_code};
+ghost use Rattle.sixel_program.specs.Files.{ArePut, FileEnd, IsFileEnd, IsSaid, exit_of_end, files_exit, files_text};
+ghost use Rattle.sixel_program.specs.Names.{is_control, printed};
+ghost use Rattle.sixel_run.specs.Outputs.{Gives};
+ghost use Rattle.sixel_run.specs.Texts.{Text};
+
+/// The output of a check of several files is the line of each, one after another, with its name before it, and each
+/// line is the one that a check of the file's bytes alone writes. Of a refused file there is none, and the grammar's
+/// fault is that of its bytes alone; where no verdict is wanted, there is none of any. The exit status is the greatest:
+/// no file has one of a greater number, and it is that of one of them. Texts that were put one after another stand joined
+/// behind what the sink had, unless a call on it failed.
+pub fn several_files_are_checked_one_by_one()
+    ensures joined { (is_quiet : Bool) (front rest : List FileEnd) →
+        files_text is_quiet (front ++ rest) ≡ files_text is_quiet front ++ files_text is_quiet rest }
+    ensures named { (e : FileEnd) (status : Status) → e.answer ≡ Ok status →
+        files_text false (e ∷ []) ≡ printed e.name ++ codes ": " ++ e.line }
+    ensures alone { (profile : Profile) (e : FileEnd) (bytes : List ℕ) (status : Status) → IsFileEnd profile e →
+        e.told ≡ Some bytes → e.answer ≡ Ok status → Gives (Check profile) bytes e.line (Ok status) }
+    ensures refused { (is_quiet : Bool) (e : FileEnd) (fault : RunFault) → e.answer ≡ Err fault →
+        files_text is_quiet (e ∷ []) ≡ [] }
+    ensures quiet { (ends : List FileEnd) → files_text true ends ≡ [] }
+    ensures faulty { (profile : Profile) (e : FileEnd) (bytes : List ℕ) (fault : Fault) → IsFileEnd profile e →
+        e.told ≡ Some bytes → e.answer ≡ Err (Grammar fault) →
+        Gives (Check profile) bytes [] (Err (Grammar fault)) }
+    ensures greatest { (ends : List FileEnd) → All (λ e. exit_code (exit_of_end e) ≤ exit_code (files_exit ends)) ends }
+    ensures reached { (e : FileEnd) (more : List FileEnd) →
+        Contains (map exit_of_end (e ∷ more)) (files_exit (e ∷ more)) }
+    ensures said { (texts : List Text) (taken : Option (List ℕ) × Option (List ℕ)) (failures : ℕ × ℕ) →
+        ArePut texts taken failures → IsSaid (concat texts) taken failures }
+{}
+
+/// The name of a file is printed without control characters, so that it can't end a line; and one that has none is
+/// printed as it is.
+pub fn names_are_printed_without_controls()
+    ensures clean { (name : Text) → All (λ byte. byte < 256) name → All (λ byte. is_control byte ≡ false) (printed name) }
+    ensures plain { (name : Text) → All (λ byte. is_control byte ≡ false) name → printed name ≡ name }
+{}

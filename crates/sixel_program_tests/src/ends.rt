@@ -1,0 +1,49 @@
+ghost use Rattle.std.specs.Prelude.{◌≡◌};
+ghost use Rattle.sixel_run.specs.Outputs.{HasSides};
+
+mod examples;
+mod formats;
+pub mod streams;
+
+use sixel_program::execute;
+use sixel_program::Exit;
+use crate::shelf::Shelf;
+use sixel_run::Task;
+use sixel_words::Request;
+use std::alloc::Global;
+
+/// No file can be opened.
+const NO_FILES: Shelf<'static> = Shelf {
+    files: &[],
+    cut: &[],
+};
+
+/// What asks for a task on standard input.
+fn plain(alloc: Global, task: Task) -> Request
+    ensures { result.task ≡ task }
+{
+    Request {
+        task,
+        is_quiet: false,
+        files: Vec::new(alloc),
+    }
+}
+
+/// Whether a task on the bytes ends so, and writes this to standard output and this to standard error.
+fn ends(alloc: Global, task: Task, bytes: &[u8], exit: Exit, written: &[u8], said: &[u8]) -> bool
+    requires { HasSides task }
+{
+    let mut output = Vec::new(alloc);
+    let mut errors = Vec::new(alloc);
+    let request = plain(alloc, task);
+    let ended = execute(
+        alloc,
+        &request,
+        &NO_FILES,
+        false,
+        bytes,
+        &mut output,
+        &mut errors,
+    );
+    ended == exit && output.as_slice() == written && errors.as_slice() == said
+}

@@ -1,0 +1,371 @@
+//! What comes of files in place of standard input, worked out by hand.
+
+ghost use Rattle.std.specs.Prelude.{◌≡◌, IfOk};
+ghost use Rattle.sixel_run.specs.Outputs.{HasSides};
+
+mod faults;
+mod notices;
+mod system;
+mod tasks;
+
+use sixel_program::execute;
+use sixel_program::Exit;
+use crate::shelf::Shelf;
+use crate::streams::Narrow;
+use sixel_picture::Profile;
+use sixel_run::Task;
+use sixel_words::Request;
+use std::alloc::{AllocError, Global};
+use std::io;
+use std::io::Read;
+use std::test::Fail;
+
+/// One black pixel.
+const PIXEL: &[u8] = b"\x1bPq\"1;1;1;1#0;2;0;0;0#0@\x1b\\";
+
+/// A picture of two columns and one row, in register 16.
+const WIDE: &[u8] = b"\x1bPq\"1;1;2;1#16;2;0;0;0#16!2@\x1b\\";
+
+const RATIO: &[u8] = b"\x1bPq\"2;1;1;1\x1b\\";
+
+const PNG: &[u8] = b"\x89PNG\r\n\x1a\n\0\0\0\rIHDR";
+
+/// One red pixel.
+const RED: &[u8] = b"P6 1 1 100\n\x64\0\0";
+
+const SHELF: Shelf<'static> = Shelf {
+    files: &[
+        ("pixel", PIXEL),
+        ("a b", PIXEL),
+        ("-x", PIXEL),
+        ("wide", WIDE),
+        ("ratio", RATIO),
+        ("text", b"x"),
+        ("empty", b""),
+        ("png", PNG),
+        ("bitmap", b"BM"),
+        ("red", RED),
+    ],
+    cut: &[("cut", b"\x1bPq\"1;1;1;1#0;2")],
+};
+
+/// What is asked for, and what standard input has.
+#[derive(Clone, Copy)]
+struct Asked<'a> {
+    task: Task,
+    is_quiet: bool,
+    names: &'a [&'a str],
+    input: &'a [u8],
+}
+
+/// What the standard streams are like.
+#[derive(Clone, Copy)]
+struct Streams {
+    is_terminal: bool,
+    /// How many bytes standard output takes before it fails.
+    room: usize,
+    is_flushable: bool,
+    /// How many bytes standard error takes.
+    errors_room: usize,
+}
+
+/// No terminal, and room for all.
+const STREAMS: Streams = Streams {
+    is_terminal: false,
+    room: 512,
+    is_flushable: true,
+    errors_room: 512,
+};
+
+/// How a request ended: with what was written and said, and whether standard input was read.
+#[derive(Clone, Copy)]
+struct Ended<'a> {
+    exit: Exit,
+    written: &'a [u8],
+    said: &'a [u8],
+    is_read: bool,
+}
+
+/// Bytes as standard input, which counts the reads.
+#[derive(Drop)]
+struct Counted<'a> {
+    rest: &'a [u8],
+    reads: &'a mut u64,
+}
+
+impl Read for Counted<'_> {
+    fn read(&mut self, buf: &mut [u8]) -> io::Result<usize> {
+        *self.reads = self.reads.saturating_add(1);
+        let count = buf.len().min(self.rest.len());
+        let (front, rest) = self.rest.split_at(count);
+        buf[..count].copy_from_slice(front);
+        self.rest = rest;
+        Ok(count)
+    }
+}
+
+fn request_of(alloc: Global, asked: Asked<'_>) -> Result<Request, AllocError>
+    ensures { IfOk result (λ request. request.task ≡ asked.entry.task) }
+{
+    let mut files = Vec::new(alloc);
+    for name in asked.names {
+        files.push(String::from_str(alloc, name)?)?;
+    }
+    Ok(Request {
+        task: asked.task,
+        is_quiet: asked.is_quiet,
+        files,
+    })
+}
+
+/// Whether what is asked for ends so over these streams.
+fn ends_over(
+    alloc: Global,
+    asked: Asked<'_>,
+    streams: Streams,
+    ended: Ended<'_>,
+) -> Result<bool, AllocError>
+    requires { HasSides asked.task }
+{
+    let request = request_of(alloc, asked)?;
+    let mut reads = 0;
+    let mut written = Vec::new(alloc);
+    let mut said = Vec::new(alloc);
+    let input = Counted {
+        rest: asked.input,
+        reads: &mut reads,
+    };
+    let output = Narrow {
+        written: &mut written,
+        room: streams.room,
+        is_flushable: streams.is_flushable,
+    };
+    let errors = Narrow {
+        written: &mut said,
+        room: streams.errors_room,
+        is_flushable: true,
+    };
+    let exit = execute(
+        alloc,
+        &request,
+        &SHELF,
+        streams.is_terminal,
+        input,
+        output,
+        errors,
+    );
+    Ok(
+        exit == ended.exit
+            && written.as_slice() == ended.written
+            && said.as_slice() == ended.said
+            && (reads > 0) == ended.is_read,
+    )
+}
+
+/// A check of the files of these names, where standard input has these bytes.
+fn check_of<'a>(is_quiet: bool, names: &'a [&'a str], input: &'a [u8]) -> Asked<'a>
+    ensures { HasSides result.task }
+{
+    let task = Task::Check {
+        profile: Profile::Registers16,
+    };
+    Asked {
+        task,
+        is_quiet,
+        names,
+        input,
+    }
+}
+
+/// Whether a check of these files ends so, and leaves standard input unread. Where it writes no verdict, the status and
+/// what is said are the same.
+fn checks(
+    alloc: Global,
+    names: &[&str],
+    exit: Exit,
+    written: &[u8],
+    said: &[u8],
+) -> Result<bool, AllocError> {
+    let loud = Ended {
+        exit,
+        written,
+        said,
+        is_read: false,
+    };
+    let quiet = Ended {
+        exit,
+        written: b"",
+        said,
+        is_read: false,
+    };
+    Ok(
+        ends_over(alloc, check_of(false, names, PIXEL), STREAMS, loud)?
+            && ends_over(alloc, check_of(true, names, PIXEL), STREAMS, quiet)?,
+    )
+}
+
+#[test]
+fn portable_files(rt: HostRuntime) -> Result<(), Fail> {
+    let one = b"pixel: portable 1 1\n";
+    assert!(rt; checks(rt.alloc(), &["pixel"], Exit::Done, one, b"")?);
+    let two = b"pixel: portable 1 1\na b: portable 1 1\n";
+    assert!(rt; checks(rt.alloc(), &["pixel", "a b"], Exit::Done, two, b"")?);
+    let twice = b"pixel: portable 1 1\npixel: portable 1 1\n";
+    assert!(rt; checks(rt.alloc(), &["pixel", "pixel"], Exit::Done, twice, b"")?);
+    let dashed = b"-x: portable 1 1\n";
+    assert!(rt; checks(rt.alloc(), &["-x"], Exit::Done, dashed, b"")?);
+    Ok(())
+}
+
+/// Each file is judged, also after one that is refused or can't be opened or read.
+#[test]
+fn files_of_each_kind(rt: HostRuntime) -> Result<(), Fail> {
+    let names = ["pixel", "ratio", "text", "none", "cut", "empty", "a b"];
+    let written = b"pixel: portable 1 1\nratio: broken Ratio 3\na b: portable 1 1\n";
+    let said = b"sixel: text: NotSixel at 0\nsixel: none: read failed\nsixel: cut: read failed\n\
+        sixel: empty: Truncated at 0\n";
+    assert!(rt; checks(rt.alloc(), &names, Exit::Refused, written, said)?);
+    Ok(())
+}
+
+/// The exit status is the greatest of the files', wherever its file stands.
+#[test]
+fn the_greatest_status(rt: HostRuntime) -> Result<(), Fail> {
+    let broken = b"ratio: broken Ratio 3\n";
+    let first = b"ratio: broken Ratio 3\npixel: portable 1 1\n";
+    let last = b"pixel: portable 1 1\nratio: broken Ratio 3\n";
+    let text = b"sixel: text: NotSixel at 0\n";
+    let none = b"sixel: none: read failed\n";
+    assert!(rt; checks(rt.alloc(), &["ratio"], Exit::Broken, broken, b"")?);
+    assert!(rt; checks(rt.alloc(), &["ratio", "pixel"], Exit::Broken, first, b"")?);
+    assert!(rt; checks(rt.alloc(), &["pixel", "ratio"], Exit::Broken, last, b"")?);
+    assert!(rt; checks(rt.alloc(), &["text", "ratio"], Exit::Refused, broken, text)?);
+    assert!(rt; checks(rt.alloc(), &["ratio", "text"], Exit::Refused, broken, text)?);
+    assert!(rt; checks(rt.alloc(), &["ratio", "none"], Exit::Refused, broken, none)?);
+    assert!(rt; checks(rt.alloc(), &["none"], Exit::Refused, b"", none)?);
+    Ok(())
+}
+
+/// The profile is that of all files.
+#[test]
+fn files_in_the_wide_profile(rt: HostRuntime) -> Result<(), Fail> {
+    let names = ["wide", "pixel"];
+    let narrow = b"wide: broken Register 11\npixel: portable 1 1\n";
+    assert!(rt; checks(rt.alloc(), &names, Exit::Broken, narrow, b"")?);
+    let asked = Asked {
+        task: Task::Check {
+            profile: Profile::Registers256,
+        },
+        is_quiet: false,
+        names: &names,
+        input: RATIO,
+    };
+    let ended = Ended {
+        exit: Exit::Done,
+        written: b"wide: portable 2 1\npixel: portable 1 1\n",
+        said: b"",
+        is_read: false,
+    };
+    assert!(rt; ends_over(rt.alloc(), asked, STREAMS, ended)?);
+    Ok(())
+}
+
+/// Whether a check of these files ends so, where standard input has these bytes and is read. Where it writes no
+/// verdict, the status and what is said are the same.
+fn reads(
+    alloc: Global,
+    names: &[&str],
+    input: &[u8],
+    exit: Exit,
+    written: &[u8],
+    said: &[u8],
+) -> Result<bool, AllocError> {
+    let loud = Ended {
+        exit,
+        written,
+        said,
+        is_read: true,
+    };
+    let quiet = Ended {
+        exit,
+        written: b"",
+        said,
+        is_read: true,
+    };
+    Ok(
+        ends_over(alloc, check_of(false, names, input), STREAMS, loud)?
+            && ends_over(alloc, check_of(true, names, input), STREAMS, quiet)?,
+    )
+}
+
+/// `-` is standard input, which has an end: another `-` finds nothing there.
+#[test]
+fn standard_input_among_files(rt: HostRuntime) -> Result<(), Fail> {
+    let alone = b"-: portable 1 1\n";
+    assert!(rt; reads(rt.alloc(), &["-"], PIXEL, Exit::Done, alone, b"")?);
+    let second = b"ratio: broken Ratio 3\n-: portable 1 1\n";
+    assert!(rt;
+        reads(
+            rt.alloc(),
+            &["ratio", "-"],
+            PIXEL,
+            Exit::Broken,
+            second,
+            b""
+        )?
+    );
+    let fault = b"sixel: -: NotSixel at 0\n";
+    let after = b"pixel: portable 1 1\n";
+    assert!(rt;
+        reads(
+            rt.alloc(),
+            &["-", "pixel"],
+            b"x",
+            Exit::Refused,
+            after,
+            fault
+        )?
+    );
+    let names = ["-", "pixel", "-"];
+    let written = b"-: broken Ratio 3\npixel: portable 1 1\n";
+    let at_end = b"sixel: -: Truncated at 0\n";
+    assert!(rt; reads(rt.alloc(), &names, RATIO, Exit::Refused, written, at_end)?);
+    Ok(())
+}
+
+/// Where no file is named, no name stands before a line.
+#[test]
+fn standard_input_alone(rt: HostRuntime) -> Result<(), Fail> {
+    assert!(rt; reads(rt.alloc(), &[], PIXEL, Exit::Done, b"portable 1 1\n", b"")?);
+    assert!(rt;
+        reads(
+            rt.alloc(),
+            &[],
+            RATIO,
+            Exit::Broken,
+            b"broken Ratio 3\n",
+            b""
+        )?
+    );
+    assert!(rt;
+        reads(
+            rt.alloc(),
+            &[],
+            b"x",
+            Exit::Refused,
+            b"",
+            b"sixel: NotSixel at 0\n"
+        )?
+    );
+    assert!(rt;
+        reads(
+            rt.alloc(),
+            &[],
+            b"",
+            Exit::Refused,
+            b"",
+            b"sixel: Truncated at 0\n"
+        )?
+    );
+    Ok(())
+}

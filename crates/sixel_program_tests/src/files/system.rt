@@ -1,0 +1,32 @@
+//! Files of the system.
+
+use super::{check_of, request_of};
+use sixel_program::execute;
+use sixel_program::Exit;
+use sixel_program::System;
+use std::test::Fail;
+
+/// An empty file, a folder, which can be opened and not read, and a name of nothing.
+#[test]
+fn files_of_the_system(rt: HostRuntime) -> Result<(), Fail> {
+    let names = ["/dev/null", "/", "/no such file", "/dev/null"];
+    let request = request_of(rt.alloc(), check_of(false, &names, b""))?;
+    let mut written = Vec::new(rt.alloc());
+    let mut said = Vec::new(rt.alloc());
+    let exit = execute(
+        rt.alloc(),
+        &request,
+        &System::new(&rt),
+        false,
+        b"".as_slice(),
+        &mut written,
+        &mut said,
+    );
+    let lines =
+        b"sixel: /dev/null: Truncated at 0\nsixel: /: read failed\nsixel: /no such file: read failed\n\
+        sixel: /dev/null: Truncated at 0\n";
+    assert_eq!(rt; exit, Exit::Refused);
+    assert_eq!(rt; written.as_slice(), b"".as_slice());
+    assert_eq!(rt; said.as_slice(), lines.as_slice());
+    Ok(())
+}

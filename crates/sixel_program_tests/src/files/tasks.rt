@@ -1,0 +1,225 @@
+//! Tasks over one file.
+
+ghost use Rattle.sixel_run.specs.Outputs.{HasSides};
+
+use super::{Asked, Ended, PIXEL, PNG, RED, STREAMS, Streams, WIDE, ends_over};
+use sixel_program::Exit;
+use sixel_picture::Profile;
+use sixel_run::Task;
+use std::alloc::{AllocError, Global};
+use std::test::Fail;
+
+const RENDER: Task = Task::Render {
+    profile: Profile::Registers16,
+};
+
+const ENCODE: Task = Task::Encode {
+    profile: Profile::Registers16,
+};
+
+/// A screen of one pixel.
+const SHOW: Task = Task::Show {
+    profile: Profile::Registers16,
+    showing: false,
+    fill: false,
+    selects: false,
+    width: 1,
+    height: 1,
+};
+
+const SHOW_BOX: Task = Task::ShowBox {
+    profile: Profile::Registers16,
+    showing: false,
+    fill: false,
+    selects: false,
+};
+
+/// Whether the task over the file of this name, where standard input has these bytes, ends so over these streams.
+fn ends_with(
+    alloc: Global,
+    task: Task,
+    name: &str,
+    input: &[u8],
+    streams: Streams,
+    ended: Ended<'_>,
+) -> Result<bool, AllocError>
+    requires { HasSides task }
+{
+    let names = [name];
+    let asked = Asked {
+        task,
+        is_quiet: false,
+        names: &names,
+        input,
+    };
+    ends_over(alloc, asked, streams, ended)
+}
+
+/// Whether the task writes this of these bytes where standard input has them, by no name and by its own, and where the
+/// file of this name has them and standard input has others, which it leaves unread.
+fn writes(
+    alloc: Global,
+    task: Task,
+    name: &str,
+    bytes: &[u8],
+    written: &[u8],
+) -> Result<bool, AllocError>
+    requires { HasSides task }
+{
+    let ended = Ended {
+        exit: Exit::Done,
+        written,
+        said: b"",
+        is_read: true,
+    };
+    let unread = Ended {
+        is_read: false,
+        ..ended
+    };
+    let plain = Asked {
+        task,
+        is_quiet: false,
+        names: &[],
+        input: bytes,
+    };
+    Ok(
+        ends_over(alloc, plain, STREAMS, ended)?
+            && ends_with(alloc, task, "-", bytes, STREAMS, ended)?
+            && ends_with(alloc, task, name, WIDE, STREAMS, unread)?,
+    )
+}
+
+#[test]
+fn a_file_is_as_standard_input(rt: HostRuntime) -> Result<(), Fail> {
+    let list =
+        b"0 start 7bit 0\n3 raster 1 1 1 1\n11 define 0 2 0 0 0\n21 select 0\n23 sixel 1\n24 end 7bit\n";
+    assert!(rt; writes(rt.alloc(), Task::List, "pixel", PIXEL, list)?);
+    let black = b"P6\n1 1\n100\n\0\0\0";
+    assert!(rt; writes(rt.alloc(), RENDER, "pixel", PIXEL, black)?);
+    assert!(rt; writes(rt.alloc(), SHOW, "pixel", PIXEL, black)?);
+    assert!(rt; writes(rt.alloc(), SHOW_BOX, "a b", PIXEL, black)?);
+    let red = b"\x1bP0;1q\"1;1;1;1#0;2;100;0;0#0@\x1b\\";
+    assert!(rt; writes(rt.alloc(), ENCODE, "red", RED, red)?);
+    Ok(())
+}
+
+/// Whether the task over the file of this name ends so, writes this and says this, and leaves standard input, which has
+/// a PNG, unread.
+fn ends_so(
+    alloc: Global,
+    task: Task,
+    name: &str,
+    exit: Exit,
+    written: &[u8],
+    said: &[u8],
+) -> Result<bool, AllocError>
+    requires { HasSides task }
+{
+    let ended = Ended {
+        exit,
+        written,
+        said,
+        is_read: false,
+    };
+    ends_with(alloc, task, name, PNG, STREAMS, ended)
+}
+
+/// The line of a fault, or of the rule that kept a picture from being rendered, names the file.
+#[test]
+fn a_file_that_is_refused(rt: HostRuntime) -> Result<(), Fail> {
+    let broken = b"ratio: broken Ratio 3\n";
+    assert!(rt; ends_so(rt.alloc(), RENDER, "ratio", Exit::Broken, b"", broken)?);
+    let text = b"sixel: text: NotSixel at 0\n";
+    assert!(rt; ends_so(rt.alloc(), RENDER, "text", Exit::Refused, b"", text)?);
+    assert!(rt; ends_so(rt.alloc(), SHOW, "text", Exit::Refused, b"", text)?);
+    assert!(rt; ends_so(rt.alloc(), Task::List, "text", Exit::Refused, b"", text)?);
+    let none = b"sixel: none: read failed\n";
+    assert!(rt; ends_so(rt.alloc(), Task::List, "none", Exit::Refused, b"", none)?);
+    assert!(rt; ends_so(rt.alloc(), RENDER, "none", Exit::Refused, b"", none)?);
+    assert!(rt; ends_so(rt.alloc(), ENCODE, "none", Exit::Refused, b"", none)?);
+    assert!(rt; ends_so(rt.alloc(), SHOW_BOX, "none", Exit::Refused, b"", none)?);
+    let cut = b"sixel: cut: read failed\n";
+    let events = b"0 start 7bit 0\n3 raster 1 1 1 1\n";
+    assert!(rt; ends_so(rt.alloc(), Task::List, "cut", Exit::Refused, events, cut)?);
+    assert!(rt; ends_so(rt.alloc(), RENDER, "cut", Exit::Refused, b"", cut)?);
+    Ok(())
+}
+
+/// The advice on another format is by the first bytes of the file, and not by those of standard input.
+#[test]
+fn files_of_other_formats(rt: HostRuntime) -> Result<(), Fail> {
+    let png =
+        b"sixel: png: Header at 0\nsixel: this is a PNG; `pngtopnm | ppmtoppm` makes a PPM (P6) of it\n";
+    assert!(rt; ends_so(rt.alloc(), ENCODE, "png", Exit::Refused, b"", png)?);
+    let bitmap = b"sixel: bitmap: Header at 0\n";
+    assert!(rt; ends_so(rt.alloc(), ENCODE, "bitmap", Exit::Refused, b"", bitmap)?);
+    let other = b"sixel: png: NotSixel at 0\n";
+    assert!(rt; ends_so(rt.alloc(), RENDER, "png", Exit::Refused, b"", other)?);
+    let input = Ended {
+        exit: Exit::Refused,
+        written: b"",
+        said: b"sixel: -: Header at 0\nsixel: this is a PNG; `pngtopnm | ppmtoppm` makes a PPM (P6) of it\n",
+        is_read: true,
+    };
+    assert!(rt; ends_with(rt.alloc(), ENCODE, "-", PNG, STREAMS, input)?);
+    Ok(())
+}
+
+/// That the output fails is the fault of no file.
+#[test]
+fn an_output_that_fails(rt: HostRuntime) -> Result<(), Fail> {
+    let ended = Ended {
+        exit: Exit::Refused,
+        written: b"P6\n1",
+        said: b"sixel: write failed\n",
+        is_read: false,
+    };
+    let narrow = Streams { room: 4, ..STREAMS };
+    assert!(rt; ends_with(rt.alloc(), RENDER, "pixel", PNG, narrow, ended)?);
+    let whole = Ended {
+        written: b"P6\n1 1\n100\n\0\0\0",
+        ..ended
+    };
+    let unflushed = Streams {
+        is_flushable: false,
+        ..STREAMS
+    };
+    assert!(rt; ends_with(rt.alloc(), RENDER, "pixel", PNG, unflushed, whole)?);
+    Ok(())
+}
+
+/// Whether the task over the file of this name ends so and writes nothing, where standard error takes so many bytes and
+/// these.
+fn says_so(
+    alloc: Global,
+    task: Task,
+    name: &str,
+    exit: Exit,
+    errors_room: usize,
+    said: &[u8],
+) -> Result<bool, AllocError>
+    requires { HasSides task }
+{
+    let streams = Streams {
+        errors_room,
+        ..STREAMS
+    };
+    let ended = Ended {
+        exit,
+        written: b"",
+        said,
+        is_read: false,
+    };
+    ends_with(alloc, task, name, PIXEL, streams, ended)
+}
+
+/// What can't be said is left out.
+#[test]
+fn errors_that_fail(rt: HostRuntime) -> Result<(), Fail> {
+    assert!(rt; says_so(rt.alloc(), RENDER, "ratio", Exit::Broken, 0, b"")?);
+    assert!(rt; says_so(rt.alloc(), RENDER, "ratio", Exit::Broken, 9, b"ratio: br")?);
+    assert!(rt; says_so(rt.alloc(), ENCODE, "png", Exit::Refused, 9, b"sixel: pn")?);
+    let fault = b"sixel: png: Header at 0\nsi";
+    assert!(rt; says_so(rt.alloc(), ENCODE, "png", Exit::Refused, 26, fault)?);
+    Ok(())
+}

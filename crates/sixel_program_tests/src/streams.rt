@@ -1,0 +1,367 @@
+//! How the program ends where a standard stream can't be written.
+
+ghost use Rattle.sixel_run.specs.Outputs.{HasSides};
+
+use sixel_program::{Exit, tell};
+use crate::ends::{NO_FILES, plain};
+use sixel_program::execute;
+use sixel_words::task_in;
+use sixel_grammar::ToWrite;
+use sixel_picture::{PpmReason, Profile};
+use sixel_run::Task;
+use sixel_words::{Topic, WordsFault, parse_words};
+use std::alloc::Global;
+use std::io;
+use std::io::{Error, ErrorKind, Write};
+use std::test::Fail;
+
+const CHECK: Task = Task::Check {
+    profile: Profile::Registers16,
+};
+
+const RENDER: Task = Task::Render {
+    profile: Profile::Registers16,
+};
+
+const ENCODE: Task = Task::Encode {
+    profile: Profile::Registers16,
+};
+
+/// A stream that takes so many bytes, one a call, and then fails.
+#[derive(Drop)]
+pub struct Narrow<'a> {
+    pub written: &'a mut Vec<u8>,
+    pub room: usize,
+    pub is_flushable: bool,
+}
+
+impl Write for Narrow<'_> {
+    fn write(&mut self, buf: &[u8]) -> io::Result<usize> {
+        match buf {
+            [byte, ..] if self.written.len() < self.room => {
+                if self.written.push(*byte).is_err() {
+                    return Err(Error::other("out of memory"));
+                }
+                Ok(1)
+            }
+            _ => Err(Error::other("broken")),
+        }
+    }
+
+    fn flush(&mut self) -> io::Result<()> {
+        if self.is_flushable {
+            Ok(())
+        } else {
+            Err(Error::other("broken"))
+        }
+    }
+}
+
+/// Whether a front of the line was written, as long as there is room for.
+fn fills(written: &[u8], line: &[u8], room: usize) -> bool {
+    Some(written) == line.get(..room.min(line.len()))
+}
+
+/// Whether the task on these bytes ends so and writes this, and of this line what standard error has room for.
+fn ends_in(
+    alloc: Global,
+    task: Task,
+    bytes: &[u8],
+    exit: Exit,
+    text: &[u8],
+    line: &[u8],
+    room: usize,
+) -> bool
+    requires { HasSides task }
+{
+    let mut output = Vec::new(alloc);
+    let mut said = Vec::new(alloc);
+    let errors = Narrow {
+        written: &mut said,
+        room,
+        is_flushable: true,
+    };
+    let request = plain(alloc, task);
+    let ended = execute(
+        alloc,
+        &request,
+        &NO_FILES,
+        false,
+        bytes,
+        &mut output,
+        errors,
+    );
+    ended == exit && output.as_slice() == text && fills(said.as_slice(), line, room)
+}
+
+/// The same whatever room standard error has.
+fn ends_so(alloc: Global, task: Task, bytes: &[u8], exit: Exit, text: &[u8], line: &[u8]) -> bool
+    requires { HasSides task }
+{
+    ends_in(alloc, task, bytes, exit, text, line, 0)
+        && ends_in(alloc, task, bytes, exit, text, line, 1)
+        && ends_in(alloc, task, bytes, exit, text, line, 9)
+        && ends_in(alloc, task, bytes, exit, text, line, 64)
+}
+
+/// Each task ends by what came of it, also where the line of a refusal, or of a picture that isn't rendered, can't be
+/// written.
+#[test]
+fn a_standard_error_that_fails(rt: HostRuntime) {
+    assert!(rt;
+        ends_so(
+            rt.alloc(),
+            Task::List,
+            b"\x1bPq\x1b\\",
+            Exit::Done,
+            b"0 start 7bit 0\n3 end 7bit\n",
+            b"",
+        )
+    );
+    let pixel = Task::Show {
+        profile: Profile::Registers16,
+        showing: false,
+        fill: false,
+        selects: false,
+        width: 1,
+        height: 1,
+    };
+    let hue = b"\x1bPq#0;1;360;50;100#0@\x1b\\";
+    assert!(rt;
+        ends_so(
+            rt.alloc(),
+            pixel,
+            hue,
+            Exit::Refused,
+            b"",
+            b"sixel: NotRgb\n"
+        )
+    );
+    let boxed = Task::ShowBox {
+        profile: Profile::Registers16,
+        showing: false,
+        fill: false,
+        selects: false,
+    };
+    let dot = b"P6\n1 1\n100\n\x00\x00\x00";
+    assert!(rt;
+        ends_so(
+            rt.alloc(),
+            boxed,
+            b"\x1bPq\"1;1;1;1#0@\x1b\\",
+            Exit::Done,
+            dot,
+            b""
+        )
+    );
+    let unboxed = b"\x1bPq#0@\x1b\\";
+    assert!(rt;
+        ends_so(
+            rt.alloc(),
+            boxed,
+            unboxed,
+            Exit::Refused,
+            b"",
+            b"sixel: NoBox\n"
+        )
+    );
+    assert!(rt;
+        ends_so(
+            rt.alloc(),
+            Task::List,
+            b"\x1bPq!65536~",
+            Exit::Refused,
+            b"0 start 7bit 0\n",
+            b"sixel: NumberTooLarge at 8\n",
+        )
+    );
+    let uncovered = b"\x1bPq\"1;1;2;1#0;2;0;0;0#0@\x1b\\";
+    let line = b"broken Uncovered 24 1 0\n";
+    assert!(rt; ends_so(rt.alloc(), RENDER, uncovered, Exit::Broken, b"", line));
+    assert!(rt; ends_so(rt.alloc(), CHECK, uncovered, Exit::Broken, line, b""));
+    assert!(rt;
+        ends_so(
+            rt.alloc(),
+            RENDER,
+            b"\x1bPq\"1;1;1;1#0;1;360;50;100#0@\x1b\\",
+            Exit::Refused,
+            b"",
+            b"sixel: NotRgb\n",
+        )
+    );
+    assert!(rt;
+        ends_so(
+            rt.alloc(),
+            ENCODE,
+            b"P6 1 1 256\n",
+            Exit::Refused,
+            b"",
+            b"sixel: Maxval at 7\n",
+        )
+    );
+    assert!(rt;
+        ends_so(
+            rt.alloc(),
+            CHECK,
+            b"\x1bPq\"1;1;1;1#0;2;0;0;0#0@\x1b\\",
+            Exit::Done,
+            b"portable 1 1\n",
+            b"",
+        )
+    );
+}
+
+/// Whether a check is refused, where standard output has room for five bytes of its line, and standard error for so
+/// many of the fault's.
+fn refuses_with(alloc: Global, room: usize, line: &[u8]) -> bool {
+    let mut written = Vec::new(alloc);
+    let mut said = Vec::new(alloc);
+    let output = Narrow {
+        written: &mut written,
+        room: 5,
+        is_flushable: true,
+    };
+    let errors = Narrow {
+        written: &mut said,
+        room,
+        is_flushable: true,
+    };
+    let bytes = b"\x1bPq\"1;1;1;1#0;2;0;0;0#0@\x1b\\".as_slice();
+    let request = plain(alloc, CHECK);
+    let ended = execute(alloc, &request, &NO_FILES, false, bytes, output, errors);
+    ended == Exit::Refused && written.as_slice() == b"porta".as_slice() && said.as_slice() == line
+}
+
+#[test]
+fn a_standard_output_that_fails(rt: HostRuntime) {
+    assert!(rt; refuses_with(rt.alloc(), 64, b"sixel: write failed\n"));
+    assert!(rt; refuses_with(rt.alloc(), 7, b"sixel: "));
+    assert!(rt; refuses_with(rt.alloc(), 0, b""));
+}
+
+/// Whether words that give no task end so, and write of this text what standard output has room for, and likewise of
+/// that line.
+fn explains_so(
+    alloc: Global,
+    fault: WordsFault,
+    room: usize,
+    exit: Exit,
+    text: &str,
+    line: &str,
+) -> bool {
+    let mut written = Vec::new(alloc);
+    let mut said = Vec::new(alloc);
+    let mut output = ToWrite::new(Narrow {
+        written: &mut written,
+        room,
+        is_flushable: true,
+    });
+    let mut errors = ToWrite::new(Narrow {
+        written: &mut said,
+        room,
+        is_flushable: true,
+    });
+    let ended = tell(alloc, fault, &mut output, &mut errors);
+    ended == exit
+        && fills(written.as_slice(), text.as_bytes(), room)
+        && fills(said.as_slice(), line.as_bytes(), room)
+}
+
+/// Why these words after the program's name give no task.
+fn fault_of(alloc: Global, arguments: &[&str]) -> Result<WordsFault, Fail> {
+    let mut words = Vec::new(alloc);
+    words.push(String::from_str(alloc, "sixel")?)?;
+    for word in arguments {
+        words.push(String::from_str(alloc, word)?)?;
+    }
+    match parse_words(alloc, words.as_slice()) {
+        Ok(_) => Err(Fail::from("a task")),
+        Err(fault) => Ok(fault),
+    }
+}
+
+/// Why arguments that couldn't be read for this reason give no task.
+fn unread(alloc: Global, reason: ErrorKind) -> Result<WordsFault, Fail> {
+    match task_in(alloc, Err(Error::from(reason))) {
+        Ok(_) => Err(Fail::from("a task")),
+        Err(fault) => Ok(fault),
+    }
+}
+
+const HELP: &str = "Lists what the picture says, a line for each command
+
+Usage: sixel list [FILE]
+
+Arguments:
+  [FILE]  The file to read in place of standard input; `-` is that
+
+Options:
+  -h, --help  Print help
+
+Reads sixel text from FILE, or without one from standard input. Writes a line
+for the start, for each command and for the end to standard output: its place in
+bytes, what it is, its numbers. What comes before a fault is listed too.
+
+Exit status: 0 done, 2 refused, 3 wrong words.
+
+Example: sixel list plot.six
+";
+
+const UNKNOWN: &str = "error: unrecognized subcommand 'view'
+
+Usage: sixel <COMMAND>
+
+For more information, try '--help'.
+";
+
+const NOT_TEXT: &str = "error: the arguments are not text
+
+Usage: sixel <COMMAND>
+
+For more information, try '--help'.
+";
+
+/// Help goes to standard output, and all else to standard error. Where it can't be written the exit status stays.
+#[test]
+fn words_are_explained_as_far_as_there_is_room(rt: HostRuntime) -> Result<(), Fail> {
+    for room in [0, 1, 20, 1024] {
+        let help = fault_of(rt.alloc(), &["list", "--help"])?;
+        assert!(rt; explains_so(rt.alloc(), help, room, Exit::Done, HELP, ""));
+        let unknown = fault_of(rt.alloc(), &["view"])?;
+        assert!(rt; explains_so(rt.alloc(), unknown, room, Exit::Usage, "", UNKNOWN));
+        let not_text = unread(rt.alloc(), ErrorKind::InvalidData)?;
+        assert!(rt; explains_so(rt.alloc(), not_text, room, Exit::Usage, "", NOT_TEXT));
+        let memory = unread(rt.alloc(), ErrorKind::OutOfMemory)?;
+        let line = "sixel: out of memory\n";
+        assert!(rt; explains_so(rt.alloc(), memory, room, Exit::Refused, "", line));
+    }
+    Ok(())
+}
+
+const MAXVAL: &str = "Maxval: a maximum of a PPM outside 1 to 255
+
+Refused: a maximum of a PPM outside 1 to 255. The place is the number's first
+digit.
+
+String: P6 1 1 256 LF
+Answer of encode: sixel: Maxval at 7
+
+Mend it: write samples of one byte, with the maximum 255.
+";
+
+/// An explanation goes to standard output. Where it can't be written whole, the program ends as a task would.
+#[test]
+fn an_explanation_is_written_or_refused(rt: HostRuntime) -> Result<(), Fail> {
+    for (room, exit, line) in [
+        (0, Exit::Refused, "sixel: write failed\n"),
+        (1, Exit::Refused, "sixel: write failed\n"),
+        (200, Exit::Refused, "sixel: write failed\n"),
+        (512, Exit::Done, ""),
+    ] {
+        let asked = fault_of(rt.alloc(), &["explain", "Maxval"])?;
+        assert!(rt; explains_so(rt.alloc(), asked, room, exit, MAXVAL, line));
+        let topic = WordsFault::Explanation(Some(Topic::Ppm(PpmReason::Maxval)));
+        assert!(rt; explains_so(rt.alloc(), topic, room, exit, MAXVAL, line));
+    }
+    Ok(())
+}

@@ -1,0 +1,31 @@
+//! Tests of the tasks of the program, over their public calls.
+#![tactic(auto)]
+
+#[cfg(test)]
+mod at_limits;
+#[cfg(test)]
+mod check;
+#[cfg(test)]
+mod encode;
+#[cfg(test)]
+mod exhausted;
+#[cfg(test)]
+mod in_turn;
+#[cfg(test)]
+mod lines;
+#[cfg(test)]
+mod render;
+#[cfg(test)]
+mod round_trip;
+#[cfg(test)]
+mod runs;
+#[cfg(test)]
+mod screens;
+#[cfg(test)]
+mod show;
+#[cfg(test)]
+mod show_box;
+#[cfg(test)]
+mod watched;
+#[cfg(test)]
+mod wide;

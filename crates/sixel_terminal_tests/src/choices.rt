@@ -1,0 +1,64 @@
+//! What each choice of a terminal does to what it shows.
+
+use crate::fixtures::{BLACK, RED, WHITE, grey, is_shown, plain_choices};
+use sixel_terminal::{Choices, Ground};
+use std::test::Fail;
+
+/// A pixel painted in register 0, which is black, and then another colour of register 0.
+const REDEFINED: &[u8] = b"\x1bPq\"1;1;1;1#0;2;0;0;0#0@#0;2;100;0;0\x1b\\";
+/// A box of two pixels, of which one is painted.
+const HALF: &[u8] = b"\x1bPq\"1;1;2;1#0;2;0;0;0#0@\x1b\\";
+/// Two definitions, and a pixel without a select.
+const UNSELECTED: &[u8] = b"\x1bPq\"1;1;1;1#0;2;0;0;0#1;2;100;0;0@\x1b\\";
+/// A colour out of range, and a pixel in its register.
+const OUT_OF_RANGE: &[u8] = b"\x1bPq#1;2;200;0;0#1@\x1b\\";
+/// A repeat of no data byte.
+const NONE_REPEATED: &[u8] = b"\x1bPq!0@\x1b\\";
+
+#[test]
+fn terminals_show_what_they_choose(rt: HostRuntime) -> Result<(), Fail> {
+    let one = plain_choices(1, 1);
+    let two = plain_choices(2, 1);
+    let three = plain_choices(1, 3);
+    let showing = Choices {
+        binds_at_showing: true,
+        ..one
+    };
+    let filled = Choices {
+        ground: Ground::Filled(0),
+        ..two
+    };
+    let selects = Choices {
+        selects: true,
+        ..one
+    };
+    let tall = Choices { tall: 2, ..three };
+    let unclamped = Choices {
+        clamps: false,
+        ..one
+    };
+    let none = Choices { zero: 0, ..one };
+    for (choices, text, expected) in [
+        (one, REDEFINED, [BLACK].as_slice()),
+        (showing, REDEFINED, [RED].as_slice()),
+        (two, HALF, [BLACK, WHITE].as_slice()),
+        (filled, HALF, [BLACK, BLACK].as_slice()),
+        (one, UNSELECTED, [BLACK].as_slice()),
+        (selects, UNSELECTED, [RED].as_slice()),
+        (
+            tall,
+            b"\x1bPq@\x1b\\".as_slice(),
+            [BLACK, BLACK, WHITE].as_slice(),
+        ),
+        (one, OUT_OF_RANGE, [RED].as_slice()),
+        (unclamped, OUT_OF_RANGE, [grey(6)].as_slice()),
+        (one, NONE_REPEATED, [BLACK].as_slice()),
+        (none, NONE_REPEATED, [WHITE].as_slice()),
+    ] {
+        assert!(rt;
+            is_shown(rt.alloc(), choices, 16, text, expected)?,
+            "{text:?}"
+        );
+    }
+    Ok(())
+}

@@ -1,0 +1,259 @@
+//! Terminals that clip data to the declared box.
+
+use crate::fixtures::{BLACK, RED, WHITE, grey, is_shown, plain_choices};
+use sixel_picture::Parts;
+use sixel_terminal::{Choices, Ground};
+use std::alloc::Global;
+use std::test::Fail;
+
+/// Whether a terminal shows the first colours after a document, and one that differs in clipping alone the others.
+fn is_clipped(
+    alloc: Global,
+    choices: Choices,
+    text: &[u8],
+    whole: &[Parts],
+    clipped: &[Parts],
+) -> Result<bool, Fail> {
+    let choices = Choices {
+        clips: false,
+        ..choices
+    };
+    let clips = Choices {
+        clips: true,
+        ..choices
+    };
+    Ok(is_shown(alloc, choices, 16, text, whole)? && is_shown(alloc, clips, 16, text, clipped)?)
+}
+
+/// A box of one pixel, and a pixel in the row below it: the byte `A` is the second bit.
+const BELOW: &[u8] = b"\x1bPq\"1;1;1;1#0;2;0;0;0#0A\x1b\\";
+/// A box of one pixel, and a run of two.
+const BESIDE: &[u8] = b"\x1bPq\"1;1;1;1#0;2;0;0;0#0!2@\x1b\\";
+/// A box of one pixel, a run of two, and a pixel at the left margin.
+const OVER: &[u8] = b"\x1bPq\"1;1;1;1#1!2@$#2@\x1b\\";
+/// A run of two past a box of one pixel, and then another colour of its register.
+const REDEFINED: &[u8] = b"\x1bPq\"1;1;1;1#0!2@#0;2;100;0;0\x1b\\";
+
+/// Data paint in the declared box alone, and what they would paint outside it stays as it was.
+#[test]
+fn data_outside_the_box_are_clipped(rt: HostRuntime) -> Result<(), Fail> {
+    let two = plain_choices(2, 1);
+    let showing = Choices {
+        binds_at_showing: true,
+        ..two
+    };
+    let below = plain_choices(1, 2);
+    for (choices, text, whole, clipped) in [
+        (below, BELOW, [WHITE, BLACK], [WHITE, WHITE]),
+        (two, BESIDE, [BLACK, BLACK], [BLACK, WHITE]),
+        (two, OVER, [grey(12), grey(6)], [grey(12), WHITE]),
+        (showing, REDEFINED, [RED, RED], [RED, WHITE]),
+    ] {
+        assert!(rt;
+            is_clipped(rt.alloc(), choices, text, &whole, &clipped)?,
+            "{text:?}"
+        );
+    }
+    Ok(())
+}
+
+/// A run of two before any box, and then a box of one pixel and a run of two in another register.
+const BOX_AFTER: &[u8] = b"\x1bPq!2@$\"1;1;1;1#1!2@\x1b\\";
+
+/// The box is that of the first raster attributes before the data. Where there are none, nothing is clipped.
+#[test]
+fn the_first_box_before_clips(rt: HostRuntime) -> Result<(), Fail> {
+    let two = plain_choices(2, 1);
+    for (text, clipped) in [
+        // No raster attributes.
+        (b"\x1bPq!2@\x1b\\".as_slice(), [BLACK, BLACK]),
+        // They come after the data.
+        (b"\x1bPq!2@\"1;1;1;1\x1b\\".as_slice(), [BLACK, BLACK]),
+        // A box of 1 by 1 and then one of 2 by 1, and the other way round.
+        (
+            b"\x1bPq\"1;1;1;1\"1;1;2;1!2@\x1b\\".as_slice(),
+            [BLACK, WHITE],
+        ),
+        (
+            b"\x1bPq\"1;1;2;1\"1;1;1;1!2@\x1b\\".as_slice(),
+            [BLACK, BLACK],
+        ),
+        // Missing sides are 0, so nothing lies in the box.
+        (b"\x1bPq\"1;1!2@\x1b\\".as_slice(), [WHITE, WHITE]),
+        (b"\x1bPq\"1;1;2!2@\x1b\\".as_slice(), [WHITE, WHITE]),
+    ] {
+        assert!(rt;
+            is_clipped(rt.alloc(), two, text, &[BLACK, BLACK], &clipped)?,
+            "{text:?}"
+        );
+    }
+    assert!(rt;
+        is_clipped(
+            rt.alloc(),
+            two,
+            BOX_AFTER,
+            &[grey(6), grey(6)],
+            &[grey(6), BLACK]
+        )?
+    );
+    Ok(())
+}
+
+/// A box of one pixel, and then one of two.
+const GROUNDS: &[u8] = b"\x1bPq\"1;1;1;1\"1;1;2;1\x1b\\";
+/// The same, and then a run of two.
+const GROUNDS_AND_RUN: &[u8] = b"\x1bPq\"1;1;1;1\"1;1;2;1#1!2@\x1b\\";
+
+/// A ground is filled whole, also that of a box which is larger than the first.
+#[test]
+fn grounds_are_not_clipped(rt: HostRuntime) -> Result<(), Fail> {
+    let filled = Choices {
+        ground: Ground::Filled(5),
+        ..plain_choices(2, 1)
+    };
+    for (text, whole, clipped) in [
+        (GROUNDS, [grey(30), grey(30)], [grey(30), grey(30)]),
+        (GROUNDS_AND_RUN, [grey(6), grey(6)], [grey(6), grey(30)]),
+    ] {
+        assert!(rt;
+            is_clipped(rt.alloc(), filled, text, &whole, &clipped)?,
+            "{text:?}"
+        );
+    }
+    Ok(())
+}
+
+/// So many white pixels, of which these have the colour of register 1.
+fn pixels_of(alloc: Global, count: usize, painted: &[usize]) -> Result<Vec<Parts>, Fail> {
+    let mut pixels = Vec::with_capacity(alloc, count)?;
+    for pixel in 0..count {
+        pixels.push(if painted.contains(&pixel) {
+            grey(6)
+        } else {
+            WHITE
+        })?;
+    }
+    Ok(pixels)
+}
+
+/// Whether the first pixels, by row and column, have the colour of register 1 where nothing is clipped, and the others
+/// where it is.
+fn is_clipped_to(
+    alloc: Global,
+    choices: Choices,
+    text: &[u8],
+    whole: &[usize],
+    clipped: &[usize],
+) -> Result<bool, Fail> {
+    let count = (choices.screen_width as usize).saturating_mul(choices.screen_height as usize);
+    let whole = pixels_of(alloc, count, whole)?;
+    let clipped = pixels_of(alloc, count, clipped)?;
+    is_clipped(alloc, choices, text, &whole, &clipped)
+}
+
+/// The box begins at the origin. All six bits of two columns are set; of them four pixels lie on the screen.
+#[test]
+fn the_box_begins_at_the_origin(rt: HostRuntime) -> Result<(), Fail> {
+    let middle = Choices {
+        origin_x: 1,
+        origin_y: 1,
+        ..plain_choices(3, 3)
+    };
+    for (text, clipped) in [
+        (b"\x1bPq\"1;1;1;1#1!2~\x1b\\".as_slice(), [4].as_slice()),
+        (b"\x1bPq\"1;1;2;1#1!2~\x1b\\".as_slice(), [4, 5].as_slice()),
+        (b"\x1bPq\"1;1;1;2#1!2~\x1b\\".as_slice(), [4, 7].as_slice()),
+        // The box goes past the screen.
+        (
+            b"\x1bPq\"1;1;9;9#1!2~\x1b\\".as_slice(),
+            [4, 5, 7, 8].as_slice(),
+        ),
+    ] {
+        let whole = [4, 5, 7, 8].as_slice();
+        assert!(rt;
+            is_clipped_to(rt.alloc(), middle, text, whole, clipped)?,
+            "{text:?}"
+        );
+    }
+    Ok(())
+}
+
+/// A run is cut at the box's right side and at the screen's, whichever comes first.
+#[test]
+fn runs_are_cut_at_the_right(rt: HostRuntime) -> Result<(), Fail> {
+    for (text, whole, clipped) in [
+        // It crosses both.
+        (
+            b"\x1bPq\"1;1;2;1#1?!9@\x1b\\".as_slice(),
+            [1, 2, 3].as_slice(),
+            [1].as_slice(),
+        ),
+        // The box is wider than the screen.
+        (
+            b"\x1bPq\"1;1;9;1#1??!65535@\x1b\\".as_slice(),
+            [2, 3].as_slice(),
+            [2, 3].as_slice(),
+        ),
+        // It begins right of the box.
+        (
+            b"\x1bPq\"1;1;2;1#1!3?@\x1b\\".as_slice(),
+            [3].as_slice(),
+            [].as_slice(),
+        ),
+        // It begins at the box's side.
+        (
+            b"\x1bPq\"1;1;2;1#1@?@@\x1b\\".as_slice(),
+            [0, 2, 3].as_slice(),
+            [0].as_slice(),
+        ),
+    ] {
+        assert!(rt;
+            is_clipped_to(rt.alloc(), plain_choices(4, 1), text, whole, clipped)?,
+            "{text:?}"
+        );
+    }
+    Ok(())
+}
+
+/// Two bits at 2;2, in a box of three rows.
+const TALL: &[u8] = b"\x1bPq\"2;2;1;3#1B\x1b\\";
+
+/// The box counts pixels of the screen, so it also cuts a sixel pixel that is two of them high.
+#[test]
+fn tall_sixel_pixels_are_cut_in_the_middle(rt: HostRuntime) -> Result<(), Fail> {
+    for (height, text, whole, clipped) in [
+        // The two bits of `B` are the rows 0 and 1, and 2 and 3. The box ends below row 2.
+        (5, TALL, [0, 1, 2, 3].as_slice(), [0, 1, 2].as_slice()),
+        // The latest ratio says the height, the first box the sides.
+        (
+            5,
+            b"\x1bPq\"1;1;1;3\"2;2;1;9#1B\x1b\\".as_slice(),
+            [0, 1, 2, 3].as_slice(),
+            [0, 1, 2].as_slice(),
+        ),
+        // The first bit of the next line is the rows 12 and 13.
+        (
+            14,
+            b"\x1bPq\"2;2;1;13#1-@\x1b\\".as_slice(),
+            [12, 13].as_slice(),
+            [12].as_slice(),
+        ),
+        // At 1;1 a line is six rows high.
+        (
+            9,
+            b"\x1bPq\"1;1;1;7#1-B\x1b\\".as_slice(),
+            [6, 7].as_slice(),
+            [6].as_slice(),
+        ),
+    ] {
+        let choices = Choices {
+            tall: 2,
+            ..plain_choices(1, height)
+        };
+        assert!(rt;
+            is_clipped_to(rt.alloc(), choices, text, whole, clipped)?,
+            "{text:?}"
+        );
+    }
+    Ok(())
+}

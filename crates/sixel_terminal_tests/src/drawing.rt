@@ -1,0 +1,257 @@
+//! Where events paint, and what paints last.
+
+use crate::fixtures::{
+    BLACK, RED, WHITE, document, events_of, grey, is_shown, parts_of, plain_choices, terminal,
+};
+use sixel_grammar::{Command, Event, Placed};
+use sixel_picture::{Colour, Parts};
+use sixel_terminal::{Choices, Ground, Terminal};
+use std::alloc::{AllocError, Global};
+use std::test::Fail;
+
+/// So many white rows of one column, of which these are black.
+fn rows_of(alloc: Global, height: u32, black: &[u32]) -> Result<Vec<Parts>, Fail> {
+    let mut rows = Vec::with_capacity(alloc, height as usize)?;
+    for row in 0..height {
+        rows.push(if black.contains(&row) { BLACK } else { WHITE })?;
+    }
+    Ok(rows)
+}
+
+/// The height is that of the latest raster attributes before: 1 where both numbers are 1, else the terminal's.
+#[test]
+fn heights_follow_the_ratio(rt: HostRuntime) -> Result<(), Fail> {
+    for (height, text, black) in [
+        (3, b"\x1bPq\"2;2;1;1@\x1b\\".as_slice(), [0, 1].as_slice()),
+        (3, b"\x1bPq\"0;0;1;1@\x1b\\".as_slice(), [0, 1].as_slice()),
+        (3, b"\x1bPq\"1;1;1;1@\x1b\\".as_slice(), [0].as_slice()),
+        (
+            8,
+            b"\x1bPq@-\"1;1;1;1@\x1b\\".as_slice(),
+            [0, 1, 6].as_slice(),
+        ),
+        (14, b"\x1bPq@-@\x1b\\".as_slice(), [0, 1, 12, 13].as_slice()),
+    ] {
+        let choices = Choices {
+            tall: 2,
+            ..plain_choices(1, height)
+        };
+        let expected = rows_of(rt.alloc(), height, black)?;
+        assert!(rt;
+            is_shown(rt.alloc(), choices, 16, text, &expected)?,
+            "{text:?}"
+        );
+    }
+    Ok(())
+}
+
+/// The last painting of a pixel is shown, and none wraps round the screen.
+#[test]
+fn the_last_painting_is_shown(rt: HostRuntime) -> Result<(), Fail> {
+    let one = plain_choices(1, 1);
+    let two = plain_choices(2, 1);
+    for (choices, text, expected) in [
+        (
+            one,
+            b"\x1bPq#1@$#2@\x1b\\".as_slice(),
+            [grey(12)].as_slice(),
+        ),
+        (
+            two,
+            b"\x1bPq#1@#2@\x1b\\".as_slice(),
+            [grey(6), grey(12)].as_slice(),
+        ),
+        (
+            two,
+            b"\x1bPq!65535~\x1b\\".as_slice(),
+            [BLACK, BLACK].as_slice(),
+        ),
+        (
+            two,
+            b"\x1bPq#1@@#2@$?#3@\x1b\\".as_slice(),
+            [grey(6), grey(18)].as_slice(),
+        ),
+        (two, b"\x1bPq\x1b\\".as_slice(), [WHITE, WHITE].as_slice()),
+    ] {
+        assert!(rt;
+            is_shown(rt.alloc(), choices, 16, text, expected)?,
+            "{text:?}"
+        );
+    }
+    Ok(())
+}
+
+/// The second raster attributes come after a painting.
+const RASTER_TWICE: &[u8] = b"\x1bPq\"1;1;1;1#1@\"1;1;1;1\x1b\\";
+/// The ground's register is defined after the filling.
+const GROUND_REDEFINED: &[u8] = b"\x1bPq\"1;1;1;1#5;2;100;0;0\x1b\\";
+
+/// Raster attributes paint their box from the origin on, each time, in the ground's register.
+#[test]
+fn grounds_are_filled_or_kept(rt: HostRuntime) -> Result<(), Fail> {
+    let one = plain_choices(1, 1);
+    let filled = Choices {
+        ground: Ground::Filled(5),
+        ..one
+    };
+    let showing = Choices {
+        binds_at_showing: true,
+        ..filled
+    };
+    let small = Choices {
+        screen_width: 2,
+        screen_height: 2,
+        origin_x: 1,
+        origin_y: 1,
+        ..filled
+    };
+    let large = Choices {
+        screen_width: 3,
+        screen_height: 3,
+        ..small
+    };
+    let mut painted = [WHITE; 9];
+    painted[4] = grey(6);
+    for (choices, text, expected) in [
+        (one, RASTER_TWICE, [grey(6)].as_slice()),
+        (filled, RASTER_TWICE, [grey(30)].as_slice()),
+        (filled, GROUND_REDEFINED, [grey(30)].as_slice()),
+        (showing, GROUND_REDEFINED, [RED].as_slice()),
+        (
+            small,
+            b"\x1bPq\"1;1;4;4\x1b\\".as_slice(),
+            [WHITE, WHITE, WHITE, grey(30)].as_slice(),
+        ),
+        (
+            large,
+            b"\x1bPq\"1;1;1;1#1@\x1b\\".as_slice(),
+            painted.as_slice(),
+        ),
+    ] {
+        assert!(rt;
+            is_shown(rt.alloc(), choices, 16, text, expected)?,
+            "{text:?}"
+        );
+    }
+    Ok(())
+}
+
+/// Lists that no document gives: none at all, and one with a finish and a start in the middle, which reset nothing.
+#[test]
+fn any_list_of_events_is_shown(rt: HostRuntime) -> Result<(), Fail> {
+    let terminal = terminal(rt.alloc(), plain_choices(2, 1), 16)?;
+    let nothing = terminal.show(rt.alloc(), &[])?;
+    let nothing = parts_of(rt.alloc(), nothing.as_slice())?;
+    assert_eq!(rt; nothing.as_slice(), [WHITE, WHITE].as_slice());
+
+    let text = b"\x1bPq@\x1b\\".as_slice();
+    let mut events = events_of(rt.alloc(), text)?;
+    for placed in events_of(rt.alloc(), text)? {
+        events.push(placed)?;
+    }
+    let middle = events.as_slice().get(1..5).ok_or("six events")?;
+    let twice = terminal.show(rt.alloc(), middle)?;
+    let twice = parts_of(rt.alloc(), twice.as_slice())?;
+    assert_eq!(rt; twice.as_slice(), [BLACK, BLACK].as_slice());
+    Ok(())
+}
+
+/// A pixel painted in register 0, which is black, and then another colour of register 0.
+const REDEFINED: &[u8] = b"\x1bPq\"1;1;1;1#0;2;0;0;0#0@#0;2;100;0;0\x1b\\";
+
+/// Whether the terminal shows one pixel of this colour; `None` where a growth was refused.
+fn shows(alloc: Global, terminal: &Terminal, events: &[Placed], expected: Parts) -> Option<bool> {
+    let colours = terminal.show(alloc, events).ok()?;
+    let [colour] = colours.as_slice() else {
+        return Some(false);
+    };
+    Some(colour.parts() == expected)
+}
+
+fn copies(alloc: Global, colour: Colour, count: usize) -> Result<Vec<Colour>, AllocError> {
+    vec![in alloc; colour; count]
+}
+
+/// A terminal of black registers and one white pixel, also where a growth was refused.
+fn terminal_in_turn(alloc: Global, choices: Choices) -> Result<Terminal, Fail> {
+    let black = Colour::rgb(0, 0, 0).ok_or("black")?;
+    let white = Colour::rgb(100, 100, 100).ok_or("white")?;
+    let colours = copies(alloc, black, 16).or_else(|_| copies(alloc, black, 16))?;
+    let screen = copies(alloc, white, 1).or_else(|_| copies(alloc, white, 1))?;
+    Ok(Terminal::new(choices, colours, screen).or(Err("a terminal"))?)
+}
+
+/// Whether a terminal shows the colour after a document, or does at the next call where a growth was refused.
+fn shows_in_turn(
+    alloc: Global,
+    choices: Choices,
+    text: &[u8],
+    expected: Parts,
+) -> Result<bool, Fail> {
+    let terminal = terminal_in_turn(alloc, choices)?;
+    let events = document(alloc, text).or_else(|_| document(alloc, text));
+    let events = events.or(Err("a document"))?;
+    let first = shows(alloc, &terminal, &events, expected);
+    Ok(first.or_else(|| shows(alloc, &terminal, &events, expected)) == Some(true))
+}
+
+/// Under `rt try --test --fail-alloc N` the N-th growth is refused: the first four make the terminal and the events,
+/// and those of `show` are 5, 6 and 7. No other is refused.
+#[test]
+fn a_refused_growth_is_answered(rt: HostRuntime) -> Result<(), Fail> {
+    let one = plain_choices(1, 1);
+    assert!(rt; shows_in_turn(rt.alloc(), one, REDEFINED, BLACK)?);
+    Ok(())
+}
+
+#[test]
+fn a_refused_growth_is_answered_at_showing(rt: HostRuntime) -> Result<(), Fail> {
+    let showing = Choices {
+        binds_at_showing: true,
+        ..plain_choices(1, 1)
+    };
+    assert!(rt; shows_in_turn(rt.alloc(), showing, REDEFINED, RED)?);
+    Ok(())
+}
+
+/// What isn't seen takes one growth, the fifth.
+#[test]
+fn a_refused_growth_is_answered_unseen(rt: HostRuntime) -> Result<(), Fail> {
+    let without = Choices {
+        eight_bit: false,
+        ..plain_choices(1, 1)
+    };
+    let text = b"\x1bPq\"1;1;1;1#0@\x9c".as_slice();
+    assert!(rt; shows_in_turn(rt.alloc(), without, text, WHITE)?);
+    Ok(())
+}
+
+/// So many black columns of six rows, one event each.
+fn columns_of(alloc: Global, count: usize) -> Result<Vec<Placed>, Fail> {
+    let mut events = Vec::with_capacity(alloc, count)?;
+    for _ in 0..count {
+        events.push(Placed {
+            place: 0,
+            event: Event::Step(Command::Sixel(63)),
+        })?;
+    }
+    Ok(events)
+}
+
+/// Whether the first pixels are black, so many, and the others white.
+fn are_black_first(colours: &[Colour], count: usize) -> bool {
+    let (black, white) = colours.split_at(count.min(colours.len()));
+    black.iter().all(|colour| colour.parts() == BLACK)
+        && white.iter().all(|colour| colour.parts() == WHITE)
+}
+
+/// The largest screen, and a list that goes far past its right side.
+#[test]
+fn the_largest_screen_is_shown(rt: HostRuntime) -> Result<(), Fail> {
+    let terminal = terminal(rt.alloc(), plain_choices(4_096, 4_096), 16)?;
+    let events = columns_of(rt.alloc(), 150_000)?;
+    let colours = terminal.show(rt.alloc(), &events)?;
+    assert_eq!(rt; colours.len(), 16_777_216);
+    assert!(rt; are_black_first(&colours, 24_576));
+    Ok(())
+}

@@ -1,0 +1,102 @@
+//! What the tests share: colours, choices, terminals, and what they show.
+
+use sixel_grammar::{InputFault, Placed, SliceSource, read_all};
+use sixel_picture::{Colour, Parts};
+use sixel_terminal::{Choices, Ground, Terminal};
+use std::alloc::Global;
+use std::test::Fail;
+
+pub(crate) const BLACK: Parts = Parts::Rgb(0, 0, 0);
+
+pub(crate) const RED: Parts = Parts::Rgb(100, 0, 0);
+
+pub(crate) const WHITE: Parts = Parts::Rgb(100, 100, 100);
+
+/// A grey of this many percent.
+pub(crate) fn grey(percent: u8) -> Parts {
+    Parts::Rgb(percent, percent, percent)
+}
+
+/// A terminal that binds at painting, keeps its ground and has its origin at the top left.
+pub(crate) fn plain_choices(width: u32, height: u32) -> Choices {
+    Choices {
+        binds_at_showing: false,
+        selects: false,
+        ground: Ground::Kept,
+        selected: 0,
+        zero: 1,
+        clamps: true,
+        clips: false,
+        eight_bit: true,
+        tall: 1,
+        screen_width: width,
+        screen_height: height,
+        origin_x: 0,
+        origin_y: 0,
+    }
+}
+
+/// Register n starts as 6n percent of red, green and blue, from 17 on modulo 101.
+pub(crate) fn grey_colours(alloc: Global, count: u16) -> Result<Vec<Colour>, Fail> {
+    let mut colours = Vec::with_capacity(alloc, count as usize)?;
+    for register in 0..count {
+        let percent = (register as u32 * 6 % 101) as u8;
+        colours.push(Colour::rgb(percent, percent, percent).ok_or("a grey")?)?;
+    }
+    Ok(colours)
+}
+
+/// A white screen.
+pub(crate) fn white_screen(alloc: Global, pixels: usize) -> Result<Vec<Colour>, Fail> {
+    let white = Colour::rgb(100, 100, 100).ok_or("white")?;
+    Ok(vec![in alloc; white; pixels]?)
+}
+
+/// A terminal of these choices with so many grey registers and a white screen.
+pub(crate) fn terminal(alloc: Global, choices: Choices, registers: u16) -> Result<Terminal, Fail> {
+    let pixels = (choices.screen_width as usize).saturating_mul(choices.screen_height as usize);
+    let colours = grey_colours(alloc, registers)?;
+    Ok(Terminal::new(choices, colours, white_screen(alloc, pixels)?).or(Err("a terminal"))?)
+}
+
+/// What reading a text gives.
+pub(crate) fn document(alloc: Global, text: &[u8]) -> Result<Vec<Placed>, InputFault> {
+    read_all(alloc, &mut SliceSource::new(text, 64, None))
+}
+
+/// The events of a document.
+pub(crate) fn events_of(alloc: Global, text: &[u8]) -> Result<Vec<Placed>, Fail> {
+    Ok(document(alloc, text).or(Err("a document"))?)
+}
+
+/// What a terminal of so many grey registers and a white screen shows after a document.
+pub(crate) fn shown_of(
+    alloc: Global,
+    choices: Choices,
+    registers: u16,
+    text: &[u8],
+) -> Result<Vec<Parts>, Fail> {
+    let events = events_of(alloc, text)?;
+    let colours = terminal(alloc, choices, registers)?.show(alloc, events.as_slice())?;
+    parts_of(alloc, colours.as_slice())
+}
+
+/// Whether a terminal of so many registers shows this after a document.
+pub(crate) fn is_shown(
+    alloc: Global,
+    choices: Choices,
+    registers: u16,
+    text: &[u8],
+    expected: &[Parts],
+) -> Result<bool, Fail> {
+    Ok(shown_of(alloc, choices, registers, text)?.as_slice() == expected)
+}
+
+/// The coordinates of colours.
+pub(crate) fn parts_of(alloc: Global, colours: &[Colour]) -> Result<Vec<Parts>, Fail> {
+    let mut parts = Vec::with_capacity(alloc, colours.len())?;
+    for colour in colours {
+        parts.push(colour.parts())?;
+    }
+    Ok(parts)
+}

@@ -1,0 +1,165 @@
+//! Which parts make a terminal, and where it has room.
+
+use crate::fixtures::{grey_colours, plain_choices, terminal};
+use sixel_terminal::{Choices, Ground, Terminal, TerminalReason};
+use std::alloc::Global;
+use std::test::Fail;
+
+/// Why so many registers and pixels make no terminal, if their colours come back as they were.
+fn refused(
+    alloc: Global,
+    choices: Choices,
+    registers: u16,
+    pixels: u16,
+) -> Result<Option<TerminalReason>, Fail> {
+    let colours = grey_colours(alloc, registers)?;
+    let screen = grey_colours(alloc, pixels)?;
+    match Terminal::new(choices, colours.clone()?, screen.clone()?) {
+        Ok(_) => Ok(None),
+        Err(fault) => {
+            let is_same = fault.colours == colours && fault.screen == screen;
+            Ok(is_same.then_some(fault.reason))
+        }
+    }
+}
+
+#[test]
+fn terminals_name_the_first_reason(rt: HostRuntime) -> Result<(), Fail> {
+    let plain = plain_choices(2, 2);
+    for (choices, registers, pixels, expected) in [
+        (
+            Choices {
+                selected: 16,
+                ..plain
+            },
+            15,
+            4,
+            TerminalReason::Registers,
+        ),
+        (plain, 257, 4, TerminalReason::Registers),
+        (
+            Choices {
+                selected: 16,
+                ground: Ground::Filled(16),
+                ..plain
+            },
+            16,
+            4,
+            TerminalReason::Selected,
+        ),
+        (
+            Choices {
+                ground: Ground::Filled(16),
+                zero: 2,
+                ..plain
+            },
+            16,
+            4,
+            TerminalReason::Ground,
+        ),
+        (
+            Choices {
+                zero: 2,
+                tall: 0,
+                ..plain
+            },
+            16,
+            4,
+            TerminalReason::Zero,
+        ),
+        (Choices { tall: 0, ..plain }, 16, 3, TerminalReason::Tall),
+        (
+            Choices {
+                origin_x: 2,
+                ..plain
+            },
+            16,
+            3,
+            TerminalReason::Screen,
+        ),
+        (plain, 16, 5, TerminalReason::Screen),
+        (plain_choices(0, 2), 16, 0, TerminalReason::Screen),
+        (plain_choices(2, 0), 16, 0, TerminalReason::Screen),
+        (plain_choices(4097, 1), 16, 4097, TerminalReason::Screen),
+        (plain_choices(1, 4097), 16, 4097, TerminalReason::Screen),
+        (
+            Choices {
+                origin_x: 2,
+                ..plain
+            },
+            16,
+            4,
+            TerminalReason::Origin,
+        ),
+        (
+            Choices {
+                origin_y: 2,
+                ..plain
+            },
+            16,
+            4,
+            TerminalReason::Origin,
+        ),
+    ] {
+        let reason = refused(rt.alloc(), choices, registers, pixels)?;
+        assert_eq!(rt; reason, Some(expected), "{choices:?}, {pixels} pixels");
+    }
+    Ok(())
+}
+
+/// The widest limits: a terminal is made of each.
+#[test]
+fn terminals_are_made_up_to_their_limits(rt: HostRuntime) -> Result<(), Fail> {
+    let plain = plain_choices(1, 1);
+    let last = Choices {
+        selected: 15,
+        ground: Ground::Filled(15),
+        zero: 0,
+        tall: u16::MAX,
+        ..plain
+    };
+    let origin = Choices {
+        origin_x: 4095,
+        ..plain_choices(4096, 1)
+    };
+    let below = Choices {
+        origin_y: 4095,
+        ..plain_choices(1, 4096)
+    };
+    for (choices, registers) in [(plain, 256), (last, 16), (origin, 16), (below, 16)] {
+        let terminal = terminal(rt.alloc(), choices, registers)?;
+        assert!(rt; terminal.has_room(1, 1), "{choices:?}");
+    }
+    Ok(())
+}
+
+#[test]
+fn boxes_have_room_on_the_screen(rt: HostRuntime) -> Result<(), Fail> {
+    for (origin_x, origin_y, width, height, expected) in [
+        (0, 0, 4, 3, true),
+        (0, 0, 5, 3, false),
+        (0, 0, 4, 4, false),
+        (0, 0, u32::MAX, 1, false),
+        (0, 0, 1, u32::MAX, false),
+        (1, 0, 4, 3, false),
+        (1, 0, 3, 3, true),
+        (0, 1, 4, 3, false),
+        (0, 1, 4, 2, true),
+        (3, 2, u32::MAX, 1, false),
+        (3, 2, 1, u32::MAX, false),
+        (3, 2, 0, 0, true),
+    ] {
+        let choices = Choices {
+            origin_x,
+            origin_y,
+            ..plain_choices(4, 3)
+        };
+        let terminal = terminal(rt.alloc(), choices, 16)?;
+        assert_eq!(rt;
+            terminal.has_room(width, height),
+            expected,
+            "{width} by {height} at {origin_x}, {origin_y}"
+        );
+    }
+    Ok(())
+}

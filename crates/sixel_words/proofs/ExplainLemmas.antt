@@ -1,0 +1,54 @@
+-- What the words of `explain` ask for.
+use Rattle.std.proofs.Common.{◌≡◌, ◌∙◌, Option, Some, None, ap, codes, subst, sym, List}
+use Rattle.std.specs.Prelude.{option_map}
+use Rattle.clap.specs.Simple.{subcommand_of}
+use Rattle.clap.specs.Walk.{Row, first_of}
+use Rattle.sixel_words.specs.declared.explanations.Topic.{Topic}
+use Rattle.sixel_words.specs.declared.words.WordsFault.{WordsFault}
+use Rattle.sixel_words.specs.declared.words.WordsFault.TheVariants as fault
+use Rattle.sixel_words.specs.Explanations.{topic_name}
+use Rattle.sixel_run.specs.Texts.{Text}
+use Rattle.sixel_words.proofs.MatchLemmas.{same_parts}
+use Rattle.sixel_words.specs.Words.{AsksFor, IsAskedBy, IsAskedIn, IsNoHelp, IsRefusal, IsUnexplained, sixel_app}
+
+-- a topic is asked for by its name
+pub by_name : (topic : Option Topic) (name : Text) → Some name ≡ option_map topic_name topic
+    → ((t : Topic) → topic_name t ≡ name → ⊥) → ⊥
+by_name None name is none = cc
+by_name (Some t) name is none = none t (let same : topic_name t ≡ name = cc in same)
+
+pub asked_by : (words : List Text) (name : Text) (rows : List Row) (f : WordsFault)
+    → subcommand_of sixel_app words ≡ Some (name, rows) → IsAskedIn name rows f → IsAskedBy words f
+asked_by words name rows (fault.Explanation topic) is asked =
+    (rows, is ∙ ap (λ (n : Text). Some (n, rows)) asked.0, asked.1)
+asked_by words name rows (fault.Usage error) is asked = tt
+asked_by words name rows (fault.Help error) is asked = tt
+asked_by words name rows fault.OutOfMemory is asked = tt
+
+-- what is no explanation may come of any words
+pub unasked : (words : List Text) (f : WordsFault) → IsUnexplained f → IsAskedBy words f
+unasked words (fault.Explanation topic) is = absurd is
+unasked words (fault.Usage error) is = tt
+unasked words (fault.Help error) is = tt
+unasked words fault.OutOfMemory is = tt
+
+pub refused_unasked : (words : List Text) (f : WordsFault) → IsRefusal f → IsAskedBy words f
+refused_unasked words (fault.Explanation topic) is = absurd is
+refused_unasked words (fault.Usage error) is = tt
+refused_unasked words (fault.Help error) is = absurd is
+refused_unasked words fault.OutOfMemory is = tt
+
+-- words that ask for a name have this subcommand, with this option
+pub same_wish : (words : List Text) (wanted : Option Text) (name : Text) (rows : List Row) → AsksFor words wanted
+    → subcommand_of sixel_app words ≡ Some (name, rows)
+    → (name ≡ codes "explain") × (first_of (codes "name") rows ≡ wanted)
+same_wish words wanted name rows asks is =
+    let same = same_parts (subcommand_of sixel_app words) (codes "explain") name asks.0 rows asks.1 is in
+    (sym same.0, subst (λ (r : List Row). first_of (codes "name") r ≡ wanted) same.1 asks.2)
+
+-- a refusal is no help
+pub refused_unhelped : (f : WordsFault) → IsRefusal f → IsNoHelp f
+refused_unhelped (fault.Explanation topic) is = absurd is
+refused_unhelped (fault.Usage error) is = tt
+refused_unhelped (fault.Help error) is = absurd is
+refused_unhelped fault.OutOfMemory is = tt

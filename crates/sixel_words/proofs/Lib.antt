@@ -1,0 +1,4 @@
+pub mod MatchLemmas
+pub mod ExplainLemmas
+pub mod NameLemmas
+pub mod WishLemmas

@@ -1,0 +1,174 @@
+-- What an entry's getters read.
+use Rattle.std.proofs.Common.{◌||◌, ◌≡◌, ◌∙◌, ◌≤◌, ◌⊎◌, ℕ, Bool, true, false, List, [], Option, Some, None, arith}
+use Rattle.std.proofs.Common.{codes, refl, slice_index, subst, sym, ap, ap₂, inl, inr}
+use Rattle.std.specs.Prelude.{find, option_and_then, option_map, map, string_bytes, Box, IfSome, IfOk, Result, Ok, Err}
+use Rattle.std.specs.Str.{bytes_eq}
+use Rattle.std.specs.Box.{box_value}
+use Rattle.std.specs.Str.Parse.{ParsesUnsigned}
+use Rattle.sixel_terminal.specs.Limits.{most_screen_side}
+use Rattle.clap.specs.Facts.{Entry}
+use Rattle.clap.specs.Matches.{ReadsOne, matched_of}
+use Rattle.clap.specs.Simple.{subcommand_rows}
+use Rattle.clap.specs.Walk.{Row, Text, row_of, rows_of}
+use Rattle.clap.specs.declared.parser.matches.Found.{Found}
+use Rattle.clap.specs.declared.parser.matches.MatchedArg.{MatchedArg}
+use Rattle.clap.specs.declared.parser.matches.ValueSource.{ValueSource}
+use Rattle.clap.proofs.WalkLemmas.{find_row}
+use Rattle.clap.specs.declared.parser.matches.SubCommand.{SubCommand}
+use Rattle.clap.specs.declared.parser.matches.ArgMatches.TheViews.{out-SubCommand}
+use Rattle.sixel_run.specs.declared.task.Task.{Task}
+use Rattle.sixel_run.specs.declared.task.Task.TheVariants.{List as Listing, Check, Render, Show, ShowBox, Encode}
+use Rattle.sixel_words.specs.declared.request.Request.{Request}
+use Rattle.sixel_words.specs.Words.{HasSide, IsSideText, IsTask, files_of, is_given, is_named, is_of_words}
+
+pub both_parts : {X Y : Type 0} (o : Option (X × Y)) (x : X) (y : Y) → option_map (λ p. p.0) o ≡ Some x
+    → option_map (λ p. p.1) o ≡ Some y → o ≡ Some (x, y)
+both_parts None x y h k = cc
+both_parts (Some p) x y h k = go h k
+  where
+    go : Some p.0 ≡ Some x → Some p.1 ≡ Some y → Some p ≡ Some (x, y)
+    go h k = let a : p.0 ≡ x = cc in let b : p.1 ≡ y = cc in ap₂ (λ u v. Some (u, v)) a b
+
+pub name_rows : {Z : Type 0} (sub : Option (Box SubCommand Z)) → option_map (λ p. p.0) (subcommand_rows sub) ≡
+    option_map (λ b. (out-SubCommand (box_value b)).name.now) sub
+name_rows None = refl
+name_rows (Some b) = refl
+
+pub neither : (a b c : Bool) → a ≡ (b || c) → b ≡ false → c ≡ false → a ≡ false
+neither a b c e h k = rw (e, h, k) refl
+
+-- ---- numbers in range
+
+-- an option's text, if it has one, is this number
+abbrev pub HasNumber : Option Text → ℕ → Type 0
+HasNumber o n = (text : Text) × (o ≡ Some text) × IsSideText text n
+
+-- the getter reads a text as a number of 32 bits
+abbrev pub Parses : (E : Type 0) → (Text → Result ℕ E → Type 0) → Type 0
+Parses E gives = (t : Text) (r : Result ℕ E) → gives t r → ParsesUnsigned 32 10 t r
+
+pub number_read : {E : Type 0} (o : Option Text) (gives : Text → Result ℕ E → Type 0) (n : ℕ) → Parses E gives
+    → (o ≡ None → Some n ≡ None) → ((t : Text) → o ≡ Some t → ReadsOne gives t (Some n)) → 1 ≤ n → n ≤ most_screen_side
+    → HasNumber o n
+number_read None gives n parses none value least most = let bad : Some n ≡ None = none refl in cc
+number_read (Some t) gives n parses none value least most =
+    let got = parses t (Ok n) (value t refl) in
+    (t, refl, record { numeral = got.0.0; value = sym got.1; least = least; most = most })
+
+pub number_refused : {E : Type 0} (o : Option Text) (gives : Text → Result ℕ E → Type 0) (r : Option ℕ)
+    → Parses E gives → ((t : Text) → o ≡ Some t → ReadsOne gives t r)
+    → IfSome r (λ k. 1 ≤ k → k ≤ most_screen_side → ⊥) → (n : ℕ) → HasNumber o n → ⊥
+number_refused o gives None parses value out n h =
+    let read = value h.0 h.1 in
+    let refused = parses h.0 (Err read.0) read.1 in
+    refused (h.2.numeral, omega (arith, h.2.value, h.2.most))
+number_refused o gives (Some k) parses value out n h =
+    let got = parses h.0 (Ok k) (value h.0 h.1) in
+    out (omega (arith, got.1, h.2.value, h.2.least)) (omega (arith, got.1, h.2.value, h.2.most))
+
+-- ---- the words
+
+-- the source of an id's value, by its row
+pub source_rows : (f : Found) (id : Text) → option_and_then (λ (a : MatchedArg). a.source) (matched_of f id)
+    ≡ option_and_then (λ (r : Row). r.source) (find (λ r. bytes_eq r.id id) (rows_of f))
+source_rows f id = go (find (λ (e : Entry). bytes_eq e.0.now id) f.entries.items)
+    ∙ ap (option_and_then (λ (r : Row). r.source)) (sym (find_row f.entries.items id))
+  where
+    go : (o : Option Entry) → option_and_then (λ (a : MatchedArg). a.source) (option_map (λ e. e.1) o)
+        ≡ option_and_then (λ (r : Row). r.source) (option_map row_of o)
+    go None = refl
+    go (Some e) = refl
+
+pub named_by : (f : Found) (id : Text) (s : Option ValueSource)
+    → s ≡ option_and_then (λ (a : MatchedArg). a.source) (matched_of f id) → is_named id (rows_of f) ≡ is_of_words s
+named_by f id s e = ap is_of_words (sym (e ∙ source_rows f id))
+
+-- ---- the task of show
+
+not_both : (b : Bool) → b ≡ true → b ≡ false → ⊥
+not_both b e f = let bad : true ≡ false = sym e ∙ f in cc
+
+not_list : codes "show" ≡ codes "list" → ⊥
+not_list is = let first : 115 ≡ 108 = ap (λ (t : Text). slice_index t 0) is in omega (arith, first)
+
+not_check : codes "show" ≡ codes "check" → ⊥
+not_check is = let first : 115 ≡ 99 = ap (λ (t : Text). slice_index t 0) is in omega (arith, first)
+
+not_render : codes "show" ≡ codes "render" → ⊥
+not_render is = let first : 115 ≡ 114 = ap (λ (t : Text). slice_index t 0) is in omega (arith, first)
+
+not_encode : codes "show" ≡ codes "encode" → ⊥
+not_encode is = let first : 115 ≡ 101 = ap (λ (t : Text). slice_index t 0) is in omega (arith, first)
+
+pub without_width : (rows : List Row) (t : Task) → is_given (codes "box") rows ≡ false
+    → ((n : ℕ) → HasSide (codes "width") rows n → ⊥) → IsTask (codes "show") rows t → ⊥
+without_width rows Listing plain none is = not_list is
+without_width rows (Check profile) plain none is = not_check is.0
+without_width rows (Render profile) plain none is = not_render is.0
+without_width rows (Encode profile) plain none is = not_encode is.0
+without_width rows (Show profile showing fill selects width height) plain none is = none width is.6
+without_width rows (ShowBox profile showing fill selects) plain none is = not_both _ is.5 plain
+
+pub without_height : (rows : List Row) (t : Task) → is_given (codes "box") rows ≡ false
+    → ((n : ℕ) → HasSide (codes "height") rows n → ⊥) → IsTask (codes "show") rows t → ⊥
+without_height rows Listing plain none is = not_list is
+without_height rows (Check profile) plain none is = not_check is.0
+without_height rows (Render profile) plain none is = not_render is.0
+without_height rows (Encode profile) plain none is = not_encode is.0
+without_height rows (Show profile showing fill selects width height) plain none is = none height is.7
+without_height rows (ShowBox profile showing fill selects) plain none is = not_both _ is.5 plain
+
+-- with the box, and a side beside it
+box_beside : (rows : List Row) (t : Task) → is_given (codes "box") rows ≡ true
+    → is_named (codes "width") rows ≡ true ⊎ is_named (codes "height") rows ≡ true → IsTask (codes "show") rows t → ⊥
+box_beside rows Listing boxed side is = not_list is
+box_beside rows (Check profile) boxed side is = not_check is.0
+box_beside rows (Render profile) boxed side is = not_render is.0
+box_beside rows (Encode profile) boxed side is = not_encode is.0
+box_beside rows (Show profile showing fill selects width height) boxed side is = not_both _ boxed is.5
+box_beside rows (ShowBox profile showing fill selects) boxed (inl named) is = not_both _ named is.6
+box_beside rows (ShowBox profile showing fill selects) boxed (inr named) is = not_both _ named is.7
+
+abbrev pub name_in : Option (Text × List Row) → Text
+name_in None = []
+name_in (Some p) = p.0
+
+abbrev pub rows_in : Option (Text × List Row) → List Row
+rows_in None = []
+rows_in (Some p) = p.1
+
+-- the task of one name and its rows
+pub same_task : (o : Option (Text × List Row)) (n m : Text) (r s : List Row) (t : Task) → o ≡ Some (n, r)
+    → o ≡ Some (m, s) → IsTask n r t → IsTask m s t
+same_task o n m r s t e f is =
+    let name : n ≡ m = sym (ap name_in e) ∙ ap name_in f in
+    let rows : r ≡ s = sym (ap rows_in e) ∙ ap rows_in f in
+    subst (λ (k : Text). IsTask k s t) name (subst (λ (k : List Row). IsTask n k t) rows is)
+
+-- the words name `show` with the box, and a side beside it
+pub none_named : (o : Option (Text × List Row)) (name : Text) (rows : List Row) (t : Task) → o ≡ Some (name, rows)
+    → IsTask name rows t → name_in o ≡ codes "show" → is_given (codes "box") (rows_in o) ≡ true
+    → is_named (codes "width") (rows_in o) ≡ true ⊎ is_named (codes "height") (rows_in o) ≡ true → ⊥
+none_named o name rows t e is called boxed side =
+    let n : name ≡ codes "show" = sym (ap name_in e) ∙ called in
+    let r : rows ≡ rows_in o = sym (ap rows_in e) in
+    box_beside (rows_in o) t boxed side
+    (subst (λ (k : Text). IsTask k (rows_in o) t) n (subst (λ (k : List Row). IsTask name k t) r is))
+
+-- one subcommand has one name and its rows
+pub same_parts : (o : Option (Text × List Row)) (n m : Text) (r s : List Row) → o ≡ Some (n, r) → o ≡ Some (m, s)
+    → (n ≡ m) × (r ≡ s)
+same_parts o n m r s e f = (sym (ap name_in e) ∙ ap name_in f, sym (ap rows_in e) ∙ ap rows_in f)
+
+-- ---- what is asked for
+
+-- the task of a name and its rows, with what else they say
+pub request_is : {E : Type 0} (o : Option (Text × List Row)) (n : Text) (rows : List Row) (t : Task)
+    (r : Result Request E) → o ≡ Some (n, rows) → IsTask n rows t
+    → IfOk r (λ asked. asked.task ≡ t) → IfOk r (λ asked. is_given (codes "quiet") rows ≡ asked.is_quiet)
+    → IfOk r (λ asked. files_of rows ≡ map string_bytes asked.files.items)
+    → IfOk r (λ asked. (name : Text) × (given : List Row) × (o ≡ Some (name, given)) × IsTask name given asked.task
+    × (is_given (codes "quiet") given ≡ asked.is_quiet) × (files_of given ≡ map string_bytes asked.files.items))
+request_is o n rows t (Err fault) e is task quiet files = tt
+request_is o n rows t (Ok asked) e is task quiet files =
+    (n, rows, e, subst (λ (k : Task). IsTask n rows k) (sym task) is, quiet, files)

@@ -1,0 +1,27 @@
+use Rattle.std.proofs.Common.{◌∙◌, refl}
+use Rattle.clap.specs.Walk.{rows_of}
+use Rattle.clap.specs.Matches.{found_of}
+use Rattle.sixel_words.proofs.MatchLemmas.{without_height, without_width}
+use Rattle.sixel_words.proofs.words.show_task.Goals as goal
+
+pub returns-in_default-clause-none : goal.returns-in_default-clause-none
+returns-in_default-clause-none c = λ none t is.
+    without_height (rows_of (found_of c.args.matches.now)) t (c.flag_of.ensures ∙ c.if-flag_of.false)
+    (c.in_default.ensures'.none refl) is
+
+pub returns-in_default-2-clause-none : goal.returns-in_default-2-clause-none
+returns-in_default-2-clause-none c = λ none t is.
+    without_width (rows_of (found_of c.args.matches.now)) t (c.flag_of.ensures ∙ c.if-flag_of.false)
+    (c.side_of.ensures.none (rw c.in_default.is-0 refl)) is
+
+pub returns-in-Some-Some-clause-task : goal.returns-in-Some-Some-clause-task
+returns-in-Some-Some-clause-task c = (
+  refl,
+  c.profile_of.ensures,
+  c.flag_of-in-Some-Some.ensures,
+  c.flag_of-in-Some-Some-2.ensures,
+  c.flag_of-in-Some-Some-3.ensures,
+  c.flag_of.ensures ∙ c.if-flag_of.false,
+  c.in-Some-Some.ensures.some,
+  c.in-Some-Some.ensures'.some,
+)

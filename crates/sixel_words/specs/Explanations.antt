@@ -1,0 +1,73 @@
+-- What `explain` says, and of what.
+use Rattle.std.specs.Prelude.{◌≡◌, ◌∷◌, ◌++◌, ℕ, Bool, List, [], Option, Some, None, codes, map, nat_eq}
+use Rattle.std.specs.Io.{StartsWith}
+use Rattle.std.specs.List.{after_first}
+use Rattle.sixel_check.specs.declared.rule.Rule.TheVariants.{RasterFirst, RasterTwice, Ratio, BoxSize, Register}
+use Rattle.sixel_check.specs.declared.rule.Rule.TheVariants.{ColourValue, RepeatZero, Unselected, Undefined, Redefined}
+use Rattle.sixel_check.specs.declared.rule.Rule.TheVariants.{Outside, Uncovered, EightBit}
+use Rattle.sixel_grammar.specs.declared.fault.Reason.TheVariants.{NotSixel, BadByte, NumberTooLarge, FieldCount}
+use Rattle.sixel_grammar.specs.declared.fault.Reason.TheVariants.{BadRepeat, BadTerminator, Truncated, TooLong}
+use Rattle.sixel_grammar.specs.declared.fault.Reason.TheVariants.{Trailing}
+use Rattle.sixel_picture.specs.declared.ppm.PpmReason.TheVariants.{Header, Size, Maxval, Sample, Short, TooManyColours}
+use Rattle.sixel_words.specs.declared.explanations.Topic.{Topic}
+use Rattle.sixel_words.specs.declared.explanations.Topic.TheVariants.{Rule, Grammar, Ppm, NotRgb, NoBox, OutOfMemory, Read}
+use Rattle.sixel_words.specs.declared.explanations.Topic.TheVariants.{Write}
+use Rattle.sixel_run.specs.declared.fault.RunFault.{RunFault}
+use Rattle.sixel_run.specs.declared.fault.RunFault.TheVariants as fault
+use Rattle.sixel_run.specs.Texts.{Text, ppm_reason_name, reason_name, rule_name}
+
+-- the name by which a topic is asked for; of a rule and of a reason it is the one in the line of `check` or of a fault
+abbrev pub topic_name : Topic → Text
+topic_name (Rule rule) = rule_name rule
+topic_name (Grammar reason) = reason_name reason
+topic_name (Ppm reason) = ppm_reason_name reason
+topic_name NotRgb = codes "NotRgb"
+topic_name NoBox = codes "NoBox"
+topic_name OutOfMemory = codes "OutOfMemory"
+topic_name Read = codes "Read"
+topic_name Write = codes "Write"
+
+-- what a run's fault is a case of
+abbrev pub topic_of : RunFault → Topic
+topic_of (fault.Grammar f) = Grammar f.reason
+topic_of (fault.Ppm reason place) = Ppm reason
+topic_of fault.NotRgb = NotRgb
+topic_of fault.NoBox = NoBox
+topic_of fault.OutOfMemory = OutOfMemory
+topic_of fault.Read = Read
+topic_of fault.Write = Write
+
+abbrev pub rules : List Topic
+rules = Rule RasterFirst ∷ Rule RasterTwice ∷ Rule Ratio ∷ Rule BoxSize ∷ Rule Register ∷ Rule ColourValue
+    ∷ Rule RepeatZero ∷ Rule Unselected ∷ Rule Undefined ∷ Rule Redefined ∷ Rule Outside ∷ Rule Uncovered
+    ∷ Rule EightBit ∷ []
+
+abbrev pub refusals_of_text : List Topic
+refusals_of_text = Grammar NotSixel ∷ Grammar BadByte ∷ Grammar NumberTooLarge ∷ Grammar FieldCount ∷ Grammar BadRepeat
+    ∷ Grammar BadTerminator ∷ Grammar Truncated ∷ Grammar TooLong ∷ Grammar Trailing ∷ []
+
+-- but for `Trailing`, whose name is that of a refusal of sixel text too
+abbrev pub refusals_of_pictures : List Topic
+refusals_of_pictures =
+    Ppm Header ∷ Ppm Size ∷ Ppm Maxval ∷ Ppm Sample ∷ Ppm TooManyColours ∷ Ppm Short ∷ []
+
+abbrev pub refusals_of_runs : List Topic
+refusals_of_runs = NotRgb ∷ NoBox ∷ OutOfMemory ∷ Read ∷ Write ∷ []
+
+-- the names that are listed, in that order
+abbrev pub listed_names : List Text
+listed_names = map topic_name (rules ++ refusals_of_text ++ refusals_of_pictures ++ refusals_of_runs)
+
+abbrev pub is_line_feed : ℕ → Bool
+is_line_feed byte = nat_eq byte 10
+
+-- the text is a line for each of the names, which begins with it and a colon
+abbrev pub ListsNames : List Text → Text → Type 0
+ListsNames [] text = text ≡ []
+ListsNames (name ∷ more) text =
+    StartsWith text (name ++ codes ": ") × ListsNames more (after_first is_line_feed text)
+
+-- the explanation of a topic begins with its name and a colon; without a topic it is the list of the names
+abbrev pub IsExplanation : Option Topic → Text → Type 0
+IsExplanation None text = ListsNames listed_names text
+IsExplanation (Some topic) text = StartsWith text (topic_name topic ++ codes ": ")

@@ -1,0 +1,209 @@
+-- The command line: what the words say, over the matches that `clap` states.
+use Rattle.std.specs.Prelude.{◌≡◌, ◌≢◌, ◌⊎◌, ◌≤◌, ℕ, Bool, false, true, List, [], ◌∷◌, Option, Some, codes, pos, ⊤}
+use Rattle.std.specs.Prelude.{find, if◌then◌else◌, option_map, unwrap_or}
+use Rattle.std.specs.Option.{option_and_then, option_map_or}
+use Rattle.std.specs.Str.{bytes_eq}
+use Rattle.std.specs.Str.Parse.{IsNumeral, digits_value, without_leading_plus}
+use Rattle.sixel_picture.specs.declared.profile.Profile.{Profile}
+use Rattle.sixel_picture.specs.declared.profile.Profile.TheVariants.{Registers16, Registers256}
+use Rattle.sixel_terminal.specs.Limits.{most_screen_side}
+use Rattle.clap.specs.Simple.{App, new_app, new_rule, on_top, subcommand_of, with_rule, with_subcommand}
+use Rattle.clap.specs.Values.{kind_of}
+use Rattle.clap.specs.Walk.{Row, Rule, Text, all_of, first_of, one_of}
+use Rattle.clap.specs.declared.builder.action.ArgAction.TheVariants.{Append, SetTrue}
+use Rattle.clap.specs.declared.builder.value_parser.ValueParser.TheVariants as parser
+use Rattle.clap.specs.declared.error.kind.ErrorKind.TheVariants as kind
+use Rattle.clap.specs.declared.parser.matches.ValueSource.{ValueSource}
+use Rattle.clap.specs.declared.parser.matches.ValueSource.TheVariants.{CommandLine}
+use Rattle.sixel_run.specs.declared.task.Task.{Task}
+use Rattle.sixel_run.specs.declared.task.Task.TheVariants as task
+use Rattle.sixel_words.specs.declared.words.WordsFault.{WordsFault}
+use Rattle.sixel_words.specs.declared.words.WordsFault.TheVariants as fault
+use Rattle.sixel_words.specs.Explanations.{topic_name}
+
+-- ---- the commands
+
+-- `FILE`, which may be left out
+abbrev pub file : Rule
+file = new_rule (codes "FILE")
+
+-- `FILE`, any number of times
+abbrev pub files : Rule
+files = record (new_rule (codes "FILE")) { action = Some Append }
+
+-- with one subcommand more, which has no options
+abbrev pub with_plain : App → Text → App
+with_plain a name = with_subcommand a (with_rule (new_app name) file).top
+
+-- `--name`, which takes no value
+abbrev pub flag : Text → Rule
+flag name = record (new_rule name) { long = Some name; action = Some SetTrue }
+
+-- `--quiet` or `-q`
+abbrev pub quiet : Rule
+quiet = record (flag (codes "quiet")) { short = Some 113 }
+
+-- `--name N`, a number from 1 to 4,096, which is `fallback` where the option isn't given
+abbrev pub side : Text → Text → Rule
+side name fallback = record (new_rule name) {
+  long = Some name;
+  value_names = 1;
+  defaults = fallback ∷ [];
+  parser = Some (parser.Signed (pos 1) (pos most_screen_side));
+}
+
+-- with one subcommand more, which may be told to take the wide profile
+abbrev pub with_profile : App → Text → App
+with_profile a name = with_subcommand a (with_rule (with_rule (new_app name) (flag (codes "wide"))) file).top
+
+-- `check`
+abbrev pub check_app : App
+check_app = with_rule (with_rule (with_rule (new_app (codes "check")) (flag (codes "wide"))) quiet) files
+
+-- `show`
+abbrev pub show_app : App
+show_app =
+    with_rule (with_rule (with_rule (with_rule (with_rule (with_rule (with_rule (with_rule (new_app (codes "show"))
+    (flag (codes "wide")))
+    (flag (codes "showing")))
+    (flag (codes "fill")))
+    (flag (codes "define-selects")))
+    (side (codes "width") (codes "800")))
+    (side (codes "height") (codes "480")))
+    (flag (codes "box")))
+    file
+
+-- `explain`, which may be given a name
+abbrev pub explain_app : App
+explain_app = with_rule (new_app (codes "explain")) (record (new_rule (codes "name")) { value_names = 1 })
+
+-- `sixel`, which tells its version and wants a subcommand
+abbrev pub sixel_app : App
+sixel_app =
+    with_subcommand (with_subcommand
+    (with_profile (with_profile (with_subcommand (with_plain
+    (on_top (λ s. record s { has_version = true; subcommand_required = true }) (new_app (codes "sixel")))
+    (codes "list")) check_app.top) (codes "render")) (codes "encode"))
+    show_app.top) explain_app.top
+
+-- ---- the task
+
+-- the flag was given
+abbrev pub is_given : Text → List Row → Bool
+is_given name rows = option_map_or (λ text. bytes_eq text (codes "true")) (first_of name rows) false
+
+-- a value that the words give, and no default
+abbrev pub is_of_words : Option ValueSource → Bool
+is_of_words (Some CommandLine) = true
+is_of_words _ = false
+
+-- the words give the option
+abbrev pub is_named : Text → List Row → Bool
+is_named name rows = is_of_words (option_and_then (λ r. r.source) (find (λ r. bytes_eq r.id name) rows))
+
+-- the wide profile was asked for, or else it is that of 16 registers
+abbrev pub profile_of : List Row → Profile
+profile_of rows = if is_given (codes "wide") rows then Registers256 else Registers16
+
+-- the text is a number from 1 to 4,096, in decimal digits after perhaps a plus
+pub record IsSideText (text : Text) (n : ℕ) : Type 0 where
+  pub numeral : IsNumeral 10 (without_leading_plus text)
+  pub value : digits_value 10 (without_leading_plus text) ≡ n
+  pub least : 1 ≤ n
+  pub most : n ≤ most_screen_side
+
+-- the option's entry is this number from 1 to 4,096
+abbrev pub HasSide : Text → List Row → ℕ → Type 0
+HasSide name rows n = (text : Text) × (one_of name rows ≡ Some text) × IsSideText text n
+
+-- the task of a subcommand's name and of its options' entries
+-- the box gives a screen its sides, or else the options for them do: the words that give both name no task
+abbrev pub IsTask : Text → List Row → Task → Type 0
+IsTask name rows task.List = name ≡ codes "list"
+IsTask name rows (task.Check profile) = (name ≡ codes "check") × (profile_of rows ≡ profile)
+IsTask name rows (task.Render profile) = (name ≡ codes "render") × (profile_of rows ≡ profile)
+IsTask name rows (task.Encode profile) = (name ≡ codes "encode") × (profile_of rows ≡ profile)
+IsTask name rows (task.Show profile showing fill selects width height) = (name ≡ codes "show")
+    × (profile_of rows ≡ profile)
+    × (is_given (codes "showing") rows ≡ showing)
+    × (is_given (codes "fill") rows ≡ fill)
+    × (is_given (codes "define-selects") rows ≡ selects)
+    × (is_given (codes "box") rows ≡ false)
+    × HasSide (codes "width") rows width
+    × HasSide (codes "height") rows height
+IsTask name rows (task.ShowBox profile showing fill selects) = (name ≡ codes "show")
+    × (profile_of rows ≡ profile)
+    × (is_given (codes "showing") rows ≡ showing)
+    × (is_given (codes "fill") rows ≡ fill)
+    × (is_given (codes "define-selects") rows ≡ selects)
+    × (is_given (codes "box") rows ≡ true)
+    × (is_named (codes "width") rows ≡ false)
+    × (is_named (codes "height") rows ≡ false)
+
+-- the task that the words give, of which the first is the program's name
+abbrev pub IsTaskOf : List Text → Task → Type 0
+IsTaskOf words t = (name : Text) × (rows : List Row)
+    × (subcommand_of sixel_app words ≡ Some (name, rows)) × IsTask name rows t
+
+-- ---- what else is asked for
+
+-- the names of the files, in the order of the words
+abbrev pub files_of : List Row → List Text
+files_of rows = unwrap_or (all_of (codes "FILE") rows) []
+
+-- what the words give, of which the first is the program's name: the task, whether no verdict is wanted, and the files
+abbrev pub IsRequestOf : List Text → Task → Bool → List Text → Type 0
+IsRequestOf words t is_quiet names = (name : Text) × (rows : List Row)
+    × (subcommand_of sixel_app words ≡ Some (name, rows)) × IsTask name rows t
+    × (is_given (codes "quiet") rows ≡ is_quiet) × (files_of rows ≡ names)
+
+-- ---- explanations
+
+-- the words ask for the explanation of this name, or without one for the list of names
+abbrev pub AsksFor : List Text → Option Text → Type 0
+AsksFor words name = (rows : List Row)
+    × (subcommand_of sixel_app words ≡ Some (codes "explain", rows)) × (first_of (codes "name") rows ≡ name)
+
+-- the explanation, if it is one, is the one that a subcommand of this name with these options asks for
+abbrev pub IsAskedIn : Text → List Row → WordsFault → Type 0
+IsAskedIn name rows (fault.Explanation topic) =
+    (name ≡ codes "explain") × (first_of (codes "name") rows ≡ option_map topic_name topic)
+IsAskedIn name rows _ = ⊤
+
+-- and the one that these words ask for
+abbrev pub IsAskedBy : List Text → WordsFault → Type 0
+IsAskedBy words (fault.Explanation topic) = AsksFor words (option_map topic_name topic)
+IsAskedBy words _ = ⊤
+
+-- it is the explanation of this name, or there is no memory
+abbrev pub Explains : Option Text → WordsFault → Type 0
+Explains name (fault.Explanation topic) = option_map topic_name topic ≡ name
+Explains name fault.OutOfMemory = ⊤
+Explains name _ = ⊥
+
+-- ---- the refusals
+
+-- help holds what asks for help or the version, and usage neither that nor want of memory
+abbrev pub IsSortedOut : WordsFault → Type 0
+IsSortedOut (fault.Usage error) = (kind_of error ≢ kind.DisplayHelp) × (kind_of error ≢ kind.DisplayVersion)
+    × (kind_of error ≢ kind.OutOfMemory)
+IsSortedOut (fault.Help error) = (kind_of error ≡ kind.DisplayHelp) ⊎ (kind_of error ≡ kind.DisplayVersion)
+IsSortedOut (fault.Explanation topic) = ⊤
+IsSortedOut fault.OutOfMemory = ⊤
+
+-- it is no explanation
+abbrev pub IsUnexplained : WordsFault → Type 0
+IsUnexplained (fault.Explanation topic) = ⊥
+IsUnexplained _ = ⊤
+
+-- neither help nor an explanation is shown
+abbrev pub IsRefusal : WordsFault → Type 0
+IsRefusal (fault.Usage error) = ⊤
+IsRefusal (fault.Help error) = ⊥
+IsRefusal (fault.Explanation topic) = ⊥
+IsRefusal fault.OutOfMemory = ⊤
+
+-- no help is shown, and no version
+abbrev pub IsNoHelp : WordsFault → Type 0
+IsNoHelp (fault.Help error) = ⊥
+IsNoHelp _ = ⊤

@@ -1,0 +1,59 @@
+//! Laws about the definitions. Each function's contract is the law.
+
+ghost use Rattle.std.specs.Prelude.{◌≡◌, ◌∷◌, [], Contains, None, Some};
+ghost use Rattle.std.specs.Prelude.{codes, false, true};
+ghost use Rattle.sixel_picture.specs.declared.profile.Profile.TheVariants.{Registers16};
+ghost use Rattle.sixel_check.specs.declared.rule.Rule.{Rule};
+ghost use Rattle.clap.specs.Takes.{takes};
+ghost use Rattle.sixel_words.specs.declared.explanations.Topic.{Topic};
+ghost use Rattle.sixel_run.specs.declared.fault.RunFault.{RunFault};
+ghost use Rattle.sixel_run.specs.declared.task.Task.{Task};
+ghost use Rattle.sixel_run.specs.declared.task.Task.TheVariants.{List as Listing, Show, ShowBox};
+ghost use Rattle.sixel_words.specs.Explanations.{listed_names, topic_name, topic_of};
+ghost use Rattle.sixel_run.specs.Texts.{Text, rule_name};
+ghost use Rattle.sixel_words.specs.Words.{AsksFor, IsTaskOf, sixel_app};
+
+/// The one word `list` after the program's name is taken, and gives the list.
+pub fn the_word_list_gives_a_list()
+    ensures taken { (program : Text) → takes sixel_app (program ∷ codes "list" ∷ []) ≡ true }
+    ensures task { (program : Text) → IsTaskOf (program ∷ codes "list" ∷ []) Listing }
+{}
+
+/// The one word `show` is taken, and shows as no flag asks, by 16 registers on a screen of 800 by 480 pixels.
+pub fn the_word_show_gives_a_show()
+    ensures taken { (program : Text) → takes sixel_app (program ∷ codes "show" ∷ []) ≡ true }
+    ensures task { (program : Text) →
+        IsTaskOf (program ∷ codes "show" ∷ []) (Show Registers16 false false false 800 480) }
+{}
+
+/// The words `show --box` are taken, and show on a screen of the declared box as no flag asks, by 16 registers. With a
+/// side beside the box they give no task.
+pub fn the_words_show_box_give_a_box()
+    ensures taken { (program : Text) → takes sixel_app (program ∷ codes "show" ∷ codes "--box" ∷ []) ≡ true }
+    ensures task { (program : Text) →
+        IsTaskOf (program ∷ codes "show" ∷ codes "--box" ∷ []) (ShowBox Registers16 false false false) }
+    ensures no_width { (program : Text) (task : Task) →
+        IsTaskOf (program ∷ codes "show" ∷ codes "--box" ∷ codes "--width" ∷ codes "800" ∷ []) task → ⊥ }
+    ensures no_height { (program : Text) (task : Task) →
+        IsTaskOf (program ∷ codes "show" ∷ codes "--height" ∷ codes "480" ∷ codes "--box" ∷ []) task → ⊥ }
+{}
+
+/// The name of each rule, which a line of `check` can hold, and of each fault is one of those that `explain` lists.
+pub fn each_name_is_listed()
+    ensures rules { (rule : Rule) → Contains listed_names (rule_name rule) }
+    ensures faults { (fault : RunFault) → Contains listed_names (topic_name (topic_of fault)) }
+{}
+
+/// The one word `explain` is taken, and asks for the list of names.
+pub fn the_word_explain_asks_for_the_list()
+    ensures taken { (program : Text) → takes sixel_app (program ∷ codes "explain" ∷ []) ≡ true }
+    ensures asked { (program : Text) → AsksFor (program ∷ codes "explain" ∷ []) None }
+{}
+
+/// After the word `explain` each name is taken, and asked for.
+pub fn each_name_can_be_asked_for()
+    ensures taken { (program : Text) (topic : Topic) →
+        takes sixel_app (program ∷ codes "explain" ∷ topic_name topic ∷ []) ≡ true }
+    ensures asked { (program : Text) (topic : Topic) →
+        AsksFor (program ∷ codes "explain" ∷ topic_name topic ∷ []) (Some (topic_name topic)) }
+{}

@@ -1,0 +1,13 @@
+//! The words of the command line: what they ask for, and what `explain` says.
+#![tactic(auto)]
+
+mod arguments;
+mod explanations;
+pub mod laws;
+mod request;
+mod words;
+
+pub use arguments::task_in;
+pub use explanations::{Topic, explanation};
+pub use request::Request;
+pub use words::{WordsFault, parse_words};

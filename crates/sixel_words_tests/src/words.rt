@@ -1,0 +1,499 @@
+use sixel_words::{WordsFault, parse_words};
+use std::alloc::{AllocError, Global};
+use std::test::Fail;
+
+/// The words, which have spaces between them.
+fn words_of(alloc: Global, line: &str) -> Result<Vec<String>, AllocError> {
+    let mut words = Vec::new(alloc);
+    for word in line.split(' ') {
+        words.push(String::from_str(alloc, word)?)?;
+    }
+    Ok(words)
+}
+
+fn told(alloc: Global, fault: WordsFault) -> Result<String, AllocError> {
+    match fault {
+        WordsFault::Usage(text) => format!(in alloc; "usage {text}"),
+        WordsFault::Help(text) => format!(in alloc; "help {text}"),
+        WordsFault::Explanation(topic) => format!(in alloc; "explain {topic:?}"),
+        WordsFault::OutOfMemory => String::from_str(alloc, "out of memory"),
+    }
+}
+
+/// What the words, with spaces between them, come to.
+fn said(alloc: Global, line: &str) -> Result<String, AllocError> {
+    let words = words_of(alloc, line)?;
+    match parse_words(alloc, words.as_slice()) {
+        Ok(request) => format!(in alloc; "{request:?}"),
+        Err(fault) => told(alloc, fault),
+    }
+}
+
+/// Whether the words come to this text.
+fn says(rt: &HostRuntime, line: &str, text: &str) -> Result<bool, Fail> {
+    Ok(said(rt.alloc(), line)?.as_str() == text)
+}
+
+/// Whether the words ask for this task, with a verdict or without, over these files.
+fn asks(
+    rt: &HostRuntime,
+    line: &str,
+    task: &str,
+    is_quiet: bool,
+    files: &str,
+) -> Result<bool, Fail> {
+    let request = format!(in rt.alloc();
+        "Request {{ task: {task}, is_quiet: {is_quiet}, files: {files} }}"
+    )?;
+    says(rt, line, request.as_str())
+}
+
+/// Whether the words are refused with this text and the sentence that follows each.
+fn refuses(rt: &HostRuntime, line: &str, text: &str) -> Result<bool, Fail> {
+    let more = "\n\nFor more information, try '--help'.\n";
+    let whole = format!(in rt.alloc(); "{text}{more}")?;
+    says(rt, line, whole.as_str())
+}
+
+#[test]
+fn names_the_task(rt: HostRuntime) -> Result<(), Fail> {
+    let rows = [
+        ("sixel list", "List"),
+        ("sixel check", "Check { profile: Registers16 }"),
+        ("sixel check --wide", "Check { profile: Registers256 }"),
+        ("sixel render", "Render { profile: Registers16 }"),
+        ("sixel render --wide", "Render { profile: Registers256 }"),
+        ("sixel encode", "Encode { profile: Registers16 }"),
+        ("sixel encode --wide", "Encode { profile: Registers256 }"),
+        (
+            "sixel show --width 2 --height 1",
+            "Show { profile: Registers16, showing: false, fill: false, selects: false, width: 2, height: 1 }",
+        ),
+        (
+            "sixel show",
+            "Show { profile: Registers16, showing: false, fill: false, selects: false, width: 800, height: 480 }",
+        ),
+        (
+            "sixel show --box",
+            "ShowBox { profile: Registers16, showing: false, fill: false, selects: false }",
+        ),
+        (
+            "sixel show --showing --box",
+            "ShowBox { profile: Registers16, showing: true, fill: false, selects: false }",
+        ),
+        (
+            "sixel show --box --fill --wide",
+            "ShowBox { profile: Registers256, showing: false, fill: true, selects: false }",
+        ),
+        (
+            "sixel show --wide --define-selects --box",
+            "ShowBox { profile: Registers256, showing: false, fill: false, selects: true }",
+        ),
+        (
+            "sixel show --height 4096 --define-selects --fill --width 1 --showing",
+            "Show { profile: Registers16, showing: true, fill: true, selects: true, width: 1, height: 4096 }",
+        ),
+        (
+            "sixel show --width=4096 --fill",
+            "Show { profile: Registers16, showing: false, fill: true, selects: false, width: 4096, height: 480 }",
+        ),
+        (
+            "sixel show --showing --height 0007",
+            "Show { profile: Registers16, showing: true, fill: false, selects: false, width: 800, height: 7 }",
+        ),
+        (
+            "sixel show --define-selects",
+            "Show { profile: Registers16, showing: false, fill: false, selects: true, width: 800, height: 480 }",
+        ),
+        (
+            "sixel show --wide --width 2 --height 1",
+            "Show { profile: Registers256, showing: false, fill: false, selects: false, width: 2, height: 1 }",
+        ),
+        (
+            "sixel show --fill --wide",
+            "Show { profile: Registers256, showing: false, fill: true, selects: false, width: 800, height: 480 }",
+        ),
+    ];
+    for (line, task) in rows {
+        assert!(rt; asks(&rt, line, task, false, "[]")?, "{line}");
+    }
+    Ok(())
+}
+
+/// Files stand in the order of the words, `-` among them, and behind `--` each word is one.
+#[test]
+fn names_the_files_to_check(rt: HostRuntime) -> Result<(), Fail> {
+    let rows = [
+        ("sixel check a b", false, "[\"a\", \"b\"]"),
+        ("sixel check b a b", false, "[\"b\", \"a\", \"b\"]"),
+        ("sixel check -", false, "[\"-\"]"),
+        ("sixel check - a -", false, "[\"-\", \"a\", \"-\"]"),
+        ("sixel check -- -x", false, "[\"-x\"]"),
+        (
+            "sixel check a -- -q --wide",
+            false,
+            "[\"a\", \"-q\", \"--wide\"]",
+        ),
+        ("sixel check -q", true, "[]"),
+        ("sixel check --quiet", true, "[]"),
+        ("sixel check -q a", true, "[\"a\"]"),
+        ("sixel check --quiet a b", true, "[\"a\", \"b\"]"),
+        ("sixel check a -q -", true, "[\"a\", \"-\"]"),
+    ];
+    for (line, is_quiet, files) in rows {
+        let task = "Check { profile: Registers16 }";
+        assert!(rt; asks(&rt, line, task, is_quiet, files)?, "{line}");
+    }
+    for line in ["sixel check --wide -q a", "sixel check -q a --wide"] {
+        let task = "Check { profile: Registers256 }";
+        assert!(rt; asks(&rt, line, task, true, "[\"a\"]")?, "{line}");
+    }
+    Ok(())
+}
+
+/// A task other than a check may be given one file.
+#[test]
+fn names_the_file_of_a_task(rt: HostRuntime) -> Result<(), Fail> {
+    let rows = [
+        ("sixel list a", "List", "[\"a\"]"),
+        ("sixel list -", "List", "[\"-\"]"),
+        ("sixel list -- --wide", "List", "[\"--wide\"]"),
+        (
+            "sixel render a",
+            "Render { profile: Registers16 }",
+            "[\"a\"]",
+        ),
+        (
+            "sixel render --wide a",
+            "Render { profile: Registers256 }",
+            "[\"a\"]",
+        ),
+        (
+            "sixel render a --wide",
+            "Render { profile: Registers256 }",
+            "[\"a\"]",
+        ),
+        (
+            "sixel encode a",
+            "Encode { profile: Registers16 }",
+            "[\"a\"]",
+        ),
+        (
+            "sixel encode --wide -",
+            "Encode { profile: Registers256 }",
+            "[\"-\"]",
+        ),
+        (
+            "sixel show --box a",
+            "ShowBox { profile: Registers16, showing: false, fill: false, selects: false }",
+            "[\"a\"]",
+        ),
+        (
+            "sixel show a --width 2 --height 1",
+            "Show { profile: Registers16, showing: false, fill: false, selects: false, width: 2, height: 1 }",
+            "[\"a\"]",
+        ),
+    ];
+    for (line, task, files) in rows {
+        assert!(rt; asks(&rt, line, task, false, files)?, "{line}");
+    }
+    Ok(())
+}
+
+const NO_COMMAND: &str = "usage error: 'sixel' requires a subcommand but one was not provided
+  [subcommands: list, check, render, encode, show, explain, help]
+
+Usage: sixel <COMMAND>";
+
+const NOT_WIDE: &str = "usage error: unexpected argument '--wide' found
+
+  tip: to pass '--wide' as a value, use '-- --wide'
+
+Usage: sixel list [FILE]";
+
+const NOT_QUIET: &str = "usage error: unexpected argument '-q' found
+
+  tip: to pass '-q' as a value, use '-- -q'
+
+Usage: sixel list [FILE]";
+
+#[test]
+fn refuses_other_words(rt: HostRuntime) -> Result<(), Fail> {
+    let rows = [
+        ("sixel", NO_COMMAND),
+        (
+            "sixel view",
+            "usage error: unrecognized subcommand 'view'\n\nUsage: sixel <COMMAND>",
+        ),
+        ("sixel list --wide", NOT_WIDE),
+        ("sixel list -q", NOT_QUIET),
+        ("sixel list -q a", NOT_QUIET),
+        (
+            "sixel list a b",
+            "usage error: unexpected argument 'b' found\n\nUsage: sixel list [FILE]",
+        ),
+        (
+            "sixel render a b",
+            "usage error: unexpected argument 'b' found\n\nUsage: sixel render [OPTIONS] [FILE]",
+        ),
+        (
+            "sixel encode --wide a b",
+            "usage error: unexpected argument 'b' found\n\nUsage: sixel encode [OPTIONS] [FILE]",
+        ),
+        (
+            "sixel show a b",
+            "usage error: unexpected argument 'b' found\n\nUsage: sixel show [OPTIONS] [FILE]",
+        ),
+        (
+            "sixel explain ratio",
+            "usage error: no rule and no refusal has this name; 'sixel explain' lists them\n\nUsage: sixel explain [NAME]",
+        ),
+        (
+            "sixel explain Ratio BoxSize",
+            "usage error: unexpected argument 'BoxSize' found\n\nUsage: sixel explain [NAME]",
+        ),
+        (
+            "sixel show --width 0",
+            "usage error: invalid value '0' for '--width <N>': 0 is not in 1..=4096",
+        ),
+        (
+            "sixel show --height 4097",
+            "usage error: invalid value '4097' for '--height <N>': 4097 is not in 1..=4096",
+        ),
+        (
+            "sixel show --width many",
+            "usage error: invalid value 'many' for '--width <N>': invalid digit found in string",
+        ),
+    ];
+    for (line, text) in rows {
+        assert!(rt; refuses(&rt, line, text)?, "{line}");
+    }
+    Ok(())
+}
+
+const BESIDE_WIDTH: &str = "usage error: the argument '--box' cannot be used with '--width <N>'
+
+Usage: sixel show [OPTIONS] [FILE]";
+
+const BESIDE_HEIGHT: &str = "usage error: the argument '--box' cannot be used with '--height <N>'
+
+Usage: sixel show [OPTIONS] [FILE]";
+
+const BESIDE_BOTH: &str = "usage error: the argument '--box' cannot be used with:
+  --width <N>
+  --height <N>
+
+Usage: sixel show [OPTIONS] [FILE]";
+
+/// A box beside a side, also where that is the number that stands for none.
+#[test]
+fn refuses_a_box_beside_a_side(rt: HostRuntime) -> Result<(), Fail> {
+    let rows = [
+        ("sixel show --box --width 800", BESIDE_WIDTH),
+        ("sixel show --width=7 --wide --box", BESIDE_WIDTH),
+        ("sixel show --height=480 --fill --box", BESIDE_HEIGHT),
+        ("sixel show --height 2 --box --width 3", BESIDE_BOTH),
+    ];
+    for (line, text) in rows {
+        assert!(rt; refuses(&rt, line, text)?, "{line}");
+    }
+    Ok(())
+}
+
+#[test]
+fn shows_help(rt: HostRuntime) -> Result<(), Fail> {
+    let whole = "help Checks, lists, draws and writes sixel pictures, from files or standard input
+
+Usage: sixel <COMMAND>
+
+Commands:
+  list     Lists what the picture says, a line for each command
+  check    Says whether the picture is portable, or which rule is broken first
+  render   Writes a portable picture as a PPM
+  encode   Writes a PPM as a portable picture
+  show     Draws the picture on one terminal, and writes its screen as a PPM
+  explain  Explains a rule that check names or a refusal, or lists their names
+  help     Print this message or the help of the given subcommand(s)
+
+Options:
+  -h, --help     Print help
+  -V, --version  Print version
+";
+    for line in ["sixel --help", "sixel -h", "sixel help"] {
+        assert!(rt; says(&rt, line, whole)?, "{line}");
+    }
+    let list = "help Lists what the picture says, a line for each command
+
+Usage: sixel list [FILE]
+
+Arguments:
+  [FILE]  The file to read in place of standard input; `-` is that
+
+Options:
+  -h, --help  Print help
+
+Reads sixel text from FILE, or without one from standard input. Writes a line
+for the start, for each command and for the end to standard output: its place in
+bytes, what it is, its numbers. What comes before a fault is listed too.
+
+Exit status: 0 done, 2 refused, 3 wrong words.
+
+Example: sixel list plot.six
+";
+    for line in ["sixel list --help", "sixel list -h", "sixel help list"] {
+        assert!(rt; says(&rt, line, list)?, "{line}");
+    }
+    Ok(())
+}
+
+#[test]
+fn shows_the_version(rt: HostRuntime) -> Result<(), Fail> {
+    for line in ["sixel --version", "sixel -V"] {
+        assert!(rt; says(&rt, line, "help sixel 1.0.0\n")?, "{line}");
+    }
+    Ok(())
+}
+
+/// The help of each task tells what the exit status says.
+#[test]
+fn shows_the_exit_status(rt: HostRuntime) -> Result<(), Fail> {
+    for (line, status) in [
+        (
+            "sixel list --help",
+            "Exit status: 0 done, 2 refused, 3 wrong words.\n",
+        ),
+        (
+            "sixel check --help",
+            "Exit status: 0 portable, 1 broken, 2 refused, 3 wrong words; of several files\nthe greatest.\n",
+        ),
+        (
+            "sixel render --help",
+            "Exit status: 0 done, 1 broken, 2 refused, 3 wrong words.\n",
+        ),
+        (
+            "sixel encode --help",
+            "Exit status: 0 done, 2 refused, 3 wrong words.\n",
+        ),
+        (
+            "sixel show --help",
+            "Exit status: 0 done, 2 refused, 3 wrong words.\n",
+        ),
+    ] {
+        let help = said(rt.alloc(), line)?;
+        assert!(rt;
+            help.as_str().starts_with("help ") && help.as_str().contains(status),
+            "{line}"
+        );
+    }
+    Ok(())
+}
+
+#[test]
+fn shows_the_options_of_check(rt: HostRuntime) -> Result<(), Fail> {
+    let check = "help Says whether the picture is portable, or which rule is broken first
+
+Usage: sixel check [OPTIONS] [FILE]...
+
+Arguments:
+  [FILE]...  Files to read, in turn, in place of standard input; `-` is that
+
+Options:
+      --wide   Let a picture use 256 colour registers, and not 16
+  -q, --quiet  Write no verdict: the exit status tells it
+  -h, --help   Print help
+
+Reads sixel text from each FILE in turn, or without one from standard input.
+Writes a line for each to standard output: `portable` and the size, or `broken`,
+the rule, its place and for two rules a pixel. Where files are named, the line
+begins with `FILE: `. Why one is refused goes to standard error, and those after
+it are still checked.
+
+Exit status: 0 portable, 1 broken, 2 refused, 3 wrong words; of several files
+the greatest.
+
+Example: sixel check plots/*.six
+";
+    for line in ["sixel check --help", "sixel help check"] {
+        assert!(rt; says(&rt, line, check)?, "{line}");
+    }
+    Ok(())
+}
+
+#[test]
+fn shows_the_options_of_show(rt: HostRuntime) -> Result<(), Fail> {
+    let show = "help Draws the picture on one terminal, and writes its screen as a PPM
+
+Usage: sixel show [OPTIONS] [FILE]
+
+Arguments:
+  [FILE]  The file to read in place of standard input; `-` is that
+
+Options:
+      --wide            Let a picture use 256 colour registers, and not 16
+      --showing         Give each pixel the last colour of its register
+      --fill            Fill the declared box with register 0
+      --define-selects  Let a definition select its register
+      --width <N>       The screen's width in pixels, 1 to 4096 [default: 800]
+      --height <N>      The screen's height in pixels, 1 to 4096 [default: 480]
+      --box             Make the screen as large as the declared box
+  -h, --help            Print help
+
+Reads sixel text from FILE, or without one from standard input. Writes the
+screen of one terminal, which the options choose, to standard output as a PPM.
+What lies off the screen is left out. Without --wide register 16 is register 0,
+17 is 1 and so on. --box goes with neither --width nor --height.
+
+Exit status: 0 done, 2 refused, 3 wrong words.
+
+Example: sixel show --wide --box plot.six > plot.ppm
+";
+    for line in ["sixel show --help", "sixel help show"] {
+        assert!(rt; says(&rt, line, show)?, "{line}");
+    }
+    Ok(())
+}
+
+/// The name in the line of `check` or of a fault is that of its explanation.
+#[test]
+fn asks_for_an_explanation(rt: HostRuntime) -> Result<(), Fail> {
+    let rows = [
+        ("sixel explain", "explain None"),
+        ("sixel explain Ratio", "explain Some(Rule(Ratio))"),
+        ("sixel explain EightBit", "explain Some(Rule(EightBit))"),
+        ("sixel explain BadByte", "explain Some(Grammar(BadByte))"),
+        ("sixel explain Trailing", "explain Some(Grammar(Trailing))"),
+        ("sixel explain Short", "explain Some(Ppm(Short))"),
+        ("sixel explain OutOfMemory", "explain Some(OutOfMemory)"),
+    ];
+    for (line, asked) in rows {
+        assert!(rt; says(&rt, line, asked)?, "{line}");
+    }
+    Ok(())
+}
+
+#[test]
+fn shows_the_name_of_explain(rt: HostRuntime) -> Result<(), Fail> {
+    let explain = "help Explains a rule that check names or a refusal, or lists their names
+
+Usage: sixel explain [NAME]
+
+Arguments:
+  [NAME]  The name in the line that was written, such as Uncovered or FieldCount
+
+Options:
+  -h, --help  Print help
+
+Reads nothing. Writes to standard output what the rule or the refusal means,
+what breaks it and how that is mended; without NAME a line for each name. For
+`out of memory`, `read failed` and `write failed` the names are OutOfMemory, Read
+and Write.
+
+Exit status: 0 done, 2 where the output fails, 3 wrong words, or no such name.
+
+Example: sixel explain Uncovered
+";
+    for line in ["sixel explain --help", "sixel help explain"] {
+        assert!(rt; says(&rt, line, explain)?, "{line}");
+    }
+    Ok(())
+}
