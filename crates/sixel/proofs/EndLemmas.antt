@@ -5,13 +5,13 @@ use Rattle.std.specs.Fmt.{option_append}
 use Rattle.std.specs.Io.KnownBytes.{Consumes}
 use Rattle.sixel_check.specs.declared.verdict.Finding.{Finding}
 use Rattle.sixel.specs.declared.exit.Exit.TheVariants as exit
-use Rattle.sixel.specs.declared.fault.RunFault.{RunFault}
-use Rattle.sixel.specs.declared.task.Status.{Status}
-use Rattle.sixel.specs.declared.task.Status.TheVariants as status
-use Rattle.sixel.specs.declared.task.Task.{Task}
+use Rattle.sixel_run.specs.declared.fault.RunFault.{RunFault}
+use Rattle.sixel_run.specs.declared.task.Status.{Status}
+use Rattle.sixel_run.specs.declared.task.Status.TheVariants as status
+use Rattle.sixel_run.specs.declared.task.Task.{Task}
 use Rattle.sixel.specs.Exits.{exit_for_answer}
-use Rattle.sixel.specs.Outputs.{Gives, Wrote}
-use Rattle.sixel.specs.Texts.{Text}
+use Rattle.sixel_run.specs.Outputs.{Gives, Wrote}
+use Rattle.sixel_run.specs.Texts.{Text}
 
 pub done_gives : (t : Task) (told left : Option (List ℕ)) (a : Result Status RunFault) (had has : Option (List ℕ))
     → IfSome told (λ bytes. Wrote t bytes left a had has) → exit_for_answer a ≡ exit.Done

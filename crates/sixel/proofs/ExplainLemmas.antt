@@ -7,7 +7,7 @@ use Rattle.sixel.specs.declared.explanations.Topic.{Topic}
 use Rattle.sixel.specs.declared.words.WordsFault.{WordsFault}
 use Rattle.sixel.specs.declared.words.WordsFault.TheVariants as fault
 use Rattle.sixel.specs.Explanations.{topic_name}
-use Rattle.sixel.specs.Texts.{Text}
+use Rattle.sixel_run.specs.Texts.{Text}
 use Rattle.sixel.proofs.MatchLemmas.{same_parts}
 use Rattle.sixel.specs.Words.{AsksFor, IsAskedBy, IsAskedIn, IsNoHelp, IsRefusal, IsUnexplained, sixel_app}
 

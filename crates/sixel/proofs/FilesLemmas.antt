@@ -19,21 +19,21 @@ use Rattle.sixel_grammar.proofs.DeviceLemmas.{Appends-then}
 use Rattle.sixel_picture.specs.declared.profile.Profile.{Profile}
 use Rattle.sixel.specs.declared.exit.Exit.{Exit}
 use Rattle.sixel.specs.declared.exit.Exit.TheVariants as exit
-use Rattle.sixel.specs.declared.fault.RunFault.{RunFault}
-use Rattle.sixel.specs.declared.fault.RunFault.TheVariants as run
-use Rattle.sixel.specs.declared.task.Status.{Status}
-use Rattle.sixel.specs.declared.task.Status.TheVariants as status
-use Rattle.sixel.specs.declared.task.Task.{Task}
-use Rattle.sixel.specs.declared.task.Task.TheVariants as task
-use Rattle.sixel.specs.declared.task.Task.TheVariants.{Check}
+use Rattle.sixel_run.specs.declared.fault.RunFault.{RunFault}
+use Rattle.sixel_run.specs.declared.fault.RunFault.TheVariants as run
+use Rattle.sixel_run.specs.declared.task.Status.{Status}
+use Rattle.sixel_run.specs.declared.task.Status.TheVariants as status
+use Rattle.sixel_run.specs.declared.task.Task.{Task}
+use Rattle.sixel_run.specs.declared.task.Task.TheVariants as task
+use Rattle.sixel_run.specs.declared.task.Task.TheVariants.{Check}
 use Rattle.sixel.specs.Exits.{IsPut, RunEnds, complaint, exit_for_answer}
 use Rattle.sixel.specs.Files.{AreChecked, ArePut, AreCut, FileEnd, IsChecked, IsFileEnd, IsFront, NamedEnds}
 use Rattle.sixel.specs.Files.{FileEnds, FilesEnd, RequestEnds, Tells, SaysOfCheck, is_dash, complaints_of}
 use Rattle.sixel.specs.Files.{exit_of_end, failures_past, files_exit, files_text, greatest, left_after}
 use Rattle.sixel.specs.Files.{named_complaint, named_fault_line, names_of, names_read, said_of, said_of_check}
 use Rattle.sixel.specs.Files.{text_of, told_of, worse}
-use Rattle.sixel.specs.Outputs.{TakesMemory, Wrote}
-use Rattle.sixel.specs.Texts.{Text, fault_line, fault_parts}
+use Rattle.sixel_run.specs.Outputs.{TakesMemory, Wrote}
+use Rattle.sixel_run.specs.Texts.{Text, fault_line, fault_parts}
 use Rattle.sixel.proofs.EndLemmas.{chained}
 
 -- ---- what is said of one file

@@ -7,10 +7,10 @@ use Rattle.sixel_grammar.specs.declared.fault.Reason.{Reason}
 use Rattle.sixel_grammar.specs.declared.fault.Reason.TheVariants as reason
 use Rattle.sixel_picture.specs.declared.ppm.PpmReason.{PpmReason}
 use Rattle.sixel_picture.specs.declared.ppm.PpmReason.TheVariants as ppm
-use Rattle.sixel.specs.declared.fault.RunFault.{RunFault}
-use Rattle.sixel.specs.declared.fault.RunFault.TheVariants as fault
+use Rattle.sixel_run.specs.declared.fault.RunFault.{RunFault}
+use Rattle.sixel_run.specs.declared.fault.RunFault.TheVariants as fault
 use Rattle.sixel.specs.Explanations.{listed_names, topic_name, topic_of}
-use Rattle.sixel.specs.Texts.{ppm_reason_name, reason_name, rule_name}
+use Rattle.sixel_run.specs.Texts.{ppm_reason_name, reason_name, rule_name}
 
 pub rule_listed : (r : Rule) → Contains listed_names (rule_name r)
 rule_listed rule.RasterFirst = (0, omega arith, refl)

@@ -14,15 +14,15 @@ use Rattle.sixel_picture.specs.declared.profile.Profile.{Profile}
 use Rattle.sixel.specs.declared.exit.Exit.{Exit}
 use Rattle.sixel.specs.declared.exit.Exit.TheVariants as exit
 use Rattle.sixel_grammar.specs.declared.fault.Fault.{Fault}
-use Rattle.sixel.specs.declared.fault.RunFault.{RunFault}
-use Rattle.sixel.specs.declared.fault.RunFault.TheVariants as run
-use Rattle.sixel.specs.declared.task.Status.{Status}
-use Rattle.sixel.specs.declared.task.Task.TheVariants.{Check}
+use Rattle.sixel_run.specs.declared.fault.RunFault.{RunFault}
+use Rattle.sixel_run.specs.declared.fault.RunFault.TheVariants as run
+use Rattle.sixel_run.specs.declared.task.Status.{Status}
+use Rattle.sixel_run.specs.declared.task.Task.TheVariants.{Check}
 use Rattle.sixel.specs.Exits.{IsPut, exit_code}
 use Rattle.sixel.specs.Files.{ArePut, FileEnd, HasFailed, IsFileEnd, IsSaid, exit_of_end, file_text, files_exit}
 use Rattle.sixel.specs.Files.{files_text, worse}
-use Rattle.sixel.specs.Outputs.{Gives, Wrote}
-use Rattle.sixel.specs.Texts.{Text}
+use Rattle.sixel_run.specs.Outputs.{Gives, Wrote}
+use Rattle.sixel_run.specs.Texts.{Text}
 
 -- ---- the greatest
 

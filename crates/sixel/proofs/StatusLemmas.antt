@@ -9,17 +9,17 @@ use Rattle.std.proofs.lemmas.List.Elements.{All-cons, All-head, All-nil, All-tai
 use Rattle.sixel_picture.specs.declared.profile.Profile.{Profile}
 use Rattle.sixel.specs.declared.exit.Exit.{Exit}
 use Rattle.sixel.specs.declared.exit.Exit.TheVariants as exit
-use Rattle.sixel.specs.declared.fault.RunFault.{RunFault}
-use Rattle.sixel.specs.declared.task.Status.{Status}
-use Rattle.sixel.specs.declared.task.Status.TheVariants as status
-use Rattle.sixel.specs.declared.task.Task.{Task}
-use Rattle.sixel.specs.declared.task.Task.TheVariants.{Check}
+use Rattle.sixel_run.specs.declared.fault.RunFault.{RunFault}
+use Rattle.sixel_run.specs.declared.task.Status.{Status}
+use Rattle.sixel_run.specs.declared.task.Status.TheVariants as status
+use Rattle.sixel_run.specs.declared.task.Task.{Task}
+use Rattle.sixel_run.specs.declared.task.Task.TheVariants.{Check}
 use Rattle.sixel.specs.Exits.{exit_code, exit_for_answer}
-use Rattle.sixel.specs.Outputs.{Wrote}
+use Rattle.sixel_run.specs.Outputs.{Wrote}
 use Rattle.sixel.specs.Files.{FileEnd, FilesEnd, IsBrokenOver, IsDoneOver, IsFileEnd, IsJudgedOver}
 use Rattle.sixel.specs.Files.{NamesInputOnce, RequestEnds, Tells, exit_of_end, files_exit, is_dash, left_after, names_of, names_read}
 use Rattle.sixel.specs.Files.{told_of}
-use Rattle.sixel.specs.Texts.{Text}
+use Rattle.sixel_run.specs.Texts.{Text}
 use Rattle.sixel.proofs.EndLemmas.{broken_gives, chained, done_gives}
 use Rattle.sixel.proofs.FilesLemmas.{request_read}
 use Rattle.sixel.proofs.SeveralLemmas.{contains_later, greatest_of, reached}

@@ -8,7 +8,7 @@ use Rattle.sixel_picture.specs.declared.ppm.PpmReason.TheVariants as ppm
 use Rattle.sixel.specs.declared.explanations.Topic.{Topic}
 use Rattle.sixel.specs.declared.explanations.Topic.TheVariants as topic
 use Rattle.sixel.specs.Explanations.{topic_name}
-use Rattle.sixel.specs.Texts.{Text}
+use Rattle.sixel_run.specs.Texts.{Text}
 use Rattle.sixel.specs.Words.{AsksFor, sixel_app}
 
 pub name_taken : (program : Text) (t : Topic)

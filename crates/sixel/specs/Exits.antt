@@ -5,18 +5,18 @@ use Rattle.std.specs.Io.KnownBytes.{Appends, Keeps}
 use Rattle.sixel_grammar.specs.Devices.{one_more}
 use Rattle.sixel.specs.declared.exit.Exit.{Exit}
 use Rattle.sixel.specs.declared.exit.Exit.TheVariants.{Done, Broken, Refused, Usage}
-use Rattle.sixel.specs.declared.fault.RunFault.{RunFault}
-use Rattle.sixel.specs.declared.task.Status.{Status}
-use Rattle.sixel.specs.declared.task.Status.TheVariants as status
-use Rattle.sixel.specs.declared.task.Task.{Task}
-use Rattle.sixel.specs.declared.task.Task.TheVariants as task
+use Rattle.sixel_run.specs.declared.fault.RunFault.{RunFault}
+use Rattle.sixel_run.specs.declared.task.Status.{Status}
+use Rattle.sixel_run.specs.declared.task.Status.TheVariants as status
+use Rattle.sixel_run.specs.declared.task.Task.{Task}
+use Rattle.sixel_run.specs.declared.task.Task.TheVariants as task
 use Rattle.sixel.specs.declared.words.WordsFault.{WordsFault}
 use Rattle.sixel.specs.declared.words.WordsFault.TheVariants as fault
-use Rattle.sixel.specs.declared.fault.RunFault.TheVariants as run
+use Rattle.sixel_run.specs.declared.fault.RunFault.TheVariants as run
 use Rattle.sixel.specs.Explanations.{IsExplanation}
 use Rattle.sixel.specs.Formats.{advice}
-use Rattle.sixel.specs.Outputs.{CountsReads, CountsWrites, TakesMemory, Wrote}
-use Rattle.sixel.specs.Texts.{Text, fault_line, finding_line}
+use Rattle.sixel_run.specs.Outputs.{CountsReads, CountsWrites, TakesMemory, Wrote}
+use Rattle.sixel_run.specs.Texts.{Text, fault_line, finding_line}
 
 -- the numbers
 abbrev pub exit_code : Exit → ℕ

@@ -12,9 +12,9 @@ use Rattle.sixel_picture.specs.declared.ppm.PpmReason.TheVariants.{Header, Size,
 use Rattle.sixel.specs.declared.explanations.Topic.{Topic}
 use Rattle.sixel.specs.declared.explanations.Topic.TheVariants.{Rule, Grammar, Ppm, NotRgb, NoBox, OutOfMemory, Read}
 use Rattle.sixel.specs.declared.explanations.Topic.TheVariants.{Write}
-use Rattle.sixel.specs.declared.fault.RunFault.{RunFault}
-use Rattle.sixel.specs.declared.fault.RunFault.TheVariants as fault
-use Rattle.sixel.specs.Texts.{Text, ppm_reason_name, reason_name, rule_name}
+use Rattle.sixel_run.specs.declared.fault.RunFault.{RunFault}
+use Rattle.sixel_run.specs.declared.fault.RunFault.TheVariants as fault
+use Rattle.sixel_run.specs.Texts.{Text, ppm_reason_name, reason_name, rule_name}
 
 -- the name by which a topic is asked for; of a rule and of a reason it is the one in the line of `check` or of a fault
 abbrev pub topic_name : Topic → Text

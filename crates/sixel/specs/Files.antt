@@ -11,17 +11,17 @@ use Rattle.sixel_picture.specs.declared.profile.Profile.{Profile}
 use Rattle.sixel_check.specs.declared.verdict.Finding.{Finding}
 use Rattle.sixel.specs.declared.exit.Exit.{Exit}
 use Rattle.sixel.specs.declared.exit.Exit.TheVariants.{Done, Refused}
-use Rattle.sixel.specs.declared.fault.RunFault.{RunFault}
-use Rattle.sixel.specs.declared.fault.RunFault.TheVariants as run
-use Rattle.sixel.specs.declared.task.Status.{Status}
-use Rattle.sixel.specs.declared.task.Status.TheVariants as status
-use Rattle.sixel.specs.declared.task.Task.{Task}
-use Rattle.sixel.specs.declared.task.Task.TheVariants.{Check}
+use Rattle.sixel_run.specs.declared.fault.RunFault.{RunFault}
+use Rattle.sixel_run.specs.declared.fault.RunFault.TheVariants as run
+use Rattle.sixel_run.specs.declared.task.Status.{Status}
+use Rattle.sixel_run.specs.declared.task.Status.TheVariants as status
+use Rattle.sixel_run.specs.declared.task.Task.{Task}
+use Rattle.sixel_run.specs.declared.task.Task.TheVariants.{Check}
 use Rattle.sixel.specs.Exits.{IsPut, RunEnds, complaint, exit_code, exit_for_answer, is_render}
-use Rattle.sixel.specs.Outputs.{CountsReads, CountsWrites, Gives, TakesMemory, WroteNothing, Wrote, failures_by}
+use Rattle.sixel_run.specs.Outputs.{CountsReads, CountsWrites, Gives, TakesMemory, WroteNothing, Wrote, failures_by}
 use Rattle.sixel.specs.Formats.{advice}
 use Rattle.sixel.specs.Names.{printed}
-use Rattle.sixel.specs.Texts.{BeginsWith, Text, fault_line, fault_parts, finding_line, line}
+use Rattle.sixel_run.specs.Texts.{BeginsWith, Text, fault_line, fault_parts, finding_line, line}
 
 -- ---- names
 

@@ -3,12 +3,12 @@ use Rattle.std.specs.Prelude.{◌==◌, ◌&&◌, ◌||◌, ◌∷◌, ◌++◌,
 use Rattle.std.specs.Prelude.{codes, nat_le, if◌then◌else◌}
 use Rattle.std.specs.Option.{option_map_or}
 use Rattle.sixel_picture.specs.declared.ppm.PpmReason.TheVariants.{Header}
-use Rattle.sixel.specs.declared.fault.RunFault.{RunFault}
-use Rattle.sixel.specs.declared.fault.RunFault.TheVariants.{Ppm}
+use Rattle.sixel_run.specs.declared.fault.RunFault.{RunFault}
+use Rattle.sixel_run.specs.declared.fault.RunFault.TheVariants.{Ppm}
 use Rattle.sixel.specs.declared.formats.Format.{Format}
 use Rattle.sixel.specs.declared.formats.Format.TheVariants.{Png, Jpeg, Gif, Netpbm}
-use Rattle.sixel.specs.declared.task.Status.{Status}
-use Rattle.sixel.specs.Texts.{Text}
+use Rattle.sixel_run.specs.declared.task.Status.{Status}
+use Rattle.sixel_run.specs.Texts.{Text}
 
 -- the marks at the front of files
 abbrev pub is_png : List ℕ → Bool

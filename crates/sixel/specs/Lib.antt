@@ -1,10 +1,3 @@
-pub mod Texts
-pub mod SixelLines
-pub mod Conversions
-pub mod Screens
-pub mod Outputs
-pub mod Feeding
-pub mod Laws
 pub mod Explanations
 pub mod Words
 pub mod Formats

@@ -1,6 +1,6 @@
 -- Names of files as they are printed.
 use Rattle.std.specs.Prelude.{◌+◌, ◌-◌, ◌/◌, ◌%◌, ◌==◌, ◌||◌, ℕ, Bool, [], ◌∷◌, nat_lt, flat_map, if◌then◌else◌}
-use Rattle.sixel.specs.Texts.{Text}
+use Rattle.sixel_run.specs.Texts.{Text}
 
 -- a number below 16 as a hexadecimal digit: 0 to 9, A to F
 abbrev pub hex_digit : ℕ → ℕ

@@ -15,8 +15,8 @@ use Rattle.clap.specs.declared.builder.value_parser.ValueParser.TheVariants as p
 use Rattle.clap.specs.declared.error.kind.ErrorKind.TheVariants as kind
 use Rattle.clap.specs.declared.parser.matches.ValueSource.{ValueSource}
 use Rattle.clap.specs.declared.parser.matches.ValueSource.TheVariants.{CommandLine}
-use Rattle.sixel.specs.declared.task.Task.{Task}
-use Rattle.sixel.specs.declared.task.Task.TheVariants as task
+use Rattle.sixel_run.specs.declared.task.Task.{Task}
+use Rattle.sixel_run.specs.declared.task.Task.TheVariants as task
 use Rattle.sixel.specs.declared.words.WordsFault.{WordsFault}
 use Rattle.sixel.specs.declared.words.WordsFault.TheVariants as fault
 use Rattle.sixel.specs.Explanations.{topic_name}

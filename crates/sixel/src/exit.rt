@@ -5,20 +5,17 @@ ghost use Rattle.sixel_grammar.specs.Devices.{CountsFailure, Puts};
 ghost use Rattle.sixel.specs.Exits.{RunEnds, complaint, exit_code, exit_for_answer, IsShown, WordsEnd};
 ghost use Rattle.sixel.specs.Explanations.{IsExplanation};
 ghost use Rattle.sixel.specs.Formats.{advice};
-ghost use Rattle.sixel.specs.Outputs.{HasSides};
-ghost use Rattle.sixel.specs.Texts.{Text};
+ghost use Rattle.sixel_run.specs.Outputs.{HasSides};
+ghost use Rattle.sixel_run.specs.Texts.{Text};
 
 use crate::explanations::{Topic, explanation};
-use crate::fault::RunFault;
 use crate::formats::{advice_on, format_of};
-use crate::lines::{Line, fault_line, finding_line, write_fault};
-use crate::run;
-use crate::task::{Status, Task};
 use crate::words::WordsFault;
 use arrayvec::ArrayVec;
 use clap::Error;
 use sixel_grammar::{DeviceFault, Sink, Source, put_all};
 use sixel_picture::PpmReason;
+use sixel_run::{Line, RunFault, Status, Task, fault_line, finding_line, run, write_fault};
 use std::alloc::Global;
 
 /// How the program ends.
@@ -115,7 +112,7 @@ pub fn report<S: Source, K: Sink, E: Sink>(
         (K.is_flushed output.new)
         (E.taken errors.old, E.taken errors.new) (E.failure_count errors.old, E.failure_count errors.new) }
 {
-    let answer = run::run(alloc, task, input, output);
+    let answer = run(alloc, task, input, output);
     let said = said_of(task, front, &answer);
     let _ = put_all(errors, said.as_slice());
     exit_of(answer)

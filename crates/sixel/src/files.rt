@@ -6,31 +6,27 @@ ghost use Rattle.std.specs.Io.KnownBytes.{Consumes};
 ghost use Rattle.std.specs.List.{list_any};
 ghost use Rattle.std.specs.String.{string_bytes};
 ghost use Rattle.sixel_grammar.specs.Devices.{CountsFailure, Puts};
-ghost use Rattle.sixel.specs.declared.task.Task.TheVariants.{Check};
+ghost use Rattle.sixel_run.specs.declared.task.Task.TheVariants.{Check};
 ghost use Rattle.sixel.specs.Exits.{IsPut};
 ghost use Rattle.sixel.specs.Files.{FileEnds, FilesEnd, IsChecked, IsFileEnd, IsOutcome, NamedEnds, QuietEnds};
 ghost use Rattle.sixel.specs.Files.{RequestEnds, awaits_text, is_dash, named_complaint, notice, reads_input, worse};
 ghost use Rattle.sixel.specs.Formats.{advice};
-ghost use Rattle.sixel.specs.Outputs.{HasSides, answer_of, failures_by, line_of};
-ghost use Rattle.sixel.specs.Texts.{Text, fault_line};
-ghost use Rattle.sixel.specs.declared.fault.RunFault.{RunFault as AFault};
-ghost use Rattle.sixel.specs.declared.fault.RunFault.TheVariants.{Read as ReadFault};
-ghost use Rattle.sixel.specs.declared.task.Status.{Status as AStatus};
+ghost use Rattle.sixel_run.specs.Outputs.{HasSides, answer_of, failures_by, line_of};
+ghost use Rattle.sixel_run.specs.Texts.{Text, fault_line};
+ghost use Rattle.sixel_run.specs.declared.fault.RunFault.{RunFault as AFault};
+ghost use Rattle.sixel_run.specs.declared.fault.RunFault.TheVariants.{Read as ReadFault};
+ghost use Rattle.sixel_run.specs.declared.task.Status.{Status as AStatus};
 
 use crate::exit::{Exit, advice, code_of, exit_of, report};
-use crate::fault::RunFault;
 use crate::folder::Folder;
 use crate::formats::FRONT;
-use crate::lines::{fault_line, finding_line, verdict_line, write_fault};
 use crate::names::put_named;
 use crate::request::Request;
-use crate::run;
-use crate::run::check::{judge, status_of};
-use crate::task::{Status, Task};
 use arrayvec::ArrayVec;
 use sixel_check::Verdict;
 use sixel_grammar::{DeviceFault, FromRead, Sink, Source, put_all};
 use sixel_picture::Profile;
+use sixel_run::{RunFault, Status, Task, fault_line, finding_line, judge, run, status_of, verdict_line, write_fault};
 use std::alloc::Global;
 use std::io::Read;
 
@@ -188,7 +184,7 @@ fn report_named<S: Source, K: Sink, E: Sink>(
         (K.is_flushed output.new)
         (E.taken errors.old, E.taken errors.new) (E.failure_count errors.old, E.failure_count errors.new) }
 {
-    let answer = run::run(alloc, task, input, output);
+    let answer = run(alloc, task, input, output);
     let _ = put_said(task, name, front, &answer, errors);
     exit_of(answer)
 }

@@ -3,48 +3,24 @@
 ghost use Rattle.std.specs.Prelude.{◌≡◌, ◌<◌, ◌≤◌, ◌∷◌, ◌++◌, [], ℕ, All, Bool, Contains, List, None, Err, Ok, Result, Some};
 ghost use Rattle.std.specs.Prelude.{Option, codes, false, map, true};
 ghost use Rattle.std.specs.List.{concat};
-ghost use Rattle.sixel_picture.specs.Profiles.{count_of};
 ghost use Rattle.sixel_picture.specs.declared.profile.Profile.{Profile};
 ghost use Rattle.sixel_picture.specs.declared.profile.Profile.TheVariants.{Registers16};
 ghost use Rattle.sixel_check.specs.declared.rule.Rule.{Rule};
 ghost use Rattle.clap.specs.Takes.{takes};
 ghost use Rattle.sixel.specs.declared.explanations.Topic.{Topic};
 ghost use Rattle.sixel_grammar.specs.declared.fault.Fault.{Fault};
-ghost use Rattle.sixel.specs.declared.fault.RunFault.{RunFault};
-ghost use Rattle.sixel.specs.declared.fault.RunFault.TheVariants.{Grammar};
-ghost use Rattle.sixel.specs.declared.task.Status.{Status};
-ghost use Rattle.sixel.specs.declared.task.Task.{Task};
-ghost use Rattle.sixel.specs.declared.task.Task.TheVariants.{Check, List as Listing, Show, ShowBox};
+ghost use Rattle.sixel_run.specs.declared.fault.RunFault.{RunFault};
+ghost use Rattle.sixel_run.specs.declared.fault.RunFault.TheVariants.{Grammar};
+ghost use Rattle.sixel_run.specs.declared.task.Status.{Status};
+ghost use Rattle.sixel_run.specs.declared.task.Task.{Task};
+ghost use Rattle.sixel_run.specs.declared.task.Task.TheVariants.{Check, List as Listing, Show, ShowBox};
 ghost use Rattle.sixel.specs.Explanations.{listed_names, topic_name, topic_of};
-ghost use Rattle.sixel.specs.Laws.{BoxIsShown, EncodedAnswers, EncodedChecks, EncodedIsPortable, FaultIsShown};
-ghost use Rattle.sixel.specs.Laws.{NoBoxIsShown};
 ghost use Rattle.sixel.specs.Exits.{exit_code};
 ghost use Rattle.sixel.specs.Files.{ArePut, FileEnd, IsFileEnd, IsSaid, exit_of_end, files_exit, files_text};
 ghost use Rattle.sixel.specs.Names.{is_control, printed};
-ghost use Rattle.sixel.specs.Outputs.{Gives};
-ghost use Rattle.sixel.specs.Texts.{Text, rule_name};
+ghost use Rattle.sixel_run.specs.Outputs.{Gives};
+ghost use Rattle.sixel_run.specs.Texts.{Text, rule_name};
 ghost use Rattle.sixel.specs.Words.{AsksFor, IsTaskOf, sixel_app};
-
-/// A task gives some text and answer for any bytes.
-pub fn tasks_give_an_output()
-    ensures { (task : Task) (bytes : List ℕ) →
-        (text : Text) × (answer : Result Status RunFault) × Gives task bytes text answer }
-{}
-
-/// A task gives one text and answer for the same bytes.
-pub fn tasks_give_one_output()
-    ensures { (task : Task) (bytes : List ℕ) (first second : Text) (a b : Result Status RunFault) →
-        Gives task bytes first a → Gives task bytes second b → (first ≡ second) × (a ≡ b) }
-{}
-
-/// The text that `encode` writes of any picture is a document whose verdict, in the picture's profile, is that picture,
-/// palette included, and which each terminal of the class with room shows. Whatever a check may answer for it is that
-/// this picture is portable, or want of memory, or that a read failed; and its line says so.
-pub fn encoded_pictures_are_portable()
-    ensures portable { (profile : Profile) → EncodedIsPortable (count_of profile) }
-    ensures answered { (profile : Profile) → EncodedAnswers (count_of profile) }
-    ensures checked { (profile : Profile) → EncodedChecks (count_of profile) }
-{}
 
 /// The one word `list` after the program's name is taken, and gives the list.
 pub fn the_word_list_gives_a_list()
@@ -57,14 +33,6 @@ pub fn the_word_show_gives_a_show()
     ensures taken { (program : Text) → takes sixel_app (program ∷ codes "show" ∷ []) ≡ true }
     ensures task { (program : Text) →
         IsTaskOf (program ∷ codes "show" ∷ []) (Show Registers16 false false false 800 480) }
-{}
-
-/// `show --box` gives what `show` gives on a screen with the sides of the declared box, where a screen can have them.
-/// Of another document it gives `NoBox` and no text, and of bytes that are no document their fault, as `show` does.
-pub fn a_box_is_shown_as_its_screen()
-    ensures shown { BoxIsShown }
-    ensures refused { NoBoxIsShown }
-    ensures faulty { FaultIsShown }
 {}
 
 /// The words `show --box` are taken, and show on a screen of the declared box as no flag asks, by 16 registers. With a

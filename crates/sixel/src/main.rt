@@ -5,32 +5,25 @@ ghost use Rattle.std.specs.Prelude.{◌≡◌, ◌≢◌, All, Contains, IfErr, 
 ghost use Rattle.std.specs.String.{string_bytes};
 ghost use Rattle.std.specs.Vec.Iter.{into_iter_items};
 ghost use Rattle.sixel.specs.Files.{IsBrokenOver, IsDoneOver, IsJudgedOver, NamesInputOnce, names_read, told_of};
-ghost use Rattle.sixel.specs.Outputs.{HasSides};
-ghost use Rattle.sixel.specs.Texts.{Text};
+ghost use Rattle.sixel_run.specs.Outputs.{HasSides};
+ghost use Rattle.sixel_run.specs.Texts.{Text};
 ghost use Rattle.sixel.specs.Explanations.{topic_name};
 ghost use Rattle.sixel.specs.Words.{AsksFor, Explains, IsAskedBy, IsNoHelp, IsRefusal, IsRequestOf, IsSortedOut};
 ghost use Rattle.sixel.specs.Words.{IsTaskOf, sixel_app};
 ghost use Rattle.sixel.specs.declared.explanations.Topic.{Topic as ATopic};
-ghost use Rattle.sixel.specs.declared.task.Task.{Task as ATask};
+ghost use Rattle.sixel_run.specs.declared.task.Task.{Task as ATask};
 ghost use Rattle.clap.specs.Takes.{takes};
 
 mod exit;
 mod explanations;
-mod fault;
 mod files;
 mod folder;
 mod formats;
 pub mod laws;
-mod lines;
 mod names;
 mod request;
-mod run;
 #[cfg(test)]
 mod shelf;
-mod sixel_line;
-mod task;
-#[cfg(test)]
-mod watched;
 mod words;
 
 use exit::{Exit, code_of, tell};

@@ -1,6 +1,6 @@
 //! What the words ask for.
 
-use crate::task::Task;
+use sixel_run::Task;
 
 /// A task, and what it is done with.
 #[derive(Debug, Drop)]

@@ -1,8 +1,7 @@
 ghost use Rattle.std.specs.Prelude.{◌≡◌};
-ghost use Rattle.sixel.specs.Outputs.{HasSides};
+ghost use Rattle.sixel_run.specs.Outputs.{HasSides};
 
 mod examples;
-mod exhausted;
 mod formats;
 pub mod streams;
 
@@ -10,7 +9,7 @@ use crate::execute;
 use crate::exit::Exit;
 use crate::request::Request;
 use crate::shelf::Shelf;
-use crate::task::Task;
+use sixel_run::Task;
 use std::alloc::Global;
 
 /// No file can be opened.

@@ -10,8 +10,8 @@ ghost use Rattle.clap.specs.Matches.{found_of};
 ghost use Rattle.clap.specs.Takes.{takes};
 ghost use Rattle.std.specs.String.{string_bytes};
 ghost use Rattle.sixel_terminal.specs.Limits.{most_screen_side};
-ghost use Rattle.sixel.specs.declared.task.Task.{Task as ATask};
-ghost use Rattle.sixel.specs.Outputs.{HasSides};
+ghost use Rattle.sixel_run.specs.declared.task.Task.{Task as ATask};
+ghost use Rattle.sixel_run.specs.Outputs.{HasSides};
 ghost use Rattle.sixel.specs.Words.{AsksFor, Explains, HasSide, IsAskedBy, IsAskedIn, IsRefusal, IsRequestOf};
 ghost use Rattle.sixel.specs.Words.{IsNoHelp, IsSortedOut, IsTask, IsTaskOf, IsUnexplained, check_app, explain_app};
 ghost use Rattle.sixel.specs.Words.{file, files};
@@ -25,11 +25,11 @@ mod help;
 
 use crate::explanations::{Topic, topic_named};
 use crate::request::Request;
-use crate::task::{MOST_SCREEN_SIDE, Task};
 use clap::error::ErrorKind;
 use clap::parser::ValueSource;
 use clap::{Arg, ArgAction, ArgMatches, Command, Error};
 use sixel_picture::Profile;
+use sixel_run::{MOST_SCREEN_SIDE, Task};
 use std::alloc::{AllocError, Global};
 
 /// What `--version` says behind the program's name.

@@ -3,11 +3,11 @@ use Rattle.std.specs.Prelude.{Ok}
 use Rattle.std.specs.String.{string_bytes}
 use Rattle.std.proofs.lemmas.List.Elements.{All-weaker}
 use Rattle.sixel_check.specs.declared.verdict.Finding.{Finding}
-use Rattle.sixel.specs.declared.task.Status.TheVariants.{Broken, Done}
-use Rattle.sixel.specs.declared.task.Status.{Status}
+use Rattle.sixel_run.specs.declared.task.Status.TheVariants.{Broken, Done}
+use Rattle.sixel_run.specs.declared.task.Status.{Status}
 use Rattle.sixel.specs.Files.{names_read}
-use Rattle.sixel.specs.Outputs.{Gives}
-use Rattle.sixel.specs.Texts.{Text}
+use Rattle.sixel_run.specs.Outputs.{Gives}
+use Rattle.sixel_run.specs.Texts.{Text}
 use Rattle.sixel.proofs.FilesLemmas.{request_no_usage}
 use Rattle.sixel.proofs.StatusLemmas.{all_read_done, all_read_judged, one_read_broken, told_chained}
 use Rattle.sixel.proofs.execute.Goals as goal

@@ -8,7 +8,7 @@ use Rattle.std.proofs.lemmas.Iterator.Adapters.{YieldsList-from_vec}
 use Rattle.sixel.specs.Explanations.{topic_name}
 use Rattle.sixel.specs.Words.{AsksFor, Explains, IsAskedBy, IsNoHelp, IsRequestOf, IsTaskOf, sixel_app}
 use Rattle.sixel.specs.declared.explanations.Topic.{Topic as ATopic}
-use Rattle.sixel.specs.declared.task.Task.{Task as ATask}
+use Rattle.sixel_run.specs.declared.task.Task.{Task as ATask}
 use Rattle.sixel.specs.declared.words.WordsFault.TheVariants as fault
 use Rattle.sixel.proofs.task_in.Goals as goal
 

@@ -4,7 +4,7 @@ ghost use Rattle.std.specs.Prelude.{◌≡◌, ◌++◌, IfSome, IsNone, codes};
 ghost use Rattle.std.specs.Io.{StartsWith};
 ghost use Rattle.sixel_grammar.specs.declared.fault.Reason.{Reason as AReason};
 ghost use Rattle.sixel_picture.specs.declared.ppm.PpmReason.{PpmReason as APpmReason};
-ghost use Rattle.sixel.specs.Texts.{ppm_reason_name, reason_name};
+ghost use Rattle.sixel_run.specs.Texts.{ppm_reason_name, reason_name};
 
 use sixel_grammar::Reason;
 use sixel_picture::PpmReason;

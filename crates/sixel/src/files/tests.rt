@@ -1,7 +1,7 @@
 //! What comes of files in place of standard input, worked out by hand.
 
 ghost use Rattle.std.specs.Prelude.{◌≡◌, IfOk};
-ghost use Rattle.sixel.specs.Outputs.{HasSides};
+ghost use Rattle.sixel_run.specs.Outputs.{HasSides};
 
 mod faults;
 mod notices;
@@ -12,9 +12,9 @@ use crate::execute;
 use crate::exit::Exit;
 use crate::request::Request;
 use crate::shelf::Shelf;
-use crate::task::Task;
 use crate::tests::streams::Narrow;
 use sixel_picture::Profile;
+use sixel_run::Task;
 use std::alloc::{AllocError, Global};
 use std::io;
 use std::io::Read;

@@ -3,8 +3,8 @@
 
 use super::ends;
 use crate::Exit;
-use crate::task::Task;
 use sixel_picture::Profile;
+use sixel_run::Task;
 use std::alloc::Global;
 
 /// Whether a check of the bytes in a profile ends so, with this line: a verdict goes to standard output, a fault to

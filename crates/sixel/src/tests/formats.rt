@@ -1,9 +1,9 @@
 //! What is said where `encode` meets a file of another format, worked out by hand.
 
 use crate::exit::Exit;
-use crate::task::Task;
 use crate::tests::ends;
 use sixel_picture::Profile;
+use sixel_run::Task;
 
 const ENCODE: Task = Task::Encode {
     profile: Profile::Registers16,

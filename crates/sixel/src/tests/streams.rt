@@ -1,15 +1,15 @@
 //! How the program ends where a standard stream can't be written.
 
-ghost use Rattle.sixel.specs.Outputs.{HasSides};
+ghost use Rattle.sixel_run.specs.Outputs.{HasSides};
 
 use crate::exit::{Exit, tell};
 use crate::explanations::Topic;
-use crate::task::Task;
 use crate::tests::{NO_FILES, plain};
 use crate::words::{WordsFault, parse_words};
 use crate::{execute, task_in};
 use sixel_grammar::ToWrite;
 use sixel_picture::{PpmReason, Profile};
+use sixel_run::Task;
 use std::alloc::Global;
 use std::io;
 use std::io::{Error, ErrorKind, Write};

@@ -1,6 +1,6 @@
 use Rattle.std.proofs.Common.{◌≡◌, ◌∙◌, [], None, false, refl, sym, true}
 use Rattle.std.specs.Prelude.{Err}
-use Rattle.sixel.specs.declared.fault.RunFault.TheVariants.{Read}
+use Rattle.sixel_run.specs.declared.fault.RunFault.TheVariants.{Read}
 use Rattle.sixel.specs.Files.{is_dash}
 use Rattle.sixel.proofs.FilesLemmas.{none_before, unopened}
 use Rattle.sixel.proofs.files.check_file.Goals as goal

@@ -1,4 +1,4 @@
-use Rattle.sixel.specs.Outputs.{answer_of, line_of}
+use Rattle.sixel_run.specs.Outputs.{answer_of, line_of}
 use Rattle.sixel.proofs.files.check_named.Goals as goal
 
 pub returns : goal.returns

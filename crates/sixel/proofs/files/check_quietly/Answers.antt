@@ -3,8 +3,8 @@ use Rattle.sixel_grammar.proofs.SinkLemmas.{Appends-none}
 use Rattle.sixel.proofs.FilesLemmas.{unsaid}
 use Rattle.sixel.proofs.PutLemmas.{is_put}
 use Rattle.sixel.specs.Exits.{IsPut}
-use Rattle.sixel.specs.Outputs.{answer_of, line_of, status_of}
-use Rattle.sixel.specs.Texts.{Text}
+use Rattle.sixel_run.specs.Outputs.{answer_of, line_of, status_of}
+use Rattle.sixel_run.specs.Texts.{Text}
 use Rattle.sixel.proofs.files.check_quietly.Goals as goal
 
 pub returns-in-Ok : goal.returns-in-Ok

@@ -3,7 +3,7 @@ use Rattle.std.proofs.lemmas.List.{append-nil, take-append-drop, take_more}
 use Rattle.std.proofs.lemmas.Grind.{flat_map-append}
 use Rattle.sixel_grammar.proofs.SinkLemmas.{puts-cut}
 use Rattle.sixel.specs.Names.{printed, printed_byte}
-use Rattle.sixel.specs.Texts.{Text}
+use Rattle.sixel_run.specs.Texts.{Text}
 use Rattle.sixel.proofs.FilesLemmas.{cut_then, puts_failed}
 use Rattle.sixel.proofs.names.put_name.Goals as goal
 

@@ -1,11 +1,11 @@
 //! What is said before a check that reads a terminal.
 
-ghost use Rattle.sixel.specs.Outputs.{HasSides};
+ghost use Rattle.sixel_run.specs.Outputs.{HasSides};
 
 use super::{Asked, Ended, PIXEL, RED, STREAMS, Streams, check_of, ends_over};
 use crate::exit::Exit;
-use crate::task::Task;
 use sixel_picture::Profile;
+use sixel_run::Task;
 use std::alloc::{AllocError, Global};
 use std::test::Fail;
 

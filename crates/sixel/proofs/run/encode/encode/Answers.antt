@@ -1,6 +1,0 @@
-use Rattle.sixel.proofs.FileLemmas.{unencoded}
-use Rattle.sixel.proofs.run.encode.encode.Goals as goal
-
-pub returns-clause-wrote : goal.returns-clause-wrote
-returns-clause-wrote g c =
-    unencoded _ (g.S.Source.remaining c.args.input.now) _ _ _ c.in_ok-picture.ensures.bytes c.in-Err.ensures.bytes

@@ -1,0 +1,66 @@
+//! Runs the rows of `data/` through `run`, in many cuttings: the conformance suite of this repository.
+//!
+//! It prints the number of rows of each file. A row with another end than it says is printed, and the exit status is 1.
+//! A file that can't be read, an empty file and a malformed row are errors.
+#![tactic(auto)]
+
+mod devices;
+mod format;
+mod tasks;
+mod words;
+mod wrong;
+
+use crate::format::{Row, rows_of};
+use crate::tasks::wrong_of;
+use crate::wrong::text_of;
+use anyhow::{Context, anyhow};
+use std::fs;
+use std::process::ExitCode;
+
+/// The files of rows, each of one task.
+const FILES: [&str; 5] = [
+    "list.rows",
+    "check.rows",
+    "render.rows",
+    "show.rows",
+    "encode.rows",
+];
+
+fn main(rt: HostRuntime) -> Result<ExitCode, anyhow::Error> {
+    let mut wrong: u64 = 0;
+    for name in FILES {
+        wrong = wrong.saturating_add(run_file(&rt, name)?);
+    }
+    Ok(if wrong == 0 {
+        ExitCode::SUCCESS
+    } else {
+        ExitCode::FAILURE
+    })
+}
+
+/// Runs the rows of a file, and prints their number and each wrong one. How many are wrong.
+fn run_file(rt: &HostRuntime, name: &str) -> Result<u64, anyhow::Error> {
+    let alloc = rt.alloc();
+    let text = fs::read_to_string(rt, name).context(name)?;
+    let rows = rows_of(alloc, text.as_str()).context(name)?;
+    if rows.is_empty() {
+        return Err(anyhow!("{name}: no rows"));
+    }
+    let mut wrong: u64 = 0;
+    for row in &rows {
+        wrong = wrong.saturating_add(run_row(rt, name, row)?);
+    }
+    println!(rt; "{name}: {} rows", rows.len())?;
+    Ok(wrong)
+}
+
+/// Runs a row, and prints it if it is wrong. How many are wrong: 0 or 1.
+fn run_row(rt: &HostRuntime, name: &str, row: &Row<'_>) -> Result<u64, anyhow::Error> {
+    match wrong_of(rt.alloc(), row)? {
+        None => Ok(0),
+        Some(wrong) => {
+            rt.println(text_of(rt.alloc(), name, row, &wrong)?)?;
+            Ok(1)
+        }
+    }
+}

@@ -1,0 +1,150 @@
+//! Runs a row in many cuttings.
+
+ghost use Rattle.std.specs.Prelude.{◌≡◌, true};
+ghost use Rattle.sixel_run.specs.Outputs.{HasSides};
+
+use crate::devices::{CutSource, Cutting, KeepingSink};
+use crate::format::{Row, RowFault};
+use crate::words::task_of;
+use sixel_run::{Line, RunFault, Status, Task, fault_line, finding_line, run};
+use std::alloc::Global;
+
+/// Inputs of at most so many bytes are run in pieces of each size, and cut in two at each place.
+const MOST_SHORT: usize = 64;
+
+/// The sizes of the pieces of longer inputs.
+const SIZES: [usize; 6] = [1, 5, 7, 64, 1_000, 65_536];
+
+/// What came of a run.
+#[derive(Drop)]
+pub struct Ended {
+    pub status: u8,
+    pub output: Vec<u8>,
+    pub said: Line,
+    /// How often the output was flushed, which is to be once.
+    pub flushes: u64,
+}
+
+/// A run with another end than the row says.
+#[derive(Drop)]
+pub struct Wrong {
+    pub cutting: Cutting,
+    pub ended: Ended,
+}
+
+/// The first cutting in which the row is wrong, and what came of it.
+pub fn wrong_of(alloc: Global, row: &Row<'_>) -> Result<Option<Wrong>, RowFault> {
+    let task = task_of(row.words)?;
+    if row.input.len() > MOST_SHORT {
+        return Ok(in_some_pieces(alloc, task, row));
+    }
+    match in_all_pieces(alloc, task, row) {
+        None => Ok(in_two(alloc, task, row)),
+        wrong => Ok(wrong),
+    }
+}
+
+/// Input and output in pieces of this size.
+fn even(piece: usize) -> Cutting {
+    Cutting {
+        first: piece,
+        later: piece,
+        taken: piece,
+    }
+}
+
+fn in_some_pieces(alloc: Global, task: Task, row: &Row<'_>) -> Option<Wrong>
+    requires { HasSides task }
+{
+    for piece in SIZES {
+        if let Some(wrong) = wrong_in(alloc, task, row, even(piece)) {
+            return Some(wrong);
+        }
+    }
+    None
+}
+
+/// In pieces of one byte to the whole input, and one more.
+fn in_all_pieces(alloc: Global, task: Task, row: &Row<'_>) -> Option<Wrong>
+    requires { HasSides task }
+{
+    for less in 0..=row.input.len() {
+        if let Some(wrong) = wrong_in(alloc, task, row, even(less.saturating_add(1))) {
+            return Some(wrong);
+        }
+    }
+    None
+}
+
+/// Cut in two at each place.
+fn in_two(alloc: Global, task: Task, row: &Row<'_>) -> Option<Wrong>
+    requires { HasSides task }
+{
+    for first in 1..row.input.len() {
+        let cutting = Cutting {
+            first,
+            ..even(usize::MAX)
+        };
+        if let Some(wrong) = wrong_in(alloc, task, row, cutting) {
+            return Some(wrong);
+        }
+    }
+    None
+}
+
+/// What came of a run in this cutting, if it isn't what the row says.
+fn wrong_in(alloc: Global, task: Task, row: &Row<'_>, cutting: Cutting) -> Option<Wrong>
+    requires { HasSides task }
+{
+    let ended = end_of(alloc, task, row.input.as_slice(), cutting);
+    if is_right(&ended, row) {
+        return None;
+    }
+    Some(Wrong { cutting, ended })
+}
+
+/// Whether a run ended as the row says, with one flush.
+fn is_right(ended: &Ended, row: &Row<'_>) -> bool
+    ensures status { result ≡ true → ended.now.status ≡ row.now.status }
+    ensures output { result ≡ true → ended.now.output.items ≡ row.now.output.items }
+    ensures said { result ≡ true → ended.now.said.items ≡ row.now.said.items }
+    ensures flushed { result ≡ true → ended.now.flushes ≡ 1 }
+{
+    ended.status == row.status
+        && ended.output.as_slice() == row.output.as_slice()
+        && ended.said.as_slice() == row.said.as_slice()
+        && ended.flushes == 1
+}
+
+/// Runs the task on the bytes in this cutting.
+fn end_of(alloc: Global, task: Task, bytes: &[u8], cutting: Cutting) -> Ended
+    requires { HasSides task }
+{
+    let mut source = CutSource::new(bytes, cutting);
+    let mut sink = KeepingSink::new(alloc, cutting.taken);
+    let answer = run(alloc, task, &mut source, &mut sink);
+    Ended {
+        status: code_of(&answer),
+        said: said_of(task, &answer),
+        flushes: sink.flushes,
+        output: sink.bytes,
+    }
+}
+
+/// The exit status of a run.
+fn code_of(answer: &Result<Status, RunFault>) -> u8 {
+    match answer {
+        Ok(Status::Done) => 0,
+        Ok(Status::Broken(_)) => 1,
+        Err(_) => 2,
+    }
+}
+
+/// The line that goes to standard error: why a run is refused, or why a picture isn't rendered.
+fn said_of(task: Task, answer: &Result<Status, RunFault>) -> Line {
+    match answer {
+        Ok(Status::Broken(finding)) if matches!(task, Task::Render { .. }) => finding_line(finding),
+        Ok(_) => Line::new(),
+        Err(fault) => fault_line(fault),
+    }
+}

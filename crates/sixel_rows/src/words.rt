@@ -1,0 +1,139 @@
+//! The task that the words of a row name.
+
+ghost use Rattle.std.specs.Prelude.{IfOk, IfSome, IsTrue};
+ghost use Rattle.sixel_picture.specs.Ppm.{is_file_side};
+ghost use Rattle.sixel_run.specs.Outputs.{HasSides};
+
+use crate::format::RowFault;
+use sixel_picture::Profile;
+use sixel_run::{MOST_SCREEN_SIDE, Task};
+
+/// The options of a row.
+#[derive(Clone, Copy, Default, PartialEq, Eq)]
+struct Options<'a> {
+    wide: bool,
+    showing: bool,
+    fill: bool,
+    selects: bool,
+    boxed: bool,
+    width: Option<&'a str>,
+    height: Option<&'a str>,
+}
+
+/// An option whose value comes next.
+#[derive(Clone, Copy)]
+enum Awaited {
+    Nothing,
+    Width,
+    Height,
+}
+
+/// The task that the words name.
+pub fn task_of(words: &str) -> Result<Task, RowFault>
+    ensures { IfOk result HasSides }
+{
+    let (name, rest) = words.split_once(' ').unwrap_or((words, ""));
+    let options = options_of(rest)?;
+    let (is_wide, is_plain) = kind_of(options);
+    let profile = profile_of(options.wide);
+    match name {
+        "list" if is_plain => Ok(Task::List),
+        "check" if is_wide => Ok(Task::Check { profile }),
+        "render" if is_wide => Ok(Task::Render { profile }),
+        "encode" if is_wide => Ok(Task::Encode { profile }),
+        "show" if options.boxed => boxed(profile, options),
+        "show" => sized(profile, options),
+        _ => Err(RowFault::Words),
+    }
+}
+
+/// Whether there is no option but `--wide`, and whether there is none at all.
+fn kind_of(options: Options<'_>) -> (bool, bool) {
+    let is_wide = !options.showing
+        && !options.fill
+        && !options.selects
+        && !options.boxed
+        && options.width.is_none()
+        && options.height.is_none();
+    (is_wide, is_wide && !options.wide)
+}
+
+fn profile_of(wide: bool) -> Profile {
+    if wide {
+        Profile::Registers256
+    } else {
+        Profile::Registers16
+    }
+}
+
+fn boxed(profile: Profile, options: Options<'_>) -> Result<Task, RowFault>
+    ensures { IfOk result HasSides }
+{
+    if options.width.is_some() || options.height.is_some() {
+        return Err(RowFault::Words);
+    }
+    Ok(Task::ShowBox {
+        profile,
+        showing: options.showing,
+        fill: options.fill,
+        selects: options.selects,
+    })
+}
+
+fn sized(profile: Profile, options: Options<'_>) -> Result<Task, RowFault>
+    ensures { IfOk result HasSides }
+{
+    let width = side_of(options.width)?;
+    let height = side_of(options.height)?;
+    Ok(Task::Show {
+        profile,
+        showing: options.showing,
+        fill: options.fill,
+        selects: options.selects,
+        width,
+        height,
+    })
+}
+
+/// The side of a screen.
+fn side_of(written: Option<&str>) -> Result<u32, RowFault>
+    ensures { IfOk result (λ side. IsTrue (is_file_side side)) }
+{
+    match written.unwrap_or("").parse::<u32>() {
+        Ok(side) if side >= 1 && side <= MOST_SCREEN_SIDE => Ok(side),
+        _ => Err(RowFault::Words),
+    }
+}
+
+fn options_of(words: &str) -> Result<Options<'_>, RowFault> {
+    let mut options = Options::default();
+    let mut awaited = Awaited::Nothing;
+    for word in words.split_whitespace() {
+        awaited = take_word(&mut options, awaited, word)?;
+    }
+    match awaited {
+        Awaited::Nothing => Ok(options),
+        _ => Err(RowFault::Words),
+    }
+}
+
+/// Takes one word, and says which option waits for the next.
+fn take_word<'a>(
+    options: &mut Options<'a>,
+    awaited: Awaited,
+    word: &'a str,
+) -> Result<Awaited, RowFault> {
+    match (awaited, word) {
+        (Awaited::Width, _) => options.width = Some(word),
+        (Awaited::Height, _) => options.height = Some(word),
+        (_, "--wide") => options.wide = true,
+        (_, "--showing") => options.showing = true,
+        (_, "--fill") => options.fill = true,
+        (_, "--define-selects") => options.selects = true,
+        (_, "--box") => options.boxed = true,
+        (_, "--width") => return Ok(Awaited::Width),
+        (_, "--height") => return Ok(Awaited::Height),
+        _ => return Err(RowFault::Words),
+    }
+    Ok(Awaited::Nothing)
+}

@@ -1,0 +1,281 @@
+-- What a run of `show --box` owes.
+use Rattle.std.proofs.Common.{◌≡◌, ◌∙◌, ℕ, Bool, true, false, List, [], ◌∷◌, ◌++◌, take, Option, Some, None, refl, sym}
+use Rattle.std.proofs.Common.{ap, ap₂, subst, inl, inr, ◌+◌, add-one}
+use Rattle.std.specs.Prelude.{◌&&◌, option_and_then, option_map, slice_get, IfSome, IsTrue, Result, Ok, Err}
+use Rattle.std.specs.Option.{option_or}
+use Rattle.std.specs.Bool.{then_some}
+use Rattle.sixel_grammar.specs.declared.command.Event.{Event}
+use Rattle.sixel_grammar.specs.declared.command.Placed.{Placed}
+use Rattle.sixel_grammar.specs.declared.fault.Fault.{Fault}
+use Rattle.sixel_grammar.specs.Document.{Document, events_of}
+use Rattle.sixel_grammar.specs.Faults.{IsFaultOf}
+use Rattle.sixel_grammar.proofs.TotalLemmas.{judged}
+use Rattle.sixel_grammar.proofs.UniqueLemmas.{document_once, fault_no_document, fault_once}
+use Rattle.sixel_picture.specs.Events.{Attributes, raster_of}
+use Rattle.sixel_picture.specs.Ppm.{is_file_side}
+use Rattle.sixel_picture.specs.Positions.{earliest}
+use Rattle.sixel_picture.specs.Rules.{raster_before}
+use Rattle.sixel_picture.proofs.FirstLemmas.{earliest_there}
+use Rattle.sixel_picture.proofs.LatestLemmas.{take_one_more}
+use Rattle.sixel_picture.proofs.PositionLemmas.{earliest_push}
+use Rattle.sixel_terminal.specs.Displays.{Display}
+use Rattle.sixel_run.specs.declared.fault.RunFault.{RunFault}
+use Rattle.sixel_run.specs.declared.fault.RunFault.TheVariants.{Grammar, Ppm, NotRgb, NoBox, OutOfMemory, Read, Write}
+use Rattle.sixel_run.specs.declared.task.Status.{Status}
+use Rattle.sixel_run.specs.Outputs.{ShowBoxGives, ShowGives, WroteBy, WroteNothing}
+use Rattle.sixel_run.specs.Screens.{declared_screen, sides_of_box}
+use Rattle.sixel_run.specs.Texts.{Text}
+use Rattle.sixel_run.proofs.ScreenLemmas.{show-gives, show-once}
+
+abbrev Sides : Type 0
+Sides = ℕ × ℕ
+
+-- ---- the first raster attributes
+
+abbrev size_of : Attributes → Sides
+size_of a = (a.width, a.height)
+
+abbrev pub raster_at : Placed → Option Attributes
+raster_at p = raster_of p.event
+
+first-raster : (xs : List Placed) → raster_before (events_of xs) ≡ earliest raster_at xs
+unfolding raster_before earliest
+first-raster [] = refl
+first-raster (p ∷ ps) = ap (option_or (raster_at p)) (first-raster ps)
+
+none-in : (o : Option Attributes) → None ≡ option_map size_of o → o ≡ None
+none-in None e = refl
+none-in (Some a) e = cc
+
+-- none up to an event that is none either
+none-later : (xs : List Placed) (p : Placed) → earliest raster_at xs ≡ None
+    → None ≡ option_map size_of (raster_of p.event)
+    → earliest raster_at (xs ++ p ∷ []) ≡ None
+none-later xs p before here =
+    earliest_push raster_at xs p ∙ ap₂ (λ a b. option_or a b) before (none-in (raster_at p) here)
+
+pub none-yet : (xs : List Placed) (p : Placed) (i : ℕ) → slice_get xs i ≡ Some p → earliest raster_at (take i xs) ≡ None
+    → None ≡ option_map size_of (raster_of p.event) → earliest raster_at (take (i + 1) xs) ≡ None
+none-yet xs p i there before here =
+    rw add-one (ap (earliest raster_at) (take_one_more xs i p there) ∙ none-later (take i xs) p before here)
+
+-- those of the first event that has any
+sides-at : (events : List Placed) (o : Option Attributes) (p : Placed) (i width height : ℕ) → raster_at p ≡ o
+    → slice_get events i ≡ Some p → earliest raster_at (take i events) ≡ None
+    → Some (width, height) ≡ option_map size_of o
+    → declared_screen (events_of events) ≡ sides_of_box width height
+unfolding declared_screen
+sides-at events None p i width height is here before e = cc
+sides-at events (Some a) p i width height is here before e =
+    let same : (width, height) ≡ (a.width, a.height) = cc in
+    let first : raster_before (events_of events) ≡ Some a = first-raster events
+    ∙ earliest_there raster_at i events p a here before is in
+    ap (option_and_then (λ (b : Attributes). sides_of_box b.width b.height)) first
+    ∙ ap (λ (s : Sides). sides_of_box s.0 s.1) (sym same)
+
+pub declared-there : (events : List Placed) (p : Placed) (i width height : ℕ) → slice_get events i ≡ Some p
+    → earliest raster_at (take i events) ≡ None
+    → Some (width, height) ≡ option_map size_of (raster_of p.event)
+    → declared_screen (events_of events) ≡ sides_of_box width height
+declared-there events p i width height = sides-at events (raster_at p) p i width height refl
+
+pub declared-nowhere : (events : List Placed) → earliest raster_at events ≡ None
+    → declared_screen (events_of events) ≡ None
+unfolding declared_screen
+declared-nowhere events none =
+    ap (option_and_then (λ (b : Attributes). sides_of_box b.width b.height)) (first-raster events ∙ none)
+
+-- ---- a document with a box
+
+-- what a show on the screen of the box gives, `show --box` gives
+pub boxed : (terminal : Sides → Display) (bytes : List ℕ) (d : List Placed) (sides : Sides) → Document d bytes
+    → declared_screen (events_of d) ≡ Some sides → (text : Text) (answer : Result Status RunFault)
+    → ShowGives (terminal sides) bytes text answer → ShowBoxGives terminal bytes text answer
+boxed terminal bytes d sides doc is text (Ok s) g = (d, doc, (sides, is, g))
+boxed terminal bytes d sides doc is text (Err NotRgb) g = (d, doc, (sides, is, g))
+boxed terminal bytes d sides doc is text (Err (Grammar f)) g = g
+boxed terminal bytes d sides doc is text (Err NoBox) g = absurd g
+boxed terminal bytes d sides doc is text (Err (Ppm reason place)) g = absurd g
+boxed terminal bytes d sides doc is text (Err OutOfMemory) g = absurd g
+boxed terminal bytes d sides doc is text (Err Read) g = absurd g
+boxed terminal bytes d sides doc is text (Err Write) g = absurd g
+
+-- the sides that another reading of the document declares
+same-sides : (bytes : List ℕ) (d e : List Placed) (a b : Sides) → Document d bytes → Document e bytes
+    → declared_screen (events_of d) ≡ Some a → declared_screen (events_of e) ≡ Some b → b ≡ a
+same-sides bytes d e a b p q is are =
+    let whole : Some b ≡ Some a =
+    sym are ∙ ap (λ (x : List Placed). declared_screen (events_of x)) (document_once bytes e d q p) ∙ is in cc
+
+not-none : (bytes : List ℕ) (d e : List Placed) (a : Sides) → Document d bytes → Document e bytes
+    → declared_screen (events_of d) ≡ Some a → declared_screen (events_of e) ≡ None → ⊥
+not-none bytes d e a p q is none =
+    let whole : None ≡ Some a =
+    sym none ∙ ap (λ (x : List Placed). declared_screen (events_of x)) (document_once bytes e d q p) ∙ is in cc
+
+moved : (terminal : Sides → Display) (bytes : List ℕ) (a b : Sides) (text : Text) (answer : Result Status RunFault)
+    → b ≡ a → ShowGives (terminal b) bytes text answer → ShowGives (terminal a) bytes text answer
+moved terminal bytes a b text answer e g = subst (λ (s : Sides). ShowGives (terminal s) bytes text answer) e g
+
+-- and it gives nothing else
+pub unboxed : (terminal : Sides → Display) (bytes : List ℕ) (d : List Placed) (sides : Sides) → Document d bytes
+    → declared_screen (events_of d) ≡ Some sides → (text : Text) (answer : Result Status RunFault)
+    → ShowBoxGives terminal bytes text answer → ShowGives (terminal sides) bytes text answer
+unboxed terminal bytes d sides doc is text (Err NoBox) g = absurd (not-none bytes d g.1.0 sides doc g.1.1 is g.1.2)
+unboxed terminal bytes d sides doc is text (Err (Grammar f)) g = g
+unboxed terminal bytes d sides doc is text (Ok s) g =
+    moved terminal bytes sides g.2.0 text (Ok s) (same-sides bytes d g.0 sides g.2.0 doc g.1 is g.2.1) g.2.2
+unboxed terminal bytes d sides doc is text (Err NotRgb) g =
+    moved terminal bytes sides g.2.0 text (Err NotRgb) (same-sides bytes d g.0 sides g.2.0 doc g.1 is g.2.1) g.2.2
+unboxed terminal bytes d sides doc is text (Err (Ppm reason place)) g = absurd g.2.2
+unboxed terminal bytes d sides doc is text (Err OutOfMemory) g = absurd g.2.2
+unboxed terminal bytes d sides doc is text (Err Read) g = absurd g.2.2
+unboxed terminal bytes d sides doc is text (Err Write) g = absurd g.2.2
+
+-- ---- a document without one
+
+pub refused : (terminal : Sides → Display) (bytes : List ℕ) (d : List Placed) → Document d bytes
+    → declared_screen (events_of d) ≡ None → (text : Text) (answer : Result Status RunFault)
+    → ShowBoxGives terminal bytes text answer → (text ≡ []) × (answer ≡ Err NoBox)
+refused terminal bytes d doc none text (Err NoBox) g = (g.0, refl)
+refused terminal bytes d doc none text (Err (Grammar f)) g = absurd (fault_no_document bytes f g.1 (d, doc))
+refused terminal bytes d doc none text (Ok s) g = absurd (not-none bytes g.0 d g.2.0 g.1 doc g.2.1 none)
+refused terminal bytes d doc none text (Err NotRgb) g = absurd (not-none bytes g.0 d g.2.0 g.1 doc g.2.1 none)
+refused terminal bytes d doc none text (Err (Ppm reason place)) g = absurd g.2.2
+refused terminal bytes d doc none text (Err OutOfMemory) g = absurd g.2.2
+refused terminal bytes d doc none text (Err Read) g = absurd g.2.2
+refused terminal bytes d doc none text (Err Write) g = absurd g.2.2
+
+-- ---- bytes that are no document
+
+pub faulty : (terminal : Sides → Display) (bytes : List ℕ) (f : Fault) → IsFaultOf bytes f
+    → (text : Text) (answer : Result Status RunFault) → ShowBoxGives terminal bytes text answer
+    → (text ≡ []) × (answer ≡ Err (Grammar f))
+faulty terminal bytes f is text (Err (Grammar e)) g =
+    (g.0, ap (λ (k : Fault). Err (Grammar k)) (fault_once bytes e f g.1 is))
+faulty terminal bytes f is text (Err NoBox) g = absurd (fault_no_document bytes f is (g.1.0, g.1.1))
+faulty terminal bytes f is text (Ok s) g = absurd (fault_no_document bytes f is (g.0, g.1))
+faulty terminal bytes f is text (Err NotRgb) g = absurd (fault_no_document bytes f is (g.0, g.1))
+faulty terminal bytes f is text (Err (Ppm reason place)) g = absurd g.2.2
+faulty terminal bytes f is text (Err OutOfMemory) g = absurd g.2.2
+faulty terminal bytes f is text (Err Read) g = absurd g.2.2
+faulty terminal bytes f is text (Err Write) g = absurd g.2.2
+
+-- ---- the same as relations both ways
+
+pub no-box : (terminal : Sides → Display) (bytes : List ℕ) (d : List Placed) → Document d bytes
+    → declared_screen (events_of d) ≡ None → (text : Text) (answer : Result Status RunFault) → text ≡ []
+    → answer ≡ Err NoBox → ShowBoxGives terminal bytes text answer
+no-box terminal bytes d doc none text answer e f = rw (e, f) (refl, (d, doc, none))
+
+pub fault-shown : (terminal : Sides → Display) (sides : Sides) (bytes : List ℕ) (fault : Fault) → IsFaultOf bytes fault
+    → (text : Text) (answer : Result Status RunFault) → ShowBoxGives terminal bytes text answer
+    → ShowGives (terminal sides) bytes text answer
+fault-shown terminal sides bytes fault is text answer g =
+    let same = faulty terminal bytes fault is text answer g in rw (same.0, same.1) (refl, is)
+
+pub fault-boxed : (terminal : Sides → Display) (sides : Sides) (bytes : List ℕ) (fault : Fault) → IsFaultOf bytes fault
+    → (text : Text) (answer : Result Status RunFault) → ShowGives (terminal sides) bytes text answer
+    → ShowBoxGives terminal bytes text answer
+fault-boxed terminal sides bytes fault is text answer g =
+    let same = show-once (terminal sides) bytes text [] answer (Err (Grammar fault)) g (refl, is) in
+    rw (same.0, same.1) (refl, is)
+
+-- ---- the sides
+
+some-then : (b : Bool) (p q : Sides) → then_some b p ≡ Some q → (b ≡ true) × (p ≡ q)
+some-then true p q e = (refl, cc)
+some-then false p q e = cc
+
+both-true : (a b : Bool) → (a && b) ≡ true → (a ≡ true) × (b ≡ true)
+both-true true b e = (refl, e)
+both-true false b e = cc
+
+sides-in : (o : Option Attributes) (width height : ℕ)
+    → option_and_then (λ (a : Attributes). sides_of_box a.width a.height) o ≡ Some (width, height)
+    → IsTrue (is_file_side width) × IsTrue (is_file_side height)
+sides-in None width height e = cc
+sides-in (Some a) width height e =
+    let s = some-then (is_file_side a.width && is_file_side a.height) (a.width, a.height) (width, height) e in
+    let t = both-true (is_file_side a.width) (is_file_side a.height) s.0 in (
+      subst (λ (p : Sides). IsTrue (is_file_side p.0)) s.1 t.0,
+      subst (λ (p : Sides). IsTrue (is_file_side p.1)) s.1 t.1,
+    )
+
+pub declared_sides : (events : List Event) (width height : ℕ) → declared_screen events ≡ Some (width, height)
+    → IsTrue (is_file_side width) × IsTrue (is_file_side height)
+unfolding declared_screen
+declared_sides events width height e = sides-in (raster_before events) width height e
+
+-- ---- one output
+
+both-same : (first second text : Text) (a b answer : Result Status RunFault) → (first ≡ text) × (a ≡ answer)
+    → (second ≡ text) × (b ≡ answer) → (first ≡ second) × (a ≡ b)
+both-same first second text a b answer g h = (g.0 ∙ sym h.0, g.1 ∙ sym h.1)
+
+once-in : (terminal : Sides → Display) (bytes : List ℕ) (first second : Text) (a b : Result Status RunFault)
+    (d : List Placed) (o : Option Sides) → Document d bytes → declared_screen (events_of d) ≡ o
+    → ShowBoxGives terminal bytes first a → ShowBoxGives terminal bytes second b → (first ≡ second) × (a ≡ b)
+once-in terminal bytes first second a b d (Some sides) doc is g h =
+    show-once (terminal sides) bytes first second a b (unboxed terminal bytes d sides doc is first a g)
+    (unboxed terminal bytes d sides doc is second b h)
+once-in terminal bytes first second a b d None doc is g h =
+    both-same first second [] a b (Err NoBox) (refused terminal bytes d doc is first a g)
+    (refused terminal bytes d doc is second b h)
+
+pub box-once : (terminal : Sides → Display) (bytes : List ℕ) (first second : Text) (a b : Result Status RunFault)
+    → ShowBoxGives terminal bytes first a → ShowBoxGives terminal bytes second b → (first ≡ second) × (a ≡ b)
+box-once terminal bytes first second a b g h =
+    elim (judged bytes) [
+      | inl d ↦ once-in terminal bytes first second a b d.0 (declared_screen (events_of d.0)) d.1 refl g h
+      | inr f ↦ both-same first second [] a b (Err (Grammar f.0)) (faulty terminal bytes f.0 f.1 first a g)
+          (faulty terminal bytes f.0 f.1 second b h)
+    ]
+
+-- ---- some output
+
+gives-in : (terminal : Sides → Display) (bytes : List ℕ) (d : List Placed) (o : Option Sides) → Document d bytes
+    → declared_screen (events_of d) ≡ o
+    → (text : Text) × (answer : Result Status RunFault) × ShowBoxGives terminal bytes text answer
+gives-in terminal bytes d (Some sides) doc is =
+    let g = show-gives (terminal sides) bytes in
+    (g.0, g.1, boxed terminal bytes d sides doc is g.0 g.1 g.2)
+gives-in terminal bytes d None doc is = ([], Err NoBox, (refl, (d, doc, is)))
+
+pub box-gives : (terminal : Sides → Display) (bytes : List ℕ)
+    → (text : Text) × (answer : Result Status RunFault) × ShowBoxGives terminal bytes text answer
+box-gives terminal bytes =
+    elim (judged bytes) [
+      | inl d ↦ gives-in terminal bytes d.0 (declared_screen (events_of d.0)) d.1 refl
+      | inr f ↦ ([], Err (Grammar f.0), (refl, f.1))
+    ]
+
+-- ---- what is written
+
+-- what a show on the screen of the box has written
+pub written-boxed : (terminal : Sides → Display) (bytes : List ℕ) (d : List Placed) (sides : Sides)
+    (answer : Result Status RunFault) (had has : Option (List ℕ)) → Document d bytes
+    → declared_screen (events_of d) ≡ Some sides
+    → WroteBy (ShowGives (terminal sides) bytes) WroteNothing answer had has
+    → WroteBy (ShowBoxGives terminal bytes) WroteNothing answer had has
+written-boxed terminal bytes d sides (Ok s) had has doc is w =
+    (w.0, boxed terminal bytes d sides doc is w.0 (Ok s) w.1, w.2)
+written-boxed terminal bytes d sides (Err NotRgb) had has doc is w =
+    (w.0, boxed terminal bytes d sides doc is w.0 (Err NotRgb) w.1, w.2)
+written-boxed terminal bytes d sides (Err (Grammar f)) had has doc is w =
+    (w.0, boxed terminal bytes d sides doc is w.0 (Err (Grammar f)) w.1, w.2)
+written-boxed terminal bytes d sides (Err NoBox) had has doc is w = absurd w.1
+written-boxed terminal bytes d sides (Err (Ppm reason place)) had has doc is w = absurd w.1
+written-boxed terminal bytes d sides (Err OutOfMemory) had has doc is w = w
+written-boxed terminal bytes d sides (Err Read) had has doc is w = w
+written-boxed terminal bytes d sides (Err Write) had has doc is w =
+    (w.0, w.1, λ text answer g. w.2 text answer (unboxed terminal bytes d sides doc is text answer g))
+
+pub shown-boxed : (terminal : Sides → Display) (told : Option (List ℕ)) (d : List Placed) (sides : Sides)
+    (answer : Result Status RunFault) (had has : Option (List ℕ)) → IfSome told (Document d)
+    → declared_screen (events_of d) ≡ Some sides
+    → ((bytes : List ℕ) → Document d bytes → WroteBy (ShowGives (terminal sides) bytes) WroteNothing answer had has)
+    → IfSome told (λ (bytes : List ℕ). WroteBy (ShowBoxGives terminal bytes) WroteNothing answer had has)
+shown-boxed terminal None d sides answer had has doc is w = tt
+shown-boxed terminal (Some bytes) d sides answer had has doc is w =
+    written-boxed terminal bytes d sides answer had has doc is (w bytes doc)

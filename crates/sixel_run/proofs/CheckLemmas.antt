@@ -1,0 +1,115 @@
+-- What a run of `check` owes.
+use Rattle.std.proofs.Common.{◌≡◌, ◌∙◌, ℕ, List, [], take, drop, Option, Some, None, refl, sym, ap, subst, inl, inr}
+use Rattle.std.specs.Prelude.{Result, Ok, Err, IfSome}
+use Rattle.std.specs.Io.KnownBytes.{Appends}
+use Rattle.std.proofs.lemmas.List.{take-append-drop}
+use Rattle.sixel_grammar.specs.declared.command.Placed.{Placed}
+use Rattle.sixel_grammar.specs.declared.fault.Fault.{Fault}
+use Rattle.sixel_grammar.specs.declared.fault.InputFault.{InputFault}
+use Rattle.sixel_grammar.specs.declared.fault.InputFault.TheVariants as input
+use Rattle.sixel_grammar.specs.Document.{Document}
+use Rattle.sixel_grammar.proofs.TotalLemmas.{judged}
+use Rattle.sixel_grammar.proofs.UniqueLemmas.{document_once, fault_no_document, fault_once}
+use Rattle.sixel_check.specs.declared.verdict.Verdict.{Verdict}
+use Rattle.sixel_check.specs.Growth.{MayGrowIn}
+use Rattle.sixel_check.specs.Checking.{Answers as CheckAnswers}
+use Rattle.sixel_check.specs.Verdicts.{IsVerdict}
+use Rattle.sixel_check.proofs.DecideLemmas.{verdict_exists}
+use Rattle.sixel_check.proofs.VerdictLemmas.{verdict_once}
+use Rattle.sixel_run.specs.declared.fault.RunFault.{RunFault}
+use Rattle.sixel_run.specs.declared.fault.RunFault.TheVariants.{Grammar, Ppm, NotRgb, NoBox, OutOfMemory, Read, Write}
+use Rattle.sixel_run.specs.declared.task.Status.{Status}
+use Rattle.sixel_run.specs.Conversions.{of_input}
+use Rattle.sixel_run.specs.Outputs.{CheckGives, WroteBy, WroteNothing, status_of}
+use Rattle.sixel_run.specs.Texts.{Text, verdict_line}
+
+-- two verdicts on one document are the same
+pub same_verdict : (registers : ℕ) (bytes : List ℕ) (d e : List Placed) (v w : Verdict)
+    → Document d bytes → Document e bytes → IsVerdict registers d v → IsVerdict registers e w → v ≡ w
+same_verdict registers bytes d e v w p q a b =
+    verdict_once _ e v w (subst (λ (l : List Placed). IsVerdict registers l v) (document_once bytes d e p q) a) b
+
+pub check-once : (registers : ℕ) (bytes : List ℕ) (first second : Text) (a b : Result Status RunFault)
+    → CheckGives registers bytes first a → CheckGives registers bytes second b → (first ≡ second) × (a ≡ b)
+check-once registers bytes first second (Ok s) (Ok r) g h =
+    let same = same_verdict _ bytes g.0 h.0 g.2.0 h.2.0 g.1 h.1 g.2.1 h.2.1 in (
+      g.2.2 ∙ ap verdict_line same ∙ sym h.2.2,
+      ap (λ (t : Status). Ok t) (g.2.3 ∙ ap status_of same ∙ sym h.2.3),
+    )
+check-once registers bytes first second (Ok s) (Err (Grammar f)) g h = absurd (fault_no_document bytes f h.1 (g.0, g.1))
+check-once registers bytes first second (Err (Grammar f)) (Ok s) g h = absurd (fault_no_document bytes f g.1 (h.0, h.1))
+check-once registers bytes first second (Err (Grammar f)) (Err (Grammar e)) g h =
+    (g.0 ∙ sym h.0, ap (λ (k : Fault). Err (Grammar k)) (fault_once bytes f e g.1 h.1))
+check-once registers bytes first second (Err (Ppm reason place)) b g h = absurd g
+check-once registers bytes first second (Err NotRgb) b g h = absurd g
+check-once registers bytes first second (Err NoBox) b g h = absurd g
+check-once registers bytes first second (Err OutOfMemory) b g h = absurd g
+check-once registers bytes first second (Err Read) b g h = absurd g
+check-once registers bytes first second (Err Write) b g h = absurd g
+check-once registers bytes first second (Ok s) (Err (Ppm reason place)) g h = absurd h
+check-once registers bytes first second (Ok s) (Err NotRgb) g h = absurd h
+check-once registers bytes first second (Ok s) (Err NoBox) g h = absurd h
+check-once registers bytes first second (Ok s) (Err OutOfMemory) g h = absurd h
+check-once registers bytes first second (Ok s) (Err Read) g h = absurd h
+check-once registers bytes first second (Ok s) (Err Write) g h = absurd h
+check-once registers bytes first second (Err (Grammar f)) (Err (Ppm reason place)) g h = absurd h
+check-once registers bytes first second (Err (Grammar f)) (Err NotRgb) g h = absurd h
+check-once registers bytes first second (Err (Grammar f)) (Err NoBox) g h = absurd h
+check-once registers bytes first second (Err (Grammar f)) (Err OutOfMemory) g h = absurd h
+check-once registers bytes first second (Err (Grammar f)) (Err Read) g h = absurd h
+check-once registers bytes first second (Err (Grammar f)) (Err Write) g h = absurd h
+
+pub check-gives : (registers : ℕ) (bytes : List ℕ)
+    → (text : Text) × (answer : Result Status RunFault) × CheckGives registers bytes text answer
+check-gives registers bytes =
+    elim (judged bytes) [
+      | inl d ↦
+          let v = verdict_exists registers d.0 in
+          (verdict_line v.0, Ok (status_of v.0), (d.0, d.1, (v.0, v.1, refl, refl)))
+      | inr f ↦ ([], Err (Grammar f.0), (refl, f.1))
+    ]
+
+-- ---- what is written
+
+-- the line of the verdict
+verdict_written : (registers : ℕ) (bytes : List ℕ) (v : Verdict) (had has : Option (List ℕ))
+    → CheckAnswers registers (Ok v) bytes → Appends had has (verdict_line v)
+    → WroteBy (CheckGives registers bytes) WroteNothing (Ok (status_of v)) had has
+verdict_written _ bytes v had has given put = (verdict_line v, (given.0, given.1, (v, given.2, refl, refl)), put)
+
+-- or a front of it
+verdict_unwritten : (registers : ℕ) (bytes : List ℕ) (v : Verdict) (had has : Option (List ℕ))
+    → CheckAnswers registers (Ok v) bytes → (n : ℕ) × Appends had has (take n (verdict_line v))
+    → WroteBy (CheckGives registers bytes) WroteNothing (Err Write) had has
+verdict_unwritten registers bytes v had has given put = (
+  take put.0 (verdict_line v),
+  put.1,
+  λ text answer g.
+      let same = (check-once _ bytes text (verdict_line v) answer (Ok (status_of v)) g
+      (given.0, given.1, (v, given.2, refl, refl))).0 in
+      (drop put.0 (verdict_line v), same ∙ sym (take-append-drop put.0 (verdict_line v))),
+)
+
+pub checked_written : (registers : ℕ) (a : Option (List ℕ)) (v : Verdict) (had has : Option (List ℕ))
+    → IfSome a (CheckAnswers registers (Ok v)) → Appends had has (verdict_line v)
+    → IfSome a (λ bytes. WroteBy (CheckGives registers bytes) WroteNothing (Ok (status_of v)) had has)
+checked_written registers None v had has given put = tt
+checked_written registers (Some bytes) v had has given put = verdict_written _ bytes v had has given put
+
+pub checked_unwritten : (registers : ℕ) (a : Option (List ℕ)) (v : Verdict) (had has : Option (List ℕ))
+    → IfSome a (CheckAnswers registers (Ok v)) → (n : ℕ) × Appends had has (take n (verdict_line v))
+    → IfSome a (λ bytes. WroteBy (CheckGives registers bytes) WroteNothing (Err Write) had has)
+checked_unwritten registers None v had has given put = tt
+checked_unwritten registers (Some bytes) v had has given put = verdict_unwritten _ bytes v had has given put
+
+-- ---- memory
+
+-- a check that was refused for want of memory had a box to make
+pub grown : (registers : ℕ) (told : Option (List ℕ)) (fault : InputFault) (y : RunFault) (r : Result Status RunFault)
+    → IfSome told
+    (λ bytes. (let k : Result Verdict InputFault = Err fault in k) ≡ Err input.OutOfMemory → MayGrowIn registers bytes)
+    → r ≡ Err y → y ≡ of_input fault → r ≡ Err OutOfMemory → IfSome told (MayGrowIn registers)
+grown registers None fault y r h e f o = tt
+grown registers (Some bytes) (input.Grammar k) y r h e f o = cc
+grown registers (Some bytes) input.OutOfMemory y r h e f o = h refl
+grown registers (Some bytes) input.Read y r h e f o = cc

@@ -1,0 +1,64 @@
+-- What a run of `encode` owes.
+use Rattle.std.proofs.Common.{◌≡◌, ◌∙◌, ℕ, List, [], take, drop, Option, Some, None, refl, sym, ap}
+use Rattle.std.specs.Prelude.{Result, Ok, Err, IfSome}
+use Rattle.std.specs.Io.KnownBytes.{Appends}
+use Rattle.std.proofs.lemmas.List.{take-append-drop}
+use Rattle.sixel_grammar.proofs.SinkLemmas.{Appends-none}
+use Rattle.sixel_picture.specs.declared.ppm.PpmFault.{PpmFault}
+use Rattle.sixel_picture.specs.declared.ppm.PpmFault.TheVariants as ppm
+use Rattle.sixel_picture.specs.Pictures.{PictureValue}
+use Rattle.sixel_picture.specs.PpmReading.{ReadsPpm, ppm_read}
+use Rattle.sixel_encode.specs.Canon.{canon_text}
+use Rattle.sixel_run.specs.declared.fault.RunFault.{RunFault}
+use Rattle.sixel_run.specs.declared.fault.RunFault.TheVariants.{Write}
+use Rattle.sixel_run.specs.declared.task.Status.{Status}
+use Rattle.sixel_run.specs.declared.task.Status.TheVariants.{Done}
+use Rattle.sixel_run.specs.Conversions.{of_ppm}
+use Rattle.sixel_run.specs.Outputs.{EncodeGives, WroteBy, WroteNothing, encode_output}
+use Rattle.sixel_run.specs.Texts.{Text}
+
+pub encode-once : (registers : ℕ) (bytes : List ℕ) (first second : Text) (a b : Result Status RunFault)
+    → EncodeGives registers bytes first a → EncodeGives registers bytes second b → (first ≡ second) × (a ≡ b)
+encode-once registers bytes first second a b g h =
+    let whole : (first, a) ≡ (second, b) = g ∙ sym h in (ap (λ p. p.0) whole, ap (λ p. p.1) whole)
+
+pub encode-gives : (registers : ℕ) (bytes : List ℕ)
+    → (text : Text) × (answer : Result Status RunFault) × EncodeGives registers bytes text answer
+encode-gives registers bytes =
+    let output = encode_output (ppm_read registers bytes) in (output.0, output.1, refl)
+
+-- ---- what is written
+
+pub encoded : (registers : ℕ) (a : Option (List ℕ)) (p : PictureValue) (had has : Option (List ℕ))
+    → IfSome a (ReadsPpm registers (Ok p)) → Appends had has (canon_text p)
+    → IfSome a (λ bytes. WroteBy (EncodeGives registers bytes) WroteNothing (Ok Done) had has)
+encoded registers None p had has read put = tt
+encoded registers (Some bytes) p had has read put = (canon_text p, sym (ap encode_output read), put)
+
+pub unencoded : (registers : ℕ) (a : Option (List ℕ)) (p : PictureValue) (had has : Option (List ℕ))
+    → IfSome a (ReadsPpm registers (Ok p)) → (n : ℕ) × Appends had has (take n (canon_text p))
+    → IfSome a (λ bytes. WroteBy (EncodeGives registers bytes) WroteNothing (Err Write) had has)
+unencoded registers None p had has read put = tt
+unencoded registers (Some bytes) p had has read put = (
+  take put.0 (canon_text p),
+  put.1,
+  λ text answer g.
+      let same = (encode-once _ bytes text (canon_text p) answer (Ok Done) g (sym (ap encode_output read))).0 in
+      (drop put.0 (canon_text p), same ∙ sym (take-append-drop put.0 (canon_text p))),
+)
+
+unread : (registers : ℕ) (bytes : List ℕ) (fault : PpmFault) (had : Option (List ℕ))
+    → ReadsPpm registers (Err fault) bytes
+    → WroteBy (EncodeGives registers bytes) WroteNothing (Err (of_ppm fault)) had had
+unread registers bytes (ppm.Format reason place) had read = ([], sym (ap encode_output read), Appends-none had)
+unread registers bytes ppm.OutOfMemory had read = Appends-none had
+unread registers bytes ppm.Read had read = Appends-none had
+unread registers bytes ppm.NotRgb had read = absurd read
+unread registers bytes ppm.Write had read = absurd read
+
+-- nothing is written where no picture was read
+pub file_refused : (registers : ℕ) (a : Option (List ℕ)) (fault : PpmFault) (had : Option (List ℕ))
+    → IfSome a (ReadsPpm registers (Err fault))
+    → IfSome a (λ bytes. WroteBy (EncodeGives registers bytes) WroteNothing (Err (of_ppm fault)) had had)
+file_refused registers None fault had read = tt
+file_refused registers (Some bytes) fault had read = unread _ bytes fault had read

@@ -1,0 +1,11 @@
+pub mod PutLemmas
+pub mod ListingLemmas
+pub mod OutputLemmas
+pub mod CheckLemmas
+pub mod PictureLemmas
+pub mod FileLemmas
+pub mod ScreenLemmas
+pub mod BoxLemmas
+pub mod RunLemmas
+pub mod RoundTripLemmas
+pub mod SixelLineLemmas

@@ -1,0 +1,261 @@
+-- What a reader that is fed a piece owes, and the lines of its events.
+use Rattle.std.proofs.Common.{◌≡◌, ◌∙◌, ◌+◌, ◌<◌, ◌≤◌, ℕ, List, [], ◌∷◌, ◌++◌, Option, append_assoc, ap, drop, get_or}
+use Rattle.std.proofs.Common.{length, refl, subst, sym, take}
+use Rattle.std.specs.Prelude.{Result, Ok, Err}
+use Rattle.std.specs.Io.KnownBytes.{Appends, Keeps}
+use Rattle.std.proofs.lemmas.Grind.{flat_map-append}
+use Rattle.std.proofs.lemmas.List.{append-nil, take-append-drop, take_all}
+use Rattle.sixel_grammar.specs.declared.command.Placed.{Placed}
+use Rattle.sixel_grammar.specs.declared.fault.Fault.{Fault}
+use Rattle.sixel_grammar.specs.declared.reader.Reader.{Reader}
+use Rattle.sixel_grammar.specs.Blocks.{PutsAllOrNone, TakesMore, in_all}
+use Rattle.sixel_grammar.specs.Devices.{Puts}
+use Rattle.sixel_grammar.specs.Faults.{IsFaultOf}
+use Rattle.sixel_grammar.specs.Standing.{Refuses, StandsAfter, Takes}
+use Rattle.sixel_run.specs.declared.fault.RunFault.{RunFault}
+use Rattle.sixel_run.specs.declared.fault.RunFault.TheVariants.{Grammar, Ppm, NotRgb, NoBox, OutOfMemory, Read, Write}
+use Rattle.sixel_run.specs.Feeding.{Feeds, RefusesAt, StopsIn}
+use Rattle.sixel_run.specs.Texts.{BeginsWith, event_line, list_text}
+use Rattle.sixel_grammar.proofs.DeviceLemmas.{Appends-then}
+use Rattle.sixel_grammar.proofs.SinkLemmas.{Appends-keeps, Appends-none, puts-whole}
+use Rattle.sixel_grammar.proofs.SourceLemmas.{one_past, split_past}
+use Rattle.sixel_run.proofs.PutLemmas.{begins-then, cut, drained}
+
+pub list_text-append : (xs ys : List Placed) → list_text (xs ++ ys) ≡ list_text xs ++ list_text ys
+list_text-append xs ys = flat_map-append event_line xs ys
+
+pub stands-as : (r : Reader) (e1 e2 : List Placed) (b1 b2 : List ℕ) → e1 ≡ e2 → b1 ≡ b2 → StandsAfter r e1 b1
+    → StandsAfter r e2 b2
+stands-as r e1 e2 b1 b2 p q s = subst (λ (e : List Placed). StandsAfter r e b2) p
+    (subst (λ (b : List ℕ). StandsAfter r e1 b) q s)
+
+-- the lines of a piece waited in an empty block, which was drained
+pub fed-drained : {A : Type 0} (result : Result A RunFault) (reader : Reader) (piece : List ℕ)
+    (had mid has : Option (List ℕ)) (ws w v : List ℕ) (events : List Placed) (bytes : List ℕ)
+    → ws ≡ [] → v ≡ [] → Keeps (in_all mid w) (in_all has v) → Feeds result reader piece (in_all had ws)
+    (in_all mid w) events bytes → Feeds result reader piece had has events bytes
+fed-drained (Ok done) reader piece had mid has ws w v events bytes e d kept fed =
+    (fed.0, fed.1, drained had mid has ws w v _ e d fed.2 kept)
+fed-drained (Err (Grammar fault)) reader piece had mid has ws w v events bytes e d kept fed = record {
+  front = fed.front;
+  byte = fed.byte;
+  rest = fed.rest;
+  before = fed.before;
+  more = fed.more;
+  piece_is = fed.piece_is;
+  stands = fed.stands;
+  fault_is = fed.fault_is;
+  place = fed.place;
+  lines = drained had mid has ws w v _ e d fed.lines kept;
+}
+fed-drained (Err Write) reader piece had mid has ws w v events bytes e d kept fed = record {
+  front = fed.front;
+  rest = fed.rest;
+  before = fed.before;
+  more = fed.more;
+  part = fed.part;
+  piece_is = fed.piece_is;
+  stands = fed.stands;
+  begins = fed.begins;
+  lines = drained had mid has ws w v _ e d fed.lines kept;
+}
+fed-drained (Err Read) reader piece had mid has ws w v events bytes e d kept fed = fed
+fed-drained (Err (Ppm reason place)) reader piece had mid has ws w v events bytes e d kept fed = fed
+fed-drained (Err NotRgb) reader piece had mid has ws w v events bytes e d kept fed = fed
+fed-drained (Err NoBox) reader piece had mid has ws w v events bytes e d kept fed = fed
+fed-drained (Err OutOfMemory) reader piece had mid has ws w v events bytes e d kept fed = fed
+
+-- of the lines that were to be appended, a front went to the sink that failed
+stopped : (reader : Reader) (piece front rest : List ℕ) (had mid has : Option (List ℕ)) (ws w v text : List ℕ)
+    (events more : List Placed) (bytes : List ℕ)
+    → piece ≡ front ++ rest → StandsAfter reader (events ++ more) (bytes ++ front) → BeginsWith (list_text more) text
+    → ws ≡ [] → Keeps (in_all mid w) (in_all has v) → TakesMore had has → Appends (in_all had ws) (in_all mid w) text
+    → StopsIn piece had has events bytes
+stopped reader piece front rest had mid has ws w v text events more bytes is stands begins e kept grows put =
+    let part = cut had has ws v text e (Appends-keeps (in_all had ws) (in_all mid w) (in_all has v) text put kept)
+    grows in
+    record {
+      front = front;
+      rest = rest;
+      before = reader;
+      more = more;
+      part = part.0;
+      piece_is = is;
+      stands = stands;
+      begins = begins-then (list_text more) text part.0 begins part.1;
+      lines = part.2;
+    }
+
+-- the lines of a piece waited in an empty block, and the sink failed before it had all
+pub fed-stopped : {A : Type 0} (result : Result A RunFault) (reader : Reader) (piece : List ℕ)
+    (had mid has : Option (List ℕ)) (ws w v : List ℕ) (events : List Placed) (bytes : List ℕ)
+    → ws ≡ [] → Keeps (in_all mid w) (in_all has v) → TakesMore had has → Feeds result reader piece (in_all had ws)
+    (in_all mid w) events bytes → StopsIn piece had has events bytes
+fed-stopped (Ok done) reader piece had mid has ws w v events bytes e kept grows fed =
+    stopped reader piece piece [] had mid has ws w v _ events fed.0 bytes (sym (append-nil piece)) fed.1
+    ([], sym (append-nil _)) e kept grows fed.2
+fed-stopped (Err (Grammar fault)) reader piece had mid has ws w v events bytes e kept grows fed =
+    stopped fed.before piece fed.front (fed.byte ∷ fed.rest) had mid has ws w v _ events fed.more bytes fed.piece_is
+    fed.stands ([], sym (append-nil _)) e kept grows fed.lines
+fed-stopped (Err Write) reader piece had mid has ws w v events bytes e kept grows fed =
+    stopped fed.before piece fed.front fed.rest had mid has ws w v fed.part events fed.more bytes fed.piece_is
+    fed.stands fed.begins e kept grows fed.lines
+fed-stopped (Err Read) reader piece had mid has ws w v events bytes e kept grows fed = absurd fed
+fed-stopped (Err (Ppm reason place)) reader piece had mid has ws w v events bytes e kept grows fed = absurd fed
+fed-stopped (Err NotRgb) reader piece had mid has ws w v events bytes e kept grows fed = absurd fed
+fed-stopped (Err NoBox) reader piece had mid has ws w v events bytes e kept grows fed = absurd fed
+fed-stopped (Err OutOfMemory) reader piece had mid has ws w v events bytes e kept grows fed = absurd fed
+
+-- the line of an event was put
+pub line-put : {A E : Type 0} (result : Result A E) (placed : Placed) (old new : Option (List ℕ)) (text : List ℕ)
+    → text ≡ event_line placed → PutsAllOrNone result old new text → Puts result old new (list_text (placed ∷ []))
+line-put result placed old new text e put =
+    subst (λ (t : List ℕ). Puts result old new t) (e ∙ sym (append-nil _)) (puts-whole result old new text put)
+
+-- ---- a piece, byte by byte
+
+-- a byte was read, and putting the lines of its events failed
+pub byte-stopped : (old new : Reader) (byte : ℕ) (done : List Placed) (had has : Option (List ℕ))
+    (events : List Placed) (bytes : List ℕ) → StandsAfter old events bytes → Takes old new byte done
+    → ((n : ℕ) × Appends had has (take n (list_text done))) → StopsIn (byte ∷ []) had has events bytes
+byte-stopped old new byte done had has events bytes stands takes put = record {
+  front = byte ∷ [];
+  rest = [];
+  before = new;
+  more = done;
+  part = take put.0 (list_text done);
+  piece_is = refl;
+  stands = takes events bytes stands;
+  begins = (drop put.0 (list_text done), sym (take-append-drop put.0 (list_text done)));
+  lines = put.1;
+}
+
+-- a byte was refused, and nothing was put
+pub byte-refused : (old new : Reader) (byte : ℕ) (fault : Fault) (had : Option (List ℕ))
+    (events : List Placed) (bytes : List ℕ) → StandsAfter old events bytes → Refuses old new byte fault
+    → RefusesAt fault (byte ∷ []) had had events bytes
+byte-refused old new byte fault had events bytes stands refuses =
+    let refused = refuses events bytes stands in
+    let same : bytes ≡ bytes ++ [] = sym (append-nil bytes) in
+    record {
+      front = [];
+      byte = byte;
+      rest = [];
+      before = old;
+      more = [];
+      piece_is = refl;
+      stands = stands-as old _ _ _ _ (sym (append-nil events)) same stands;
+      fault_is = subst (λ (b : List ℕ). IsFaultOf (b ++ byte ∷ []) fault) same refused.0;
+      place = refused.1 ∙ ap length same;
+      lines = Appends-none had;
+    }
+
+-- a front of a piece and a part behind it, which has a front of its own
+piece-joined : (piece front part rest inner outer : List ℕ) → piece ≡ front ++ (part ++ rest)
+    → part ≡ inner ++ outer → piece ≡ (front ++ inner) ++ (outer ++ rest)
+piece-joined piece front part rest inner outer is e =
+    is ∙ ap (λ (t : List ℕ). front ++ (t ++ rest)) e ∙ ap (λ (t : List ℕ). front ++ t) (append_assoc inner outer rest)
+    ∙ sym (append_assoc front inner (outer ++ rest))
+
+-- the lines of a front of the piece were put, and then the part behind it was refused
+refused-later : (fault : Fault) (piece front part rest : List ℕ) (had mid has : Option (List ℕ))
+    (events more : List Placed) (bytes : List ℕ) → piece ≡ front ++ (part ++ rest) → Appends had mid (list_text more)
+    → RefusesAt fault part mid has (events ++ more) (bytes ++ front) → RefusesAt fault piece had has events bytes
+refused-later fault piece front part rest had mid has events more bytes is put r =
+    let same : (bytes ++ front) ++ r.front ≡ bytes ++ (front ++ r.front) = append_assoc bytes front r.front in
+    record {
+      front = front ++ r.front;
+      byte = r.byte;
+      rest = r.rest ++ rest;
+      before = r.before;
+      more = more ++ r.more;
+      piece_is = piece-joined piece front part rest r.front (r.byte ∷ r.rest) is r.piece_is;
+      stands = stands-as r.before _ _ _ _ (append_assoc events more r.more) same r.stands;
+      fault_is = subst (λ (b : List ℕ). IsFaultOf (b ++ r.byte ∷ []) fault) same r.fault_is;
+      place = r.place ∙ ap length same;
+      lines = Appends-then had mid has (list_text more) (list_text r.more) (list_text (more ++ r.more)) put r.lines
+          (list_text-append more r.more);
+    }
+
+-- the lines of a front of the piece were put, and then those of the part behind it failed to be
+stopped-later : (piece front part rest : List ℕ) (had mid has : Option (List ℕ))
+    (events more : List Placed) (bytes : List ℕ) → piece ≡ front ++ (part ++ rest) → Appends had mid (list_text more)
+    → StopsIn part mid has (events ++ more) (bytes ++ front) → StopsIn piece had has events bytes
+stopped-later piece front part rest had mid has events more bytes is put s = record {
+  front = front ++ s.front;
+  rest = s.rest ++ rest;
+  before = s.before;
+  more = more ++ s.more;
+  part = list_text more ++ s.part;
+  piece_is = piece-joined piece front part rest s.front s.rest is s.piece_is;
+  stands = stands-as s.before _ _ _ _ (append_assoc events more s.more) (append_assoc bytes front s.front) s.stands;
+  begins = (
+    s.begins.0,
+    list_text-append more s.more ∙ ap (λ (t : List ℕ). list_text more ++ t) s.begins.1
+        ∙ sym (append_assoc (list_text more) s.part s.begins.0),
+  );
+  lines = Appends-then had mid has (list_text more) s.part (list_text more ++ s.part) put s.lines refl;
+}
+
+-- a front of the piece was fed, and then the part behind it failed
+failed-later : (fault : RunFault) (after : Reader) (piece front part rest : List ℕ)
+    (had mid has : Option (List ℕ)) (events more : List Placed) (bytes : List ℕ) → piece ≡ front ++ (part ++ rest)
+    → Appends had mid (list_text more)
+    → Feeds {A = Unit {0}} (Err fault) after part mid has (events ++ more) (bytes ++ front)
+    → Feeds {A = Unit {0}} (Err fault) after piece had has events bytes
+failed-later (Grammar fault) after piece front part rest had mid has events more bytes is put fed =
+    refused-later fault piece front part rest had mid has events more bytes is put fed
+failed-later Write after piece front part rest had mid has events more bytes is put fed =
+    stopped-later piece front part rest had mid has events more bytes is put fed
+failed-later Read after piece front part rest had mid has events more bytes is put fed = fed
+failed-later (Ppm reason place) after piece front part rest had mid has events more bytes is put fed = fed
+failed-later NotRgb after piece front part rest had mid has events more bytes is put fed = fed
+failed-later NoBox after piece front part rest had mid has events more bytes is put fed = fed
+failed-later OutOfMemory after piece front part rest had mid has events more bytes is put fed = fed
+
+-- wherever the reader stood, it then stands after these bytes more, and the lines of their events were appended
+abbrev pub Lists : Reader → Reader → List ℕ → Option (List ℕ) → Option (List ℕ) → Type 0
+Lists old new piece had has =
+    (events : List Placed) (bytes : List ℕ) → StandsAfter old events bytes →
+    (more : List Placed) × StandsAfter new (events ++ more) (bytes ++ piece) × Appends had has (list_text more)
+
+-- nothing was read yet
+pub lists-nothing : (reader : Reader) (had : Option (List ℕ)) → Lists reader reader [] had had
+lists-nothing reader had events bytes stands = (
+  [],
+  stands-as reader _ _ _ _ (sym (append-nil events)) (sym (append-nil bytes)) stands,
+  Appends-none had,
+)
+
+-- one byte more
+pub lists-more : (first old new : Reader) (piece : List ℕ) (i : ℕ) (had mid has : Option (List ℕ)) → i < length piece
+    → Lists first old (take i piece) had mid → Lists old new (get_or piece i 0 ∷ []) mid has
+    → Lists first new (take (i + 1) piece) had has
+lists-more first old new piece i had mid has below before next events bytes stands =
+    let b = before events bytes stands in
+    let n = next (events ++ b.0) (bytes ++ take i piece) b.1 in (
+      b.0 ++ n.0,
+      stands-as new _ _ _ _ (append_assoc events b.0 n.0) (one_past bytes piece i below) n.1,
+      Appends-then had mid has (list_text b.0) (list_text n.0) (list_text (b.0 ++ n.0)) b.2 n.2
+          (list_text-append b.0 n.0),
+    )
+
+-- all of the piece was read
+pub lists-whole : (first last : Reader) (piece : List ℕ) (i : ℕ) (had has : Option (List ℕ)) → length piece ≤ i
+    → Lists first last (take i piece) had has → Lists first last piece had has
+lists-whole first last piece i had has past before =
+    subst (λ (t : List ℕ). Lists first last t had has) (take_all i piece past) before
+
+-- one byte more failed
+pub fails-next : (fault : RunFault) (first old new : Reader) (piece : List ℕ) (i : ℕ) (had mid has : Option (List ℕ))
+    → i < length piece → Lists first old (take i piece) had mid
+    → ((events : List Placed) (bytes : List ℕ) → StandsAfter old events bytes
+    → Feeds {A = Unit {0}} (Err fault) new (get_or piece i 0 ∷ []) mid has events bytes)
+    → (events : List Placed) (bytes : List ℕ) → StandsAfter first events bytes
+    → Feeds {A = Unit {0}} (Err fault) new piece had has events bytes
+fails-next fault first old new piece i had mid has below before fails events bytes stands =
+    let b = before events bytes stands in
+    let byte = get_or piece i 0 in
+    failed-later fault new piece (take i piece) (byte ∷ []) (drop (i + 1) piece) had mid has events b.0 bytes
+    (split_past [] piece i below ∙ append_assoc (take i piece) (byte ∷ []) (drop (i + 1) piece)) b.2
+    (fails (events ++ b.0) (bytes ++ take i piece) b.1)

@@ -1,0 +1,172 @@
+-- What a run of `render` owes.
+use Rattle.std.proofs.Common.{◌≡◌, ◌∙◌, ◌⊎◌, ℕ, Bool, true, false, List, [], take, drop, Option, Some, None, refl, sym}
+use Rattle.std.proofs.Common.{ap, inl, inr}
+use Rattle.std.specs.Prelude.{Result, Ok, Err, IfSome}
+use Rattle.std.proofs.lemmas.List.{take-append-drop}
+use Rattle.sixel_grammar.specs.declared.command.Placed.{Placed}
+use Rattle.sixel_grammar.specs.declared.fault.Fault.{Fault}
+use Rattle.sixel_grammar.specs.Document.{Document}
+use Rattle.sixel_grammar.specs.Faults.{IsFaultOf}
+use Rattle.sixel_grammar.proofs.SinkLemmas.{Appends-none, nothing_put}
+use Rattle.sixel_grammar.proofs.TotalLemmas.{judged}
+use Rattle.sixel_grammar.proofs.UniqueLemmas.{fault_no_document, fault_once}
+use Rattle.sixel_picture.specs.declared.ppm.PpmFault.{PpmFault}
+use Rattle.sixel_picture.specs.declared.ppm.PpmFault.TheVariants as ppm
+use Rattle.sixel_picture.specs.Pictures.{PictureValue}
+use Rattle.sixel_picture.specs.Ppm.{WritesPpm, are_rgb, colours_of, ppm_text}
+use Rattle.sixel_check.specs.declared.verdict.Finding.{Finding}
+use Rattle.sixel_check.specs.declared.verdict.Verdict.{Verdict}
+use Rattle.sixel_check.specs.declared.verdict.Verdict.TheVariants.{Portable, Broken}
+use Rattle.sixel_check.specs.Checking.{Answers as CheckAnswers}
+use Rattle.sixel_check.specs.Verdicts.{IsVerdict}
+use Rattle.sixel_check.proofs.DecideLemmas.{verdict_exists}
+use Rattle.sixel_run.specs.declared.fault.RunFault.{RunFault}
+use Rattle.sixel_run.specs.declared.fault.RunFault.TheVariants.{Grammar, Ppm, NotRgb, NoBox, OutOfMemory, Read, Write}
+use Rattle.sixel_run.specs.declared.task.Status.{Status}
+use Rattle.sixel_run.specs.declared.task.Status.TheVariants as status
+use Rattle.sixel_run.specs.declared.task.Status.TheVariants.{Done}
+use Rattle.sixel_run.specs.Conversions.{of_ppm}
+use Rattle.sixel_run.specs.Outputs.{RenderGives, WroteBy, WroteNothing, render_output}
+use Rattle.sixel_run.specs.Texts.{Text}
+use Rattle.sixel_run.proofs.CheckLemmas.{same_verdict}
+
+-- ---- one output
+
+-- the text and the answer are those of the verdict on a document
+record Renders (registers : ℕ) (bytes : List ℕ) (text : Text) (answer : Result Status RunFault) : Type 0 where
+  events : List Placed
+  document : Document events bytes
+  verdict : Verdict
+  is : IsVerdict registers events verdict
+  output : (text, answer) ≡ render_output verdict
+
+-- the answer is a fault of the grammar, and nothing is written
+record Refuses (bytes : List ℕ) (text : Text) (answer : Result Status RunFault) : Type 0 where
+  fault : Fault
+  answer_is : answer ≡ Err (Grammar fault)
+  nothing : text ≡ []
+  is : IsFaultOf bytes fault
+
+either : (registers : ℕ) (bytes : List ℕ) (text : Text) (answer : Result Status RunFault)
+    → RenderGives registers bytes text answer
+    → Refuses bytes text answer ⊎ Renders registers bytes text answer
+either registers bytes text (Err (Grammar fault)) g =
+    inl (record { fault = fault; answer_is = refl; nothing = g.0; is = g.1 })
+either registers bytes text (Ok s) g =
+    inr (record { events = g.0; document = g.1; verdict = g.2.0; is = g.2.1; output = g.2.2 })
+either registers bytes text (Err (Ppm reason place)) g =
+    inr (record { events = g.0; document = g.1; verdict = g.2.0; is = g.2.1; output = g.2.2 })
+either registers bytes text (Err NotRgb) g =
+    inr (record { events = g.0; document = g.1; verdict = g.2.0; is = g.2.1; output = g.2.2 })
+either registers bytes text (Err NoBox) g =
+    inr (record { events = g.0; document = g.1; verdict = g.2.0; is = g.2.1; output = g.2.2 })
+either registers bytes text (Err OutOfMemory) g =
+    inr (record { events = g.0; document = g.1; verdict = g.2.0; is = g.2.1; output = g.2.2 })
+either registers bytes text (Err Read) g = inr
+    (record { events = g.0; document = g.1; verdict = g.2.0; is = g.2.1; output = g.2.2 })
+either registers bytes text (Err Write) g = inr
+    (record { events = g.0; document = g.1; verdict = g.2.0; is = g.2.1; output = g.2.2 })
+
+both_refuse : (bytes : List ℕ) (first second : Text) (a b : Result Status RunFault) → Refuses bytes first a
+    → Refuses bytes second b → (first ≡ second) × (a ≡ b)
+both_refuse bytes first second a b g h = (
+  g.nothing ∙ sym h.nothing,
+  g.answer_is ∙ ap (λ (k : Fault). Err (Grammar k)) (fault_once bytes g.fault h.fault g.is h.is) ∙ sym h.answer_is,
+)
+
+both_render : (registers : ℕ) (bytes : List ℕ) (first second : Text) (a b : Result Status RunFault)
+    → Renders registers bytes first a → Renders registers bytes second b → (first ≡ second) × (a ≡ b)
+both_render registers bytes first second a b g h =
+    let same = same_verdict _ bytes g.events h.events g.verdict h.verdict g.document h.document g.is h.is in
+    let whole : (first, a) ≡ (second, b) = g.output ∙ ap render_output same ∙ sym h.output in
+    (ap (λ p. p.0) whole, ap (λ p. p.1) whole)
+
+pub render-once : (registers : ℕ) (bytes : List ℕ) (first second : Text) (a b : Result Status RunFault)
+    → RenderGives registers bytes first a → RenderGives registers bytes second b → (first ≡ second) × (a ≡ b)
+render-once registers bytes first second a b g h = elim (either _ bytes first a g) [
+  | inl f ↦ elim (either _ bytes second b h) [
+    | inl e ↦ both_refuse bytes first second a b f e
+    | inr r ↦ absurd (fault_no_document bytes f.fault f.is (r.events, r.document))
+  ]
+  | inr r ↦ elim (either _ bytes second b h) [
+    | inl e ↦ absurd (fault_no_document bytes e.fault e.is (r.events, r.document))
+    | inr q ↦ both_render _ bytes first second a b r q
+  ]
+]
+
+-- ---- some output
+
+Gives : ℕ → List ℕ → Type 0
+Gives registers bytes = (text : Text) × (answer : Result Status RunFault) × RenderGives registers bytes text answer
+
+of_picture : (registers : ℕ) (bytes : List ℕ) (d : List Placed) (p : PictureValue) → Document d bytes
+    → IsVerdict registers d (Portable p) → (b : Bool) → are_rgb (colours_of p) ≡ b → Gives registers bytes
+unfolding Gives
+of_picture registers bytes d p doc is true e =
+    (ppm_text p.width p.height (colours_of p), Ok Done, (d, doc, (Portable p, is, rw e refl)))
+of_picture registers bytes d p doc is false e = ([], Err NotRgb, (d, doc, (Portable p, is, rw e refl)))
+
+of_verdict : (registers : ℕ) (bytes : List ℕ) (d : List Placed) (v : Verdict) → Document d bytes
+    → IsVerdict registers d v → Gives registers bytes
+unfolding Gives
+of_verdict registers bytes d (Portable p) doc is = of_picture _ bytes d p doc is (are_rgb (colours_of p)) refl
+of_verdict registers bytes d (Broken f) doc is = ([], Ok (status.Broken f), (d, doc, (Broken f, is, refl)))
+
+pub render-gives : (registers : ℕ) (bytes : List ℕ)
+    → (text : Text) × (answer : Result Status RunFault) × RenderGives registers bytes text answer
+unfolding Gives
+render-gives registers bytes =
+    elim (judged bytes) [
+      | inl d ↦ let v = verdict_exists registers d.0 in of_verdict _ bytes d.0 v.0 d.1 v.1
+      | inr f ↦ ([], Err (Grammar f.0), (refl, f.1))
+    ]
+
+-- ---- what is written
+
+picture_rendered : (registers : ℕ) (bytes : List ℕ) (p : PictureValue) (had has : Option (List ℕ))
+    → CheckAnswers registers (Ok (Portable p)) bytes
+    → WritesPpm {A = Unit {0}} (Ok tt) had has p.width p.height (colours_of p)
+    → WroteBy (RenderGives registers bytes) WroteNothing (Ok Done) had has
+picture_rendered registers bytes p had has given put =
+    (ppm_text p.width p.height (colours_of p), (given.0, given.1, (Portable p, given.2, rw put.0 refl)), put.1)
+
+picture_unrendered : (registers : ℕ) (bytes : List ℕ) (p : PictureValue) (fault : PpmFault) (had has : Option (List ℕ))
+    → CheckAnswers registers (Ok (Portable p)) bytes
+    → WritesPpm {A = Unit {0}} (Err fault) had has p.width p.height (colours_of p)
+    → WroteBy (RenderGives registers bytes) WroteNothing (Err (of_ppm fault)) had has
+picture_unrendered registers bytes p ppm.Write had has given put =
+    let whole : Text = ppm_text p.width p.height (colours_of p) in (
+      take put.1 whole,
+      put.2,
+      λ text answer g.
+          let same = (render-once _ bytes text whole answer (Ok Done) g
+          (given.0, given.1, (Portable p, given.2, rw put.0 refl))).0 in
+          (drop put.1 whole, same ∙ sym (take-append-drop put.1 whole)),
+    )
+picture_unrendered registers bytes p ppm.NotRgb had has given put =
+    ([], (given.0, given.1, (Portable p, given.2, rw put.0 refl)), nothing_put had has put.1)
+picture_unrendered registers bytes p (ppm.Format reason place) had has given put = absurd put
+picture_unrendered registers bytes p ppm.OutOfMemory had has given put = absurd put
+picture_unrendered registers bytes p ppm.Read had has given put = absurd put
+
+pub rendered : (registers : ℕ) (a : Option (List ℕ)) (p : PictureValue) (had has : Option (List ℕ))
+    → IfSome a (CheckAnswers registers (Ok (Portable p)))
+    → WritesPpm {A = Unit {0}} (Ok tt) had has p.width p.height (colours_of p)
+    → IfSome a (λ bytes. WroteBy (RenderGives registers bytes) WroteNothing (Ok Done) had has)
+rendered registers None p had has given put = tt
+rendered registers (Some bytes) p had has given put = picture_rendered _ bytes p had has given put
+
+pub unrendered : (registers : ℕ) (a : Option (List ℕ)) (p : PictureValue) (fault : PpmFault) (had has : Option (List ℕ))
+    → IfSome a (CheckAnswers registers (Ok (Portable p)))
+    → WritesPpm {A = Unit {0}} (Err fault) had has p.width p.height (colours_of p)
+    → IfSome a (λ bytes. WroteBy (RenderGives registers bytes) WroteNothing (Err (of_ppm fault)) had has)
+unrendered registers None p fault had has given put = tt
+unrendered registers (Some bytes) p fault had has given put = picture_unrendered _ bytes p fault had has given put
+
+-- nothing is written of a broken picture
+pub broken_rendered : (registers : ℕ) (a : Option (List ℕ)) (f : Finding) (had : Option (List ℕ))
+    → IfSome a (CheckAnswers registers (Ok (Broken f)))
+    → IfSome a (λ bytes. WroteBy (RenderGives registers bytes) WroteNothing (Ok (status.Broken f)) had had)
+broken_rendered registers None f had given = tt
+broken_rendered registers (Some bytes) f had given =
+    ([], (given.0, given.1, (Broken f, given.2, refl)), Appends-none had)

@@ -1,0 +1,187 @@
+-- What any run owes: a task gives one text and answer, and where the flush fails a front of the text was written.
+use Rattle.std.proofs.Common.{◌≡◌, ◌∙◌, ℕ, List, [], take, Option, Some, None, refl, sym, ap, subst, inl, inr}
+use Rattle.std.specs.Prelude.{Result, Ok, Err, IfSome}
+use Rattle.std.specs.Io.KnownBytes.{Appends, Keeps}
+use Rattle.std.proofs.lemmas.List.{append-nil}
+use Rattle.sixel_grammar.specs.declared.fault.Fault.{Fault}
+use Rattle.sixel_grammar.specs.Fronts.{CompleteIn}
+use Rattle.sixel_grammar.proofs.UniqueLemmas.{complete_once, document_once, fault_no_document, fault_once}
+use Rattle.sixel_run.specs.declared.fault.RunFault.{RunFault}
+use Rattle.sixel_run.specs.declared.fault.RunFault.TheVariants.{Grammar, Ppm, NotRgb, NoBox, OutOfMemory, Read, Write}
+use Rattle.sixel_run.specs.declared.task.Status.{Status}
+use Rattle.sixel_run.specs.declared.task.Status.TheVariants.{Done}
+use Rattle.sixel_run.specs.declared.task.Task.{Task}
+use Rattle.sixel_run.specs.declared.task.Task.TheVariants.{List as Listing, Check, Render, Show, ShowBox, Encode}
+use Rattle.sixel_run.specs.Outputs.{Gives, ListGives, ListsUnread, Wrote, WroteUnread}
+use Rattle.sixel_run.specs.Screens.{screen_terminal, show_choices, show_terminal}
+use Rattle.sixel_run.specs.Texts.{Text, BeginsWith, list_text}
+use Rattle.sixel_run.proofs.OutputLemmas.{gives-begins}
+use Rattle.sixel_run.proofs.BoxLemmas.{box-gives, box-once}
+use Rattle.sixel_run.proofs.CheckLemmas.{check-gives, check-once}
+use Rattle.sixel_run.proofs.FileLemmas.{encode-gives, encode-once}
+use Rattle.sixel_run.proofs.PictureLemmas.{render-gives, render-once}
+use Rattle.sixel_run.proofs.ScreenLemmas.{show-gives, show-once}
+use Rattle.sixel_grammar.proofs.SinkLemmas.{Appends-keeps}
+use Rattle.sixel_grammar.proofs.TotalLemmas.{judged, viable_before}
+
+-- ---- lists
+
+pub list-once : (bytes : List ℕ) (first second : Text) (a b : Result Status RunFault) → ListGives bytes first a
+    → ListGives bytes second b → (first ≡ second) × (a ≡ b)
+list-once bytes first second (Ok s) (Ok r) g h = (
+  g.1.2 ∙ ap list_text (document_once bytes g.1.0 h.1.0 g.1.1 h.1.1)
+      ∙ sym h.1.2,
+  ap (λ (t : Status). Ok t) (g.0 ∙ sym h.0),
+)
+list-once bytes first second (Ok s) (Err (Grammar f)) g h = absurd (fault_no_document bytes f h.0 (g.1.0, g.1.1))
+list-once bytes first second (Err (Grammar f)) (Ok s) g h = absurd (fault_no_document bytes f g.0 (h.1.0, h.1.1))
+list-once bytes first second (Err (Grammar f)) (Err (Grammar e)) g h =
+    let same : f ≡ e = fault_once bytes f e g.0 h.0 in
+    let c = subst (λ (k : Fault). CompleteIn g.1.0 (take k.place bytes)) same g.1.1 in (
+      g.1.2 ∙ ap list_text (complete_once (take e.place bytes) g.1.0 h.1.0 c h.1.1)
+          ∙ sym h.1.2,
+      ap (λ (k : Fault). Err (Grammar k)) same,
+    )
+list-once bytes first second (Err (Ppm reason place)) b g h = absurd g
+list-once bytes first second (Err NotRgb) b g h = absurd g
+list-once bytes first second (Err NoBox) b g h = absurd g
+list-once bytes first second (Err OutOfMemory) b g h = absurd g
+list-once bytes first second (Err Read) b g h = absurd g
+list-once bytes first second (Err Write) b g h = absurd g
+list-once bytes first second (Ok s) (Err (Ppm reason place)) g h = absurd h
+list-once bytes first second (Ok s) (Err NotRgb) g h = absurd h
+list-once bytes first second (Ok s) (Err NoBox) g h = absurd h
+list-once bytes first second (Ok s) (Err OutOfMemory) g h = absurd h
+list-once bytes first second (Ok s) (Err Read) g h = absurd h
+list-once bytes first second (Ok s) (Err Write) g h = absurd h
+list-once bytes first second (Err (Grammar f)) (Err (Ppm reason place)) g h = absurd h
+list-once bytes first second (Err (Grammar f)) (Err NotRgb) g h = absurd h
+list-once bytes first second (Err (Grammar f)) (Err NoBox) g h = absurd h
+list-once bytes first second (Err (Grammar f)) (Err OutOfMemory) g h = absurd h
+list-once bytes first second (Err (Grammar f)) (Err Read) g h = absurd h
+list-once bytes first second (Err (Grammar f)) (Err Write) g h = absurd h
+
+pub list-gives : (bytes : List ℕ) → (text : Text) × (answer : Result Status RunFault) × ListGives bytes text answer
+list-gives bytes =
+    elim (judged bytes) [
+      | inl d ↦ (list_text d.0, Ok Done, (refl, (d.0, d.1, refl)))
+      | inr f ↦ let v = viable_before bytes f.0 f.1 in (list_text v.0, Err (Grammar f.0), (f.1, (v.0, v.1, refl)))
+    ]
+
+-- ---- tasks
+
+pub gives-once : (task : Task) (bytes : List ℕ) (first second : Text) (a b : Result Status RunFault)
+    → Gives task bytes first a → Gives task bytes second b → (first ≡ second) × (a ≡ b)
+gives-once Listing bytes first second a b g h = list-once bytes first second a b g h
+gives-once (Check profile) bytes first second a b g h = check-once _ bytes first second a b g h
+gives-once (Render profile) bytes first second a b g h = render-once _ bytes first second a b g h
+gives-once (Encode profile) bytes first second a b g h = encode-once _ bytes first second a b g h
+gives-once (Show profile showing fill selects width height) bytes first second a b g h =
+    show-once (show_terminal profile (show_choices showing fill selects width height)) bytes first second a b g h
+gives-once (ShowBox profile showing fill selects) bytes first second a b g h =
+    box-once (screen_terminal profile showing fill selects) bytes first second a b g h
+
+pub gives : (task : Task) (bytes : List ℕ)
+    → (text : Text) × (answer : Result Status RunFault) × Gives task bytes text answer
+gives Listing bytes = list-gives bytes
+gives (Check profile) bytes = check-gives _ bytes
+gives (Render profile) bytes = render-gives _ bytes
+gives (Encode profile) bytes = encode-gives _ bytes
+gives (Show profile showing fill selects width height) bytes =
+    show-gives (show_terminal profile (show_choices showing fill selects width height)) bytes
+gives (ShowBox profile showing fill selects) bytes = box-gives (screen_terminal profile showing fill selects) bytes
+
+begins-all : (first second : Text) → first ≡ second → BeginsWith second first
+begins-all first second e = ([], sym e ∙ sym (append-nil first))
+
+-- ---- a flush that fails
+
+-- what was written before reading failed is a front of what a list gives
+unflushed-list : (bytes : List ℕ) (left had mid has : Option (List ℕ)) → ListsUnread bytes left had mid → Keeps mid has
+    → Wrote Listing bytes left (Err Write) had has
+unflushed-list bytes None had mid has w kept = absurd w.2
+unflushed-list bytes (Some rest) had mid has w kept = (
+  w.1,
+  Appends-keeps had mid has w.1 w.4 kept,
+  λ text answer g. subst (BeginsWith text) (sym w.3.1.2)
+      (gives-begins bytes w.0 rest w.3.1.0 w.2 w.3.1.1 w.3.0 text answer g),
+)
+
+unflushed-unread : (task : Task) (bytes : List ℕ) (left had mid has : Option (List ℕ))
+    → WroteUnread task bytes left had mid → Keeps mid has → Wrote task bytes left (Err Write) had has
+unflushed-unread Listing bytes left had mid has w kept = unflushed-list bytes left had mid has w kept
+unflushed-unread (Check profile) bytes left had mid has w kept =
+    ([], Appends-keeps had mid has [] w kept, λ text answer g. (text, refl))
+unflushed-unread (Render profile) bytes left had mid has w kept =
+    ([], Appends-keeps had mid has [] w kept, λ text answer g. (text, refl))
+unflushed-unread (Encode profile) bytes left had mid has w kept =
+    ([], Appends-keeps had mid has [] w kept, λ text answer g. (text, refl))
+unflushed-unread (Show profile showing fill selects width height) bytes left had mid has w kept =
+    ([], Appends-keeps had mid has [] w kept, λ text answer g. (text, refl))
+unflushed-unread (ShowBox profile showing fill selects) bytes left had mid has w kept =
+    ([], Appends-keeps had mid has [] w kept, λ text answer g. (text, refl))
+
+unflushed-text : (task : Task) (bytes : List ℕ) (left had mid has : Option (List ℕ)) (answer : Result Status RunFault)
+    (text : Text) → Gives task bytes text answer → Appends had mid text → Keeps mid has
+    → Wrote task bytes left (Err Write) had has
+unflushed-text task bytes left had mid has answer text g put kept = (
+  text,
+  Appends-keeps had mid has text put kept,
+  λ other answers h. begins-all text other (gives-once task bytes text other answer answers g h).0,
+)
+
+unflushed-run : (task : Task) (bytes : List ℕ) (left had mid has : Option (List ℕ)) (answer : Result Status RunFault)
+    → Wrote task bytes left answer had mid → Keeps mid has → Wrote task bytes left (Err Write) had has
+unflushed-run task bytes left had mid has (Ok status) w kept =
+    unflushed-text task bytes left had mid has (Ok status) w.0 w.1 w.2 kept
+unflushed-run task bytes left had mid has (Err (Grammar fault)) w kept =
+    unflushed-text task bytes left had mid has (Err (Grammar fault)) w.0 w.1 w.2 kept
+unflushed-run task bytes left had mid has (Err (Ppm reason place)) w kept =
+    unflushed-text task bytes left had mid has (Err (Ppm reason place)) w.0 w.1 w.2 kept
+unflushed-run task bytes left had mid has (Err NotRgb) w kept =
+    unflushed-text task bytes left had mid has (Err NotRgb) w.0 w.1 w.2 kept
+unflushed-run task bytes left had mid has (Err NoBox) w kept =
+    unflushed-text task bytes left had mid has (Err NoBox) w.0 w.1 w.2 kept
+unflushed-run task bytes left had mid has (Err OutOfMemory) w kept =
+    ([], Appends-keeps had mid has [] w kept, λ text answer g. (text, refl))
+unflushed-run task bytes left had mid has (Err Read) w kept = unflushed-unread task bytes left had mid has w kept
+unflushed-run task bytes left had mid has (Err Write) w kept = (w.0, Appends-keeps had mid has w.0 w.1 kept, w.2)
+
+-- ---- a flush that succeeds
+
+flushed-unread : (task : Task) (bytes : List ℕ) (left had mid has : Option (List ℕ))
+    → WroteUnread task bytes left had mid → Keeps mid has → WroteUnread task bytes left had has
+flushed-unread Listing bytes left had mid has w kept =
+    (w.0, w.1, w.2, w.3, Appends-keeps had mid has w.1 w.4 kept)
+flushed-unread (Check profile) bytes left had mid has w kept = Appends-keeps had mid has [] w kept
+flushed-unread (Render profile) bytes left had mid has w kept = Appends-keeps had mid has [] w kept
+flushed-unread (Encode profile) bytes left had mid has w kept = Appends-keeps had mid has [] w kept
+flushed-unread (Show profile showing fill selects width height) bytes left had mid has w kept =
+    Appends-keeps had mid has [] w kept
+flushed-unread (ShowBox profile showing fill selects) bytes left had mid has w kept =
+    Appends-keeps had mid has [] w kept
+
+flushed-run : (task : Task) (bytes : List ℕ) (left had mid has : Option (List ℕ)) (answer : Result Status RunFault)
+    → Wrote task bytes left answer had mid → Keeps mid has → Wrote task bytes left answer had has
+flushed-run task bytes left had mid has (Ok status) w kept = (w.0, w.1, Appends-keeps had mid has w.0 w.2 kept)
+flushed-run task bytes left had mid has (Err (Grammar fault)) w kept =
+    (w.0, w.1, Appends-keeps had mid has w.0 w.2 kept)
+flushed-run task bytes left had mid has (Err (Ppm reason place)) w kept =
+    (w.0, w.1, Appends-keeps had mid has w.0 w.2 kept)
+flushed-run task bytes left had mid has (Err NotRgb) w kept = (w.0, w.1, Appends-keeps had mid has w.0 w.2 kept)
+flushed-run task bytes left had mid has (Err NoBox) w kept = (w.0, w.1, Appends-keeps had mid has w.0 w.2 kept)
+flushed-run task bytes left had mid has (Err OutOfMemory) w kept = Appends-keeps had mid has [] w kept
+flushed-run task bytes left had mid has (Err Read) w kept = flushed-unread task bytes left had mid has w kept
+flushed-run task bytes left had mid has (Err Write) w kept = (w.0, Appends-keeps had mid has w.0 w.1 kept, w.2)
+
+pub flushed : (task : Task) (a left had mid has : Option (List ℕ)) (answer : Result Status RunFault)
+    → IfSome a (λ (bytes : List ℕ). Wrote task bytes left answer had mid) → Keeps mid has
+    → IfSome a (λ (bytes : List ℕ). Wrote task bytes left answer had has)
+flushed task None left had mid has answer w kept = tt
+flushed task (Some bytes) left had mid has answer w kept = flushed-run task bytes left had mid has answer w kept
+
+pub unflushed : (task : Task) (a left had mid has : Option (List ℕ)) (answer : Result Status RunFault)
+    → IfSome a (λ (bytes : List ℕ). Wrote task bytes left answer had mid) → Keeps mid has
+    → IfSome a (λ (bytes : List ℕ). Wrote task bytes left (Err Write) had has)
+unflushed task None left had mid has answer w kept = tt
+unflushed task (Some bytes) left had mid has answer w kept = unflushed-run task bytes left had mid has answer w kept

@@ -1,0 +1,154 @@
+-- What a run of `show` owes.
+use Rattle.std.proofs.Common.{◌≡◌, ◌∙◌, ℕ, ◌+◌, ◌*◌, Bool, true, false, List, [], ◌∷◌, ◌++◌, length, map, take, drop}
+use Rattle.std.proofs.Common.{Option, arith, refl, sym, ap, subst, inl, inr}
+use Rattle.std.specs.Prelude.{Result, Ok, Err, IsTrue, IsFalse}
+use Rattle.std.specs.Io.KnownBytes.{Appends}
+use Rattle.std.specs.List.{range_with_len}
+use Rattle.std.proofs.lemmas.List.{take-append-drop}
+use Rattle.std.proofs.lemmas.List.FromFn.{map-range_with_len_more}
+use Rattle.sixel_grammar.specs.declared.command.Event.{Event}
+use Rattle.sixel_grammar.specs.declared.command.Placed.{Placed}
+use Rattle.sixel_grammar.specs.declared.fault.Fault.{Fault}
+use Rattle.sixel_grammar.specs.Document.{Document, events_of}
+use Rattle.sixel_grammar.proofs.TotalLemmas.{judged}
+use Rattle.sixel_grammar.proofs.UniqueLemmas.{document_once, fault_no_document, fault_once}
+use Rattle.sixel_picture.specs.declared.colour.Parts.{Parts}
+use Rattle.sixel_picture.specs.declared.ppm.PpmFault.{PpmFault}
+use Rattle.sixel_picture.specs.declared.ppm.PpmFault.TheVariants as ppm
+use Rattle.sixel_picture.specs.Ppm.{WritesPpm, are_rgb, ppm_text}
+use Rattle.sixel_terminal.specs.Displays.{Display}
+use Rattle.sixel_picture.proofs.SheetLemmas.{length_rows}
+use Rattle.sixel_terminal.specs.Drawing.{screen_on, shown_on}
+use Rattle.sixel_run.specs.declared.fault.RunFault.{RunFault}
+use Rattle.sixel_run.specs.declared.fault.RunFault.TheVariants.{Grammar, Ppm, NotRgb, NoBox, OutOfMemory, Read, Write}
+use Rattle.sixel_run.specs.declared.task.Status.{Status}
+use Rattle.sixel_run.specs.declared.task.Status.TheVariants.{Done}
+use Rattle.sixel_run.specs.Conversions.{of_ppm}
+use Rattle.sixel_run.specs.Outputs.{ShowGives, WroteBy, WroteNothing}
+use Rattle.sixel_picture.specs.declared.profile.Profile.{Profile}
+use Rattle.sixel_run.specs.Screens.{grey, percent_at, screen_text}
+use Rattle.sixel_run.specs.Texts.{Text, BeginsWith}
+use Rattle.sixel_grammar.proofs.SinkLemmas.{Appends-keeps, Appends-none}
+
+-- two readings of one document are shown in the same colours
+same-screen : (t : Display) (bytes : List ℕ) (d e : List Placed) → Document d bytes → Document e bytes
+    → events_of d ≡ events_of e
+same-screen t bytes d e p q = ap events_of (document_once bytes d e p q)
+
+not-both : (b c : Bool) → b ≡ c → IsTrue b → IsFalse c → ⊥
+not-both b c e p q = let bad : true ≡ false = sym p ∙ e ∙ q in cc
+
+pub show-once : (t : Display) (bytes : List ℕ) (first second : Text) (a b : Result Status RunFault)
+    → ShowGives t bytes first a → ShowGives t bytes second b → (first ≡ second) × (a ≡ b)
+show-once t bytes first second (Ok s) (Ok r) g h = (
+  g.1.3 ∙ ap (screen_text t) (same-screen t bytes g.1.0 h.1.0 g.1.1 h.1.1) ∙ sym h.1.3,
+  ap (λ (s : Status). Ok s) (g.0 ∙ sym h.0),
+)
+show-once t bytes first second (Ok s) (Err (Grammar f)) g h = absurd (fault_no_document bytes f h.1 (g.1.0, g.1.1))
+show-once t bytes first second (Ok s) (Err NotRgb) g h =
+    absurd (not-both _ _
+    (ap (λ es. are_rgb (screen_on t es)) (same-screen t bytes g.1.0 h.1.0 g.1.1 h.1.1)) g.1.2 h.1.2)
+show-once t bytes first second (Err NotRgb) (Ok s) g h =
+    absurd (not-both _ _
+    (ap (λ es. are_rgb (screen_on t es)) (same-screen t bytes h.1.0 g.1.0 h.1.1 g.1.1)) h.1.2 g.1.2)
+show-once t bytes first second (Err NotRgb) (Err NotRgb) g h = (g.0 ∙ sym h.0, refl)
+show-once t bytes first second (Err NotRgb) (Err (Grammar f)) g h = absurd
+    (fault_no_document bytes f h.1 (g.1.0, g.1.1))
+show-once t bytes first second (Err (Grammar f)) (Ok s) g h = absurd (fault_no_document bytes f g.1 (h.1.0, h.1.1))
+show-once t bytes first second (Err (Grammar f)) (Err NotRgb) g h = absurd
+    (fault_no_document bytes f g.1 (h.1.0, h.1.1))
+show-once t bytes first second (Err (Grammar f)) (Err (Grammar e)) g h =
+    (g.0 ∙ sym h.0, ap (λ (k : Fault). Err (Grammar k)) (fault_once bytes f e g.1 h.1))
+show-once t bytes first second (Err NoBox) b g h = absurd g
+show-once t bytes first second (Err (Ppm reason place)) b g h = absurd g
+show-once t bytes first second (Err OutOfMemory) b g h = absurd g
+show-once t bytes first second (Err Read) b g h = absurd g
+show-once t bytes first second (Err Write) b g h = absurd g
+show-once t bytes first second (Ok s) (Err NoBox) g h = absurd h
+show-once t bytes first second (Ok s) (Err (Ppm reason place)) g h = absurd h
+show-once t bytes first second (Ok s) (Err OutOfMemory) g h = absurd h
+show-once t bytes first second (Ok s) (Err Read) g h = absurd h
+show-once t bytes first second (Ok s) (Err Write) g h = absurd h
+show-once t bytes first second (Err NotRgb) (Err NoBox) g h = absurd h
+show-once t bytes first second (Err NotRgb) (Err (Ppm reason place)) g h = absurd h
+show-once t bytes first second (Err NotRgb) (Err OutOfMemory) g h = absurd h
+show-once t bytes first second (Err NotRgb) (Err Read) g h = absurd h
+show-once t bytes first second (Err NotRgb) (Err Write) g h = absurd h
+show-once t bytes first second (Err (Grammar f)) (Err NoBox) g h = absurd h
+show-once t bytes first second (Err (Grammar f)) (Err (Ppm reason place)) g h = absurd h
+show-once t bytes first second (Err (Grammar f)) (Err OutOfMemory) g h = absurd h
+show-once t bytes first second (Err (Grammar f)) (Err Read) g h = absurd h
+show-once t bytes first second (Err (Grammar f)) (Err Write) g h = absurd h
+
+shown : (t : Display) (bytes : List ℕ) (d : List Placed) → Document d bytes → (b : Bool)
+    → are_rgb (screen_on t (events_of d)) ≡ b
+    → (text : Text) × (answer : Result Status RunFault) × ShowGives t bytes text answer
+shown t bytes d doc true e = (screen_text t (events_of d), Ok Done, (refl, (d, doc, e, refl)))
+shown t bytes d doc false e = ([], Err NotRgb, (refl, (d, doc, e)))
+
+pub show-gives : (t : Display) (bytes : List ℕ)
+    → (text : Text) × (answer : Result Status RunFault) × ShowGives t bytes text answer
+show-gives t bytes =
+    elim (judged bytes) [
+      | inl d ↦ shown t bytes d.0 d.1 (are_rgb (screen_on t (events_of d.0))) refl
+      | inr f ↦ ([], Err (Grammar f.0), (refl, f.1))
+    ]
+
+-- ---- the terminal
+
+-- one register more
+pub greys_more : (profile : Profile) (n : ℕ)
+    → map (λ k. grey (percent_at profile k)) (range_with_len 0 (n + 1))
+    ≡ map (λ k. grey (percent_at profile k)) (range_with_len 0 n) ++ grey (percent_at profile n) ∷ []
+greys_more profile n = map-range_with_len_more (λ k. grey (percent_at profile k)) 0 n n (omega arith)
+
+pub screen_length : (t : Display) (events : List Event)
+    → length (screen_on t events) ≡ t.choices.screen_width * t.choices.screen_height
+unfolding screen_on
+screen_length t events = length_rows t.choices.screen_width t.choices.screen_height (shown_on t events)
+
+-- ---- what is written
+
+-- the text is that of any answer that the document has
+written-begins : (t : Display) (bytes : List ℕ) (d : List Placed) (n : ℕ) → Document d bytes
+    → IsTrue (are_rgb (screen_on t (events_of d))) → (text : Text) (answer : Result Status RunFault)
+    → ShowGives t bytes text answer → BeginsWith text (take n (screen_text t (events_of d)))
+written-begins t bytes d n doc rgb text answer g =
+    let same = (show-once t bytes text (screen_text t (events_of d)) answer (Ok Done) g
+    (refl, (d, doc, rgb, refl))).0 in (
+      drop n (screen_text t (events_of d)),
+      same ∙ sym (take-append-drop n (screen_text t (events_of d))),
+    )
+
+pub written : {A : Type 0} (t : Display) (bytes : List ℕ) (d : List Placed) (had has : Option (List ℕ))
+    (colours : List Parts) (x : A) → Document d bytes → colours ≡ screen_on t (events_of d)
+    → WritesPpm {A = A} (Ok x) had has t.choices.screen_width t.choices.screen_height colours
+    → WroteBy (ShowGives t bytes) WroteNothing (Ok Done) had has
+unfolding screen_text
+written t bytes d had has colours x doc is put =
+    let w = t.choices.screen_width in let h = t.choices.screen_height in (
+      screen_text t (events_of d),
+      (refl, (d, doc, subst (λ (cs : List Parts). IsTrue (are_rgb cs)) is put.0, refl)),
+      subst (λ (cs : List Parts). Appends had has (ppm_text w h cs)) is put.1,
+    )
+
+pub unwritten : (A : Type 0) (t : Display) (bytes : List ℕ) (d : List Placed) (had has : Option (List ℕ))
+    (colours : List Parts) (fault : PpmFault) → Document d bytes → colours ≡ screen_on t (events_of d)
+    → WritesPpm {A = A} (Err fault) had has t.choices.screen_width t.choices.screen_height colours
+    → WroteBy (ShowGives t bytes) WroteNothing (Err (of_ppm fault)) had has
+unfolding screen_text
+unwritten A t bytes d had has colours ppm.Write doc is put =
+    let w = t.choices.screen_width in let h = t.choices.screen_height in
+    let rgb = subst (λ (cs : List Parts). IsTrue (are_rgb cs)) is put.0 in (
+      take put.1 (screen_text t (events_of d)),
+      subst (λ (cs : List Parts). Appends had has (take put.1 (ppm_text w h cs))) is put.2,
+      written-begins t bytes d put.1 doc rgb,
+    )
+unwritten A t bytes d had has colours (ppm.Format reason place) doc is put = absurd put
+unwritten A t bytes d had has colours ppm.OutOfMemory doc is put = absurd put
+unwritten A t bytes d had has colours ppm.Read doc is put = absurd put
+unwritten A t bytes d had has colours ppm.NotRgb doc is put = (
+  [],
+  (refl, (d, doc, subst (λ (cs : List Parts). IsFalse (are_rgb cs)) is put.0)),
+  Appends-keeps had had has [] (Appends-none had) put.1,
+)

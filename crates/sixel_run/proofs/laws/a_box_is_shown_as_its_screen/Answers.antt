@@ -1,0 +1,28 @@
+use Rattle.sixel_grammar.specs.Document.{events_of}
+use Rattle.sixel_run.specs.Screens.{screen_terminal}
+use Rattle.sixel_run.proofs.BoxLemmas.{boxed, declared_sides, fault-boxed, fault-shown, no-box, refused, unboxed}
+use Rattle.sixel_run.proofs.laws.a_box_is_shown_as_its_screen.Goals as goal
+
+pub returns-clause-shown : goal.returns-clause-shown
+returns-clause-shown c = λ profile showing fill selects width height bytes d.
+    let terminal = screen_terminal profile showing fill selects in (
+      declared_sides (events_of d.0) width height d.2,
+      λ text answer. (
+        unboxed terminal bytes d.0 (width, height) d.1 d.2 text answer,
+        boxed terminal bytes d.0 (width, height) d.1 d.2 text answer,
+      ),
+    )
+
+pub returns-clause-refused : goal.returns-clause-refused
+returns-clause-refused c = λ profile showing fill selects bytes text answer d.
+    let terminal = screen_terminal profile showing fill selects in (
+      refused terminal bytes d.0 d.1 d.2 text answer,
+      λ is. no-box terminal bytes d.0 d.1 d.2 text answer is.0 is.1,
+    )
+
+pub returns-clause-faulty : goal.returns-clause-faulty
+returns-clause-faulty c = λ profile showing fill selects width height bytes fault is text answer.
+    let terminal = screen_terminal profile showing fill selects in (
+      fault-shown terminal (width, height) bytes fault is text answer,
+      fault-boxed terminal (width, height) bytes fault is text answer,
+    )

@@ -1,0 +1,53 @@
+use Rattle.std.proofs.Common.{◌≡◌, ◌∙◌, ℕ, List, Option, ap, length, subst, sym}
+use Rattle.std.specs.Prelude.{Result}
+use Rattle.sixel_grammar.specs.declared.command.Placed.{Placed}
+use Rattle.sixel_grammar.specs.Document.{events_of}
+use Rattle.sixel_terminal.specs.declared.choices.Choices.{Choices}
+use Rattle.sixel_picture.specs.declared.colour.Parts.{Parts}
+use Rattle.sixel_terminal.specs.Displays.{Display}
+use Rattle.sixel_terminal.specs.Drawing.{screen_on}
+use Rattle.sixel_picture.specs.declared.profile.Profile.{Profile}
+use Rattle.sixel_run.specs.declared.fault.RunFault.{RunFault}
+use Rattle.sixel_run.specs.declared.task.Status.{Status}
+use Rattle.sixel_run.specs.Outputs.{ShowGives, WroteBy, WroteNothing}
+use Rattle.sixel_run.specs.Screens.{declared_screen, screen_terminal, show_choices, show_terminal}
+use Rattle.sixel_run.proofs.BoxLemmas.{shown-boxed}
+use Rattle.sixel_run.proofs.ScreenLemmas.{screen_length}
+use Rattle.sixel_run.proofs.running.show_box.show_box.Goals as goal
+
+pub write_screen-requires-clause-whole : goal.write_screen-requires-clause-whole
+unfolding show_terminal
+write_screen-requires-clause-whole g c =
+    ap length (c.deref-3.ensures.value ∙ c.in_ok-shown.ensures)
+    ∙ screen_length (show_terminal c.args.profile c.show_choices-choices.result) (events_of c.deref-2.result.now)
+
+same_colours : (colours drawn : List Parts) (t : Display) (ds es : List Placed) → colours ≡ drawn
+    → drawn ≡ screen_on t (events_of ds) → ds ≡ es → colours ≡ screen_on t (events_of es)
+same_colours colours drawn t ds es a b c = a ∙ b ∙ ap (λ (ps : List Placed). screen_on t (events_of ps)) c
+
+chosen : (profile : Profile) (x y : Choices) (bytes : List ℕ) (answer : Result Status RunFault)
+    (had has : Option (List ℕ)) → x ≡ y
+    → WroteBy (ShowGives (show_terminal profile x) bytes) WroteNothing answer had has
+    → WroteBy (ShowGives (show_terminal profile y) bytes) WroteNothing answer had has
+chosen profile x y bytes answer had has e w =
+    subst (λ (z : Choices). WroteBy (ShowGives (show_terminal profile z) bytes) WroteNothing answer had has) e w
+
+pub returns-clause-wrote : goal.returns-clause-wrote
+returns-clause-wrote g c =
+    let profile = c.args.profile in let events = c.in_ok-events.events.items in
+    let had = g.K.Sink.taken c.args.output.now in let has = g.K.Sink.taken c.write_screen.new.output in
+    let choices = c.show_choices-choices.result in
+    let shown : c.deref-3.result.now ≡ screen_on (show_terminal profile choices) (events_of events) =
+    same_colours c.deref-3.result.now c.in_ok-shown.shown.items
+    (show_terminal profile choices) c.deref-2.result.now events
+    c.deref-3.ensures.value c.in_ok-shown.ensures c.deref-2.ensures.value in
+    shown-boxed (screen_terminal profile c.args.showing c.args.fill c.args.selects)
+    (g.S.Source.remaining c.args.input.now) events (c.in-Some.width, c.in-Some.height) c.write_screen.result had has
+    c.in_ok-events.ensures.document
+    (ap (λ (es : List Placed). declared_screen (events_of es)) (sym c.deref.ensures.value)
+    ∙ sym c.declared_screen.ensures.value ∙ c.in-Some.is)
+    (λ bytes doc.
+    chosen profile choices
+    (show_choices c.args.showing c.args.fill c.args.selects c.in-Some.width c.in-Some.height) bytes
+    c.write_screen.result had has c.show_choices-choices.ensures
+    (c.write_screen.ensures.wrote profile events bytes doc shown))

@@ -1,0 +1,19 @@
+-- The faults of the crates below, as faults of a run.
+use Rattle.sixel_grammar.specs.declared.fault.InputFault.{InputFault}
+use Rattle.sixel_grammar.specs.declared.fault.InputFault.TheVariants as input
+use Rattle.sixel_picture.specs.declared.ppm.PpmFault.{PpmFault}
+use Rattle.sixel_picture.specs.declared.ppm.PpmFault.TheVariants as ppm
+use Rattle.sixel_run.specs.declared.fault.RunFault.{RunFault}
+use Rattle.sixel_run.specs.declared.fault.RunFault.TheVariants.{Grammar, Ppm, NotRgb, OutOfMemory, Read, Write}
+
+abbrev pub of_input : InputFault → RunFault
+of_input (input.Grammar fault) = Grammar fault
+of_input input.OutOfMemory = OutOfMemory
+of_input input.Read = Read
+
+abbrev pub of_ppm : PpmFault → RunFault
+of_ppm (ppm.Format reason place) = Ppm reason place
+of_ppm ppm.NotRgb = NotRgb
+of_ppm ppm.OutOfMemory = OutOfMemory
+of_ppm ppm.Read = Read
+of_ppm ppm.Write = Write

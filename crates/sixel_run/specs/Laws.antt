@@ -1,0 +1,80 @@
+-- What the laws of encoded pictures and of shown boxes say.
+use Rattle.std.specs.Prelude.{◌≡◌, ◌↔◌, ℕ, Bool, List, [], Option, Some, None, Result, Ok, Err, ⊤}
+use Rattle.sixel_grammar.specs.declared.command.Placed.{Placed}
+use Rattle.sixel_grammar.specs.declared.fault.Fault.{Fault}
+use Rattle.sixel_grammar.specs.declared.fault.InputFault.{InputFault}
+use Rattle.sixel_grammar.specs.declared.fault.InputFault.TheVariants.{Grammar, OutOfMemory, Read}
+use Rattle.sixel_grammar.specs.Document.{Document, events_of}
+use Rattle.sixel_grammar.specs.Faults.{IsFaultOf}
+use Rattle.sixel_picture.specs.Pictures.{IsPicture, PictureValue}
+use Rattle.sixel_picture.specs.declared.profile.Profile.{Profile}
+use Rattle.sixel_check.specs.Checking.{Answers}
+use Rattle.sixel_check.specs.declared.verdict.Verdict.{Verdict}
+use Rattle.sixel_check.specs.declared.verdict.Verdict.TheVariants.{Portable}
+use Rattle.sixel_check.specs.Portable.{IsPortable}
+use Rattle.sixel_check.specs.Verdicts.{IsVerdict}
+use Rattle.sixel_encode.specs.Canon.{canon_text}
+use Rattle.sixel_run.specs.declared.fault.RunFault.{RunFault}
+use Rattle.sixel_run.specs.declared.fault.RunFault.TheVariants.{NoBox}
+use Rattle.sixel_run.specs.declared.task.Status.{Status}
+use Rattle.sixel_run.specs.declared.task.Status.TheVariants.{Done}
+use Rattle.sixel_run.specs.declared.task.Task.{Task}
+use Rattle.sixel_run.specs.declared.task.Task.TheVariants.{Show, ShowBox}
+use Rattle.sixel_run.specs.Outputs.{CheckGives, Gives, HasSides}
+use Rattle.sixel_run.specs.Screens.{declared_screen}
+use Rattle.sixel_run.specs.Texts.{Text, portable_line}
+
+-- the text of a picture is a document whose verdict is that picture, and each terminal with room shows it
+abbrev pub EncodedIsPortable : ℕ → Type 0
+EncodedIsPortable registers =
+    (p : PictureValue) → IsPicture registers p
+    → (events : List Placed) × Document events (canon_text p) × IsVerdict registers events (Portable p)
+    × IsPortable registers (events_of events) p
+
+-- the answer is that the picture is portable; or memory was wanting, or a read failed
+abbrev pub IsPortableAnswer : PictureValue → Result Verdict InputFault → Type 0
+IsPortableAnswer p (Ok verdict) = verdict ≡ Portable p
+IsPortableAnswer p (Err OutOfMemory) = ⊤
+IsPortableAnswer p (Err Read) = ⊤
+IsPortableAnswer p (Err (Grammar fault)) = ⊥
+
+-- whatever a check may answer for that text is that the picture is portable, or want of memory, or a failed read
+abbrev pub EncodedAnswers : ℕ → Type 0
+EncodedAnswers registers = (p : PictureValue) (answer : Result Verdict InputFault) → IsPicture registers p
+    → Answers registers answer (canon_text p) → IsPortableAnswer p answer
+
+-- and so a check of it writes that it is portable, with its size
+abbrev pub EncodedChecks : ℕ → Type 0
+EncodedChecks registers = (p : PictureValue) → IsPicture registers p
+    → CheckGives registers (canon_text p) (portable_line p) (Ok Done)
+
+-- ---- boxes
+
+-- whatever one task gives for the bytes, the other gives, and nothing else
+abbrev pub GiveTheSame : List ℕ → Task → Task → Type 0
+GiveTheSame bytes a b = (text : Text) (answer : Result Status RunFault)
+    → Gives a bytes text answer ↔ Gives b bytes text answer
+
+-- these bytes are a document, which declares a screen of these sides, or none
+abbrev pub DeclaresScreen : List ℕ → Option (ℕ × ℕ) → Type 0
+DeclaresScreen bytes sides =
+    (events : List Placed) × Document events bytes × (declared_screen (events_of events) ≡ sides)
+
+-- a declared screen is one that a show may be asked for, and what is then given is what a show on it gives
+abbrev pub BoxIsShown : Type 0
+BoxIsShown = (profile : Profile) (showing fill selects : Bool) (width height : ℕ) (bytes : List ℕ)
+    → DeclaresScreen bytes (Some (width, height))
+    → HasSides (Show profile showing fill selects width height)
+    × GiveTheSame bytes (ShowBox profile showing fill selects) (Show profile showing fill selects width height)
+
+-- where none is declared, nothing is written, and `NoBox` is answered
+abbrev pub NoBoxIsShown : Type 0
+NoBoxIsShown = (profile : Profile) (showing fill selects : Bool) (bytes : List ℕ) (text : Text)
+    (answer : Result Status RunFault) → DeclaresScreen bytes None
+    → Gives (ShowBox profile showing fill selects) bytes text answer ↔ (text ≡ []) × (answer ≡ Err NoBox)
+
+-- bytes that are no document are refused as a show on any screen refuses them
+abbrev pub FaultIsShown : Type 0
+FaultIsShown = (profile : Profile) (showing fill selects : Bool) (width height : ℕ) (bytes : List ℕ) (fault : Fault)
+    → IsFaultOf bytes fault
+    → GiveTheSame bytes (ShowBox profile showing fill selects) (Show profile showing fill selects width height)

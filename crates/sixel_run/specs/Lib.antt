@@ -1,0 +1,7 @@
+pub mod Texts
+pub mod SixelLines
+pub mod Conversions
+pub mod Screens
+pub mod Outputs
+pub mod Feeding
+pub mod Laws

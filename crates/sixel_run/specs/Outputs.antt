@@ -1,0 +1,228 @@
+-- What a run writes and answers.
+use Rattle.std.specs.Prelude.{◌≡◌, ◌⊎◌, ℕ, List, [], ◌≤◌, length, take, Option, Some, None, IfSome, IsTrue, IsFalse}
+use Rattle.std.specs.Prelude.{Result, Ok, Err, if◌then◌else◌}
+use Rattle.std.specs.Io.KnownBytes.{Appends, Consumes}
+use Rattle.sixel_grammar.specs.declared.command.Placed.{Placed}
+use Rattle.sixel_grammar.specs.Devices.{one_more}
+use Rattle.sixel_grammar.specs.Document.{Document, events_of, most_bytes}
+use Rattle.sixel_grammar.specs.Fronts.{CompleteIn}
+use Rattle.sixel_grammar.specs.Faults.{IsFaultOf}
+use Rattle.sixel_picture.specs.declared.ppm.PpmFault.{PpmFault}
+use Rattle.sixel_picture.specs.Pictures.{PictureValue}
+use Rattle.sixel_picture.specs.Profiles.{count_of}
+use Rattle.sixel_picture.specs.Ppm.{are_rgb, colours_of, is_file_side, ppm_text}
+use Rattle.sixel_picture.specs.PpmReading.{HasWholeHeader, ppm_read}
+use Rattle.sixel_terminal.specs.Displays.{Display}
+use Rattle.sixel_terminal.specs.Drawing.{screen_on}
+use Rattle.sixel_check.specs.declared.verdict.Verdict.{Verdict}
+use Rattle.sixel_check.specs.declared.verdict.Verdict.TheVariants.{Portable, Broken}
+use Rattle.sixel_check.specs.Growth.{MayGrowIn}
+use Rattle.sixel_check.specs.Verdicts.{IsVerdict}
+use Rattle.sixel_encode.specs.Canon.{canon_text}
+use Rattle.sixel_run.specs.Conversions.{of_ppm}
+use Rattle.sixel_run.specs.declared.fault.RunFault.{RunFault}
+use Rattle.sixel_run.specs.declared.fault.RunFault.TheVariants.{Grammar, Ppm, NotRgb, NoBox, OutOfMemory, Read, Write}
+use Rattle.sixel_run.specs.declared.task.Status.{Status}
+use Rattle.sixel_run.specs.declared.task.Status.TheVariants as status
+use Rattle.sixel_run.specs.declared.task.Status.TheVariants.{Done}
+use Rattle.sixel_run.specs.declared.task.Task.{Task}
+use Rattle.sixel_run.specs.declared.task.Task.TheVariants.{List as Listing, Check, Render, Show, ShowBox, Encode}
+use Rattle.sixel_run.specs.Screens.{declared_screen, screen_terminal, screen_text, show_choices, show_terminal}
+use Rattle.sixel_run.specs.Texts.{Text, BeginsWith, list_text, verdict_line}
+
+-- ---- lists
+
+-- the lines of the events that are complete in the bytes
+abbrev pub ListsFront : List ℕ → Text → Type 0
+ListsFront bytes text = (events : List Placed) × CompleteIn events bytes × (text ≡ list_text events)
+
+-- the lines of all events of a document; of other bytes their fault, and the lines of the events complete before it
+abbrev pub ListGives : List ℕ → Text → Result Status RunFault → Type 0
+ListGives bytes text (Ok status) = (status ≡ Done)
+    × ((events : List Placed) × Document events bytes × (text ≡ list_text events))
+ListGives bytes text (Err (Grammar fault)) = IsFaultOf bytes fault × ListsFront (take fault.place bytes) text
+ListGives bytes text (Err (Ppm reason place)) = ⊥
+ListGives bytes text (Err NotRgb) = ⊥
+ListGives bytes text (Err NoBox) = ⊥
+ListGives bytes text (Err OutOfMemory) = ⊥
+ListGives bytes text (Err Read) = ⊥
+ListGives bytes text (Err Write) = ⊥
+
+-- the lines of the events complete in the bytes that were given, which are those before `left` and in which no fault
+-- was met
+abbrev pub ListsUnread : List ℕ → Option (List ℕ) → Option (List ℕ) → Option (List ℕ) → Type 0
+ListsUnread bytes left had has =
+    (given : List ℕ) × (text : Text) × Consumes (Some bytes) left given
+    × ((length given ≤ most_bytes) × ListsFront given text) × Appends had has text
+
+-- ---- verdicts
+
+-- what comes of a verdict
+abbrev pub status_of : Verdict → Status
+status_of (Portable picture) = Done
+status_of (Broken finding) = status.Broken finding
+
+-- the line of the verdict on a document, by so many registers; of other bytes their fault, and nothing is written
+abbrev pub CheckGives : ℕ → List ℕ → Text → Result Status RunFault → Type 0
+CheckGives registers bytes text (Ok status) =
+    (events : List Placed) × Document events bytes
+    × ((verdict : Verdict) × IsVerdict registers events verdict × (text ≡ verdict_line verdict)
+    × (status ≡ status_of verdict))
+CheckGives registers bytes text (Err (Grammar fault)) = (text ≡ []) × IsFaultOf bytes fault
+CheckGives registers bytes text (Err (Ppm reason place)) = ⊥
+CheckGives registers bytes text (Err NotRgb) = ⊥
+CheckGives registers bytes text (Err NoBox) = ⊥
+CheckGives registers bytes text (Err OutOfMemory) = ⊥
+CheckGives registers bytes text (Err Read) = ⊥
+CheckGives registers bytes text (Err Write) = ⊥
+
+-- the answer of a check, and the line that it writes
+abbrev pub answer_of : Result Verdict RunFault → Result Status RunFault
+answer_of (Ok verdict) = Ok (status_of verdict)
+answer_of (Err fault) = Err fault
+
+abbrev pub line_of : Result Verdict RunFault → Text
+line_of (Ok verdict) = verdict_line verdict
+line_of (Err fault) = []
+
+-- ---- pictures
+
+-- the picture file of a portable picture, if all its colours are of red, green and blue
+abbrev pub picture_output : PictureValue → Text × Result Status RunFault
+picture_output p =
+    if are_rgb (colours_of p) then (ppm_text p.width p.height (colours_of p), Ok Done) else ([], Err NotRgb)
+
+-- what is written of a verdict, and the answer; nothing is written of a broken rule
+abbrev pub render_output : Verdict → Text × Result Status RunFault
+render_output (Portable picture) = picture_output picture
+render_output (Broken finding) = ([], Ok (status.Broken finding))
+
+-- what is written of the verdict on a document, by so many registers; of other bytes their fault, and nothing is
+-- written
+abbrev pub RenderGives : ℕ → List ℕ → Text → Result Status RunFault → Type 0
+RenderGives registers bytes text (Err (Grammar fault)) = (text ≡ []) × IsFaultOf bytes fault
+RenderGives registers bytes text answer =
+    (events : List Placed) × Document events bytes
+    × ((verdict : Verdict) × IsVerdict registers events verdict × ((text, answer) ≡ render_output verdict))
+
+-- ---- picture files
+
+-- the canonical text of a picture that was read, or the fault of the bytes
+abbrev pub encode_output : Result PictureValue PpmFault → Text × Result Status RunFault
+encode_output (Ok picture) = (canon_text picture, Ok Done)
+encode_output (Err fault) = ([], Err (of_ppm fault))
+
+abbrev pub EncodeGives : ℕ → List ℕ → Text → Result Status RunFault → Type 0
+EncodeGives registers bytes text answer = (text, answer) ≡ encode_output (ppm_read registers bytes)
+
+-- ---- screens
+
+-- the picture file of what the terminal shows after a document, if all its colours are of red, green and blue
+-- of other bytes their fault, and nothing is written
+abbrev pub ShowGives : Display → List ℕ → Text → Result Status RunFault → Type 0
+ShowGives t bytes text (Ok status) = (status ≡ Done)
+    × ((events : List Placed) × Document events bytes × IsTrue (are_rgb (screen_on t (events_of events)))
+    × (text ≡ screen_text t (events_of events)))
+ShowGives t bytes text (Err NotRgb) = (text ≡ [])
+    × ((events : List Placed) × Document events bytes × IsFalse (are_rgb (screen_on t (events_of events))))
+ShowGives t bytes text (Err (Grammar fault)) = (text ≡ []) × IsFaultOf bytes fault
+ShowGives t bytes text (Err NoBox) = ⊥
+ShowGives t bytes text (Err (Ppm reason place)) = ⊥
+ShowGives t bytes text (Err OutOfMemory) = ⊥
+ShowGives t bytes text (Err Read) = ⊥
+ShowGives t bytes text (Err Write) = ⊥
+
+-- what the terminal whose screen has the sides of the declared box gives for a document; of a document without such a
+-- box `NoBox`, and of other bytes their fault, and nothing is written
+abbrev pub ShowBoxGives : (ℕ × ℕ → Display) → List ℕ → Text → Result Status RunFault → Type 0
+ShowBoxGives terminal bytes text (Err NoBox) = (text ≡ [])
+    × ((events : List Placed) × Document events bytes × (declared_screen (events_of events) ≡ None))
+ShowBoxGives terminal bytes text (Err (Grammar fault)) = (text ≡ []) × IsFaultOf bytes fault
+ShowBoxGives terminal bytes text answer =
+    (events : List Placed) × Document events bytes
+    × ((sides : ℕ × ℕ) × (declared_screen (events_of events) ≡ Some sides)
+    × ShowGives (terminal sides) bytes text answer)
+
+-- ---- tasks
+
+-- the sides of a screen to show are in range
+abbrev pub HasSides : Task → Type 0
+HasSides Listing = Unit {0}
+HasSides (Check profile) = Unit {0}
+HasSides (Render profile) = Unit {0}
+HasSides (Encode profile) = Unit {0}
+HasSides (Show profile showing fill selects width height) = IsTrue (is_file_side width) × IsTrue (is_file_side height)
+HasSides (ShowBox profile showing fill selects) = Unit {0}
+
+-- what a task writes for these bytes, and its answer, where memory is ample and no device fails
+abbrev pub Gives : Task → List ℕ → Text → Result Status RunFault → Type 0
+Gives Listing bytes text answer = ListGives bytes text answer
+Gives (Check profile) bytes text answer = CheckGives (count_of profile) bytes text answer
+Gives (Render profile) bytes text answer = RenderGives (count_of profile) bytes text answer
+Gives (Encode profile) bytes text answer = EncodeGives (count_of profile) bytes text answer
+Gives (Show profile showing fill selects width height) bytes text answer =
+    ShowGives (show_terminal profile (show_choices showing fill selects width height)) bytes text answer
+Gives (ShowBox profile showing fill selects) bytes text answer =
+    ShowBoxGives (screen_terminal profile showing fill selects) bytes text answer
+
+-- nothing was appended to what the sink `had`
+abbrev pub WroteNothing : Option (List ℕ) → Option (List ℕ) → Type 0
+WroteNothing had has = Appends had has []
+
+-- what a task has written to what the sink `had` when reading these bytes fails before `left`
+abbrev pub WroteUnread : Task → List ℕ → Option (List ℕ) → Option (List ℕ) → Option (List ℕ) → Type 0
+WroteUnread Listing bytes left had has = ListsUnread bytes left had has
+WroteUnread (Check profile) bytes left had has = WroteNothing had has
+WroteUnread (Render profile) bytes left had has = WroteNothing had has
+WroteUnread (Encode profile) bytes left had has = WroteNothing had has
+WroteUnread (Show profile showing fill selects width height) bytes left had has = WroteNothing had has
+WroteUnread (ShowBox profile showing fill selects) bytes left had has = WroteNothing had has
+
+-- a run of the task over these bytes, if they are known, may be refused for want of memory: a check and a picture only
+-- where raster attributes make a box in them, an encode only after a whole header
+abbrev pub TakesMemory : Task → Option (List ℕ) → Type 0
+TakesMemory Listing told = ⊥
+TakesMemory (Check profile) told = IfSome told (MayGrowIn (count_of profile))
+TakesMemory (Render profile) told = IfSome told (MayGrowIn (count_of profile))
+TakesMemory (Encode profile) told = IfSome told HasWholeHeader
+TakesMemory (Show profile showing fill selects width height) told = Unit {0}
+TakesMemory (ShowBox profile showing fill selects) told = Unit {0}
+
+-- a run that answered so appended to what the sink `had` the text that is given with the answer, or on `Write` a front
+-- of what is given, or on `Read` what `unread` says, or for want of memory nothing
+abbrev pub WroteBy : (Text → Result Status RunFault → Type 0) → (Option (List ℕ) → Option (List ℕ) → Type 0)
+    → Result Status RunFault → Option (List ℕ) → Option (List ℕ) → Type 0
+WroteBy gives unread (Ok status) had has = (text : Text) × gives text (Ok status) × Appends had has text
+WroteBy gives unread (Err (Grammar fault)) had has =
+    (text : Text) × gives text (Err (Grammar fault)) × Appends had has text
+WroteBy gives unread (Err (Ppm reason place)) had has =
+    (text : Text) × gives text (Err (Ppm reason place)) × Appends had has text
+WroteBy gives unread (Err NotRgb) had has = (text : Text) × gives text (Err NotRgb) × Appends had has text
+WroteBy gives unread (Err NoBox) had has = (text : Text) × gives text (Err NoBox) × Appends had has text
+WroteBy gives unread (Err OutOfMemory) had has = WroteNothing had has
+WroteBy gives unread (Err Read) had has = unread had has
+WroteBy gives unread (Err Write) had has =
+    (part : Text) × Appends had has part
+    × ((text : Text) (answer : Result Status RunFault) → gives text answer → BeginsWith text part)
+
+-- a run of the task over these bytes, of which `left` are left to give, appended this to what the sink `had` and
+-- answered so
+abbrev pub Wrote : Task → List ℕ → Option (List ℕ)
+    → Result Status RunFault → Option (List ℕ) → Option (List ℕ) → Type 0
+Wrote task bytes left answer had has = WroteBy (Gives task bytes) (WroteUnread task bytes left) answer had has
+
+-- ---- failures of devices
+
+-- one failure more where the answer is the one of this device, else as many as before
+abbrev pub failures_by : {A : Type 0} → RunFault → Result A RunFault → ℕ → ℕ
+failures_by Read (Err Read) n = one_more n
+failures_by Write (Err Write) n = one_more n
+failures_by device answer n = n
+
+-- `Write` is answered exactly where the sink failed, once
+abbrev pub CountsWrites : {A : Type 0} → Result A RunFault → ℕ → ℕ → Type 0
+CountsWrites answer old new = new ≡ failures_by Write answer old
+
+-- `Read` is answered exactly where the source failed, once; but where the flush fails after it, `Write` is
+abbrev pub CountsReads : {A : Type 0} → Result A RunFault → ℕ → ℕ → Type 0
+CountsReads answer old new = (new ≡ failures_by Read answer old) ⊎ ((answer ≡ Err Write) × (new ≡ one_more old))

@@ -1,0 +1,149 @@
+-- The lines that the program writes.
+use Rattle.std.specs.Prelude.{◌≡◌, ℕ, Bool, List, [], ◌∷◌, ◌++◌, Option, Some, None, codes, decimal, flat_map, map, ◌+◌}
+use Rattle.std.specs.Prelude.{◌/◌, ◌%◌, if◌then◌else◌}
+use Rattle.sixel_grammar.specs.declared.command.Command.{Command}
+use Rattle.sixel_grammar.specs.declared.command.Command.TheVariants.{Sixel, Repeat, Raster, Select, Define}
+use Rattle.sixel_grammar.specs.declared.command.Command.TheVariants.{CarriageReturn, NextLine}
+use Rattle.sixel_grammar.specs.declared.command.Event.{Event}
+use Rattle.sixel_grammar.specs.declared.command.Event.TheVariants.{Start, Step, Finish}
+use Rattle.sixel_grammar.specs.declared.command.Placed.{Placed}
+use Rattle.sixel_grammar.specs.declared.fault.Reason.{Reason}
+use Rattle.sixel_grammar.specs.declared.fault.Reason.TheVariants.{NotSixel, BadByte, NumberTooLarge, FieldCount}
+use Rattle.sixel_grammar.specs.declared.fault.Reason.TheVariants.{BadRepeat, BadTerminator, Truncated, TooLong}
+use Rattle.sixel_grammar.specs.declared.fault.Reason.TheVariants.{Trailing}
+use Rattle.sixel_picture.specs.declared.ppm.PpmReason.{PpmReason}
+use Rattle.sixel_picture.specs.declared.ppm.PpmReason.TheVariants as ppm
+use Rattle.sixel_picture.specs.Pictures.{PictureValue}
+use Rattle.sixel_check.specs.declared.rule.Rule.{Rule}
+use Rattle.sixel_check.specs.declared.rule.Rule.TheVariants as rule
+use Rattle.sixel_check.specs.declared.verdict.Finding.{Finding}
+use Rattle.sixel_check.specs.declared.verdict.Verdict.{Verdict}
+use Rattle.sixel_check.specs.declared.verdict.Verdict.TheVariants.{Portable, Broken}
+use Rattle.sixel_run.specs.declared.fault.RunFault.{RunFault}
+use Rattle.sixel_run.specs.declared.fault.RunFault.TheVariants.{Grammar, Ppm, NotRgb, NoBox, OutOfMemory, Read, Write}
+
+abbrev pub Text : Type 0
+Text = List ℕ
+
+-- the text begins with this part
+abbrev pub BeginsWith : Text → Text → Type 0
+BeginsWith text part = (rest : Text) × (text ≡ part ++ rest)
+
+-- ---- lines
+
+-- each part after one space
+abbrev pub spaced : List Text → Text
+spaced parts = flat_map (λ part. 32 ∷ part) parts
+
+-- a line: its parts, one space between two, and a line feed
+abbrev pub line : Text → List Text → Text
+line first parts = first ++ spaced parts ++ 10 ∷ []
+
+-- each number in decimal digits
+abbrev pub numbers : List ℕ → List Text
+numbers ns = map decimal ns
+
+-- a number below 100 in two decimal digits
+abbrev pub two_digits : ℕ → Text
+two_digits n = (48 + n / 10) ∷ (48 + n % 10) ∷ []
+
+-- ---- events
+
+abbrev pub kind_name : Bool → Text
+kind_name eight = if eight then codes "8bit" else codes "7bit"
+
+abbrev pub command_parts : Command → List Text
+command_parts (Sixel bits) = codes "sixel" ∷ numbers (bits ∷ [])
+command_parts (Repeat count bits) = codes "repeat" ∷ numbers (count ∷ bits ∷ [])
+command_parts (Raster pan pad width height) = codes "raster" ∷ numbers (pan ∷ pad ∷ width ∷ height ∷ [])
+command_parts (Select register) = codes "select" ∷ numbers (register ∷ [])
+command_parts (Define register system x y z) = codes "define" ∷ numbers (register ∷ system ∷ x ∷ y ∷ z ∷ [])
+command_parts CarriageReturn = codes "return" ∷ []
+command_parts NextLine = codes "newline" ∷ []
+
+abbrev pub event_parts : Event → List Text
+event_parts (Start eight parameters) = codes "start" ∷ kind_name eight ∷ numbers parameters.items
+event_parts (Step command) = command_parts command
+event_parts (Finish eight) = codes "end" ∷ kind_name eight ∷ []
+
+-- the line of an event, its place first
+abbrev pub event_line : Placed → Text
+event_line p = line (decimal p.place) (event_parts p.event)
+
+-- a line for each event
+abbrev pub list_text : List Placed → Text
+list_text events = flat_map event_line events
+
+-- ---- faults
+
+abbrev pub reason_name : Reason → Text
+reason_name NotSixel = codes "NotSixel"
+reason_name BadByte = codes "BadByte"
+reason_name NumberTooLarge = codes "NumberTooLarge"
+reason_name FieldCount = codes "FieldCount"
+reason_name BadRepeat = codes "BadRepeat"
+reason_name BadTerminator = codes "BadTerminator"
+reason_name Truncated = codes "Truncated"
+reason_name TooLong = codes "TooLong"
+reason_name Trailing = codes "Trailing"
+
+abbrev pub ppm_reason_name : PpmReason → Text
+ppm_reason_name ppm.Header = codes "Header"
+ppm_reason_name ppm.Size = codes "Size"
+ppm_reason_name ppm.Maxval = codes "Maxval"
+ppm_reason_name ppm.Sample = codes "Sample"
+ppm_reason_name ppm.Short = codes "Short"
+ppm_reason_name ppm.Trailing = codes "Trailing"
+ppm_reason_name ppm.TooManyColours = codes "TooManyColours"
+
+abbrev pub fault_parts : RunFault → List Text
+fault_parts (Grammar fault) = reason_name fault.reason ∷ codes "at" ∷ decimal fault.place ∷ []
+fault_parts (Ppm reason place) = ppm_reason_name reason ∷ codes "at" ∷ decimal place ∷ []
+fault_parts NotRgb = codes "NotRgb" ∷ []
+fault_parts NoBox = codes "NoBox" ∷ []
+fault_parts OutOfMemory = codes "out of memory" ∷ []
+fault_parts Read = codes "read failed" ∷ []
+fault_parts Write = codes "write failed" ∷ []
+
+abbrev pub fault_line : RunFault → Text
+fault_line fault = line (codes "sixel:") (fault_parts fault)
+
+-- ---- verdicts
+
+abbrev pub rule_name : Rule → Text
+rule_name rule.RasterFirst = codes "RasterFirst"
+rule_name rule.RasterTwice = codes "RasterTwice"
+rule_name rule.Ratio = codes "Ratio"
+rule_name rule.BoxSize = codes "BoxSize"
+rule_name rule.Register = codes "Register"
+rule_name rule.ColourValue = codes "ColourValue"
+rule_name rule.RepeatZero = codes "RepeatZero"
+rule_name rule.Unselected = codes "Unselected"
+rule_name rule.Undefined = codes "Undefined"
+rule_name rule.Redefined = codes "Redefined"
+rule_name rule.Outside = codes "Outside"
+rule_name rule.Uncovered = codes "Uncovered"
+rule_name rule.EightBit = codes "EightBit"
+
+-- the column and the row, where there is a pixel
+abbrev pub column_and_row : Option (ℕ × ℕ) → List Text
+column_and_row None = []
+column_and_row (Some pixel) = numbers (pixel.0 ∷ pixel.1 ∷ [])
+
+-- the pixel of a rule that names one
+abbrev pub pixel_parts : Rule → Option (ℕ × ℕ) → List Text
+pixel_parts rule.Outside pixel = column_and_row pixel
+pixel_parts rule.Uncovered pixel = column_and_row pixel
+pixel_parts _ pixel = []
+
+-- the rule, the place and the pixel
+abbrev pub finding_line : Finding → Text
+finding_line f = line (codes "broken") (rule_name f.rule ∷ decimal f.place ∷ pixel_parts f.rule f.pixel)
+
+-- the width and the height
+abbrev pub portable_line : PictureValue → Text
+portable_line p = line (codes "portable") (numbers (p.width ∷ p.height ∷ []))
+
+abbrev pub verdict_line : Verdict → Text
+verdict_line (Portable picture) = portable_line picture
+verdict_line (Broken finding) = finding_line finding

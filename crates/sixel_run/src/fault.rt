@@ -1,0 +1,76 @@
+//! Why a run is refused.
+
+use sixel_grammar::{Fault, InputFault};
+use sixel_picture::{PpmFault, PpmReason};
+use std::alloc::AllocError;
+use thiserror::Error;
+
+/// Why a run gave no result. Its `Display` is the variant's name; the line that the program prints is that of
+/// `lines::fault_line`.
+#[derive(Clone, Copy, Debug, PartialEq, Eq, Error)]
+pub enum RunFault {
+    /// The input is no document: why, and after how many bytes.
+    #[error("Grammar")]
+    Grammar(Fault),
+    /// The input is no picture file: why, and after how many bytes.
+    #[error("Ppm")]
+    Ppm { reason: PpmReason, place: u64 },
+    /// A pixel's colour is one of hue, lightness and saturation, which a PPM has no place for. Nothing was written.
+    #[error("NotRgb")]
+    NotRgb,
+    /// A screen as large as the declared box was asked for, and no box is declared, or a side of it isn't from 1 to
+    /// 4,096 pixels. Nothing was written.
+    #[error("NoBox")]
+    NoBox,
+    #[error("OutOfMemory")]
+    OutOfMemory,
+    /// The input could not be read.
+    #[error("Read")]
+    Read,
+    /// The output could not be written or flushed; a front of it was written.
+    #[error("Write")]
+    Write,
+}
+
+impl From<InputFault> for RunFault {
+    ghost use Rattle.std.specs.Prelude.{◌≡◌};
+    ghost use Rattle.sixel_run.specs.Conversions.{of_input};
+
+    ghost from_gives = { λ fault result. result ≡ of_input fault };
+
+    fn from(fault: InputFault) -> RunFault {
+        match fault {
+            InputFault::Grammar(fault) => RunFault::Grammar(fault),
+            InputFault::OutOfMemory => RunFault::OutOfMemory,
+            InputFault::Read => RunFault::Read,
+        }
+    }
+}
+
+impl From<PpmFault> for RunFault {
+    ghost use Rattle.std.specs.Prelude.{◌≡◌};
+    ghost use Rattle.sixel_run.specs.Conversions.{of_ppm};
+
+    ghost from_gives = { λ fault result. result ≡ of_ppm fault };
+
+    fn from(fault: PpmFault) -> RunFault {
+        match fault {
+            PpmFault::Format { reason, place } => RunFault::Ppm { reason, place },
+            PpmFault::NotRgb => RunFault::NotRgb,
+            PpmFault::OutOfMemory => RunFault::OutOfMemory,
+            PpmFault::Read => RunFault::Read,
+            PpmFault::Write => RunFault::Write,
+        }
+    }
+}
+
+impl From<AllocError> for RunFault {
+    ghost use Rattle.std.specs.Prelude.{◌≡◌};
+    ghost use Rattle.sixel_run.specs.declared.fault.RunFault.TheVariants.{OutOfMemory};
+
+    ghost from_gives = { λ fault result. result ≡ OutOfMemory };
+
+    fn from(_: AllocError) -> RunFault {
+        RunFault::OutOfMemory
+    }
+}

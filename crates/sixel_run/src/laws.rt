@@ -1,0 +1,41 @@
+//! Laws about the definitions. Each function's contract is the law.
+
+ghost use Rattle.std.specs.Prelude.{◌≡◌, ℕ, List, Result};
+ghost use Rattle.sixel_picture.specs.Profiles.{count_of};
+ghost use Rattle.sixel_picture.specs.declared.profile.Profile.{Profile};
+ghost use Rattle.sixel_run.specs.declared.fault.RunFault.{RunFault};
+ghost use Rattle.sixel_run.specs.declared.task.Status.{Status};
+ghost use Rattle.sixel_run.specs.declared.task.Task.{Task};
+ghost use Rattle.sixel_run.specs.Laws.{BoxIsShown, EncodedAnswers, EncodedChecks, EncodedIsPortable, FaultIsShown};
+ghost use Rattle.sixel_run.specs.Laws.{NoBoxIsShown};
+ghost use Rattle.sixel_run.specs.Outputs.{Gives};
+ghost use Rattle.sixel_run.specs.Texts.{Text};
+
+/// A task gives some text and answer for any bytes.
+pub fn tasks_give_an_output()
+    ensures { (task : Task) (bytes : List ℕ) →
+        (text : Text) × (answer : Result Status RunFault) × Gives task bytes text answer }
+{}
+
+/// A task gives one text and answer for the same bytes.
+pub fn tasks_give_one_output()
+    ensures { (task : Task) (bytes : List ℕ) (first second : Text) (a b : Result Status RunFault) →
+        Gives task bytes first a → Gives task bytes second b → (first ≡ second) × (a ≡ b) }
+{}
+
+/// The text that `encode` writes of any picture is a document whose verdict, in the picture's profile, is that picture,
+/// palette included, and which each terminal of the class with room shows. Whatever a check may answer for it is that
+/// this picture is portable, or want of memory, or that a read failed; and its line says so.
+pub fn encoded_pictures_are_portable()
+    ensures portable { (profile : Profile) → EncodedIsPortable (count_of profile) }
+    ensures answered { (profile : Profile) → EncodedAnswers (count_of profile) }
+    ensures checked { (profile : Profile) → EncodedChecks (count_of profile) }
+{}
+
+/// `show --box` gives what `show` gives on a screen with the sides of the declared box, where a screen can have them.
+/// Of another document it gives `NoBox` and no text, and of bytes that are no document their fault, as `show` does.
+pub fn a_box_is_shown_as_its_screen()
+    ensures shown { BoxIsShown }
+    ensures refused { NoBoxIsShown }
+    ensures faulty { FaultIsShown }
+{}

@@ -1,0 +1,17 @@
+//! The tasks of the program: each reads a source, writes to a sink, and ends with a status or a fault.
+#![tactic(auto)]
+
+mod fault;
+pub mod laws;
+mod lines;
+mod running;
+mod sixel_line;
+mod task;
+
+pub use fault::RunFault;
+pub use lines::{
+    Line, fault_line, finding_line, verdict_line, write_fault, write_finding, write_verdict,
+};
+pub use running::check::{judge, status_of};
+pub use running::run;
+pub use task::{MOST_SCREEN_SIDE, Status, Task};

@@ -1,0 +1,292 @@
+//! The lines that the program writes.
+
+ghost use Rattle.std.specs.Prelude.{◌≡◌, ◌+◌, ◌*◌, ◌≤◌, ◌++◌, ◌∷◌, [], codes, length, decimal};
+ghost use Rattle.arrayvec.specs.ArrayVec.{array_vec_len};
+ghost use Rattle.sixel_grammar.specs.Devices.{CountsFailure, NeverFlushes, Puts};
+ghost use Rattle.sixel_run.specs.Texts.{event_line, event_parts, fault_line, finding_line, kind_name, numbers, pixel_parts};
+ghost use Rattle.sixel_run.specs.Texts.{portable_line, ppm_reason_name, reason_name, rule_name, spaced, verdict_line};
+
+use crate::fault::RunFault;
+use arrayvec::ArrayVec;
+use itoa::Buffer;
+use sixel_check::{Finding, Rule, Verdict};
+use sixel_grammar::{Command, DeviceFault, Event, Placed, Reason, Sink, put_all};
+use sixel_picture::{Picture, PpmReason};
+
+/// A line, with its line feed: of an event at most 58 bytes, of a fault at most 46, of a verdict at most 82.
+pub type Line = ArrayVec<u8, 96>;
+
+fn push_all(line: &mut Line, text: &[u8])
+    requires { array_vec_len line.old + length text.now ≤ 96 }
+    ensures items { line.new.items ≡ line.old.items ++ text.now }
+    ensures len { array_vec_len line.new ≡ array_vec_len line.old + length text.now }
+{
+    let _ = line.try_extend_from_slice(text);
+}
+
+/// A number after a space: at most 20 digits.
+fn push_number(line: &mut Line, number: u64)
+    requires { array_vec_len line.old + 21 ≤ 96 }
+    ensures items { line.new.items ≡ line.old.items ++ 32 ∷ decimal number }
+    ensures len { array_vec_len line.new ≤ array_vec_len line.old + 21 }
+{
+    let mut buffer = Buffer::new();
+    line.push(b' ');
+    push_all(line, buffer.format(number).as_bytes());
+}
+
+/// A number of a document after a space: at most 5 digits.
+fn push_small(line: &mut Line, number: u16)
+    requires { array_vec_len line.old + 6 ≤ 96 }
+    ensures items { line.new.items ≡ line.old.items ++ 32 ∷ decimal number }
+    ensures len { array_vec_len line.new ≤ array_vec_len line.old + 6 }
+{
+    let mut buffer = Buffer::new();
+    line.push(b' ');
+    push_all(line, buffer.format(number).as_bytes());
+}
+
+/// Numbers of a document, each after a space.
+fn push_numbers(line: &mut Line, given: &[u16])
+    requires { array_vec_len line.old + 6 * length given.now ≤ 96 }
+    ensures items { line.new.items ≡ line.old.items ++ spaced (numbers given.now) }
+    ensures len { array_vec_len line.new ≤ array_vec_len line.old + 6 * length given.now }
+{
+    for number in given {
+        push_small(line, *number);
+    }
+}
+
+/// A name with the space before it, and numbers.
+fn push_part(line: &mut Line, name: &[u8], given: &[u16])
+    requires { array_vec_len line.old + length name.now + 6 * length given.now ≤ 96 }
+    ensures items { line.new.items ≡ line.old.items ++ (name.now ++ spaced (numbers given.now)) }
+    ensures len { array_vec_len line.new ≤ array_vec_len line.old + length name.now + 6 * length given.now }
+{
+    push_all(line, name);
+    push_numbers(line, given);
+}
+
+fn push_kind(line: &mut Line, eight: bool)
+    requires { array_vec_len line.old + 5 ≤ 96 }
+    ensures items { line.new.items ≡ line.old.items ++ 32 ∷ kind_name eight }
+    ensures len { array_vec_len line.new ≡ array_vec_len line.old + 5 }
+{
+    push_all(line, if eight { b" 8bit" } else { b" 7bit" });
+}
+
+fn push_command(line: &mut Line, command: &Command)
+    requires { array_vec_len line.old ≤ 20 }
+    ensures items { line.new.items ≡ line.old.items ++ spaced (event_parts (Event.Step command.now)) }
+    ensures len { array_vec_len line.new ≤ 60 }
+{
+    match command {
+        Command::Sixel(bits) => push_part(line, b" sixel", &[u16::from(*bits)]),
+        Command::Repeat { count, bits } => {
+            push_part(line, b" repeat", &[*count, u16::from(*bits)])
+        }
+        Command::Raster {
+            pan,
+            pad,
+            width,
+            height,
+        } => push_part(line, b" raster", &[*pan, *pad, *width, *height]),
+        Command::Select(register) => push_part(line, b" select", &[*register]),
+        Command::Define {
+            register,
+            system,
+            x,
+            y,
+            z,
+        } => push_part(line, b" define", &[*register, *system, *x, *y, *z]),
+        Command::CarriageReturn => push_all(line, b" return"),
+        Command::NextLine => push_all(line, b" newline"),
+    }
+}
+
+/// The line of an event.
+pub fn event_line(placed: &Placed) -> Line
+    ensures { result.items ≡ event_line placed.now }
+{
+    let mut line = ArrayVec::new();
+    let mut buffer = Buffer::new();
+    push_all(&mut line, buffer.format(placed.place).as_bytes());
+    match &placed.event {
+        Event::Start { eight, parameters } => {
+            push_all(&mut line, b" start");
+            push_kind(&mut line, *eight);
+            push_numbers(&mut line, parameters.as_slice());
+        }
+        Event::Step(command) => push_command(&mut line, command),
+        Event::Finish { eight } => {
+            push_all(&mut line, b" end");
+            push_kind(&mut line, *eight);
+        }
+    }
+    line.push(b'\n');
+    line
+}
+
+fn reason_name(reason: Reason) -> &'static str
+    ensures text { result.now ≡ reason_name reason }
+    ensures short { length result.now ≤ 14 }
+{
+    match reason {
+        Reason::NotSixel => "NotSixel",
+        Reason::BadByte => "BadByte",
+        Reason::NumberTooLarge => "NumberTooLarge",
+        Reason::FieldCount => "FieldCount",
+        Reason::BadRepeat => "BadRepeat",
+        Reason::BadTerminator => "BadTerminator",
+        Reason::Truncated => "Truncated",
+        Reason::TooLong => "TooLong",
+        Reason::Trailing => "Trailing",
+    }
+}
+
+fn ppm_reason_name(reason: PpmReason) -> &'static str
+    ensures text { result.now ≡ ppm_reason_name reason }
+    ensures short { length result.now ≤ 14 }
+{
+    match reason {
+        PpmReason::Header => "Header",
+        PpmReason::Size => "Size",
+        PpmReason::Maxval => "Maxval",
+        PpmReason::Sample => "Sample",
+        PpmReason::Short => "Short",
+        PpmReason::Trailing => "Trailing",
+        PpmReason::TooManyColours => "TooManyColours",
+    }
+}
+
+/// A reason, and the place where it was met: at most 38 bytes.
+fn push_reason(line: &mut Line, reason: &str, place: u64)
+    requires { array_vec_len line.old + length reason.now ≤ 72 }
+    ensures items { line.new.items ≡ line.old.items ++ (reason.now ++ spaced (codes "at" ∷ decimal place ∷ [])) }
+    ensures len { array_vec_len line.new ≤ array_vec_len line.old + length reason.now + 24 }
+{
+    push_all(line, reason.as_bytes());
+    push_all(line, b" at");
+    push_number(line, place);
+}
+
+/// The line of a fault.
+pub fn fault_line(fault: &RunFault) -> Line
+    ensures { result.items ≡ fault_line fault.now }
+{
+    let mut line = ArrayVec::new();
+    push_all(&mut line, b"sixel: ");
+    match fault {
+        RunFault::Grammar(fault) => push_reason(&mut line, reason_name(fault.reason), fault.place),
+        RunFault::Ppm { reason, place } => push_reason(&mut line, ppm_reason_name(*reason), *place),
+        RunFault::NotRgb => push_all(&mut line, b"NotRgb"),
+        RunFault::NoBox => push_all(&mut line, b"NoBox"),
+        RunFault::OutOfMemory => push_all(&mut line, b"out of memory"),
+        RunFault::Read => push_all(&mut line, b"read failed"),
+        RunFault::Write => push_all(&mut line, b"write failed"),
+    }
+    line.push(b'\n');
+    line
+}
+
+/// Writes the line of a fault, or on an `Err` a front of it. It doesn't flush.
+pub fn write_fault<K: Sink>(fault: &RunFault, out: &mut K) -> Result<(), DeviceFault>
+    ensures bytes { Puts result (K.taken out.old) (K.taken out.new) (fault_line fault.now) }
+    ensures unflushed { NeverFlushes (K.is_flushed out.old) (K.is_flushed out.new) }
+    ensures failures { CountsFailure result (K.failure_count out.old) (K.failure_count out.new) }
+{
+    let line = fault_line(fault);
+    put_all(out, line.as_slice())
+}
+
+fn rule_name(rule: Rule) -> &'static str
+    ensures text { result.now ≡ rule_name rule }
+    ensures short { length result.now ≤ 11 }
+{
+    match rule {
+        Rule::RasterFirst => "RasterFirst",
+        Rule::RasterTwice => "RasterTwice",
+        Rule::Ratio => "Ratio",
+        Rule::BoxSize => "BoxSize",
+        Rule::Register => "Register",
+        Rule::ColourValue => "ColourValue",
+        Rule::RepeatZero => "RepeatZero",
+        Rule::Unselected => "Unselected",
+        Rule::Undefined => "Undefined",
+        Rule::Redefined => "Redefined",
+        Rule::Outside => "Outside",
+        Rule::Uncovered => "Uncovered",
+        Rule::EightBit => "EightBit",
+    }
+}
+
+/// The pixel of a finding whose rule names one.
+fn push_pixel(line: &mut Line, finding: &Finding)
+    requires { array_vec_len line.old ≤ 50 }
+    ensures items { line.new.items ≡ line.old.items ++ spaced (pixel_parts finding.now.rule finding.now.pixel) }
+    ensures len { array_vec_len line.new ≤ 92 }
+{
+    match (finding.rule, finding.pixel) {
+        (Rule::Outside | Rule::Uncovered, Some((x, y))) => {
+            push_number(line, x);
+            push_number(line, y);
+        }
+        _ => {}
+    }
+}
+
+/// The line of a finding.
+pub fn finding_line(finding: &Finding) -> Line
+    ensures { result.items ≡ finding_line finding.now }
+{
+    let mut line = ArrayVec::new();
+    push_all(&mut line, b"broken ");
+    push_all(&mut line, rule_name(finding.rule).as_bytes());
+    push_number(&mut line, finding.place);
+    push_pixel(&mut line, finding);
+    line.push(b'\n');
+    line
+}
+
+/// Writes the line of a finding, or on an `Err` a front of it. It doesn't flush.
+pub fn write_finding<K: Sink>(finding: &Finding, out: &mut K) -> Result<(), DeviceFault>
+    ensures bytes { Puts result (K.taken out.old) (K.taken out.new) (finding_line finding.now) }
+    ensures unflushed { NeverFlushes (K.is_flushed out.old) (K.is_flushed out.new) }
+    ensures failures { CountsFailure result (K.failure_count out.old) (K.failure_count out.new) }
+{
+    put_all(out, finding_line(finding).as_slice())
+}
+
+/// The line of a portable picture.
+fn portable_line(picture: &Picture) -> Line
+    ensures { result.items ≡ portable_line picture.now }
+{
+    let mut line = ArrayVec::new();
+    push_all(&mut line, b"portable");
+    push_number(&mut line, picture.width() as u64);
+    push_number(&mut line, picture.height() as u64);
+    line.push(b'\n');
+    line
+}
+
+/// Writes the line of a verdict, or on an `Err` a front of it. It doesn't flush.
+pub fn write_verdict<K: Sink>(verdict: &Verdict, out: &mut K) -> Result<(), DeviceFault>
+    ensures bytes { Puts result (K.taken out.old) (K.taken out.new) (verdict_line verdict.now) }
+    ensures unflushed { NeverFlushes (K.is_flushed out.old) (K.is_flushed out.new) }
+    ensures failures { CountsFailure result (K.failure_count out.old) (K.failure_count out.new) }
+{
+    match verdict {
+        Verdict::Portable(picture) => put_all(out, portable_line(picture).as_slice()),
+        Verdict::Broken(finding) => write_finding(finding, out),
+    }
+}
+
+/// The line of a verdict.
+pub fn verdict_line(verdict: &Verdict) -> Line
+    ensures { result.items ≡ verdict_line verdict.now }
+{
+    match verdict {
+        Verdict::Portable(picture) => portable_line(picture),
+        Verdict::Broken(finding) => finding_line(finding),
+    }
+}

@@ -1,0 +1,59 @@
+//! Checks a sixel picture, and writes the verdict.
+
+ghost use Rattle.std.specs.Prelude.{◌≡◌, ◌≢◌, [], Err, IfSome, Some};
+ghost use Rattle.sixel_picture.specs.Profiles.{count_of};
+ghost use Rattle.sixel_check.specs.Growth.{MayGrowIn};
+ghost use Rattle.sixel_run.specs.declared.fault.RunFault.TheVariants.{Read};
+ghost use Rattle.sixel_run.specs.Outputs.{CheckGives, CountsWrites, WroteBy, WroteNothing, answer_of, failures_by, line_of};
+ghost use Rattle.sixel_run.specs.Outputs.{status_of};
+
+use crate::fault::RunFault;
+use crate::lines::write_verdict;
+use crate::task::Status;
+use sixel_check::Verdict;
+use sixel_grammar::{Sink, Source};
+use sixel_picture::Profile;
+use std::alloc::Global;
+
+/// Reads the whole input, and writes the line of the verdict. It doesn't flush.
+pub fn check<S: Source, K: Sink>(
+    alloc: Global,
+    profile: Profile,
+    input: &mut S,
+    output: &mut K,
+) -> Result<Status, RunFault>
+    ensures wrote { IfSome (S.remaining input.old) (λ bytes.
+        WroteBy (CheckGives (count_of profile) bytes) WroteNothing result (K.taken output.old) (K.taken output.new)) }
+    ensures memory { result ≡ Err RunFault.OutOfMemory → IfSome (S.remaining input.old) (MayGrowIn (count_of profile)) }
+    ensures reads { S.failure_count input.new ≡ failures_by Read result (S.failure_count input.old) }
+    ensures writes { CountsWrites result (K.failure_count output.old) (K.failure_count output.new) }
+{
+    let verdict = sixel_check::check(alloc, profile, input)?;
+    match write_verdict(&verdict, output) {
+        Ok(()) => Ok(status_of(&verdict)),
+        Err(_) => Err(RunFault::Write),
+    }
+}
+
+/// Reads the whole input, and answers with the verdict, whose line isn't written.
+pub fn judge<S: Source>(alloc: Global, profile: Profile, input: &mut S) -> Result<Verdict, RunFault>
+    ensures judged { IfSome (S.remaining input.old) (λ bytes.
+        WroteBy (CheckGives (count_of profile) bytes) WroteNothing
+        (answer_of result) (Some []) (Some (line_of result))) }
+    ensures memory { answer_of result ≡ Err RunFault.OutOfMemory →
+        IfSome (S.remaining input.old) (MayGrowIn (count_of profile)) }
+    ensures reads { S.failure_count input.new ≡ failures_by Read (answer_of result) (S.failure_count input.old) }
+    ensures unwritten { answer_of result ≢ Err RunFault.Write }
+{
+    Ok(sixel_check::check(alloc, profile, input)?)
+}
+
+/// What comes of a verdict.
+pub fn status_of(verdict: &Verdict) -> Status
+    ensures { result ≡ status_of verdict.now }
+{
+    match verdict {
+        Verdict::Portable(_) => Status::Done,
+        Verdict::Broken(finding) => Status::Broken(*finding),
+    }
+}

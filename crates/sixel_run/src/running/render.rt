@@ -1,0 +1,37 @@
+//! Writes a portable sixel picture as a PPM.
+
+ghost use Rattle.std.specs.Prelude.{◌≡◌, Err, IfSome};
+ghost use Rattle.sixel_picture.specs.Profiles.{count_of};
+ghost use Rattle.sixel_check.specs.Growth.{MayGrowIn};
+ghost use Rattle.sixel_run.specs.declared.fault.RunFault.TheVariants.{Read};
+ghost use Rattle.sixel_run.specs.Outputs.{CountsWrites, RenderGives, WroteBy, WroteNothing, failures_by};
+
+use crate::fault::RunFault;
+use crate::task::Status;
+use sixel_check::Verdict;
+use sixel_grammar::{Sink, Source};
+use sixel_picture::{Profile, write_ppm};
+use std::alloc::Global;
+
+/// Reads the whole input, and writes the picture of a portable one; of a broken one it writes nothing. It doesn't
+/// flush.
+pub fn render<S: Source, K: Sink>(
+    alloc: Global,
+    profile: Profile,
+    input: &mut S,
+    output: &mut K,
+) -> Result<Status, RunFault>
+    ensures wrote { IfSome (S.remaining input.old) (λ bytes.
+        WroteBy (RenderGives (count_of profile) bytes) WroteNothing result (K.taken output.old) (K.taken output.new)) }
+    ensures memory { result ≡ Err RunFault.OutOfMemory → IfSome (S.remaining input.old) (MayGrowIn (count_of profile)) }
+    ensures reads { S.failure_count input.new ≡ failures_by Read result (S.failure_count input.old) }
+    ensures writes { CountsWrites result (K.failure_count output.old) (K.failure_count output.new) }
+{
+    match sixel_check::check(alloc, profile, input)? {
+        Verdict::Portable(picture) => {
+            write_ppm(&picture, output)?;
+            Ok(Status::Done)
+        }
+        Verdict::Broken(finding) => Ok(Status::Broken(finding)),
+    }
+}

@@ -1,0 +1,137 @@
+//! Shows a sixel picture as one terminal would draw it, as a PPM.
+
+ghost use Rattle.std.specs.Prelude.{◌≡◌, ◌≢◌, ◌*◌, ◌≤◌, ◌<◌, ℕ, Err, IfOk, IfSome, IsTrue, List, None, length};
+ghost use Rattle.sixel_grammar.specs.declared.command.Placed.{Placed as Place};
+ghost use Rattle.sixel_grammar.specs.Document.{Document, events_of};
+ghost use Rattle.sixel_picture.specs.Ppm.{is_file_side};
+ghost use Rattle.sixel_picture.specs.Profiles.{count_of};
+ghost use Rattle.sixel_picture.specs.declared.profile.Profile.{Profile as AProfile};
+ghost use Rattle.sixel_picture.specs.declared.colour.Parts.TheVariants.{Rgb};
+ghost use Rattle.sixel_terminal.specs.Drawing.{screen_on};
+ghost use Rattle.sixel_terminal.specs.Limits.{terminal_fault};
+ghost use Rattle.sixel_run.specs.declared.fault.RunFault.TheVariants.{Read};
+ghost use Rattle.sixel_run.specs.Outputs.{CountsWrites, ShowGives, WroteBy, WroteNothing, failures_by};
+ghost use Rattle.sixel_run.specs.Screens.{greys, percent_at, show_choices, show_terminal, white_screen};
+
+use crate::fault::RunFault;
+use crate::task::Status;
+use sixel_grammar::{Placed, Sink, Source, read_all};
+use sixel_picture::{Colour, Profile, write_ppm_colours};
+use sixel_terminal::{Choices, Ground, Terminal};
+use std::alloc::{AllocError, Global};
+
+/// The choices of the terminal: what is asked for, and beside it a screen as large as asked for, on which the picture
+/// begins at the top left.
+pub fn show_choices(showing: bool, fill: bool, selects: bool, width: u32, height: u32) -> Choices
+    ensures { result ≡ show_choices showing fill selects width height }
+{
+    Choices {
+        binds_at_showing: showing,
+        selects,
+        ground: if fill {
+            Ground::Filled(0)
+        } else {
+            Ground::Kept
+        },
+        selected: 0,
+        zero: 1,
+        clamps: true,
+        clips: false,
+        eight_bit: true,
+        tall: 1,
+        screen_width: width,
+        screen_height: height,
+        origin_x: 0,
+        origin_y: 0,
+    }
+}
+
+/// Reads the whole document, draws it on the terminal of these choices, and writes the screen. It doesn't flush.
+pub fn show<S: Source, K: Sink>(
+    alloc: Global,
+    profile: Profile,
+    choices: Choices,
+    input: &mut S,
+    output: &mut K,
+) -> Result<Status, RunFault>
+    requires { terminal_fault choices (greys profile) (white_screen choices) ≡ None }
+    ensures wrote { IfSome (S.remaining input.old) (λ bytes.
+        WroteBy (ShowGives (show_terminal profile choices) bytes) WroteNothing result
+        (K.taken output.old) (K.taken output.new)) }
+    ensures reads { S.failure_count input.new ≡ failures_by Read result (S.failure_count input.old) }
+    ensures writes { CountsWrites result (K.failure_count output.old) (K.failure_count output.new) }
+{
+    let events = read_all(alloc, input)?;
+    let shown = screen_after(alloc, profile, choices, &events)?;
+    write_screen(choices, &shown, output)
+}
+
+/// Writes these colours of a screen.
+pub fn write_screen<K: Sink>(
+    choices: Choices,
+    shown: &[Colour],
+    output: &mut K,
+) -> Result<Status, RunFault>
+    requires width { IsTrue (is_file_side choices.screen_width) }
+    requires height { IsTrue (is_file_side choices.screen_height) }
+    requires whole { length shown.now ≡ choices.screen_width * choices.screen_height }
+    ensures wrote { (profile : AProfile) (events : List Place) (bytes : List ℕ) → Document events bytes →
+        shown.now ≡ screen_on (show_terminal profile choices) (events_of events) →
+        WroteBy (ShowGives (show_terminal profile choices) bytes) WroteNothing result
+        (K.taken output.old) (K.taken output.new) }
+    ensures unread { result ≢ Err Read }
+    ensures writes { CountsWrites result (K.failure_count output.old) (K.failure_count output.new) }
+{
+    write_ppm_colours(choices.screen_width, choices.screen_height, shown, output)?;
+    Ok(Status::Done)
+}
+
+/// The colours of the whole screen after the events.
+#[tactic(auto, unfolding(crate::specs::Screens::show_terminal))]
+pub fn screen_after(
+    alloc: Global,
+    profile: Profile,
+    choices: Choices,
+    events: &[Placed],
+) -> Result<Vec<Colour>, AllocError>
+    requires { terminal_fault choices (greys profile) (white_screen choices) ≡ None }
+    ensures { IfOk result (λ shown. shown.items ≡ screen_on (show_terminal profile choices) (events_of events.now)) }
+{
+    let pixels = (choices.screen_width * choices.screen_height) as usize;
+    let screen = vec![in alloc; grey(100); pixels]?;
+    match Terminal::new(choices, greys(alloc, profile)?, screen) {
+        Ok(terminal) => terminal.show(alloc, events),
+        Err(_) => unreachable!(),
+    }
+}
+
+fn grey(percent: u8) -> Colour
+    requires { percent ≤ 100 }
+    ensures { result ≡ Rgb percent percent percent }
+{
+    Colour::rgb(percent, percent, percent).unwrap()
+}
+
+/// The percentage of the grey as which a register starts.
+fn percent_at(profile: Profile, register: u16) -> u8
+    requires { register < count_of profile }
+    ensures value { result ≡ percent_at profile register }
+    ensures in_range { result ≤ 100 }
+{
+    match profile {
+        Profile::Registers16 => 6 * register as u8,
+        Profile::Registers256 => (register % 101) as u8,
+    }
+}
+
+/// The starting colours of the registers of the profile.
+#[tactic(auto, using(crate::proofs::ScreenLemmas::greys_more))]
+fn greys(alloc: Global, profile: Profile) -> Result<Vec<Colour>, AllocError>
+    ensures { IfOk result (λ colours. colours.items ≡ greys profile) }
+{
+    let mut colours = Vec::with_capacity(alloc, profile.count() as usize)?;
+    for register in 0..profile.count() {
+        colours.push(grey(percent_at(profile, register)))?;
+    }
+    Ok(colours)
+}

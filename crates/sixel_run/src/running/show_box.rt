@@ -1,0 +1,84 @@
+//! Shows a sixel picture on a screen as large as its declared box, as a PPM.
+
+ghost use Rattle.std.specs.Prelude.{◌≡◌, IfSome, IsTrue, option_map};
+ghost use Rattle.sixel_grammar.specs.Document.{events_of};
+ghost use Rattle.sixel_picture.specs.Ppm.{is_file_side};
+ghost use Rattle.sixel_picture.specs.Events.{raster_of};
+ghost use Rattle.sixel_run.specs.declared.fault.RunFault.TheVariants.{Read};
+ghost use Rattle.sixel_run.specs.Outputs.{CountsWrites, ShowBoxGives, WroteBy, WroteNothing, failures_by};
+ghost use Rattle.sixel_run.specs.Screens.{declared_screen, screen_terminal, sides_of_box};
+
+use super::show::{screen_after, show_choices, write_screen};
+use crate::fault::RunFault;
+use crate::task::{MOST_SCREEN_SIDE, Status};
+use sixel_grammar::{Command, Event, Placed, Sink, Source, read_all};
+use sixel_picture::Profile;
+use std::alloc::Global;
+
+/// Reads the whole document, draws it on a terminal with a screen as large as the declared box, and writes the screen.
+/// It doesn't flush. The terminal is that of `show` with these choices.
+pub fn show_box<S: Source, K: Sink>(
+    alloc: Global,
+    profile: Profile,
+    showing: bool,
+    fill: bool,
+    selects: bool,
+    input: &mut S,
+    output: &mut K,
+) -> Result<Status, RunFault>
+    ensures wrote { IfSome (S.remaining input.old) (λ bytes.
+        WroteBy (ShowBoxGives (screen_terminal profile showing fill selects) bytes) WroteNothing result
+        (K.taken output.old) (K.taken output.new)) }
+    ensures reads { S.failure_count input.new ≡ failures_by Read result (S.failure_count input.old) }
+    ensures writes { CountsWrites result (K.failure_count output.old) (K.failure_count output.new) }
+{
+    let events = read_all(alloc, input)?;
+    let Some((width, height)) = declared_screen(&events) else {
+        return Err(RunFault::NoBox);
+    };
+    let choices = show_choices(showing, fill, selects, width, height);
+    let shown = screen_after(alloc, profile, choices, &events)?;
+    write_screen(choices, &shown, output)
+}
+
+/// The sides of the screen that is as large as the declared box.
+fn declared_screen(events: &[Placed]) -> Option<(u32, u32)>
+    ensures value { result ≡ declared_screen (events_of events.now) }
+    ensures sides { IfSome result (λ sides. IsTrue (is_file_side sides.0) × IsTrue (is_file_side sides.1)) }
+{
+    for placed in events {
+        if let Some((width, height)) = box_in(&placed.event) {
+            return sides_of_box(width, height);
+        }
+    }
+    None
+}
+
+/// The declared box of raster attributes: its width and its height.
+fn box_in(event: &Event) -> Option<(u16, u16)>
+    ensures { result ≡ option_map (λ a. (a.width, a.height)) (raster_of event.now) }
+{
+    match event {
+        Event::Step(Command::Raster { width, height, .. }) => Some((*width, *height)),
+        _ => None,
+    }
+}
+
+/// The sides of a screen as large as the box, if a screen can be.
+fn sides_of_box(width: u16, height: u16) -> Option<(u32, u32)>
+    ensures value { result ≡ sides_of_box width height }
+    ensures sides { IfSome result (λ sides. IsTrue (is_file_side sides.0) × IsTrue (is_file_side sides.1)) }
+{
+    if is_side(width) && is_side(height) {
+        Some((width as u32, height as u32))
+    } else {
+        None
+    }
+}
+
+/// Whether a side of a box is one that a screen can have.
+fn is_side(side: u16) -> bool
+    ensures { result ≡ is_file_side side }
+{
+    1 <= side && u32::from(side) <= MOST_SCREEN_SIDE
+}

@@ -1,0 +1,148 @@
+//! What calls answer where no memory is left at all, and then once there is enough of it again.
+
+ghost use Rattle.sixel_run.specs.Outputs.{HasSides};
+
+use crate::fault::RunFault;
+use crate::run::run;
+use crate::task::{Status, Task};
+use sixel_check::{Verdict, check};
+use sixel_grammar::{InputFault, SliceSink, SliceSource};
+use sixel_picture::{BandPlane, BytePlane, Colour, Picture, Plane, PpmFault, Profile, read_ppm};
+use std::alloc::{AllocError, Global};
+use std::test::Fail;
+
+/// One black pixel.
+const PIXEL: &[u8] = b"\x1bPq\"1;1;1;1#0;2;0;0;0#0@\x1b\\";
+
+/// Five red pixels.
+const RED: &[u8] = b"P6 5 1 100\nd\0\0d\0\0d\0\0d\0\0d\0\0";
+
+/// Whether a new plane is blank; `None` where it wants memory, and so below.
+fn is_made_blank<P: Plane>(alloc: Global) -> Option<bool> {
+    let plane = P::blank(alloc, 3, 7).ok()?;
+    Some((plane.width(), plane.height(), plane.first_blank()) == (3, 7, Some((0, 0))))
+}
+
+/// Whether the picture has this size, and this colour alone.
+fn is_picture(picture: &Picture, width: u32, colour: Option<Colour>) -> bool {
+    let palette = picture.palette();
+    (picture.width(), picture.height()) == (width, 1)
+        && palette.get(0) == colour
+        && palette.get(1).is_none()
+}
+
+fn reads(alloc: Global, profile: Profile) -> Option<bool> {
+    match read_ppm(alloc, profile, &mut SliceSource::new(RED, 64, None)) {
+        Ok(picture) => Some(is_picture(&picture, 5, Colour::rgb(100, 0, 0))),
+        Err(fault) => (fault != PpmFault::OutOfMemory).then_some(false),
+    }
+}
+
+fn checks(alloc: Global, profile: Profile) -> Option<bool> {
+    match check(alloc, profile, &mut SliceSource::new(PIXEL, 64, None)) {
+        Ok(Verdict::Portable(picture)) => Some(is_picture(&picture, 1, Colour::rgb(0, 0, 0))),
+        Ok(Verdict::Broken(_)) => Some(false),
+        Err(fault) => (fault != InputFault::OutOfMemory).then_some(false),
+    }
+}
+
+fn runs(alloc: Global, task: Task, text: &[u8]) -> Option<bool>
+    requires { HasSides task }
+{
+    let mut room = [0; 16];
+    let mut input = SliceSource::new(PIXEL, 64, None);
+    let mut output = SliceSink::new(&mut room, 64, None);
+    match run(alloc, task, &mut input, &mut output) {
+        Ok(status) => Some(status == Status::Done && output.written() == text),
+        Err(fault) => (fault != RunFault::OutOfMemory).then_some(false),
+    }
+}
+
+/// A call that takes memory. A check pushes the events, and its push makes the plane.
+#[derive(Clone, Copy)]
+enum Call {
+    BlankOfBytes,
+    BlankOfBands,
+    ReadPpm(Profile),
+    Check(Profile),
+    RunCheck(Profile),
+    RunRender(Profile),
+}
+
+const CALLS: [Call; 8] = [
+    Call::BlankOfBytes,
+    Call::BlankOfBands,
+    Call::ReadPpm(Profile::Registers16),
+    Call::ReadPpm(Profile::Registers256),
+    Call::Check(Profile::Registers16),
+    Call::Check(Profile::Registers256),
+    Call::RunCheck(Profile::Registers16),
+    Call::RunRender(Profile::Registers256),
+];
+
+/// Whether the call gives what it should. A copy of its own in each place would need more stack at the next one.
+#[inline(never)]
+fn answer(alloc: Global, call: Call) -> Option<bool> {
+    match call {
+        Call::BlankOfBytes => is_made_blank::<BytePlane>(alloc),
+        Call::BlankOfBands => is_made_blank::<BandPlane>(alloc),
+        Call::ReadPpm(profile) => reads(alloc, profile),
+        Call::Check(profile) => checks(alloc, profile),
+        Call::RunCheck(profile) => runs(alloc, Task::Check { profile }, b"portable 1 1\n"),
+        Call::RunRender(profile) => runs(alloc, Task::Render { profile }, b"P6\n1 1\n100\n\0\0\0"),
+    }
+}
+
+/// How many blocks are held at most. A large one that nothing is written to takes three pages of real memory.
+const MOST: usize = 20_000;
+
+/// All memory that is granted, in blocks of half the size again and again, down to one byte; `None` where so many are
+/// not all, as under `rt try`.
+fn all_memory(alloc: Global) -> Result<Option<Vec<Vec<u8>>>, AllocError> {
+    let mut held = Vec::with_capacity(alloc, MOST)?;
+    let mut size = usize::MAX;
+    for _ in 0..63 {
+        size /= 2;
+        for _ in 0..MOST {
+            let Ok(block) = Vec::with_capacity(alloc, size) else {
+                break;
+            };
+            if held.len() == MOST {
+                return Ok(None);
+            }
+            held.push(block)?;
+        }
+    }
+    Ok(Some(held))
+}
+
+/// Whether the call wants memory when none is left, and gives what it should once enough blocks are given back. The
+/// first calls, from here too, take the stack that the later ones need: it can't grow where no memory is left.
+fn waits_for_memory(alloc: Global, call: Call) -> Result<bool, AllocError> {
+    for first in CALLS {
+        if answer(alloc, first) != Some(true) {
+            return Ok(false);
+        }
+    }
+    let Some(mut held) = all_memory(alloc)? else {
+        return Ok(true);
+    };
+    if answer(alloc, call).is_some() {
+        return Ok(false);
+    }
+    for _ in 0..MOST {
+        let _ = held.pop();
+        if let Some(is_right) = answer(alloc, call) {
+            return Ok(is_right);
+        }
+    }
+    Ok(false)
+}
+
+#[test]
+fn calls_wait_for_memory(rt: HostRuntime) -> Result<(), Fail> {
+    for call in CALLS {
+        assert!(rt; waits_for_memory(rt.alloc(), call)?);
+    }
+    Ok(())
+}

@@ -1,0 +1,476 @@
+//! Each call of a device fails in turn, task by task, and the calls of whole runs are counted.
+
+ghost use Rattle.sixel_run.specs.Outputs.{HasSides};
+
+use crate::fault::RunFault;
+use crate::run::tests::{Limits, Ran, run_watched};
+use crate::task::{Status, Task};
+use sixel_check::{Finding, Rule};
+use sixel_grammar::{Fault, Reason};
+use sixel_picture::{PpmReason, Profile};
+use std::alloc::Global;
+
+/// A task on some bytes, and what it writes and answers where no device fails.
+#[derive(Clone, Copy)]
+struct Case {
+    task: Task,
+    bytes: &'static [u8],
+    text: &'static [u8],
+    answer: Result<Status, RunFault>,
+    /// In and out in pieces of 1, 5 and 64 bytes: how often is filled and taken. The fills give the bytes up to the one
+    /// that is a fault, or all and find the end.
+    calls: [(usize, u64, u64); 3],
+}
+
+/// One black pixel.
+const PIXEL: &[u8] = b"\x1bPq\"1;1;1;1#0;2;0;0;0#0@\x1b\\";
+
+/// A number that is too large, at its fifth digit.
+const LARGE: &[u8] = b"\x1bPq!65536~";
+
+const TOO_LARGE: RunFault = RunFault::Grammar(Fault {
+    reason: Reason::NumberTooLarge,
+    place: 8,
+});
+
+/// One pixel, listed. In pieces of 5 the lines leave by 15, 17, 43 and 12 bytes.
+const LISTED: Case = Case {
+    task: Task::List,
+    bytes: PIXEL,
+    text: b"0 start 7bit 0\n3 raster 1 1 1 1\n11 define 0 2 0 0 0\n21 select 0\n23 sixel 1\n24 end 7bit\n",
+    answer: Ok(Status::Done),
+    calls: [(1, 27, 87), (5, 7, 19), (64, 2, 2)],
+};
+
+/// A fault after a line.
+const LISTED_FAULT: Case = Case {
+    task: Task::List,
+    bytes: LARGE,
+    text: b"0 start 7bit 0\n",
+    answer: Err(TOO_LARGE),
+    calls: [(1, 9, 15), (5, 2, 3), (64, 1, 1)],
+};
+
+const CHECK: Task = Task::Check {
+    profile: Profile::Registers16,
+};
+
+const RENDER: Task = Task::Render {
+    profile: Profile::Registers16,
+};
+
+const ENCODE: Task = Task::Encode {
+    profile: Profile::Registers16,
+};
+
+/// One pixel, checked.
+const CHECKED: Case = Case {
+    task: CHECK,
+    bytes: PIXEL,
+    text: b"portable 1 1\n",
+    answer: Ok(Status::Done),
+    calls: [(1, 27, 13), (5, 7, 3), (64, 2, 1)],
+};
+
+/// Two letters, checked: 90 bytes.
+const LETTERS: Case = Case {
+    task: CHECK,
+    bytes: b"\x1bPq\"1;1;14;7#0;2;0;0;0#1;2;100;100;0#2;2;0;100;0#1~~@@vv@@~~@@~~$#2??}}GG}}??}}??-#1!14@\x1b\\",
+    text: b"portable 14 7\n",
+    answer: Ok(Status::Done),
+    calls: [(1, 91, 14), (5, 19, 3), (64, 3, 1)],
+};
+
+/// A box of two pixels of which one is painted, checked.
+const UNCOVERED: Case = Case {
+    task: CHECK,
+    bytes: b"\x1bPq\"1;1;2;1#0;2;0;0;0#0@\x1b\\",
+    text: b"broken Uncovered 24 1 0\n",
+    answer: Ok(Status::Broken(Finding {
+        rule: Rule::Uncovered,
+        place: 24,
+        pixel: Some((1, 0)),
+    })),
+    calls: [(1, 27, 24), (5, 7, 5), (64, 2, 1)],
+};
+
+/// A fault, which leaves no verdict.
+const CHECKED_FAULT: Case = Case {
+    task: CHECK,
+    bytes: LARGE,
+    text: b"",
+    answer: Err(TOO_LARGE),
+    calls: [(1, 9, 0), (5, 2, 0), (64, 1, 0)],
+};
+
+/// One pixel, rendered.
+const RENDERED: Case = Case {
+    task: RENDER,
+    bytes: PIXEL,
+    text: b"P6\n1 1\n100\n\x00\x00\x00",
+    answer: Ok(Status::Done),
+    calls: [(1, 27, 14), (5, 7, 3), (64, 2, 1)],
+};
+
+/// A fault, which leaves no picture.
+const RENDERED_FAULT: Case = Case {
+    task: RENDER,
+    bytes: LARGE,
+    text: b"",
+    answer: Err(TOO_LARGE),
+    calls: [(1, 9, 0), (5, 2, 0), (64, 1, 0)],
+};
+
+/// Five red pixels, encoded: 26 bytes.
+const RED: Case = Case {
+    task: ENCODE,
+    bytes: b"P6 5 1 100\nd\0\0d\0\0d\0\0d\0\0d\0\0",
+    text: b"\x1bP0;1q\"1;1;5;1#0;2;100;0;0#0!5@\x1b\\",
+    answer: Ok(Status::Done),
+    calls: [(1, 27, 33), (5, 7, 7), (64, 2, 1)],
+};
+
+/// Three red pixels, encoded: 20 bytes.
+const SHORT_RED: Case = Case {
+    task: ENCODE,
+    bytes: b"P6 3 1 100\nd\0\0d\0\0d\0\0",
+    text: b"\x1bP0;1q\"1;1;3;1#0;2;100;0;0#0@@@\x1b\\",
+    answer: Ok(Status::Done),
+    calls: [(1, 21, 33), (5, 5, 7), (64, 2, 1)],
+};
+
+/// A file of another kind, by its second byte.
+const ENCODED_FAULT: Case = Case {
+    task: ENCODE,
+    bytes: b"P5 1 1 100",
+    text: b"",
+    answer: Err(RunFault::Ppm {
+        reason: PpmReason::Header,
+        place: 1,
+    }),
+    calls: [(1, 2, 0), (5, 1, 0), (64, 1, 0)],
+};
+
+/// A screen of one pixel.
+const SCREEN: Task = Task::Show {
+    profile: Profile::Registers16,
+    showing: false,
+    fill: false,
+    selects: false,
+    width: 1,
+    height: 1,
+};
+
+/// A register that is black and then red, shown: 38 bytes.
+const SHOWN: Case = Case {
+    task: SCREEN,
+    bytes: b"\x1bPq\"1;1;1;1#0;2;0;0;0#0@#0;2;100;0;0\x1b\\",
+    text: b"P6\n1 1\n100\n\x00\x00\x00",
+    answer: Ok(Status::Done),
+    calls: [(1, 39, 14), (5, 9, 3), (64, 2, 1)],
+};
+
+/// A fault, which leaves no screen.
+const SHOWN_FAULT: Case = Case {
+    task: SCREEN,
+    bytes: LARGE,
+    text: b"",
+    answer: Err(TOO_LARGE),
+    calls: [(1, 9, 0), (5, 2, 0), (64, 1, 0)],
+};
+
+const BOX: Task = Task::ShowBox {
+    profile: Profile::Registers16,
+    showing: false,
+    fill: false,
+    selects: false,
+};
+
+/// One pixel, on a screen of its box: 26 bytes.
+const BOXED: Case = Case {
+    task: BOX,
+    bytes: PIXEL,
+    text: b"P6\n1 1\n100\n\x00\x00\x00",
+    answer: Ok(Status::Done),
+    calls: [(1, 27, 14), (5, 7, 3), (64, 2, 1)],
+};
+
+/// A document of 5 bytes without a box, which leaves no screen.
+const UNBOXED: Case = Case {
+    task: BOX,
+    bytes: b"\x1bPq\x1b\\",
+    text: b"",
+    answer: Err(RunFault::NoBox),
+    calls: [(1, 6, 0), (5, 2, 0), (64, 2, 0)],
+};
+
+/// A fault, which leaves none either.
+const BOXED_FAULT: Case = Case {
+    task: BOX,
+    bytes: LARGE,
+    text: b"",
+    answer: Err(TOO_LARGE),
+    calls: [(1, 9, 0), (5, 2, 0), (64, 1, 0)],
+};
+
+/// One black pixel in register 16: 28 bytes.
+const WIDE_PIXEL: &[u8] = b"\x1bPq\"1;1;1;1#16;2;0;0;0#16@\x1b\\";
+
+/// That pixel, checked in the wide profile.
+const WIDE_CHECKED: Case = Case {
+    task: Task::Check {
+        profile: Profile::Registers256,
+    },
+    bytes: WIDE_PIXEL,
+    text: b"portable 1 1\n",
+    answer: Ok(Status::Done),
+    calls: [(1, 29, 13), (5, 7, 3), (64, 2, 1)],
+};
+
+/// The same, rendered.
+const WIDE_RENDERED: Case = Case {
+    task: Task::Render {
+        profile: Profile::Registers256,
+    },
+    bytes: WIDE_PIXEL,
+    text: b"P6\n1 1\n100\n\x00\x00\x00",
+    answer: Ok(Status::Done),
+    calls: [(1, 29, 14), (5, 7, 3), (64, 2, 1)],
+};
+
+/// A register that is shown in its starting colour: 9 bytes.
+const WIDE_SHOWN: Case = Case {
+    task: Task::Show {
+        profile: Profile::Registers256,
+        showing: false,
+        fill: false,
+        selects: false,
+        width: 1,
+        height: 1,
+    },
+    bytes: b"\x1bPq#17@\x1b\\",
+    text: b"P6\n1 1\n100\n\x11\x11\x11",
+    answer: Ok(Status::Done),
+    calls: [(1, 10, 14), (5, 3, 3), (64, 2, 1)],
+};
+
+/// Three red pixels, encoded in the wide profile as in the other.
+const WIDE_RED: Case = Case {
+    task: Task::Encode {
+        profile: Profile::Registers256,
+    },
+    bytes: b"P6 3 1 100\nd\0\0d\0\0d\0\0",
+    text: b"\x1bP0;1q\"1;1;3;1#0;2;100;0;0#0@@@\x1b\\",
+    answer: Ok(Status::Done),
+    calls: [(1, 21, 33), (5, 5, 7), (64, 2, 1)],
+};
+
+/// Runs the task on the bytes, in and out in pieces. Fill number `fill_fails` fails, and take or flush number
+/// `take_fails`.
+fn run_in_pieces(
+    alloc: Global,
+    task: Task,
+    bytes: &[u8],
+    piece: usize,
+    fill_fails: Option<u64>,
+    take_fails: Option<u64>,
+    room: &mut [u8],
+) -> Ran
+    requires { HasSides task }
+{
+    let limits = Limits {
+        piece,
+        fill_fails,
+        most: piece,
+        take_fails,
+    };
+    run_watched(alloc, task, bytes, limits, room)
+}
+
+/// The lines of the events that the first bytes of one pixel complete, and of the number that is too large.
+fn lines_of(given: usize) -> &'static [u8] {
+    match given {
+        0..=2 => b"",
+        3..=11 => b"0 start 7bit 0\n",
+        12..=21 => b"0 start 7bit 0\n3 raster 1 1 1 1\n",
+        22..=23 => b"0 start 7bit 0\n3 raster 1 1 1 1\n11 define 0 2 0 0 0\n",
+        24..=25 =>
+            b"0 start 7bit 0\n3 raster 1 1 1 1\n11 define 0 2 0 0 0\n21 select 0\n23 sixel 1\n",
+        _ => LISTED.text,
+    }
+}
+
+/// What is written where the source fails after so many bytes: only a list doesn't wait for the end.
+fn text_of(task: Task, given: usize) -> &'static [u8] {
+    if task == Task::List {
+        lines_of(given)
+    } else {
+        b""
+    }
+}
+
+/// Whether a run stops where this fill fails, and doesn't fill again.
+fn stops_at_fill(alloc: Global, case: Case, piece: usize, fill: u64) -> bool
+    requires { HasSides case.task }
+{
+    let mut room = [0; 128];
+    let ran = run_in_pieces(
+        alloc,
+        case.task,
+        case.bytes,
+        piece,
+        Some(fill),
+        None,
+        &mut room,
+    );
+    let text = text_of(case.task, piece.saturating_mul(fill as usize));
+    ran.answer == Err(RunFault::Read)
+        && room.get(..ran.written) == Some(text)
+        && ran.source.fills == fill.saturating_add(1)
+        && ran.sink.flushes == 1
+}
+
+/// How much is written where this take fails. The lines of a list that a piece completes leave by themselves, so its
+/// takes aren't all full.
+fn is_front(case: Case, piece: usize, take: u64, written: usize) -> bool {
+    let full = piece.saturating_mul(take as usize);
+    (case.task == Task::List && piece > 1) || written == full.min(case.text.len())
+}
+
+/// Whether a run stops where this take or flush fails, and calls the sink no more: a front of the text is written.
+fn stops_at_take(alloc: Global, case: Case, piece: usize, take: u64, flushes: u64) -> bool
+    requires { HasSides case.task }
+{
+    let mut room = [0; 128];
+    let ran = run_in_pieces(
+        alloc,
+        case.task,
+        case.bytes,
+        piece,
+        None,
+        Some(take),
+        &mut room,
+    );
+    ran.answer == Err(RunFault::Write)
+        && is_front(case, piece, take, ran.written)
+        && room.get(..ran.written) == case.text.get(..ran.written)
+        && ran.sink.takes.saturating_add(ran.sink.flushes) == take.saturating_add(1)
+        && ran.sink.flushes == flushes
+}
+
+/// Whether a run is whole, with so many fills and takes: each device fails at a call that doesn't come.
+fn is_whole(alloc: Global, case: Case, piece: usize, fills: u64, takes: u64) -> bool
+    requires { HasSides case.task }
+{
+    let mut room = [0; 128];
+    let never = takes.saturating_add(1);
+    let ran = run_in_pieces(
+        alloc,
+        case.task,
+        case.bytes,
+        piece,
+        Some(fills),
+        Some(never),
+        &mut room,
+    );
+    ran.answer == case.answer
+        && room.get(..ran.written) == Some(case.text)
+        && ran.source.fills == fills
+        && ran.sink.takes == takes
+        && ran.sink.flushes == 1
+}
+
+/// Each call of each device fails in turn, in pieces of a size.
+fn stops_in_pieces(alloc: Global, case: Case, piece: usize, fills: u64, takes: u64) -> bool
+    requires { HasSides case.task }
+{
+    for fill in 0..fills {
+        if !stops_at_fill(alloc, case, piece, fill) {
+            return false;
+        }
+    }
+    for take in 0..takes {
+        if !stops_at_take(alloc, case, piece, take, 0) {
+            return false;
+        }
+    }
+    stops_at_take(alloc, case, piece, takes, 1) && is_whole(alloc, case, piece, fills, takes)
+}
+
+/// Whether a sink with room for a part of the text has that part.
+fn fills_room(alloc: Global, case: Case, count: usize) -> bool
+    requires { HasSides case.task }
+{
+    let mut whole = [0; 128];
+    let (room, _) = whole.split_at_mut(count.min(128));
+    let ran = run_in_pieces(alloc, case.task, case.bytes, 5, None, None, room);
+    ran.answer == Err(RunFault::Write)
+        && case.text.get(..count) == Some(&*room)
+        && ran.sink.flushes == 0
+}
+
+/// Whether nothing is written, and neither device is called again, where both fail at their first call, which for the
+/// sink is the flush.
+fn stops_at_both(alloc: Global, case: Case) -> bool
+    requires { HasSides case.task }
+{
+    let ran = run_in_pieces(
+        alloc,
+        case.task,
+        case.bytes,
+        1,
+        Some(0),
+        Some(0),
+        &mut [0; 128],
+    );
+    ran.answer == Err(RunFault::Write)
+        && ran.written == 0
+        && ran.source.fills == 1
+        && ran.sink.takes == 0
+        && ran.sink.flushes == 1
+}
+
+/// Each call of each device fails in turn, then both at once, and each room is tried that is too small for the text.
+fn stops(alloc: Global, case: Case) -> bool
+    requires { HasSides case.task }
+{
+    for (piece, fills, takes) in case.calls {
+        if !stops_in_pieces(alloc, case, piece, fills, takes) {
+            return false;
+        }
+    }
+    for count in 0..case.text.len() {
+        if !fills_room(alloc, case, count) {
+            return false;
+        }
+    }
+    stops_at_both(alloc, case)
+}
+
+#[test]
+fn each_call_of_a_device_fails(rt: HostRuntime) {
+    assert!(rt; stops(rt.alloc(), LISTED));
+    assert!(rt; stops(rt.alloc(), LISTED_FAULT));
+    assert!(rt; stops(rt.alloc(), CHECKED));
+    assert!(rt; stops(rt.alloc(), LETTERS));
+    assert!(rt; stops(rt.alloc(), UNCOVERED));
+    assert!(rt; stops(rt.alloc(), CHECKED_FAULT));
+    assert!(rt; stops(rt.alloc(), RENDERED));
+    assert!(rt; stops(rt.alloc(), RENDERED_FAULT));
+    assert!(rt; stops(rt.alloc(), RED));
+    assert!(rt; stops(rt.alloc(), SHORT_RED));
+    assert!(rt; stops(rt.alloc(), ENCODED_FAULT));
+    assert!(rt; stops(rt.alloc(), SHOWN));
+    assert!(rt; stops(rt.alloc(), SHOWN_FAULT));
+    assert!(rt; stops(rt.alloc(), BOXED));
+    assert!(rt; stops(rt.alloc(), UNBOXED));
+    assert!(rt; stops(rt.alloc(), BOXED_FAULT));
+}
+
+#[test]
+fn each_call_of_a_device_fails_in_the_wide_profile(rt: HostRuntime) {
+    assert!(rt; stops(rt.alloc(), WIDE_CHECKED));
+    assert!(rt; stops(rt.alloc(), WIDE_RENDERED));
+    assert!(rt; stops(rt.alloc(), WIDE_SHOWN));
+    assert!(rt; stops(rt.alloc(), WIDE_RED));
+}

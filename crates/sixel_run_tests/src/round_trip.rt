@@ -1,0 +1,166 @@
+ghost use Rattle.sixel_run.specs.Outputs.{HasSides};
+
+use crate::run::run;
+use crate::task::{Status, Task};
+use sixel_check::{Verdict, check_bytes};
+use sixel_grammar::{SliceSink, SliceSource};
+use sixel_picture::{Colour, Palette, Picture, Profile};
+use std::alloc::{AllocError, Global};
+use std::test::Fail;
+
+/// The next of the pseudo-random numbers.
+fn after(state: u32) -> u32 {
+    state.wrapping_mul(1_664_525).wrapping_add(1_013_904_223)
+}
+
+/// The register of the next pixel, one of the profile's: in one case of four another one.
+fn drawn(profile: Profile, state: u32, register: u8) -> u8 {
+    if state >> 30 != 0 {
+        return register;
+    }
+    match profile {
+        Profile::Registers16 => ((state >> 16) % 16) as u8,
+        Profile::Registers256 => ((state >> 16) % 256) as u8,
+    }
+}
+
+/// Pixel number i of those with colours of their own has this colour.
+pub fn push_pixel(bytes: &mut Vec<u8>, number: u16) -> Result<(), AllocError> {
+    bytes.extend_from_slice(&[(number % 100) as u8, (number / 100 % 100) as u8, 0])
+}
+
+/// Pseudo-random runs in the profile's number of colours.
+fn push_pixels(
+    bytes: &mut Vec<u8>,
+    profile: Profile,
+    count: u32,
+    seed: u32,
+) -> Result<(), AllocError> {
+    let mut state = seed;
+    let mut register = 0;
+    for _ in 0..count {
+        state = after(state);
+        register = drawn(profile, state, register);
+        push_pixel(bytes, register as u16)?;
+    }
+    Ok(())
+}
+
+/// A picture file of pseudo-random runs in the profile's number of colours.
+fn picture_file(alloc: Global, profile: Profile, width: u32, height: u32) -> Result<Vec<u8>, Fail> {
+    let head = format!(in alloc; "P6\n{width} {height}\n100\n")?;
+    let mut bytes = Vec::new(alloc);
+    bytes.extend_from_slice(head.as_bytes())?;
+    push_pixels(&mut bytes, profile, width.saturating_mul(height), width)?;
+    Ok(bytes)
+}
+
+/// How many bytes of the room the text of a picture file takes, where it is encoded.
+pub fn encode_into(
+    alloc: Global,
+    profile: Profile,
+    picture: &[u8],
+    room: &mut [u8],
+) -> Option<usize> {
+    let mut input = SliceSource::new(picture, 37, None);
+    let mut output = SliceSink::new(room, 64, None);
+    let answer = run(alloc, Task::Encode { profile }, &mut input, &mut output);
+    (answer == Ok(Status::Done)).then_some(output.written().len())
+}
+
+/// Whether a task is done for the bytes and writes this.
+pub fn sends(alloc: Global, task: Task, bytes: &[u8], text: &[u8]) -> bool
+    requires { HasSides task }
+{
+    let mut room = [0; 8192];
+    let mut input = SliceSource::new(bytes, 37, None);
+    let mut output = SliceSink::new(&mut room, 64, None);
+    run(alloc, task, &mut input, &mut output) == Ok(Status::Done) && output.written() == text
+}
+
+/// Whether what is encoded of a picture file of these sides is portable, and rendered it is that file.
+fn returns(alloc: Global, profile: Profile, width: u32, height: u32) -> Result<bool, Fail> {
+    let picture = picture_file(alloc, profile, width, height)?;
+    let mut room = [0; 8192];
+    let count = encode_into(alloc, profile, picture.as_slice(), &mut room).ok_or("no text")?;
+    let text = room.get(..count).ok_or("the text")?;
+    let line = format!(in alloc; "portable {width} {height}\n")?;
+    Ok(
+        sends(alloc, Task::Check { profile }, text, line.as_bytes())
+            && sends(alloc, Task::Render { profile }, text, picture.as_slice()),
+    )
+}
+
+#[test]
+fn encoded_pictures_come_back(rt: HostRuntime) -> Result<(), Fail> {
+    for width in 1..=70 {
+        assert!(rt;
+            returns(rt.alloc(), Profile::Registers16, width, width % 13 + 1)?,
+            "{width}"
+        );
+        assert!(rt;
+            returns(rt.alloc(), Profile::Registers256, width, width % 13 + 1)?,
+            "{width}"
+        );
+    }
+    Ok(())
+}
+
+/// Whether the picture is encoded as this text.
+pub fn is_encoded_as(picture: &Picture, text: &[u8]) -> bool {
+    let mut room = [0; 128];
+    let mut output = SliceSink::new(&mut room, 128, None);
+    sixel_encode::encode(picture, &mut output).is_ok() && output.written() == text
+}
+
+/// Whether registers 0 and 3 have these colours, and no other register has one.
+fn has_colours(palette: &Palette, first: Option<Colour>, fourth: Option<Colour>) -> bool {
+    for register in 0..16 {
+        let expected = match register {
+            0 => first,
+            3 => fourth,
+            _ => None,
+        };
+        if palette.get(register) != expected {
+            return false;
+        }
+    }
+    true
+}
+
+/// Whether the text is portable, leaves one pixel in register 0 of these colours, and is what is encoded of that.
+fn comes_back(alloc: Global, text: &[u8], first: Option<Colour>, fourth: Option<Colour>) -> bool {
+    match check_bytes(alloc, Profile::Registers16, text) {
+        Ok(Verdict::Portable(picture)) => {
+            picture.width() == 1
+                && picture.height() == 1
+                && picture.register_at(0, 0) == 0
+                && has_colours(picture.palette(), first, fourth)
+                && is_encoded_as(&picture, text)
+        }
+        _ => false,
+    }
+}
+
+#[test]
+fn palettes_come_back(rt: HostRuntime) {
+    let text = b"\x1bP0;1q\"1;1;1;1#0;2;0;0;0#3;1;120;50;100#0@\x1b\\";
+    let (black, hue) = (Colour::rgb(0, 0, 0), Colour::hls(120, 50, 100));
+    assert!(rt; comes_back(rt.alloc(), text, black, hue));
+    let text = b"\x1bP0;1q\"1;1;1;1#0;1;360;50;100#0@\x1b\\";
+    assert!(rt; comes_back(rt.alloc(), text, Colour::hls(360, 50, 100), None));
+}
+
+/// The picture of the 14 by 7 example, encoded again: the blank columns at the end of a register's line are gone.
+#[test]
+fn a_picture_is_encoded_shortly(rt: HostRuntime) {
+    let bytes =
+        b"\x1bPq\"1;1;14;7#0;2;0;0;0#1;2;100;100;0#2;2;0;100;0#1~~@@vv@@~~@@~~$#2??}}GG}}??}}??-#1!14@\x1b\\";
+    let text =
+        b"\x1bP0;1q\"1;1;14;7#0;2;0;0;0#1;2;100;100;0#2;2;0;100;0#1~~@@vv@@~~@@~~$#2??}}GG}}??}}-#1!14@\x1b\\";
+    let is_right = match check_bytes(rt.alloc(), Profile::Registers16, bytes) {
+        Ok(Verdict::Portable(picture)) => is_encoded_as(&picture, text),
+        _ => false,
+    };
+    assert!(rt; is_right);
+}

@@ -1,0 +1,180 @@
+//! Runs in the profile of 256 registers.
+
+ghost use Rattle.sixel_run.specs.Outputs.{HasSides};
+
+use crate::fault::RunFault;
+use crate::run::run;
+use crate::run::tests::agrees;
+use crate::run::tests::round_trip::{encode_into, is_encoded_as, push_pixel, sends};
+use crate::task::{Status, Task};
+use sixel_check::{Finding, Rule, Verdict, check_bytes};
+use sixel_grammar::{SliceSink, SliceSource};
+use sixel_picture::{Colour, Palette, Picture, PpmReason, Profile};
+use std::alloc::{AllocError, Global};
+use std::test::Fail;
+
+const CHECK: Task = Task::Check {
+    profile: Profile::Registers256,
+};
+
+const RENDER: Task = Task::Render {
+    profile: Profile::Registers256,
+};
+
+const ENCODE: Task = Task::Encode {
+    profile: Profile::Registers256,
+};
+
+/// Whether registers 16 and 255 have these colours, and no other register has one.
+fn has_colours(palette: &Palette, low: Option<Colour>, last: Option<Colour>) -> bool {
+    for register in 0..=255 {
+        let expected = match register {
+            16 => low,
+            255 => last,
+            _ => None,
+        };
+        if palette.get(register) != expected {
+            return false;
+        }
+    }
+    true
+}
+
+/// Whether the picture is one pixel of the wide profile in register 16, with these colours.
+fn is_pixel(picture: &Picture, low: Option<Colour>, last: Option<Colour>) -> bool {
+    picture.profile() == Profile::Registers256
+        && picture.width() == 1
+        && picture.height() == 1
+        && picture.register_at(0, 0) == 16
+        && has_colours(picture.palette(), low, last)
+}
+
+/// Whether the bytes leave that pixel, and this is what is encoded of it.
+fn comes_back(
+    alloc: Global,
+    bytes: &[u8],
+    low: Option<Colour>,
+    last: Option<Colour>,
+    text: &[u8],
+) -> bool {
+    match check_bytes(alloc, Profile::Registers256, bytes) {
+        Ok(Verdict::Portable(picture)) => {
+            is_pixel(&picture, low, last) && is_encoded_as(&picture, text)
+        }
+        _ => false,
+    }
+}
+
+#[test]
+fn a_register_above_15_comes_back(rt: HostRuntime) {
+    let bytes = b"\x1bPq\"1;1;1;1#16;2;0;0;0#16@\x1b\\";
+    let text = b"\x1bP0;1q\"1;1;1;1#16;2;0;0;0#16@\x1b\\";
+    assert!(rt; comes_back(rt.alloc(), bytes, Colour::rgb(0, 0, 0), None, text));
+}
+
+#[test]
+fn the_last_register_comes_back(rt: HostRuntime) {
+    let bytes = b"\x1bPq\"1;1;1;1#255;1;120;50;100#16;2;0;0;0#16@\x1b\\";
+    let text = b"\x1bP0;1q\"1;1;1;1#16;2;0;0;0#255;1;120;50;100#16@\x1b\\";
+    let (black, hue) = (Colour::rgb(0, 0, 0), Colour::hls(120, 50, 100));
+    assert!(rt; comes_back(rt.alloc(), bytes, black, hue, text));
+}
+
+/// A header, and a row of so many pixels, each in a colour of its own.
+fn row_of(alloc: Global, header: &[u8], count: u16) -> Result<Vec<u8>, AllocError> {
+    let mut bytes = Vec::from_slice(alloc, header)?;
+    for number in 0..count {
+        push_pixel(&mut bytes, number)?;
+    }
+    Ok(bytes)
+}
+
+/// Whether the file is refused where its colours are too many.
+fn refuses(alloc: Global, profile: Profile, bytes: &[u8], place: u64) -> bool {
+    let reason = PpmReason::TooManyColours;
+    let answer = Err(RunFault::Ppm { reason, place });
+    agrees(alloc, Task::Encode { profile }, bytes, 100, b"", answer)
+}
+
+/// The header has 13 bytes, and 256 pixels before the first of too many colours have 768, and 16 pixels 48.
+#[test]
+fn a_colour_too_many_is_not_encoded(rt: HostRuntime) -> Result<(), Fail> {
+    let bytes = row_of(rt.alloc(), b"P6 257 1 100\n", 257)?;
+    assert!(rt; refuses(rt.alloc(), Profile::Registers256, &bytes, 781));
+    assert!(rt; refuses(rt.alloc(), Profile::Registers16, &bytes, 61));
+    Ok(())
+}
+
+/// Before the definition of register 16 there are 6 and 10 bytes, ten definitions of 10 bytes and six of 12.
+fn is_too_wide(alloc: Global, text: &[u8]) -> bool {
+    let profile = Profile::Registers16;
+    let finding = Finding {
+        rule: Rule::Register,
+        place: 188,
+        pixel: None,
+    };
+    let answer = Ok(Status::Broken(finding));
+    agrees(
+        alloc,
+        Task::Check { profile },
+        text,
+        100,
+        b"broken Register 188\n",
+        answer,
+    )
+}
+
+#[test]
+fn a_picture_of_256_colours_comes_back(rt: HostRuntime) -> Result<(), Fail> {
+    let bytes = row_of(rt.alloc(), b"P6 256 1 100\n", 256)?;
+    let mut room = [0; 8192];
+    let count = encode_into(rt.alloc(), Profile::Registers256, &bytes, &mut room).ok_or("no text")?;
+    let text = room.get(..count).ok_or("the text")?;
+    assert!(rt; sends(rt.alloc(), CHECK, text, b"portable 256 1\n"));
+    assert!(rt; is_too_wide(rt.alloc(), text));
+    let file = row_of(rt.alloc(), b"P6\n256 1\n100\n", 256)?;
+    assert!(rt; sends(rt.alloc(), RENDER, text, &file));
+    Ok(())
+}
+
+/// A row of 2,048 pixels, each of which is so many colours on from the one before it.
+fn row_by(alloc: Global, step: u16) -> Result<Vec<u8>, AllocError> {
+    let mut row = Vec::new(alloc);
+    for x in 0..2048u16 {
+        push_pixel(&mut row, x.wrapping_mul(step) % 256)?;
+    }
+    Ok(row)
+}
+
+/// A file of the largest picture: its first and its last row go through the 256 colours, and all others have the first
+/// of them.
+fn largest_file(alloc: Global) -> Result<Vec<u8>, AllocError> {
+    let (colours, plain) = (row_by(alloc, 1)?, row_by(alloc, 0)?);
+    let mut bytes = Vec::from_slice(alloc, b"P6\n2048 2048\n100\n")?;
+    bytes.extend_from_slice(&colours)?;
+    for _ in 0..2046 {
+        bytes.extend_from_slice(&plain)?;
+    }
+    bytes.extend_from_slice(&colours)?;
+    Ok(bytes)
+}
+
+/// Where the task is done for the bytes, in large pieces, how much it writes into the room.
+fn written_by(alloc: Global, task: Task, bytes: &[u8], room: &mut [u8]) -> Option<usize>
+    requires { HasSides task }
+{
+    let mut input = SliceSource::new(bytes, 65_536, None);
+    let mut output = SliceSink::new(room, 65_536, None);
+    let answer = run(alloc, task, &mut input, &mut output);
+    (answer == Ok(Status::Done)).then_some(output.written().len())
+}
+
+#[test]
+fn the_largest_picture_is_portable(rt: HostRuntime) -> Result<(), Fail> {
+    let file = largest_file(rt.alloc())?;
+    let mut room = vec![in rt.alloc(); 0u8; 100_000]?;
+    let count = written_by(rt.alloc(), ENCODE, &file, &mut room).ok_or("no text")?;
+    let text = room.get(..count).ok_or("the text")?;
+    assert!(rt; sends(rt.alloc(), CHECK, text, b"portable 2048 2048\n"));
+    Ok(())
+}
