@@ -6,7 +6,7 @@ use sixel_grammar::{DeviceFault, Sink, Source};
 use std::alloc::Global;
 
 /// How many bytes move in a call.
-#[derive(Clone, Copy, Debug, PartialEq, Eq)]
+#[derive(Clone, Copy, Debug)]
 pub struct Cutting {
     /// The most that the first call of the source gives.
     pub first: usize,

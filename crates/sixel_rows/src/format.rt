@@ -4,7 +4,7 @@ use std::alloc::{AllocError, AllocFailed, Global};
 use thiserror::Error;
 
 /// One row: a task on an input, and what comes of it.
-#[derive(Debug, Drop)]
+#[derive(Drop)]
 pub struct Row<'a> {
     /// The number of its line in the file, from 1.
     pub line: u64,
@@ -20,7 +20,7 @@ pub struct Row<'a> {
 }
 
 /// What is wrong with a file of rows.
-#[derive(Clone, Copy, Debug, PartialEq, Eq, Error)]
+#[derive(Clone, Copy, Debug, Error)]
 pub enum RowFault {
     #[error("a row has five columns with one tab between two")]
     Columns,
@@ -47,7 +47,7 @@ impl<T: Drop> From<AllocFailed<T>> for RowFault {
 }
 
 /// A fault, and the number of its line.
-#[derive(Clone, Copy, Debug, PartialEq, Eq, Error)]
+#[derive(Clone, Copy, Debug, Error)]
 #[error("line {line}: {fault}")]
 pub struct Malformed {
     pub line: u64,

@@ -141,7 +141,7 @@ pub fn are_neighbours_alike(
 }
 
 /// What made documents were like.
-#[derive(Debug, Drop)]
+#[derive(Drop)]
 pub struct Tally {
     /// Those that aren't judged alike.
     pub wrong: u32,

@@ -9,6 +9,7 @@ mod devices;
 mod format;
 mod judged;
 mod judges;
+mod prefixes;
 mod steps;
 mod tasks;
 mod terminals;
@@ -17,7 +18,8 @@ mod wrong;
 
 use crate::format::{Row, rows_of};
 use crate::judged::{judge_made, judge_rows};
-use crate::tasks::wrong_of;
+use crate::prefixes::{has_prefixes, prefix_of};
+use crate::tasks::{Wrong, wrong_in_some_pieces, wrong_of};
 use crate::wrong::text_of;
 use anyhow::{Context, anyhow};
 use sixel_picture::Profile;
@@ -53,9 +55,8 @@ fn main(rt: HostRuntime) -> Result<ExitCode, anyhow::Error> {
 
 /// Runs the rows of a file, and prints their number and each wrong one. How many are wrong.
 fn run_file(rt: &HostRuntime, name: &str) -> Result<u64, anyhow::Error> {
-    let alloc = rt.alloc();
     let text = fs::read_to_string(rt, name).context(name)?;
-    let rows = rows_of(alloc, text.as_str()).context(name)?;
+    let rows = rows_of(rt.alloc(), text.as_str()).context(name)?;
     if rows.is_empty() {
         return Err(anyhow!("{name}: no rows"));
     }
@@ -70,9 +71,41 @@ fn run_file(rt: &HostRuntime, name: &str) -> Result<u64, anyhow::Error> {
     Ok(wrong)
 }
 
-/// Runs a row, and prints it if it is wrong. How many are wrong: 0 or 1.
+/// Runs a row, and its prefixes if they follow from it, and prints what is wrong. How many are wrong.
 fn run_row(rt: &HostRuntime, name: &str, row: &Row<'_>) -> Result<u64, anyhow::Error> {
-    match wrong_of(rt.alloc(), row)? {
+    let wrong = wrong_of(rt.alloc(), row).map_err(|fault| anyhow!(
+        "{name}: line {}: {fault}",
+        row.line
+    ))?;
+    let mut count = report(rt, name, row, wrong)?;
+    if has_prefixes(row) {
+        for length in 0..row.input.len() {
+            count = count.saturating_add(run_prefix(rt, name, row, length)?);
+        }
+    }
+    Ok(count)
+}
+
+/// Runs a prefix of a row.
+fn run_prefix(
+    rt: &HostRuntime,
+    name: &str,
+    row: &Row<'_>,
+    length: usize,
+) -> Result<u64, anyhow::Error> {
+    let prefix = prefix_of(rt.alloc(), row, length)?;
+    let wrong = wrong_in_some_pieces(rt.alloc(), &prefix)?;
+    report(rt, name, &prefix, wrong)
+}
+
+/// Prints what is wrong with a row, if anything is. How many are wrong: 0 or 1.
+fn report(
+    rt: &HostRuntime,
+    name: &str,
+    row: &Row<'_>,
+    wrong: Option<Wrong>,
+) -> Result<u64, anyhow::Error> {
+    match wrong {
         None => Ok(0),
         Some(wrong) => {
             rt.println(text_of(rt.alloc(), name, row, &wrong)?)?;

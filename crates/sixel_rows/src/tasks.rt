@@ -10,10 +10,10 @@ use sixel_run::{Line, RunFault, Status, Task, fault_line, finding_line, run};
 use std::alloc::Global;
 
 /// Inputs of at most so many bytes are run in pieces of each size, and cut in two at each place.
-const MOST_SHORT: usize = 64;
+pub const MOST_SHORT: usize = 128;
 
 /// The sizes of the pieces of longer inputs.
-const SIZES: [usize; 6] = [1, 5, 7, 64, 1_000, 65_536];
+const SIZES: [usize; 8] = [1, 2, 5, 7, 16, 64, 1_000, 65_536];
 
 /// What came of a run.
 #[derive(Drop)]
@@ -42,6 +42,12 @@ pub fn wrong_of(alloc: Global, row: &Row<'_>) -> Result<Option<Wrong>, RowFault>
         None => Ok(in_two(alloc, task, row)),
         wrong => Ok(wrong),
     }
+}
+
+/// The first of a few sizes of pieces in which the row is wrong, and what came of it.
+pub fn wrong_in_some_pieces(alloc: Global, row: &Row<'_>) -> Result<Option<Wrong>, RowFault> {
+    let task = task_of(row.words)?;
+    Ok(in_some_pieces(alloc, task, row))
 }
 
 /// Input and output in pieces of this size.

@@ -1,6 +1,6 @@
 //! The task that the words of a row name.
 
-ghost use Rattle.std.specs.Prelude.{IfOk, IfSome, IsTrue};
+ghost use Rattle.std.specs.Prelude.{IfOk, IsTrue};
 ghost use Rattle.sixel_picture.specs.Ppm.{is_file_side};
 ghost use Rattle.sixel_run.specs.Outputs.{HasSides};
 
@@ -9,7 +9,7 @@ use sixel_picture::Profile;
 use sixel_run::{MOST_SCREEN_SIDE, Task};
 
 /// The options of a row.
-#[derive(Clone, Copy, Default, PartialEq, Eq)]
+#[derive(Clone, Copy, Default)]
 struct Options<'a> {
     wide: bool,
     showing: bool,

@@ -70,6 +70,6 @@ pub fn text_of(
         row.said.as_slice(),
     )?;
     format!(in alloc;
-        "{file}:{line}: {words}: {cutting:?}, {flushes} flushes\n  got    {got}\n  wanted {wanted}"
+        "{file}:{line}: {words}: {cutting:?}, flushed {flushes} times\n  got    {got}\n  wanted {wanted}"
     )
 }

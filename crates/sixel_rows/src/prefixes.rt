@@ -1,0 +1,27 @@
+//! Rows that follow from a row: each prefix of a document is truncated at its end.
+
+use crate::format::Row;
+use crate::tasks::MOST_SHORT;
+use std::alloc::{AllocError, Global};
+
+/// Whether the row is a verdict on a short document that ends with ESC `\`, so that no prefix of it is one.
+pub fn has_prefixes(row: &Row<'_>) -> bool {
+    row.input.len() <= MOST_SHORT
+        && row.status < 2
+        && row.words.starts_with("check")
+        && row.input.as_slice().ends_with(b"\x1b\\")
+}
+
+/// The row of a prefix of so many bytes: it is refused there as truncated, and nothing is written.
+pub fn prefix_of<'a>(alloc: Global, row: &Row<'a>, length: usize) -> Result<Row<'a>, AllocError> {
+    let front = row.input.as_slice().get(..length).unwrap_or(&[]);
+    let said = format!(in alloc; "sixel: Truncated at {length}\n")?;
+    Ok(Row {
+        line: row.line,
+        words: row.words,
+        input: front.to_vec(alloc)?,
+        status: 2,
+        output: Vec::new(alloc),
+        said: said.as_bytes().to_vec(alloc)?,
+    })
+}
