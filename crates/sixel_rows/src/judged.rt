@@ -53,7 +53,7 @@ pub fn judge_rows(
     for row in rows {
         if !is_right(rt.alloc(), row, &mut rules).map_err(reason_of)? {
             println!(rt;
-                "{name}:{}: {}: the plain judge or the terminals say another thing",
+                "{name}:{}: {}: the plain judge or the terminals disagree",
                 row.line, row.words
             )?;
             wrong = wrong.saturating_add(1);

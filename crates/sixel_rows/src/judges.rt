@@ -123,8 +123,8 @@ fn is_alike_at(
     is_judged_alike(alloc, profile, text.as_slice())
 }
 
-/// Whether the neighbours of a short document are judged alike: cut off anywhere, or with another byte anywhere. Of a
-/// longer one it is said without a look.
+/// Whether the neighbours of a document are judged alike: cut off anywhere, or with another byte in one place. It is
+/// always true of documents with more than `MOST_SWEPT` bytes.
 pub fn are_neighbours_alike(
     alloc: Global,
     profile: Profile,

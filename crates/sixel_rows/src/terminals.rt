@@ -86,7 +86,7 @@ fn is_verdict_shown(
     }
 }
 
-/// Whether the terminals go along with the verdict on the bytes. With those that have a fault they do. A rule by whose
+/// Whether the terminals go along with the verdict on the bytes. Always true for bytes with a fault. A rule by whose
 /// choice two differ is added to the rules.
 pub fn is_shown_so(
     alloc: Global,
