@@ -1,21 +1,28 @@
 //! Runs the rows of `data/` through `run`, in many cuttings: the conformance suite of this repository.
 //!
 //! It prints the number of rows of each file. A row with another end than it says is printed, and the exit status is 1.
+//! The inputs of `check.rows` are also judged by the plain judge and shown on terminals, as are made documents.
 //! A file that can't be read, an empty file and a malformed row are errors.
 #![tactic(auto)]
 
 mod devices;
 mod format;
+mod judged;
+mod judges;
 mod prefixes;
+mod steps;
 mod tasks;
+mod terminals;
 mod words;
 mod wrong;
 
 use crate::format::{Row, rows_of};
+use crate::judged::{judge_made, judge_rows};
 use crate::prefixes::{has_prefixes, prefix_of};
 use crate::tasks::{Wrong, wrong_in_some_pieces, wrong_of};
 use crate::wrong::text_of;
 use anyhow::{Context, anyhow};
+use sixel_picture::Profile;
 use std::fs;
 use std::process::ExitCode;
 
@@ -28,10 +35,16 @@ const FILES: [&str; 5] = [
     "encode.rows",
 ];
 
+/// The file whose rows are judged too.
+const JUDGED: &str = "check.rows";
+
 fn main(rt: HostRuntime) -> Result<ExitCode, anyhow::Error> {
     let mut wrong: u64 = 0;
     for name in FILES {
         wrong = wrong.saturating_add(run_file(&rt, name)?);
+    }
+    for profile in [Profile::Registers16, Profile::Registers256] {
+        wrong = wrong.saturating_add(judge_made(&rt, profile)?);
     }
     Ok(if wrong == 0 {
         ExitCode::SUCCESS
@@ -52,6 +65,9 @@ fn run_file(rt: &HostRuntime, name: &str) -> Result<u64, anyhow::Error> {
         wrong = wrong.saturating_add(run_row(rt, name, row)?);
     }
     println!(rt; "{name}: {} rows", rows.len())?;
+    if name == JUDGED {
+        wrong = wrong.saturating_add(judge_rows(rt, name, rows.as_slice())?);
+    }
     Ok(wrong)
 }
 

@@ -1,0 +1,206 @@
+//! What 128 terminals of the class show.
+//!
+//! They make all choices but of the registers that they have. Each has a grey screen with room for a box, around which
+//! one pixel is left on each side.
+
+use crate::choice::{Choice, choices_of};
+use crate::history::box_of;
+use sixel_check::Finding;
+use sixel_grammar::Placed;
+use sixel_picture::{Colour, Parts, Picture, Profile};
+use sixel_terminal::Terminal;
+use std::alloc::{AllocError, Global};
+
+/// How many columns and rows of a picture the terminals show at most.
+pub const MOST_SHOWN: u32 = 256;
+
+/// The colour of a screen before anything is drawn.
+const SCREEN: Parts = Parts::Rgb(50, 50, 50);
+
+/// The registers at the start.
+#[derive(Clone, Copy)]
+struct Start {
+    registers: Profile,
+    /// Each has 90 percent of red, green and blue. If not, register n has 6n modulo 101 percent of them.
+    pale: bool,
+}
+
+/// The percent of red, green and blue in which the register starts.
+fn percent_of(start: Start, register: u16) -> u8 {
+    if start.pale {
+        90
+    } else {
+        (register.saturating_mul(6) % 101) as u8
+    }
+}
+
+/// A colour for each register.
+fn colours_of(alloc: Global, start: Start) -> Result<Vec<Colour>, AllocError> {
+    let mut colours = Vec::with_capacity(alloc, 256)?;
+    for register in 0..start.registers.count() {
+        let percent = percent_of(start, register);
+        if let Some(colour) = Colour::rgb(percent, percent, percent) {
+            colours.push(colour)?;
+        }
+    }
+    Ok(colours)
+}
+
+/// A screen of one grey.
+fn screen_of(alloc: Global, width: u32, height: u32) -> Result<Vec<Colour>, AllocError> {
+    let mut screen = Vec::new(alloc);
+    if let Some(colour) = Colour::rgb(50, 50, 50) {
+        let pixels = (width as usize).saturating_mul(height as usize);
+        screen.resize(pixels, colour)?;
+    }
+    Ok(screen)
+}
+
+/// What the terminal of this number shows of the events, row by row. It has room for a box of this width and height.
+fn shown(
+    alloc: Global,
+    number: u8,
+    start: Start,
+    size: (u32, u32),
+    events: &[Placed],
+) -> Result<Option<Vec<Colour>>, AllocError> {
+    let choices = choices_of(number, size.0, size.1);
+    let screen = screen_of(alloc, choices.screen_width, choices.screen_height)?;
+    match Terminal::new(choices, colours_of(alloc, start)?, screen) {
+        Ok(terminal) => Ok(Some(terminal.show(alloc, events)?)),
+        Err(_) => Ok(None),
+    }
+}
+
+/// The colour that the picture has in this column and row of a screen on which it begins at 1 and 1, and of the screen
+/// around it; none where the picture's pixel has none.
+fn expected_at(picture: &Picture, x: u32, y: u32) -> Option<Parts> {
+    if x < 1 || y < 1 || x > picture.width() || y > picture.height() {
+        return Some(SCREEN);
+    }
+    let register = picture.register_at(x - 1, y - 1);
+    picture.palette().get(register).map(|colour| colour.parts())
+}
+
+/// What is to be on such a screen.
+fn framed(alloc: Global, picture: &Picture) -> Result<Vec<Option<Parts>>, AllocError> {
+    let mut expected = Vec::new(alloc);
+    for y in 0..picture.height().saturating_add(2) {
+        for x in 0..picture.width().saturating_add(2) {
+            expected.push(expected_at(picture, x, y))?;
+        }
+    }
+    Ok(expected)
+}
+
+/// Whether a screen is as it is to be.
+fn is_so(screen: &[Colour], expected: &[Option<Parts>]) -> bool {
+    if screen.len() != expected.len() {
+        return false;
+    }
+    for (colour, wanted) in screen.iter().zip(expected.iter()) {
+        if Some(colour.parts()) != *wanted {
+            return false;
+        }
+    }
+    true
+}
+
+/// Whether the 128 terminals, with the registers of the profile, all show the picture after the events, and their
+/// screens around it. A picture with a side above `MOST_SHOWN` they don't.
+pub fn all_show(
+    alloc: Global,
+    profile: Profile,
+    events: &[Placed],
+    picture: &Picture,
+) -> Result<bool, AllocError> {
+    let size = (picture.width(), picture.height());
+    if size.0 > MOST_SHOWN || size.1 > MOST_SHOWN {
+        return Ok(false);
+    }
+    let expected = framed(alloc, picture)?;
+    let start = Start {
+        registers: profile,
+        pale: false,
+    };
+    for number in 0..128u8 {
+        match shown(alloc, number, start, size, events)? {
+            Some(screen) if is_so(&screen, &expected) => {}
+            _ => return Ok(false),
+        }
+    }
+    Ok(true)
+}
+
+/// A side of the part of the screen on which a finding is looked at. It has that of the box, and the pixel.
+fn side(of_box: u64, pixel: u64) -> u32 {
+    let side = of_box.max(pixel.saturating_add(1)).min(MOST_SHOWN as u64);
+    side as u32
+}
+
+/// The size of the box that the events declare, enlarged so far that the pixel of the finding lies in it.
+fn size_of(events: &[Placed], finding: &Finding) -> (u32, u32) {
+    let (width, height) = box_of(events).unwrap_or((1, 1));
+    let (x, y) = finding.pixel.unwrap_or((0, 0));
+    (side(width, x), side(height, y))
+}
+
+/// Whether two screens show two colours at the pixel that the finding names, or anywhere where it names none.
+fn is_different(
+    one: &[Colour],
+    other: &[Colour],
+    size: (u32, u32),
+    pixel: Option<(u64, u64)>,
+) -> bool {
+    match pixel {
+        None => one != other,
+        Some((x, y)) => {
+            let row = y.saturating_add(1).saturating_mul(size.0 as u64 + 2);
+            let place = row.saturating_add(x).saturating_add(1) as usize;
+            one.get(place) != other.get(place)
+        }
+    }
+}
+
+/// The registers of the two sides of a choice.
+fn starts_of(profile: Profile, choice: Choice) -> [Start; 2] {
+    let start = Start {
+        registers: profile,
+        pale: false,
+    };
+    let other = match choice {
+        Choice::Colours => Start {
+            registers: profile,
+            pale: true,
+        },
+        Choice::Registers => Start {
+            registers: Profile::Registers256,
+            pale: false,
+        },
+        _ => start,
+    };
+    [start, other]
+}
+
+/// Whether some two terminals that differ in the choice alone show two pictures of the events. They are looked at in the
+/// pixel that the finding names, or as a whole where it names none. No column or row from `MOST_SHOWN` up is shown.
+pub fn terminals_differ(
+    alloc: Global,
+    profile: Profile,
+    events: &[Placed],
+    finding: &Finding,
+    choice: Choice,
+) -> Result<bool, AllocError> {
+    let size = size_of(events, finding);
+    let [first, second] = starts_of(profile, choice);
+    for number in 0..128u8 {
+        let one = shown(alloc, number, first, size, events)?;
+        let other = shown(alloc, number ^ choice.bit(), second, size, events)?;
+        if let (Some(one), Some(other)) = (one, other)
+            && is_different(&one, &other, size, finding.pixel)
+        {
+            return Ok(true);
+        }
+    }
+    Ok(false)
+}

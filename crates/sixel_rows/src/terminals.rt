@@ -1,0 +1,105 @@
+//! Whether terminals show what a verdict says.
+
+use sixel_check::{Finding, Rule, Verdict, check_bytes};
+use sixel_grammar::{InputFault, Placed, SliceSource, read_all};
+use sixel_picture::{Picture, Profile};
+use sixel_plain::{Choice, MOST_SHOWN, all_show, terminals_differ};
+use std::alloc::{AllocError, Global};
+
+/// Whether the terminals have room for the picture.
+fn is_small(picture: &Picture) -> bool {
+    picture.width() <= MOST_SHOWN && picture.height() <= MOST_SHOWN
+}
+
+/// Whether the terminals show the pixel that the finding names, if it names one.
+fn is_in_sight(finding: &Finding) -> bool {
+    let (x, y) = finding.pixel.unwrap_or((0, 0));
+    x < MOST_SHOWN as u64 && y < MOST_SHOWN as u64
+}
+
+/// The choice by which some two terminals must differ: a pixel is outside or uncovered, a control of 8 bits stands at the
+/// end, or a register without a colour is painted in.
+fn choice_of(finding: &Finding) -> Option<Choice> {
+    let differs = match finding.rule {
+        Rule::Outside | Rule::Uncovered | Rule::Undefined => is_in_sight(finding),
+        Rule::EightBit => finding.place > 0,
+        _ => false,
+    };
+    if differs {
+        Choice::of_rule(finding.rule)
+    } else {
+        None
+    }
+}
+
+/// Whether two terminals differ, if they must.
+fn is_seen(
+    alloc: Global,
+    profile: Profile,
+    events: &[Placed],
+    finding: &Finding,
+) -> Result<bool, AllocError> {
+    match choice_of(finding) {
+        Some(choice) => terminals_differ(alloc, profile, events, finding, choice),
+        None => Ok(true),
+    }
+}
+
+/// How many rules there are by whose choice terminals differ.
+pub const DIFFERENCES: usize = 10;
+
+/// Adds the broken rule to those by whose choice two terminals differed, if they do and it isn't among them.
+fn add_rule(
+    alloc: Global,
+    profile: Profile,
+    events: &[Placed],
+    finding: &Finding,
+    rules: &mut Vec<Rule>,
+) -> Result<(), AllocError> {
+    if rules.iter().any(|rule| *rule == finding.rule) {
+        return Ok(());
+    }
+    if let Some(choice) = Choice::of_rule(finding.rule) {
+        if terminals_differ(alloc, profile, events, finding, choice)? {
+            rules.push(finding.rule)?;
+        }
+    }
+    Ok(())
+}
+
+/// Whether all terminals that have room show a portable picture, and some two of them differ where they must.
+fn is_verdict_shown(
+    alloc: Global,
+    profile: Profile,
+    events: &[Placed],
+    verdict: &Verdict,
+    rules: &mut Vec<Rule>,
+) -> Result<bool, AllocError> {
+    match verdict {
+        Verdict::Portable(picture) => Ok(
+            !is_small(picture) || all_show(alloc, profile, events, picture)?,
+        ),
+        Verdict::Broken(finding) => {
+            add_rule(alloc, profile, events, finding, rules)?;
+            is_seen(alloc, profile, events, finding)
+        }
+    }
+}
+
+/// Whether the terminals go along with the verdict on the bytes. Always true for bytes with a fault. A rule by whose
+/// choice two differ is added to the rules.
+pub fn is_shown_so(
+    alloc: Global,
+    profile: Profile,
+    bytes: &[u8],
+    rules: &mut Vec<Rule>,
+) -> Result<bool, InputFault> {
+    match check_bytes(alloc, profile, bytes) {
+        Ok(verdict) => {
+            let events = read_all(alloc, &mut SliceSource::new(bytes, 4096, None))?;
+            Ok(is_verdict_shown(alloc, profile, &events, &verdict, rules)?)
+        }
+        Err(InputFault::Grammar(_)) => Ok(true),
+        Err(fault) => Err(fault),
+    }
+}
