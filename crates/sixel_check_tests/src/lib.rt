@@ -2,15 +2,11 @@
 #![tactic(auto)]
 
 #[cfg(test)]
-mod corners;
-#[cfg(test)]
 mod differences;
 #[cfg(test)]
 mod documents;
 #[cfg(test)]
 mod events;
-#[cfg(test)]
-mod faults;
 #[cfg(test)]
 mod fills;
 #[cfg(test)]
@@ -20,15 +16,9 @@ mod growth;
 #[cfg(test)]
 mod limits;
 #[cfg(test)]
-mod made;
-#[cfg(test)]
 mod outside;
 #[cfg(test)]
-mod pairs;
-#[cfg(test)]
 mod pictures;
-#[cfg(test)]
-mod plain;
 #[cfg(test)]
 mod profiles;
 #[cfg(test)]

@@ -27,7 +27,14 @@ pub fn plain(alloc: Global, task: Task) -> Request
 }
 
 /// Whether a task on the bytes ends so, and writes this to standard output and this to standard error.
-pub fn ends(alloc: Global, task: Task, bytes: &[u8], exit: Exit, written: &[u8], said: &[u8]) -> bool
+pub fn ends(
+    alloc: Global,
+    task: Task,
+    bytes: &[u8],
+    exit: Exit,
+    written: &[u8],
+    said: &[u8],
+) -> bool
     requires { HasSides task }
 {
     let mut output = Vec::new(alloc);

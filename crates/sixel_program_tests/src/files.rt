@@ -15,8 +15,8 @@ use sixel_program::{Exit, execute};
 use sixel_run::Task;
 use sixel_words::Request;
 use std::alloc::{AllocError, Global};
-use std::io::Read;
 use std::io;
+use std::io::Read;
 use std::test::Fail;
 
 /// One black pixel.

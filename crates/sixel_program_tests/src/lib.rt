@@ -4,8 +4,6 @@
 #[cfg(test)]
 mod ends;
 #[cfg(test)]
-mod examples;
-#[cfg(test)]
 mod files;
 #[cfg(test)]
 mod formats;

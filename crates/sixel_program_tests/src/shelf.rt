@@ -4,8 +4,8 @@ ghost use Rattle.std.specs.Prelude.{None};
 
 use sixel_grammar::DeviceFault;
 use sixel_program::Folder;
-use std::io::{Error, Read};
 use std::io;
+use std::io::{Error, Read};
 
 /// Files in memory, by their names. A file of another name can't be opened.
 #[derive(Clone, Copy)]

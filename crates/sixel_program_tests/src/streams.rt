@@ -9,8 +9,8 @@ use sixel_program::{Exit, execute, tell};
 use sixel_run::Task;
 use sixel_words::{Topic, WordsFault, parse_words, task_in};
 use std::alloc::Global;
-use std::io::{Error, ErrorKind, Write};
 use std::io;
+use std::io::{Error, ErrorKind, Write};
 use std::test::Fail;
 
 const CHECK: Task = Task::Check {

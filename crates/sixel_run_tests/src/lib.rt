@@ -4,25 +4,15 @@
 #[cfg(test)]
 mod at_limits;
 #[cfg(test)]
-mod check;
-#[cfg(test)]
-mod encode;
-#[cfg(test)]
 mod exhausted;
 #[cfg(test)]
 mod in_turn;
 #[cfg(test)]
 mod lines;
 #[cfg(test)]
-mod render;
-#[cfg(test)]
 mod round_trip;
 #[cfg(test)]
 mod runs;
-#[cfg(test)]
-mod screens;
-#[cfg(test)]
-mod show;
 #[cfg(test)]
 mod show_box;
 #[cfg(test)]

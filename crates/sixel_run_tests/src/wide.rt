@@ -2,8 +2,8 @@
 
 ghost use Rattle.sixel_run.specs.Outputs.{HasSides};
 
-use crate::runs::agrees;
 use crate::round_trip::{encode_into, is_encoded_as, push_pixel, sends};
+use crate::runs::agrees;
 use sixel_check::{Finding, Rule, Verdict, check_bytes};
 use sixel_grammar::{SliceSink, SliceSource};
 use sixel_picture::{Colour, Palette, Picture, PpmReason, Profile};
