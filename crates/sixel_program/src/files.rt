@@ -441,6 +441,3 @@ pub fn answer<F: Folder, S: Source, K: Sink, E: Sink>(
         }
     }
 }
-
-#[cfg(test)]
-mod tests;
