@@ -1,4 +1,4 @@
-//! The program over streams and folders that it is handed: files, what is said of them, and how it ends.
+//! Files, what is said of them, and how the program ends, over any streams and any folder.
 #![tactic(auto)]
 
 mod execution;

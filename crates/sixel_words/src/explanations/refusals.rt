@@ -1,4 +1,4 @@
-//! What `explain` says of each reason for which a run is refused. docs/RULES.md has the same words.
+//! What `explain` says of each reason for which a run is refused. docs/REFUSALS.md has the same words.
 
 ghost use Rattle.std.specs.Prelude.{◌≡◌, ◌++◌, IfSome, IsNone, codes};
 ghost use Rattle.std.specs.Io.{StartsWith};
