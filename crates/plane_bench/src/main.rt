@@ -3,7 +3,7 @@
 
 ghost use Rattle.std.specs.Prelude.{◌<◌};
 
-use sixel_picture::{BandPlane, BytePlane, Plane};
+use sixel_plane::{BandPlane, BytePlane, Plane};
 use std::time::CpuClock;
 
 /// The width and the height of the planes, in pixels.

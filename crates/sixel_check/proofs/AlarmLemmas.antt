@@ -6,13 +6,13 @@ use Rattle.std.proofs.Math.Nat.{eq-or-lt_of_le}
 use Rattle.sixel_grammar.specs.declared.command.Event.{Event}
 use Rattle.sixel_grammar.specs.declared.command.Event.TheVariants.{Start, Step, Finish}
 use Rattle.sixel_grammar.specs.Document.{AreRest, AreWhole}
-use Rattle.sixel_picture.specs.Events.{is_finish, is_repeat_of_zero, is_square, raster_of}
-use Rattle.sixel_picture.specs.Geometry.{falls}
-use Rattle.sixel_picture.specs.Positions.{HoldsAtPosition}
-use Rattle.sixel_picture.specs.Rules.{Breaks, IsFirstBroken, breaks_ratio, breaks_repeat_zero, raster_before}
-use Rattle.sixel_picture.specs.RuleNumbers.{ratio_rule, repeat_zero_rule}
-use Rattle.sixel_picture.proofs.LatestLemmas.{each_from_positions}
-use Rattle.sixel_picture.proofs.RuleLemmas.{is_false}
+use Rattle.sixel_model.specs.Events.{is_finish, is_repeat_of_zero, is_square, raster_of}
+use Rattle.sixel_model.specs.Geometry.{falls}
+use Rattle.sixel_model.specs.Positions.{HoldsAtPosition}
+use Rattle.sixel_model.specs.Rules.{Breaks, IsFirstBroken, breaks_ratio, breaks_repeat_zero, raster_before}
+use Rattle.sixel_model.specs.RuleNumbers.{ratio_rule, repeat_zero_rule}
+use Rattle.sixel_model.proofs.LatestLemmas.{each_from_positions}
+use Rattle.sixel_model.proofs.RuleLemmas.{is_false}
 use Rattle.sixel_terminal.specs.Displays.{Display}
 use Rattle.sixel_terminal.specs.Drawing.{touches_on}
 use Rattle.sixel_terminal.specs.Laws.{IsPlain}

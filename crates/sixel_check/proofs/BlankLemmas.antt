@@ -13,13 +13,13 @@ use Rattle.std.proofs.lemmas.Iterator.Adapters.{position_from-zero}
 use Rattle.std.proofs.lemmas.List.Sums.{fails_before_first, passes_at_first}
 use Rattle.std.proofs.lemmas.Option.{slice_get-get_or}
 use Rattle.sixel_grammar.specs.declared.command.Event.{Event}
-use Rattle.sixel_picture.specs.Events.{Attributes, is_in_box}
-use Rattle.sixel_picture.specs.Pictures.{is_side, picture_of_parts, most_side}
-use Rattle.sixel_picture.specs.Rules.{IsFirstPoint, StaysBlank, is_before, is_covered, palette_left, picture_left}
-use Rattle.sixel_picture.specs.Rules.{register_at}
-use Rattle.sixel_picture.specs.Sheets.{Sheet, cell, first_blank, row_by_row}
-use Rattle.sixel_picture.proofs.PaintedLemmas.{none_passes, row_below}
-use Rattle.sixel_picture.proofs.SheetLemmas.{rows_from_index}
+use Rattle.sixel_model.specs.Events.{Attributes, is_in_box}
+use Rattle.sixel_model.specs.Pictures.{is_side, picture_of_parts, most_side}
+use Rattle.sixel_model.specs.Rules.{IsFirstPoint, StaysBlank, is_before, is_covered, palette_left, picture_left}
+use Rattle.sixel_model.specs.Rules.{register_at}
+use Rattle.sixel_model.specs.Sheets.{Sheet, cell, first_blank, row_by_row}
+use Rattle.sixel_plane.proofs.PaintedLemmas.{none_passes, row_below}
+use Rattle.sixel_model.proofs.SheetLemmas.{rows_from_index}
 use Rattle.sixel_check.specs.Judging.{IsDrawn, box_of}
 use Rattle.sixel_check.specs.Outside.{IsFirstIfAny}
 use Rattle.sixel_check.specs.Verdicts.{capped}

@@ -8,17 +8,17 @@ use Rattle.std.proofs.lemmas.Option.{slice_get_past}
 use Rattle.sixel_grammar.specs.declared.command.Command.TheVariants.{Define}
 use Rattle.sixel_grammar.specs.declared.command.Event.{Event}
 use Rattle.sixel_grammar.specs.declared.command.Event.TheVariants.{Step}
-use Rattle.sixel_picture.specs.declared.colour.Parts.{Parts}
-use Rattle.sixel_picture.specs.declared.colour.Parts.TheVariants.{Rgb, Hls}
-use Rattle.sixel_picture.specs.Colours.{palette_at}
-use Rattle.sixel_picture.specs.Events.{Definition, is_painting, is_same_definition}
-use Rattle.sixel_picture.specs.Rules.{Breaks, breaks_raster_first, breaks_raster_twice, breaks_ratio, breaks_box_size}
-use Rattle.sixel_picture.specs.Rules.{breaks_register, breaks_colour_value, breaks_repeat_zero, breaks_unselected}
-use Rattle.sixel_picture.specs.Rules.{breaks_undefined, breaks_redefined, colour_by, colour_of, definition_of}
-use Rattle.sixel_picture.specs.Rules.{is_painted_in, raster_before}
-use Rattle.sixel_picture.proofs.LeftLemmas.{left_at, length_left}
-use Rattle.sixel_picture.proofs.PositionLemmas.{and_false}
-use Rattle.sixel_picture.specs.RuleNumbers.{raster_first_rule, outside_rule}
+use Rattle.sixel_model.specs.declared.colour.Parts.{Parts}
+use Rattle.sixel_model.specs.declared.colour.Parts.TheVariants.{Rgb, Hls}
+use Rattle.sixel_model.specs.Colours.{palette_at}
+use Rattle.sixel_model.specs.Events.{Definition, is_painting, is_same_definition}
+use Rattle.sixel_model.specs.Rules.{Breaks, breaks_raster_first, breaks_raster_twice, breaks_ratio, breaks_box_size}
+use Rattle.sixel_model.specs.Rules.{breaks_register, breaks_colour_value, breaks_repeat_zero, breaks_unselected}
+use Rattle.sixel_model.specs.Rules.{breaks_undefined, breaks_redefined, colour_by, colour_of, definition_of}
+use Rattle.sixel_model.specs.Rules.{is_painted_in, raster_before}
+use Rattle.sixel_model.proofs.LeftLemmas.{left_at, length_left}
+use Rattle.sixel_model.proofs.PositionLemmas.{and_false}
+use Rattle.sixel_model.specs.RuleNumbers.{raster_first_rule, outside_rule}
 use Rattle.sixel_check.specs.declared.notes.Notes.{Notes}
 use Rattle.sixel_check.specs.declared.rule.Rule.{Rule}
 use Rattle.sixel_check.specs.declared.rule.Rule.TheVariants.{RasterFirst, RasterTwice, Ratio, BoxSize, Register}

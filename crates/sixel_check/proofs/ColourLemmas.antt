@@ -9,14 +9,14 @@ use Rattle.std.proofs.Math.Nat.{mod-eq_of_lt}
 use Rattle.sixel_grammar.specs.declared.command.Command.TheVariants.{Define}
 use Rattle.sixel_grammar.specs.declared.command.Event.{Event}
 use Rattle.sixel_grammar.specs.declared.command.Event.TheVariants.{Step}
-use Rattle.sixel_picture.specs.Events.{Definition, definition_where, named_by}
-use Rattle.sixel_picture.specs.Positions.{latest}
-use Rattle.sixel_picture.specs.Rules.{BreaksNone, breaks_colour_value, breaks_register, colour_by, colour_of}
-use Rattle.sixel_picture.specs.Rules.{definition_of, gives_colour, known}
-use Rattle.sixel_picture.proofs.KnownLemmas.{each_before, each_there, known_is, latest_each}
-use Rattle.sixel_picture.proofs.LatestLemmas.{Gives, each_from_positions, latest_gives, latest_same, latest_then}
-use Rattle.sixel_picture.proofs.RuleLemmas.{Keeps, keeps_at}
-use Rattle.sixel_picture.specs.RuleNumbers.{uncovered_rule}
+use Rattle.sixel_model.specs.Events.{Definition, definition_where, named_by}
+use Rattle.sixel_model.specs.Positions.{latest}
+use Rattle.sixel_model.specs.Rules.{BreaksNone, breaks_colour_value, breaks_register, colour_by, colour_of}
+use Rattle.sixel_model.specs.Rules.{definition_of, gives_colour, known}
+use Rattle.sixel_model.proofs.KnownLemmas.{each_before, each_there, known_is, latest_each}
+use Rattle.sixel_model.proofs.LatestLemmas.{Gives, each_from_positions, latest_gives, latest_same, latest_then}
+use Rattle.sixel_model.proofs.RuleLemmas.{Keeps, keeps_at}
+use Rattle.sixel_model.specs.RuleNumbers.{uncovered_rule}
 use Rattle.sixel_terminal.specs.Displays.{Display, registers_of}
 use Rattle.sixel_terminal.specs.Drawing.{defined_on, given_on, map_on}
 use Rattle.sixel_check.proofs.NoteLemmas.{given}

@@ -8,15 +8,15 @@ use Rattle.std.proofs.Math.Seq.{take-append_seam}
 use Rattle.sixel_grammar.specs.declared.command.Event.{Event}
 use Rattle.sixel_grammar.specs.declared.command.Event.TheVariants.{Start, Step, Finish}
 use Rattle.sixel_grammar.specs.Document.{AreRest, AreWhole}
-use Rattle.sixel_picture.specs.Events.{Attributes, is_data_command, is_in_box, raster_of}
-use Rattle.sixel_picture.specs.Geometry.{falls}
-use Rattle.sixel_picture.specs.Rules.{BreaksNone, BreaksUncovered, breaks_raster_first, breaks_raster_twice, is_covered}
-use Rattle.sixel_picture.specs.Rules.{raster_before}
-use Rattle.sixel_picture.proofs.FirstLemmas.{earliest_later}
-use Rattle.sixel_picture.proofs.PositionLemmas.{get_end, option_or_none}
-use Rattle.sixel_picture.proofs.RuleLemmas.{Keeps, keeps_at}
-use Rattle.sixel_picture.proofs.StepLemmas.{covered_push, raster_push}
-use Rattle.sixel_picture.specs.RuleNumbers.{uncovered_rule}
+use Rattle.sixel_model.specs.Events.{Attributes, is_data_command, is_in_box, raster_of}
+use Rattle.sixel_model.specs.Geometry.{falls}
+use Rattle.sixel_model.specs.Rules.{BreaksNone, BreaksUncovered, breaks_raster_first, breaks_raster_twice, is_covered}
+use Rattle.sixel_model.specs.Rules.{raster_before}
+use Rattle.sixel_model.proofs.FirstLemmas.{earliest_later}
+use Rattle.sixel_model.proofs.PositionLemmas.{get_end, option_or_none}
+use Rattle.sixel_model.proofs.RuleLemmas.{Keeps, keeps_at}
+use Rattle.sixel_model.proofs.StepLemmas.{covered_push, raster_push}
+use Rattle.sixel_model.specs.RuleNumbers.{uncovered_rule}
 use Rattle.sixel_check.specs.Laws.{AllCovered, FilledFirst}
 use Rattle.sixel_check.proofs.OptionLemmas.{some_from}
 

@@ -8,19 +8,19 @@ use Rattle.std.proofs.lemmas.List.{length-map}
 use Rattle.sixel_grammar.specs.declared.command.Event.{Event}
 use Rattle.sixel_grammar.specs.declared.command.Placed.{Placed}
 use Rattle.sixel_grammar.specs.Document.{events_of}
-use Rattle.sixel_picture.specs.Events.{Attributes, bits_of, columns_of, is_finish, is_in_box}
-use Rattle.sixel_picture.specs.Geometry.{band, column, falls, touches}
-use Rattle.sixel_picture.specs.Positions.{HoldsAtPosition}
-use Rattle.sixel_picture.specs.Rules.{Breaks, BreaksNone, BreaksOutside, BreaksUncovered, FallsOutside, IsFirstBroken}
-use Rattle.sixel_picture.specs.Rules.{IsFirstPoint, StaysBlank, is_covered, picture_left, raster_before}
-use Rattle.sixel_picture.proofs.CoverLemmas.{lies_under}
-use Rattle.sixel_picture.proofs.LastLemmas.{item_there}
-use Rattle.sixel_picture.proofs.PositionLemmas.{holds_within}
-use Rattle.sixel_picture.proofs.RuleLemmas.{no_more_rules}
-use Rattle.sixel_picture.specs.RuleNumbers.{raster_first_rule, raster_twice_rule, ratio_rule, box_size_rule}
-use Rattle.sixel_picture.specs.RuleNumbers.{register_rule, colour_value_rule, repeat_zero_rule, unselected_rule}
-use Rattle.sixel_picture.specs.RuleNumbers.{undefined_rule, redefined_rule, outside_rule, uncovered_rule}
-use Rattle.sixel_picture.specs.RuleNumbers.{eight_bit_rule, last_rule}
+use Rattle.sixel_model.specs.Events.{Attributes, bits_of, columns_of, is_finish, is_in_box}
+use Rattle.sixel_model.specs.Geometry.{band, column, falls, touches}
+use Rattle.sixel_model.specs.Positions.{HoldsAtPosition}
+use Rattle.sixel_model.specs.Rules.{Breaks, BreaksNone, BreaksOutside, BreaksUncovered, FallsOutside, IsFirstBroken}
+use Rattle.sixel_model.specs.Rules.{IsFirstPoint, StaysBlank, is_covered, picture_left, raster_before}
+use Rattle.sixel_model.proofs.CoverLemmas.{lies_under}
+use Rattle.sixel_model.proofs.LastLemmas.{item_there}
+use Rattle.sixel_model.proofs.PositionLemmas.{holds_within}
+use Rattle.sixel_model.proofs.RuleLemmas.{no_more_rules}
+use Rattle.sixel_model.specs.RuleNumbers.{raster_first_rule, raster_twice_rule, ratio_rule, box_size_rule}
+use Rattle.sixel_model.specs.RuleNumbers.{register_rule, colour_value_rule, repeat_zero_rule, unselected_rule}
+use Rattle.sixel_model.specs.RuleNumbers.{undefined_rule, redefined_rule, outside_rule, uncovered_rule}
+use Rattle.sixel_model.specs.RuleNumbers.{eight_bit_rule, last_rule}
 use Rattle.sixel_check.specs.declared.rule.Rule.{Rule}
 use Rattle.sixel_check.specs.declared.rule.Rule.TheVariants.{Outside, Uncovered}
 use Rattle.sixel_check.specs.declared.verdict.Verdict.{Verdict}

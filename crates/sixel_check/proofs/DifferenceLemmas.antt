@@ -12,23 +12,23 @@ use Rattle.sixel_grammar.specs.declared.command.Event.{Event}
 use Rattle.sixel_grammar.specs.declared.command.Event.TheVariants.{Finish}
 use Rattle.sixel_grammar.specs.declared.command.Placed.{Placed}
 use Rattle.sixel_grammar.specs.Document.{AreWhole, events_of}
-use Rattle.sixel_picture.specs.Events.{Attributes, has_sides, is_data_command, is_eight_bit, is_finish, is_in_box}
-use Rattle.sixel_picture.specs.Events.{raster_of}
-use Rattle.sixel_picture.specs.Colours.{palette_at}
-use Rattle.sixel_picture.specs.Geometry.{falls}
-use Rattle.sixel_picture.specs.Pictures.{is_side, register_of}
-use Rattle.sixel_picture.specs.Positions.{HoldsAtPosition, any_at, earliest, passes_at}
-use Rattle.sixel_picture.specs.Rules.{Breaks, BreaksNone, BreaksUncovered, FallsOutside, IsFirstBroken, StaysBlank}
-use Rattle.sixel_picture.specs.Rules.{breaks_box_size, breaks_eight_bit, breaks_raster_first, is_covered, picture_left}
-use Rattle.sixel_picture.specs.Rules.{raster_before}
-use Rattle.sixel_picture.specs.RuleNumbers.{raster_first_rule, box_size_rule, outside_rule, uncovered_rule}
-use Rattle.sixel_picture.specs.RuleNumbers.{eight_bit_rule}
-use Rattle.sixel_picture.proofs.CoverLemmas.{any_below_at}
-use Rattle.sixel_picture.proofs.FirstLemmas.{earliest_all}
-use Rattle.sixel_picture.proofs.LastLemmas.{passes_there}
-use Rattle.sixel_picture.proofs.LatestLemmas.{each_from_positions}
-use Rattle.sixel_picture.proofs.PositionLemmas.{holds_within}
-use Rattle.sixel_picture.proofs.RuleLemmas.{is_false}
+use Rattle.sixel_model.specs.Events.{Attributes, has_sides, is_data_command, is_eight_bit, is_finish, is_in_box}
+use Rattle.sixel_model.specs.Events.{raster_of}
+use Rattle.sixel_model.specs.Colours.{palette_at}
+use Rattle.sixel_model.specs.Geometry.{falls}
+use Rattle.sixel_model.specs.Pictures.{is_side, register_of}
+use Rattle.sixel_model.specs.Positions.{HoldsAtPosition, any_at, earliest, passes_at}
+use Rattle.sixel_model.specs.Rules.{Breaks, BreaksNone, BreaksUncovered, FallsOutside, IsFirstBroken, StaysBlank}
+use Rattle.sixel_model.specs.Rules.{breaks_box_size, breaks_eight_bit, breaks_raster_first, is_covered, picture_left}
+use Rattle.sixel_model.specs.Rules.{raster_before}
+use Rattle.sixel_model.specs.RuleNumbers.{raster_first_rule, box_size_rule, outside_rule, uncovered_rule}
+use Rattle.sixel_model.specs.RuleNumbers.{eight_bit_rule}
+use Rattle.sixel_model.proofs.CoverLemmas.{any_below_at}
+use Rattle.sixel_model.proofs.FirstLemmas.{earliest_all}
+use Rattle.sixel_model.proofs.LastLemmas.{passes_there}
+use Rattle.sixel_model.proofs.LatestLemmas.{each_from_positions}
+use Rattle.sixel_model.proofs.PositionLemmas.{holds_within}
+use Rattle.sixel_model.proofs.RuleLemmas.{is_false}
 use Rattle.sixel_terminal.specs.declared.choices.Ground.{Ground}
 use Rattle.sixel_terminal.specs.declared.choices.Ground.TheVariants.{Kept}
 use Rattle.sixel_terminal.specs.Displays.{Display, registers_of}

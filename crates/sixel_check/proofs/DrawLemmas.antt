@@ -9,15 +9,15 @@ use Rattle.sixel_grammar.specs.Spelling.{IsSpellable}
 use Rattle.sixel_grammar.specs.declared.command.Command.TheVariants.{Sixel, Repeat}
 use Rattle.sixel_grammar.specs.declared.command.Event.{Event}
 use Rattle.sixel_grammar.specs.declared.command.Event.TheVariants.{Step}
-use Rattle.sixel_picture.specs.Events.{Attributes, Definition, bits_of, columns_of, definition_where, has_sides}
-use Rattle.sixel_picture.specs.Events.{is_data_command, is_finish, is_painting, is_return, is_square, raster_of}
-use Rattle.sixel_picture.specs.Pictures.{is_side, most_side}
-use Rattle.sixel_picture.specs.Geometry.{band, column, falls, touches}
-use Rattle.sixel_picture.specs.Rules.{BreaksOutside, breaks_box_size, breaks_raster_first, breaks_ratio}
-use Rattle.sixel_picture.specs.Rules.{breaks_repeat_zero, breaks_unselected, definition_of, known, register_at}
-use Rattle.sixel_picture.specs.Sheets.{Sheet, blank_sheet, painted_sheet}
-use Rattle.sixel_picture.proofs.CoverLemmas.{idle_falls}
-use Rattle.sixel_picture.proofs.StepLemmas.{definition_push, register_push}
+use Rattle.sixel_model.specs.Events.{Attributes, Definition, bits_of, columns_of, definition_where, has_sides}
+use Rattle.sixel_model.specs.Events.{is_data_command, is_finish, is_painting, is_return, is_square, raster_of}
+use Rattle.sixel_model.specs.Pictures.{is_side, most_side}
+use Rattle.sixel_model.specs.Geometry.{band, column, falls, touches}
+use Rattle.sixel_model.specs.Rules.{BreaksOutside, breaks_box_size, breaks_raster_first, breaks_ratio}
+use Rattle.sixel_model.specs.Rules.{breaks_repeat_zero, breaks_unselected, definition_of, known, register_at}
+use Rattle.sixel_model.specs.Sheets.{Sheet, blank_sheet, painted_sheet}
+use Rattle.sixel_model.proofs.CoverLemmas.{idle_falls}
+use Rattle.sixel_model.proofs.StepLemmas.{definition_push, register_push}
 use Rattle.sixel_check.specs.declared.notes.Notes.{Notes}
 use Rattle.sixel_check.specs.Breaches.{BreaksNoRule}
 use Rattle.sixel_check.specs.Judging.{AreColoured, AreNotesAfter, IsDrawn, IsUndrawn}

@@ -6,15 +6,15 @@ use Rattle.std.specs.Option.{option_or}
 use Rattle.sixel_grammar.specs.declared.command.Event.{Event}
 use Rattle.sixel_grammar.specs.declared.command.Event.TheVariants.{Step}
 use Rattle.sixel_grammar.specs.declared.command.Command.TheVariants.{Sixel, Repeat}
-use Rattle.sixel_picture.specs.Events.{Attributes, bits_of, columns_of, is_data_command, raster_of}
-use Rattle.sixel_picture.specs.Geometry.{band, column, covers, falls, touches}
-use Rattle.sixel_picture.specs.Pictures.{is_side}
-use Rattle.sixel_picture.specs.Positions.{any_at, any_below, earliest, last_at, last_below}
-use Rattle.sixel_picture.specs.Rules.{is_covered, known, raster_before, register_at}
-use Rattle.sixel_picture.specs.Sheets.{Sheet, blank_sheet, cell, painted_sheet}
-use Rattle.sixel_picture.proofs.CoverLemmas.{idle_covered, idle_register}
-use Rattle.sixel_picture.proofs.SheetLemmas.{cell-blank_sheet, cell-painted_sheet, length_rows}
-use Rattle.sixel_picture.proofs.StepLemmas.{covered_push, raster_push, register_push}
+use Rattle.sixel_model.specs.Events.{Attributes, bits_of, columns_of, is_data_command, raster_of}
+use Rattle.sixel_model.specs.Geometry.{band, column, covers, falls, touches}
+use Rattle.sixel_model.specs.Pictures.{is_side}
+use Rattle.sixel_model.specs.Positions.{any_at, any_below, earliest, last_at, last_below}
+use Rattle.sixel_model.specs.Rules.{is_covered, known, raster_before, register_at}
+use Rattle.sixel_model.specs.Sheets.{Sheet, blank_sheet, cell, painted_sheet}
+use Rattle.sixel_model.proofs.CoverLemmas.{idle_covered, idle_register}
+use Rattle.sixel_model.proofs.SheetLemmas.{cell-blank_sheet, cell-painted_sheet, length_rows}
+use Rattle.sixel_model.proofs.StepLemmas.{covered_push, raster_push, register_push}
 use Rattle.sixel_check.specs.Judging.{IsDrawn, IsUndrawn}
 
 -- only data commands have set bits

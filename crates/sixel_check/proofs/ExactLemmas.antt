@@ -14,11 +14,11 @@ use Rattle.sixel_grammar.specs.Document.{Document, IsPiece, Piece, bytes_of, eve
 use Rattle.sixel_grammar.specs.Document.{placed_from}
 use Rattle.sixel_grammar.specs.Spelling.{Spells}
 use Rattle.sixel_grammar.proofs.ViableLemmas.{spells-some}
-use Rattle.sixel_picture.specs.Events.{columns_of, is_next_line, is_return}
-use Rattle.sixel_picture.specs.Geometry.{band, column, falls}
-use Rattle.sixel_picture.specs.Positions.{HoldsAtPosition, since}
-use Rattle.sixel_picture.specs.Rules.{FallsOutside, raster_before}
-use Rattle.sixel_picture.proofs.KnownLemmas.{each_before, each_there}
+use Rattle.sixel_model.specs.Events.{columns_of, is_next_line, is_return}
+use Rattle.sixel_model.specs.Geometry.{band, column, falls}
+use Rattle.sixel_model.specs.Positions.{HoldsAtPosition, since}
+use Rattle.sixel_model.specs.Rules.{FallsOutside, raster_before}
+use Rattle.sixel_model.proofs.KnownLemmas.{each_before, each_there}
 use Rattle.sixel_check.specs.declared.rule.Rule.{Rule}
 use Rattle.sixel_check.specs.declared.rule.Rule.TheVariants.{Outside}
 use Rattle.sixel_check.specs.Differences.{CoordinatesAreExact}

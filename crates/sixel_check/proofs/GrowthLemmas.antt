@@ -16,11 +16,11 @@ use Rattle.sixel_grammar.specs.declared.fault.InputFault.TheVariants.{Grammar, O
 use Rattle.sixel_grammar.specs.declared.reader.Reader.{Reader}
 use Rattle.sixel_grammar.proofs.StandLemmas.{read_complete}
 use Rattle.sixel_grammar.proofs.UniqueLemmas.{complete_stays}
-use Rattle.sixel_picture.specs.Events.{raster_of}
-use Rattle.sixel_picture.specs.Sheets.{Sheet}
-use Rattle.sixel_picture.proofs.PositionLemmas.{holds_before, holds_end, holds_within}
-use Rattle.sixel_picture.proofs.RuleLemmas.{none_push}
-use Rattle.sixel_picture.specs.RuleNumbers.{last_rule}
+use Rattle.sixel_model.specs.Events.{raster_of}
+use Rattle.sixel_model.specs.Sheets.{Sheet}
+use Rattle.sixel_model.proofs.PositionLemmas.{holds_before, holds_end, holds_within}
+use Rattle.sixel_model.proofs.RuleLemmas.{none_push}
+use Rattle.sixel_model.specs.RuleNumbers.{last_rule}
 use Rattle.sixel_check.specs.declared.notes.Notes.{Notes}
 use Rattle.sixel_check.specs.declared.verdict.Verdict.{Verdict}
 use Rattle.sixel_check.specs.Breaches.{BreaksNoRule}

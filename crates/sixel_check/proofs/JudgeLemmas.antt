@@ -6,12 +6,12 @@ use Rattle.std.specs.Option.{option_map}
 use Rattle.std.proofs.lemmas.List.{map-append, length-map}
 use Rattle.sixel_grammar.specs.Document.{events_of}
 use Rattle.sixel_grammar.specs.declared.command.Placed.{Placed}
-use Rattle.sixel_picture.specs.Positions.{last_at, last_below}
-use Rattle.sixel_picture.specs.Rules.{register_at}
-use Rattle.sixel_picture.specs.Sheets.{Sheet}
-use Rattle.sixel_picture.proofs.PositionLemmas.{get_before, get_end, holds_before, holds_end, holds_within}
-use Rattle.sixel_picture.proofs.RuleLemmas.{first_push, first_there, none_of_none, none_push}
-use Rattle.sixel_picture.specs.RuleNumbers.{last_rule}
+use Rattle.sixel_model.specs.Positions.{last_at, last_below}
+use Rattle.sixel_model.specs.Rules.{register_at}
+use Rattle.sixel_model.specs.Sheets.{Sheet}
+use Rattle.sixel_model.proofs.PositionLemmas.{get_before, get_end, holds_before, holds_end, holds_within}
+use Rattle.sixel_model.proofs.RuleLemmas.{first_push, first_there, none_of_none, none_push}
+use Rattle.sixel_model.specs.RuleNumbers.{last_rule}
 use Rattle.sixel_check.specs.declared.breach.Breach.{Breach}
 use Rattle.sixel_check.specs.declared.notes.Notes.{Notes}
 use Rattle.sixel_check.specs.declared.verdict.Finding.{Finding}

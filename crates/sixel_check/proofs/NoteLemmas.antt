@@ -10,20 +10,20 @@ use Rattle.std.proofs.lemmas.List.{get_or-replicate, get_or-set_same, get_or-set
 use Rattle.sixel_grammar.specs.declared.command.Command.TheVariants.{Select, Define}
 use Rattle.sixel_grammar.specs.declared.command.Event.{Event}
 use Rattle.sixel_grammar.specs.declared.command.Event.TheVariants.{Step}
-use Rattle.sixel_picture.specs.declared.colour.Parts.{Parts}
-use Rattle.sixel_picture.specs.Colours.{colour_in, is_colour}
-use Rattle.sixel_picture.specs.Events.{Definition, columns_of, definition_where, is_eight_bit, is_next_line}
-use Rattle.sixel_picture.specs.Events.{is_painting, is_return, named_by, select_of}
-use Rattle.sixel_picture.specs.Geometry.{band, column}
-use Rattle.sixel_picture.specs.Positions.{latest, since, any_at, any_below}
-use Rattle.sixel_picture.specs.Rules.{Breaks, breaks_colour_value, breaks_eight_bit, breaks_register, definition_of}
-use Rattle.sixel_picture.specs.Rules.{gives_colour}
-use Rattle.sixel_picture.specs.RuleNumbers.{eight_bit_rule}
-use Rattle.sixel_picture.specs.Rules.{is_painted_in, is_that, known, known_by, palette_left, colour_of}
-use Rattle.sixel_picture.proofs.LeftLemmas.{left_define, left_idle, left_start, length_left}
-use Rattle.sixel_picture.proofs.PositionLemmas.{latest_push}
-use Rattle.sixel_picture.proofs.RuleLemmas.{Keeps, is_false, none_keeps}
-use Rattle.sixel_picture.proofs.StepLemmas.{band_push, column_push, definition_push, painted_in_push}
+use Rattle.sixel_model.specs.declared.colour.Parts.{Parts}
+use Rattle.sixel_model.specs.Colours.{colour_in, is_colour}
+use Rattle.sixel_model.specs.Events.{Definition, columns_of, definition_where, is_eight_bit, is_next_line}
+use Rattle.sixel_model.specs.Events.{is_painting, is_return, named_by, select_of}
+use Rattle.sixel_model.specs.Geometry.{band, column}
+use Rattle.sixel_model.specs.Positions.{latest, since, any_at, any_below}
+use Rattle.sixel_model.specs.Rules.{Breaks, breaks_colour_value, breaks_eight_bit, breaks_register, definition_of}
+use Rattle.sixel_model.specs.Rules.{gives_colour}
+use Rattle.sixel_model.specs.RuleNumbers.{eight_bit_rule}
+use Rattle.sixel_model.specs.Rules.{is_painted_in, is_that, known, known_by, palette_left, colour_of}
+use Rattle.sixel_model.proofs.LeftLemmas.{left_define, left_idle, left_start, length_left}
+use Rattle.sixel_model.proofs.PositionLemmas.{latest_push}
+use Rattle.sixel_model.proofs.RuleLemmas.{Keeps, is_false, none_keeps}
+use Rattle.sixel_model.proofs.StepLemmas.{band_push, column_push, definition_push, painted_in_push}
 use Rattle.sixel_check.specs.declared.notes.Notes.{Notes}
 use Rattle.sixel_check.specs.Breaches.{BreaksNoRule}
 use Rattle.sixel_check.specs.Judging.{AreNotesAfter, IsGood}

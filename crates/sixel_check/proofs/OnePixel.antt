@@ -1,22 +1,22 @@
 -- One pixel, as a list in which no rule is broken.
 use Rattle.std.proofs.Common.{◌≡◌, ◌⊎◌, inl, inr, Bool, true, false, refl}
-use Rattle.sixel_picture.specs.Rules.{Breaks, BreaksNone, BreaksOutside, BreaksUncovered, breaks_box_size}
-use Rattle.sixel_picture.specs.Rules.{breaks_eight_bit, breaks_colour_value, breaks_ratio, breaks_raster_first}
-use Rattle.sixel_picture.specs.Rules.{breaks_raster_twice, breaks_redefined, breaks_register, breaks_repeat_zero}
-use Rattle.sixel_picture.specs.Rules.{breaks_undefined, breaks_unselected, definition_of, is_covered, is_painted_in}
-use Rattle.sixel_picture.specs.Rules.{known, raster_before}
-use Rattle.sixel_picture.specs.Geometry.{band, column, covers, falls, touches}
-use Rattle.sixel_picture.specs.Positions.{any_at, any_below, earliest, latest, passes_at, since}
+use Rattle.sixel_model.specs.Rules.{Breaks, BreaksNone, BreaksOutside, BreaksUncovered, breaks_box_size}
+use Rattle.sixel_model.specs.Rules.{breaks_eight_bit, breaks_colour_value, breaks_ratio, breaks_raster_first}
+use Rattle.sixel_model.specs.Rules.{breaks_raster_twice, breaks_redefined, breaks_register, breaks_repeat_zero}
+use Rattle.sixel_model.specs.Rules.{breaks_undefined, breaks_unselected, definition_of, is_covered, is_painted_in}
+use Rattle.sixel_model.specs.Rules.{known, raster_before}
+use Rattle.sixel_model.specs.Geometry.{band, column, covers, falls, touches}
+use Rattle.sixel_model.specs.Positions.{any_at, any_below, earliest, latest, passes_at, since}
 use Rattle.sixel_check.proofs.DecideLemmas.{decided_by, falls_searchable, blank_searchable, first_of, outside_first}
 use Rattle.sixel_check.proofs.DecideLemmas.{blank_first, outside_decided, blank_somewhere, both_decided}
 use Rattle.sixel_check.proofs.DecideLemmas.{uncovered_decided, rule_decided, held_decided, position_decided}
 use Rattle.sixel_check.proofs.DecideLemmas.{broken_decided, broken_or_none}
 use Rattle.sixel_check.proofs.SearchLemmas.{decide_true, decide_either, least_here, least_more, least_below, in_row}
 use Rattle.sixel_check.proofs.SearchLemmas.{row_decided, first_point}
-use Rattle.sixel_picture.specs.RuleNumbers.{last_rule}
-use Rattle.sixel_picture.specs.Profiles.{count_of}
-use Rattle.sixel_picture.specs.declared.profile.Profile.{Profile}
-use Rattle.sixel_picture.specs.declared.profile.Profile.TheVariants.{Registers16, Registers256}
+use Rattle.sixel_model.specs.RuleNumbers.{last_rule}
+use Rattle.sixel_model.specs.Profiles.{count_of}
+use Rattle.sixel_model.specs.declared.profile.Profile.{Profile}
+use Rattle.sixel_model.specs.declared.profile.Profile.TheVariants.{Registers16, Registers256}
 use Rattle.sixel_check.specs.Laws.{OnePixelBreaksNone, one_pixel}
 
 abbrev is_second : {A B : Type 0} → A ⊎ B → Bool

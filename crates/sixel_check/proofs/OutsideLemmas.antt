@@ -6,8 +6,8 @@ use Rattle.std.specs.Int.{bit_at}
 use Rattle.std.proofs.lemmas.Bool.{and_from, and_left, and_parts, and_right, eqb-true, or_cases}
 use Rattle.std.proofs.lemmas.Nat.Bits.{bit_at-zero}
 use Rattle.std.proofs.lemmas.Bool.{le-ltb, leb-false, leb-true, lt-ltb, ltb-false, ltb-true}
-use Rattle.sixel_picture.specs.Rules.{IsFirstPoint}
-use Rattle.sixel_picture.proofs.CoverLemmas.{covers_under, lies_under}
+use Rattle.sixel_model.specs.Rules.{IsFirstPoint}
+use Rattle.sixel_model.proofs.CoverLemmas.{covers_under, lies_under}
 use Rattle.sixel_check.specs.Outside.{IsFirstIfAny, PaintsOutside, first_column}
 use Rattle.sixel_check.specs.Verdicts.{capped}
 

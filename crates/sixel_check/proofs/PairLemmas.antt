@@ -4,8 +4,8 @@ use Rattle.std.specs.Prelude.{IsSomeAnd}
 use Rattle.sixel_grammar.specs.declared.command.Event.{Event}
 use Rattle.sixel_grammar.specs.declared.command.Placed.{Placed}
 use Rattle.sixel_grammar.specs.Document.{events_of}
-use Rattle.sixel_picture.specs.declared.colour.Parts.{Parts}
-use Rattle.sixel_picture.specs.Rules.{raster_before}
+use Rattle.sixel_model.specs.declared.colour.Parts.{Parts}
+use Rattle.sixel_model.specs.Rules.{raster_before}
 use Rattle.sixel_terminal.specs.Displays.{Display, HasRoom, IsInClass, clipping, hearing}
 use Rattle.sixel_terminal.proofs.ShownLemmas.{unpainted}
 use Rattle.sixel_check.specs.declared.rule.Rule.{Rule}

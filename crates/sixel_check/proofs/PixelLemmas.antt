@@ -4,11 +4,11 @@ use Rattle.std.specs.Prelude.{is_some}
 use Rattle.std.specs.Option.{option_map}
 use Rattle.std.proofs.lemmas.Bool.{both_ways}
 use Rattle.sixel_grammar.specs.declared.command.Event.{Event}
-use Rattle.sixel_picture.specs.Events.{is_eight_bit, is_finish}
-use Rattle.sixel_picture.specs.Rules.{Breaks, BreaksOutside, BreaksUncovered, FallsOutside, StaysBlank}
-use Rattle.sixel_picture.specs.Rules.{breaks_eight_bit, raster_before}
-use Rattle.sixel_picture.specs.Sheets.{Sheet}
-use Rattle.sixel_picture.specs.RuleNumbers.{outside_rule, uncovered_rule, eight_bit_rule}
+use Rattle.sixel_model.specs.Events.{is_eight_bit, is_finish}
+use Rattle.sixel_model.specs.Rules.{Breaks, BreaksOutside, BreaksUncovered, FallsOutside, StaysBlank}
+use Rattle.sixel_model.specs.Rules.{breaks_eight_bit, raster_before}
+use Rattle.sixel_model.specs.Sheets.{Sheet}
+use Rattle.sixel_model.specs.RuleNumbers.{outside_rule, uncovered_rule, eight_bit_rule}
 use Rattle.sixel_check.specs.declared.notes.Notes.{Notes}
 use Rattle.sixel_check.specs.declared.rule.Rule.{Rule}
 use Rattle.sixel_check.specs.declared.rule.Rule.TheVariants.{Outside, Uncovered, EightBit}

@@ -9,20 +9,20 @@ use Rattle.std.proofs.lemmas.Option.{slice_get_within}
 use Rattle.sixel_grammar.specs.declared.command.Event.{Event}
 use Rattle.sixel_grammar.specs.declared.command.Placed.{Placed}
 use Rattle.sixel_grammar.specs.Document.{events_of}
-use Rattle.sixel_picture.specs.declared.colour.Parts.{Parts}
-use Rattle.sixel_picture.specs.declared.colour.Parts.TheVariants.{Rgb, Hls}
-use Rattle.sixel_picture.specs.declared.profile.Profile.{Profile}
-use Rattle.sixel_picture.specs.declared.profile.Profile.TheVariants.{Registers16, Registers256}
-use Rattle.sixel_picture.specs.Events.{Attributes, has_sides, is_in_box}
-use Rattle.sixel_picture.specs.Colours.{palette_at}
-use Rattle.sixel_picture.specs.Pictures.{is_side, register_of}
-use Rattle.sixel_picture.specs.Positions.{HoldsAtPosition, at_position, last_at}
-use Rattle.sixel_picture.specs.Profiles.{count_of}
-use Rattle.sixel_picture.specs.Rules.{BreaksNone, IsFirstBroken, StaysBlank, picture_left, raster_before}
-use Rattle.sixel_picture.specs.RuleNumbers.{uncovered_rule, eight_bit_rule}
-use Rattle.sixel_picture.proofs.CoverLemmas.{any_below_at}
-use Rattle.sixel_picture.proofs.FirstLemmas.{earliest_all}
-use Rattle.sixel_picture.proofs.LastLemmas.{at_there, some_last}
+use Rattle.sixel_model.specs.declared.colour.Parts.{Parts}
+use Rattle.sixel_model.specs.declared.colour.Parts.TheVariants.{Rgb, Hls}
+use Rattle.sixel_model.specs.declared.profile.Profile.{Profile}
+use Rattle.sixel_model.specs.declared.profile.Profile.TheVariants.{Registers16, Registers256}
+use Rattle.sixel_model.specs.Events.{Attributes, has_sides, is_in_box}
+use Rattle.sixel_model.specs.Colours.{palette_at}
+use Rattle.sixel_model.specs.Pictures.{is_side, register_of}
+use Rattle.sixel_model.specs.Positions.{HoldsAtPosition, at_position, last_at}
+use Rattle.sixel_model.specs.Profiles.{count_of}
+use Rattle.sixel_model.specs.Rules.{BreaksNone, IsFirstBroken, StaysBlank, picture_left, raster_before}
+use Rattle.sixel_model.specs.RuleNumbers.{uncovered_rule, eight_bit_rule}
+use Rattle.sixel_model.proofs.CoverLemmas.{any_below_at}
+use Rattle.sixel_model.proofs.FirstLemmas.{earliest_all}
+use Rattle.sixel_model.proofs.LastLemmas.{at_there, some_last}
 use Rattle.sixel_terminal.specs.Displays.{Display, IsInClass}
 use Rattle.sixel_terminal.specs.Drawing.{height_of, inked_on, is_kept_on, is_seen_on, map_on, paints_in, paints_on}
 use Rattle.sixel_terminal.specs.Drawing.{selected_on, shown_on, stood_on, touches_on}

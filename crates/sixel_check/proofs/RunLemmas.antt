@@ -5,12 +5,12 @@ use Rattle.std.specs.Int.{bit_at}
 use Rattle.std.proofs.lemmas.Bool.{agree_below_at, and_parts, eqb-true, ltb-true, ne_eqb, not_from_false}
 use Rattle.std.proofs.lemmas.Bool.{true_from_ne_false}
 use Rattle.sixel_grammar.specs.declared.command.Event.{Event}
-use Rattle.sixel_picture.specs.Events.{Attributes, bits_of, columns_of}
-use Rattle.sixel_picture.specs.Geometry.{band, column, falls, touches}
-use Rattle.sixel_picture.specs.Positions.{any_below}
-use Rattle.sixel_picture.specs.Rules.{FallsOutside, IsFirstPoint, known}
-use Rattle.sixel_picture.specs.Sheets.{Sheet, painted_sheet}
-use Rattle.sixel_picture.proofs.CoverLemmas.{covers_under, passes_below}
+use Rattle.sixel_model.specs.Events.{Attributes, bits_of, columns_of}
+use Rattle.sixel_model.specs.Geometry.{band, column, falls, touches}
+use Rattle.sixel_model.specs.Positions.{any_below}
+use Rattle.sixel_model.specs.Rules.{FallsOutside, IsFirstPoint, known}
+use Rattle.sixel_model.specs.Sheets.{Sheet, painted_sheet}
+use Rattle.sixel_model.proofs.CoverLemmas.{covers_under, passes_below}
 use Rattle.sixel_check.specs.Judging.{IsDrawn}
 use Rattle.sixel_check.specs.Outside.{IsFirstIfAny, PaintsOutside}
 use Rattle.sixel_check.specs.Verdicts.{capped}

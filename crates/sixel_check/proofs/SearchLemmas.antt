@@ -4,7 +4,7 @@ use Rattle.std.proofs.Common.{arith}
 use Rattle.std.specs.Prelude.{IsTrue}
 use Rattle.std.specs.Bool.{MatchBool}
 use Rattle.std.proofs.lemmas.Bool.{and_parts, eqb-false, eqb-true, ltb-true, or_cases}
-use Rattle.sixel_picture.specs.Rules.{IsFirstPoint, is_before}
+use Rattle.sixel_model.specs.Rules.{IsFirstPoint, is_before}
 
 -- ---- the least of numbers that are looked at one by one
 

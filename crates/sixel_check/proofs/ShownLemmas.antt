@@ -8,19 +8,19 @@ use Rattle.std.proofs.lemmas.Bool.{and_from, lt-ltb}
 use Rattle.std.proofs.lemmas.Option.{slice_get_within}
 use Rattle.sixel_grammar.specs.declared.command.Event.{Event}
 use Rattle.sixel_grammar.specs.Document.{AreWhole}
-use Rattle.sixel_picture.specs.declared.colour.Parts.{Parts}
-use Rattle.sixel_picture.specs.declared.colour.Parts.TheVariants.{Rgb}
-use Rattle.sixel_picture.specs.Colours.{palette_at}
-use Rattle.sixel_picture.specs.Events.{Attributes, is_data_command, is_eight_bit, is_in_box, raster_of}
-use Rattle.sixel_picture.specs.Geometry.{falls}
-use Rattle.sixel_picture.specs.Pictures.{register_of}
-use Rattle.sixel_picture.specs.Positions.{any_at, at_position, last_at, last_below, passes_at}
-use Rattle.sixel_picture.specs.Rules.{BreaksNone, breaks_unselected, is_covered, known, picture_left, raster_before}
-use Rattle.sixel_picture.specs.Rules.{register_at}
-use Rattle.sixel_picture.proofs.LastLemmas.{IsLast, at_there, is_last, item_there, last_is, passes_there, some_last}
-use Rattle.sixel_picture.proofs.RuleLemmas.{Keeps, keeps_at, none_drawn, seven_bits_at}
-use Rattle.sixel_picture.proofs.SheetLemmas.{get_rows}
-use Rattle.sixel_picture.specs.RuleNumbers.{uncovered_rule, last_rule}
+use Rattle.sixel_model.specs.declared.colour.Parts.{Parts}
+use Rattle.sixel_model.specs.declared.colour.Parts.TheVariants.{Rgb}
+use Rattle.sixel_model.specs.Colours.{palette_at}
+use Rattle.sixel_model.specs.Events.{Attributes, is_data_command, is_eight_bit, is_in_box, raster_of}
+use Rattle.sixel_model.specs.Geometry.{falls}
+use Rattle.sixel_model.specs.Pictures.{register_of}
+use Rattle.sixel_model.specs.Positions.{any_at, at_position, last_at, last_below, passes_at}
+use Rattle.sixel_model.specs.Rules.{BreaksNone, breaks_unselected, is_covered, known, picture_left, raster_before}
+use Rattle.sixel_model.specs.Rules.{register_at}
+use Rattle.sixel_model.proofs.LastLemmas.{IsLast, at_there, is_last, item_there, last_is, passes_there, some_last}
+use Rattle.sixel_model.proofs.RuleLemmas.{Keeps, keeps_at, none_drawn, seven_bits_at}
+use Rattle.sixel_model.proofs.SheetLemmas.{get_rows}
+use Rattle.sixel_model.specs.RuleNumbers.{uncovered_rule, last_rule}
 use Rattle.sixel_terminal.specs.Displays.{Display, registers_of}
 use Rattle.sixel_terminal.specs.Drawing.{inked_on, is_kept_on, is_seen_on, map_on, paint_at, paints_in, paints_on}
 use Rattle.sixel_terminal.specs.Drawing.{selected_on, shown_on, touches_on}

@@ -13,7 +13,7 @@ use Rattle.sixel_grammar.proofs.PieceLemmas.{all-append}
 use Rattle.sixel_grammar.specs.declared.command.Event.{Event}
 use Rattle.sixel_grammar.specs.declared.command.Event.TheVariants.{Start, Step, Finish}
 use Rattle.sixel_grammar.specs.declared.command.Placed.{Placed}
-use Rattle.sixel_picture.specs.Events.{is_finish}
+use Rattle.sixel_model.specs.Events.{is_finish}
 use Rattle.sixel_check.specs.declared.progress.Progress.{Progress}
 use Rattle.sixel_check.specs.declared.progress.Progress.TheVariants.{Fresh, Begun, Whole}
 use Rattle.sixel_check.specs.Judging.{JudgesAfter}

@@ -10,17 +10,17 @@ use Rattle.std.proofs.Math.Seq.{take-length}
 use Rattle.sixel_grammar.specs.declared.command.Command.TheVariants.{Define}
 use Rattle.sixel_grammar.specs.declared.command.Event.{Event}
 use Rattle.sixel_grammar.specs.declared.command.Event.TheVariants.{Step}
-use Rattle.sixel_picture.specs.Colours.{palette_at}
-use Rattle.sixel_picture.specs.Events.{Definition, definition_where, is_painting, is_same_definition}
-use Rattle.sixel_picture.specs.Rules.{BreaksNone, breaks_redefined, breaks_undefined, colour_of, definition_of}
-use Rattle.sixel_picture.specs.Rules.{is_painted_in, is_that, known, picture_left}
-use Rattle.sixel_picture.proofs.KnownLemmas.{each_before}
-use Rattle.sixel_picture.proofs.LastLemmas.{item_there}
-use Rattle.sixel_picture.proofs.LatestLemmas.{take_one_more}
-use Rattle.sixel_picture.proofs.LeftLemmas.{left_at}
-use Rattle.sixel_picture.proofs.RuleLemmas.{Keeps, keeps_at}
-use Rattle.sixel_picture.proofs.StepLemmas.{definition_push, painted_in_push}
-use Rattle.sixel_picture.specs.RuleNumbers.{uncovered_rule}
+use Rattle.sixel_model.specs.Colours.{palette_at}
+use Rattle.sixel_model.specs.Events.{Definition, definition_where, is_painting, is_same_definition}
+use Rattle.sixel_model.specs.Rules.{BreaksNone, breaks_redefined, breaks_undefined, colour_of, definition_of}
+use Rattle.sixel_model.specs.Rules.{is_painted_in, is_that, known, picture_left}
+use Rattle.sixel_model.proofs.KnownLemmas.{each_before}
+use Rattle.sixel_model.proofs.LastLemmas.{item_there}
+use Rattle.sixel_model.proofs.LatestLemmas.{take_one_more}
+use Rattle.sixel_model.proofs.LeftLemmas.{left_at}
+use Rattle.sixel_model.proofs.RuleLemmas.{Keeps, keeps_at}
+use Rattle.sixel_model.proofs.StepLemmas.{definition_push, painted_in_push}
+use Rattle.sixel_model.specs.RuleNumbers.{uncovered_rule}
 use Rattle.sixel_terminal.specs.Drawing.{map_on}
 use Rattle.sixel_check.specs.Laws.{PaintedColourIsLeft}
 use Rattle.sixel_check.proofs.ColourLemmas.{IsSound, each_sound, known_in_range, made, map_defined}

@@ -19,16 +19,16 @@ use Rattle.sixel_grammar.specs.declared.command.Event.{Event}
 use Rattle.sixel_grammar.specs.declared.command.Event.TheVariants.{Step}
 use Rattle.sixel_grammar.specs.declared.command.Placed.{Placed}
 use Rattle.sixel_grammar.proofs.PieceLemmas.{all-append}
-use Rattle.sixel_picture.specs.Colours.{palette_at}
-use Rattle.sixel_picture.specs.Events.{is_finish, is_painting}
-use Rattle.sixel_picture.specs.Geometry.{band, column}
-use Rattle.sixel_picture.specs.Pictures.{is_side, most_side}
-use Rattle.sixel_picture.specs.Rules.{breaks_box_size, breaks_colour_value, breaks_ratio, breaks_register}
-use Rattle.sixel_picture.specs.Rules.{breaks_repeat_zero}
-use Rattle.sixel_picture.specs.Sheets.{Sheet, cell}
-use Rattle.sixel_picture.specs.Stretches.{sixel_of, stretched_sheet}
-use Rattle.sixel_picture.proofs.PlaneStretchLemmas.{stretched_blank, stretched_height, stretched_length, stretched_more}
-use Rattle.sixel_picture.proofs.PlaneStretchLemmas.{stretched_none, stretched_width}
+use Rattle.sixel_model.specs.Colours.{palette_at}
+use Rattle.sixel_model.specs.Events.{is_finish, is_painting}
+use Rattle.sixel_model.specs.Geometry.{band, column}
+use Rattle.sixel_model.specs.Pictures.{is_side, most_side}
+use Rattle.sixel_model.specs.Rules.{breaks_box_size, breaks_colour_value, breaks_ratio, breaks_register}
+use Rattle.sixel_model.specs.Rules.{breaks_repeat_zero}
+use Rattle.sixel_model.specs.Sheets.{Sheet, cell}
+use Rattle.sixel_plane.specs.Stretches.{sixel_of, stretched_sheet}
+use Rattle.sixel_plane.proofs.PlaneStretchLemmas.{stretched_blank, stretched_height, stretched_length, stretched_more}
+use Rattle.sixel_plane.proofs.PlaneStretchLemmas.{stretched_none, stretched_width}
 use Rattle.sixel_check.specs.declared.notes.Notes.{Notes}
 use Rattle.sixel_check.specs.declared.progress.Progress.{Progress}
 use Rattle.sixel_check.specs.declared.progress.Progress.TheVariants.{Begun, Whole}

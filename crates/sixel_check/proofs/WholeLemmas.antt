@@ -9,17 +9,17 @@ use Rattle.std.proofs.lemmas.List.Elements.{All-from_get_or}
 use Rattle.std.proofs.lemmas.List.Sums.{list_all-from_AllPass}
 use Rattle.sixel_grammar.specs.Document.{AreWhole}
 use Rattle.sixel_grammar.specs.declared.command.Event.{Event}
-use Rattle.sixel_picture.specs.declared.colour.Parts.{Parts}
-use Rattle.sixel_picture.specs.Colours.{palette_at}
-use Rattle.sixel_picture.specs.Events.{Definition}
-use Rattle.sixel_picture.specs.Pictures.{is_side, picture_fault}
-use Rattle.sixel_picture.specs.Rules.{BreaksNone, StaysBlank, colour_by, colour_of, definition_of, is_covered}
-use Rattle.sixel_picture.specs.Rules.{palette_left}
-use Rattle.sixel_picture.specs.Sheets.{IsFull, Sheet, first_blank}
-use Rattle.sixel_picture.proofs.LeftLemmas.{left_at}
-use Rattle.sixel_picture.specs.RuleNumbers.{last_rule}
+use Rattle.sixel_model.specs.declared.colour.Parts.{Parts}
+use Rattle.sixel_model.specs.Colours.{palette_at}
+use Rattle.sixel_model.specs.Events.{Definition}
+use Rattle.sixel_model.specs.Pictures.{is_side, picture_fault}
+use Rattle.sixel_model.specs.Rules.{BreaksNone, StaysBlank, colour_by, colour_of, definition_of, is_covered}
+use Rattle.sixel_model.specs.Rules.{palette_left}
+use Rattle.sixel_model.specs.Sheets.{IsFull, Sheet, first_blank}
+use Rattle.sixel_model.proofs.LeftLemmas.{left_at}
+use Rattle.sixel_model.specs.RuleNumbers.{last_rule}
 use Rattle.sixel_check.specs.Judging.{AreColoured, AreNotesAfter, IsDrawn, IsGood, box_of}
-use Rattle.sixel_picture.proofs.RuleLemmas.{none_drawn}
+use Rattle.sixel_model.proofs.RuleLemmas.{none_drawn}
 use Rattle.sixel_check.specs.Outside.{IsFirstIfAny}
 use Rattle.sixel_check.specs.declared.notes.Notes.{Notes}
 use Rattle.sixel_check.proofs.BlankLemmas.{first_blank_drawn, length_drawn, register_there}

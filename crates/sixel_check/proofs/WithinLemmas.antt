@@ -6,15 +6,15 @@ use Rattle.std.specs.Bool.{then_some}
 use Rattle.std.specs.Option.{option_and_then, option_map_or}
 use Rattle.std.proofs.lemmas.Bool.{and_parts, leb-true, ltb-true, not-false, true_from_ne_false}
 use Rattle.sixel_grammar.specs.declared.command.Event.{Event}
-use Rattle.sixel_picture.specs.Events.{Attributes, columns_of, is_data_command, is_in_box, is_repeat_of_zero, is_square}
-use Rattle.sixel_picture.specs.Events.{raster_of}
-use Rattle.sixel_picture.specs.Geometry.{band, column, covers, falls, touches}
-use Rattle.sixel_picture.specs.Positions.{HoldsAtPosition, any_below}
-use Rattle.sixel_picture.specs.Rules.{BreaksNone, BreaksOutside, breaks_ratio, breaks_repeat_zero, raster_before}
-use Rattle.sixel_picture.proofs.FirstLemmas.{earliest_all, earliest_there}
-use Rattle.sixel_picture.proofs.LatestLemmas.{each_from_positions}
-use Rattle.sixel_picture.proofs.RuleLemmas.{Keeps, keeps_at}
-use Rattle.sixel_picture.specs.RuleNumbers.{uncovered_rule}
+use Rattle.sixel_model.specs.Events.{Attributes, columns_of, is_data_command, is_in_box, is_repeat_of_zero, is_square}
+use Rattle.sixel_model.specs.Events.{raster_of}
+use Rattle.sixel_model.specs.Geometry.{band, column, covers, falls, touches}
+use Rattle.sixel_model.specs.Positions.{HoldsAtPosition, any_below}
+use Rattle.sixel_model.specs.Rules.{BreaksNone, BreaksOutside, breaks_ratio, breaks_repeat_zero, raster_before}
+use Rattle.sixel_model.proofs.FirstLemmas.{earliest_all, earliest_there}
+use Rattle.sixel_model.proofs.LatestLemmas.{each_from_positions}
+use Rattle.sixel_model.proofs.RuleLemmas.{Keeps, keeps_at}
+use Rattle.sixel_model.specs.RuleNumbers.{uncovered_rule}
 use Rattle.sixel_terminal.specs.declared.choices.Ground.{Ground}
 use Rattle.sixel_terminal.specs.declared.choices.Ground.TheVariants.{Kept, Filled}
 use Rattle.sixel_terminal.specs.Displays.{Display, clipping}

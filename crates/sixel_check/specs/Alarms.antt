@@ -7,9 +7,9 @@ use Rattle.std.specs.Prelude.{◌≡◌, ◌+◌, ◌<◌, ℕ, true, false, Opt
 use Rattle.sixel_grammar.specs.declared.command.Event.{Event}
 use Rattle.sixel_grammar.specs.declared.command.Placed.{Placed}
 use Rattle.sixel_grammar.specs.Document.{events_of}
-use Rattle.sixel_picture.specs.Events.{Attributes, is_finish}
-use Rattle.sixel_picture.specs.Positions.{HoldsAtPosition}
-use Rattle.sixel_picture.specs.Rules.{picture_left, raster_before}
+use Rattle.sixel_model.specs.Events.{Attributes, is_finish}
+use Rattle.sixel_model.specs.Positions.{HoldsAtPosition}
+use Rattle.sixel_model.specs.Rules.{picture_left, raster_before}
 use Rattle.sixel_terminal.specs.declared.choices.Ground.TheVariants.{Kept}
 use Rattle.sixel_terminal.specs.Displays.{Display, HasRoom, IsInClass}
 use Rattle.sixel_terminal.specs.Drawing.{IsPainted, paints_in, shown_on, stood_on}

@@ -5,13 +5,13 @@ use Rattle.std.specs.Option.{option_map_or}
 use Rattle.sixel_grammar.specs.declared.command.Event.{Event}
 use Rattle.sixel_grammar.specs.declared.command.Event.TheVariants.{Step}
 use Rattle.sixel_grammar.specs.declared.command.Command.TheVariants.{Define}
-use Rattle.sixel_picture.specs.declared.colour.Parts.{Parts}
-use Rattle.sixel_picture.specs.declared.colour.Parts.TheVariants.{Rgb, Hls}
-use Rattle.sixel_picture.specs.Colours.{palette_at}
-use Rattle.sixel_picture.specs.Events.{is_data_command, is_finish, is_painting, is_return, raster_of}
-use Rattle.sixel_picture.specs.Rules.{Breaks, breaks_box_size, breaks_colour_value, breaks_ratio, breaks_register}
-use Rattle.sixel_picture.specs.Rules.{breaks_repeat_zero}
-use Rattle.sixel_picture.specs.RuleNumbers.{last_rule}
+use Rattle.sixel_model.specs.declared.colour.Parts.{Parts}
+use Rattle.sixel_model.specs.declared.colour.Parts.TheVariants.{Rgb, Hls}
+use Rattle.sixel_model.specs.Colours.{palette_at}
+use Rattle.sixel_model.specs.Events.{is_data_command, is_finish, is_painting, is_return, raster_of}
+use Rattle.sixel_model.specs.Rules.{Breaks, breaks_box_size, breaks_colour_value, breaks_ratio, breaks_register}
+use Rattle.sixel_model.specs.Rules.{breaks_repeat_zero}
+use Rattle.sixel_model.specs.RuleNumbers.{last_rule}
 use Rattle.sixel_check.specs.declared.breach.Breach.{Breach}
 use Rattle.sixel_check.specs.declared.notes.Notes.{Notes}
 use Rattle.sixel_check.specs.declared.rule.Rule.{Rule}

@@ -4,14 +4,14 @@ use Rattle.std.specs.Prelude.{is_some, slice_index_or}
 use Rattle.sixel_grammar.specs.declared.command.Event.{Event}
 use Rattle.sixel_grammar.specs.declared.command.Placed.{Placed}
 use Rattle.sixel_grammar.specs.Document.{events_of}
-use Rattle.sixel_picture.specs.Events.{Attributes, Definition, named_by, select_of}
-use Rattle.sixel_picture.specs.Geometry.{band, column}
-use Rattle.sixel_picture.specs.Pictures.{is_side}
-use Rattle.sixel_picture.specs.Positions.{latest}
-use Rattle.sixel_picture.specs.Rules.{BreaksNone, definition_of, gives_colour, is_covered, is_painted_in, palette_left}
-use Rattle.sixel_picture.specs.Rules.{raster_before, register_at}
-use Rattle.sixel_picture.specs.Sheets.{Sheet, cell}
-use Rattle.sixel_picture.specs.RuleNumbers.{last_rule}
+use Rattle.sixel_model.specs.Events.{Attributes, Definition, named_by, select_of}
+use Rattle.sixel_model.specs.Geometry.{band, column}
+use Rattle.sixel_model.specs.Pictures.{is_side}
+use Rattle.sixel_model.specs.Positions.{latest}
+use Rattle.sixel_model.specs.Rules.{BreaksNone, definition_of, gives_colour, is_covered, is_painted_in, palette_left}
+use Rattle.sixel_model.specs.Rules.{raster_before, register_at}
+use Rattle.sixel_model.specs.Sheets.{Sheet, cell}
+use Rattle.sixel_model.specs.RuleNumbers.{last_rule}
 use Rattle.sixel_check.specs.declared.notes.Notes.{Notes}
 use Rattle.sixel_check.specs.declared.verdict.Finding.{Finding}
 use Rattle.sixel_check.specs.Verdicts.{IsFinding, capped}

@@ -6,11 +6,11 @@ use Rattle.sixel_grammar.specs.declared.command.Event.TheVariants.{Start, Step, 
 use Rattle.sixel_grammar.specs.declared.command.Placed.{Placed}
 use Rattle.sixel_grammar.specs.Document.{AreWhole, events_of}
 use Rattle.sixel_grammar.specs.Fronts.{CompleteIn}
-use Rattle.sixel_picture.specs.Colours.{palette_at}
-use Rattle.sixel_picture.specs.Events.{Attributes, is_data_command, is_in_box, is_painting, raster_of}
-use Rattle.sixel_picture.specs.Pictures.{PictureValue}
-use Rattle.sixel_picture.specs.Rules.{BreaksNone, is_covered, known, picture_left, raster_before}
-use Rattle.sixel_picture.specs.RuleNumbers.{uncovered_rule, last_rule}
+use Rattle.sixel_model.specs.Colours.{palette_at}
+use Rattle.sixel_model.specs.Events.{Attributes, is_data_command, is_in_box, is_painting, raster_of}
+use Rattle.sixel_model.specs.Pictures.{PictureValue}
+use Rattle.sixel_model.specs.Rules.{BreaksNone, is_covered, known, picture_left, raster_before}
+use Rattle.sixel_model.specs.RuleNumbers.{uncovered_rule, last_rule}
 use Rattle.sixel_terminal.specs.Displays.{Display, clipping, registers_of}
 use Rattle.sixel_terminal.specs.Drawing.{IsPainted, map_on, paints_in}
 use Rattle.sixel_check.specs.declared.verdict.Verdict.{Verdict}

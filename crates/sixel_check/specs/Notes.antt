@@ -5,10 +5,10 @@ use Rattle.std.specs.Option.{option_and_then, option_map_or, option_or}
 use Rattle.sixel_grammar.specs.declared.command.Event.{Event}
 use Rattle.sixel_grammar.specs.declared.command.Event.TheVariants.{Step}
 use Rattle.sixel_grammar.specs.declared.command.Command.TheVariants.{Define}
-use Rattle.sixel_picture.specs.declared.colour.Parts.{Parts}
-use Rattle.sixel_picture.specs.Colours.{colour_in, is_colour}
-use Rattle.sixel_picture.specs.Events.{columns_of, is_next_line, is_painting, is_return, named_by, select_of}
-use Rattle.sixel_picture.specs.Rules.{known_by}
+use Rattle.sixel_model.specs.declared.colour.Parts.{Parts}
+use Rattle.sixel_model.specs.Colours.{colour_in, is_colour}
+use Rattle.sixel_model.specs.Events.{columns_of, is_next_line, is_painting, is_return, named_by, select_of}
+use Rattle.sixel_model.specs.Rules.{known_by}
 use Rattle.sixel_check.specs.declared.notes.Notes.{Notes}
 use Rattle.sixel_check.specs.Verdicts.{capped}
 

@@ -1,6 +1,6 @@
 -- Where a run of columns paints outside a box.
 use Rattle.std.specs.Prelude.{◌&&◌, ℕ, ◌+◌, max, nat_le, nat_lt, IsTrue, IsFalse, Option, Some, None, if◌then◌else◌}
-use Rattle.sixel_picture.specs.Geometry.{covers}
+use Rattle.sixel_model.specs.Geometry.{covers}
 use Rattle.sixel_check.specs.Verdicts.{IsFirstPixel}
 
 -- the run paints the point, where a bit has one row, and the point lies outside a box of this width and height

@@ -1,9 +1,9 @@
 -- What it means that each terminal shows a picture.
 use Rattle.std.specs.Prelude.{◌≡◌, ◌+◌, ◌<◌, ◌≤◌, ℕ, Some, IsSomeAnd, List}
 use Rattle.sixel_grammar.specs.declared.command.Event.{Event}
-use Rattle.sixel_picture.specs.Colours.{palette_at}
-use Rattle.sixel_picture.specs.Pictures.{PictureValue, register_of}
-use Rattle.sixel_picture.specs.Rules.{raster_before}
+use Rattle.sixel_model.specs.Colours.{palette_at}
+use Rattle.sixel_model.specs.Pictures.{PictureValue, register_of}
+use Rattle.sixel_model.specs.Rules.{raster_before}
 use Rattle.sixel_terminal.specs.Displays.{Display, HasRoom, IsInClass}
 use Rattle.sixel_terminal.specs.Drawing.{IsPainted, shown_on}
 use Rattle.sixel_check.specs.declared.verdict.Verdict.{Verdict}

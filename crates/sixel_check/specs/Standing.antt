@@ -7,8 +7,8 @@ use Rattle.sixel_grammar.specs.declared.command.Placed.{Placed}
 use Rattle.sixel_grammar.specs.Document.{events_of}
 use Rattle.sixel_grammar.specs.Faults.{AreFront}
 use Rattle.sixel_grammar.specs.Spelling.{IsSpellable}
-use Rattle.sixel_picture.specs.Events.{is_finish}
-use Rattle.sixel_picture.specs.Sheets.{Sheet}
+use Rattle.sixel_model.specs.Events.{is_finish}
+use Rattle.sixel_model.specs.Sheets.{Sheet}
 use Rattle.sixel_check.specs.declared.notes.Notes.{Notes}
 use Rattle.sixel_check.specs.declared.progress.Progress.{Progress}
 use Rattle.sixel_check.specs.declared.progress.Progress.TheVariants.{Fresh, Begun, Whole}

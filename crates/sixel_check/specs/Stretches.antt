@@ -4,10 +4,10 @@ use Rattle.std.specs.Prelude.{slice_index, slice_index_or}
 use Rattle.sixel_grammar.specs.declared.command.Command.{Command}
 use Rattle.sixel_grammar.specs.declared.command.Event.TheVariants.{Step}
 use Rattle.sixel_grammar.specs.declared.command.Placed.{Placed}
-use Rattle.sixel_picture.specs.Colours.{palette_at}
-use Rattle.sixel_picture.specs.Geometry.{band_rows}
-use Rattle.sixel_picture.specs.Sheets.{Sheet}
-use Rattle.sixel_picture.specs.Stretches.{sixel_of, stretched_sheet}
+use Rattle.sixel_model.specs.Colours.{palette_at}
+use Rattle.sixel_model.specs.Geometry.{band_rows}
+use Rattle.sixel_model.specs.Sheets.{Sheet}
+use Rattle.sixel_plane.specs.Stretches.{sixel_of, stretched_sheet}
 use Rattle.sixel_check.specs.declared.notes.Notes.{Notes}
 use Rattle.sixel_check.specs.Notes.{known_in}
 use Rattle.sixel_check.specs.Standing.{expects}

@@ -4,13 +4,13 @@ use Rattle.std.specs.Option.{option_map}
 use Rattle.sixel_grammar.specs.declared.command.Event.{Event}
 use Rattle.sixel_grammar.specs.declared.command.Placed.{Placed}
 use Rattle.sixel_grammar.specs.Document.{events_of}
-use Rattle.sixel_picture.specs.Positions.{HoldsAtPosition}
-use Rattle.sixel_picture.specs.Rules.{BreaksNone, FallsOutside, IsFirstBroken, IsFirstPoint, StaysBlank, picture_left}
-use Rattle.sixel_picture.specs.Rules.{raster_before}
-use Rattle.sixel_picture.specs.RuleNumbers.{raster_first_rule, raster_twice_rule, ratio_rule, box_size_rule}
-use Rattle.sixel_picture.specs.RuleNumbers.{register_rule, colour_value_rule, repeat_zero_rule, unselected_rule}
-use Rattle.sixel_picture.specs.RuleNumbers.{undefined_rule, redefined_rule, outside_rule, uncovered_rule}
-use Rattle.sixel_picture.specs.RuleNumbers.{eight_bit_rule, last_rule}
+use Rattle.sixel_model.specs.Positions.{HoldsAtPosition}
+use Rattle.sixel_model.specs.Rules.{BreaksNone, FallsOutside, IsFirstBroken, IsFirstPoint, StaysBlank, picture_left}
+use Rattle.sixel_model.specs.Rules.{raster_before}
+use Rattle.sixel_model.specs.RuleNumbers.{raster_first_rule, raster_twice_rule, ratio_rule, box_size_rule}
+use Rattle.sixel_model.specs.RuleNumbers.{register_rule, colour_value_rule, repeat_zero_rule, unselected_rule}
+use Rattle.sixel_model.specs.RuleNumbers.{undefined_rule, redefined_rule, outside_rule, uncovered_rule}
+use Rattle.sixel_model.specs.RuleNumbers.{eight_bit_rule, last_rule}
 use Rattle.sixel_check.specs.declared.rule.Rule.{Rule}
 use Rattle.sixel_check.specs.declared.rule.Rule.TheVariants.{RasterFirst, RasterTwice, Ratio, BoxSize, Register}
 use Rattle.sixel_check.specs.declared.rule.Rule.TheVariants.{ColourValue, RepeatZero, Unselected, Undefined, Redefined}

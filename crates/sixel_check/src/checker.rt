@@ -8,7 +8,7 @@ ghost use Rattle.sixel_check.specs.Stretches.{MayStep};
 ghost use Rattle.sixel_grammar.specs.Document.{events_of};
 ghost use Rattle.sixel_grammar.specs.declared.command.Placed.{Placed as PlacedValue};
 ghost use Rattle.sixel_grammar.specs.Spelling.{IsSpellable};
-ghost use Rattle.sixel_picture.specs.Profiles.{count_of};
+ghost use Rattle.sixel_model.specs.Profiles.{count_of};
 ghost use Rattle.sixel_check.specs.Alarms.{IsNoFalseAlarm};
 ghost use Rattle.sixel_check.specs.Growth.{MayGrow};
 ghost use Rattle.sixel_check.specs.Portable.{IsShownEverywhere};
@@ -19,7 +19,8 @@ use crate::judge::Judge;
 use crate::progress::Progress;
 use crate::verdict::Verdict;
 use sixel_grammar::{Event, Placed};
-use sixel_picture::{Plane, Profile};
+use sixel_model::Profile;
+use sixel_plane::Plane;
 use std::alloc::{AllocError, Global};
 use std::marker::Model;
 

@@ -11,7 +11,7 @@ ghost use Rattle.sixel_grammar.specs.Reading.{NoFaultBefore, failures_after};
 ghost use Rattle.sixel_grammar.specs.declared.fault.InputFault.TheVariants.{Read as ReadFault};
 ghost use Rattle.sixel_grammar.specs.Standing.{completions};
 ghost use Rattle.sixel_grammar.specs.declared.command.Placed.{Placed as PlacedValue};
-ghost use Rattle.sixel_picture.specs.Profiles.{count_of};
+ghost use Rattle.sixel_model.specs.Profiles.{count_of};
 ghost use Rattle.sixel_check.specs.Growth.{MayGrowIn};
 ghost use Rattle.sixel_check.specs.Checking.{Answers, AreAfter, GrowsForBytes, MayCome, MayComplete, MayGrowOver};
 ghost use Rattle.sixel_check.specs.Checking.{RefusesBytes, TakesBytes, TakesEvents, command_at};
@@ -20,7 +20,8 @@ ghost use Rattle.sixel_check.specs.Standing.{StandsAfter};
 use crate::checker::Checker;
 use crate::verdict::Verdict;
 use sixel_grammar::{Command, Completed, Event, InputFault, PIECE, Placed, Plain, Reader, Source};
-use sixel_picture::{BandPlane, Plane, Profile};
+use sixel_model::Profile;
+use sixel_plane::{BandPlane, Plane};
 use std::alloc::{AllocError, Global};
 
 /// Pushes an event, if there is one.

@@ -4,7 +4,8 @@ ghost use Rattle.std.specs.Prelude.{◌≡◌};
 ghost use Rattle.sixel_check.specs.Breaches.{is_colour_of as same_colour};
 ghost use Rattle.sixel_check.specs.Notes.{colour_within};
 
-use sixel_picture::{Colour, Parts};
+use sixel_model::{Colour, Parts};
+
 
 /// The colour of a colour system and three coordinates, if it is in range.
 pub(crate) fn colour_in(system: u16, x: u16, y: u16, z: u16) -> Option<Colour>

@@ -3,7 +3,7 @@
 ghost use Rattle.std.specs.Prelude.{◌≡◌, ◌≤◌, is_some};
 ghost use Rattle.std.specs.Option.{option_map};
 ghost use Rattle.sixel_grammar.specs.Spelling.{IsSpellable};
-ghost use Rattle.sixel_picture.specs.Events as said;
+ghost use Rattle.sixel_model.specs.Events as said;
 ghost use Rattle.sixel_check.specs.Standing.{is_start as start_test};
 
 use sixel_grammar::{Command, Event};

@@ -8,7 +8,7 @@ ghost use Rattle.std.specs.Option.{option_map};
 ghost use Rattle.sixel_grammar.specs.declared.command.Placed.{Placed as PlacedValue};
 ghost use Rattle.sixel_grammar.specs.Document.{AreWhole, events_of};
 ghost use Rattle.sixel_grammar.specs.Spelling.{IsSpellable};
-ghost use Rattle.sixel_picture.specs.Profiles.{count_of};
+ghost use Rattle.sixel_model.specs.Profiles.{count_of};
 ghost use Rattle.sixel_check.specs.Growth.{MayGrow};
 ghost use Rattle.sixel_check.specs.Judging.{JudgesAfter};
 ghost use Rattle.sixel_check.specs.Verdicts.{IsVerdict};
@@ -18,7 +18,8 @@ use crate::pixels::{breach_of, draw, picture_of};
 use crate::stretch::try_take_stretch;
 use crate::verdict::{Finding, Verdict};
 use sixel_grammar::Placed;
-use sixel_picture::{Plane, Profile};
+use sixel_model::Profile;
+use sixel_plane::Plane;
 use std::alloc::{AllocError, Global};
 
 /// What stands after some events: the first broken rule; or, as long as none is broken, what the rules ask of them.

@@ -6,8 +6,8 @@ ghost use Rattle.sixel_check.specs.Laws.{SomeVerdict, VerdictIsLeft};
 ghost use Rattle.sixel_check.specs.Differences.{CoordinatesAreExact, EightBitDiffers, OutsideDiffers};
 ghost use Rattle.sixel_check.specs.Differences.{SomeEightBitDiffer, SomeOutsideDiffer, SomeUncoveredDiffer};
 ghost use Rattle.sixel_check.specs.Differences.{UncoveredDiffers};
-ghost use Rattle.sixel_picture.specs.Profiles.{count_of};
-ghost use Rattle.sixel_picture.specs.declared.profile.Profile.{Profile};
+ghost use Rattle.sixel_model.specs.Profiles.{count_of};
+ghost use Rattle.sixel_model.specs.declared.profile.Profile.{Profile};
 
 /// Where no rule but `EightBit` is broken, the register in which a command paints has the colour that is left, at the
 /// painting and at the end, on each terminal with as many registers as the profile, or more.

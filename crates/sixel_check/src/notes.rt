@@ -2,15 +2,15 @@
 
 ghost use Rattle.std.specs.Prelude.{◌≡◌, ◌↔◌, ◌<◌, ◌++◌, ◌∷◌, [], ℕ, List, IfSome, IsSome, IsTrue, length, replicate};
 ghost use Rattle.std.specs.Prelude.{None, false, slice_index_or, true};
-ghost use Rattle.sixel_picture.specs.Colours.{palette_at};
+ghost use Rattle.sixel_model.specs.Colours.{palette_at};
 ghost use Rattle.sixel_grammar.specs.declared.command.Event.{Event as EventValue};
-ghost use Rattle.sixel_picture.specs.Profiles.{count_of};
+ghost use Rattle.sixel_model.specs.Profiles.{count_of};
 ghost use Rattle.sixel_check.specs.Breaches.{BreaksNoRule};
 
 use crate::colours::colour_in;
 use crate::events::{columns_of, is_next_line, is_painting, is_return, named_by, select_of};
 use sixel_grammar::{Command, Event};
-use sixel_picture::{MOST_REGISTERS, Palette, Profile};
+use sixel_model::{MOST_REGISTERS, Palette, Profile};
 
 /// What the rules ask of the events before, but the pixels, as long as no rule is broken.
 #[derive(Debug, Drop)]

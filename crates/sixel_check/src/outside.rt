@@ -1,11 +1,12 @@
 //! Where a run of columns paints outside the box.
 
 ghost use Rattle.std.specs.Prelude.{◌≡◌, ◌≤◌, ◌+◌, ◌*◌, ◌↔◌, ℕ, IsTrue};
-ghost use Rattle.sixel_picture.specs.Geometry.{band_rows};
+ghost use Rattle.sixel_model.specs.Geometry.{band_rows};
 ghost use Rattle.sixel_check.specs.Outside.{IsFirstIfAny, PaintsOutside, first_column};
 ghost use Rattle.sixel_check.specs.Verdicts.{capped};
 
-use sixel_picture::{BAND_ROWS, is_set};
+use sixel_model::{BAND_ROWS, is_set};
+
 
 /// The row of a bit of a band. It stops at `u64::MAX`.
 fn row_of(band: u64, bit: u32) -> u64

@@ -5,9 +5,9 @@ ghost use Rattle.std.specs.Prelude.{IfOk};
 ghost use Rattle.std.specs.Option.{option_map};
 ghost use Rattle.sixel_grammar.specs.declared.command.Event.{Event as EventValue};
 ghost use Rattle.sixel_grammar.specs.Spelling.{IsSpellable};
-ghost use Rattle.sixel_picture.specs.Events.{raster_of};
-ghost use Rattle.sixel_picture.specs.Rules.{FallsOutside, StaysBlank, palette_left, picture_left};
-ghost use Rattle.sixel_picture.specs.Sheets.{IsFull};
+ghost use Rattle.sixel_model.specs.Events.{raster_of};
+ghost use Rattle.sixel_model.specs.Rules.{FallsOutside, StaysBlank, palette_left, picture_left};
+ghost use Rattle.sixel_model.specs.Sheets.{IsFull};
 ghost use Rattle.sixel_check.specs.Breaches.{BreaksNoRule, IsBreachOf, NoneBelow};
 ghost use Rattle.sixel_check.specs.Judging.{AreNotesAfter, IsDrawn, IsSheetAfter, IsUndrawn, StandsUnbroken, box_of};
 ghost use Rattle.sixel_check.specs.Outside.{IsFirstIfAny};
@@ -20,7 +20,8 @@ use crate::outside::outside_pixel;
 use crate::rule::Rule;
 use crate::rules::broken_rule;
 use sixel_grammar::Event;
-use sixel_picture::{Palette, Picture, Plane};
+use sixel_model::{Palette, Picture};
+use sixel_plane::Plane;
 use std::alloc::{AllocError, Global};
 
 /// The first pixel outside the box that the event paints.

@@ -1,7 +1,7 @@
 //! The rules, one by one.
 
 ghost use Rattle.std.specs.Prelude.{◌≡◌, length};
-ghost use Rattle.sixel_picture.specs.Rules as of;
+ghost use Rattle.sixel_model.specs.Rules as of;
 ghost use Rattle.sixel_check.specs.Breaches as noted;
 ghost use Rattle.sixel_check.specs.Notes.{IsBelow};
 
@@ -12,7 +12,7 @@ use crate::events::{
 use crate::notes::Notes;
 use crate::rule::Rule;
 use sixel_grammar::{Command, Event};
-use sixel_picture::MOST_REGISTERS;
+use sixel_model::MOST_REGISTERS;
 
 /// The greatest side of a box, in pixels.
 const MOST_SIDE: u16 = 2048;
@@ -32,7 +32,7 @@ fn breaks_raster_twice(has_box: bool, event: &Event) -> bool
 }
 
 /// A ratio of which not both numbers are 1.
-#[tactic(auto, unfolding(sixel_picture::specs::Rules::breaks_ratio))]
+#[tactic(auto, unfolding(sixel_model::specs::Rules::breaks_ratio))]
 fn breaks_ratio(event: &Event) -> bool
     ensures { result ≡ of.breaks_ratio event.now }
 {
@@ -43,7 +43,7 @@ fn breaks_ratio(event: &Event) -> bool
 }
 
 /// A side outside 1 to 2,048.
-#[tactic(auto, unfolding(sixel_picture::specs::Rules::breaks_box_size))]
+#[tactic(auto, unfolding(sixel_model::specs::Rules::breaks_box_size))]
 fn breaks_box_size(event: &Event) -> bool
     ensures { result ≡ of.breaks_box_size event.now }
 {
@@ -56,7 +56,7 @@ fn breaks_box_size(event: &Event) -> bool
 }
 
 /// A register above those of the palette's profile.
-#[tactic(auto, unfolding(sixel_picture::specs::Rules::breaks_register))]
+#[tactic(auto, unfolding(sixel_model::specs::Rules::breaks_register))]
 fn breaks_register(notes: &Notes, event: &Event) -> bool
     ensures { result ≡ of.breaks_register (length notes.now.palette) event.now }
 {
@@ -67,7 +67,7 @@ fn breaks_register(notes: &Notes, event: &Event) -> bool
 }
 
 /// A definition that gives no colour in range.
-#[tactic(auto, unfolding(sixel_picture::specs::Rules::breaks_colour_value))]
+#[tactic(auto, unfolding(sixel_model::specs::Rules::breaks_colour_value))]
 fn breaks_colour_value(event: &Event) -> bool
     ensures { result ≡ of.breaks_colour_value event.now }
 {
@@ -86,7 +86,7 @@ fn breaks_colour_value(event: &Event) -> bool
 }
 
 /// A repeat of 0.
-#[tactic(auto, unfolding(sixel_picture::specs::Rules::breaks_repeat_zero))]
+#[tactic(auto, unfolding(sixel_model::specs::Rules::breaks_repeat_zero))]
 fn breaks_repeat_zero(event: &Event) -> bool
     ensures { result ≡ of.breaks_repeat_zero event.now }
 {

@@ -2,13 +2,13 @@
 
 ghost use Rattle.std.specs.Prelude.{◌≡◌, ◌<◌, ◌≤◌, ◌+◌, ◌⊎◌, ◌↔◌, ℕ, IsTrue, false, length, slice_index, true};
 ghost use Rattle.sixel_grammar.specs.Bytes.{is_data};
-ghost use Rattle.sixel_picture.specs.Stretches.{sixel_of, stretched_sheet};
+ghost use Rattle.sixel_plane.specs.Stretches.{sixel_of, stretched_sheet};
 ghost use Rattle.sixel_check.specs.Notes.{IsBelow};
 ghost use Rattle.sixel_check.specs.Stretches.{AreBlank, Fits, IsPaintedIn, IsPassed, IsStretched};
 
 use crate::notes::Notes;
 use crate::outside::is_inside;
-use sixel_picture::Plane;
+use sixel_plane::Plane;
 
 /// Paints the sixels of so many data bytes at the front of `bytes`, where they lie in the box and their register was
 /// painted in before, so that they break no rule, and where the plane can paint them at once. Whether it did.

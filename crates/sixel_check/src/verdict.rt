@@ -1,7 +1,7 @@
 //! What a check answers.
 
 use crate::rule::Rule;
-use sixel_picture::Picture;
+use sixel_model::Picture;
 
 /// The first broken rule: that at the earliest event, and among the rules broken there the one of the least number.
 #[derive(Clone, Copy, Debug, PartialEq, Eq, Drop)]

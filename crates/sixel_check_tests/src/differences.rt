@@ -3,7 +3,7 @@
 use crate::fixtures::{bytes_of, events_of, finding_in_words};
 use crate::terminals::{grey, greys};
 use sixel_check::{Finding, Verdict, check_bytes};
-use sixel_picture::{Colour, Profile};
+use sixel_model::{Colour, Profile};
 use sixel_terminal::{Choices, Ground, Terminal};
 use std::test::Fail;
 

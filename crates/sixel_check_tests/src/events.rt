@@ -8,7 +8,8 @@ use crate::documents::documents;
 use crate::fixtures::{bytes_of, events_of, in_words};
 use crate::steps::pushed;
 use sixel_check::Checker;
-use sixel_picture::{BytePlane, Profile};
+use sixel_model::Profile;
+use sixel_plane::BytePlane;
 use std::process::Abort;
 use std::test::Fail;
 

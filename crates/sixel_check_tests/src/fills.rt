@@ -3,7 +3,7 @@
 use crate::fixtures::is_said;
 use sixel_check::check;
 use sixel_grammar::{DeviceFault, SliceSource, Source};
-use sixel_picture::Profile;
+use sixel_model::Profile;
 use std::test::Fail;
 
 /// A source, and how often it was filled from.

@@ -2,7 +2,7 @@
 
 use sixel_check::{Finding, Verdict, check_bytes};
 use sixel_grammar::{Fault, InputFault, Placed, SliceSource, read_all};
-use sixel_picture::{Colour, Picture, Profile};
+use sixel_model::{Colour, Picture, Profile};
 use std::alloc::{AllocError, Global};
 use std::process::Abort;
 use std::test::Fail;

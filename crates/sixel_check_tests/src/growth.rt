@@ -10,7 +10,8 @@ use crate::fixtures::{black, is_left};
 use crate::steps::expects_so;
 use sixel_check::{Checker, Rule, Verdict, check, check_bytes};
 use sixel_grammar::{InputFault, Placed, Reader, SliceSource};
-use sixel_picture::{BandPlane, BytePlane, Plane, Profile};
+use sixel_model::Profile;
+use sixel_plane::{BandPlane, BytePlane, Plane};
 use std::test::Fail;
 
 /// A picture of one pixel.

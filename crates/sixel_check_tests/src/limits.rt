@@ -3,7 +3,7 @@
 use crate::documents::agrees_in_three;
 use crate::events::agrees_on_events;
 use crate::fixtures::{agrees_by, bytes_of, joined, times};
-use sixel_picture::Profile;
+use sixel_model::Profile;
 use std::alloc::AllocError;
 use std::process::Abort;
 use std::test::Fail;

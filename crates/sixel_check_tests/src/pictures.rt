@@ -1,7 +1,7 @@
 //! The pictures that portable documents leave, worked out by hand.
 
 use crate::fixtures::{black, has_colours, is_left, picture_by, picture_of};
-use sixel_picture::{Colour, Picture, Profile};
+use sixel_model::{Colour, Picture, Profile};
 use std::alloc::{AllocError, Global};
 use std::process::Abort;
 use std::test::Fail;

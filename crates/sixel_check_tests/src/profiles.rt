@@ -3,7 +3,7 @@
 //! Offsets: `"1;1;1;1` is 3 to 10, so a first definition stands at 11.
 
 use crate::limits::agrees_each_way;
-use sixel_picture::Profile;
+use sixel_model::Profile;
 use std::process::Abort;
 use std::test::Fail;
 

@@ -7,7 +7,8 @@ ghost use Rattle.sixel_check.specs.Standing.{StandsAfter};
 use crate::fixtures::events_of;
 use sixel_check::Checker;
 use sixel_grammar::{Command, Event, Placed};
-use sixel_picture::{BytePlane, Plane, Profile};
+use sixel_model::Profile;
+use sixel_plane::{BytePlane, Plane};
 use std::test::Fail;
 
 /// Pushes an event that may come.

@@ -6,7 +6,7 @@
 use crate::fixtures::{agree, bytes_of, is_said, picture_of, times};
 use sixel_check::check;
 use sixel_grammar::SliceSource;
-use sixel_picture::{Picture, Profile};
+use sixel_model::{Picture, Profile};
 use std::test::Fail;
 
 /// Each column and row of a stretch is painted, and no other.

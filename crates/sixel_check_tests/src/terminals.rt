@@ -2,7 +2,7 @@
 
 use crate::fixtures::{agrees, bytes_of, events_of, joined, picture_by};
 use sixel_grammar::Placed;
-use sixel_picture::{Colour, Parts, Picture, Profile};
+use sixel_model::{Colour, Parts, Picture, Profile};
 use sixel_terminal::{Choices, Ground, Terminal};
 use std::alloc::Global;
 use std::test::Fail;

@@ -12,7 +12,7 @@ use Rattle.std.proofs.lemmas.Simd.{length-put_chunk, get_or-put_chunk_below, get
 use Rattle.std.proofs.lemmas.Simd.{get_or-put_chunk_above, length-replicate, get_or-replicate, length-chunk}
 use Rattle.std.proofs.lemmas.Simd.{get_or-chunk, length-zip2, get_or-zip2, tops_compared, length-sel_l, get_or-sel_l}
 use lib.Lanes.{chunk, put_chunk, sel_l, top, zip2}
-use Rattle.sixel_picture.specs.Pictures.{PictureValue, register_of}
+use Rattle.sixel_model.specs.Pictures.{PictureValue, register_of}
 use Rattle.sixel_encode.specs.Canon.{all_columns, below, column_bits, has_pixel}
 use Rattle.sixel_encode.specs.Columns.{AreAdded, AreSixels, sixels_of}
 use Rattle.sixel_encode.proofs.BitLemmas.{bits_above, column_most, row_added, row_passed}

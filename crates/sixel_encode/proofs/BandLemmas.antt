@@ -9,10 +9,10 @@ use Rattle.std.proofs.lemmas.List.{map-append}
 use Rattle.sixel_grammar.specs.declared.command.Event.{Event}
 use Rattle.sixel_grammar.specs.declared.command.Event.TheVariants.{Step}
 use Rattle.sixel_grammar.specs.declared.command.Command.TheVariants.{Select, CarriageReturn, NextLine}
-use Rattle.sixel_picture.specs.Pictures.{PictureValue, register_of}
-use Rattle.sixel_picture.specs.Geometry.{column}
-use Rattle.sixel_picture.specs.Rules.{breaks_colour_value, breaks_redefined, breaks_register, breaks_repeat_zero}
-use Rattle.sixel_picture.proofs.StepLemmas.{column_push}
+use Rattle.sixel_model.specs.Pictures.{PictureValue, register_of}
+use Rattle.sixel_model.specs.Geometry.{column}
+use Rattle.sixel_model.specs.Rules.{breaks_colour_value, breaks_redefined, breaks_register, breaks_repeat_zero}
+use Rattle.sixel_model.proofs.StepLemmas.{column_push}
 use Rattle.sixel_encode.specs.Canon.{band_columns, band_commands, band_registers, below, register_commands, runs}
 use Rattle.sixel_encode.specs.Laws.{items_of}
 use Rattle.sixel_encode.proofs.LongestLemmas.{runs_joined}

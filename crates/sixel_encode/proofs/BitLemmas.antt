@@ -6,7 +6,7 @@ use Rattle.std.specs.List.{list_any}
 use Rattle.std.proofs.lemmas.Bool.{agree_below_at, and_parts, eqb-true, leb-true}
 use Rattle.std.proofs.Math.Nat.{two-pow-succ}
 use Rattle.std.proofs.lemmas.List.Sums.{sum_by_push}
-use Rattle.sixel_picture.specs.Pictures.{PictureValue}
+use Rattle.sixel_model.specs.Pictures.{PictureValue}
 use Rattle.sixel_encode.specs.Canon.{below, column_bits, has_pixel}
 use Rattle.sixel_encode.proofs.RangeLemmas.{below_then}
 

@@ -9,14 +9,14 @@ use Rattle.std.proofs.lemmas.List.{length-replicate, length-append, map-append}
 use Rattle.sixel_grammar.specs.declared.command.Event.{Event}
 use Rattle.sixel_grammar.specs.declared.command.Event.TheVariants.{Step}
 use Rattle.sixel_grammar.specs.declared.command.Command.TheVariants.{Sixel, Repeat}
-use Rattle.sixel_picture.specs.Colours.{palette_at}
-use Rattle.sixel_picture.specs.Pictures.{PictureValue, register_of}
-use Rattle.sixel_picture.specs.Events.{is_eight_bit, columns_of, bits_of, is_return, is_next_line, is_finish}
-use Rattle.sixel_picture.specs.Events.{is_painting, is_repeat_of_zero, raster_of, select_of, named_by, definition_where}
-use Rattle.sixel_picture.specs.Geometry.{column, covers, touches, falls}
-use Rattle.sixel_picture.specs.Rules.{known, breaks_colour_value, breaks_redefined, breaks_register, breaks_repeat_zero}
-use Rattle.sixel_picture.specs.Rules.{breaks_undefined, breaks_unselected}
-use Rattle.sixel_picture.proofs.StepLemmas.{column_push}
+use Rattle.sixel_model.specs.Colours.{palette_at}
+use Rattle.sixel_model.specs.Pictures.{PictureValue, register_of}
+use Rattle.sixel_model.specs.Events.{is_eight_bit, columns_of, bits_of, is_return, is_next_line, is_finish}
+use Rattle.sixel_model.specs.Events.{is_painting, is_repeat_of_zero, raster_of, select_of, named_by, definition_where}
+use Rattle.sixel_model.specs.Geometry.{column, covers, touches, falls}
+use Rattle.sixel_model.specs.Rules.{known, breaks_colour_value, breaks_redefined, breaks_register, breaks_repeat_zero}
+use Rattle.sixel_model.specs.Rules.{breaks_undefined, breaks_unselected}
+use Rattle.sixel_model.proofs.StepLemmas.{column_push}
 use Rattle.sixel_encode.specs.Canon.{Run, run_commands}
 use Rattle.sixel_encode.specs.Laws.{items_of}
 use Rattle.sixel_encode.proofs.StripLemmas.{lies, lies_replicate, lies_append}

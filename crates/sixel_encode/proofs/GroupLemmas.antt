@@ -10,7 +10,7 @@ use Rattle.std.proofs.lemmas.Bool.{and_from, and_parts, cases_eq, eq-eqb, eqb-fa
 use Rattle.std.proofs.lemmas.Bool.{ltb-true, ne_eqb, not-true, not_from_false}
 use Rattle.std.proofs.lemmas.List.{get_or-set_other, get_or-set_same, length-set}
 use Rattle.std.proofs.lemmas.Nat.Bits.{bit_at-trailing_zeros, bit_at-zero, bit_at_set_other, bit_at_set_same}
-use Rattle.sixel_picture.specs.Pictures.{PictureValue, register_of}
+use Rattle.sixel_model.specs.Pictures.{PictureValue, register_of}
 use Rattle.sixel_encode.specs.Canon.{column_bits, has_pixel, occurs}
 use Rattle.sixel_encode.specs.Columns.{AreMarked, HasBandGroups}
 use Rattle.sixel_encode.proofs.BitLemmas.{column_has}

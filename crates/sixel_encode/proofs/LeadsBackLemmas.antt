@@ -12,24 +12,24 @@ use Rattle.std.proofs.lemmas.List.FromFn.{fill_by_all}
 use Rattle.sixel_grammar.specs.declared.command.Event.{Event}
 use Rattle.sixel_grammar.specs.declared.command.Event.TheVariants.{Step, Finish}
 use Rattle.sixel_grammar.specs.declared.command.Command.TheVariants.{NextLine}
-use Rattle.sixel_picture.specs.declared.colour.Parts.{Parts}
-use Rattle.sixel_picture.specs.declared.colour.Parts.TheVariants.{Rgb, Hls}
-use Rattle.sixel_picture.specs.Colours.{palette_at}
-use Rattle.sixel_picture.specs.Pictures.{PictureValue}
-use Rattle.sixel_picture.specs.Geometry.{falls}
-use Rattle.sixel_picture.specs.Sheets.{row_by_row}
-use Rattle.sixel_picture.specs.Events.{is_in_box}
-use Rattle.sixel_picture.specs.Rules.{BreaksOutside, BreaksUncovered, colour_by, colour_of, is_covered, palette_left}
-use Rattle.sixel_picture.specs.Rules.{picture_left, raster_before, register_at, breaks_box_size, breaks_colour_value}
-use Rattle.sixel_picture.specs.Rules.{breaks_ratio, breaks_raster_first, breaks_raster_twice, breaks_redefined}
-use Rattle.sixel_picture.specs.Rules.{breaks_register, breaks_repeat_zero, breaks_undefined, breaks_unselected}
-use Rattle.sixel_picture.proofs.RuleLemmas.{Keeps}
-use Rattle.sixel_picture.proofs.SheetLemmas.{rows_from_index}
+use Rattle.sixel_model.specs.declared.colour.Parts.{Parts}
+use Rattle.sixel_model.specs.declared.colour.Parts.TheVariants.{Rgb, Hls}
+use Rattle.sixel_model.specs.Colours.{palette_at}
+use Rattle.sixel_model.specs.Pictures.{PictureValue}
+use Rattle.sixel_model.specs.Geometry.{falls}
+use Rattle.sixel_model.specs.Sheets.{row_by_row}
+use Rattle.sixel_model.specs.Events.{is_in_box}
+use Rattle.sixel_model.specs.Rules.{BreaksOutside, BreaksUncovered, colour_by, colour_of, is_covered, palette_left}
+use Rattle.sixel_model.specs.Rules.{picture_left, raster_before, register_at, breaks_box_size, breaks_colour_value}
+use Rattle.sixel_model.specs.Rules.{breaks_ratio, breaks_raster_first, breaks_raster_twice, breaks_redefined}
+use Rattle.sixel_model.specs.Rules.{breaks_register, breaks_repeat_zero, breaks_undefined, breaks_unselected}
+use Rattle.sixel_model.proofs.RuleLemmas.{Keeps}
+use Rattle.sixel_model.proofs.SheetLemmas.{rows_from_index}
 use Rattle.sixel_encode.specs.Canon.{below, bands, band_commands, define_commands, picture_commands, canon_commands}
 use Rattle.sixel_encode.specs.Canon.{canon_start, canon}
 use Rattle.sixel_encode.specs.Laws.{ListsBreakNoRule, ListsLeaveTheirPicture}
-use Rattle.sixel_picture.proofs.CoverLemmas.{idle_falls}
-use Rattle.sixel_picture.proofs.KeepLemmas.{KeepEach, keep_one, keep_append, keep_none}
+use Rattle.sixel_model.proofs.CoverLemmas.{idle_falls}
+use Rattle.sixel_model.proofs.KeepLemmas.{KeepEach, keep_one, keep_append, keep_none}
 use Rattle.sixel_encode.proofs.StandLemmas.{Passed, Stands, box_of, definition_by, ran_as, ran_join, stands_quiet}
 use Rattle.sixel_encode.proofs.BandLemmas.{bands_passed, is_above}
 use Rattle.sixel_encode.proofs.OpeningLemmas.{Opened, defines_opened, opens_stands, raster, start_keeps, raster_keeps}

@@ -19,10 +19,10 @@ use Rattle.sixel_grammar.specs.declared.command.Event.TheVariants.{Finish}
 use Rattle.sixel_grammar.specs.Lengths.{digit_count}
 use Rattle.sixel_grammar.specs.Spelling.{fixed_command, fixed_fields, fixed_spelling}
 use Rattle.sixel_grammar.proofs.LengthLemmas.{decimal_within}
-use Rattle.sixel_picture.specs.declared.colour.Parts.{Parts}
-use Rattle.sixel_picture.specs.declared.colour.Parts.TheVariants.{Rgb, Hls}
-use Rattle.sixel_picture.specs.Colours.{palette_at, IsColour}
-use Rattle.sixel_picture.specs.Pictures.{PictureValue, most_side}
+use Rattle.sixel_model.specs.declared.colour.Parts.{Parts}
+use Rattle.sixel_model.specs.declared.colour.Parts.TheVariants.{Rgb, Hls}
+use Rattle.sixel_model.specs.Colours.{palette_at, IsColour}
+use Rattle.sixel_model.specs.Pictures.{PictureValue, most_side}
 use Rattle.sixel_encode.specs.Canon.{most_bands, Run, all_columns, band_columns, band_commands, band_registers, bands}
 use Rattle.sixel_encode.specs.Canon.{below, canon_commands, canon_start, canon_text, column_bits, commands_text}
 use Rattle.sixel_encode.specs.Canon.{define_command, define_commands, has_bits, picture_commands, register_commands}

@@ -5,9 +5,9 @@ use Rattle.std.specs.Prelude.{◌==◌, nat_lt, filter, is_some, count_by}
 use Rattle.std.specs.List.{list_any, range_with_len, AllByRecursion}
 use Rattle.std.proofs.lemmas.Bool.{and_from, and_parts, eqb-true, eq-eqb, lt-ltb, ltb-true}
 use Rattle.std.proofs.lemmas.List.Recursion.{is_count_by}
-use Rattle.sixel_picture.specs.declared.colour.Parts.{Parts}
-use Rattle.sixel_picture.specs.Colours.{palette_at}
-use Rattle.sixel_picture.specs.Pictures.{PictureValue, register_of}
+use Rattle.sixel_model.specs.declared.colour.Parts.{Parts}
+use Rattle.sixel_model.specs.Colours.{palette_at}
+use Rattle.sixel_model.specs.Pictures.{PictureValue, register_of}
 use Rattle.sixel_encode.specs.Canon.{band_registers, bands, below, column_bits, has_pixel, occurs}
 use Rattle.sixel_encode.specs.Laws.{entries_of}
 use Rattle.sixel_encode.proofs.BitLemmas.{column_has}

@@ -11,21 +11,21 @@ use Rattle.sixel_grammar.specs.declared.command.Event.{Event}
 use Rattle.sixel_grammar.specs.declared.command.Event.TheVariants.{Step}
 use Rattle.sixel_grammar.specs.declared.command.Command.{Command}
 use Rattle.sixel_grammar.specs.declared.command.Command.TheVariants.{Raster, Define}
-use Rattle.sixel_picture.specs.declared.colour.Parts.{Parts}
-use Rattle.sixel_picture.specs.declared.colour.Parts.TheVariants.{Rgb, Hls}
-use Rattle.sixel_picture.specs.Colours.{palette_at, IsColour}
-use Rattle.sixel_picture.specs.Pictures.{PictureValue, most_side}
-use Rattle.sixel_picture.specs.Positions.{latest, earliest, since, any_at, last_at, any_below, last_below}
-use Rattle.sixel_picture.specs.Events.{Definition, has_sides}
-use Rattle.sixel_picture.specs.Geometry.{band, column}
-use Rattle.sixel_picture.specs.Rules.{BreaksOutside, BreaksUncovered, definition_of, gives_colour, is_covered}
-use Rattle.sixel_picture.specs.Rules.{is_painted_in, raster_before, register_at, breaks_box_size, breaks_colour_value}
-use Rattle.sixel_picture.specs.Rules.{breaks_ratio, breaks_raster_first, breaks_raster_twice, breaks_redefined}
-use Rattle.sixel_picture.specs.Rules.{breaks_register, breaks_repeat_zero, breaks_undefined, breaks_unselected}
-use Rattle.sixel_picture.proofs.StepLemmas.{band_push, column_push, raster_push, definition_push, painted_in_push}
-use Rattle.sixel_picture.proofs.RuleLemmas.{Keeps}
+use Rattle.sixel_model.specs.declared.colour.Parts.{Parts}
+use Rattle.sixel_model.specs.declared.colour.Parts.TheVariants.{Rgb, Hls}
+use Rattle.sixel_model.specs.Colours.{palette_at, IsColour}
+use Rattle.sixel_model.specs.Pictures.{PictureValue, most_side}
+use Rattle.sixel_model.specs.Positions.{latest, earliest, since, any_at, last_at, any_below, last_below}
+use Rattle.sixel_model.specs.Events.{Definition, has_sides}
+use Rattle.sixel_model.specs.Geometry.{band, column}
+use Rattle.sixel_model.specs.Rules.{BreaksOutside, BreaksUncovered, definition_of, gives_colour, is_covered}
+use Rattle.sixel_model.specs.Rules.{is_painted_in, raster_before, register_at, breaks_box_size, breaks_colour_value}
+use Rattle.sixel_model.specs.Rules.{breaks_ratio, breaks_raster_first, breaks_raster_twice, breaks_redefined}
+use Rattle.sixel_model.specs.Rules.{breaks_register, breaks_repeat_zero, breaks_undefined, breaks_unselected}
+use Rattle.sixel_model.proofs.StepLemmas.{band_push, column_push, raster_push, definition_push, painted_in_push}
+use Rattle.sixel_model.proofs.RuleLemmas.{Keeps}
 use Rattle.sixel_encode.specs.Canon.{canon_start, define_command, define_commands}
-use Rattle.sixel_picture.proofs.CoverLemmas.{idle_covered, idle_register}
+use Rattle.sixel_model.proofs.CoverLemmas.{idle_covered, idle_register}
 use Rattle.sixel_encode.proofs.StandLemmas.{Ran, Stands, box_of, definition_by, quiet_keeps, ran_join, ran_none}
 use Rattle.sixel_encode.proofs.StandLemmas.{ran_one}
 use Rattle.sixel_encode.proofs.LengthLemmas.{defines_from, entry_colour}

@@ -6,9 +6,9 @@ use Rattle.std.proofs.lemmas.Bool.{and_parts, eqb-true, leb-true, ltb-true, true
 use Rattle.std.proofs.lemmas.List.Elements.{recursion_from_All}
 use Rattle.std.proofs.lemmas.List.Folds.{list_all_at}
 use Rattle.std.proofs.lemmas.Nat.{mul-add-lt}
-use Rattle.sixel_picture.specs.declared.picture.PictureReason.TheVariants.{Size, Count, Register, NoColour}
-use Rattle.sixel_picture.specs.Colours.{palette_at, IsColour}
-use Rattle.sixel_picture.specs.Pictures.{PictureValue, IsPicture, is_side, register_of, most_side}
+use Rattle.sixel_model.specs.declared.picture.PictureReason.TheVariants.{Size, Count, Register, NoColour}
+use Rattle.sixel_model.specs.Colours.{palette_at, IsColour}
+use Rattle.sixel_model.specs.Pictures.{PictureValue, IsPicture, is_side, register_of, most_side}
 
 no_fault : (a b c d : Bool)
     → (if not a then Some Size else if not b then Some Count else if not c then Some Register else if not d then Some

@@ -8,10 +8,10 @@ use Rattle.std.proofs.Math.Bool.{and_assoc}
 use Rattle.std.proofs.lemmas.Bool.{agree_below, agree_below_at, and_from, and_parts, eq-eqb, eqb-true, le-leb, leb-true}
 use Rattle.std.proofs.lemmas.Bool.{lt-ltb, ltb-true, not-false, or_from, or_parts}
 use Rattle.std.proofs.lemmas.Bool.Decides.{nat_tests}
-use Rattle.sixel_picture.specs.Pictures.{PictureValue, register_of}
-use Rattle.sixel_picture.specs.Geometry.{covers}
-use Rattle.sixel_picture.proofs.RunLemmas.{same_test}
-use Rattle.sixel_picture.proofs.CoverLemmas.{covers_under, lies_under, no_bits_cover}
+use Rattle.sixel_model.specs.Pictures.{PictureValue, register_of}
+use Rattle.sixel_model.specs.Geometry.{covers}
+use Rattle.sixel_model.proofs.RunLemmas.{same_test}
+use Rattle.sixel_model.proofs.CoverLemmas.{covers_under, lies_under, no_bits_cover}
 use Rattle.sixel_encode.specs.Canon.{band_columns, below, column_bits, has_bits, has_pixel, without_blanks}
 use Rattle.sixel_encode.proofs.BitLemmas.{bits_are, each_six_at, six}
 use Rattle.sixel_encode.proofs.StripLemmas.{lies, or_and, within_split}

@@ -7,22 +7,22 @@ use Rattle.std.proofs.lemmas.Bool.{eq-eqb}
 use Rattle.sixel_grammar.specs.declared.command.Event.{Event}
 use Rattle.sixel_grammar.specs.declared.command.Event.TheVariants.{Step}
 use Rattle.sixel_grammar.specs.declared.command.Command.TheVariants.{Select}
-use Rattle.sixel_picture.specs.declared.colour.Parts.{Parts}
-use Rattle.sixel_picture.specs.declared.colour.Parts.TheVariants.{Rgb, Hls}
-use Rattle.sixel_picture.specs.Colours.{palette_at}
-use Rattle.sixel_picture.specs.Pictures.{PictureValue, register_of}
-use Rattle.sixel_picture.specs.Events.{is_eight_bit, Definition, Attributes, bits_of, is_next_line, is_finish}
-use Rattle.sixel_picture.specs.Events.{raster_of, select_of, named_by, definition_where, is_in_box}
-use Rattle.sixel_picture.specs.Geometry.{band, falls}
-use Rattle.sixel_picture.specs.Rules.{known, definition_of, raster_before, register_at, is_covered, BreaksOutside}
-use Rattle.sixel_picture.specs.Rules.{BreaksUncovered, breaks_box_size, breaks_colour_value, breaks_ratio}
-use Rattle.sixel_picture.specs.Rules.{breaks_raster_first, breaks_raster_twice, breaks_redefined, breaks_register}
-use Rattle.sixel_picture.specs.Rules.{breaks_repeat_zero, breaks_undefined, breaks_unselected}
-use Rattle.sixel_picture.proofs.PositionLemmas.{latest_push}
-use Rattle.sixel_picture.proofs.StepLemmas.{band_push, raster_push, definition_push, register_push, covered_push}
-use Rattle.sixel_picture.proofs.RuleLemmas.{Keeps}
-use Rattle.sixel_picture.proofs.CoverLemmas.{idle_falls}
-use Rattle.sixel_picture.proofs.KeepLemmas.{KeepEach, keep_append, keep_one}
+use Rattle.sixel_model.specs.declared.colour.Parts.{Parts}
+use Rattle.sixel_model.specs.declared.colour.Parts.TheVariants.{Rgb, Hls}
+use Rattle.sixel_model.specs.Colours.{palette_at}
+use Rattle.sixel_model.specs.Pictures.{PictureValue, register_of}
+use Rattle.sixel_model.specs.Events.{is_eight_bit, Definition, Attributes, bits_of, is_next_line, is_finish}
+use Rattle.sixel_model.specs.Events.{raster_of, select_of, named_by, definition_where, is_in_box}
+use Rattle.sixel_model.specs.Geometry.{band, falls}
+use Rattle.sixel_model.specs.Rules.{known, definition_of, raster_before, register_at, is_covered, BreaksOutside}
+use Rattle.sixel_model.specs.Rules.{BreaksUncovered, breaks_box_size, breaks_colour_value, breaks_ratio}
+use Rattle.sixel_model.specs.Rules.{breaks_raster_first, breaks_raster_twice, breaks_redefined, breaks_register}
+use Rattle.sixel_model.specs.Rules.{breaks_repeat_zero, breaks_undefined, breaks_unselected}
+use Rattle.sixel_model.proofs.PositionLemmas.{latest_push}
+use Rattle.sixel_model.proofs.StepLemmas.{band_push, raster_push, definition_push, register_push, covered_push}
+use Rattle.sixel_model.proofs.RuleLemmas.{Keeps}
+use Rattle.sixel_model.proofs.CoverLemmas.{idle_falls}
+use Rattle.sixel_model.proofs.KeepLemmas.{KeepEach, keep_append, keep_one}
 
 -- ---- the words
 

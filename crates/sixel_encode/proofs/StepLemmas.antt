@@ -14,9 +14,9 @@ use Rattle.sixel_grammar.specs.declared.command.Event.TheVariants.{Step, Finish}
 use Rattle.sixel_grammar.specs.Spelling.{fixed_spelling}
 use Rattle.sixel_grammar.specs.FixedText.{fixed_text}
 use Rattle.sixel_grammar.proofs.FixedTextLemmas.{fixed_text-append}
-use Rattle.sixel_picture.specs.declared.colour.Parts.{Parts}
-use Rattle.sixel_picture.specs.Colours.{palette_at}
-use Rattle.sixel_picture.specs.Pictures.{PictureValue}
+use Rattle.sixel_model.specs.declared.colour.Parts.{Parts}
+use Rattle.sixel_model.specs.Colours.{palette_at}
+use Rattle.sixel_model.specs.Pictures.{PictureValue}
 use Rattle.sixel_encode.specs.Canon.{all_columns, band_commands, band_registers, bands, below, canon}
 use Rattle.sixel_encode.specs.Canon.{canon_commands, canon_start, canon_text, commands_text, define_command}
 use Rattle.sixel_encode.specs.Canon.{define_commands, occurs, picture_commands, register_commands}

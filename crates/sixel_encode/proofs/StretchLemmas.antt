@@ -8,7 +8,7 @@ use Rattle.std.proofs.lemmas.List.{append-nil, drop-drop, drop-map, drop_all, ge
 use Rattle.std.proofs.lemmas.List.{take-map}
 use Rattle.std.specs.Prelude.{flat_map}
 use Rattle.sixel_grammar.specs.declared.command.Command.TheVariants.{Select}
-use Rattle.sixel_picture.specs.Pictures.{PictureValue}
+use Rattle.sixel_model.specs.Pictures.{PictureValue}
 use Rattle.sixel_encode.specs.Canon.{all_columns, band_columns, has_bits, register_commands, run_commands, runs}
 use Rattle.sixel_encode.specs.Canon.{without_blanks}
 use Rattle.sixel_encode.specs.Columns.{AreSixels, IsInkEnd, IsRepeatAt, IsRun, NoFour, are_four, columns_of, part}

@@ -5,9 +5,9 @@ use Rattle.std.specs.Prelude.{◌==◌, nat_le, nat_lt}
 use Rattle.std.specs.Int.{bit_at}
 use Rattle.std.proofs.Math.Bool.{and-false, or_assoc}
 use Rattle.std.proofs.lemmas.Bool.Decides.{nat_tests}
-use Rattle.sixel_picture.specs.Positions.{any_below}
-use Rattle.sixel_picture.specs.Geometry.{covers}
-use Rattle.sixel_picture.proofs.CoverLemmas.{no_columns_cover}
+use Rattle.sixel_model.specs.Positions.{any_below}
+use Rattle.sixel_model.specs.Geometry.{covers}
+use Rattle.sixel_model.proofs.CoverLemmas.{no_columns_cover}
 
 pub within_split : (c n x : ℕ) → (nat_le c x && nat_lt x (c + suc n))
     ≡ ((nat_le c x && nat_lt x (c + 1)) || (nat_le (c + 1) x && nat_lt x (c + 1 + n)))

@@ -3,10 +3,10 @@ use Rattle.std.proofs.Common.{◌≡◌, ℕ, Some, None, List, [], ◌∷◌, �
 use Rattle.std.specs.Prelude.{IfSome, codes}
 use Rattle.std.proofs.lemmas.List.Elements.{All-from_recursion}
 use Rattle.std.specs.Fmt.{digits}
-use Rattle.sixel_picture.specs.declared.colour.Parts.TheVariants.{Rgb, Hls}
-use Rattle.sixel_picture.specs.Colours.{IsColour}
-use Rattle.sixel_picture.specs.Pictures.{PictureValue, IsPicture}
-use Rattle.sixel_picture.specs.Rules.{picture_left}
+use Rattle.sixel_model.specs.declared.colour.Parts.TheVariants.{Rgb, Hls}
+use Rattle.sixel_model.specs.Colours.{IsColour}
+use Rattle.sixel_model.specs.Pictures.{PictureValue, IsPicture}
+use Rattle.sixel_model.specs.Rules.{picture_left}
 use Rattle.sixel_encode.specs.Canon.{runs, column_bits, band_columns, occurs, band_registers, register_commands}
 use Rattle.sixel_encode.specs.Canon.{band_commands, define_commands, picture_commands, canon_commands, canon}
 use Rattle.sixel_encode.specs.Canon.{canon_text}

@@ -13,10 +13,10 @@ use Rattle.sixel_grammar.specs.Document.{AreRest, most_bytes}
 use Rattle.sixel_grammar.specs.FixedText.{CanWrite}
 use Rattle.sixel_grammar.proofs.FixedTextLemmas.{fixed_document}
 use Rattle.sixel_grammar.proofs.PieceLemmas.{all-append}
-use Rattle.sixel_picture.specs.declared.colour.Parts.{Parts}
-use Rattle.sixel_picture.specs.declared.colour.Parts.TheVariants.{Rgb, Hls}
-use Rattle.sixel_picture.specs.Colours.{palette_at, IsColour}
-use Rattle.sixel_picture.specs.Pictures.{PictureValue, most_side}
+use Rattle.sixel_model.specs.declared.colour.Parts.{Parts}
+use Rattle.sixel_model.specs.declared.colour.Parts.TheVariants.{Rgb, Hls}
+use Rattle.sixel_model.specs.Colours.{palette_at, IsColour}
+use Rattle.sixel_model.specs.Pictures.{PictureValue, most_side}
 use Rattle.sixel_encode.specs.Canon.{Run, all_columns, band_columns, band_commands, band_registers, bands, below, canon}
 use Rattle.sixel_encode.specs.Canon.{canon_commands, column_bits, define_command, define_commands, has_bits}
 use Rattle.sixel_encode.specs.Canon.{picture_commands, register_commands, run_commands, runs, without_blanks}

@@ -5,8 +5,8 @@ use Rattle.std.specs.Prelude.{if◌then◌else◌}
 use Rattle.std.specs.Int.{bit_at}
 use Rattle.std.specs.Option.{MatchOption}
 use Rattle.sixel_grammar.specs.declared.command.Command.{Command}
-use Rattle.sixel_picture.specs.Geometry.{band_rows}
-use Rattle.sixel_picture.specs.Pictures.{PictureValue}
+use Rattle.sixel_model.specs.Geometry.{band_rows}
+use Rattle.sixel_model.specs.Pictures.{PictureValue}
 use Rattle.sixel_encode.specs.Canon.{has_pixel, run_commands, runs, without_blanks}
 
 -- the bytes that spell columns of these bits

@@ -3,9 +3,9 @@ use Rattle.std.specs.Prelude.{◌≡◌, ◌≢◌, ℕ, ◌+◌, ◌*◌, ◌�
 use Rattle.std.specs.List.{AllByRecursion}
 use Rattle.sixel_grammar.specs.Document.{AreWhole, Document}
 use Rattle.sixel_grammar.specs.FixedText.{CanWrite, fixed_places}
-use Rattle.sixel_picture.specs.Pictures.{PictureValue, IsPicture}
-use Rattle.sixel_picture.specs.Rules.{BreaksNone, picture_left}
-use Rattle.sixel_picture.specs.RuleNumbers.{last_rule}
+use Rattle.sixel_model.specs.Pictures.{PictureValue, IsPicture}
+use Rattle.sixel_model.specs.Rules.{BreaksNone, picture_left}
+use Rattle.sixel_model.specs.RuleNumbers.{last_rule}
 use Rattle.sixel_encode.specs.Canon.{Run, runs, bands, canon, canon_text}
 
 -- ---- runs

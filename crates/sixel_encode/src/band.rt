@@ -5,7 +5,7 @@ ghost use Rattle.std.specs.Prelude.{slice_index};
 ghost use Rattle.sixel_grammar.specs.Blocks.{PutsAllOrNone, TakesMore, in_all};
 ghost use Rattle.sixel_grammar.specs.Devices.{CountsFailure, NeverFlushes, Puts};
 ghost use Rattle.sixel_grammar.specs.Spelling.{IsSpellable};
-ghost use Rattle.sixel_picture.specs.Pictures.{most_side};
+ghost use Rattle.sixel_model.specs.Pictures.{most_side};
 ghost use Rattle.sixel_encode.specs.Canon.{band_commands, commands_text, most_bands, run_commands};
 ghost use Rattle.sixel_encode.specs.Columns.{AreSixels, part, sixel_commands};
 
@@ -13,7 +13,7 @@ use crate::columns::find_sixels;
 use crate::groups::band_groups;
 use crate::repeats::{find_repeat, ink_end, run_end};
 use sixel_grammar::{Block, Command, DeviceFault, Event, Sink};
-use sixel_picture::Picture;
+use sixel_model::Picture;
 
 /// The greatest width of a picture.
 const MOST_COLUMNS: usize = 2048;

@@ -2,12 +2,12 @@
 
 ghost use Rattle.std.specs.Prelude.{◌≡◌, ◌+◌, ◌<◌, ◌≤◌, ℕ, length};
 ghost use Rattle.std.specs.Int.{bit_at};
-ghost use Rattle.sixel_picture.specs.Pictures.{most_side};
+ghost use Rattle.sixel_model.specs.Pictures.{most_side};
 ghost use Rattle.sixel_encode.specs.Canon.{all_columns, most_bands};
 ghost use Rattle.sixel_encode.specs.Columns.{AreAdded, HasRowGroups, HasBandGroups, sixels_of};
 
 use crate::lanes::LANES;
-use sixel_picture::{BAND_ROWS, Picture};
+use sixel_model::{BAND_ROWS, Picture};
 use std::simd::prelude::*;
 
 /// The sixels of a register in all columns of a band. Rows past the picture have no bits.

@@ -1,13 +1,13 @@
 //! In which groups of columns a band has the pixels of a register.
 
 ghost use Rattle.std.specs.Prelude.{◌≡◌, ◌==◌, ◌+◌, ◌*◌, ◌<◌, ◌≤◌, ℕ, get_or, length, not};
-ghost use Rattle.sixel_picture.specs.Geometry.{band_rows};
-ghost use Rattle.sixel_picture.specs.Pictures.{IsAnyPicture, most_side};
+ghost use Rattle.sixel_model.specs.Geometry.{band_rows};
+ghost use Rattle.sixel_model.specs.Pictures.{IsAnyPicture, most_side};
 ghost use Rattle.sixel_encode.specs.Canon.{most_bands, occurs};
 ghost use Rattle.sixel_encode.specs.Columns.{AreMarked, HasBandGroups};
 
 use crate::lanes::{LANES, is_uniform};
-use sixel_picture::{BAND_ROWS, MOST_REGISTERS, Picture};
+use sixel_model::{BAND_ROWS, MOST_REGISTERS, Picture};
 
 /// For each register a mask: a bit for each group of columns in which the band has a pixel of it.
 pub(crate) fn band_groups(picture: &Picture, band: u32) -> [u64; MOST_REGISTERS]

@@ -2,7 +2,7 @@
 
 ghost use Rattle.std.specs.Prelude.{◌≡◌, ◌==◌, ◌+◌, ◌<◌, ◌≤◌, ℕ, drop, length, not, slice_index, take, true};
 ghost use Rattle.std.specs.List.{prefix_len};
-ghost use Rattle.sixel_picture.specs.Lanes.{IsFirst};
+ghost use Rattle.sixel_plane.specs.Lanes.{IsFirst};
 
 use std::simd::prelude::*;
 

@@ -1,9 +1,9 @@
 //! Laws about the definitions. Each function's contract is the law.
 
 ghost use Rattle.sixel_grammar.specs.Document.{most_bytes};
-ghost use Rattle.sixel_picture.specs.Profiles.{count_of};
-ghost use Rattle.sixel_picture.specs.declared.profile.Profile.{Profile};
-ghost use Rattle.sixel_picture.specs.declared.profile.Profile.TheVariants.{Registers16, Registers256};
+ghost use Rattle.sixel_model.specs.Profiles.{count_of};
+ghost use Rattle.sixel_model.specs.declared.profile.Profile.{Profile};
+ghost use Rattle.sixel_model.specs.declared.profile.Profile.TheVariants.{Registers16, Registers256};
 ghost use Rattle.sixel_encode.specs.Laws.{EventsCanBeWritten, ListsAreWhole, ListsBreakNoRule, ListsLeaveTheirPicture};
 ghost use Rattle.sixel_encode.specs.Laws.{RunsAreLongest, RunsGiveTheirRow, TextsAreDocuments, TextsAreShort};
 ghost use Rattle.sixel_encode.specs.Laws.{TextsHaveAtMost};

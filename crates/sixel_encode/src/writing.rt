@@ -4,7 +4,7 @@ ghost use Rattle.std.specs.Prelude.{◌≡◌, ◌++◌, ◌∷◌, [], ◌==◌
 ghost use Rattle.std.specs.Option.{option_map, option_to_list};
 ghost use Rattle.sixel_grammar.specs.Blocks.{PutsAllOrNone, TakesMore, in_all};
 ghost use Rattle.sixel_grammar.specs.Devices.{CountsFailure, NeverFlushes, Puts};
-ghost use Rattle.sixel_picture.specs.Colours.{palette_at};
+ghost use Rattle.sixel_model.specs.Colours.{palette_at};
 ghost use Rattle.sixel_encode.specs.Canon.{band_commands, canon_commands, canon_start, canon_text, commands_text};
 ghost use Rattle.sixel_encode.specs.Canon.{define_command, define_commands, opening_commands, picture_commands};
 ghost use Rattle.sixel_encode.specs.Canon.{most_bands};
@@ -12,7 +12,7 @@ ghost use Rattle.sixel_encode.specs.Canon.{most_bands};
 use crate::band::{Text, put_band, put_between, put_command};
 use arrayvec::ArrayVec;
 use sixel_grammar::{Command, DeviceFault, Event, Sink};
-use sixel_picture::{BAND_ROWS, Palette, Parts, Picture};
+use sixel_model::{BAND_ROWS, Palette, Parts, Picture};
 
 /// Why a picture was not written to its end.
 #[derive(Clone, Copy, Debug, PartialEq, Eq)]

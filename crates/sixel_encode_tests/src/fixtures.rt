@@ -1,6 +1,6 @@
 //! What the tests share: pictures of registers.
 
-use sixel_picture::{Colour, Palette, Parts, Picture, Profile};
+use sixel_model::{Colour, Palette, Parts, Picture, Profile};
 use std::alloc::{AllocError, Global};
 use std::test::Fail;
 

@@ -1,7 +1,8 @@
 //! Reading picture files at the limits: long headers, long numbers, large pictures.
 
 use crate::reading::{agrees, fault, format, reads};
-use sixel_picture::{Parts, PpmFault, PpmReason};
+use sixel_model::Parts;
+use sixel_ppm::{PpmFault, PpmReason};
 use std::alloc::{AllocError, Global};
 use std::test::Fail;
 

@@ -1,6 +1,6 @@
 //! The worked examples of colours, palettes and pictures.
 
-use sixel_picture::{Colour, Palette, Parts, Picture, PictureFault, PictureReason, Profile};
+use sixel_model::{Colour, Palette, Parts, Picture, PictureFault, PictureReason, Profile};
 use std::alloc::{AllocError, Global};
 use std::test::Fail;
 

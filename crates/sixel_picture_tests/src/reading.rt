@@ -4,7 +4,8 @@ ghost use Rattle.std.specs.Prelude.{◌<◌, None};
 
 use crate::pictures::{parts_of, register_of};
 use sixel_grammar::{DeviceFault, SliceSource, Source};
-use sixel_picture::{Parts, Picture, PpmFault, PpmReason, Profile, read_ppm};
+use sixel_model::{Parts, Picture, Profile};
+use sixel_ppm::{PpmFault, PpmReason, read_ppm};
 use std::alloc::{AllocError, Global};
 use std::test::Fail;
 

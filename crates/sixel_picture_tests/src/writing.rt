@@ -4,7 +4,8 @@ ghost use Rattle.std.specs.Prelude.{None};
 
 use crate::pictures::{picture_of, red_and_blue, set};
 use sixel_grammar::{DeviceFault, Sink, SliceSink};
-use sixel_picture::{Colour, Palette, Picture, PpmFault, Profile, write_ppm, write_ppm_colours};
+use sixel_model::{Colour, Palette, Picture, Profile};
+use sixel_ppm::{PpmFault, write_ppm, write_ppm_colours};
 use std::alloc::{AllocError, Global};
 use std::test::Fail;
 

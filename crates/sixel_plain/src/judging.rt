@@ -5,7 +5,7 @@ use crate::pixels::{outside, painted};
 use crate::rules::plain_rule;
 use sixel_check::{Finding, Rule};
 use sixel_grammar::{Event, InputFault, Placed, SliceSource, read_all};
-use sixel_picture::Profile;
+use sixel_model::Profile;
 use std::alloc::{AllocError, Global};
 
 /// What the plain judge says.

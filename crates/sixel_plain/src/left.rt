@@ -3,7 +3,7 @@
 use crate::history::{box_of, definition};
 use crate::pixels::{Pixels, painted};
 use sixel_grammar::Placed;
-use sixel_picture::{Colour, Parts, Picture, Profile};
+use sixel_model::{Colour, Parts, Picture, Profile};
 use std::alloc::{AllocError, Global};
 
 /// The colour system and the coordinates of a colour.

@@ -3,7 +3,7 @@
 use crate::history::{box_of, definition, is_painted_in, known};
 use sixel_check::Rule;
 use sixel_grammar::{Command, Event, Placed};
-use sixel_picture::Profile;
+use sixel_model::Profile;
 
 /// The least rule that raster attributes break.
 fn raster_rule(boxed: bool, pan: u16, pad: u16, width: u16, height: u16) -> Option<Rule> {

@@ -16,7 +16,7 @@ use Rattle.std.proofs.lemmas.List.Sums.{fold_push}
 use Rattle.sixel_grammar.specs.Devices.{Puts, one_more}
 use Rattle.sixel_grammar.proofs.SinkLemmas.{Appends-keeps, Appends-none, puts-then}
 use Rattle.sixel_grammar.proofs.DeviceLemmas.{Appends-then}
-use Rattle.sixel_picture.specs.declared.profile.Profile.{Profile}
+use Rattle.sixel_model.specs.declared.profile.Profile.{Profile}
 use Rattle.sixel_program.specs.declared.exit.Exit.{Exit}
 use Rattle.sixel_program.specs.declared.exit.Exit.TheVariants as exit
 use Rattle.sixel_run.specs.declared.fault.RunFault.{RunFault}

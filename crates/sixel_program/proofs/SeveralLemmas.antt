@@ -10,7 +10,7 @@ use Rattle.sixel_grammar.specs.Devices.{one_more}
 use Rattle.sixel_grammar.proofs.SinkLemmas.{Appends-none}
 use Rattle.sixel_grammar.proofs.DeviceLemmas.{Appends-then}
 use Rattle.std.proofs.lemmas.List.Elements.{All-cons, All-nil}
-use Rattle.sixel_picture.specs.declared.profile.Profile.{Profile}
+use Rattle.sixel_model.specs.declared.profile.Profile.{Profile}
 use Rattle.sixel_program.specs.declared.exit.Exit.{Exit}
 use Rattle.sixel_program.specs.declared.exit.Exit.TheVariants as exit
 use Rattle.sixel_grammar.specs.declared.fault.Fault.{Fault}

@@ -6,7 +6,7 @@ use Rattle.std.specs.Fmt.{option_append}
 use Rattle.std.specs.Io.KnownBytes.{Consumes}
 use Rattle.std.specs.List.{filter}
 use Rattle.std.proofs.lemmas.List.Elements.{All-cons, All-head, All-nil, All-tail, All-weaker}
-use Rattle.sixel_picture.specs.declared.profile.Profile.{Profile}
+use Rattle.sixel_model.specs.declared.profile.Profile.{Profile}
 use Rattle.sixel_program.specs.declared.exit.Exit.{Exit}
 use Rattle.sixel_program.specs.declared.exit.Exit.TheVariants as exit
 use Rattle.sixel_run.specs.declared.fault.RunFault.{RunFault}

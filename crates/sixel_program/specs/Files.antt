@@ -7,7 +7,7 @@ use Rattle.std.specs.Io.KnownBytes.{Appends}
 use Rattle.std.specs.List.{All, filter, list_any}
 use Rattle.std.specs.Str.{bytes_eq}
 use Rattle.sixel_grammar.specs.Devices.{one_more}
-use Rattle.sixel_picture.specs.declared.profile.Profile.{Profile}
+use Rattle.sixel_model.specs.declared.profile.Profile.{Profile}
 use Rattle.sixel_check.specs.declared.verdict.Finding.{Finding}
 use Rattle.sixel_program.specs.declared.exit.Exit.{Exit}
 use Rattle.sixel_program.specs.declared.exit.Exit.TheVariants.{Done, Refused}

@@ -2,7 +2,7 @@
 use Rattle.std.specs.Prelude.{◌==◌, ◌&&◌, ◌||◌, ◌∷◌, ◌++◌, ℕ, Bool, false, List, [], Option, Some, None, Result, Err}
 use Rattle.std.specs.Prelude.{codes, nat_le, if◌then◌else◌}
 use Rattle.std.specs.Option.{option_map_or}
-use Rattle.sixel_picture.specs.declared.ppm.PpmReason.TheVariants.{Header}
+use Rattle.sixel_ppm.specs.declared.ppm.PpmReason.TheVariants.{Header}
 use Rattle.sixel_run.specs.declared.fault.RunFault.{RunFault}
 use Rattle.sixel_run.specs.declared.fault.RunFault.TheVariants.{Ppm}
 use Rattle.sixel_program.specs.declared.formats.Format.{Format}

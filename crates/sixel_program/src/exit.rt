@@ -12,7 +12,7 @@ use crate::formats::{advice_on, format_of};
 use arrayvec::ArrayVec;
 use clap::Error;
 use sixel_grammar::{DeviceFault, Sink, Source, put_all};
-use sixel_picture::PpmReason;
+use sixel_ppm::PpmReason;
 use sixel_run::{Line, RunFault, Status, Task, fault_line, finding_line, run, write_fault};
 use sixel_words::{Topic, WordsFault, explanation};
 use std::alloc::Global;

@@ -24,7 +24,7 @@ use crate::names::put_named;
 use arrayvec::ArrayVec;
 use sixel_check::Verdict;
 use sixel_grammar::{DeviceFault, FromRead, Sink, Source, put_all};
-use sixel_picture::Profile;
+use sixel_model::Profile;
 use sixel_run::{
     RunFault, Status, Task, fault_line, finding_line, judge, run, status_of, verdict_line,
     write_fault,

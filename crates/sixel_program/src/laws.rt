@@ -3,7 +3,7 @@
 ghost use Rattle.std.specs.Prelude.{◌≡◌, ◌<◌, ◌≤◌, ◌∷◌, ◌++◌, [], ℕ, All, Bool, Contains, List, Err, Ok, Some};
 ghost use Rattle.std.specs.Prelude.{Option, codes, false, map, true};
 ghost use Rattle.std.specs.List.{concat};
-ghost use Rattle.sixel_picture.specs.declared.profile.Profile.{Profile};
+ghost use Rattle.sixel_model.specs.declared.profile.Profile.{Profile};
 ghost use Rattle.sixel_grammar.specs.declared.fault.Fault.{Fault};
 ghost use Rattle.sixel_run.specs.declared.fault.RunFault.{RunFault};
 ghost use Rattle.sixel_run.specs.declared.fault.RunFault.TheVariants.{Grammar};

@@ -10,7 +10,7 @@ mod tasks;
 
 use crate::shelf::Shelf;
 use crate::streams::Narrow;
-use sixel_picture::Profile;
+use sixel_model::Profile;
 use sixel_program::{Exit, execute};
 use sixel_run::Task;
 use sixel_words::Request;

@@ -1,7 +1,7 @@
 //! What is said where `encode` meets a file of another format, worked out by hand.
 
 use crate::ends::ends;
-use sixel_picture::Profile;
+use sixel_model::Profile;
 use sixel_program::Exit;
 use sixel_run::Task;
 

@@ -4,7 +4,8 @@ ghost use Rattle.sixel_run.specs.Outputs.{HasSides};
 
 use crate::ends::{NO_FILES, plain};
 use sixel_grammar::ToWrite;
-use sixel_picture::{PpmReason, Profile};
+use sixel_model::Profile;
+use sixel_ppm::PpmReason;
 use sixel_program::{Exit, execute, tell};
 use sixel_run::Task;
 use sixel_words::{Topic, WordsFault, parse_words, task_in};

@@ -6,7 +6,7 @@ use crate::terminals::{DIFFERENCES, is_shown_so};
 use anyhow::anyhow;
 use sixel_check::Rule;
 use sixel_grammar::InputFault;
-use sixel_picture::Profile;
+use sixel_model::Profile;
 use std::alloc::Global;
 
 /// The profile by which a row checks, if it does.

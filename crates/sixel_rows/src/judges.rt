@@ -3,7 +3,7 @@
 use crate::steps::verdict_by_events;
 use sixel_check::{Rule, Verdict, check_bytes};
 use sixel_grammar::{Fault, InputFault, Placed, SliceSource, read_all};
-use sixel_picture::Profile;
+use sixel_model::Profile;
 use sixel_plain::{Documents, Made, PlainVerdict, is_left, judge_events};
 use std::alloc::{AllocError, Global};
 

@@ -22,7 +22,7 @@ use crate::prefixes::{has_prefixes, prefix_of};
 use crate::tasks::{Wrong, wrong_in_some_pieces, wrong_of};
 use crate::wrong::text_of;
 use anyhow::{Context, anyhow};
-use sixel_picture::Profile;
+use sixel_model::Profile;
 use std::fs;
 use std::process::ExitCode;
 

@@ -6,7 +6,8 @@ ghost use Rattle.sixel_check.specs.Standing.{StandsAfter};
 
 use sixel_check::{Checker, Verdict};
 use sixel_grammar::Placed;
-use sixel_picture::{BytePlane, Profile};
+use sixel_model::Profile;
+use sixel_plane::BytePlane;
 use std::alloc::{AllocError, Global};
 
 /// Pushes the event, if it may come. Whether it may.

@@ -2,7 +2,7 @@
 
 use sixel_check::{Finding, Rule, Verdict, check_bytes};
 use sixel_grammar::{InputFault, Placed, SliceSource, read_all};
-use sixel_picture::{Picture, Profile};
+use sixel_model::{Picture, Profile};
 use sixel_plain::{Choice, MOST_SHOWN, all_show, terminals_differ};
 use std::alloc::{AllocError, Global};
 

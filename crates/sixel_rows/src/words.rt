@@ -1,11 +1,11 @@
 //! The task that the words of a row name.
 
 ghost use Rattle.std.specs.Prelude.{IfOk, IsTrue};
-ghost use Rattle.sixel_picture.specs.Ppm.{is_file_side};
+ghost use Rattle.sixel_ppm.specs.Ppm.{is_file_side};
 ghost use Rattle.sixel_run.specs.Outputs.{HasSides};
 
 use crate::format::RowFault;
-use sixel_picture::Profile;
+use sixel_model::Profile;
 use sixel_run::{MOST_SCREEN_SIDE, Task};
 
 /// The options of a row.

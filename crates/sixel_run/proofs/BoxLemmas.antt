@@ -11,13 +11,13 @@ use Rattle.sixel_grammar.specs.Document.{Document, events_of}
 use Rattle.sixel_grammar.specs.Faults.{IsFaultOf}
 use Rattle.sixel_grammar.proofs.TotalLemmas.{judged}
 use Rattle.sixel_grammar.proofs.UniqueLemmas.{document_once, fault_no_document, fault_once}
-use Rattle.sixel_picture.specs.Events.{Attributes, raster_of}
-use Rattle.sixel_picture.specs.Ppm.{is_file_side}
-use Rattle.sixel_picture.specs.Positions.{earliest}
-use Rattle.sixel_picture.specs.Rules.{raster_before}
-use Rattle.sixel_picture.proofs.FirstLemmas.{earliest_there}
-use Rattle.sixel_picture.proofs.LatestLemmas.{take_one_more}
-use Rattle.sixel_picture.proofs.PositionLemmas.{earliest_push}
+use Rattle.sixel_model.specs.Events.{Attributes, raster_of}
+use Rattle.sixel_ppm.specs.Ppm.{is_file_side}
+use Rattle.sixel_model.specs.Positions.{earliest}
+use Rattle.sixel_model.specs.Rules.{raster_before}
+use Rattle.sixel_model.proofs.FirstLemmas.{earliest_there}
+use Rattle.sixel_model.proofs.LatestLemmas.{take_one_more}
+use Rattle.sixel_model.proofs.PositionLemmas.{earliest_push}
 use Rattle.sixel_terminal.specs.Displays.{Display}
 use Rattle.sixel_run.specs.declared.fault.RunFault.{RunFault}
 use Rattle.sixel_run.specs.declared.fault.RunFault.TheVariants.{Grammar, Ppm, NotRgb, NoBox, OutOfMemory, Read, Write}

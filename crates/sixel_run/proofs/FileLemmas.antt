@@ -4,10 +4,10 @@ use Rattle.std.specs.Prelude.{Result, Ok, Err, IfSome}
 use Rattle.std.specs.Io.KnownBytes.{Appends}
 use Rattle.std.proofs.lemmas.List.{take-append-drop}
 use Rattle.sixel_grammar.proofs.SinkLemmas.{Appends-none}
-use Rattle.sixel_picture.specs.declared.ppm.PpmFault.{PpmFault}
-use Rattle.sixel_picture.specs.declared.ppm.PpmFault.TheVariants as ppm
-use Rattle.sixel_picture.specs.Pictures.{PictureValue}
-use Rattle.sixel_picture.specs.PpmReading.{ReadsPpm, ppm_read}
+use Rattle.sixel_ppm.specs.declared.ppm.PpmFault.{PpmFault}
+use Rattle.sixel_ppm.specs.declared.ppm.PpmFault.TheVariants as ppm
+use Rattle.sixel_model.specs.Pictures.{PictureValue}
+use Rattle.sixel_ppm.specs.PpmReading.{ReadsPpm, ppm_read}
 use Rattle.sixel_encode.specs.Canon.{canon_text}
 use Rattle.sixel_run.specs.declared.fault.RunFault.{RunFault}
 use Rattle.sixel_run.specs.declared.fault.RunFault.TheVariants.{Write}

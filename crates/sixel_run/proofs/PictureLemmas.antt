@@ -10,10 +10,10 @@ use Rattle.sixel_grammar.specs.Faults.{IsFaultOf}
 use Rattle.sixel_grammar.proofs.SinkLemmas.{Appends-none, nothing_put}
 use Rattle.sixel_grammar.proofs.TotalLemmas.{judged}
 use Rattle.sixel_grammar.proofs.UniqueLemmas.{fault_no_document, fault_once}
-use Rattle.sixel_picture.specs.declared.ppm.PpmFault.{PpmFault}
-use Rattle.sixel_picture.specs.declared.ppm.PpmFault.TheVariants as ppm
-use Rattle.sixel_picture.specs.Pictures.{PictureValue}
-use Rattle.sixel_picture.specs.Ppm.{WritesPpm, are_rgb, colours_of, ppm_text}
+use Rattle.sixel_ppm.specs.declared.ppm.PpmFault.{PpmFault}
+use Rattle.sixel_ppm.specs.declared.ppm.PpmFault.TheVariants as ppm
+use Rattle.sixel_model.specs.Pictures.{PictureValue}
+use Rattle.sixel_ppm.specs.Ppm.{WritesPpm, are_rgb, colours_of, ppm_text}
 use Rattle.sixel_check.specs.declared.verdict.Finding.{Finding}
 use Rattle.sixel_check.specs.declared.verdict.Verdict.{Verdict}
 use Rattle.sixel_check.specs.declared.verdict.Verdict.TheVariants.{Portable, Broken}

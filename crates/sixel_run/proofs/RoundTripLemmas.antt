@@ -8,8 +8,8 @@ use Rattle.sixel_grammar.proofs.UniqueLemmas.{fault_no_document}
 use Rattle.sixel_grammar.specs.Document.{events_of}
 use Rattle.sixel_grammar.specs.FixedText.{fixed_places}
 use Rattle.sixel_grammar.specs.Spelling.{fixed_spelling}
-use Rattle.sixel_picture.specs.Rules.{BreaksNone, picture_left}
-use Rattle.sixel_picture.specs.RuleNumbers.{last_rule}
+use Rattle.sixel_model.specs.Rules.{BreaksNone, picture_left}
+use Rattle.sixel_model.specs.RuleNumbers.{last_rule}
 use Rattle.sixel_check.specs.declared.verdict.Verdict.TheVariants.{Portable}
 use Rattle.sixel_check.specs.Portable.{IsPortable}
 use Rattle.sixel_check.proofs.ShownLemmas.{left_is_portable}
@@ -17,9 +17,9 @@ use Rattle.sixel_encode.specs.Canon.{canon, canon_text}
 use Rattle.sixel_encode.proofs.LengthLemmas
 use Rattle.sixel_encode.proofs.LeadsBackLemmas
 use Rattle.sixel_encode.proofs.WrittenLemmas
-use Rattle.sixel_picture.specs.Profiles.{count_of}
-use Rattle.sixel_picture.specs.declared.profile.Profile.{Profile}
-use Rattle.sixel_picture.proofs.PictureLemmas.{at_most_256}
+use Rattle.sixel_model.specs.Profiles.{count_of}
+use Rattle.sixel_model.specs.declared.profile.Profile.{Profile}
+use Rattle.sixel_model.proofs.PictureLemmas.{at_most_256}
 use Rattle.sixel_run.specs.Laws.{EncodedAnswers, EncodedChecks, EncodedIsPortable}
 use Rattle.sixel_run.proofs.CheckLemmas.{same_verdict}
 

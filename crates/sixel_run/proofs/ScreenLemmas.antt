@@ -12,12 +12,12 @@ use Rattle.sixel_grammar.specs.declared.fault.Fault.{Fault}
 use Rattle.sixel_grammar.specs.Document.{Document, events_of}
 use Rattle.sixel_grammar.proofs.TotalLemmas.{judged}
 use Rattle.sixel_grammar.proofs.UniqueLemmas.{document_once, fault_no_document, fault_once}
-use Rattle.sixel_picture.specs.declared.colour.Parts.{Parts}
-use Rattle.sixel_picture.specs.declared.ppm.PpmFault.{PpmFault}
-use Rattle.sixel_picture.specs.declared.ppm.PpmFault.TheVariants as ppm
-use Rattle.sixel_picture.specs.Ppm.{WritesPpm, are_rgb, ppm_text}
+use Rattle.sixel_model.specs.declared.colour.Parts.{Parts}
+use Rattle.sixel_ppm.specs.declared.ppm.PpmFault.{PpmFault}
+use Rattle.sixel_ppm.specs.declared.ppm.PpmFault.TheVariants as ppm
+use Rattle.sixel_ppm.specs.Ppm.{WritesPpm, are_rgb, ppm_text}
 use Rattle.sixel_terminal.specs.Displays.{Display}
-use Rattle.sixel_picture.proofs.SheetLemmas.{length_rows}
+use Rattle.sixel_model.proofs.SheetLemmas.{length_rows}
 use Rattle.sixel_terminal.specs.Drawing.{screen_on, shown_on}
 use Rattle.sixel_run.specs.declared.fault.RunFault.{RunFault}
 use Rattle.sixel_run.specs.declared.fault.RunFault.TheVariants.{Grammar, Ppm, NotRgb, NoBox, OutOfMemory, Read, Write}
@@ -25,7 +25,7 @@ use Rattle.sixel_run.specs.declared.task.Status.{Status}
 use Rattle.sixel_run.specs.declared.task.Status.TheVariants.{Done}
 use Rattle.sixel_run.specs.Conversions.{of_ppm}
 use Rattle.sixel_run.specs.Outputs.{ShowGives, WroteBy, WroteNothing}
-use Rattle.sixel_picture.specs.declared.profile.Profile.{Profile}
+use Rattle.sixel_model.specs.declared.profile.Profile.{Profile}
 use Rattle.sixel_run.specs.Screens.{grey, percent_at, screen_text}
 use Rattle.sixel_run.specs.Texts.{Text, BeginsWith}
 use Rattle.sixel_grammar.proofs.SinkLemmas.{Appends-keeps, Appends-none}

@@ -1,8 +1,8 @@
 -- The faults of the crates below, as faults of a run.
 use Rattle.sixel_grammar.specs.declared.fault.InputFault.{InputFault}
 use Rattle.sixel_grammar.specs.declared.fault.InputFault.TheVariants as input
-use Rattle.sixel_picture.specs.declared.ppm.PpmFault.{PpmFault}
-use Rattle.sixel_picture.specs.declared.ppm.PpmFault.TheVariants as ppm
+use Rattle.sixel_ppm.specs.declared.ppm.PpmFault.{PpmFault}
+use Rattle.sixel_ppm.specs.declared.ppm.PpmFault.TheVariants as ppm
 use Rattle.sixel_run.specs.declared.fault.RunFault.{RunFault}
 use Rattle.sixel_run.specs.declared.fault.RunFault.TheVariants.{Grammar, Ppm, NotRgb, OutOfMemory, Read, Write}
 

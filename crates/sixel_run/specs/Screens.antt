@@ -4,13 +4,13 @@ use Rattle.std.specs.Bool.{then_some}
 use Rattle.std.specs.List.{range_with_len}
 use Rattle.std.specs.Option.{option_and_then}
 use Rattle.sixel_grammar.specs.declared.command.Event.{Event}
-use Rattle.sixel_picture.specs.declared.colour.Parts.{Parts}
-use Rattle.sixel_picture.specs.declared.colour.Parts.TheVariants.{Rgb}
-use Rattle.sixel_picture.specs.Ppm.{is_file_side, ppm_text}
-use Rattle.sixel_picture.specs.Profiles.{count_of}
-use Rattle.sixel_picture.specs.Rules.{raster_before}
-use Rattle.sixel_picture.specs.declared.profile.Profile.{Profile}
-use Rattle.sixel_picture.specs.declared.profile.Profile.TheVariants.{Registers16, Registers256}
+use Rattle.sixel_model.specs.declared.colour.Parts.{Parts}
+use Rattle.sixel_model.specs.declared.colour.Parts.TheVariants.{Rgb}
+use Rattle.sixel_ppm.specs.Ppm.{is_file_side, ppm_text}
+use Rattle.sixel_model.specs.Profiles.{count_of}
+use Rattle.sixel_model.specs.Rules.{raster_before}
+use Rattle.sixel_model.specs.declared.profile.Profile.{Profile}
+use Rattle.sixel_model.specs.declared.profile.Profile.TheVariants.{Registers16, Registers256}
 use Rattle.sixel_terminal.specs.declared.choices.Choices.{Choices}
 use Rattle.sixel_terminal.specs.declared.choices.Ground.{Ground}
 use Rattle.sixel_terminal.specs.declared.choices.Ground.TheVariants.{Kept, Filled}

@@ -11,9 +11,9 @@ use Rattle.sixel_grammar.specs.declared.fault.Reason.{Reason}
 use Rattle.sixel_grammar.specs.declared.fault.Reason.TheVariants.{NotSixel, BadByte, NumberTooLarge, FieldCount}
 use Rattle.sixel_grammar.specs.declared.fault.Reason.TheVariants.{BadRepeat, BadTerminator, Truncated, TooLong}
 use Rattle.sixel_grammar.specs.declared.fault.Reason.TheVariants.{Trailing}
-use Rattle.sixel_picture.specs.declared.ppm.PpmReason.{PpmReason}
-use Rattle.sixel_picture.specs.declared.ppm.PpmReason.TheVariants as ppm
-use Rattle.sixel_picture.specs.Pictures.{PictureValue}
+use Rattle.sixel_ppm.specs.declared.ppm.PpmReason.{PpmReason}
+use Rattle.sixel_ppm.specs.declared.ppm.PpmReason.TheVariants as ppm
+use Rattle.sixel_model.specs.Pictures.{PictureValue}
 use Rattle.sixel_check.specs.declared.rule.Rule.{Rule}
 use Rattle.sixel_check.specs.declared.rule.Rule.TheVariants as rule
 use Rattle.sixel_check.specs.declared.verdict.Finding.{Finding}

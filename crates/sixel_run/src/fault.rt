@@ -1,7 +1,7 @@
 //! Why a run is refused.
 
 use sixel_grammar::{Fault, InputFault};
-use sixel_picture::{PpmFault, PpmReason};
+use sixel_ppm::{PpmFault, PpmReason};
 use std::alloc::AllocError;
 use thiserror::Error;
 

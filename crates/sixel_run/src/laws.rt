@@ -1,8 +1,8 @@
 //! Laws about the definitions. Each function's contract is the law.
 
 ghost use Rattle.std.specs.Prelude.{◌≡◌, ℕ, List, Result};
-ghost use Rattle.sixel_picture.specs.Profiles.{count_of};
-ghost use Rattle.sixel_picture.specs.declared.profile.Profile.{Profile};
+ghost use Rattle.sixel_model.specs.Profiles.{count_of};
+ghost use Rattle.sixel_model.specs.declared.profile.Profile.{Profile};
 ghost use Rattle.sixel_run.specs.declared.fault.RunFault.{RunFault};
 ghost use Rattle.sixel_run.specs.declared.task.Status.{Status};
 ghost use Rattle.sixel_run.specs.declared.task.Task.{Task};

@@ -11,7 +11,8 @@ use arrayvec::ArrayVec;
 use itoa::Buffer;
 use sixel_check::{Finding, Rule, Verdict};
 use sixel_grammar::{Command, DeviceFault, Event, Placed, Reason, Sink, put_all};
-use sixel_picture::{Picture, PpmReason};
+use sixel_model::Picture;
+use sixel_ppm::PpmReason;
 
 /// A line, with its line feed: of an event at most 58 bytes, of a fault at most 46, of a verdict at most 82.
 pub type Line = ArrayVec<u8, 96>;

@@ -1,7 +1,7 @@
 //! What a run is asked for, and how it ends well.
 
 use sixel_check::Finding;
-use sixel_picture::Profile;
+use sixel_model::Profile;
 
 /// The greatest side of a screen, in pixels.
 pub const MOST_SCREEN_SIDE: u32 = 4096;

@@ -2,7 +2,8 @@
 
 use crate::runs::{Limits, agrees, run_watched};
 use sixel_check::{Finding, Rule};
-use sixel_picture::{PpmReason, Profile};
+use sixel_model::Profile;
+use sixel_ppm::PpmReason;
 use sixel_run::{RunFault, Status, Task};
 use std::alloc::{AllocError, Global};
 use std::test::Fail;

@@ -4,7 +4,9 @@ ghost use Rattle.sixel_run.specs.Outputs.{HasSides};
 
 use sixel_check::{Verdict, check};
 use sixel_grammar::{InputFault, SliceSink, SliceSource};
-use sixel_picture::{BandPlane, BytePlane, Colour, Picture, Plane, PpmFault, Profile, read_ppm};
+use sixel_model::{Colour, Picture, Profile};
+use sixel_plane::{BandPlane, BytePlane, Plane};
+use sixel_ppm::{PpmFault, read_ppm};
 use sixel_run::{RunFault, Status, Task, run};
 use std::alloc::{AllocError, Global};
 use std::test::Fail;

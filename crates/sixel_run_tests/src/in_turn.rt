@@ -5,7 +5,8 @@ ghost use Rattle.sixel_run.specs.Outputs.{HasSides};
 use crate::runs::{Limits, Ran, run_watched};
 use sixel_check::{Finding, Rule};
 use sixel_grammar::{Fault, Reason};
-use sixel_picture::{PpmReason, Profile};
+use sixel_model::Profile;
+use sixel_ppm::PpmReason;
 use sixel_run::{RunFault, Status, Task};
 use std::alloc::Global;
 

@@ -1,7 +1,7 @@
 //! The greatest boxes that a screen can have.
 
 use crate::runs::{Limits, run_watched};
-use sixel_picture::Profile;
+use sixel_model::Profile;
 use sixel_run::{Status, Task};
 use std::alloc::{AllocError, Global};
 use std::test::Fail;

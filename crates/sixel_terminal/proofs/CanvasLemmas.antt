@@ -3,8 +3,8 @@ use Rattle.std.proofs.Common.{◌≡◌, ℕ, ◌+◌, ◌-◌, ◌*◌, ◌/◌
 use Rattle.std.proofs.Common.{get_or, nat_le, nat_lt, refl, sym, ap, ◌∙◌, arith}
 use Rattle.std.proofs.Math.Bool.{and-false}
 use Rattle.std.proofs.lemmas.Bool.Decides.{nat_tests}
-use Rattle.sixel_picture.proofs.RunLemmas.{in_row}
-use Rattle.sixel_picture.proofs.PaintLemmas.{on_top}
+use Rattle.sixel_model.proofs.RunLemmas.{in_row}
+use Rattle.sixel_model.proofs.PaintLemmas.{on_top}
 use Rattle.sixel_terminal.specs.declared.canvas.Ink.{Ink}
 use Rattle.sixel_terminal.specs.declared.canvas.Span.{Span}
 use Rattle.sixel_terminal.specs.Canvases.{black, is_in_span}

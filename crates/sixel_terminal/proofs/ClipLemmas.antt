@@ -4,8 +4,8 @@ use Rattle.std.specs.Prelude.{true, false}
 use Rattle.std.proofs.Math.Bool.{and-false}
 use Rattle.std.proofs.lemmas.Bool.{le-leb}
 use Rattle.sixel_grammar.specs.declared.command.Event.{Event}
-use Rattle.sixel_picture.specs.Events.{Attributes, is_in_box}
-use Rattle.sixel_picture.specs.Rules.{raster_before}
+use Rattle.sixel_model.specs.Events.{Attributes, is_in_box}
+use Rattle.sixel_model.specs.Rules.{raster_before}
 use Rattle.sixel_terminal.specs.Displays.{Display}
 use Rattle.sixel_terminal.specs.Drawing.{is_kept_on, paint_at, paints_on, touches_on}
 use Rattle.sixel_terminal.specs.Laws.{ClippedIsUnpainted}

@@ -5,9 +5,9 @@ use Rattle.std.specs.Int.{bit_at}
 use Rattle.std.proofs.Math.Bool.{and_assoc}
 use Rattle.std.proofs.lemmas.Bool.Decides.{nat_tests}
 use Rattle.std.proofs.lemmas.Nat.{div_below, mod_below}
-use Rattle.sixel_picture.specs.Geometry.{covers}
-use Rattle.sixel_picture.specs.Positions.{any_below}
-use Rattle.sixel_picture.proofs.PaintLemmas.{IsPaintedBelow, bit_covers, bit_rows, painted_more}
+use Rattle.sixel_model.specs.Geometry.{covers}
+use Rattle.sixel_model.specs.Positions.{any_below}
+use Rattle.sixel_model.proofs.PaintLemmas.{IsPaintedBelow, bit_covers, bit_rows, painted_more}
 use Rattle.std.specs.Prelude.{None, unwrap_or, if◌then◌else◌}
 use Rattle.std.specs.Bool.{then_some}
 use Rattle.std.specs.Option.{option_map}
@@ -16,8 +16,8 @@ use Rattle.sixel_grammar.specs.declared.command.Command.TheVariants.{Sixel, Repe
 use Rattle.sixel_grammar.specs.declared.command.Command.TheVariants.{CarriageReturn, NextLine}
 use Rattle.sixel_grammar.specs.declared.command.Event.{Event}
 use Rattle.sixel_grammar.specs.declared.command.Event.TheVariants.{Step}
-use Rattle.sixel_picture.specs.declared.colour.Parts.{Parts}
-use Rattle.sixel_picture.specs.Events.{bits_of, columns_of, raster_of}
+use Rattle.sixel_model.specs.declared.colour.Parts.{Parts}
+use Rattle.sixel_model.specs.Events.{bits_of, columns_of, raster_of}
 use Rattle.sixel_terminal.specs.declared.choices.Ground.{Ground}
 use Rattle.sixel_terminal.specs.declared.choices.Ground.TheVariants.{Kept, Filled}
 use Rattle.sixel_terminal.specs.Drawing.{filled_on}

@@ -8,11 +8,11 @@ use Rattle.std.proofs.lemmas.Bool.{and_parts, cases_lt, leb-true}
 use Rattle.std.proofs.lemmas.Bool.Decides.{nat_tests}
 use Rattle.std.proofs.Common.{inl, inr}
 use Rattle.sixel_grammar.specs.declared.command.Event.{Event}
-use Rattle.sixel_picture.specs.Events.{Attributes, bits_of, columns_of, is_in_box, is_square, raster_of}
-use Rattle.sixel_picture.specs.Geometry.{band, column, covers, touches}
-use Rattle.sixel_picture.specs.Positions.{latest}
-use Rattle.sixel_picture.specs.Rules.{raster_before}
-use Rattle.sixel_picture.proofs.PositionLemmas.{any_below_same}
+use Rattle.sixel_model.specs.Events.{Attributes, bits_of, columns_of, is_in_box, is_square, raster_of}
+use Rattle.sixel_model.specs.Geometry.{band, column, covers, touches}
+use Rattle.sixel_model.specs.Positions.{latest}
+use Rattle.sixel_model.specs.Rules.{raster_before}
+use Rattle.sixel_model.proofs.PositionLemmas.{any_below_same}
 use Rattle.sixel_terminal.specs.declared.pen.Pen.{Pen}
 use Rattle.sixel_terminal.specs.declared.pen.Sides.{Sides}
 use Rattle.sixel_terminal.specs.Displays.{Display}

@@ -6,11 +6,11 @@ use Rattle.std.specs.Option.{option_map_or}
 use Rattle.sixel_grammar.specs.declared.command.Command.TheVariants.{Repeat}
 use Rattle.sixel_grammar.specs.declared.command.Event.{Event}
 use Rattle.sixel_grammar.specs.declared.command.Event.TheVariants.{Step}
-use Rattle.sixel_picture.specs.Events.{Attributes, columns_of, is_repeat_of_zero, is_return, is_square, raster_of}
-use Rattle.sixel_picture.specs.Geometry.{column, falls, touches}
-use Rattle.sixel_picture.specs.Positions.{latest}
-use Rattle.sixel_picture.specs.Rules.{raster_before}
-use Rattle.sixel_picture.proofs.KnownLemmas.{each_before, each_there, earliest_is_some, latest_each, sum_since_same}
+use Rattle.sixel_model.specs.Events.{Attributes, columns_of, is_repeat_of_zero, is_return, is_square, raster_of}
+use Rattle.sixel_model.specs.Geometry.{column, falls, touches}
+use Rattle.sixel_model.specs.Positions.{latest}
+use Rattle.sixel_model.specs.Rules.{raster_before}
+use Rattle.sixel_model.proofs.KnownLemmas.{each_before, each_there, earliest_is_some, latest_each, sum_since_same}
 use Rattle.sixel_terminal.specs.Displays.{Display}
 use Rattle.sixel_terminal.specs.Drawing.{height_of, touches_on}
 use Rattle.sixel_terminal.specs.Laws.{SamePointsOnEach}

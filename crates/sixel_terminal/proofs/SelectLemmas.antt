@@ -7,9 +7,9 @@ use Rattle.sixel_grammar.specs.declared.command.Command.TheVariants.{Select, Def
 use Rattle.std.proofs.Math.Nat.{mod-eq_of_lt}
 use Rattle.sixel_grammar.specs.declared.command.Event.{Event}
 use Rattle.sixel_grammar.specs.declared.command.Event.TheVariants.{Step}
-use Rattle.sixel_picture.specs.Events.{named_by, select_of}
-use Rattle.sixel_picture.specs.Positions.{latest}
-use Rattle.sixel_picture.proofs.KnownLemmas.{Known, known_is}
+use Rattle.sixel_model.specs.Events.{named_by, select_of}
+use Rattle.sixel_model.specs.Positions.{latest}
+use Rattle.sixel_model.proofs.KnownLemmas.{Known, known_is}
 use Rattle.sixel_terminal.specs.Drawing.{selected_on}
 use Rattle.sixel_terminal.specs.Laws.{KnownIsSelected}
 

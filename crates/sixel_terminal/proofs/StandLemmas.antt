@@ -5,14 +5,14 @@ use Rattle.std.specs.Prelude.{unwrap_or, if◌then◌else◌}
 use Rattle.std.specs.Option.{option_or, option_map, option_map_or}
 use Rattle.std.proofs.lemmas.Nat.{mod_below}
 use Rattle.sixel_grammar.specs.declared.command.Event.{Event}
-use Rattle.sixel_picture.specs.Events.{Attributes, columns_of, is_next_line, is_return, is_square, named_by, raster_of}
-use Rattle.sixel_picture.specs.Events.{select_of}
-use Rattle.sixel_picture.specs.Geometry.{band, column}
-use Rattle.sixel_picture.specs.Positions.{earliest, last_at, latest}
-use Rattle.sixel_picture.specs.Rules.{raster_before}
-use Rattle.sixel_picture.proofs.PositionLemmas.{earliest_push, latest_push, last_at_push}
-use Rattle.sixel_picture.proofs.StepLemmas.{band_push, column_push}
-use Rattle.sixel_picture.specs.declared.colour.Parts.TheVariants.{Rgb}
+use Rattle.sixel_model.specs.Events.{Attributes, columns_of, is_next_line, is_return, is_square, named_by, raster_of}
+use Rattle.sixel_model.specs.Events.{select_of}
+use Rattle.sixel_model.specs.Geometry.{band, column}
+use Rattle.sixel_model.specs.Positions.{earliest, last_at, latest}
+use Rattle.sixel_model.specs.Rules.{raster_before}
+use Rattle.sixel_model.proofs.PositionLemmas.{earliest_push, latest_push, last_at_push}
+use Rattle.sixel_model.proofs.StepLemmas.{band_push, column_push}
+use Rattle.sixel_model.specs.declared.colour.Parts.TheVariants.{Rgb}
 use Rattle.sixel_terminal.specs.declared.canvas.Ink.TheVariants.{Fixed}
 use Rattle.sixel_terminal.specs.declared.pen.Pen.{Pen}
 use Rattle.sixel_terminal.specs.Displays.{Display, registers_of}

@@ -1,6 +1,6 @@
 -- The pixels of a screen while it is drawn on. Private contracts alone cite these words.
 use Rattle.std.specs.Prelude.{◌&&◌, ℕ, ◌+◌, Bool, min, nat_le, nat_lt}
-use Rattle.sixel_picture.specs.declared.colour.Parts.TheVariants.{Rgb}
+use Rattle.sixel_model.specs.declared.colour.Parts.TheVariants.{Rgb}
 use Rattle.sixel_terminal.specs.declared.canvas.Ink.{Ink}
 use Rattle.sixel_terminal.specs.declared.canvas.Ink.TheVariants.{Fixed}
 use Rattle.sixel_terminal.specs.declared.canvas.Span.{Span}

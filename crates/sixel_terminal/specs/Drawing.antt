@@ -6,15 +6,15 @@ use Rattle.std.specs.Bool.{then_some}
 use Rattle.std.specs.List.{list_any}
 use Rattle.std.specs.Option.{option_map, option_and_then, option_map_or}
 use Rattle.sixel_grammar.specs.declared.command.Event.{Event}
-use Rattle.sixel_picture.specs.declared.colour.Parts.{Parts}
-use Rattle.sixel_picture.specs.declared.colour.Parts.TheVariants.{Rgb}
-use Rattle.sixel_picture.specs.Colours.{clamped, colour_in, is_colour}
-use Rattle.sixel_picture.specs.Events.{Attributes, Definition, definition_where, is_eight_bit, is_in_box, is_square}
-use Rattle.sixel_picture.specs.Events.{named_by, raster_of, select_of}
-use Rattle.sixel_picture.specs.Geometry.{touches}
-use Rattle.sixel_picture.specs.Positions.{HoldsAtPosition, last_at, latest}
-use Rattle.sixel_picture.specs.Rules.{raster_before}
-use Rattle.sixel_picture.specs.Sheets.{row_by_row}
+use Rattle.sixel_model.specs.declared.colour.Parts.{Parts}
+use Rattle.sixel_model.specs.declared.colour.Parts.TheVariants.{Rgb}
+use Rattle.sixel_model.specs.Colours.{clamped, colour_in, is_colour}
+use Rattle.sixel_model.specs.Events.{Attributes, Definition, definition_where, is_eight_bit, is_in_box, is_square}
+use Rattle.sixel_model.specs.Events.{named_by, raster_of, select_of}
+use Rattle.sixel_model.specs.Geometry.{touches}
+use Rattle.sixel_model.specs.Positions.{HoldsAtPosition, last_at, latest}
+use Rattle.sixel_model.specs.Rules.{raster_before}
+use Rattle.sixel_model.specs.Sheets.{row_by_row}
 use Rattle.sixel_terminal.specs.declared.choices.Ground.{Ground}
 use Rattle.sixel_terminal.specs.declared.choices.Ground.TheVariants.{Kept, Filled}
 use Rattle.sixel_terminal.specs.Displays.{Display, registers_of}

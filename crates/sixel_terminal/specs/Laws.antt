@@ -3,10 +3,10 @@ use Rattle.std.specs.Prelude.{◌≡◌, ◌<◌, ◌≤◌, ◌+◌, ℕ, true,
 use Rattle.std.specs.Prelude.{length, slice_get, take}
 use Rattle.std.specs.List.{AllByRecursion, list_any}
 use Rattle.sixel_grammar.specs.declared.command.Event.{Event}
-use Rattle.sixel_picture.specs.declared.colour.Parts.{Parts}
-use Rattle.sixel_picture.specs.Events.{Attributes, is_eight_bit, is_in_box, is_repeat_of_zero, is_square, raster_of}
-use Rattle.sixel_picture.specs.Geometry.{falls}
-use Rattle.sixel_picture.specs.Rules.{known, raster_before}
+use Rattle.sixel_model.specs.declared.colour.Parts.{Parts}
+use Rattle.sixel_model.specs.Events.{Attributes, is_eight_bit, is_in_box, is_repeat_of_zero, is_square, raster_of}
+use Rattle.sixel_model.specs.Geometry.{falls}
+use Rattle.sixel_model.specs.Rules.{known, raster_before}
 use Rattle.sixel_terminal.specs.declared.choices.Choices.{Choices}
 use Rattle.sixel_terminal.specs.declared.choices.Ground.TheVariants.{Kept}
 use Rattle.sixel_terminal.specs.Displays.{Display, HasRoom, IsInClass, registers_of}

@@ -4,11 +4,11 @@ use Rattle.std.specs.Prelude.{◌≡◌, ◌<◌, ℕ, ◌+◌, ◌*◌, ◌/◌
 use Rattle.std.specs.Prelude.{if◌then◌else◌}
 use Rattle.std.specs.Option.{option_map}
 use Rattle.sixel_grammar.specs.declared.command.Event.{Event}
-use Rattle.sixel_picture.specs.declared.colour.Parts.{Parts}
-use Rattle.sixel_picture.specs.declared.colour.Parts.TheVariants.{Rgb}
-use Rattle.sixel_picture.specs.Geometry.{band, column}
-use Rattle.sixel_picture.specs.Positions.{last_at}
-use Rattle.sixel_picture.specs.Rules.{raster_before}
+use Rattle.sixel_model.specs.declared.colour.Parts.{Parts}
+use Rattle.sixel_model.specs.declared.colour.Parts.TheVariants.{Rgb}
+use Rattle.sixel_model.specs.Geometry.{band, column}
+use Rattle.sixel_model.specs.Positions.{last_at}
+use Rattle.sixel_model.specs.Rules.{raster_before}
 use Rattle.sixel_terminal.specs.declared.canvas.Ink.{Ink}
 use Rattle.sixel_terminal.specs.declared.canvas.Ink.TheVariants.{Fixed, Bound}
 use Rattle.sixel_terminal.specs.declared.pen.Pen.{Pen}

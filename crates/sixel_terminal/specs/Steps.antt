@@ -4,11 +4,11 @@ use Rattle.std.specs.Prelude.{◌&&◌, ℕ, ◌+◌, ◌-◌, ◌%◌, ◌^◌,
 use Rattle.std.specs.Prelude.{slice_index_or, unwrap_or, if◌then◌else◌}
 use Rattle.std.specs.Option.{option_map, option_map_or, option_or}
 use Rattle.sixel_grammar.specs.declared.command.Event.{Event}
-use Rattle.sixel_picture.specs.declared.colour.Parts.{Parts}
-use Rattle.sixel_picture.specs.declared.colour.Parts.TheVariants.{Rgb}
-use Rattle.sixel_picture.specs.Events.{Attributes, bits_of, columns_of, is_next_line, is_return, is_square, named_by}
-use Rattle.sixel_picture.specs.Events.{raster_of, select_of}
-use Rattle.sixel_picture.specs.Geometry.{covers}
+use Rattle.sixel_model.specs.declared.colour.Parts.{Parts}
+use Rattle.sixel_model.specs.declared.colour.Parts.TheVariants.{Rgb}
+use Rattle.sixel_model.specs.Events.{Attributes, bits_of, columns_of, is_next_line, is_return, is_square, named_by}
+use Rattle.sixel_model.specs.Events.{raster_of, select_of}
+use Rattle.sixel_model.specs.Geometry.{covers}
 use Rattle.sixel_terminal.specs.declared.canvas.Ink.{Ink}
 use Rattle.sixel_terminal.specs.declared.canvas.Ink.TheVariants.{Fixed, Bound}
 use Rattle.sixel_terminal.specs.declared.pen.Pen.{Pen}

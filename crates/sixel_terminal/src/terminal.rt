@@ -9,7 +9,7 @@ ghost use Rattle.sixel_terminal.specs.Displays.{HasRoom, IsInClass};
 ghost use Rattle.sixel_terminal.specs.Limits.{display_of, is_ground_below, terminal_fault};
 
 use crate::choices::{Choices, Ground};
-use sixel_picture::{Colour, LEAST_REGISTERS, MOST_REGISTERS};
+use sixel_model::{Colour, LEAST_REGISTERS, MOST_REGISTERS};
 use std::marker::Model;
 
 /// The greatest side of a screen, in pixels.

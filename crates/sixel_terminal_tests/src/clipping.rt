@@ -1,7 +1,7 @@
 //! Terminals that clip data to the declared box.
 
 use crate::fixtures::{BLACK, RED, WHITE, grey, is_shown, plain_choices};
-use sixel_picture::Parts;
+use sixel_model::Parts;
 use sixel_terminal::{Choices, Ground};
 use std::alloc::Global;
 use std::test::Fail;

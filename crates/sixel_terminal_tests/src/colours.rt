@@ -1,7 +1,7 @@
 //! Registers and their colours.
 
 use crate::fixtures::{BLACK, RED, grey, is_shown, plain_choices};
-use sixel_picture::Parts;
+use sixel_model::Parts;
 use sixel_terminal::Choices;
 use std::test::Fail;
 

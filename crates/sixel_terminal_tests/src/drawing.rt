@@ -4,7 +4,7 @@ use crate::fixtures::{
     BLACK, RED, WHITE, document, events_of, grey, is_shown, parts_of, plain_choices, terminal,
 };
 use sixel_grammar::{Command, Event, Placed};
-use sixel_picture::{Colour, Parts};
+use sixel_model::{Colour, Parts};
 use sixel_terminal::{Choices, Ground, Terminal};
 use std::alloc::{AllocError, Global};
 use std::test::Fail;

@@ -4,7 +4,7 @@ use crate::fixtures::{
     BLACK, RED, WHITE, events_of, grey, grey_colours, is_shown, parts_of, plain_choices, terminal,
 };
 use sixel_grammar::Placed;
-use sixel_picture::Parts;
+use sixel_model::Parts;
 use sixel_terminal::{Choices, Ground, Terminal};
 use std::alloc::Global;
 use std::test::Fail;

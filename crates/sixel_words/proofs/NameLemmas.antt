@@ -5,8 +5,8 @@ use Rattle.sixel_check.specs.declared.rule.Rule.{Rule}
 use Rattle.sixel_check.specs.declared.rule.Rule.TheVariants as rule
 use Rattle.sixel_grammar.specs.declared.fault.Reason.{Reason}
 use Rattle.sixel_grammar.specs.declared.fault.Reason.TheVariants as reason
-use Rattle.sixel_picture.specs.declared.ppm.PpmReason.{PpmReason}
-use Rattle.sixel_picture.specs.declared.ppm.PpmReason.TheVariants as ppm
+use Rattle.sixel_ppm.specs.declared.ppm.PpmReason.{PpmReason}
+use Rattle.sixel_ppm.specs.declared.ppm.PpmReason.TheVariants as ppm
 use Rattle.sixel_run.specs.declared.fault.RunFault.{RunFault}
 use Rattle.sixel_run.specs.declared.fault.RunFault.TheVariants as fault
 use Rattle.sixel_words.specs.Explanations.{listed_names, topic_name, topic_of}

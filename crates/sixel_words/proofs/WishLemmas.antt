@@ -4,7 +4,7 @@ use Rattle.clap.specs.Takes.{takes, walk_passes}
 use Rattle.clap.specs.Walk.{walked}
 use Rattle.sixel_check.specs.declared.rule.Rule.TheVariants as rule
 use Rattle.sixel_grammar.specs.declared.fault.Reason.TheVariants as reason
-use Rattle.sixel_picture.specs.declared.ppm.PpmReason.TheVariants as ppm
+use Rattle.sixel_ppm.specs.declared.ppm.PpmReason.TheVariants as ppm
 use Rattle.sixel_words.specs.declared.explanations.Topic.{Topic}
 use Rattle.sixel_words.specs.declared.explanations.Topic.TheVariants as topic
 use Rattle.sixel_words.specs.Explanations.{topic_name}

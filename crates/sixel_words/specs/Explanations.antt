@@ -8,7 +8,7 @@ use Rattle.sixel_check.specs.declared.rule.Rule.TheVariants.{Outside, Uncovered,
 use Rattle.sixel_grammar.specs.declared.fault.Reason.TheVariants.{NotSixel, BadByte, NumberTooLarge, FieldCount}
 use Rattle.sixel_grammar.specs.declared.fault.Reason.TheVariants.{BadRepeat, BadTerminator, Truncated, TooLong}
 use Rattle.sixel_grammar.specs.declared.fault.Reason.TheVariants.{Trailing}
-use Rattle.sixel_picture.specs.declared.ppm.PpmReason.TheVariants.{Header, Size, Maxval, Sample, Short, TooManyColours}
+use Rattle.sixel_ppm.specs.declared.ppm.PpmReason.TheVariants.{Header, Size, Maxval, Sample, Short, TooManyColours}
 use Rattle.sixel_words.specs.declared.explanations.Topic.{Topic}
 use Rattle.sixel_words.specs.declared.explanations.Topic.TheVariants.{Rule, Grammar, Ppm, NotRgb, NoBox, OutOfMemory, Read}
 use Rattle.sixel_words.specs.declared.explanations.Topic.TheVariants.{Write}

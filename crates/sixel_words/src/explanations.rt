@@ -11,7 +11,7 @@ use refusals::{of_ppm_reason, of_reason, ppm_reason_named, reason_named};
 use rules::{of_rule, rule_named};
 use sixel_check::Rule;
 use sixel_grammar::Reason;
-use sixel_picture::PpmReason;
+use sixel_ppm::PpmReason;
 
 /// What can be explained: a rule, or why a run is refused.
 #[derive(Clone, Copy, Debug, PartialEq, Eq, Drop)]

@@ -2,7 +2,7 @@
 
 ghost use Rattle.std.specs.Prelude.{◌≡◌, ◌∷◌, [], Contains, None, Some};
 ghost use Rattle.std.specs.Prelude.{codes, false, true};
-ghost use Rattle.sixel_picture.specs.declared.profile.Profile.TheVariants.{Registers16};
+ghost use Rattle.sixel_model.specs.declared.profile.Profile.TheVariants.{Registers16};
 ghost use Rattle.sixel_check.specs.declared.rule.Rule.{Rule};
 ghost use Rattle.clap.specs.Takes.{takes};
 ghost use Rattle.sixel_words.specs.declared.explanations.Topic.{Topic};

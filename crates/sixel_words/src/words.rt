@@ -28,7 +28,7 @@ use crate::request::Request;
 use clap::error::ErrorKind;
 use clap::parser::ValueSource;
 use clap::{Arg, ArgAction, ArgMatches, Command, Error};
-use sixel_picture::Profile;
+use sixel_model::Profile;
 use sixel_run::{MOST_SCREEN_SIDE, Task};
 use std::alloc::{AllocError, Global};
 

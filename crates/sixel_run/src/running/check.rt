@@ -1,7 +1,7 @@
 //! Checks a sixel picture, and writes the verdict.
 
 ghost use Rattle.std.specs.Prelude.{◌≡◌, ◌≢◌, [], Err, IfSome, Some};
-ghost use Rattle.sixel_picture.specs.Profiles.{count_of};
+ghost use Rattle.sixel_model.specs.Profiles.{count_of};
 ghost use Rattle.sixel_check.specs.Growth.{MayGrowIn};
 ghost use Rattle.sixel_run.specs.declared.fault.RunFault.TheVariants.{Read};
 ghost use Rattle.sixel_run.specs.Outputs.{CheckGives, CountsWrites, WroteBy, WroteNothing, answer_of, failures_by, line_of};
@@ -12,7 +12,7 @@ use crate::lines::write_verdict;
 use crate::task::Status;
 use sixel_check::Verdict;
 use sixel_grammar::{Sink, Source};
-use sixel_picture::Profile;
+use sixel_model::Profile;
 use std::alloc::Global;
 
 /// Reads the whole input, and writes the line of the verdict. It doesn't flush.

@@ -1,15 +1,16 @@
 //! Writes a picture from a PPM as sixel text.
 
 ghost use Rattle.std.specs.Prelude.{◌≡◌, Err, IfSome};
-ghost use Rattle.sixel_picture.specs.PpmReading.{HasWholeHeader};
-ghost use Rattle.sixel_picture.specs.Profiles.{count_of};
+ghost use Rattle.sixel_ppm.specs.PpmReading.{HasWholeHeader};
+ghost use Rattle.sixel_model.specs.Profiles.{count_of};
 ghost use Rattle.sixel_run.specs.declared.fault.RunFault.TheVariants.{Read};
 ghost use Rattle.sixel_run.specs.Outputs.{CountsWrites, EncodeGives, WroteBy, WroteNothing, failures_by};
 
 use crate::fault::RunFault;
 use crate::task::Status;
 use sixel_grammar::{Sink, Source};
-use sixel_picture::{Profile, read_ppm};
+use sixel_model::Profile;
+use sixel_ppm::read_ppm;
 use std::alloc::Global;
 
 /// Reads a whole picture file, and writes its picture's canonical text. It doesn't flush.

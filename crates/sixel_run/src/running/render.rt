@@ -1,7 +1,7 @@
 //! Writes a portable sixel picture as a PPM.
 
 ghost use Rattle.std.specs.Prelude.{◌≡◌, Err, IfSome};
-ghost use Rattle.sixel_picture.specs.Profiles.{count_of};
+ghost use Rattle.sixel_model.specs.Profiles.{count_of};
 ghost use Rattle.sixel_check.specs.Growth.{MayGrowIn};
 ghost use Rattle.sixel_run.specs.declared.fault.RunFault.TheVariants.{Read};
 ghost use Rattle.sixel_run.specs.Outputs.{CountsWrites, RenderGives, WroteBy, WroteNothing, failures_by};
@@ -10,7 +10,8 @@ use crate::fault::RunFault;
 use crate::task::Status;
 use sixel_check::Verdict;
 use sixel_grammar::{Sink, Source};
-use sixel_picture::{Profile, write_ppm};
+use sixel_model::Profile;
+use sixel_ppm::write_ppm;
 use std::alloc::Global;
 
 /// Reads the whole input, and writes the picture of a portable one; of a broken one it writes nothing. It doesn't

@@ -3,10 +3,10 @@
 ghost use Rattle.std.specs.Prelude.{◌≡◌, ◌≢◌, ◌*◌, ◌≤◌, ◌<◌, ℕ, Err, IfOk, IfSome, IsTrue, List, None, length};
 ghost use Rattle.sixel_grammar.specs.declared.command.Placed.{Placed as Place};
 ghost use Rattle.sixel_grammar.specs.Document.{Document, events_of};
-ghost use Rattle.sixel_picture.specs.Ppm.{is_file_side};
-ghost use Rattle.sixel_picture.specs.Profiles.{count_of};
-ghost use Rattle.sixel_picture.specs.declared.profile.Profile.{Profile as AProfile};
-ghost use Rattle.sixel_picture.specs.declared.colour.Parts.TheVariants.{Rgb};
+ghost use Rattle.sixel_ppm.specs.Ppm.{is_file_side};
+ghost use Rattle.sixel_model.specs.Profiles.{count_of};
+ghost use Rattle.sixel_model.specs.declared.profile.Profile.{Profile as AProfile};
+ghost use Rattle.sixel_model.specs.declared.colour.Parts.TheVariants.{Rgb};
 ghost use Rattle.sixel_terminal.specs.Drawing.{screen_on};
 ghost use Rattle.sixel_terminal.specs.Limits.{terminal_fault};
 ghost use Rattle.sixel_run.specs.declared.fault.RunFault.TheVariants.{Read};
@@ -16,7 +16,8 @@ ghost use Rattle.sixel_run.specs.Screens.{greys, percent_at, show_choices, show_
 use crate::fault::RunFault;
 use crate::task::Status;
 use sixel_grammar::{Placed, Sink, Source, read_all};
-use sixel_picture::{Colour, Profile, write_ppm_colours};
+use sixel_model::{Colour, Profile};
+use sixel_ppm::write_ppm_colours;
 use sixel_terminal::{Choices, Ground, Terminal};
 use std::alloc::{AllocError, Global};
 

@@ -4,7 +4,7 @@ ghost use Rattle.std.specs.Prelude.{◌≡◌, ◌<◌, ◌++◌, ◌∷◌, [],
 ghost use Rattle.sixel_grammar.specs.declared.command.Event.{Event};
 ghost use Rattle.std.specs.List.{list_any};
 ghost use Rattle.sixel_grammar.specs.Document.{events_of};
-ghost use Rattle.sixel_picture.specs.Events.{is_eight_bit};
+ghost use Rattle.sixel_model.specs.Events.{is_eight_bit};
 ghost use Rattle.sixel_terminal.specs.declared.canvas.Ink.TheVariants.{Fixed};
 ghost use Rattle.sixel_terminal.specs.Drawing.{is_seen_on, screen_on};
 ghost use Rattle.sixel_terminal.specs.Standing.{IsPenAfter, StandsAfter, shown_in};
@@ -13,7 +13,7 @@ use crate::canvas::Ink;
 use crate::pen::Pen;
 use crate::terminal::Terminal;
 use sixel_grammar::{Event, Placed};
-use sixel_picture::Colour;
+use sixel_model::Colour;
 use std::alloc::{AllocError, Global};
 
 /// Ink of these colours.

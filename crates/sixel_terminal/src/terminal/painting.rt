@@ -2,14 +2,14 @@
 
 ghost use Rattle.std.specs.Prelude.{◌≡◌, ◌<◌, ◌≤◌, ◌+◌, ◌*◌, ◌/◌, ◌%◌, EachIndex, length, slice_index_or};
 ghost use Rattle.std.specs.Prelude.{if◌then◌else◌};
-ghost use Rattle.sixel_picture.specs.Geometry.{band_rows};
+ghost use Rattle.sixel_model.specs.Geometry.{band_rows};
 ghost use Rattle.sixel_terminal.specs.Canvases.{black, span_of};
 ghost use Rattle.sixel_terminal.specs.Steps.{bottom_edge, box_covers, pen_covers, right_edge};
 
 use crate::canvas::{Ink, Span, fill};
 use crate::pen::Pen;
 use crate::terminal::Terminal;
-use sixel_picture::{BAND_ROWS, is_set};
+use sixel_model::{BAND_ROWS, is_set};
 
 impl Terminal {
     /// The column from which on a data command paints nothing.

@@ -4,9 +4,9 @@ ghost use Rattle.std.specs.Prelude.{◌≡◌, ◌==◌, ◌&&◌, ◌<◌, ◌*
 ghost use Rattle.std.specs.Prelude.{if◌then◌else◌};
 ghost use Rattle.std.specs.Option.{option_and_then, option_map_or};
 ghost use Rattle.sixel_grammar.specs.declared.command.Event.TheVariants.{Step};
-ghost use Rattle.sixel_picture.specs.declared.colour.Parts.TheVariants.{Rgb, Hls};
-ghost use Rattle.sixel_picture.specs.Colours.{colour_in};
-ghost use Rattle.sixel_picture.specs.Events.{named_by, select_of};
+ghost use Rattle.sixel_model.specs.declared.colour.Parts.TheVariants.{Rgb, Hls};
+ghost use Rattle.sixel_model.specs.Colours.{colour_in};
+ghost use Rattle.sixel_model.specs.Events.{named_by, select_of};
 ghost use Rattle.sixel_terminal.specs.Canvases.{black};
 ghost use Rattle.sixel_terminal.specs.Displays.{registers_of};
 ghost use Rattle.sixel_terminal.specs.Drawing.{defined_on, taken_on};
@@ -18,7 +18,7 @@ use crate::choices::Ground;
 use crate::pen::{Pen, Sides};
 use crate::terminal::Terminal;
 use sixel_grammar::Command;
-use sixel_picture::Colour;
+use sixel_model::Colour;
 
 impl Terminal {
     /// A number of a register is taken modulo their count.

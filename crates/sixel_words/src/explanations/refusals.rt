@@ -3,11 +3,11 @@
 ghost use Rattle.std.specs.Prelude.{◌≡◌, ◌++◌, IfSome, IsNone, codes};
 ghost use Rattle.std.specs.Io.{StartsWith};
 ghost use Rattle.sixel_grammar.specs.declared.fault.Reason.{Reason as AReason};
-ghost use Rattle.sixel_picture.specs.declared.ppm.PpmReason.{PpmReason as APpmReason};
+ghost use Rattle.sixel_ppm.specs.declared.ppm.PpmReason.{PpmReason as APpmReason};
 ghost use Rattle.sixel_run.specs.Texts.{ppm_reason_name, reason_name};
 
 use sixel_grammar::Reason;
-use sixel_picture::PpmReason;
+use sixel_ppm::PpmReason;
 
 /// Why sixel text is refused, by its name.
 pub fn reason_named(name: &str) -> Option<Reason>

@@ -1,7 +1,7 @@
 use Rattle.std.proofs.Common.{◌≡◌, ℕ, List}
 use Rattle.std.specs.Io.KnownBytes.{Consumes}
 use Rattle.sixel_grammar.specs.Standing.{left_of}
-use Rattle.sixel_picture.specs.Profiles.{count_of}
+use Rattle.sixel_model.specs.Profiles.{count_of}
 use Rattle.sixel_check.specs.Checking.{AreAfter}
 use Rattle.sixel_check.proofs.checking.check.Given as goal
 

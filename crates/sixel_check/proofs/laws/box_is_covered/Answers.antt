@@ -1,6 +1,6 @@
 use Rattle.sixel_check.proofs.CoverLemmas.{all_covered, filled_first}
 use Rattle.sixel_check.proofs.WithinLemmas.{clipping_changes_nothing, none_painted_outside}
-use Rattle.sixel_picture.specs.Profiles.{count_of}
+use Rattle.sixel_model.specs.Profiles.{count_of}
 use Rattle.sixel_check.proofs.laws.box_is_covered.Goals as goal
 
 pub returns : goal.returns

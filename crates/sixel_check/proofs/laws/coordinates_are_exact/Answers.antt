@@ -1,4 +1,4 @@
-use Rattle.sixel_picture.specs.Profiles.{count_of}
+use Rattle.sixel_model.specs.Profiles.{count_of}
 use Rattle.sixel_check.proofs.ExactLemmas as exact
 use Rattle.sixel_check.proofs.laws.coordinates_are_exact.Goals as goal
 

@@ -1,4 +1,4 @@
-use Rattle.sixel_picture.specs.Profiles.{count_of}
+use Rattle.sixel_model.specs.Profiles.{count_of}
 use Rattle.sixel_check.proofs.PairLemmas.{eight_bit_differs, outside_differs, uncovered_differs}
 use Rattle.sixel_check.proofs.laws.findings_are_differences.Goals as goal
 

@@ -1,6 +1,6 @@
 use Rattle.sixel_check.proofs.DecideLemmas.{verdict_exists}
 use Rattle.sixel_check.proofs.VerdictLemmas.{verdict_once}
-use Rattle.sixel_picture.specs.Profiles.{count_of}
+use Rattle.sixel_model.specs.Profiles.{count_of}
 use Rattle.sixel_check.proofs.laws.lists_have_one_verdict.Goals as goal
 
 pub returns : goal.returns

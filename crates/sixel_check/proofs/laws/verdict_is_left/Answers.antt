@@ -1,5 +1,5 @@
 use Rattle.sixel_check.proofs.AnswerLemmas.{verdict_is_left}
-use Rattle.sixel_picture.specs.Profiles.{count_of}
+use Rattle.sixel_model.specs.Profiles.{count_of}
 use Rattle.sixel_check.proofs.laws.verdict_is_left.Goals as goal
 
 pub returns : goal.returns

@@ -1,5 +1,5 @@
 use Rattle.std.proofs.Common.{◌≡◌, true, false, rules}
-use Rattle.sixel_picture.specs.Events.{is_finish}
+use Rattle.sixel_model.specs.Events.{is_finish}
 use Rattle.sixel_check.proofs.PixelLemmas.{breach_uncovered, none_before_end, none_uncovered}
 use Rattle.sixel_check.proofs.pixels.breach_of_end.Goals as goal
 

@@ -1,6 +1,6 @@
 use Rattle.std.proofs.Common.{sym}
 use Rattle.sixel_check.proofs.DrawLemmas.{drawn_box, no_attributes, sides_good, undrawn_still}
-use Rattle.sixel_picture.specs.Events.{raster_of}
+use Rattle.sixel_model.specs.Events.{raster_of}
 use Rattle.sixel_check.proofs.GrowthLemmas.{err_says, some_of_map}
 use Rattle.sixel_check.proofs.pixels.first_plane.Goals as goal
 

@@ -1,5 +1,5 @@
 use Rattle.std.proofs.Common.{◌≡◌, ◌<◌, Some, true, false, rules}
-use Rattle.sixel_picture.specs.Events.{is_painting}
+use Rattle.sixel_model.specs.Events.{is_painting}
 use Rattle.sixel_check.specs.Notes.{known_in}
 use Rattle.sixel_check.proofs.NoteLemmas.{notes_below}
 use Rattle.sixel_check.proofs.DrawLemmas.{drawn_paint, drawn_still, knows, narrow, run_fits_in}

@@ -1,11 +1,11 @@
 use Rattle.std.proofs.Common.{◌≡◌, ℕ, Option, Some, None, List, length, map, sym, ◌∙◌}
-use Rattle.sixel_picture.proofs.LeftLemmas.{length_left}
+use Rattle.sixel_model.proofs.LeftLemmas.{length_left}
 use Rattle.sixel_grammar.specs.declared.command.Event.{Event}
-use Rattle.sixel_picture.specs.declared.colour.Parts.{Parts}
-use Rattle.sixel_picture.specs.declared.picture.PictureReason.{PictureReason}
-use Rattle.sixel_picture.specs.Pictures.{PictureValue, picture_fault, picture_of_parts}
-use Rattle.sixel_picture.specs.Rules.{palette_left, picture_left}
-use Rattle.sixel_picture.specs.Sheets.{Sheet}
+use Rattle.sixel_model.specs.declared.colour.Parts.{Parts}
+use Rattle.sixel_model.specs.declared.picture.PictureReason.{PictureReason}
+use Rattle.sixel_model.specs.Pictures.{PictureValue, picture_fault, picture_of_parts}
+use Rattle.sixel_model.specs.Rules.{palette_left, picture_left}
+use Rattle.sixel_model.specs.Sheets.{Sheet}
 use Rattle.sixel_check.specs.Judging.{IsDrawn}
 use Rattle.sixel_check.proofs.BlankLemmas.{picture_drawn}
 use Rattle.sixel_check.proofs.WholeLemmas.{picture_fits}

@@ -1,5 +1,5 @@
 use Rattle.sixel_check.specs.Judging.{box_of}
-use Rattle.sixel_picture.specs.Geometry.{band, column}
+use Rattle.sixel_model.specs.Geometry.{band, column}
 use Rattle.sixel_check.proofs.RunLemmas.{falls_first}
 use Rattle.sixel_check.proofs.pixels.pixel_outside.Goals as goal
 

@@ -1,5 +1,5 @@
 use Rattle.std.proofs.Common.{◌==◌, not}
-use Rattle.sixel_picture.proofs.LaneLemmas.{first_in_group, none_in_group}
+use Rattle.sixel_plane.proofs.LaneLemmas.{first_in_group, none_in_group}
 use Rattle.sixel_encode.proofs.lanes.first_in_group.Goals as goal
 
 pub returns-then-count-lt-LANES : goal.returns-then-count-lt-LANES

@@ -1,5 +1,5 @@
 use Rattle.std.proofs.Common.{◌==◌, ◌+◌, ◌*◌, not}
-use Rattle.sixel_picture.specs.Lanes.{NonePasses}
+use Rattle.sixel_plane.specs.Lanes.{NonePasses}
 use Rattle.sixel_encode.proofs.lanes.first_other.Given as goal
 
 abbrev pub invariant-loop-group : goal.invariant-loop-group

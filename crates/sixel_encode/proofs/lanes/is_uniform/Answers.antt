@@ -1,6 +1,6 @@
 use Rattle.std.proofs.Common.{◌≡◌, ◌==◌, not, arith, get_or}
 use Rattle.std.proofs.lemmas.Bool.{eqb-true, not-false}
-use Rattle.sixel_picture.proofs.LaneLemmas.{none_in_group}
+use Rattle.sixel_plane.proofs.LaneLemmas.{none_in_group}
 use Rattle.sixel_encode.proofs.lanes.is_uniform.Goals as goal
 
 pub returns : goal.returns

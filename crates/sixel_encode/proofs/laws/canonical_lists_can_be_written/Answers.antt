@@ -1,6 +1,6 @@
 use Rattle.std.proofs.Common.{arith}
-use Rattle.sixel_picture.proofs.PictureLemmas.{at_most_256}
-use Rattle.sixel_picture.specs.Profiles.{count_of}
+use Rattle.sixel_model.proofs.PictureLemmas.{at_most_256}
+use Rattle.sixel_model.specs.Profiles.{count_of}
 use Rattle.sixel_encode.proofs.LengthLemmas
 use Rattle.sixel_encode.proofs.WrittenLemmas
 use Rattle.sixel_encode.proofs.laws.canonical_lists_can_be_written.Goals as goal

@@ -1,4 +1,4 @@
-use Rattle.sixel_picture.specs.Profiles.{count_of}
+use Rattle.sixel_model.specs.Profiles.{count_of}
 use Rattle.sixel_encode.proofs.LeadsBackLemmas
 use Rattle.sixel_encode.proofs.laws.canonical_lists_lead_back.Goals as goal
 

@@ -1,6 +1,6 @@
 use Rattle.std.proofs.Common.{arith, lit≤}
-use Rattle.sixel_picture.proofs.PictureLemmas.{at_most_256}
-use Rattle.sixel_picture.specs.Profiles.{count_of}
+use Rattle.sixel_model.proofs.PictureLemmas.{at_most_256}
+use Rattle.sixel_model.specs.Profiles.{count_of}
 use Rattle.sixel_encode.proofs.LengthLemmas
 use Rattle.sixel_encode.proofs.laws.texts_are_short.Goals as goal
 

@@ -1,6 +1,6 @@
 use Rattle.std.proofs.Common.{◌∙◌, ap, Bool, if◌then◌else◌}
-use Rattle.sixel_picture.specs.declared.profile.Profile.{Profile}
-use Rattle.sixel_picture.specs.declared.profile.Profile.TheVariants.{Registers16, Registers256}
+use Rattle.sixel_model.specs.declared.profile.Profile.{Profile}
+use Rattle.sixel_model.specs.declared.profile.Profile.TheVariants.{Registers16, Registers256}
 use Rattle.sixel_words.proofs.words.profile_of.Goals as goal
 
 abbrev by_flag : Bool → Profile

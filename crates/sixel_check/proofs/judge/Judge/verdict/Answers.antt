@@ -1,6 +1,6 @@
 use Rattle.std.proofs.Common.{rules}
 use Rattle.sixel_grammar.specs.Document.{events_of}
-use Rattle.sixel_picture.proofs.RuleLemmas.{none_drawn}
+use Rattle.sixel_model.proofs.RuleLemmas.{none_drawn}
 use Rattle.sixel_check.proofs.CoverLemmas.{has_box}
 use Rattle.sixel_check.proofs.WholeLemmas.{full_sheet}
 use Rattle.sixel_check.proofs.judge.Judge.verdict.Goals as goal

@@ -1,4 +1,4 @@
-use Rattle.sixel_picture.proofs.PictureLemmas.{at_most_256}
+use Rattle.sixel_model.proofs.PictureLemmas.{at_most_256}
 use Rattle.sixel_check.proofs.NoteLemmas.{notes_start}
 use Rattle.sixel_check.proofs.notes.Notes.new.Goals as goal
 

@@ -1,7 +1,7 @@
 use Rattle.std.proofs.Common.{◌≡◌, ◌∙◌, ◌++◌, ◌∷◌, ℕ, [], List, ap, ap₂, arith, map, sym}
 use Rattle.std.specs.List.{range_with_len}
-use Rattle.sixel_picture.specs.declared.colour.Parts.{Parts}
-use Rattle.sixel_picture.specs.Profiles.{count_of}
+use Rattle.sixel_model.specs.declared.colour.Parts.{Parts}
+use Rattle.sixel_model.specs.Profiles.{count_of}
 use Rattle.sixel_run.specs.Screens.{grey, percent_at}
 use Rattle.sixel_run.proofs.ScreenLemmas.{greys_more}
 use Rattle.sixel_run.proofs.running.show.greys.Goals as goal

@@ -1,6 +1,6 @@
 use Rattle.std.proofs.Common.{◌≡◌, ◌∙◌, arith, length, refl, sym, take, ap}
 use Rattle.std.proofs.lemmas.Option.{slice_get_read}
-use Rattle.sixel_picture.specs.Positions.{earliest}
+use Rattle.sixel_model.specs.Positions.{earliest}
 use Rattle.sixel_terminal.proofs.DrawLemmas.{all_taken}
 use Rattle.sixel_run.proofs.BoxLemmas.{declared-nowhere, declared-there, none-yet, raster_at}
 use Rattle.sixel_run.proofs.running.show_box.declared_screen.Goals as goal

@@ -1,5 +1,5 @@
 use Rattle.std.proofs.Common.{◌≡◌, None, take}
-use Rattle.sixel_picture.specs.Positions.{earliest}
+use Rattle.sixel_model.specs.Positions.{earliest}
 use Rattle.sixel_run.proofs.BoxLemmas.{raster_at}
 use Rattle.sixel_run.proofs.running.show_box.declared_screen.Given as goal
 

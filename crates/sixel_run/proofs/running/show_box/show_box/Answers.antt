@@ -3,10 +3,10 @@ use Rattle.std.specs.Prelude.{Result}
 use Rattle.sixel_grammar.specs.declared.command.Placed.{Placed}
 use Rattle.sixel_grammar.specs.Document.{events_of}
 use Rattle.sixel_terminal.specs.declared.choices.Choices.{Choices}
-use Rattle.sixel_picture.specs.declared.colour.Parts.{Parts}
+use Rattle.sixel_model.specs.declared.colour.Parts.{Parts}
 use Rattle.sixel_terminal.specs.Displays.{Display}
 use Rattle.sixel_terminal.specs.Drawing.{screen_on}
-use Rattle.sixel_picture.specs.declared.profile.Profile.{Profile}
+use Rattle.sixel_model.specs.declared.profile.Profile.{Profile}
 use Rattle.sixel_run.specs.declared.fault.RunFault.{RunFault}
 use Rattle.sixel_run.specs.declared.task.Status.{Status}
 use Rattle.sixel_run.specs.Outputs.{ShowGives, WroteBy, WroteNothing}

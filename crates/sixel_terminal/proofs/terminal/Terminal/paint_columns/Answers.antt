@@ -1,7 +1,7 @@
 use Rattle.std.proofs.Common.{◌≡◌, ◌==◌, true, false, refl, sym, ap, arith}
 use Rattle.std.specs.Int.{bit_at}
 use Rattle.sixel_terminal.specs.Displays.{Display}
-use Rattle.sixel_picture.proofs.PaintLemmas.{painted_none, painted_same}
+use Rattle.sixel_model.proofs.PaintLemmas.{painted_none, painted_same}
 use Rattle.sixel_terminal.specs.Canvases.{black}
 use Rattle.sixel_terminal.proofs.PaintLemmas.{inked_all, inked_more, off_screen}
 use Rattle.sixel_terminal.proofs.terminal.Terminal.paint_columns.Goals as goal

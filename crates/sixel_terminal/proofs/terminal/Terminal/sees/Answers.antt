@@ -1,5 +1,5 @@
 use Rattle.std.proofs.Common.{◌≡◌, not, sym, ap, ◌∙◌, false}
-use Rattle.sixel_picture.specs.Events.{is_eight_bit}
+use Rattle.sixel_model.specs.Events.{is_eight_bit}
 use Rattle.sixel_terminal.specs.Displays.{Display}
 use Rattle.sixel_terminal.specs.Drawing.{is_seen_on}
 use Rattle.sixel_terminal.proofs.ShownLemmas.{any_event}

@@ -1,0 +1,11 @@
+pub mod Colours
+pub mod Profiles
+pub mod Pictures
+pub mod Palettes
+pub mod Positions
+pub mod Events
+pub mod Geometry
+pub mod Sheets
+pub mod RuleNumbers
+pub mod Rules
+pub mod Laws

@@ -1,0 +1,193 @@
+-- The rules of a portable picture, the first that is broken, and the picture that is left where none is.
+--
+-- Each word takes the events before an event, and that event. The box is that of the first raster attributes before it.
+use Rattle.std.specs.Prelude.{◌==◌, ◌<◌, ◌≤◌, ◌&&◌, ◌||◌, ℕ, Bool, true, false, not, nat_le, nat_lt, is_none, is_some}
+use Rattle.std.specs.Prelude.{Option, Some, None, IsTrue, IsFalse, IsSomeAnd, List, map, unwrap_or, if◌then◌else◌}
+use Rattle.std.specs.Bool.{MatchBool, then_some}
+use Rattle.std.specs.List.{range_with_len}
+use Rattle.std.specs.Option.{option_and_then, option_flatten, option_map_or}
+use Rattle.sixel_grammar.specs.declared.command.Event.{Event}
+use Rattle.sixel_grammar.specs.declared.command.Event.TheVariants.{Step}
+use Rattle.sixel_grammar.specs.declared.command.Command.TheVariants.{Define}
+use Rattle.sixel_model.specs.declared.colour.Parts.{Parts}
+use Rattle.sixel_model.specs.Colours.{colour_in, is_colour}
+use Rattle.sixel_model.specs.Events.{Attributes, Definition, definition_where, has_sides, is_data_command, is_finish}
+use Rattle.sixel_model.specs.Events.{is_eight_bit, is_in_box, is_painting, is_repeat_of_zero, is_return}
+use Rattle.sixel_model.specs.Events.{is_same_definition, is_square, named_by, raster_of, select_of}
+use Rattle.sixel_model.specs.Geometry.{falls}
+use Rattle.sixel_model.specs.Pictures.{PictureValue, picture_of_parts}
+use Rattle.sixel_model.specs.Positions.{HoldsAtPosition, HoldsNowhere, any_at, earliest, last_at, latest}
+use Rattle.sixel_model.specs.Sheets.{row_by_row}
+use Rattle.sixel_model.specs.RuleNumbers.{raster_first_rule, raster_twice_rule, ratio_rule, box_size_rule}
+use Rattle.sixel_model.specs.RuleNumbers.{register_rule, colour_value_rule, repeat_zero_rule, unselected_rule}
+use Rattle.sixel_model.specs.RuleNumbers.{undefined_rule, redefined_rule, outside_rule, uncovered_rule}
+use Rattle.sixel_model.specs.RuleNumbers.{eight_bit_rule}
+
+-- ---- what stands before an event
+
+-- there is a number, and it is this one
+abbrev pub is_that : ℕ → Option ℕ → Bool
+is_that n None = false
+is_that n (Some m) = m == n
+
+-- the register that was selected last, if it was named last too
+abbrev pub known_by : Option ℕ → Option ℕ → Option ℕ
+known_by selected named = option_and_then (λ r. then_some (is_that r named) r) selected
+
+-- the known register: the last select is of it, and the last select or definition is of it too
+unfoldable pub known : List Event → Option ℕ
+known before = known_by (latest select_of before) (latest named_by before)
+
+-- what the last definition of the register says
+unfoldable pub definition_of : List Event → ℕ → Option Definition
+definition_of before register = latest (definition_where (λ r. r == register)) before
+
+-- the colour that a definition gives, in range or not
+abbrev pub colour_by : Definition → Option Parts
+colour_by d = colour_in d.system d.x d.y d.z
+
+-- the definition gives a colour in range
+abbrev pub gives_colour : Definition → Bool
+gives_colour d = option_map_or is_colour (colour_by d) false
+
+-- the colour of the last definition of the register
+unfoldable pub colour_of : List Event → ℕ → Option Parts
+colour_of before register = option_and_then colour_by (definition_of before register)
+
+-- some command painted while the register was known
+unfoldable pub is_painted_in : List Event → ℕ → Bool
+is_painted_in before register = any_at (λ earlier e. is_painting e && is_that register (known earlier)) before
+
+-- the first raster attributes
+unfoldable pub raster_before : List Event → Option Attributes
+raster_before before = earliest raster_of before
+
+-- some event paints the point
+unfoldable pub is_covered : List Event → ℕ → ℕ → Bool
+is_covered before x y = any_at (λ earlier e. falls earlier e x y) before
+
+-- the register that was known at the last event that paints the point
+unfoldable pub register_at : List Event → ℕ → ℕ → Option ℕ
+register_at before x y =
+    option_flatten (last_at (λ earlier e. if falls earlier e x y then Some (known earlier) else None) before)
+
+-- ---- the rules; each word says that the event breaks one
+
+-- a data command, a return or the end, and no raster attributes stand before it
+unfoldable pub breaks_raster_first : List Event → Event → Bool
+breaks_raster_first before e = is_none (raster_before before) && (is_data_command e || is_return e || is_finish e)
+
+-- raster attributes after raster attributes
+unfoldable pub breaks_raster_twice : List Event → Event → Bool
+breaks_raster_twice before e = is_some (raster_before before) && is_some (raster_of e)
+
+-- raster attributes of which not both numbers of the ratio are 1
+unfoldable pub breaks_ratio : Event → Bool
+breaks_ratio e = option_map_or (λ a. not (is_square a)) (raster_of e) false
+
+-- raster attributes of a box with a side outside 1 to 2,048
+unfoldable pub breaks_box_size : Event → Bool
+breaks_box_size e = option_map_or (λ a. not (has_sides a)) (raster_of e) false
+
+-- a select or a definition of a register that is not below the count
+unfoldable pub breaks_register : ℕ → Event → Bool
+breaks_register count e = option_map_or (λ r. nat_le count r) (named_by e) false
+
+-- a definition that gives no colour in range
+unfoldable pub breaks_colour_value : Event → Bool
+breaks_colour_value e = option_map_or (λ d. not (gives_colour d)) (definition_where (λ r. true) e) false
+
+-- a repeat of 0
+unfoldable pub breaks_repeat_zero : Event → Bool
+breaks_repeat_zero e = is_repeat_of_zero e
+
+-- a painting command where no register is known
+unfoldable pub breaks_unselected : List Event → Event → Bool
+breaks_unselected before e = is_painting e && is_none (known before)
+
+-- a painting command whose known register has no definition before it
+unfoldable pub breaks_undefined : List Event → Event → Bool
+breaks_undefined before e = is_painting e && option_map_or (λ r. is_none (definition_of before r)) (known before) false
+
+-- a definition of a register in which was painted, other than the register's last one
+unfoldable pub breaks_redefined : List Event → Event → Bool
+breaks_redefined before (Step (Define register system x y z)) =
+    is_painted_in before register
+    && option_map_or (λ d. not (is_same_definition d (record { system = system; x = x; y = y; z = z })))
+    (definition_of before register) false
+breaks_redefined before _ = false
+
+-- the event paints the point, and it lies outside the box
+pub record FallsOutside (before : List Event) (e : Event) (a : Attributes) (x y : ℕ) : Type 0 where
+  pub painted : IsTrue (falls before e x y)
+  pub outside : IsFalse (is_in_box a x y)
+
+-- a command that paints a point outside the box
+unfoldable pub BreaksOutside : List Event → Event → Type 0
+BreaksOutside before e = IsSomeAnd (raster_before before) (λ a. (x : ℕ) × (y : ℕ) × FallsOutside before e a x y)
+
+-- the point lies in the box, and no event paints it
+pub record StaysBlank (before : List Event) (a : Attributes) (x y : ℕ) : Type 0 where
+  pub inside : IsTrue (is_in_box a x y)
+  pub blank : IsFalse (is_covered before x y)
+
+-- the end, where some pixel of the box stays blank; no event follows an end, so those before it are all
+unfoldable pub BreaksUncovered : List Event → Event → Type 0
+BreaksUncovered before e =
+    IsTrue (is_finish e) × IsSomeAnd (raster_before before) (λ a. (x : ℕ) × (y : ℕ) × StaysBlank before a x y)
+
+-- a start or a finish of 8 bits
+unfoldable pub breaks_eight_bit : Event → Bool
+breaks_eight_bit e = is_eight_bit e
+
+-- the event breaks the rule of this number, where there are so many registers
+unfoldable pub Breaks : ℕ → ℕ → List Event → Event → Type 0
+Breaks registers n before e =
+    MatchBool (n == raster_first_rule) (IsTrue (breaks_raster_first before e))
+    (MatchBool (n == raster_twice_rule) (IsTrue (breaks_raster_twice before e))
+    (MatchBool (n == ratio_rule) (IsTrue (breaks_ratio e))
+    (MatchBool (n == box_size_rule) (IsTrue (breaks_box_size e))
+    (MatchBool (n == register_rule) (IsTrue (breaks_register registers e))
+    (MatchBool (n == colour_value_rule) (IsTrue (breaks_colour_value e))
+    (MatchBool (n == repeat_zero_rule) (IsTrue (breaks_repeat_zero e))
+    (MatchBool (n == unselected_rule) (IsTrue (breaks_unselected before e))
+    (MatchBool (n == undefined_rule) (IsTrue (breaks_undefined before e))
+    (MatchBool (n == redefined_rule) (IsTrue (breaks_redefined before e))
+    (MatchBool (n == outside_rule) (BreaksOutside before e)
+    (MatchBool (n == uncovered_rule) (BreaksUncovered before e)
+    (MatchBool (n == eight_bit_rule) (IsTrue (breaks_eight_bit e)) ⊥))))))))))))
+
+-- ---- the first broken rule
+
+-- no event breaks a rule whose number is at most the last
+unfoldable pub BreaksNone : ℕ → ℕ → List Event → Type 0
+BreaksNone registers last events = (n : ℕ) → n ≤ last → HoldsNowhere (Breaks registers n) events
+
+-- rule n is broken at position i, no rule is broken at an earlier position, and none of a smaller number there
+pub record IsFirstBroken (registers : ℕ) (events : List Event) (n i : ℕ) : Type 0 where
+  pub broken : HoldsAtPosition (Breaks registers n) events i
+  pub none_earlier : (m j : ℕ) → j < i → ¬ HoldsAtPosition (Breaks registers m) events j
+  pub none_smaller : (m : ℕ) → m < n → ¬ HoldsAtPosition (Breaks registers m) events i
+
+-- the point u v comes before the point x y in row order
+abbrev pub is_before : ℕ → ℕ → ℕ → ℕ → Bool
+is_before u v x y = nat_lt v y || ((v == y) && nat_lt u x)
+
+-- the first point, in row order, of which P holds
+pub record IsFirstPoint (P : ℕ → ℕ → Type 0) (x y : ℕ) : Type 0 where
+  pub holds : P x y
+  pub none_before : (u v : ℕ) → IsTrue (is_before u v x y) → ¬ P u v
+
+-- ---- the picture that is left
+
+-- for each register the colour of its last definition, if it has one
+unfoldable pub palette_left : ℕ → List Event → List (Option Parts)
+palette_left registers events = map (colour_of events) (range_with_len 0 registers)
+
+-- the picture of the box, and over each pixel the register in which it was painted last; where no rule is broken
+-- there is a box, and each pixel was painted in a known register
+unfoldable pub picture_left : ℕ → List Event → PictureValue
+picture_left registers events =
+    let a : Attributes = unwrap_or (raster_before events) (record { pan = 1; pad = 1; width = 0; height = 0 }) in
+    picture_of_parts a.width a.height (palette_left registers events)
+    (row_by_row a.width a.height (λ x y. unwrap_or (register_at events x y) 0))

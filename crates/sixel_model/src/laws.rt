@@ -1,0 +1,13 @@
+//! Laws about the definitions. Each function's contract is the law.
+
+ghost use Rattle.sixel_model.specs.Laws.{BlankSheetsAreBlank, RunsPaintTheirPixels};
+
+/// No pixel of a blank plane has a register.
+pub fn blank_sheets_are_blank()
+    ensures { BlankSheetsAreBlank }
+{}
+
+/// A run gives its pixels the register, and leaves each other pixel as it was.
+pub fn runs_paint_their_pixels()
+    ensures { RunsPaintTheirPixels }
+{}

@@ -1,6 +1,0 @@
-use Rattle.sixel_picture.proofs.RunLemmas.{IsRunBelow}
-use Rattle.sixel_picture.proofs.band_plane.fill_column.Given as goal
-
-abbrev pub invariant-loop-bit : goal.invariant-loop-bit
-invariant-loop-bit l =
-    IsRunBelow l.bit l.width l.column 1 l.band l.bits l.register 0 l.initial.registers l.registers

@@ -1,6 +1,0 @@
-use Rattle.sixel_picture.proofs.RunLemmas.{IsRunBelow}
-use Rattle.sixel_picture.proofs.band_plane.fill_rows.Given as goal
-
-abbrev pub invariant-loop-bit : goal.invariant-loop-bit
-invariant-loop-bit l =
-    IsRunBelow l.bit l.width l.column l.count l.band l.bits l.register 0 l.initial.registers l.registers

@@ -1,5 +1,0 @@
-use Rattle.sixel_picture.proofs.LaneLemmas.{or_group}
-use Rattle.sixel_picture.proofs.lanes.or_into_group.Goals as goal
-
-pub returns : goal.returns
-returns c = or_group c.args.at c.args.bits c.args.bytes.now c.requires

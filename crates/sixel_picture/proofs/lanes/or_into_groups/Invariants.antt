@@ -1,7 +1,0 @@
-use Rattle.std.proofs.Common.{◌+◌, ◌*◌}
-use Rattle.std.specs.Int.Bits.{bit_or}
-use Rattle.sixel_picture.specs.Lanes.{AreChanged}
-use Rattle.sixel_picture.proofs.lanes.or_into_groups.Given as goal
-
-abbrev pub invariant-loop-group : goal.invariant-loop-group
-invariant-loop-group l = AreChanged l.from (l.from + l.group * 32) (λ b. bit_or b l.bits) l.initial.bytes l.bytes

@@ -1,7 +1,0 @@
-use Rattle.sixel_picture.proofs.ppm.samples.Samples.new.Goals as goal
-
-pub invariant_of-result-clause-unused : goal.invariant_of-result-clause-unused
-invariant_of-result-clause-unused c = c.new-2.ensures.unused
-
-pub invariant_of-result-clause-knows : goal.invariant_of-result-clause-knows
-invariant_of-result-clause-knows c = c.new.ensures c.args.frame.maxval c.new-2.result.palette

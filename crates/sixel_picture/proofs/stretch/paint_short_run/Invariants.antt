@@ -1,9 +1,0 @@
-use Rattle.std.proofs.Common.{◌*◌}
-use Rattle.std.specs.Int.Bits.{bit_or}
-use Rattle.sixel_picture.specs.Stretches.{AreMapped, ArePainted, run_sixel}
-use Rattle.sixel_picture.proofs.stretch.paint_short_run.Given as goal
-
-abbrev pub invariant-loop-group : goal.invariant-loop-group
-invariant-loop-group l =
-    ArePainted 6 l.width l.start (l.group * 16) (run_sixel l.bits l.count) l.register l.initial.registers l.registers
-    × AreMapped l.covered (l.group * 16) (λ j b. bit_or b (run_sixel l.bits l.count j)) l.initial.coverage l.coverage

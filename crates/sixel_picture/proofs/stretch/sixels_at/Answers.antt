@@ -1,5 +1,0 @@
-use Rattle.sixel_picture.proofs.StretchLemmas.{sixels_of}
-use Rattle.sixel_picture.proofs.stretch.sixels_at.Goals as goal
-
-pub returns : goal.returns
-returns c = sixels_of c.args.at c.args.count c.args.bytes.now c.requires.room c.requires.sixels

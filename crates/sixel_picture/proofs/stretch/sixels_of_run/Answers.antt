@@ -1,5 +1,0 @@
-use Rattle.sixel_picture.proofs.StretchLemmas.{equal_of}
-use Rattle.sixel_picture.proofs.stretch.sixels_of_run.Goals as goal
-
-pub returns : goal.returns
-returns c = equal_of c.args.bits c.args.count

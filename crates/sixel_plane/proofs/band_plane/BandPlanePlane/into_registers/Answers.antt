@@ -1,0 +1,13 @@
+use Rattle.std.proofs.Common.{◌∙◌, ap}
+use Rattle.sixel_plane.specs.BandPlanes.{is_covered}
+use Rattle.sixel_model.specs.Sheets.{Sheet, IsFull}
+use Rattle.sixel_plane.proofs.PaintedLemmas.{full_registers}
+use Rattle.sixel_plane.proofs.band_plane.BandPlanePlane.into_registers.Goals as goal
+
+pub returns : goal.returns
+returns c =
+    let inside = c.self.inside in
+    let full : IsFull _ = rw (← c.self.view_is) at c.requires in
+    full_registers inside.width inside.height inside.registers.items (is_covered inside.width inside.coverage.items)
+    c.self.invariant.each_pixel full
+    ∙ ap (λ (s : Sheet). s.cells) c.self.view_is

@@ -1,0 +1,6 @@
+use Rattle.sixel_model.proofs.RunLemmas.{IsRunBelow}
+use Rattle.sixel_plane.proofs.band_plane.fill_rows.Given as goal
+
+abbrev pub invariant-loop-bit : goal.invariant-loop-bit
+invariant-loop-bit l =
+    IsRunBelow l.bit l.width l.column l.count l.band l.bits l.register 0 l.initial.registers l.registers

@@ -1,0 +1,18 @@
+-- How a register and a mark for each pixel stand for a sheet.
+use Rattle.std.specs.Prelude.{◌≡◌, ℕ, ◌+◌, ◌*◌, Bool, false, IsTrue, List, length, slice_index_or}
+use Rattle.sixel_model.specs.Pictures.{is_side}
+use Rattle.sixel_model.specs.Sheets.{Sheet, sheet_of_painted}
+
+-- the pixel's mark is set
+abbrev pub is_marked : ℕ → List Bool → ℕ → ℕ → Bool
+is_marked width marks x y = slice_index_or marks (y * width + x) false
+
+abbrev pub sheet_of_marks : ℕ → ℕ → List ℕ → List Bool → Sheet
+sheet_of_marks width height registers marks = sheet_of_painted width height registers (is_marked width marks)
+
+-- the registers and the marks of the rows of a plane
+pub record AreMarked (width height : ℕ) (registers : List ℕ) (marks : List Bool) : Type 0 where
+  pub width_in_range : IsTrue (is_side width)
+  pub height_in_range : IsTrue (is_side height)
+  pub each_register : length registers ≡ width * height
+  pub each_mark : length marks ≡ width * height

@@ -1,0 +1,4 @@
+pub mod Stretches
+pub mod BytePlanes
+pub mod BandPlanes
+pub mod Lanes

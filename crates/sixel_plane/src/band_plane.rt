@@ -1,0 +1,309 @@
+//! A plane of one byte a pixel, and of one byte for each column and band that says which rows are painted.
+
+ghost use Rattle.std.specs.Prelude.{◌≡◌, ◌==◌, ◌<◌, ◌≤◌, ◌+◌, ◌*◌, ◌⊎◌, ℕ, EachIndex, bit_or, length, slice_index};
+ghost use Rattle.std.specs.Prelude.{false, true, if◌then◌else◌, ◌%◌, ◌/◌, ◌-◌, IsTrue};
+ghost use Rattle.sixel_grammar.specs.Bytes.{is_data};
+ghost use Rattle.sixel_plane.specs.Stretches.{sixel_of, stretched_sheet};
+ghost use Rattle.std.specs.Int.{bit_at, div_ceil};
+ghost use Rattle.sixel_plane.specs.BandPlanes.{is_covered};
+ghost use Rattle.sixel_model.specs.Geometry.{covers};
+ghost use Rattle.sixel_plane.specs.Lanes.{AreChanged};
+ghost use Rattle.sixel_model.specs.Sheets.{FirstUnpainted, RowsArePainted, painted_sheet};
+
+use crate::lanes::{common_bits, fill, first_without, or_into, zeros};
+use crate::plane::Plane;
+use crate::stretch::{LANES, paint_groups, paint_short_run};
+use sixel_model::{BAND_ROWS, is_set};
+use std::alloc::{AllocError, Global};
+use std::marker::Model;
+
+/// How many columns a run has at most that is painted by groups of lanes: a longer one is quicker row by row.
+const MOST_SHORT: u32 = 64;
+
+/// The bits of all rows of a band.
+const ALL_ROWS: u8 = 63;
+
+/// A plane that tells by one byte for each column and band which of the six rows are painted.
+///
+/// Runs are painted, and a blank pixel is looked for, many columns at a time. What the byte of a blank
+/// pixel's register is doesn't matter.
+#[derive(Debug, Drop)]
+pub struct BandPlane {
+    width: u32,
+    height: u32,
+    registers: Vec<u8>,
+    coverage: Vec<u8>,
+}
+
+impl Model for BandPlane {
+    ghost use Rattle.sixel_model.specs.Sheets.{Sheet};
+
+    ghost Value = { Sheet };
+
+    ghost use Rattle.sixel_plane.specs.BandPlanes.{sheet_of_bands, AreBands};
+
+    ghost view = { λ p. sheet_of_bands p.width p.height p.registers.items p.coverage.items };
+
+    ghost invariant = { λ p. AreBands p.width p.height p.registers.items p.coverage.items };
+}
+
+impl Plane for BandPlane {
+    ghost sheet = { λ p. p };
+
+    fn blank(alloc: Global, width: u32, height: u32) -> Result<BandPlane, AllocError> {
+        let registers = zeros(alloc, (width * height) as usize)?;
+        let coverage = zeros(alloc, (width * height.div_ceil(BAND_ROWS)) as usize)?;
+        Ok(BandPlane {
+            width,
+            height,
+            registers,
+            coverage,
+        })
+    }
+
+    fn width(&self) -> u32 {
+        self.width
+    }
+
+    fn height(&self) -> u32 {
+        self.height
+    }
+
+    fn paint_run(&mut self, column: u32, band: u32, count: u32, bits: u8, register: u8) {
+        if self.try_paint_short_run(column, band, count, bits, register) {
+            return;
+        }
+        let width = self.width as usize;
+        let start = band as usize * width + column as usize;
+        cover(&mut self.coverage, start, count as usize, bits);
+        fill_run(
+            &mut self.registers,
+            width,
+            self.height,
+            column,
+            band,
+            count,
+            bits,
+            register,
+        );
+    }
+
+    fn try_paint_stretch(
+        &mut self,
+        column: u32,
+        band: u32,
+        bytes: &[u8],
+        count: usize,
+        register: u8,
+    ) -> bool {
+        let width = self.width as usize;
+        let covered = band as usize * width + column as usize;
+        let start = BAND_ROWS as usize * band as usize * width + column as usize;
+        if bytes.len() < count + LANES
+            || self.coverage.len() < covered + count + LANES
+            || self.registers.len() < start + 5 * width + count + LANES
+        {
+            return false;
+        }
+        paint_groups(
+            &mut self.registers,
+            &mut self.coverage,
+            width,
+            start,
+            covered,
+            bytes,
+            count,
+            register,
+        );
+        true
+    }
+
+    fn register_at(&self, x: u32, y: u32) -> Option<u8> {
+        let width = self.width as usize;
+        let column = x as usize;
+        if is_set(
+            self.coverage[(y / BAND_ROWS) as usize * width + column],
+            y % BAND_ROWS,
+        ) {
+            Some(self.registers[y as usize * width + column])
+        } else {
+            None
+        }
+    }
+
+    fn first_blank(&self) -> Option<(u32, u32)> {
+        first_unpainted(&self.coverage, self.width, self.height)
+    }
+
+    fn into_registers(self) -> Vec<u8> {
+        let BandPlane {
+            width: _,
+            height: _,
+            registers,
+            coverage: _,
+        } = self;
+        registers
+    }
+}
+
+impl BandPlane {
+    /// Paints a run of few columns at once, where its band has six rows and lanes have room; whether it did.
+    #[inline(always)]
+    fn try_paint_short_run(
+        &mut self,
+        column: u32,
+        band: u32,
+        count: u32,
+        bits: u8,
+        register: u8,
+    ) -> bool
+        requires { column + count ≤ self.old.width }
+        ensures painted { result ≡ true → self.new ≡ painted_sheet self.old column band count bits register }
+        ensures kept { result ≡ false → self.new ≡ self.old }
+    {
+        if count > MOST_SHORT || band >= self.height / BAND_ROWS {
+            return false;
+        }
+        let width = self.width as usize;
+        let count = count as usize;
+        let covered = band as usize * width + column as usize;
+        let start = BAND_ROWS as usize * band as usize * width + column as usize;
+        if self.coverage.len() < covered + count + LANES
+            || self.registers.len() < start + 5 * width + count + LANES
+        {
+            return false;
+        }
+        paint_short_run(
+            &mut self.registers,
+            &mut self.coverage,
+            width,
+            start,
+            covered,
+            count,
+            bits,
+            register,
+        );
+        true
+    }
+}
+
+/// Says of so many columns from `start` on that the rows of the bits are painted.
+fn cover(coverage: &mut [u8], start: usize, count: usize, bits: u8)
+    requires { (bits ≡ 0) ⊎ (start + count ≤ length coverage.old) }
+    ensures { AreChanged start (start + count) (λ b. bit_or b bits) coverage.old coverage.new }
+{
+    if bits == 0 {
+        return;
+    }
+    if count == 1 {
+        coverage[start] |= bits;
+    } else {
+        or_into(coverage, start, start + count, bits);
+    }
+}
+
+/// Gives the pixels of a run a register, in the way that is the quicker one for it.
+fn fill_run(
+    registers: &mut [u8],
+    width: usize,
+    height: u32,
+    column: u32,
+    band: u32,
+    count: u32,
+    bits: u8,
+    register: u8,
+)
+    requires some { 0 < width }
+    requires columns { column + count ≤ width }
+    requires rows { (k : ℕ) → k < BAND_ROWS → bit_at bits k ≡ 1
+        → (BAND_ROWS * band + k) * width + width ≤ length registers.old }
+    requires pixels { length registers.old ≡ width * height }
+    ensures { EachIndex registers.old (λ i. slice_index registers.new i
+        ≡ (if covers column count band 1 bits (i % width) (i / width) then register else slice_index registers.old i)) }
+{
+    if count == 1 && band < height / BAND_ROWS {
+        fill_column(registers, width, column, band, bits, register);
+    } else {
+        fill_rows(registers, width, column, band, count, bits, register);
+    }
+}
+
+/// Gives the pixels of a run a register.
+#[inline(never)]
+fn fill_rows(
+    registers: &mut [u8],
+    width: usize,
+    column: u32,
+    band: u32,
+    count: u32,
+    bits: u8,
+    register: u8,
+)
+    requires some { 0 < width }
+    requires columns { column + count ≤ width }
+    requires rows { (k : ℕ) → k < BAND_ROWS → bit_at bits k ≡ 1
+        → (BAND_ROWS * band + k) * width + width ≤ length registers.old }
+    ensures { EachIndex registers.old (λ i. slice_index registers.new i
+        ≡ (if covers column count band 1 bits (i % width) (i / width) then register else slice_index registers.old i)) }
+{
+    for bit in 0..BAND_ROWS {
+        if is_set(bits, bit) {
+            let start = (BAND_ROWS as usize * band as usize + bit as usize) * width
+                + column as usize;
+            fill(registers, start, start + count as usize, register);
+        }
+    }
+}
+
+/// As `fill_rows` for one column, where the plane has all six rows of the band.
+fn fill_column(registers: &mut [u8], width: usize, column: u32, band: u32, bits: u8, register: u8)
+    requires some { 0 < width }
+    requires columns { column + 1 ≤ width }
+    requires rows { (BAND_ROWS * band + 5) * width + width ≤ length registers.old }
+    ensures { EachIndex registers.old (λ i. slice_index registers.new i
+        ≡ (if covers column 1 band 1 bits (i % width) (i / width) then register else slice_index registers.old i)) }
+{
+    for bit in 0..BAND_ROWS {
+        let index = (BAND_ROWS as usize * band as usize + bit as usize) * width + column as usize;
+        put(registers, index, is_set(bits, bit), register);
+    }
+}
+
+/// Gives a pixel a register, if it is painted.
+fn put(registers: &mut [u8], index: usize, is_painted: bool, register: u8)
+    requires { index < length registers.old }
+    ensures { AreChanged index (index + 1) (λ r. if is_painted then register else r) registers.old registers.new }
+{
+    if is_painted {
+        registers[index] = register;
+    }
+}
+
+/// How many of the uppermost rows are painted, where those of all whole bands are; else none.
+fn painted_rows(coverage: &[u8], width: u32, height: u32) -> u32
+    requires { length coverage.now ≡ width * div_ceil height BAND_ROWS }
+    ensures within { result ≤ height }
+    ensures painted { RowsArePainted width (is_covered width coverage.now) result }
+{
+    let bands = height / BAND_ROWS;
+    if common_bits(&coverage[..bands as usize * width as usize]) == ALL_ROWS {
+        bands * BAND_ROWS
+    } else {
+        0
+    }
+}
+
+/// The column and the row of the first pixel that isn't painted, in row order.
+fn first_unpainted(coverage: &[u8], width: u32, height: u32) -> Option<(u32, u32)>
+    requires { length coverage.now ≡ width * div_ceil height BAND_ROWS }
+    ensures { FirstUnpainted width height (is_covered width coverage.now) result }
+{
+    let columns = width as usize;
+    for row in painted_rows(coverage, width, height)..height {
+        let start = (row / BAND_ROWS) as usize * columns;
+        if let Some(index) = first_without(coverage, start, start + columns, row % BAND_ROWS) {
+            return Some(((index - start) as u32, row));
+        }
+    }
+    None
+}

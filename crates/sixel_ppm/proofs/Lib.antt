@@ -1,0 +1,11 @@
+pub mod PpmLemmas
+pub mod PpmTableLemmas
+mod WorkedPpms
+pub mod PpmHeaderLemmas
+pub mod PpmColourLemmas
+pub mod PpmSampleLemmas
+pub mod PpmKnownLemmas
+pub mod PpmReadLemmas
+pub mod PpmFileLemmas
+pub mod PpmPartLemmas
+pub mod PpmFoundLemmas

@@ -1,0 +1,11 @@
+pub mod Ppm
+pub mod PpmReading
+pub mod PpmHeader
+pub mod PpmColours
+pub mod PpmHeld
+pub mod PpmSamples
+pub mod PpmFeeding
+pub mod PpmFiles
+pub mod PpmTables
+pub mod PpmKnown
+pub mod Laws

@@ -1,0 +1,28 @@
+-- Colours that are numbered as they are first seen. Contracts of private functions alone cite these.
+use Rattle.std.specs.Prelude.{◌≡◌, ◌<◌, ◌≤◌, ℕ, List, Option, None, Some, MatchOption, get_or, length, position}
+use Rattle.sixel_model.specs.Colours.{is_entry}
+use Rattle.sixel_ppm.specs.PpmReading.{palette_of, register_among}
+use Rattle.sixel_model.specs.declared.colour.Parts.{Parts}
+use Rattle.sixel_ppm.specs.declared.ppm.colours.Colours.{Colours}
+
+-- the palette has these colours and no other, and their count is kept
+pub record Fills (c : Colours) (seen : List Parts) : Type 0 where
+  pub palette : c.palette ≡ palette_of (length c.palette) seen
+  pub count : c.count ≡ length seen
+  pub few : length seen ≤ length c.palette
+
+-- the register of a colour among those that are seen with it, or there are too many
+abbrev pub Numbers : Option ℕ → Colours → List Parts → Parts → Type 0
+Numbers result new seen colour =
+    MatchOption result (length new.palette < length seen)
+    (λ register. (register ≡ register_among seen colour) × Fills new seen)
+
+-- no register from the count on has a colour
+abbrev pub IsUnusedFrom : List (Option Parts) → ℕ → Type 0
+IsUnusedFrom palette count = (r : ℕ) → count ≤ r → get_or palette r None ≡ None
+
+-- each colour that has a register keeps it
+abbrev pub KeepsRegisters : List (Option Parts) → List (Option Parts) → Type 0
+KeepsRegisters old new =
+    (colour : Parts) (register : ℕ) → position (is_entry colour) old ≡ Some register
+    → position (is_entry colour) new ≡ Some register

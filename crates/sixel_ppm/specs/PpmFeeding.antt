@@ -1,0 +1,82 @@
+-- A picture file in the pieces in which a source gives it. Contracts of private functions alone cite these.
+use Rattle.std.specs.Prelude.{◌≡◌, ◌≤◌, ℕ, ◌+◌, List, ◌++◌, Option, length, drop, take, Result, Ok, Err}
+use Rattle.std.specs.Io.KnownBytes.{Consumes}
+use Rattle.sixel_model.specs.Pictures.{PictureValue}
+use Rattle.sixel_ppm.specs.PpmHeader.{header_on}
+use Rattle.sixel_ppm.specs.PpmReading.{Head, at_fault, head_of}
+use Rattle.sixel_ppm.specs.PpmSamples.{LeadsOn}
+use Rattle.sixel_ppm.specs.declared.ppm.PpmFault.{PpmFault}
+use Rattle.sixel_ppm.specs.declared.ppm.PpmFault.TheVariants.{Format, NotRgb, OutOfMemory, Read, Write}
+use Rattle.sixel_ppm.specs.declared.ppm.header.Frame.{Frame}
+use Rattle.sixel_ppm.specs.declared.ppm.header.Progress.{Progress}
+use Rattle.sixel_ppm.specs.declared.ppm.read.Fed.{Fed}
+use Rattle.sixel_ppm.specs.declared.ppm.read.Fed.TheVariants.{More, Whole, Refused}
+use Rattle.sixel_ppm.specs.declared.ppm.read.Started.{Started}
+use Rattle.sixel_ppm.specs.declared.ppm.samples.Samples.{Samples}
+
+-- what the header says, and the samples after it
+abbrev pub head_with : Frame → List ℕ → Head
+head_with f samples =
+    record { width = f.width; height = f.height; maxval = f.maxval; place = f.place; samples = samples }
+
+-- the header isn't whole after the piece
+pub record MovesOn (old new : Progress) (piece : List ℕ) : Type 0 where
+  pub reads : (rest : List ℕ) → header_on old (piece ++ rest) ≡ header_on new rest
+  pub place : new.place ≡ old.place + length piece
+  pub within : old.place ≤ 65536 → new.place ≤ 65536
+
+-- it is whole within the piece
+pub record Completes (old : Progress) (piece : List ℕ) (frame : Frame) (start : ℕ) : Type 0 where
+  pub reads : (rest : List ℕ) → header_on old (piece ++ rest) ≡ Ok (head_with frame (drop start piece ++ rest))
+  pub inside : start ≤ length piece
+
+-- what reading a header answers, but that it is whole
+abbrev pub ReadsHeader : PpmFault → List ℕ → Type 0
+ReadsHeader (Format reason place) bytes = head_of bytes ≡ at_fault reason place
+ReadsHeader Read bytes = Unit {0}
+ReadsHeader NotRgb bytes = ⊥
+ReadsHeader OutOfMemory bytes = ⊥
+ReadsHeader Write bytes = ⊥
+
+abbrev pub RefusesHeader : PpmFault → Result Head PpmFault → Type 0
+RefusesHeader (Format reason place) result = result ≡ at_fault reason place
+RefusesHeader NotRgb result = ⊥
+RefusesHeader OutOfMemory result = ⊥
+RefusesHeader Read result = ⊥
+RefusesHeader Write result = ⊥
+
+abbrev pub FeedsHeader : Progress → List ℕ → Fed → Type 0
+FeedsHeader old piece (More new) = MovesOn old new piece
+FeedsHeader old piece (Whole frame start) = Completes old piece frame start
+FeedsHeader old piece (Refused fault) = (rest : List ℕ) → RefusesHeader fault (header_on old (piece ++ rest))
+
+-- the bytes up to the end of the header were read, and the samples that came with it
+pub record HasStarted (old new : Option (List ℕ)) (piece : List ℕ) (s : Started) : Type 0 where
+  pub front : List ℕ
+  pub consumed : Consumes old new front
+  pub whole : (rest : List ℕ) → head_of (front ++ rest)
+      ≡ Ok (head_with s.frame (drop s.start (take s.end piece) ++ rest))
+  pub ordered : s.start ≤ s.end
+  pub inside : s.end ≤ length piece
+
+-- what reading the samples answers, where the bytes make this of them
+abbrev pub ReadsRest : Result PictureValue PpmFault → Result PictureValue PpmFault → Type 0
+ReadsRest (Ok picture) result = result ≡ Ok picture
+ReadsRest (Err (Format reason place)) result = result ≡ at_fault reason place
+ReadsRest (Err OutOfMemory) result = ⊥
+ReadsRest (Err Read) result = Unit {0}
+ReadsRest (Err NotRgb) result = ⊥
+ReadsRest (Err Write) result = ⊥
+
+-- the bytes so far were read, and the header goes on
+pub record IsInHeader (old new : Option (List ℕ)) (progress : Progress) : Type 0 where
+  pub front : List ℕ
+  pub consumed : Consumes old new front
+  pub reads : (rest : List ℕ) → head_of (front ++ rest) ≡ header_on progress rest
+  pub within : progress.place ≤ 65536
+
+-- the bytes so far were read, and the samples go on
+pub record IsInSamples (old new : Option (List ℕ)) (begun now : Samples) : Type 0 where
+  pub front : List ℕ
+  pub consumed : Consumes old new front
+  pub leads : LeadsOn begun now front

@@ -1,0 +1,7 @@
+//! Pictures as PPM files.
+#![tactic(auto)]
+
+pub mod laws;
+mod ppm;
+
+pub use ppm::{PpmFault, PpmReason, read_ppm, write_ppm, write_ppm_colours};

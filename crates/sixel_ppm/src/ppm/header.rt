@@ -1,0 +1,268 @@
+//! The header of a picture file, byte by byte.
+
+ghost use Rattle.std.specs.Prelude.{◌≡◌, ◌<◌, IsTrue};
+ghost use Rattle.sixel_grammar.specs.Bytes.{is_digit};
+ghost use Rattle.sixel_ppm.specs.PpmReading.{is_space};
+ghost use Rattle.sixel_ppm.specs.PpmHeader.{advanced, begun, ended, ends, filled, grown, in_comment, in_digits};
+ghost use Rattle.sixel_ppm.specs.PpmHeader.{in_filler, is_within, refused, step, wanted_byte};
+
+use crate::ppm::PpmReason;
+use sixel_model::MOST_SIDE;
+
+/// How many bytes a header has at most.
+const MOST_BYTES: u64 = 65_536;
+
+/// A number of the header.
+#[derive(Clone, Copy, Debug, PartialEq, Eq)]
+pub(crate) enum Field {
+    Width,
+    Height,
+    Maxval,
+}
+
+/// What the next byte of a header belongs to.
+#[derive(Clone, Copy, Debug, PartialEq, Eq)]
+pub(crate) enum Part {
+    Letter,
+    Version,
+    /// Filler begins here.
+    AfterVersion,
+    /// The filler before a number, or its first digit.
+    Filler(Field),
+    Comment(Field),
+    Digits(Field),
+}
+
+/// A header that isn't whole yet.
+#[derive(Clone, Copy, Debug, PartialEq, Eq)]
+pub(crate) struct Progress {
+    pub(crate) part: Part,
+    /// The offset of the next byte.
+    pub(crate) place: u64,
+    /// The width, once it was read.
+    pub(crate) width: u32,
+    /// The height, once it was read.
+    pub(crate) height: u32,
+    /// The digits so far of the number that is read; a value above all limits stays as it is.
+    pub(crate) value: u32,
+    /// The offset of its first digit.
+    pub(crate) first: u64,
+}
+
+/// What a header says, and the offset of the first sample.
+#[derive(Clone, Copy, Debug, PartialEq, Eq)]
+pub(crate) struct Frame {
+    pub(crate) width: u32,
+    pub(crate) height: u32,
+    pub(crate) maxval: u8,
+    pub(crate) place: u64,
+}
+
+/// What a byte makes of a header.
+#[derive(Clone, Copy, Debug, PartialEq, Eq)]
+pub(crate) enum Next {
+    More(Progress),
+    Whole(Frame),
+    Refused { reason: PpmReason, place: u64 },
+}
+
+impl Progress {
+    /// A header of which no byte has come.
+    pub(crate) fn new() -> Progress
+        ensures { result ≡ begun }
+    {
+        Progress {
+            part: Part::Letter,
+            place: 0,
+            width: 0,
+            height: 0,
+            value: 0,
+            first: 0,
+        }
+    }
+
+    /// What the next byte makes of the header.
+    pub(crate) fn step(self, byte: u8) -> Next
+        ensures { result ≡ step self byte }
+    {
+        if self.place >= MOST_BYTES {
+            return self.refused();
+        }
+        match self.part {
+            Part::Letter => self.wanted_byte(byte == b'P', Part::Version),
+            Part::Version => self.wanted_byte(byte == b'6', Part::AfterVersion),
+            Part::AfterVersion => self.in_filler(Field::Width, byte),
+            Part::Filler(field) => self.filled(field, byte),
+            Part::Comment(field) => self.in_comment(field, byte),
+            Part::Digits(field) => self.in_digits(field, byte),
+        }
+    }
+
+    /// The next byte may not stand where it does.
+    fn refused(self) -> Next
+        ensures { result ≡ refused self }
+    {
+        Next::Refused {
+            reason: PpmReason::Header,
+            place: self.place,
+        }
+    }
+
+    fn advanced(self, part: Part) -> Next
+        requires { self.place < 65536 }
+        ensures { result ≡ advanced self part }
+    {
+        Next::More(Progress {
+            part,
+            place: self.place + 1,
+            ..self
+        })
+    }
+
+    fn wanted_byte(self, passes: bool, part: Part) -> Next
+        requires { self.place < 65536 }
+        ensures { result ≡ wanted_byte self passes part }
+    {
+        if passes {
+            self.advanced(part)
+        } else {
+            self.refused()
+        }
+    }
+
+    fn in_filler(self, field: Field, byte: u8) -> Next
+        requires { self.place < 65536 }
+        ensures { result ≡ in_filler self field byte }
+    {
+        if is_space(byte) {
+            self.advanced(Part::Filler(field))
+        } else if byte == b'#' {
+            self.advanced(Part::Comment(field))
+        } else {
+            self.refused()
+        }
+    }
+
+    fn in_comment(self, field: Field, byte: u8) -> Next
+        requires { self.place < 65536 }
+        ensures { result ≡ in_comment self field byte }
+    {
+        if byte == b'\n' {
+            self.advanced(Part::Filler(field))
+        } else {
+            self.advanced(Part::Comment(field))
+        }
+    }
+
+    /// Filler, or the first digit of the number after it.
+    fn filled(self, field: Field, byte: u8) -> Next
+        requires { self.place < 65536 }
+        ensures { result ≡ filled self field byte }
+    {
+        if is_digit(byte) {
+            Next::More(Progress {
+                part: Part::Digits(field),
+                place: self.place + 1,
+                value: grown(0, byte),
+                first: self.place,
+                ..self
+            })
+        } else {
+            self.in_filler(field, byte)
+        }
+    }
+
+    /// A digit, or the byte after the last one.
+    fn in_digits(self, field: Field, byte: u8) -> Next
+        requires { self.place < 65536 }
+        ensures { result ≡ in_digits self field byte }
+    {
+        if is_digit(byte) {
+            Next::More(Progress {
+                part: Part::Digits(field),
+                place: self.place + 1,
+                value: grown(self.value, byte),
+                ..self
+            })
+        } else if ends(field, byte) {
+            self.ended(field, byte)
+        } else {
+            self.refused()
+        }
+    }
+
+    /// The number is whole, and the byte after it is good.
+    fn ended(self, field: Field, byte: u8) -> Next
+        requires { self.place < 65536 }
+        ensures { result ≡ ended self field byte }
+    {
+        let value = self.value;
+        match field {
+            Field::Width if is_within(value, MOST_SIDE) => Progress {
+                width: value,
+                ..self
+            }
+            .in_filler(Field::Height, byte),
+            Field::Height if is_within(value, MOST_SIDE) => Progress {
+                height: value,
+                ..self
+            }
+            .in_filler(Field::Maxval, byte),
+            Field::Maxval if is_within(value, 255) => Next::Whole(Frame {
+                width: self.width,
+                height: self.height,
+                maxval: value as u8,
+                place: self.place + 1,
+            }),
+            Field::Maxval => Next::Refused {
+                reason: PpmReason::Maxval,
+                place: self.first,
+            },
+            _ => Next::Refused {
+                reason: PpmReason::Size,
+                place: self.first,
+            },
+        }
+    }
+}
+
+fn is_space(byte: u8) -> bool
+    ensures { result ≡ is_space byte }
+{
+    byte == b' ' || byte == b'\t' || byte == b'\r' || byte == b'\n'
+}
+
+fn is_digit(byte: u8) -> bool
+    ensures { result ≡ is_digit byte }
+{
+    byte >= b'0' && byte <= b'9'
+}
+
+/// One digit more. A value above all limits stays, so that none wraps.
+fn grown(value: u32, digit: u8) -> u32
+    requires { IsTrue (is_digit digit) }
+    ensures { result ≡ grown value digit }
+{
+    if value > MOST_SIDE {
+        value
+    } else {
+        10 * value + (digit - b'0') as u32
+    }
+}
+
+/// Whether a byte may follow the last digit: a comment may not follow that of the maximum.
+fn ends(field: Field, byte: u8) -> bool
+    ensures { result ≡ ends field byte }
+{
+    match field {
+        Field::Maxval => is_space(byte),
+        _ => is_space(byte) || byte == b'#',
+    }
+}
+
+/// Whether a number is from 1 to `most`.
+fn is_within(value: u32, most: u32) -> bool
+    ensures { result ≡ is_within value most }
+{
+    value >= 1 && value <= most
+}

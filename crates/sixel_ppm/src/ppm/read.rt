@@ -1,0 +1,120 @@
+//! Reads pictures from PPM files.
+
+ghost use Rattle.std.specs.Prelude.{List, IfErr, IfOk, IfSome};
+ghost use Rattle.sixel_ppm.specs.PpmFeeding.{FeedsHeader, HasStarted, ReadsHeader, ReadsRest};
+ghost use Rattle.sixel_ppm.specs.PpmReading.{CountsReadFault, ReadsPpm};
+ghost use Rattle.sixel_ppm.specs.PpmSamples.{Holds, samples_on};
+ghost use Rattle.sixel_model.specs.Profiles.{count_of};
+ghost use Rattle.sixel_model.specs.declared.colour.Parts.{Parts};
+
+use crate::ppm::header::{Frame, Next, Progress};
+use crate::ppm::samples::Samples;
+use crate::ppm::{PpmFault, PpmReason};
+use sixel_grammar::{PIECE, Source};
+use sixel_model::{Picture, Profile};
+use std::alloc::Global;
+
+/// What a piece makes of a header.
+#[derive(Clone, Copy, Debug, PartialEq, Eq)]
+pub(crate) enum Fed {
+    More(Progress),
+    /// The header is whole, and so many bytes of the piece belong to it.
+    Whole(Frame, usize),
+    Refused(PpmFault),
+}
+
+/// A whole header, and where in the piece the samples after it stand.
+#[derive(Clone, Copy, Debug, PartialEq, Eq)]
+pub(crate) struct Started {
+    pub(crate) frame: Frame,
+    pub(crate) start: usize,
+    pub(crate) end: usize,
+}
+
+/// Reads a picture from a PPM of Netpbm: `P6`, a width and a height of 1 to 2,048 pixels, a maximum of
+/// 1 to 255, and three samples a pixel, which become percentages of red, green and blue. Registers are
+/// numbered from 0 in the order in which their colours are first seen, and the palette, which is of the
+/// profile, holds no other. A colour for which the profile has no register is `TooManyColours`.
+///
+/// The source is read to its end. Memory is taken once, for the registers, after the header.
+pub fn read_ppm<S: Source>(
+    alloc: Global,
+    profile: Profile,
+    input: &mut S,
+) -> Result<Picture, PpmFault>
+    ensures bytes { IfSome (S.remaining input.old) (ReadsPpm (count_of profile) result) }
+    ensures failures { CountsReadFault result (S.failure_count input.old) (S.failure_count input.new) }
+{
+    let mut piece = [0u8; PIECE];
+    let started = read_header(input, &mut piece)?;
+    let mut samples = Samples::new(alloc, profile, started.frame)?;
+    samples.feed(&piece[started.start..started.end])?;
+    read_samples(samples, input, &mut piece)
+}
+
+/// What a piece makes of the header.
+fn feed_header(begun: Progress, piece: &[u8]) -> Fed
+    ensures { FeedsHeader begun piece.now result }
+{
+    let mut progress = begun;
+    for (index, byte) in piece.iter().enumerate() {
+        match progress.step(*byte) {
+            Next::More(next) => progress = next,
+            Next::Whole(frame) => return Fed::Whole(frame, index + 1),
+            Next::Refused { reason, place } => {
+                return Fed::Refused(PpmFault::Format { reason, place });
+            }
+        }
+    }
+    Fed::More(progress)
+}
+
+/// Reads up to the end of the header, piece by piece.
+fn read_header<S: Source>(input: &mut S, piece: &mut [u8; PIECE]) -> Result<Started, PpmFault>
+    ensures started { IfOk result (λ s. HasStarted (S.remaining input.old) (S.remaining input.new) piece.new s) }
+    ensures failed { IfErr result (λ fault. IfSome (S.remaining input.old) (ReadsHeader fault)) }
+    ensures failures { CountsReadFault result (S.failure_count input.old) (S.failure_count input.new) }
+{
+    let mut progress = Progress::new();
+    loop {
+        let count = input.fill(piece).map_err(|_| PpmFault::Read)?;
+        if count == 0 {
+            return Err(PpmFault::Format {
+                reason: PpmReason::Short,
+                place: progress.place,
+            });
+        }
+        match feed_header(progress, &piece[..count]) {
+            Fed::More(next) => progress = next,
+            Fed::Whole(frame, start) => {
+                return Ok(Started {
+                    frame,
+                    start,
+                    end: count,
+                });
+            }
+            Fed::Refused(fault) => return Err(fault),
+        }
+    }
+}
+
+/// Reads the samples to the end of the source, piece by piece.
+fn read_samples<S: Source>(
+    begun: Samples,
+    input: &mut S,
+    piece: &mut [u8; PIECE],
+) -> Result<Picture, PpmFault>
+    requires { (colours : List Parts) × Holds begun colours }
+    ensures bytes { (colours : List Parts) → Holds begun colours →
+        IfSome (S.remaining input.old) (λ rest. ReadsRest result (samples_on begun colours rest)) }
+    ensures failures { CountsReadFault result (S.failure_count input.old) (S.failure_count input.new) }
+{
+    let mut samples = begun;
+    loop {
+        let count = input.fill(piece).map_err(|_| PpmFault::Read)?;
+        if count == 0 {
+            return samples.finish();
+        }
+        samples.feed(&piece[..count])?;
+    }
+}

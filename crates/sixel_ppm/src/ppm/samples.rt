@@ -1,0 +1,353 @@
+//! The samples of a picture file, in pieces of any size.
+
+ghost use Rattle.std.specs.Prelude.{◌≡◌, ◌≤◌, ◌<◌, ◌+◌, ◌*◌, ◌^◌, ◌∷◌, [], length, ◌&&◌, List, IsTrue, IfErr, IfNone};
+ghost use Rattle.std.specs.Prelude.{IfOk, IfSome, Ok, OnOk, vec_capacity, vec_len};
+ghost use Rattle.sixel_model.specs.Pictures.{is_side};
+ghost use Rattle.sixel_ppm.specs.PpmHeld.{held_samples, is_good};
+ghost use Rattle.sixel_ppm.specs.PpmColours.{IsUnusedFrom};
+ghost use Rattle.sixel_ppm.specs.PpmKnown.{Knows};
+ghost use Rattle.sixel_ppm.specs.PpmReading.{colour_of, percent};
+ghost use Rattle.sixel_model.specs.Profiles.{count_of};
+
+use crate::ppm::colours::Colours;
+use crate::ppm::header::Frame;
+use crate::ppm::known::Known;
+use crate::ppm::{PpmFault, PpmReason};
+use sixel_model::{Colour, Picture, Profile};
+use std::alloc::{AllocError, Global};
+
+/// The samples of a pixel, and its register.
+#[derive(Clone, Copy, Debug, PartialEq, Eq)]
+pub(crate) struct Pixel {
+    pub(crate) red: u8,
+    pub(crate) green: u8,
+    pub(crate) blue: u8,
+    pub(crate) register: u8,
+}
+
+/// The samples of a pixel that isn't whole.
+#[derive(Clone, Copy, Debug, PartialEq, Eq)]
+pub(crate) enum Held {
+    Nothing,
+    Red(u8),
+    RedGreen(u8, u8),
+}
+
+/// The pixels of which the samples came.
+#[derive(Debug, Drop)]
+pub(crate) struct Samples {
+    pub(crate) width: u32,
+    pub(crate) height: u32,
+    pub(crate) maxval: u8,
+    /// How many pixels aren't whole yet.
+    pub(crate) left: u32,
+    /// The offset of the first sample of the next one of them.
+    pub(crate) place: u64,
+    pub(crate) held: Held,
+    /// The last pixel: one that repeats it needs no look at the palette.
+    pub(crate) last: Option<Pixel>,
+    /// Pixels that came before: one of them needs no look at the palette, either.
+    pub(crate) known: Known,
+    pub(crate) colours: Colours,
+    pub(crate) registers: Vec<u8>,
+    ghost scaled: { 0 < maxval },
+    ghost bounded: { place + 3 * left ≤ 2 ^ 63 },
+    ghost held_is_good: { IsTrue (is_good held maxval left) },
+    ghost sides: { IsTrue (is_side width && is_side height) },
+    ghost unused: { IsUnusedFrom colours.palette colours.count },
+    ghost knows: { Knows known maxval colours.palette },
+    ghost room: { vec_len registers + left ≤ vec_capacity registers },
+}
+
+/// The percentage of a sample, to the nearest whole number.
+fn percent(sample: u8, maxval: u8) -> u8
+    requires scaled { 0 < maxval }
+    requires good { sample ≤ maxval }
+    ensures value { result ≡ percent maxval sample }
+    ensures in_range { result ≤ 100 }
+{
+    let maxval = maxval as u32;
+    let share = (200 * sample as u32 + maxval) / (2 * maxval);
+    share as u8
+}
+
+/// The colour of samples that are at most the maximum.
+fn colour_of(maxval: u8, red: u8, green: u8, blue: u8) -> Colour
+    requires scaled { 0 < maxval }
+    requires red { red ≤ maxval }
+    requires green { green ≤ maxval }
+    requires blue { blue ≤ maxval }
+    ensures { result ≡ colour_of maxval red green blue }
+{
+    Colour::of_percentages(
+        percent(red, maxval),
+        percent(green, maxval),
+        percent(blue, maxval),
+    )
+}
+
+fn fault(reason: PpmReason, place: u64) -> PpmFault
+    ensures { result ≡ PpmFault.Format reason place }
+{
+    PpmFault::Format { reason, place }
+}
+
+impl Samples {
+    ghost use Rattle.sixel_ppm.specs.PpmSamples.{Begins, Fails, FailsOn, IsLast, IsNextHeld, KeepsPixels, Leads};
+    ghost use Rattle.sixel_ppm.specs.PpmSamples.{LeadsOn, HasRead, PutsPixel, PutsPixels, Refuses, Registers};
+    ghost use Rattle.sixel_ppm.specs.PpmSamples.{TooMany, budget, samples_on, Holds};
+    ghost use Rattle.sixel_model.specs.declared.colour.Parts.{Parts};
+
+    /// No sample has come. This is the one growth of a reading.
+    pub(crate) fn new(alloc: Global, profile: Profile, frame: Frame) -> Result<Samples, AllocError>
+        requires sides { IsTrue (is_side frame.width && is_side frame.height) }
+        requires scaled { 0 < frame.maxval }
+        requires place { frame.place ≤ 65536 }
+        ensures { IfOk result (λ s. Begins (count_of profile) frame s) }
+    {
+        let pixels = frame.width * frame.height;
+        let registers = Vec::with_capacity(alloc, pixels as usize)?;
+        Ok(Samples {
+            width: frame.width,
+            height: frame.height,
+            maxval: frame.maxval,
+            left: pixels,
+            place: frame.place,
+            held: Held::Nothing,
+            last: None,
+            known: Known::new(),
+            colours: Colours::new(profile),
+            registers,
+        })
+    }
+
+    /// The fault of the first of a pixel's samples that is above the maximum.
+    fn unfit(&self, red: u8, green: u8, blue: u8) -> Option<PpmFault>
+        requires { 0 < self.now.left }
+        ensures fit { IfNone result ((red ≤ self.now.maxval) × (green ≤ self.now.maxval) × (blue ≤ self.now.maxval)) }
+        ensures unfit { IfSome result (λ fault. Fails self.now fault (red ∷ green ∷ blue ∷ [])) }
+    {
+        if red > self.maxval {
+            Some(fault(PpmReason::Sample, self.place))
+        } else if green > self.maxval {
+            Some(fault(PpmReason::Sample, self.place + 1))
+        } else if blue > self.maxval {
+            Some(fault(PpmReason::Sample, self.place + 2))
+        } else {
+            None
+        }
+    }
+
+    /// The register of the last pixel, where this one repeats it.
+    fn repeated(&self, red: u8, green: u8, blue: u8) -> Option<u8>
+        ensures { IfSome result (IsLast self.now.last red green blue) }
+    {
+        match self.last {
+            Some(last) if last.red == red && last.green == green && last.blue == blue => {
+                Some(last.register)
+            }
+            _ => None,
+        }
+    }
+
+    /// The register of a pixel whose samples are good, by its colour.
+    fn number(&mut self, red: u8, green: u8, blue: u8) -> Result<u8, PpmFault>
+        requires red { red ≤ self.old.maxval }
+        requires green { green ≤ self.old.maxval }
+        requires blue { blue ≤ self.old.maxval }
+        ensures registered { IfOk result (λ register. Registers self.old self.new red green blue register) }
+        ensures failed { IfErr result (λ fault. TooMany self.old red green blue fault) }
+        ensures kept { KeepsPixels self.old self.new }
+    {
+        let colour = colour_of(self.maxval, red, green, blue);
+        match self.colours.register_of(colour) {
+            None => Err(fault(PpmReason::TooManyColours, self.place)),
+            Some(register) => {
+                self.known.keep(red, green, blue, register);
+                self.last = Some(Pixel {
+                    red,
+                    green,
+                    blue,
+                    register,
+                });
+                Ok(register)
+            }
+        }
+    }
+
+    /// The register of a pixel, or the fault of the first of its samples that may not stand there.
+    fn register_of(&mut self, red: u8, green: u8, blue: u8) -> Result<u8, PpmFault>
+        requires { 0 < self.old.left }
+        ensures registered { IfOk result (λ register. Registers self.old self.new red green blue register) }
+        ensures failed { IfErr result (λ fault. Fails self.old fault (red ∷ green ∷ blue ∷ [])) }
+        ensures kept { KeepsPixels self.old self.new }
+    {
+        if let Some(register) = self.repeated(red, green, blue) {
+            return Ok(register);
+        }
+        if let Some(fault) = self.unfit(red, green, blue) {
+            return Err(fault);
+        }
+        self.number(red, green, blue)
+    }
+
+    /// Puts a pixel into the list of those that are whole, where `new` has left room for it.
+    fn put(&mut self, register: u8)
+        requires some { 0 < self.old.left }
+        requires whole { self.old.held ≡ Held.Nothing }
+        ensures { PutsPixel self.old self.new register }
+    {
+        self.registers.push_reserved(register);
+        self.left -= 1;
+        self.place += 3;
+    }
+
+    /// Reads the three samples of a pixel.
+    fn pixel(&mut self, red: u8, green: u8, blue: u8) -> Result<(), PpmFault>
+        requires { self.old.held ≡ Held.Nothing }
+        ensures read { OnOk result (Leads self.old self.new (red ∷ green ∷ blue ∷ [])) }
+        ensures failed { IfErr result (λ fault. Fails self.old fault (red ∷ green ∷ blue ∷ [])) }
+        ensures held { OnOk result (self.new.held ≡ Held.Nothing) }
+        ensures fewer { OnOk result (self.new.left + 1 ≡ self.old.left) }
+    {
+        if self.left == 0 {
+            return Err(fault(PpmReason::Trailing, self.place));
+        }
+        let register = self.register_of(red, green, blue)?;
+        self.put(register);
+        Ok(())
+    }
+
+    /// Keeps the first or the second sample of a pixel.
+    fn hold(&mut self, sample: u8, place: u64, held: Held) -> Result<(), PpmFault>
+        requires good { IsTrue (is_good self.old.held self.old.maxval self.old.left) }
+        requires next { IsNextHeld self.old.held sample held }
+        requires place { place ≡ self.old.place + length (held_samples self.old.held) }
+        ensures read { OnOk result (LeadsOn self.old self.new (sample ∷ [])) }
+        ensures failed { IfErr result (λ fault. FailsOn self.old fault (sample ∷ [])) }
+        ensures fewer { OnOk result (budget self.new + 1 ≡ budget self.old) }
+    {
+        if self.left == 0 {
+            return Err(fault(PpmReason::Trailing, self.place));
+        }
+        if sample > self.maxval {
+            return Err(fault(PpmReason::Sample, place));
+        }
+        self.held = held;
+        Ok(())
+    }
+
+    /// Reads one sample.
+    fn sample(&mut self, sample: u8) -> Result<(), PpmFault>
+        ensures read { OnOk result (LeadsOn self.old self.new (sample ∷ [])) }
+        ensures failed { IfErr result (λ fault. FailsOn self.old fault (sample ∷ [])) }
+        ensures fewer { OnOk result (budget self.new + 1 ≡ budget self.old) }
+    {
+        match self.held {
+            Held::Nothing => self.hold(sample, self.place, Held::Red(sample)),
+            Held::Red(red) => self.hold(sample, self.place + 1, Held::RedGreen(red, sample)),
+            Held::RedGreen(red, green) => {
+                self.held = Held::Nothing;
+                self.pixel(red, green, sample)
+            }
+        }
+    }
+
+    /// Reads a whole pixel from the front of the bytes, or else one sample, and gives what follows.
+    fn front<'a>(&mut self, bytes: &'a [u8]) -> Result<&'a [u8], PpmFault>
+        requires { 0 < length bytes.now }
+        ensures read { IfOk result (λ rest. HasRead self.old self.new bytes.now rest.now) }
+        ensures shorter { IfOk result (λ rest. length rest.now < length bytes.now) }
+        ensures failed { IfErr result (λ fault. FailsOn self.old fault bytes.now) }
+    {
+        match (self.held, bytes) {
+            (Held::Nothing, [red, green, blue, rest @ ..]) => {
+                self.pixel(*red, *green, *blue)?;
+                Ok(rest)
+            }
+            (_, [sample, rest @ ..]) => {
+                self.sample(*sample)?;
+                Ok(rest)
+            }
+            (_, []) => Ok(bytes),
+        }
+    }
+
+    /// Puts at most so many pixels from the front of the bytes into the list of those that are whole, up to the
+    /// first one that isn't known, and tells how many they are.
+    fn put_known(&mut self, bytes: &[u8], most: usize) -> usize
+        requires left { most ≤ self.old.left }
+        requires within { 3 * most ≤ length bytes.now }
+        requires whole { self.old.held ≡ Held.Nothing }
+        ensures most { result ≤ most }
+        ensures put { PutsPixels self.old self.new bytes.now result }
+    {
+        let count = self.known.put_all(bytes, most, &mut self.registers);
+        self.left -= count as u32;
+        self.place += 3 * count as u64;
+        count
+    }
+
+    /// Reads the whole pixels at the front that are known, and gives what follows.
+    fn known_front<'a>(&mut self, bytes: &'a [u8]) -> &'a [u8]
+        ensures read { HasRead self.old self.new bytes.now result.now }
+        ensures shorter { length result.now ≤ length bytes.now }
+    {
+        let Held::Nothing = self.held else {
+            return bytes;
+        };
+        let most = (bytes.len() / 3).min(self.left as usize);
+        let count = self.put_known(bytes, most);
+        &bytes[3 * count..]
+    }
+
+    /// Reads a piece of the samples.
+    pub(crate) fn feed(&mut self, piece: &[u8]) -> Result<(), PpmFault>
+        ensures read { OnOk result (LeadsOn self.old self.new piece.now) }
+        ensures failed { IfErr result (λ fault. FailsOn self.old fault piece.now) }
+        ensures fewer { OnOk result (budget self.new + length piece.now ≤ budget self.old) }
+    {
+        let mut rest = piece;
+        while !rest.is_empty() {
+            rest = self.front(rest)?;
+            rest = self.known_front(rest);
+        }
+        Ok(())
+    }
+
+    /// The picture, or the fault where samples are wanting.
+    pub(crate) fn finish(self) -> Result<Picture, PpmFault>
+        requires { (colours : List Parts) × Holds self colours }
+        ensures whole { IfOk result (λ p. (colours : List Parts) → Holds self colours →
+            samples_on self colours [] ≡ Ok p) }
+        ensures failed { IfErr result (λ fault. (colours : List Parts) → Holds self colours →
+            Refuses fault (samples_on self colours [])) }
+    {
+        let Samples {
+            width,
+            height,
+            left,
+            place,
+            held,
+            colours,
+            registers,
+            ..
+        } = self;
+        if left > 0 {
+            return Err(fault(PpmReason::Short, place + count(held)));
+        }
+        Ok(Picture::of_parts(width, height, colours.palette, registers))
+    }
+}
+
+/// How many samples are held.
+fn count(held: Held) -> u64
+    ensures count { result ≡ length (held_samples held) }
+    ensures few { result ≤ 2 }
+{
+    match held {
+        Held::Nothing => 0,
+        Held::Red(_) => 1,
+        Held::RedGreen(_, _) => 2,
+    }
+}
