@@ -6,7 +6,6 @@ ghost use Rattle.sixel_check.specs.Notes.{colour_within};
 
 use sixel_model::{Colour, Parts};
 
-
 /// The colour of a colour system and three coordinates, if it is in range.
 pub(crate) fn colour_in(system: u16, x: u16, y: u16, z: u16) -> Option<Colour>
     ensures { result ≡ colour_within system x y z }

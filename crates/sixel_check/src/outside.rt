@@ -7,7 +7,6 @@ ghost use Rattle.sixel_check.specs.Verdicts.{capped};
 
 use sixel_model::{BAND_ROWS, is_set};
 
-
 /// The row of a bit of a band. It stops at `u64::MAX`.
 fn row_of(band: u64, bit: u32) -> u64
     ensures { result ≡ capped (band_rows * band + bit) }
