@@ -8,11 +8,11 @@ ghost use Rattle.sixel_run.specs.declared.fault.RunFault.TheVariants.{Read};
 ghost use Rattle.sixel_run.specs.Outputs.{CountsWrites, ShowBoxGives, WroteBy, WroteNothing, failures_by};
 ghost use Rattle.sixel_run.specs.Screens.{declared_screen, screen_terminal, sides_of_box};
 
-use sixel_model::Profile;
 use super::show::{screen_after, show_choices, write_screen};
 use crate::fault::RunFault;
 use crate::task::{MOST_SCREEN_SIDE, Status};
 use sixel_grammar::{Command, Event, Placed, Sink, Source, read_all};
+use sixel_model::Profile;
 use std::alloc::Global;
 
 /// Reads the whole document, draws it on a terminal with a screen as large as the declared box, and writes the screen.
