@@ -4,7 +4,6 @@ ghost use Rattle.std.specs.Prelude.{◌≡◌, ◌<◌, ◌≤◌, ◌+◌, ◌*
 ghost use Rattle.sixel_grammar.specs.Bytes.{is_data};
 ghost use Rattle.std.specs.Int.{bit_at};
 
-
 use sixel_model::is_set;
 use sixel_plane::{BandPlane, BytePlane, Plane};
 use std::alloc::{AllocError, Global};

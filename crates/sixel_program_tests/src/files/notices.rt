@@ -2,8 +2,8 @@
 
 ghost use Rattle.sixel_run.specs.Outputs.{HasSides};
 
-use sixel_model::Profile;
 use super::{Asked, Ended, PIXEL, RED, STREAMS, Streams, check_of, ends_over};
+use sixel_model::Profile;
 use sixel_program::Exit;
 use sixel_run::Task;
 use std::alloc::{AllocError, Global};
