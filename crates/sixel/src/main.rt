@@ -1,7 +1,7 @@
 //! The program `sixel`: checks, lists, draws and writes sixel pictures.
 #![tactic(auto)]
 
-use sixel_grammar::ToWrite;
+use sixel_io::ToWrite;
 use sixel_program::{Input, System, code_of, execute, tell};
 use sixel_words::task_in;
 use std::env;

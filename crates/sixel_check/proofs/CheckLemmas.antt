@@ -3,7 +3,7 @@ use Rattle.std.proofs.Common.{◌≡◌, ◌≢◌, ◌++◌, ◌∙◌, ℕ, Li
 use Rattle.std.specs.Prelude.{Err, IfErr, IfSome, Ok, Result}
 use Rattle.std.specs.Io.KnownBytes.{Consumes, IsAtEnd}
 use Rattle.std.proofs.lemmas.List.{append-nil}
-use Rattle.sixel_grammar.specs.Devices.{one_more}
+use Rattle.sixel_io.specs.Devices.{one_more}
 use Rattle.sixel_grammar.specs.Reading.{ExplainsAlways, failures_after}
 use Rattle.sixel_grammar.specs.declared.fault.InputFault.{InputFault}
 use Rattle.sixel_grammar.specs.declared.fault.InputFault.TheVariants.{Grammar, OutOfMemory, Read}

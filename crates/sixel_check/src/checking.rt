@@ -19,7 +19,8 @@ ghost use Rattle.sixel_check.specs.Standing.{StandsAfter};
 
 use crate::checker::Checker;
 use crate::verdict::Verdict;
-use sixel_grammar::{Command, Completed, Event, InputFault, PIECE, Placed, Plain, Reader, Source};
+use sixel_grammar::{Command, Completed, Event, InputFault, Placed, Plain, Reader};
+use sixel_io::{PIECE, Source};
 use sixel_model::Profile;
 use sixel_plane::{BandPlane, Plane};
 use std::alloc::{AllocError, Global};
@@ -259,10 +260,11 @@ pub fn check<S: Source>(
     profile: Profile,
     input: &mut S,
 ) -> Result<Verdict, InputFault>
-    ensures answer { IfSome (S.remaining input.old) (Answers (count_of profile) result) }
-    ensures failures { S.failure_count input.new ≡ failures_after result (S.failure_count input.old) }
-    ensures unread { result ≡ Err ReadFault → IfSome (S.remaining input.old) (NoFaultBefore (S.remaining input.new)) }
-    ensures memory { IfSome (S.remaining input.old) (λ bytes. result ≡ Err InputFault.OutOfMemory
+    ensures answer { IfSome (S.state input.old).remaining (Answers (count_of profile) result) }
+    ensures failures { (S.state input.new).failures ≡ failures_after result (S.state input.old).failures }
+    ensures unread { result ≡ Err ReadFault →
+        IfSome (S.state input.old).remaining (NoFaultBefore (S.state input.new).remaining) }
+    ensures memory { IfSome (S.state input.old).remaining (λ bytes. result ≡ Err InputFault.OutOfMemory
         → MayGrowIn (count_of profile) bytes) }
 {
     let mut piece = [0u8; PIECE];

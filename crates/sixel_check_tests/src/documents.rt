@@ -2,7 +2,7 @@
 
 use crate::fixtures::{agree, bytes_of, is_said};
 use sixel_check::{check, check_bytes};
-use sixel_grammar::SliceSource;
+use sixel_io::SliceSource;
 use sixel_model::Profile;
 use std::process::Abort;
 use std::test::Fail;

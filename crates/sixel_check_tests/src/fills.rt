@@ -2,7 +2,7 @@
 
 use crate::fixtures::is_said;
 use sixel_check::check;
-use sixel_grammar::{DeviceFault, SliceSource, Source};
+use sixel_io::{DeviceFault, SliceSource, Source};
 use sixel_model::Profile;
 use std::test::Fail;
 
@@ -14,9 +14,7 @@ struct Counted<S> {
 }
 
 impl<S: Source> Source for Counted<S> {
-    ghost remaining = { λ c. S.remaining c.source };
-
-    ghost failure_count = { λ c. S.failure_count c.source };
+    ghost state = { λ c. S.state c.source };
 
     fn fill(&mut self, piece: &mut [u8]) -> Result<usize, DeviceFault> {
         self.fills = self.fills.saturating_add(1);

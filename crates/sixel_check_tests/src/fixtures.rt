@@ -1,7 +1,8 @@
 //! What the tests share: documents with `E` for ESC, answers in words, pictures left.
 
 use sixel_check::{Finding, Verdict, check_bytes};
-use sixel_grammar::{Fault, InputFault, Placed, SliceSource, read_all};
+use sixel_grammar::{Fault, InputFault, Placed, read_all};
+use sixel_io::SliceSource;
 use sixel_model::{Colour, Picture, Profile};
 use std::alloc::{AllocError, Global};
 use std::process::Abort;

@@ -5,7 +5,7 @@
 
 use crate::fixtures::{agree, bytes_of, is_said, picture_of, times};
 use sixel_check::check;
-use sixel_grammar::SliceSource;
+use sixel_io::SliceSource;
 use sixel_model::{Picture, Profile};
 use std::test::Fail;
 

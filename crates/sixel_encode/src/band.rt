@@ -2,8 +2,7 @@
 
 ghost use Rattle.std.specs.Prelude.{◌≡◌, ◌==◌, ◌+◌, ◌-◌, ◌<◌, ◌≤◌, ◌++◌, ◌∷◌, [], if◌then◌else◌, length};
 ghost use Rattle.std.specs.Prelude.{slice_index};
-ghost use Rattle.sixel_grammar.specs.Blocks.{PutsAllOrNone, TakesMore, in_all};
-ghost use Rattle.sixel_grammar.specs.Devices.{CountsFailure, NeverFlushes, Puts};
+ghost use Rattle.sixel_io.specs.Blocks.{WritesThrough};
 ghost use Rattle.sixel_grammar.specs.Spelling.{IsSpellable};
 ghost use Rattle.sixel_model.specs.Pictures.{most_side};
 ghost use Rattle.sixel_encode.specs.Canon.{band_commands, commands_text, most_bands, run_commands};
@@ -12,7 +11,8 @@ ghost use Rattle.sixel_encode.specs.Columns.{AreSixels, part, sixel_commands};
 use crate::columns::find_sixels;
 use crate::groups::band_groups;
 use crate::repeats::{find_repeat, ink_end, run_end};
-use sixel_grammar::{Block, Command, DeviceFault, Event, Sink};
+use sixel_grammar::{Command, Event, put_event};
+use sixel_io::{Block, DeviceFault, Sink};
 use sixel_model::Picture;
 
 /// The greatest width of a picture.
@@ -29,11 +29,8 @@ pub(crate) fn put_band<K: Sink>(
     out: &mut K,
 ) -> Result<(), DeviceFault>
     requires { band < most_bands }
-    ensures bytes { Puts result (in_all (K.taken out.old) text.old) (in_all (K.taken out.new) text.new)
+    ensures { WritesThrough result (K.state out.old) (K.state out.new) text.old text.new
         (commands_text (band_commands picture.now band)) }
-    ensures taken { TakesMore (K.taken out.old) (K.taken out.new) }
-    ensures unflushed { NeverFlushes (K.is_flushed out.old) (K.is_flushed out.new) }
-    ensures failures { CountsFailure result (K.failure_count out.old) (K.failure_count out.new) }
 {
     let groups = band_groups(picture, band);
     let mut room = [0; MOST_COLUMNS];
@@ -60,12 +57,9 @@ fn put_next<K: Sink>(
 ) -> Result<(), DeviceFault>
     requires sixels { AreSixels sixels.now }
     requires few { length sixels.now ≤ most_side }
-    ensures bytes { Puts result (in_all (K.taken out.old) text.old) (in_all (K.taken out.new) text.new)
+    ensures { WritesThrough result (K.state out.old) (K.state out.new) text.old text.new
         (commands_text ((if is_first then [] else Command.CarriageReturn ∷ [])
         ++ (Command.Select register ∷ sixel_commands sixels.now))) }
-    ensures taken { TakesMore (K.taken out.old) (K.taken out.new) }
-    ensures unflushed { NeverFlushes (K.is_flushed out.old) (K.is_flushed out.new) }
-    ensures failures { CountsFailure result (K.failure_count out.old) (K.failure_count out.new) }
 {
     put_between(text, is_first, Command::CarriageReturn, out)?;
     put_register(text, register, sixels, out)
@@ -79,11 +73,8 @@ pub(crate) fn put_between<K: Sink>(
     out: &mut K,
 ) -> Result<(), DeviceFault>
     requires { IsSpellable (Event.Step command) }
-    ensures bytes { PutsAllOrNone result (in_all (K.taken out.old) text.old) (in_all (K.taken out.new) text.new)
+    ensures { WritesThrough result (K.state out.old) (K.state out.new) text.old text.new
         (commands_text (if is_first then [] else command ∷ [])) }
-    ensures taken { TakesMore (K.taken out.old) (K.taken out.new) }
-    ensures unflushed { NeverFlushes (K.is_flushed out.old) (K.is_flushed out.new) }
-    ensures failures { CountsFailure result (K.failure_count out.old) (K.failure_count out.new) }
 {
     if is_first {
         Ok(())
@@ -99,13 +90,10 @@ pub(crate) fn put_command<K: Sink>(
     out: &mut K,
 ) -> Result<(), DeviceFault>
     requires { IsSpellable (Event.Step command) }
-    ensures bytes { PutsAllOrNone result (in_all (K.taken out.old) text.old) (in_all (K.taken out.new) text.new)
+    ensures { WritesThrough result (K.state out.old) (K.state out.new) text.old text.new
         (commands_text (command ∷ [])) }
-    ensures taken { TakesMore (K.taken out.old) (K.taken out.new) }
-    ensures unflushed { NeverFlushes (K.is_flushed out.old) (K.is_flushed out.new) }
-    ensures failures { CountsFailure result (K.failure_count out.old) (K.failure_count out.new) }
 {
-    text.put_event(&Event::Step(command), out)
+    put_event(text, &Event::Step(command), out)
 }
 
 /// Puts a select, and the columns of the register.
@@ -117,11 +105,8 @@ fn put_register<K: Sink>(
 ) -> Result<(), DeviceFault>
     requires sixels { AreSixels sixels.now }
     requires few { length sixels.now ≤ most_side }
-    ensures bytes { Puts result (in_all (K.taken out.old) text.old) (in_all (K.taken out.new) text.new)
+    ensures { WritesThrough result (K.state out.old) (K.state out.new) text.old text.new
         (commands_text (Command.Select register ∷ sixel_commands sixels.now)) }
-    ensures taken { TakesMore (K.taken out.old) (K.taken out.new) }
-    ensures unflushed { NeverFlushes (K.is_flushed out.old) (K.is_flushed out.new) }
-    ensures failures { CountsFailure result (K.failure_count out.old) (K.failure_count out.new) }
 {
     put_command(text, select(register), out)?;
     put_columns(text, sixels, out)
@@ -138,11 +123,8 @@ fn select(register: u8) -> Command
 fn put_columns<K: Sink>(text: &mut Text, sixels: &[u8], out: &mut K) -> Result<(), DeviceFault>
     requires sixels { AreSixels sixels.now }
     requires few { length sixels.now ≤ most_side }
-    ensures bytes { Puts result (in_all (K.taken out.old) text.old) (in_all (K.taken out.new) text.new)
+    ensures { WritesThrough result (K.state out.old) (K.state out.new) text.old text.new
         (commands_text (sixel_commands sixels.now)) }
-    ensures taken { TakesMore (K.taken out.old) (K.taken out.new) }
-    ensures unflushed { NeverFlushes (K.is_flushed out.old) (K.is_flushed out.new) }
-    ensures failures { CountsFailure result (K.failure_count out.old) (K.failure_count out.new) }
 {
     let mut from = 0;
     while let Some(start) = find_repeat(sixels, from) {
@@ -169,11 +151,8 @@ fn put_part<K: Sink>(
     requires ordered { from ≤ to }
     requires within { to ≤ length sixels.now }
     requires few { length sixels.now ≤ most_side }
-    ensures bytes { PutsAllOrNone result (in_all (K.taken out.old) text.old) (in_all (K.taken out.new) text.new)
+    ensures { WritesThrough result (K.state out.old) (K.state out.new) text.old text.new
         (part from to sixels.now) }
-    ensures taken { TakesMore (K.taken out.old) (K.taken out.new) }
-    ensures unflushed { NeverFlushes (K.is_flushed out.old) (K.is_flushed out.new) }
-    ensures failures { CountsFailure result (K.failure_count out.old) (K.failure_count out.new) }
 {
     text.put(&sixels[from..to], out)
 }
@@ -192,12 +171,9 @@ fn put_until<K: Sink>(
     requires ordered { from ≤ start }
     requires repeat { start + 4 ≤ end }
     requires within { end ≤ length sixels.now }
-    ensures bytes { Puts result (in_all (K.taken out.old) text.old) (in_all (K.taken out.new) text.new)
+    ensures { WritesThrough result (K.state out.old) (K.state out.new) text.old text.new
         (part from start sixels.now ++ commands_text
         (run_commands (record { count = end - start; item = slice_index sixels.now start - 63 }))) }
-    ensures taken { TakesMore (K.taken out.old) (K.taken out.new) }
-    ensures unflushed { NeverFlushes (K.is_flushed out.old) (K.is_flushed out.new) }
-    ensures failures { CountsFailure result (K.failure_count out.old) (K.failure_count out.new) }
 {
     put_part(text, sixels, from, start, out)?;
     put_repeat(text, (end - start) as u16, sixels[start] - b'?', out)
@@ -212,11 +188,8 @@ fn put_repeat<K: Sink>(
 ) -> Result<(), DeviceFault>
     requires count { 4 ≤ count }
     requires bits { bits ≤ 63 }
-    ensures bytes { PutsAllOrNone result (in_all (K.taken out.old) text.old) (in_all (K.taken out.new) text.new)
+    ensures { WritesThrough result (K.state out.old) (K.state out.new) text.old text.new
         (commands_text (run_commands (record { count = count; item = bits }))) }
-    ensures taken { TakesMore (K.taken out.old) (K.taken out.new) }
-    ensures unflushed { NeverFlushes (K.is_flushed out.old) (K.is_flushed out.new) }
-    ensures failures { CountsFailure result (K.failure_count out.old) (K.failure_count out.new) }
 {
     put_command(text, Command::Repeat { count, bits }, out)
 }

@@ -2,8 +2,8 @@
 
 ghost use Rattle.std.specs.Prelude.{◌≡◌, ◌++◌, ◌∷◌, [], ◌==◌, ◌<◌, OnOk, false, length, if◌then◌else◌};
 ghost use Rattle.std.specs.Option.{option_map, option_to_list};
-ghost use Rattle.sixel_grammar.specs.Blocks.{PutsAllOrNone, TakesMore, in_all};
-ghost use Rattle.sixel_grammar.specs.Devices.{CountsFailure, NeverFlushes, Puts};
+ghost use Rattle.sixel_io.specs.Blocks.{WritesThrough};
+ghost use Rattle.sixel_io.specs.Devices.{Writes};
 ghost use Rattle.sixel_model.specs.Colours.{palette_at};
 ghost use Rattle.sixel_encode.specs.Canon.{band_commands, canon_commands, canon_start, canon_text, commands_text};
 ghost use Rattle.sixel_encode.specs.Canon.{define_command, define_commands, opening_commands, picture_commands};
@@ -11,7 +11,8 @@ ghost use Rattle.sixel_encode.specs.Canon.{most_bands};
 
 use crate::band::{Text, put_band, put_between, put_command};
 use arrayvec::ArrayVec;
-use sixel_grammar::{Command, DeviceFault, Event, Sink};
+use sixel_grammar::{Command, Event, put_event};
+use sixel_io::{DeviceFault, Sink};
 use sixel_model::{BAND_ROWS, Palette, Parts, Picture};
 
 /// Why a picture was not written to its end.
@@ -27,19 +28,15 @@ pub enum EncodeFault {
 /// The text declares the size and the colours, and then paints each band of six rows register by register, in
 /// increasing order. Each pixel is painted once, in the register that it has.
 pub fn encode<K: Sink>(picture: &Picture, out: &mut K) -> Result<(), EncodeFault>
-    ensures bytes { Puts result (K.taken out.old) (K.taken out.new) (canon_text picture.now) }
-    ensures failures { CountsFailure result (K.failure_count out.old) (K.failure_count out.new) }
-    ensures unflushed { NeverFlushes (K.is_flushed out.old) (K.is_flushed out.new) }
-    ensures held { OnOk result (K.is_flushed out.new ≡ false) }
+    ensures written { Writes result (K.state out.old) (K.state out.new) (canon_text picture.now) }
+    ensures held { OnOk result ((K.state out.new).is_flushed ≡ false) }
 {
     write_picture(picture, out).map_err(|_| EncodeFault::Write)
 }
 
 fn write_picture<K: Sink>(picture: &Picture, out: &mut K) -> Result<(), DeviceFault>
-    ensures bytes { Puts result (K.taken out.old) (K.taken out.new) (canon_text picture.now) }
-    ensures failures { CountsFailure result (K.failure_count out.old) (K.failure_count out.new) }
-    ensures unflushed { NeverFlushes (K.is_flushed out.old) (K.is_flushed out.new) }
-    ensures held { OnOk result (K.is_flushed out.new ≡ false) }
+    ensures written { Writes result (K.state out.old) (K.state out.new) (canon_text picture.now) }
+    ensures held { OnOk result ((K.state out.new).is_flushed ≡ false) }
 {
     let mut text = Text::new();
     put_text(&mut text, picture, out)?;
@@ -47,24 +44,18 @@ fn write_picture<K: Sink>(picture: &Picture, out: &mut K) -> Result<(), DeviceFa
 }
 
 fn put_text<K: Sink>(text: &mut Text, picture: &Picture, out: &mut K) -> Result<(), DeviceFault>
-    ensures bytes { Puts result (in_all (K.taken out.old) text.old) (in_all (K.taken out.new) text.new)
+    ensures put { WritesThrough result (K.state out.old) (K.state out.new) text.old text.new
         (canon_text picture.now) }
     ensures waits { OnOk result (0 < length text.new) }
-    ensures taken { TakesMore (K.taken out.old) (K.taken out.new) }
-    ensures unflushed { NeverFlushes (K.is_flushed out.old) (K.is_flushed out.new) }
-    ensures failures { CountsFailure result (K.failure_count out.old) (K.failure_count out.new) }
 {
-    text.put_event(&start(), out)?;
+    put_event(text, &start(), out)?;
     put_commands(text, picture, out)?;
-    text.put_event(&Event::Finish { eight: false }, out)
+    put_event(text, &Event::Finish { eight: false }, out)
 }
 
 fn put_commands<K: Sink>(text: &mut Text, picture: &Picture, out: &mut K) -> Result<(), DeviceFault>
-    ensures bytes { Puts result (in_all (K.taken out.old) text.old) (in_all (K.taken out.new) text.new)
+    ensures { WritesThrough result (K.state out.old) (K.state out.new) text.old text.new
         (commands_text (canon_commands picture.now)) }
-    ensures taken { TakesMore (K.taken out.old) (K.taken out.new) }
-    ensures unflushed { NeverFlushes (K.is_flushed out.old) (K.is_flushed out.new) }
-    ensures failures { CountsFailure result (K.failure_count out.old) (K.failure_count out.new) }
 {
     put_opening(text, picture, out)?;
     put_bands(text, picture, out)
@@ -72,11 +63,8 @@ fn put_commands<K: Sink>(text: &mut Text, picture: &Picture, out: &mut K) -> Res
 
 /// Puts the raster attributes and the definitions.
 fn put_opening<K: Sink>(text: &mut Text, picture: &Picture, out: &mut K) -> Result<(), DeviceFault>
-    ensures bytes { Puts result (in_all (K.taken out.old) text.old) (in_all (K.taken out.new) text.new)
+    ensures { WritesThrough result (K.state out.old) (K.state out.new) text.old text.new
         (commands_text (opening_commands picture.now)) }
-    ensures taken { TakesMore (K.taken out.old) (K.taken out.new) }
-    ensures unflushed { NeverFlushes (K.is_flushed out.old) (K.is_flushed out.new) }
-    ensures failures { CountsFailure result (K.failure_count out.old) (K.failure_count out.new) }
 {
     put_command(text, raster(picture), out)?;
     put_definitions(text, picture, out)
@@ -111,11 +99,8 @@ fn put_definitions<K: Sink>(
     picture: &Picture,
     out: &mut K,
 ) -> Result<(), DeviceFault>
-    ensures bytes { Puts result (in_all (K.taken out.old) text.old) (in_all (K.taken out.new) text.new)
+    ensures { WritesThrough result (K.state out.old) (K.state out.new) text.old text.new
         (commands_text (define_commands picture.now.palette)) }
-    ensures taken { TakesMore (K.taken out.old) (K.taken out.new) }
-    ensures unflushed { NeverFlushes (K.is_flushed out.old) (K.is_flushed out.new) }
-    ensures failures { CountsFailure result (K.failure_count out.old) (K.failure_count out.new) }
 {
     let palette = picture.palette();
     for register in 0..palette.profile().count() {
@@ -130,11 +115,8 @@ fn put_definition<K: Sink>(
     register: u8,
     out: &mut K,
 ) -> Result<(), DeviceFault>
-    ensures bytes { PutsAllOrNone result (in_all (K.taken out.old) text.old) (in_all (K.taken out.new) text.new)
+    ensures { WritesThrough result (K.state out.old) (K.state out.new) text.old text.new
         (commands_text (option_to_list (option_map (define_command register) (palette_at palette.now register)))) }
-    ensures taken { TakesMore (K.taken out.old) (K.taken out.new) }
-    ensures unflushed { NeverFlushes (K.is_flushed out.old) (K.is_flushed out.new) }
-    ensures failures { CountsFailure result (K.failure_count out.old) (K.failure_count out.new) }
 {
     match palette.get(register) {
         Some(colour) => put_command(text, define(register, colour.parts()), out),
@@ -166,11 +148,8 @@ fn define(register: u8, parts: Parts) -> Command
 
 /// Puts the bands of a picture, and a next line between two.
 fn put_bands<K: Sink>(text: &mut Text, picture: &Picture, out: &mut K) -> Result<(), DeviceFault>
-    ensures bytes { Puts result (in_all (K.taken out.old) text.old) (in_all (K.taken out.new) text.new)
+    ensures { WritesThrough result (K.state out.old) (K.state out.new) text.old text.new
         (commands_text (picture_commands picture.now)) }
-    ensures taken { TakesMore (K.taken out.old) (K.taken out.new) }
-    ensures unflushed { NeverFlushes (K.is_flushed out.old) (K.is_flushed out.new) }
-    ensures failures { CountsFailure result (K.failure_count out.old) (K.failure_count out.new) }
 {
     for band in 0..picture.height().div_ceil(BAND_ROWS) {
         put_next_band(text, picture, band, out)?;
@@ -186,11 +165,8 @@ fn put_next_band<K: Sink>(
     out: &mut K,
 ) -> Result<(), DeviceFault>
     requires { band < most_bands }
-    ensures bytes { Puts result (in_all (K.taken out.old) text.old) (in_all (K.taken out.new) text.new)
+    ensures { WritesThrough result (K.state out.old) (K.state out.new) text.old text.new
         (commands_text ((if band == 0 then [] else Command.NextLine ∷ []) ++ band_commands picture.now band)) }
-    ensures taken { TakesMore (K.taken out.old) (K.taken out.new) }
-    ensures unflushed { NeverFlushes (K.is_flushed out.old) (K.is_flushed out.new) }
-    ensures failures { CountsFailure result (K.failure_count out.old) (K.failure_count out.new) }
 {
     put_between(text, band == 0, Command::NextLine, out)?;
     put_band(text, picture, band, out)

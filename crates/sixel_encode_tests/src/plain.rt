@@ -2,7 +2,7 @@
 
 use crate::fixtures::{all_entries, picture_of};
 use sixel_encode::encode;
-use sixel_grammar::SliceSink;
+use sixel_io::SliceSink;
 use sixel_model::{Picture, Profile};
 use std::alloc::{AllocError, Global};
 use std::test::Fail;

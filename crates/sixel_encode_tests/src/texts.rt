@@ -2,7 +2,7 @@
 
 use crate::fixtures::{Entry, all_entries, picture_of};
 use sixel_encode::{EncodeFault, encode};
-use sixel_grammar::SliceSink;
+use sixel_io::SliceSink;
 use sixel_model::{Parts, Picture, Profile};
 use std::alloc::{AllocError, Global};
 use std::test::Fail;

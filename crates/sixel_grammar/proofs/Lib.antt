@@ -1,6 +1,4 @@
 pub mod SpelledLemmas
-pub mod DeviceLemmas
-pub mod SinkLemmas
 pub mod PieceLemmas
 pub mod NumberLemmas
 pub mod AdvanceLemmas

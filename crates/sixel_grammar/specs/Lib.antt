@@ -1,12 +1,12 @@
+pub use Rattle.sixel_io.specs.Devices
+pub use Rattle.sixel_io.specs.Blocks
+pub use Rattle.sixel_io.specs.SliceDevices
 pub mod Bytes
 pub mod Number
 pub mod Spelling
 pub mod Document
 pub mod Fronts
 pub mod Faults
-pub mod Devices
-pub mod Blocks
-pub mod SliceDevices
 pub mod Standing
 pub mod Stretches
 pub mod Plain

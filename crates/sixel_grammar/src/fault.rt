@@ -1,6 +1,6 @@
 //! Why bytes are no document.
 
-use crate::device::DeviceFault;
+use sixel_io::DeviceFault;
 use std::alloc::AllocError;
 
 /// What is wrong at the first byte with which no document goes on.

@@ -10,17 +10,18 @@ ghost use Rattle.sixel_grammar.specs.declared.fault.InputFault.TheVariants.{Read
 ghost use Rattle.sixel_grammar.specs.Standing.{StandsAfter, completions};
 
 use crate::command::{Completed, Placed};
-use crate::device::{PIECE, Source};
 use crate::fault::InputFault;
 use crate::reader::Reader;
+use sixel_io::{PIECE, Source};
 use std::alloc::{AllocError, Global};
 
 /// The events of the whole document that the source gives, each with its place.
 pub fn read_all<S: Source>(alloc: Global, input: &mut S) -> Result<Vec<Placed>, InputFault>
-    ensures document { IfOk result (λ v. IfSome (S.remaining input.old) (Document v.items)) }
-    ensures refused { IfErr result (λ fault. IfSome (S.remaining input.old) (Explains fault)) }
-    ensures unread { result ≡ Err ReadFault → IfSome (S.remaining input.old) (NoFaultBefore (S.remaining input.new)) }
-    ensures failures { S.failure_count input.new ≡ failures_after result (S.failure_count input.old) }
+    ensures document { IfOk result (λ v. IfSome (S.state input.old).remaining (Document v.items)) }
+    ensures refused { IfErr result (λ fault. IfSome (S.state input.old).remaining (Explains fault)) }
+    ensures unread { result ≡ Err ReadFault →
+        IfSome (S.state input.old).remaining (NoFaultBefore (S.state input.new).remaining) }
+    ensures failures { (S.state input.new).failures ≡ failures_after result (S.state input.old).failures }
 {
     let mut events = Vec::new(alloc);
     let mut reader = Reader::new();

@@ -1,46 +1,40 @@
 //! Writes events in their fixed spelling: decimal numbers without leading zeros, every field given.
 
-ghost use Rattle.std.specs.Prelude.{◌≡◌, ◌<◌, ◌≤◌, ◌+◌, length, decimal, false, OnOk, is_ok, List, [], ◌∷◌, ◌++◌};
-ghost use Rattle.std.specs.Prelude.{if◌then◌else◌};
-ghost use Rattle.sixel_grammar.specs.Blocks.{PutsAllOrNone, TakesFront, in_all};
+ghost use Rattle.std.specs.Prelude.{◌≡◌, ◌<◌, ◌≤◌, ◌+◌, length, decimal, false, OnOk, List, [], ◌∷◌, ◌++◌};
+ghost use Rattle.sixel_io.specs.Blocks.{PutsWhole};
 ghost use Rattle.sixel_grammar.specs.Bytes.{introducer, terminator};
-ghost use Rattle.sixel_grammar.specs.Devices.{CountsFailure, NeverFlushes, Puts};
+ghost use Rattle.sixel_io.specs.Devices.{Writes};
 ghost use Rattle.sixel_grammar.specs.Spelling.{IsSpellable, fixed_fields, fixed_command, fixed_spelling};
 
-use crate::block::Block;
 use crate::command::{Command, Event};
-use crate::device::{DeviceFault, Sink, put_all};
 use arrayvec::ArrayVec;
 use itoa::Buffer;
+use sixel_io::{Block, DeviceFault, Sink, put_all};
 
 /// Hands the sink the fixed spelling of an event, or on an `Err` a front of it; it doesn't flush.
 pub fn write_event<K: Sink>(event: &Event, out: &mut K) -> Result<(), DeviceFault>
     requires { IsSpellable event.now }
-    ensures bytes { Puts result (K.taken out.old) (K.taken out.new) (fixed_spelling event.now) }
-    ensures failures { CountsFailure result (K.failure_count out.old) (K.failure_count out.new) }
-    ensures unflushed { NeverFlushes (K.is_flushed out.old) (K.is_flushed out.new) }
-    ensures held { OnOk result (K.is_flushed out.new ≡ false) }
+    ensures written { Writes result (K.state out.old) (K.state out.new) (fixed_spelling event.now) }
+    ensures held { OnOk result ((K.state out.new).is_flushed ≡ false) }
 {
     let text = spelled(event);
     put_all(out, text.as_slice())
 }
 
-impl<const ROOM: usize> Block<ROOM> {
-    /// Takes the fixed spelling of an event, or where the sink fails none of it. No spelling is longer than 30 bytes.
-    #[inline]
-    pub fn put_event<K: Sink>(&mut self, event: &Event, out: &mut K) -> Result<(), DeviceFault>
-        requires spellable { IsSpellable event.now }
-        requires room { 30 ≤ ROOM }
-        ensures front { let more = (if is_ok result then fixed_spelling event.now else []) in
-            TakesFront (K.taken out.old) (K.taken out.new) self.old self.new more }
-        ensures bytes { let old = in_all (K.taken out.old) self.old in let new = in_all (K.taken out.new) self.new in
-            PutsAllOrNone result old new (fixed_spelling event.now) }
-        ensures failures { CountsFailure result (K.failure_count out.old) (K.failure_count out.new) }
-        ensures unflushed { NeverFlushes (K.is_flushed out.old) (K.is_flushed out.new) }
-    {
-        let text = spelled(event);
-        self.put(text.as_slice(), out)
-    }
+/// Puts the fixed spelling of an event into a block, or where the sink fails none of it. No spelling is longer than 30
+/// bytes.
+#[inline]
+pub fn put_event<const ROOM: usize, K: Sink>(
+    text: &mut Block<ROOM>,
+    event: &Event,
+    out: &mut K,
+) -> Result<(), DeviceFault>
+    requires spellable { IsSpellable event.now }
+    requires room { 30 ≤ ROOM }
+    ensures { PutsWhole result (K.state out.old) (K.state out.new) text.old text.new (fixed_spelling event.now) }
+{
+    let spelling = spelled(event);
+    text.put(spelling.as_slice(), out)
 }
 
 /// The fixed spelling. The longest is that of a definition: `#`, five numbers of five digits, four separators.

@@ -2,9 +2,8 @@
 
 use crate::words::{PICTURE, PICTURE_IN_WORDS, answer_in_words};
 use arrayvec::ArrayVec;
-use sixel_grammar::{
-    Block, DeviceFault, FromRead, Sink, SliceSink, Source, ToWrite, put_all, read_all,
-};
+use sixel_grammar::read_all;
+use sixel_io::{Block, DeviceFault, FromRead, Sink, SliceSink, Source, ToWrite, put_all};
 use std::io;
 use std::io::{Error, ErrorKind, Read, Write};
 use std::test::Fail;

@@ -3,9 +3,9 @@
 use crate::words::{PICTURE, PICTURE_IN_WORDS, all_in_words, answer_in_words, in_words};
 use arrayvec::ArrayVec;
 use sixel_grammar::{
-    Command, Completed, Event, Fault, InputFault, Placed, Plain, Reader, Reason, SliceSource,
-    read_all,
+    Command, Completed, Event, Fault, InputFault, Placed, Plain, Reader, Reason, read_all,
 };
+use sixel_io::SliceSource;
 use std::process::Abort;
 use std::test::Fail;
 

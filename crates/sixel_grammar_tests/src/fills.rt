@@ -1,7 +1,8 @@
 //! How often `read_all` fills from its source.
 
 use crate::words::{PICTURE, PICTURE_IN_WORDS, answer_in_words};
-use sixel_grammar::{DeviceFault, SliceSource, Source, read_all};
+use sixel_grammar::read_all;
+use sixel_io::{DeviceFault, SliceSource, Source};
 use std::test::Fail;
 
 /// A source, and how often it was filled from.
@@ -12,9 +13,7 @@ struct Counted<S> {
 }
 
 impl<S: Source> Source for Counted<S> {
-    ghost remaining = { λ c. S.remaining c.source };
-
-    ghost failure_count = { λ c. S.failure_count c.source };
+    ghost state = { λ c. S.state c.source };
 
     fn fill(&mut self, piece: &mut [u8]) -> Result<usize, DeviceFault> {
         self.fills = self.fills.saturating_add(1);

@@ -1,7 +1,8 @@
 //! The fixed spelling, and what can be spelled.
 
 use arrayvec::ArrayVec;
-use sixel_grammar::{Command, Event, Sink, SliceSink, put_all, write_event};
+use sixel_grammar::{Command, Event, write_event};
+use sixel_io::{Sink, SliceSink, put_all};
 
 fn start(eight: bool, numbers: &[u16]) -> Event {
     let mut parameters = ArrayVec::new();

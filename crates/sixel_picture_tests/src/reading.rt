@@ -3,7 +3,7 @@
 ghost use Rattle.std.specs.Prelude.{◌<◌, None};
 
 use crate::pictures::{parts_of, register_of};
-use sixel_grammar::{DeviceFault, SliceSource, Source};
+use sixel_io::{DeviceFault, SliceSource, Source};
 use sixel_model::{Parts, Picture, Profile};
 use sixel_ppm::{PpmFault, PpmReason, read_ppm};
 use std::alloc::{AllocError, Global};
@@ -322,9 +322,7 @@ struct BrokenSource {
 }
 
 impl Source for BrokenSource {
-    ghost remaining = { λ s. None };
-
-    ghost failure_count = { λ s. s.calls };
+    ghost state = { λ s. record { remaining = None; failures = s.calls } };
 
     fn fill(&mut self, _piece: &mut [u8]) -> Result<usize, DeviceFault> {
         self.calls = self.calls.saturating_add(1);

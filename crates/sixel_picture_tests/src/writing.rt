@@ -3,7 +3,7 @@
 ghost use Rattle.std.specs.Prelude.{None};
 
 use crate::pictures::{picture_of, red_and_blue, set};
-use sixel_grammar::{DeviceFault, Sink, SliceSink};
+use sixel_io::{DeviceFault, Sink, SliceSink};
 use sixel_model::{Colour, Palette, Picture, Profile};
 use sixel_ppm::{PpmFault, write_ppm, write_ppm_colours};
 use std::alloc::{AllocError, Global};
@@ -132,11 +132,7 @@ struct CountingSink {
 }
 
 impl Sink for CountingSink {
-    ghost taken = { λ s. None };
-
-    ghost failure_count = { λ s. 0 };
-
-    ghost is_flushed = { λ s. s.is_flushed };
+    ghost state = { λ s. record { taken = None; failures = 0; is_flushed = s.is_flushed } };
 
     fn take(&mut self, piece: &[u8]) -> Result<usize, DeviceFault> {
         self.takes = self.takes.saturating_add(1);

@@ -1,11 +1,10 @@
 -- On the samples of pixels by a table of their registers.
-use Rattle.std.proofs.Common.{subst, ◌≡◌, ℕ, ◌+◌, ◌*◌, ◌<◌, ◌≤◌, Bool, true, ◌&&◌, nat_lt, Option, Some, None, List, []}
+use Rattle.std.proofs.Common.{◌≡◌, ℕ, ◌+◌, ◌*◌, ◌<◌, ◌≤◌, Bool, true, ◌&&◌, nat_lt, Option, Some, None, List, []}
 use Rattle.std.proofs.Common.{◌∷◌, ◌++◌, length, drop, take, get_or, is_some, refl, sym, ap, ap₂, ◌∙◌, arith}
 use Rattle.std.proofs.Common.{append-nil, inl, inr}
 use Rattle.std.specs.Prelude.{◌==◌, slice_set}
 use Rattle.std.specs.Option.{option_flatten, option_map_or}
 use Rattle.std.specs.List.{cons_option, filter_map, flat_map, list_all}
-use Rattle.std.specs.Io.KnownBytes.{Appends}
 use Rattle.std.proofs.Math.Seq.{take-append-add}
 use Rattle.std.proofs.lemmas.Bool.{and_parts, cases_eq, cases_lt, eqb-true}
 use Rattle.std.proofs.lemmas.Grind.{flat_map-append, get_or-set_at}
@@ -97,11 +96,10 @@ group_of f joins rest group more whole done head piece cut was is =
     ∙ sym (append_assoc done piece (f more))
 
 -- nothing is left after the last group
-pub last_put : {X : Type 0} (f : List X → List ℕ) → f [] ≡ [] → (more : List X) (whole put : List ℕ)
-    (a b : Option (List ℕ)) → (length more == 0) ≡ true → whole ≡ put ++ f more → Appends a b put → Appends a b whole
-last_put f none [] whole put a b e is appended =
-    subst (λ (t : List ℕ). Appends a b t) (sym (is ∙ ap (λ (t : List ℕ). put ++ t) none ∙ append-nil put)) appended
-last_put f none (x ∷ more) whole put a b e is appended = absurd (omega (arith, eqb-true (length (x ∷ more)) 0 e))
+pub all_put : {X : Type 0} (f : List X → List ℕ) → f [] ≡ [] → (more : List X) (whole put : List ℕ)
+    → (length more == 0) ≡ true → whole ≡ put ++ f more → put ≡ whole
+all_put f none [] whole put e is = sym (is ∙ ap (λ (t : List ℕ). put ++ t) none ∙ append-nil put)
+all_put f none (x ∷ more) whole put e is = absurd (omega (arith, eqb-true (length (x ∷ more)) 0 e))
 
 pub copied_front : (header copied tail : List ℕ) → copied ≡ header → take (length header) (copied ++ tail) ≡ header
 copied_front header copied tail is =

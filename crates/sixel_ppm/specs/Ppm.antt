@@ -1,9 +1,8 @@
 -- The text of a picture file, and what writing it does to a sink.
-use Rattle.std.specs.Prelude.{ℕ, ◌≡◌, ◌&&◌, Bool, true, false, IsTrue, IsFalse, Option, Result, Ok, Err, List, [], ◌∷◌}
-use Rattle.std.specs.Prelude.{◌++◌, codes, decimal, nat_le, take}
-use Rattle.std.specs.Io.KnownBytes.{Appends, Keeps}
+use Rattle.std.specs.Prelude.{ℕ, ◌≡◌, ◌&&◌, Bool, true, false, IsTrue, IsFalse, Result, Ok, Err, List, [], ◌∷◌}
+use Rattle.std.specs.Prelude.{◌++◌, codes, decimal, nat_le}
 use Rattle.std.specs.List.{filter_map, flat_map, list_all}
-use Rattle.sixel_grammar.specs.Devices.{one_more}
+use Rattle.sixel_io.specs.Devices.{SinkState, Writes}
 use Rattle.sixel_model.specs.Colours.{palette_at}
 use Rattle.sixel_model.specs.Pictures.{PictureValue}
 use Rattle.sixel_model.specs.declared.colour.Parts.{Parts}
@@ -43,25 +42,14 @@ most_file_side = 4096
 abbrev pub is_file_side : ℕ → Bool
 is_file_side n = nat_le 1 n && nat_le n most_file_side
 
--- all colours are red, green and blue, and the text was appended; or they are, and a front of it was
--- appended; or one isn't, and nothing was appended. Writing answers no other fault
-abbrev pub WritesPpm : {A : Type 0} → Result A PpmFault → Option (List ℕ) → Option (List ℕ)
-    → ℕ → ℕ → List Parts → Type 0
-WritesPpm (Ok _) old new width height colours =
-    IsTrue (are_rgb colours) × Appends old new (ppm_text width height colours)
-WritesPpm (Err Write) old new width height colours =
-    IsTrue (are_rgb colours) × (n : ℕ) × Appends old new (take n (ppm_text width height colours))
-WritesPpm (Err NotRgb) old new width height colours =
-    IsFalse (are_rgb colours) × Keeps old new
+-- all colours are red, green and blue, and the text was written, or on `Write` a front of it; or one isn't, and nothing
+-- was done. Writing answers no other fault
+abbrev pub WritesPpm : {A : Type 0} → Result A PpmFault → SinkState → SinkState → ℕ → ℕ → List Parts → Type 0
+WritesPpm {A = A} (Ok x) old new width height colours =
+    IsTrue (are_rgb colours) × Writes {A = A} {E = PpmFault} (Ok x) old new (ppm_text width height colours)
+WritesPpm {A = A} (Err Write) old new width height colours =
+    IsTrue (are_rgb colours) × Writes {A = A} {E = PpmFault} (Err Write) old new (ppm_text width height colours)
+WritesPpm (Err NotRgb) old new width height colours = IsFalse (are_rgb colours) × (new ≡ old)
 WritesPpm (Err (Format reason place)) old new width height colours = ⊥
 WritesPpm (Err OutOfMemory) old new width height colours = ⊥
 WritesPpm (Err Read) old new width height colours = ⊥
-
--- a call counts as a failure of the sink exactly where it answers `Write`
-abbrev pub CountsWriteFault : {A : Type 0} → Result A PpmFault → ℕ → ℕ → Type 0
-CountsWriteFault (Ok _) old new = new ≡ old
-CountsWriteFault (Err Write) old new = new ≡ one_more old
-CountsWriteFault (Err NotRgb) old new = new ≡ old
-CountsWriteFault (Err (Format reason place)) old new = ⊥
-CountsWriteFault (Err OutOfMemory) old new = ⊥
-CountsWriteFault (Err Read) old new = ⊥

@@ -8,7 +8,7 @@ use Rattle.std.specs.Prelude.{nat_lt, if◌then◌else◌, List, [], ◌∷◌, 
 use Rattle.std.specs.Prelude.{unwrap_or, Result, Ok, Err, IsOk}
 use Rattle.std.specs.List.{list_any, position_from}
 use Rattle.sixel_grammar.specs.Bytes.{is_digit}
-use Rattle.sixel_grammar.specs.Devices.{one_more}
+use Rattle.sixel_io.specs.Devices.{one_more}
 use Rattle.sixel_model.specs.Colours.{is_same}
 use Rattle.sixel_model.specs.Pictures.{PictureValue, picture_of_parts, most_side}
 use Rattle.sixel_model.specs.declared.colour.Parts.{Parts}

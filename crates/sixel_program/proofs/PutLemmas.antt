@@ -3,15 +3,15 @@ use Rattle.std.proofs.Common.{◌≡◌, ◌∙◌, ℕ, List, ◌++◌, Option,
 use Rattle.std.proofs.Math.Seq.{take-length}
 use Rattle.std.specs.Prelude.{Result, Ok, Err}
 use Rattle.std.specs.Io.KnownBytes.{Appends, Keeps}
-use Rattle.sixel_grammar.specs.Devices.{CountsFailure, Puts}
+use Rattle.sixel_io.specs.Devices.{Puts, SinkState, Writes, change}
 use Rattle.sixel_program.specs.Exits.{IsPut}
 use Rattle.sixel_run.specs.Texts.{Text}
 
--- what a call of `put_all` states, as what is said of a run
-pub is_put : {A E : Type 0} (r : Result A E) (text : Text) (taken : Option (List ℕ) × Option (List ℕ))
-    (failures : ℕ × ℕ) → Puts r taken.0 taken.1 text → CountsFailure r failures.0 failures.1 → IsPut text taken failures
-is_put (Ok x) text taken failures put counts = inl (put, counts)
-is_put (Err x) text taken failures put counts = inr (put.0, put.1, counts)
+-- what a call that writes a text states, as what is said of a run
+pub is_put : {A E : Type 0} (r : Result A E) (text : Text) (old new : SinkState) → Writes r old new text
+    → IsPut text (change old new)
+is_put (Ok x) text old new w = inl (w.taken, w.failures)
+is_put (Err x) text old new w = inr (w.taken.0, w.taken.1, w.failures)
 
 -- a text that was put stays put at a flush
 pub stays_put : {A E : Type 0} (r : Result A E) (had mid has : Option (List ℕ)) (text : Text) → Appends had mid text

@@ -1,14 +1,14 @@
 -- The exit statuses of several files, and the line of each.
 use Rattle.std.proofs.Common.{ap, ap₂, append_assoc, Result, Err, ◌++◌}
 use Rattle.std.proofs.Common.{◌≡◌, ◌≤◌, ◌∷◌, ℕ, Bool, true, false, List, [], Some, arith, refl, sym, fold, length, map}
-use Rattle.std.proofs.Common.{slice_index_or, subst, suc, zero, inl, inr, ◌<◌, ◌+◌, ◌-◌, ◌^◌, ◌∙◌, Option}
+use Rattle.std.proofs.Common.{slice_index_or, subst, suc, zero, inl, inr, ◌<◌, ◌+◌, ◌-◌, ◌^◌, ◌∙◌}
 use Rattle.std.specs.Prelude.{◌⊎◌, All, Contains, Ok, nat_lt, if◌then◌else◌}
 use Rattle.std.specs.List.{concat}
 use Rattle.std.proofs.lemmas.List.{append-nil}
 use Rattle.std.proofs.lemmas.Bool.{cases_lt, ltb-false, ltb-true}
-use Rattle.sixel_grammar.specs.Devices.{one_more}
-use Rattle.sixel_grammar.proofs.SinkLemmas.{Appends-none}
-use Rattle.sixel_grammar.proofs.DeviceLemmas.{Appends-then}
+use Rattle.sixel_io.specs.Devices.{Change, SinkState, change, one_more}
+use Rattle.sixel_io.proofs.SinkLemmas.{Appends-none}
+use Rattle.sixel_io.proofs.DeviceLemmas.{Appends-then}
 use Rattle.std.proofs.lemmas.List.Elements.{All-cons, All-nil}
 use Rattle.sixel_model.specs.declared.profile.Profile.{Profile}
 use Rattle.sixel_program.specs.declared.exit.Exit.{Exit}
@@ -19,7 +19,7 @@ use Rattle.sixel_run.specs.declared.fault.RunFault.TheVariants as run
 use Rattle.sixel_run.specs.declared.task.Status.{Status}
 use Rattle.sixel_run.specs.declared.task.Task.TheVariants.{Check}
 use Rattle.sixel_program.specs.Exits.{IsPut, exit_code}
-use Rattle.sixel_program.specs.Files.{ArePut, FileEnd, HasFailed, IsFileEnd, IsSaid, exit_of_end, file_text, files_exit}
+use Rattle.sixel_program.specs.Files.{ArePut, FileEnd, IsFileEnd, IsSaid, exit_of_end, file_text, files_exit}
 use Rattle.sixel_program.specs.Files.{files_text, worse}
 use Rattle.sixel_run.specs.Outputs.{Gives, Wrote}
 use Rattle.sixel_run.specs.Texts.{Text}
@@ -96,43 +96,44 @@ reached e more =
 -- ---- what is said of all
 
 -- a count of failures that rose, or stands at its end
-one_more_failed : (a : ℕ) → HasFailed (a, one_more a)
+abbrev HasRisen : ℕ → ℕ → Type 0
+HasRisen a b = (a < b) ⊎ (b ≡ 2 ^ 64 - 1)
+
+one_more_failed : (a : ℕ) → HasRisen a (one_more a)
 one_more_failed a = elim (cases_lt (a + 1) (2 ^ 64 - 1)) [
   | inl below ↦ inl (omega arith)
   | inr past ↦ inr (omega arith)
 ]
 
-failed_more : (a b : ℕ) → HasFailed (a, b) → HasFailed (a, one_more b)
+failed_more : (a b : ℕ) → HasRisen a b → HasRisen a (one_more b)
 failed_more a b (inl rose) = elim (cases_lt (b + 1) (2 ^ 64 - 1)) [
   | inl below ↦ inl (omega (arith, rose))
   | inr past ↦ inr (omega arith)
 ]
 failed_more a b (inr end) = inr (omega (arith, end))
 
-said_more : (first more : Text) (e₀ e₁ e₂ : Option (List ℕ)) (c₀ c₁ c₂ : ℕ) → IsSaid first (e₀, e₁) (c₀, c₁)
-    → IsPut more (e₁, e₂) (c₁, c₂) → IsSaid (first ++ more) (e₀, e₂) (c₀, c₂)
-said_more first more e₀ e₁ e₂ c₀ c₁ c₂ (inl said) (inl put) =
-    inl (Appends-then e₀ e₁ e₂ first more (first ++ more) said.0 put.0 refl, put.1 ∙ said.1)
-said_more first more e₀ e₁ e₂ c₀ c₁ c₂ (inl said) (inr cut) =
-    inr (subst (λ (n : ℕ). HasFailed (c₀, n)) (ap one_more (sym said.1) ∙ sym cut.2) (one_more_failed c₀))
-said_more first more e₀ e₁ e₂ c₀ c₁ c₂ (inr failed) (inl put) =
-    inr (subst (λ (n : ℕ). HasFailed (c₀, n)) (sym put.1) failed)
-said_more first more e₀ e₁ e₂ c₀ c₁ c₂ (inr failed) (inr cut) =
-    inr (subst (λ (n : ℕ). HasFailed (c₀, n)) (sym cut.2) (failed_more c₀ c₁ failed))
+said_more : (first more : Text) (a b c : SinkState) → IsSaid first (change a b) → IsPut more (change b c)
+    → IsSaid (first ++ more) (change a c)
+said_more first more a b c (inl said) (inl put) =
+    inl (Appends-then a.taken b.taken c.taken first more (first ++ more) said.0 put.0 refl, put.1 ∙ said.1)
+said_more first more a b c (inl said) (inr cut) =
+    inr (subst (λ (n : ℕ). HasRisen a.failures n) (ap one_more (sym said.1) ∙ sym cut.2) (one_more_failed a.failures))
+said_more first more a b c (inr failed) (inl put) =
+    inr (subst (λ (n : ℕ). HasRisen a.failures n) (sym put.1) failed)
+said_more first more a b c (inr failed) (inr cut) =
+    inr (subst (λ (n : ℕ). HasRisen a.failures n) (sym cut.2) (failed_more a.failures b.failures failed))
 
-said_on : (first : Text) (texts : List Text) (e₀ e₁ e₂ : Option (List ℕ)) (c₀ c₁ c₂ : ℕ)
-    → IsSaid first (e₀, e₁) (c₀, c₁) → ArePut texts (e₁, e₂) (c₁, c₂) → IsSaid (first ++ concat texts) (e₀, e₂) (c₀, c₂)
+said_on : (first : Text) (texts : List Text) (a b c : SinkState) → IsSaid first (change a b) → ArePut texts (change b c)
+    → IsSaid (first ++ concat texts) (change a c)
 unfolding ArePut
-said_on first [] e₀ e₁ e₂ c₀ c₁ c₂ said none = rw (append-nil first, none.0, none.1) said
-said_on first (text ∷ rest) e₀ e₁ e₂ c₀ c₁ c₂ said are =
-    subst (λ (t : Text). IsSaid t (e₀, e₂) (c₀, c₂)) (append_assoc first text (concat rest))
-    (said_on (first ++ text) rest e₀ are.0 e₂ c₀ are.1 c₂
-    (said_more first text e₀ e₁ are.0 c₀ c₁ are.1 said are.2) are.3)
+said_on first [] a b c said none = rw (append-nil first, none) said
+said_on first (text ∷ rest) a b c said are =
+    subst (λ (t : Text). IsSaid t (change a c)) (append_assoc first text (concat rest))
+    (said_on (first ++ text) rest a are.0 c (said_more first text a b are.0 said are.1) are.2)
 
-pub said_whole : (texts : List Text) (taken : Option (List ℕ) × Option (List ℕ)) (failures : ℕ × ℕ)
-    → ArePut texts taken failures → IsSaid (concat texts) taken failures
-said_whole texts taken failures are =
-    said_on [] texts taken.0 taken.0 taken.1 failures.0 failures.0 failures.1 (inl (Appends-none taken.0, refl)) are
+pub said_whole : (texts : List Text) (sink : Change SinkState) → ArePut texts sink → IsSaid (concat texts) sink
+said_whole texts sink are =
+    said_on [] texts sink.old sink.old sink.new (inl (Appends-none sink.old.taken, refl)) are
 
 -- ---- the line of one
 

@@ -6,6 +6,7 @@ use Rattle.std.specs.Fmt.{option_append}
 use Rattle.std.specs.Io.KnownBytes.{Consumes}
 use Rattle.std.specs.List.{filter}
 use Rattle.std.proofs.lemmas.List.Elements.{All-cons, All-head, All-nil, All-tail, All-weaker}
+use Rattle.sixel_io.specs.Devices.{Change, SinkState, SourceState}
 use Rattle.sixel_model.specs.declared.profile.Profile.{Profile}
 use Rattle.sixel_program.specs.declared.exit.Exit.{Exit}
 use Rattle.sixel_program.specs.declared.exit.Exit.TheVariants as exit
@@ -133,71 +134,69 @@ one_broken [] is = let no : exit.Done ≡ exit.Broken = is in cc
 one_broken (e ∷ more) is = subst (Contains (map exit_of_end (e ∷ more))) is (reached e more)
 
 module _ (profile : Profile) (q : Bool) (contents : Text → Option (List ℕ)) (names : List Text) (x : Exit)
-    (i : Option (List ℕ) × Option (List ℕ)) (r : ℕ × ℕ) (o : Option (List ℕ) × Option (List ℕ)) (w : ℕ × ℕ)
-    (f : Bool) (e : Option (List ℕ) × Option (List ℕ)) (c : ℕ × ℕ) where
-  files_done : FilesEnd profile q contents names x i r o w f e c → x ≡ exit.Done
-      → All (λ name. IsDoneOver (Check profile) (told_of contents i.0 name)) names
+    (i : Change SourceState) (o e : Change SinkState) where
+  files_done : FilesEnd profile q contents names x i o e → x ≡ exit.Done
+      → All (λ name. IsDoneOver (Check profile) (told_of contents i.old.remaining name)) names
   files_done (inl checked) is =
       let are = checked.1 in
-      subst (All (λ name. IsDoneOver (Check profile) (told_of contents i.0 name))) (sym are.names_are)
-      (told_each (IsDoneOver (Check profile)) contents i.0 i.1 checked.0 are.tells
+      subst (All (λ name. IsDoneOver (Check profile) (told_of contents i.old.remaining name))) (sym are.names_are)
+      (told_each (IsDoneOver (Check profile)) contents i.old.remaining i.new.remaining checked.0 are.tells
       (each_done profile checked.0 are.each (sym are.exits ∙ is)))
   files_done (inr cut) is = let no : exit.Refused ≡ exit.Done = sym cut.exits ∙ is in cc
 
-  files_judged : FilesEnd profile q contents names x i r o w f e c → x ≡ exit.Broken
-      → All (λ name. IsJudgedOver (Check profile) (told_of contents i.0 name)) names
+  files_judged : FilesEnd profile q contents names x i o e → x ≡ exit.Broken
+      → All (λ name. IsJudgedOver (Check profile) (told_of contents i.old.remaining name)) names
   files_judged (inl checked) is =
       let are = checked.1 in
-      subst (All (λ name. IsJudgedOver (Check profile) (told_of contents i.0 name))) (sym are.names_are)
-      (told_each (IsJudgedOver (Check profile)) contents i.0 i.1 checked.0 are.tells
+      subst (All (λ name. IsJudgedOver (Check profile) (told_of contents i.old.remaining name))) (sym are.names_are)
+      (told_each (IsJudgedOver (Check profile)) contents i.old.remaining i.new.remaining checked.0 are.tells
       (each_judged profile checked.0 are.each (sym are.exits ∙ is)))
   files_judged (inr cut) is = let no : exit.Refused ≡ exit.Broken = sym cut.exits ∙ is in cc
 
-  files_broken : FilesEnd profile q contents names x i r o w f e c → x ≡ exit.Broken → NamesInputOnce names
-      → (name : Text) × Contains names name × IsBrokenOver (Check profile) (told_of contents i.0 name)
+  files_broken : FilesEnd profile q contents names x i o e → x ≡ exit.Broken → NamesInputOnce names
+      → (name : Text) × Contains names name × IsBrokenOver (Check profile) (told_of contents i.old.remaining name)
   files_broken (inl checked) is once =
       let are = checked.1 in
       subst (λ (ns : List Text). (name : Text) × Contains ns name
-      × IsBrokenOver (Check profile) (told_of contents i.0 name)) (sym are.names_are)
-      (told_broken profile contents i.0 i.1 checked.0 are.tells are.each
+      × IsBrokenOver (Check profile) (told_of contents i.old.remaining name)) (sym are.names_are)
+      (told_broken profile contents i.old.remaining i.new.remaining checked.0 are.tells are.each
       (subst NamesInputOnce are.names_are once) (one_broken checked.0 (sym are.exits ∙ is)))
   files_broken (inr cut) is once = let no : exit.Refused ≡ exit.Broken = sym cut.exits ∙ is in cc
 
 -- ---- what is asked for
 
 module _ (t : Task) (q : Bool) (names : List Text) (contents : Text → Option (List ℕ)) (front : List ℕ) (x : Exit)
-    (i : Option (List ℕ) × Option (List ℕ)) (r : ℕ × ℕ) (o : Option (List ℕ) × Option (List ℕ)) (w : ℕ × ℕ)
-    (f : Bool) (e : Option (List ℕ) × Option (List ℕ)) (c : ℕ × ℕ)
-    (ended : RequestEnds t q names contents front x i r o w f e c) where
-  all_of_one : (P : Option (List ℕ) → Type 0) (name : Text) → P (told_of contents i.0 name)
-      → All (λ n. P (told_of contents i.0 n)) (name ∷ [])
+    (i : Change SourceState) (o e : Change SinkState)
+    (ended : RequestEnds t q names contents front x i o e) where
+  all_of_one : (P : Option (List ℕ) → Type 0) (name : Text) → P (told_of contents i.old.remaining name)
+      → All (λ n. P (told_of contents i.old.remaining n)) (name ∷ [])
   all_of_one P name p =
-      All-cons (λ n. P (told_of contents i.0 n)) name [] p (All-nil (λ n. P (told_of contents i.0 n)))
+      All-cons (λ n. P (told_of contents i.old.remaining n)) name [] p (All-nil (λ n. P (told_of contents i.old.remaining n)))
 
-  pub all_read_done : x ≡ exit.Done → All (λ name. IsDoneOver t (told_of contents i.0 name)) (names_read t names)
-  all_read_done is = elim (request_read contents front x i r o w f e c t q names ended) [
+  pub all_read_done : x ≡ exit.Done → All (λ name. IsDoneOver t (told_of contents i.old.remaining name)) (names_read t names)
+  all_read_done is = elim (request_read contents front x i o e t q names ended) [
     | inl one ↦
         let run = one.2.2 in
         rw one.1 (all_of_one (IsDoneOver t) one.0
         (done_gives t _ run.0 one.2.0 run.1 run.2 run.3 (sym one.2.1 ∙ is)))
     | inr checked ↦
-        rw (checked.2, checked.1) (files_done checked.0 q contents names x i r o w f e c checked.3 is)
+        rw (checked.2, checked.1) (files_done checked.0 q contents names x i o e checked.3 is)
   ]
 
-  pub all_read_judged : x ≡ exit.Broken → All (λ name. IsJudgedOver t (told_of contents i.0 name)) (names_read t names)
-  all_read_judged is = elim (request_read contents front x i r o w f e c t q names ended) [
+  pub all_read_judged : x ≡ exit.Broken → All (λ name. IsJudgedOver t (told_of contents i.old.remaining name)) (names_read t names)
+  all_read_judged is = elim (request_read contents front x i o e t q names ended) [
     | inl one ↦
         let run = one.2.2 in
         let ends : exit_for_answer one.2.0 ≡ exit.Broken = sym one.2.1 ∙ is in
         rw one.1 (all_of_one (IsJudgedOver t) one.0
         (judged_gives t _ run.0 one.2.0 run.1 run.2 run.3 (rw ends (omega arith))))
     | inr checked ↦
-        rw (checked.2, checked.1) (files_judged checked.0 q contents names x i r o w f e c checked.3 is)
+        rw (checked.2, checked.1) (files_judged checked.0 q contents names x i o e checked.3 is)
   ]
 
   pub one_read_broken : x ≡ exit.Broken → NamesInputOnce (names_read t names) → (name : Text)
-      × Contains (names_read t names) name × IsBrokenOver t (told_of contents i.0 name)
-  one_read_broken is once = elim (request_read contents front x i r o w f e c t q names ended) [
+      × Contains (names_read t names) name × IsBrokenOver t (told_of contents i.old.remaining name)
+  one_read_broken is once = elim (request_read contents front x i o e t q names ended) [
     | inl one ↦
         let run = one.2.2 in (
           one.0,
@@ -205,7 +204,7 @@ module _ (t : Task) (q : Bool) (names : List Text) (contents : Text → Option (
           broken_gives t _ run.0 one.2.0 run.1 run.2 run.3 (sym one.2.1 ∙ is),
         )
     | inr checked ↦
-        rw (checked.2, checked.1) (files_broken checked.0 q contents names x i r o w f e c checked.3 is
+        rw (checked.2, checked.1) (files_broken checked.0 q contents names x i o e checked.3 is
         (rw checked.2 at once))
   ]
 

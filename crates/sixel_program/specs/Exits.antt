@@ -1,8 +1,8 @@
 -- How the program ends.
-use Rattle.std.specs.Prelude.{◌≡◌, ◌≢◌, ◌⊎◌, ◌++◌, ℕ, List, [], Bool, false, true, take, Option, IfSome, Result, Ok}
+use Rattle.std.specs.Prelude.{◌≡◌, ◌≢◌, ◌⊎◌, ◌++◌, ℕ, List, [], Bool, false, true, take, IfSome, Result, Ok}
 use Rattle.std.specs.Prelude.{Err, if◌then◌else◌}
-use Rattle.std.specs.Io.KnownBytes.{Appends, Keeps}
-use Rattle.sixel_grammar.specs.Devices.{one_more}
+use Rattle.std.specs.Io.KnownBytes.{Appends}
+use Rattle.sixel_io.specs.Devices.{Change, SinkState, SourceState, one_more}
 use Rattle.sixel_program.specs.declared.exit.Exit.{Exit}
 use Rattle.sixel_program.specs.declared.exit.Exit.TheVariants.{Done, Broken, Refused, Usage}
 use Rattle.sixel_run.specs.declared.fault.RunFault.{RunFault}
@@ -44,59 +44,51 @@ complaint t (Ok (status.Broken finding)) = if is_render t then finding_line find
 complaint t (Err fault) = fault_line fault
 
 -- the text was appended to what a sink had, or a front of it, and the sink failed
--- what the sink has and its count of failures stand here as they were before and after
-abbrev pub IsPut : Text → Option (List ℕ) × Option (List ℕ) → ℕ × ℕ → Type 0
-IsPut text taken failures =
-    (Appends taken.0 taken.1 text × (failures.1 ≡ failures.0))
-    ⊎ ((n : ℕ) × Appends taken.0 taken.1 (take n text) × (failures.1 ≡ one_more failures.0))
+abbrev pub IsPut : Text → Change SinkState → Type 0
+IsPut text sink =
+    (Appends sink.old.taken sink.new.taken text × (sink.new.failures ≡ sink.old.failures))
+    ⊎ ((n : ℕ) × Appends sink.old.taken sink.new.taken (take n text) × (sink.new.failures ≡ one_more sink.old.failures))
 
 -- a run of the task had some answer. The source and the first sink are as after such a run, the program ends as after
 -- it, and to the second sink were put the line that is said of it, and what is said of an input of another format, by
 -- the bytes that are given as its first
--- of each device stands here what it was before and after: the bytes that it tells, and its count of failures; and of
--- the first sink whether it is flushed in the end
-pub record RunEnds (t : Task) (front : List ℕ) (exit : Exit) (input : Option (List ℕ) × Option (List ℕ)) (reads : ℕ × ℕ)
-    (output : Option (List ℕ) × Option (List ℕ)) (writes : ℕ × ℕ) (is_flushed : Bool)
-    (errors : Option (List ℕ) × Option (List ℕ)) (complaints : ℕ × ℕ) : Type 0 where
+pub record RunEnds (t : Task) (front : List ℕ) (exit : Exit) (input : Change SourceState)
+    (output errors : Change SinkState) : Type 0 where
   pub answer : Result Status RunFault
-  pub wrote : IfSome input.0 (λ bytes. Wrote t bytes input.1 answer output.0 output.1)
-  pub memory : answer ≡ Err run.OutOfMemory → TakesMemory t input.0
-  pub read : CountsReads answer reads.0 reads.1
-  pub written : CountsWrites answer writes.0 writes.1
-  pub flushed : answer ≢ Err run.Write → is_flushed ≡ true
+  pub wrote : IfSome input.old.remaining
+      (λ bytes. Wrote t bytes input.new.remaining answer output.old.taken output.new.taken)
+  pub memory : answer ≡ Err run.OutOfMemory → TakesMemory t input.old.remaining
+  pub read : CountsReads answer input.old.failures input.new.failures
+  pub written : CountsWrites answer output.old.failures output.new.failures
+  pub flushed : answer ≢ Err run.Write → output.new.is_flushed ≡ true
   pub ends : exit ≡ exit_for_answer answer
-  pub said : IsPut (complaint t answer ++ advice front answer) errors complaints
+  pub said : IsPut (complaint t answer ++ advice front answer) errors
 
 -- ---- where the words give no task
 
--- nothing was put to a sink
-abbrev pub IsLeft : Option (List ℕ) × Option (List ℕ) → ℕ × ℕ → Type 0
-IsLeft taken failures = Keeps taken.0 taken.1 × (failures.1 ≡ failures.0)
+-- nothing was done to a sink
+abbrev pub IsLeft : Change SinkState → Type 0
+IsLeft sink = sink.new ≡ sink.old
 
 -- some text was put, of which nothing is said here
-abbrev pub IsShown : Option (List ℕ) × Option (List ℕ) → ℕ × ℕ → Type 0
-IsShown taken failures = (text : Text) × IsPut text taken failures
+abbrev pub IsShown : Change SinkState → Type 0
+IsShown sink = (text : Text) × IsPut text sink
 
 -- a text was put to the first sink, and that was flushed; or a front of it was, the first sink failed, and the line that
 -- says so was put to the second
-abbrev pub Shows : Text → Exit → Option (List ℕ) × Option (List ℕ) → ℕ × ℕ → Bool
-    → Option (List ℕ) × Option (List ℕ) → ℕ × ℕ → Type 0
-Shows text exit output writes is_flushed errors complaints =
-    ((exit ≡ Done) × Appends output.0 output.1 text × (writes.1 ≡ writes.0) × (is_flushed ≡ true)
-    × IsLeft errors complaints)
-    ⊎ ((n : ℕ) × (exit ≡ Refused) × Appends output.0 output.1 (take n text) × (writes.1 ≡ one_more writes.0)
-    × IsPut (fault_line run.Write) errors complaints)
+abbrev pub Shows : Text → Exit → Change SinkState → Change SinkState → Type 0
+Shows text exit output errors =
+    ((exit ≡ Done) × Appends output.old.taken output.new.taken text × (output.new.failures ≡ output.old.failures)
+    × (output.new.is_flushed ≡ true) × IsLeft errors)
+    ⊎ ((n : ℕ) × (exit ≡ Refused) × Appends output.old.taken output.new.taken (take n text)
+    × (output.new.failures ≡ one_more output.old.failures) × IsPut (fault_line run.Write) errors)
 
 -- how the program ends after these words, and what it has put to its two sinks: help and explanations to the first,
 -- usage and faults to the second
--- the devices stand here as in `RunEnds`
-abbrev pub WordsEnd : WordsFault → Exit → Option (List ℕ) × Option (List ℕ) → ℕ × ℕ → Bool
-    → Option (List ℕ) × Option (List ℕ) → ℕ × ℕ → Type 0
-WordsEnd (fault.Help text) exit output writes is_flushed errors complaints =
-    (exit ≡ Done) × IsShown output writes × IsLeft errors complaints
-WordsEnd (fault.Explanation topic) exit output writes is_flushed errors complaints =
-    (text : Text) × IsExplanation topic text × Shows text exit output writes is_flushed errors complaints
-WordsEnd (fault.Usage text) exit output writes is_flushed errors complaints =
-    (exit ≡ Usage) × IsLeft output writes × IsShown errors complaints
-WordsEnd fault.OutOfMemory exit output writes is_flushed errors complaints =
-    (exit ≡ Refused) × IsLeft output writes × IsPut (fault_line run.OutOfMemory) errors complaints
+abbrev pub WordsEnd : WordsFault → Exit → Change SinkState → Change SinkState → Type 0
+WordsEnd (fault.Help text) exit output errors = (exit ≡ Done) × IsShown output × IsLeft errors
+WordsEnd (fault.Explanation topic) exit output errors =
+    (text : Text) × IsExplanation topic text × Shows text exit output errors
+WordsEnd (fault.Usage text) exit output errors = (exit ≡ Usage) × IsLeft output × IsShown errors
+WordsEnd fault.OutOfMemory exit output errors =
+    (exit ≡ Refused) × IsLeft output × IsPut (fault_line run.OutOfMemory) errors

@@ -6,7 +6,7 @@ use Rattle.std.specs.Prelude.{option_to_list}
 use Rattle.std.specs.Io.KnownBytes.{Appends}
 use Rattle.std.specs.List.{All, filter, list_any}
 use Rattle.std.specs.Str.{bytes_eq}
-use Rattle.sixel_grammar.specs.Devices.{one_more}
+use Rattle.sixel_io.specs.Devices.{Change, SinkState, SourceState, change, one_more}
 use Rattle.sixel_model.specs.declared.profile.Profile.{Profile}
 use Rattle.sixel_check.specs.declared.verdict.Finding.{Finding}
 use Rattle.sixel_program.specs.declared.exit.Exit.{Exit}
@@ -90,24 +90,23 @@ notice is_terminal t names =
 
 -- ---- one file
 
--- a task over a file of this name, of whose bytes these are told before and after, ended so: a run of it had some
+-- a task over a file of this name ended so: a run of it had some
 -- answer and wrote what a run writes that has it, or the file couldn't be opened; and to the second sink were put the
 -- line that is said of it, and what is said of an input of another format, by the bytes that are given as the first of
 -- the file
--- of the file and of each sink stands here what it was before and after: the bytes that it tells, and its count of
--- failures; and of the first sink whether it is flushed in the end
-pub record NamedEnds (t : Task) (name : Text) (front : List ℕ) (exit : Exit) (told : Option (List ℕ) × Option (List ℕ))
-    (reads : ℕ × ℕ) (output : Option (List ℕ) × Option (List ℕ)) (writes : ℕ × ℕ) (is_flushed : Bool)
-    (errors : Option (List ℕ) × Option (List ℕ)) (complaints : ℕ × ℕ) : Type 0 where
+pub record NamedEnds (t : Task) (name : Text) (front : List ℕ) (exit : Exit) (file : Change SourceState)
+    (output errors : Change SinkState) : Type 0 where
   pub answer : Result Status RunFault
-  pub wrote : ((told.0 ≡ None) × (answer ≡ Err run.Read) × WroteNothing output.0 output.1)
-      ⊎ (IfSome told.0 (λ bytes. Wrote t bytes told.1 answer output.0 output.1)
-      × (answer ≢ Err run.Write → is_flushed ≡ true))
-  pub memory : answer ≡ Err run.OutOfMemory → TakesMemory t told.0
-  pub read : CountsReads answer reads.0 reads.1
-  pub written : CountsWrites answer writes.0 writes.1
+  pub wrote : ((file.old.remaining ≡ None) × (answer ≡ Err run.Read)
+      × WroteNothing output.old.taken output.new.taken)
+      ⊎ (IfSome file.old.remaining
+      (λ bytes. Wrote t bytes file.new.remaining answer output.old.taken output.new.taken)
+      × (answer ≢ Err run.Write → output.new.is_flushed ≡ true))
+  pub memory : answer ≡ Err run.OutOfMemory → TakesMemory t file.old.remaining
+  pub read : CountsReads answer file.old.failures file.new.failures
+  pub written : CountsWrites answer output.old.failures output.new.failures
   pub ends : exit ≡ exit_for_answer answer
-  pub said : IsPut (named_complaint name t answer ++ advice front answer) errors complaints
+  pub said : IsPut (named_complaint name t answer ++ advice front answer) errors
 
 -- what standard input has left after a file
 abbrev pub left_after : Option (List ℕ) → Text → Option (List ℕ) → Option (List ℕ)
@@ -117,22 +116,18 @@ left_after input name left = if is_dash name then left else input
 abbrev pub IsFront : Option (List ℕ) → List ℕ → Type 0
 IsFront told front = IfSome told (λ bytes. BeginsWith bytes front)
 
--- a task over the file of this name ended so, over what standard input had and has, of which `given` are the first
--- bytes; its count of failures is that of the file by its name, and stays beside another file
+-- a task over the file of this name ended so, over standard input, of which `given` are the first bytes: that is the
+-- file by its name, and stays beside another file
 pub record FileEnds (t : Task) (contents : Text → Option (List ℕ)) (name : Text) (given : List ℕ) (exit : Exit)
-    (input : Option (List ℕ) × Option (List ℕ)) (reads : ℕ × ℕ) (output : Option (List ℕ) × Option (List ℕ))
-    (writes : ℕ × ℕ) (is_flushed : Bool) (errors : Option (List ℕ) × Option (List ℕ)) (complaints : ℕ × ℕ)
-    : Type 0 where
+    (input : Change SourceState) (output errors : Change SinkState) : Type 0 where
   pub front : List ℕ
-  pub left : Option (List ℕ)
-  pub failed : ℕ × ℕ
+  pub file : Change SourceState
   pub given_front : is_dash name ≡ true → front ≡ given
   pub own_front : is_dash name ≡ false → IsFront (contents name) front
-  pub stays : input.1 ≡ left_after input.0 name left
-  pub own_failures : is_dash name ≡ true → failed ≡ reads
-  pub no_failure : is_dash name ≡ false → reads.1 ≡ reads.0
-  pub ended : NamedEnds t name front exit
-      (told_of contents input.0 name, left) failed output writes is_flushed errors complaints
+  pub told : file.old.remaining ≡ told_of contents input.old.remaining name
+  pub is_input : is_dash name ≡ true → file ≡ input
+  pub stays : is_dash name ≡ false → input.new ≡ input.old
+  pub ended : NamedEnds t name front exit file output errors
 
 -- ---- checks of several files
 
@@ -194,28 +189,28 @@ names_of ends = map (λ e. e.name) ends
 
 -- the texts were put to a sink in turn, each whole, or a front of it where a call failed; after that the next one is
 -- still put
-unfoldable pub ArePut : List Text → Option (List ℕ) × Option (List ℕ) → ℕ × ℕ → Type 0
-ArePut [] taken failures = (taken.1 ≡ taken.0) × (failures.1 ≡ failures.0)
-ArePut (text ∷ rest) taken failures = (between : Option (List ℕ)) × (count : ℕ)
-    × IsPut text (taken.0, between) (failures.0, count) × ArePut rest (between, taken.1) (count, failures.1)
+unfoldable pub ArePut : List Text → Change SinkState → Type 0
+ArePut [] sink = sink.new ≡ sink.old
+ArePut (text ∷ rest) sink =
+    (between : SinkState) × IsPut text (change sink.old between) × ArePut rest (change between sink.new)
 
 -- the check of a file of this name had this answer, and what is said of it was put to a sink
-abbrev pub SaysOfCheck : Text → Result Status RunFault → Option (List ℕ) × Option (List ℕ) → ℕ × ℕ → Type 0
-SaysOfCheck name (Ok status) errors complaints = (errors.1 ≡ errors.0) × (complaints.1 ≡ complaints.0)
-SaysOfCheck name (Err fault) errors complaints = IsPut (named_fault_line name fault) errors complaints
+abbrev pub SaysOfCheck : Text → Result Status RunFault → Change SinkState → Type 0
+SaysOfCheck name (Ok status) errors = errors.new ≡ errors.old
+SaysOfCheck name (Err fault) errors = IsPut (named_fault_line name fault) errors
 
 -- what a check of this name, which wrote this line and had this answer, did to the two sinks: what is written and
 -- what is said of it was put to them; or a front of the first was, and that sink failed
 abbrev pub IsOutcome : {E : Type 0} → Bool → Text → Text → Result Status RunFault → Result Exit E
-    → Option (List ℕ) × Option (List ℕ) → ℕ × ℕ → Option (List ℕ) × Option (List ℕ) → ℕ × ℕ → Type 0
-IsOutcome is_quiet name line answer (Ok exit) output writes errors complaints =
+    → Change SinkState → Change SinkState → Type 0
+IsOutcome is_quiet name line answer (Ok exit) output errors =
     (exit ≡ exit_for_answer answer)
-    × Appends output.0 output.1 (file_text is_quiet name line answer) × (writes.1 ≡ writes.0)
-    × SaysOfCheck name answer errors complaints
-IsOutcome is_quiet name line answer (Err fault) output writes errors complaints =
-    ((count : ℕ) × Appends output.0 output.1 (take count (file_text is_quiet name line answer)))
-    × (is_quiet ≡ false) × (writes.1 ≡ one_more writes.0)
-    × (said_of_check name answer ≡ []) × (errors.1 ≡ errors.0) × (complaints.1 ≡ complaints.0)
+    × Appends output.old.taken output.new.taken (file_text is_quiet name line answer)
+    × (output.new.failures ≡ output.old.failures) × SaysOfCheck name answer errors
+IsOutcome is_quiet name line answer (Err fault) output errors =
+    ((count : ℕ) × Appends output.old.taken output.new.taken (take count (file_text is_quiet name line answer)))
+    × (is_quiet ≡ false) × (output.new.failures ≡ one_more output.old.failures)
+    × (said_of_check name answer ≡ []) × (errors.new ≡ errors.old)
 
 -- the bytes that were told of each file in turn, from what standard input had to what it has
 unfoldable pub Tells : (Text → Option (List ℕ)) → Option (List ℕ) → List FileEnd → Option (List ℕ) → Type 0
@@ -227,48 +222,43 @@ Tells contents had (e ∷ rest) has =
 abbrev pub failures_past : ℕ → FileEnd → ℕ
 failures_past count e = if is_dash e.name then failures_by run.Read e.answer count else count
 
--- a check of a file ended so, over what standard input had and has, and did this to the two sinks
+-- a check of a file ended so, over standard input, and did this to the two sinks
 pub record IsChecked {E : Type 0} (profile : Profile) (is_quiet : Bool) (contents : Text → Option (List ℕ))
-    (name : Text)
-    (result : Result Exit E) (input : Option (List ℕ) × Option (List ℕ)) (reads : ℕ × ℕ)
-    (output : Option (List ℕ) × Option (List ℕ)) (writes : ℕ × ℕ)
-    (errors : Option (List ℕ) × Option (List ℕ)) (complaints : ℕ × ℕ) : Type 0 where
+    (name : Text) (result : Result Exit E) (input : Change SourceState) (output errors : Change SinkState)
+    : Type 0 where
   pub e : FileEnd
   pub name_is : e.name ≡ name
-  pub told : e.told ≡ told_of contents input.0 name
-  pub left : input.1 ≡ left_after input.0 name e.left
+  pub told : e.told ≡ told_of contents input.old.remaining name
+  pub left : input.new.remaining ≡ left_after input.old.remaining name e.left
   pub is_end : IsFileEnd profile e
-  pub counted : reads.1 ≡ failures_past reads.0 e
-  pub outcome : IsOutcome is_quiet name e.line e.answer result output writes errors complaints
+  pub counted : input.new.failures ≡ failures_past input.old.failures e
+  pub outcome : IsOutcome is_quiet name e.line e.answer result output errors
 
 -- a call on a sink failed: its count of failures rose, or stands at the greatest `u64`
-abbrev pub HasFailed : ℕ × ℕ → Type 0
-HasFailed failures = (failures.0 < failures.1) ⊎ (failures.1 ≡ 2 ^ 64 - 1)
+abbrev pub HasFailed : Change SinkState → Type 0
+HasFailed sink = (sink.old.failures < sink.new.failures) ⊎ (sink.new.failures ≡ 2 ^ 64 - 1)
 
 -- the text was appended to what a sink had, or a call on it failed
-abbrev pub IsSaid : Text → Option (List ℕ) × Option (List ℕ) → ℕ × ℕ → Type 0
-IsSaid text taken failures = (Appends taken.0 taken.1 text × (failures.1 ≡ failures.0)) ⊎ HasFailed failures
+abbrev pub IsSaid : Text → Change SinkState → Type 0
+IsSaid text sink =
+    (Appends sink.old.taken sink.new.taken text × (sink.new.failures ≡ sink.old.failures)) ⊎ HasFailed sink
 
 -- files of these names were checked in turn and ended so
 pub record AreChecked (profile : Profile) (is_quiet : Bool) (contents : Text → Option (List ℕ)) (ends : List FileEnd)
-    (names : List Text) (exit : Exit) (input : Option (List ℕ) × Option (List ℕ)) (reads : ℕ × ℕ)
-    (output : Option (List ℕ) × Option (List ℕ)) (writes : ℕ × ℕ)
-    (errors : Option (List ℕ) × Option (List ℕ)) (complaints : ℕ × ℕ) : Type 0 where
+    (names : List Text) (exit : Exit) (input : Change SourceState) (output errors : Change SinkState) : Type 0 where
   pub names_are : names ≡ names_of ends
   pub each : All (IsFileEnd profile) ends
-  pub tells : Tells contents input.0 ends input.1
-  pub counted : reads.1 ≡ fold failures_past reads.0 ends
+  pub tells : Tells contents input.old.remaining ends input.new.remaining
+  pub counted : input.new.failures ≡ fold failures_past input.old.failures ends
   pub exits : exit ≡ files_exit ends
-  pub lines : Appends output.0 output.1 (files_text is_quiet ends)
-  pub unfailed : writes.1 ≡ writes.0
-  pub said : ArePut (complaints_of ends) errors complaints
+  pub lines : Appends output.old.taken output.new.taken (files_text is_quiet ends)
+  pub unfailed : output.new.failures ≡ output.old.failures
+  pub said : ArePut (complaints_of ends) errors
 
 -- the output failed at one of the files, which is the last that was read, or when it was flushed: the lines of those
 -- before were appended, and a front of its own
 pub record AreCut (profile : Profile) (is_quiet : Bool) (contents : Text → Option (List ℕ)) (names : List Text)
-    (exit : Exit) (input : Option (List ℕ) × Option (List ℕ)) (reads : ℕ × ℕ)
-    (output : Option (List ℕ) × Option (List ℕ)) (writes : ℕ × ℕ)
-    (errors : Option (List ℕ) × Option (List ℕ)) (complaints : ℕ × ℕ) : Type 0 where
+    (exit : Exit) (input : Change SourceState) (output errors : Change SinkState) : Type 0 where
   pub whole : List FileEnd
   pub last : Option FileEnd
   pub rest : List Text
@@ -276,51 +266,46 @@ pub record AreCut (profile : Profile) (is_quiet : Bool) (contents : Text → Opt
   pub wanted : is_quiet ≡ false
   pub names_are : names ≡ names_of (whole ++ option_to_list last) ++ rest
   pub each : All (IsFileEnd profile) (whole ++ option_to_list last)
-  pub tells : Tells contents input.0 (whole ++ option_to_list last) input.1
-  pub counted : reads.1 ≡ fold failures_past reads.0 (whole ++ option_to_list last)
+  pub tells : Tells contents input.old.remaining (whole ++ option_to_list last) input.new.remaining
+  pub counted : input.new.failures ≡ fold failures_past input.old.failures (whole ++ option_to_list last)
   pub exits : exit ≡ Refused
-  pub lines : Appends output.0 output.1
+  pub lines : Appends output.old.taken output.new.taken
       (files_text is_quiet whole ++ take count (files_text is_quiet (option_to_list last)))
-  pub failed : writes.1 ≡ one_more writes.0
+  pub failed : output.new.failures ≡ one_more output.old.failures
   pub silent : All (λ e. said_of e ≡ []) (option_to_list last)
-  pub said : ArePut (complaints_of whole ++ fault_line run.Write ∷ []) errors complaints
+  pub said : ArePut (complaints_of whole ++ fault_line run.Write ∷ []) errors
 
 -- each file was checked, and the first sink is flushed, unless no verdict is wanted; or the first sink failed
-abbrev pub FilesEnd : Profile → Bool → (Text → Option (List ℕ)) → List Text → Exit
-    → Option (List ℕ) × Option (List ℕ) → ℕ × ℕ → Option (List ℕ) × Option (List ℕ) → ℕ × ℕ → Bool
-    → Option (List ℕ) × Option (List ℕ) → ℕ × ℕ → Type 0
-FilesEnd profile is_quiet contents names exit input reads output writes is_flushed errors complaints =
-    ((ends : List FileEnd)
-    × AreChecked profile is_quiet contents ends names exit input reads output writes errors complaints
-    × (is_quiet ≡ false → is_flushed ≡ true))
-    ⊎ AreCut profile is_quiet contents names exit input reads output writes errors complaints
+abbrev pub FilesEnd : Profile → Bool → (Text → Option (List ℕ)) → List Text → Exit → Change SourceState
+    → Change SinkState → Change SinkState → Type 0
+FilesEnd profile is_quiet contents names exit input output errors =
+    ((ends : List FileEnd) × AreChecked profile is_quiet contents ends names exit input output errors
+    × (is_quiet ≡ false → output.new.is_flushed ≡ true))
+    ⊎ AreCut profile is_quiet contents names exit input output errors
 
 -- ---- requests
 
 -- a check of standard input of which only the status is wanted ended so: `line` is the one that a run of it writes
-pub record QuietEnds (profile : Profile) (exit : Exit) (input : Option (List ℕ) × Option (List ℕ)) (reads : ℕ × ℕ)
-    (errors : Option (List ℕ) × Option (List ℕ)) (complaints : ℕ × ℕ) : Type 0 where
+pub record QuietEnds (profile : Profile) (exit : Exit) (input : Change SourceState) (errors : Change SinkState)
+    : Type 0 where
   pub answer : Result Status RunFault
   pub line : Text
-  pub wrote : IfSome input.0 (λ bytes. Wrote (Check profile) bytes input.1 answer (Some []) (Some line))
-  pub memory : answer ≡ Err run.OutOfMemory → TakesMemory (Check profile) input.0
-  pub read : reads.1 ≡ failures_by run.Read answer reads.0
+  pub wrote : IfSome input.old.remaining
+      (λ bytes. Wrote (Check profile) bytes input.new.remaining answer (Some []) (Some line))
+  pub memory : answer ≡ Err run.OutOfMemory → TakesMemory (Check profile) input.old.remaining
+  pub read : input.new.failures ≡ failures_by run.Read answer input.old.failures
   pub written : answer ≢ Err run.Write
   pub ends : exit ≡ exit_for_answer answer
-  pub said : IsPut (complaint (Check profile) answer) errors complaints
+  pub said : IsPut (complaint (Check profile) answer) errors
 
 -- what is asked for ended so, over standard input, of which `front` are the first bytes: the task over that where no
 -- file is named; a check of all files that are named, and any other task over the first of them
-abbrev pub RequestEnds : Task → Bool → List Text → (Text → Option (List ℕ)) → List ℕ → Exit
-    → Option (List ℕ) × Option (List ℕ) → ℕ × ℕ → Option (List ℕ) × Option (List ℕ) → ℕ × ℕ → Bool
-    → Option (List ℕ) × Option (List ℕ) → ℕ × ℕ → Type 0
-RequestEnds (Check profile) true [] contents front exit input reads output writes is_flushed errors complaints =
-    QuietEnds profile exit input reads errors complaints
-    × (output.1 ≡ output.0) × (writes.1 ≡ writes.0)  -- nothing went to the first sink
-RequestEnds t is_quiet [] contents front exit input reads output writes is_flushed errors complaints =
-    RunEnds t front exit input reads output writes is_flushed errors complaints
-RequestEnds (Check profile) is_quiet (name ∷ more) contents front exit input reads output writes is_flushed errors
-    complaints =
-    FilesEnd profile is_quiet contents (name ∷ more) exit input reads output writes is_flushed errors complaints
-RequestEnds t is_quiet (name ∷ more) contents front exit input reads output writes is_flushed errors complaints =
-    FileEnds t contents name front exit input reads output writes is_flushed errors complaints
+abbrev pub RequestEnds : Task → Bool → List Text → (Text → Option (List ℕ)) → List ℕ → Exit → Change SourceState
+    → Change SinkState → Change SinkState → Type 0
+RequestEnds (Check profile) true [] contents front exit input output errors =
+    QuietEnds profile exit input errors × (output.new ≡ output.old)  -- nothing went to the first sink
+RequestEnds t is_quiet [] contents front exit input output errors = RunEnds t front exit input output errors
+RequestEnds (Check profile) is_quiet (name ∷ more) contents front exit input output errors =
+    FilesEnd profile is_quiet contents (name ∷ more) exit input output errors
+RequestEnds t is_quiet (name ∷ more) contents front exit input output errors =
+    FileEnds t contents name front exit input output errors

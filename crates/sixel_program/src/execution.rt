@@ -9,7 +9,7 @@ ghost use Rattle.sixel_run.specs.Texts.{Text};
 use crate::exit::Exit;
 use crate::files::{announce, answer, front_of};
 use crate::folder::Folder;
-use sixel_grammar::{FromRead, ToWrite};
+use sixel_io::{FromRead, ToWrite};
 use sixel_words::Request;
 use std::alloc::Global;
 use std::io::{Read, Write};

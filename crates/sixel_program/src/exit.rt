@@ -1,7 +1,7 @@
 //! How the program ends.
 
 ghost use Rattle.std.specs.Prelude.{◌≡◌, ◌≤◌, ◌++◌, OnOk, length, true};
-ghost use Rattle.sixel_grammar.specs.Devices.{CountsFailure, Puts};
+ghost use Rattle.sixel_io.specs.Devices.{CountsFailure, Puts, change};
 ghost use Rattle.sixel_program.specs.Exits.{RunEnds, complaint, exit_code, exit_for_answer, IsShown, WordsEnd};
 ghost use Rattle.sixel_words.specs.Explanations.{IsExplanation};
 ghost use Rattle.sixel_program.specs.Formats.{advice};
@@ -11,7 +11,7 @@ ghost use Rattle.sixel_run.specs.Texts.{Text};
 use crate::formats::{advice_on, format_of};
 use arrayvec::ArrayVec;
 use clap::Error;
-use sixel_grammar::{DeviceFault, Sink, Source, put_all};
+use sixel_io::{DeviceFault, Sink, Source, put_all};
 use sixel_ppm::PpmReason;
 use sixel_run::{Line, RunFault, Status, Task, fault_line, finding_line, run, write_fault};
 use sixel_words::{Topic, WordsFault, explanation};
@@ -106,10 +106,8 @@ pub fn report<S: Source, K: Sink, E: Sink>(
 ) -> Exit
     requires { HasSides task }
     ensures { RunEnds task front.now result
-        (S.remaining input.old, S.remaining input.new) (S.failure_count input.old, S.failure_count input.new)
-        (K.taken output.old, K.taken output.new) (K.failure_count output.old, K.failure_count output.new)
-        (K.is_flushed output.new)
-        (E.taken errors.old, E.taken errors.new) (E.failure_count errors.old, E.failure_count errors.new) }
+        (change (S.state input.old) (S.state input.new)) (change (K.state output.old) (K.state output.new))
+        (change (E.state errors.old) (E.state errors.new)) }
 {
     let answer = run(alloc, task, input, output);
     let said = said_of(task, front, &answer);
@@ -126,9 +124,7 @@ pub fn tell<K: Sink, E: Sink>(
     errors: &mut E,
 ) -> Exit
     ensures { WordsEnd fault result
-        (K.taken output.old, K.taken output.new) (K.failure_count output.old, K.failure_count output.new)
-        (K.is_flushed output.new)
-        (E.taken errors.old, E.taken errors.new) (E.failure_count errors.old, E.failure_count errors.new) }
+        (change (K.state output.old) (K.state output.new)) (change (E.state errors.old) (E.state errors.new)) }
 {
     match fault {
         WordsFault::Help(text) => {
@@ -155,7 +151,7 @@ pub fn tell<K: Sink, E: Sink>(
 
 /// Puts a text of usage or help, if it can be made.
 fn show<K: Sink>(alloc: Global, text: &Error, out: &mut K)
-    ensures { IsShown (K.taken out.old, K.taken out.new) (K.failure_count out.old, K.failure_count out.new) }
+    ensures { IsShown (change (K.state out.old) (K.state out.new)) }
 {
     if let Ok(text) = format!(in alloc; "{text}") {
         let _ = put_all(out, text.as_bytes());
@@ -164,9 +160,10 @@ fn show<K: Sink>(alloc: Global, text: &Error, out: &mut K)
 
 /// Puts an explanation, or on an `Err` a front of it, and flushes.
 fn write_explanation<K: Sink>(topic: Option<Topic>, out: &mut K) -> Result<(), DeviceFault>
-    ensures bytes { (text : Text) × IsExplanation topic text × Puts result (K.taken out.old) (K.taken out.new) text }
-    ensures failures { CountsFailure result (K.failure_count out.old) (K.failure_count out.new) }
-    ensures flushed { OnOk result (K.is_flushed out.new ≡ true) }
+    ensures bytes { (text : Text) × IsExplanation topic text
+        × Puts result (K.state out.old).taken (K.state out.new).taken text }
+    ensures failures { CountsFailure result (K.state out.old).failures (K.state out.new).failures }
+    ensures flushed { OnOk result ((K.state out.new).is_flushed ≡ true) }
 {
     put_all(out, explanation(topic).as_bytes())?;
     out.flush()

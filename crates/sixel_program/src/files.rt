@@ -5,7 +5,7 @@ ghost use Rattle.std.specs.Prelude.{◌⊎◌, Result, length, map, true};
 ghost use Rattle.std.specs.Io.KnownBytes.{Consumes};
 ghost use Rattle.std.specs.List.{list_any};
 ghost use Rattle.std.specs.String.{string_bytes};
-ghost use Rattle.sixel_grammar.specs.Devices.{CountsFailure, Puts};
+ghost use Rattle.sixel_io.specs.Devices.{Writes, change};
 ghost use Rattle.sixel_run.specs.declared.task.Task.TheVariants.{Check};
 ghost use Rattle.sixel_program.specs.Exits.{IsPut};
 ghost use Rattle.sixel_program.specs.Files.{FileEnds, FilesEnd, IsChecked, IsFileEnd, IsOutcome, NamedEnds, QuietEnds};
@@ -23,7 +23,7 @@ use crate::formats::FRONT;
 use crate::names::put_named;
 use arrayvec::ArrayVec;
 use sixel_check::Verdict;
-use sixel_grammar::{DeviceFault, FromRead, Sink, Source, put_all};
+use sixel_io::{DeviceFault, FromRead, Sink, Source, put_all};
 use sixel_model::Profile;
 use sixel_run::{
     RunFault, Status, Task, fault_line, finding_line, judge, run, status_of, verdict_line,
@@ -81,7 +81,7 @@ fn notice(request: &Request, is_terminal: bool) -> &'static [u8]
 /// Says that sixel text is waited for, where a check reads standard input and that is a terminal.
 pub fn announce<E: Sink>(request: &Request, is_terminal: bool, errors: &mut E)
     ensures { IsPut (notice is_terminal request.now.task (map string_bytes request.now.files.items))
-        (E.taken errors.old, E.taken errors.new) (E.failure_count errors.old, E.failure_count errors.new) }
+        (change (E.state errors.old) (E.state errors.new)) }
 {
     let _ = put_all(errors, notice(request, is_terminal));
 }
@@ -135,8 +135,7 @@ fn put_complaint<E: Sink>(
     answer: &Result<Status, RunFault>,
     errors: &mut E,
 ) -> Result<(), DeviceFault>
-    ensures bytes { Puts result (E.taken errors.old) (E.taken errors.new) (named_complaint name.now task answer.now) }
-    ensures failures { CountsFailure result (E.failure_count errors.old) (E.failure_count errors.new) }
+    ensures { Writes result (E.state errors.old) (E.state errors.new) (named_complaint name.now task answer.now) }
 {
     match answer {
         Ok(Status::Broken(finding)) if matches!(task, Task::Render { .. }) => {
@@ -162,9 +161,8 @@ fn put_said<E: Sink>(
     answer: &Result<Status, RunFault>,
     errors: &mut E,
 ) -> Result<(), DeviceFault>
-    ensures bytes { Puts result (E.taken errors.old) (E.taken errors.new)
+    ensures { Writes result (E.state errors.old) (E.state errors.new)
         (named_complaint name.now task answer.now ++ advice front.now answer.now) }
-    ensures failures { CountsFailure result (E.failure_count errors.old) (E.failure_count errors.new) }
 {
     put_complaint(task, name, answer, errors)?;
     put_all(errors, advice(front, answer).as_bytes())
@@ -182,10 +180,8 @@ fn report_named<S: Source, K: Sink, E: Sink>(
 ) -> Exit
     requires { HasSides task }
     ensures { NamedEnds task name.now front.now result
-        (S.remaining input.old, S.remaining input.new) (S.failure_count input.old, S.failure_count input.new)
-        (K.taken output.old, K.taken output.new) (K.failure_count output.old, K.failure_count output.new)
-        (K.is_flushed output.new)
-        (E.taken errors.old, E.taken errors.new) (E.failure_count errors.old, E.failure_count errors.new) }
+        (change (S.state input.old) (S.state input.new)) (change (K.state output.old) (K.state output.new))
+        (change (E.state errors.old) (E.state errors.new)) }
 {
     let answer = run(alloc, task, input, output);
     let _ = put_said(task, name, front, &answer, errors);
@@ -206,10 +202,8 @@ fn report_file<F: Folder, S: Source, K: Sink, E: Sink>(
 ) -> Exit
     requires { HasSides task }
     ensures { FileEnds task (F.contents folder.now) name.now front.now result
-        (S.remaining input.old, S.remaining input.new) (S.failure_count input.old, S.failure_count input.new)
-        (K.taken output.old, K.taken output.new) (K.failure_count output.old, K.failure_count output.new)
-        (K.is_flushed output.new)
-        (E.taken errors.old, E.taken errors.new) (E.failure_count errors.old, E.failure_count errors.new) }
+        (change (S.state input.old) (S.state input.new)) (change (K.state output.old) (K.state output.new))
+        (change (E.state errors.old) (E.state errors.new)) }
 {
     if name == "-" {
         return report_named(alloc, task, name, front, input, output, errors);
@@ -244,8 +238,7 @@ fn check_quietly<S: Source, E: Sink>(
     errors: &mut E,
 ) -> Exit
     ensures { QuietEnds profile result
-        (S.remaining input.old, S.remaining input.new) (S.failure_count input.old, S.failure_count input.new)
-        (E.taken errors.old, E.taken errors.new) (E.failure_count errors.old, E.failure_count errors.new) }
+        (change (S.state input.old) (S.state input.new)) (change (E.state errors.old) (E.state errors.new)) }
 {
     match judge(alloc, profile, input) {
         Ok(verdict) => exit_of(Ok(status_of(&verdict))),
@@ -266,8 +259,7 @@ fn put_judged<K: Sink, E: Sink>(
     errors: &mut E,
 ) -> Result<Exit, DeviceFault>
     ensures { IsOutcome is_quiet name.now (line_of judged) (answer_of judged) result
-        (K.taken output.old, K.taken output.new) (K.failure_count output.old, K.failure_count output.new)
-        (E.taken errors.old, E.taken errors.new) (E.failure_count errors.old, E.failure_count errors.new) }
+        (change (K.state output.old) (K.state output.new)) (change (E.state errors.old) (E.state errors.new)) }
 {
     match judged {
         Ok(verdict) => {
@@ -296,15 +288,14 @@ fn check_named<S: Source, K: Sink, E: Sink>(
     ensures { (line : Text) × (answer : Result AStatus AFault)
         × IsFileEnd profile (record {
           name = name.now;
-          told = S.remaining input.old;
-          left = S.remaining input.new;
+          told = (S.state input.old).remaining;
+          left = (S.state input.new).remaining;
           line = line;
           answer = answer;
         })
-        × (S.failure_count input.new ≡ failures_by ReadFault answer (S.failure_count input.old))
+        × ((S.state input.new).failures ≡ failures_by ReadFault answer (S.state input.old).failures)
         × IsOutcome is_quiet name.now line answer result
-        (K.taken output.old, K.taken output.new) (K.failure_count output.old, K.failure_count output.new)
-        (E.taken errors.old, E.taken errors.new) (E.failure_count errors.old, E.failure_count errors.new) }
+        (change (K.state output.old) (K.state output.new)) (change (E.state errors.old) (E.state errors.new)) }
 {
     let judged = judge(alloc, profile, input);
     put_judged(profile, is_quiet, name, judged, output, errors)
@@ -322,9 +313,8 @@ fn check_file<F: Folder, S: Source, K: Sink, E: Sink>(
     errors: &mut E,
 ) -> Result<Exit, DeviceFault>
     ensures { IsChecked profile is_quiet (F.contents folder.now) name.now result
-        (S.remaining input.old, S.remaining input.new) (S.failure_count input.old, S.failure_count input.new)
-        (K.taken output.old, K.taken output.new) (K.failure_count output.old, K.failure_count output.new)
-        (E.taken errors.old, E.taken errors.new) (E.failure_count errors.old, E.failure_count errors.new) }
+        (change (S.state input.old) (S.state input.new)) (change (K.state output.old) (K.state output.new))
+        (change (E.state errors.old) (E.state errors.new)) }
 {
     if name == "-" {
         return check_named(alloc, profile, is_quiet, name, input, output, errors);
@@ -350,7 +340,7 @@ fn worse(a: Exit, b: Exit) -> Exit
 fn unwritten<E: Sink>(errors: &mut E) -> Exit
     ensures exit { result ≡ Exit.Refused }
     ensures said { IsPut (fault_line RunFault.Write)
-        (E.taken errors.old, E.taken errors.new) (E.failure_count errors.old, E.failure_count errors.new) }
+        (change (E.state errors.old) (E.state errors.new)) }
 {
     let _ = write_fault(&RunFault::Write, errors);
     Exit::Refused
@@ -368,10 +358,8 @@ fn check_files<F: Folder, S: Source, K: Sink, E: Sink>(
     errors: &mut E,
 ) -> Exit
     ensures { FilesEnd profile is_quiet (F.contents folder.now) (map string_bytes names.now) result
-        (S.remaining input.old, S.remaining input.new) (S.failure_count input.old, S.failure_count input.new)
-        (K.taken output.old, K.taken output.new) (K.failure_count output.old, K.failure_count output.new)
-        (K.is_flushed output.new)
-        (E.taken errors.old, E.taken errors.new) (E.failure_count errors.old, E.failure_count errors.new) }
+        (change (S.state input.old) (S.state input.new)) (change (K.state output.old) (K.state output.new))
+        (change (E.state errors.old) (E.state errors.new)) }
 {
     let mut exit = Exit::Done;
     for name in names {
@@ -412,10 +400,8 @@ pub fn answer<F: Folder, S: Source, K: Sink, E: Sink>(
     requires { HasSides request.now.task }
     ensures { RequestEnds request.now.task request.now.is_quiet (map string_bytes request.now.files.items)
         (F.contents folder.now) front.now result
-        (S.remaining input.old, S.remaining input.new) (S.failure_count input.old, S.failure_count input.new)
-        (K.taken output.old, K.taken output.new) (K.failure_count output.old, K.failure_count output.new)
-        (K.is_flushed output.new)
-        (E.taken errors.old, E.taken errors.new) (E.failure_count errors.old, E.failure_count errors.new) }
+        (change (S.state input.old) (S.state input.new)) (change (K.state output.old) (K.state output.new))
+        (change (E.state errors.old) (E.state errors.new)) }
 {
     let names = request.files.as_slice();
     let is_quiet = request.is_quiet;

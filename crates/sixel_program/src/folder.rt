@@ -2,7 +2,7 @@
 
 ghost use Rattle.std.specs.Prelude.{◌≡◌, IfErr, IfOk, ℕ, List, None, Option};
 
-use sixel_grammar::DeviceFault;
+use sixel_io::DeviceFault;
 use std::fs::File;
 use std::io;
 use std::io::{Read, Stdin};

@@ -3,6 +3,7 @@
 ghost use Rattle.std.specs.Prelude.{◌≡◌, ◌<◌, ◌≤◌, ◌∷◌, ◌++◌, [], ℕ, All, Bool, Contains, List, Err, Ok, Some};
 ghost use Rattle.std.specs.Prelude.{Option, codes, false, map, true};
 ghost use Rattle.std.specs.List.{concat};
+ghost use Rattle.sixel_io.specs.Devices.{Change, SinkState};
 ghost use Rattle.sixel_model.specs.declared.profile.Profile.{Profile};
 ghost use Rattle.sixel_grammar.specs.declared.fault.Fault.{Fault};
 ghost use Rattle.sixel_run.specs.declared.fault.RunFault.{RunFault};
@@ -36,8 +37,7 @@ pub fn several_files_are_checked_one_by_one()
     ensures greatest { (ends : List FileEnd) → All (λ e. exit_code (exit_of_end e) ≤ exit_code (files_exit ends)) ends }
     ensures reached { (e : FileEnd) (more : List FileEnd) →
         Contains (map exit_of_end (e ∷ more)) (files_exit (e ∷ more)) }
-    ensures said { (texts : List Text) (taken : Option (List ℕ) × Option (List ℕ)) (failures : ℕ × ℕ) →
-        ArePut texts taken failures → IsSaid (concat texts) taken failures }
+    ensures said { (texts : List Text) (sink : Change SinkState) → ArePut texts sink → IsSaid (concat texts) sink }
 {}
 
 /// The name of a file is printed without control characters, so that it can't end a line; and one that has none is

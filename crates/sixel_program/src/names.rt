@@ -1,11 +1,11 @@
 //! Names of files as they are printed, and lines that begin with one.
 
 ghost use Rattle.std.specs.Prelude.{◌≡◌, ◌<◌, ◌++◌, IfSome};
-ghost use Rattle.sixel_grammar.specs.Devices.{CountsFailure, Puts};
+ghost use Rattle.sixel_io.specs.Devices.{Writes};
 ghost use Rattle.sixel_program.specs.Names.{hex_digit, printed, printed_byte};
 
 use arrayvec::ArrayVec;
-use sixel_grammar::{DeviceFault, Sink, put_all};
+use sixel_io::{DeviceFault, Sink, put_all};
 
 /// Room for any line that begins with the name of a file: a name has at most 4,095 bytes, each printed as four at
 /// most, and what is printed around it has at most 260.
@@ -79,9 +79,8 @@ pub fn put_named<K: Sink>(
     after: &[u8],
     rest: &[u8],
 ) -> Result<(), DeviceFault>
-    ensures bytes { Puts result (K.taken out.old) (K.taken out.new)
+    ensures { Writes result (K.state out.old) (K.state out.new)
         (before.now ++ printed name.now ++ after.now ++ rest.now) }
-    ensures failures { CountsFailure result (K.failure_count out.old) (K.failure_count out.new) }
 {
     match joined(before, name, after, rest) {
         Some(line) => put_all(out, line.as_slice()),
@@ -97,9 +96,8 @@ fn put_parts<K: Sink>(
     after: &[u8],
     rest: &[u8],
 ) -> Result<(), DeviceFault>
-    ensures bytes { Puts result (K.taken out.old) (K.taken out.new)
+    ensures { Writes result (K.state out.old) (K.state out.new)
         (before.now ++ printed name.now ++ after.now ++ rest.now) }
-    ensures failures { CountsFailure result (K.failure_count out.old) (K.failure_count out.new) }
 {
     put_all(out, before)?;
     put_name(out, name.as_bytes())?;
@@ -109,8 +107,7 @@ fn put_parts<K: Sink>(
 
 /// Puts a name as it is printed, byte by byte.
 fn put_name<K: Sink>(out: &mut K, name: &[u8]) -> Result<(), DeviceFault>
-    ensures bytes { Puts result (K.taken out.old) (K.taken out.new) (printed name.now) }
-    ensures failures { CountsFailure result (K.failure_count out.old) (K.failure_count out.new) }
+    ensures { Writes result (K.state out.old) (K.state out.new) (printed name.now) }
 {
     for byte in name {
         put_all(out, printed_byte(*byte).as_slice())?;

@@ -2,7 +2,7 @@
 
 ghost use Rattle.std.specs.Prelude.{None};
 
-use sixel_grammar::DeviceFault;
+use sixel_io::DeviceFault;
 use sixel_program::Folder;
 use std::io;
 use std::io::{Error, Read};

@@ -3,7 +3,7 @@
 ghost use Rattle.sixel_run.specs.Outputs.{HasSides};
 
 use crate::ends::{NO_FILES, plain};
-use sixel_grammar::ToWrite;
+use sixel_io::ToWrite;
 use sixel_model::Profile;
 use sixel_ppm::PpmReason;
 use sixel_program::{Exit, execute, tell};

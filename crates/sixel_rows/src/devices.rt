@@ -2,7 +2,7 @@
 
 ghost use Rattle.std.specs.Prelude.{None};
 
-use sixel_grammar::{DeviceFault, Sink, Source};
+use sixel_io::{DeviceFault, Sink, Source};
 use std::alloc::Global;
 
 /// How many bytes move in a call.
@@ -35,9 +35,7 @@ impl<'a> CutSource<'a> {
 }
 
 impl<'a> Source for CutSource<'a> {
-    ghost remaining = { λ s. None };
-
-    ghost failure_count = { λ s. 0 };
+    ghost state = { λ s. record { remaining = None; failures = 0; } };
 
     fn fill(&mut self, piece: &mut [u8]) -> Result<usize, DeviceFault> {
         let count = self.next.max(1).min(piece.len()).min(self.rest.len());
@@ -77,11 +75,7 @@ impl KeepingSink {
 }
 
 impl Sink for KeepingSink {
-    ghost taken = { λ s. None };
-
-    ghost failure_count = { λ s. s.failures };
-
-    ghost is_flushed = { λ s. s.is_flushed };
+    ghost state = { λ s. record { taken = None; failures = s.failures; is_flushed = s.is_flushed; } };
 
     fn take(&mut self, piece: &[u8]) -> Result<usize, DeviceFault> {
         let count = self.most.max(1).min(piece.len());

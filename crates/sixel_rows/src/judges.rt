@@ -2,7 +2,8 @@
 
 use crate::steps::verdict_by_events;
 use sixel_check::{Rule, Verdict, check_bytes};
-use sixel_grammar::{Fault, InputFault, Placed, SliceSource, read_all};
+use sixel_grammar::{Fault, InputFault, Placed, read_all};
+use sixel_io::SliceSource;
 use sixel_model::Profile;
 use sixel_plain::{Documents, Made, PlainVerdict, is_left, judge_events};
 use std::alloc::{AllocError, Global};

@@ -1,7 +1,8 @@
 //! Whether terminals show what a verdict says.
 
 use sixel_check::{Finding, Rule, Verdict, check_bytes};
-use sixel_grammar::{InputFault, Placed, SliceSource, read_all};
+use sixel_grammar::{InputFault, Placed, read_all};
+use sixel_io::SliceSource;
 use sixel_model::{Picture, Profile};
 use sixel_plain::{Choice, MOST_SHOWN, all_show, terminals_differ};
 use std::alloc::{AllocError, Global};

@@ -8,16 +8,16 @@ use Rattle.std.proofs.lemmas.List.{append-nil, take-append-drop, take_all}
 use Rattle.sixel_grammar.specs.declared.command.Placed.{Placed}
 use Rattle.sixel_grammar.specs.declared.fault.Fault.{Fault}
 use Rattle.sixel_grammar.specs.declared.reader.Reader.{Reader}
-use Rattle.sixel_grammar.specs.Blocks.{PutsAllOrNone, TakesMore, in_all}
-use Rattle.sixel_grammar.specs.Devices.{Puts}
+use Rattle.sixel_io.specs.Blocks.{PutsWhole, TakesMore, WritesThrough, in_all}
+use Rattle.sixel_io.specs.Devices.{SinkState}
 use Rattle.sixel_grammar.specs.Faults.{IsFaultOf}
 use Rattle.sixel_grammar.specs.Standing.{Refuses, StandsAfter, Takes}
 use Rattle.sixel_run.specs.declared.fault.RunFault.{RunFault}
 use Rattle.sixel_run.specs.declared.fault.RunFault.TheVariants.{Grammar, Ppm, NotRgb, NoBox, OutOfMemory, Read, Write}
 use Rattle.sixel_run.specs.Feeding.{Feeds, RefusesAt, StopsIn}
 use Rattle.sixel_run.specs.Texts.{BeginsWith, event_line, list_text}
-use Rattle.sixel_grammar.proofs.DeviceLemmas.{Appends-then}
-use Rattle.sixel_grammar.proofs.SinkLemmas.{Appends-keeps, Appends-none, puts-whole}
+use Rattle.sixel_io.proofs.DeviceLemmas.{Appends-then}
+use Rattle.sixel_io.proofs.SinkLemmas.{Appends-keeps, Appends-none, through-as, through-whole}
 use Rattle.sixel_grammar.proofs.SourceLemmas.{one_past, split_past}
 use Rattle.sixel_run.proofs.PutLemmas.{begins-then, cut, drained}
 
@@ -107,10 +107,10 @@ fed-stopped (Err NoBox) reader piece had mid has ws w v events bytes e kept grow
 fed-stopped (Err OutOfMemory) reader piece had mid has ws w v events bytes e kept grows fed = absurd fed
 
 -- the line of an event was put
-pub line-put : {A E : Type 0} (result : Result A E) (placed : Placed) (old new : Option (List ℕ)) (text : List ℕ)
-    → text ≡ event_line placed → PutsAllOrNone result old new text → Puts result old new (list_text (placed ∷ []))
-line-put result placed old new text e put =
-    subst (λ (t : List ℕ). Puts result old new t) (e ∙ sym (append-nil _)) (puts-whole result old new text put)
+pub line-put : {A E : Type 0} (result : Result A E) (placed : Placed) {a b : SinkState} {u v text : List ℕ}
+    → text ≡ event_line placed → PutsWhole result a b u v text
+    → WritesThrough result a b u v (list_text (placed ∷ []))
+line-put result placed e put = through-as (e ∙ sym (append-nil _)) (through-whole result put)
 
 -- ---- a piece, byte by byte
 

@@ -12,7 +12,7 @@ use Rattle.sixel_grammar.specs.Document.{Document, most_bytes}
 use Rattle.sixel_grammar.specs.Fronts.{CompleteIn}
 use Rattle.sixel_grammar.specs.Faults.{IsFaultOf}
 use Rattle.sixel_grammar.specs.Standing.{StandsAfter}
-use Rattle.sixel_grammar.proofs.DeviceLemmas.{Appends-then}
+use Rattle.sixel_io.proofs.DeviceLemmas.{Appends-then}
 use Rattle.sixel_grammar.proofs.SourceLemmas.{consumes-then, all_read, take_none}
 use Rattle.sixel_grammar.proofs.StandLemmas.{read_complete, read_short}
 use Rattle.sixel_grammar.proofs.TotalLemmas.{before_fault, place_past}

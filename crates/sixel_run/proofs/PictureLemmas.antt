@@ -7,7 +7,9 @@ use Rattle.sixel_grammar.specs.declared.command.Placed.{Placed}
 use Rattle.sixel_grammar.specs.declared.fault.Fault.{Fault}
 use Rattle.sixel_grammar.specs.Document.{Document}
 use Rattle.sixel_grammar.specs.Faults.{IsFaultOf}
-use Rattle.sixel_grammar.proofs.SinkLemmas.{Appends-none, nothing_put}
+use Rattle.sixel_io.specs.Devices.{SinkState}
+use Rattle.sixel_run.proofs.PutLemmas.{nothing-written}
+use Rattle.sixel_io.proofs.SinkLemmas.{Appends-none}
 use Rattle.sixel_grammar.proofs.TotalLemmas.{judged}
 use Rattle.sixel_grammar.proofs.UniqueLemmas.{fault_no_document, fault_once}
 use Rattle.sixel_ppm.specs.declared.ppm.PpmFault.{PpmFault}
@@ -123,43 +125,43 @@ render-gives registers bytes =
 
 -- ---- what is written
 
-picture_rendered : (registers : ℕ) (bytes : List ℕ) (p : PictureValue) (had has : Option (List ℕ))
+picture_rendered : (registers : ℕ) (bytes : List ℕ) (p : PictureValue) (had has : SinkState)
     → CheckAnswers registers (Ok (Portable p)) bytes
     → WritesPpm {A = Unit {0}} (Ok tt) had has p.width p.height (colours_of p)
-    → WroteBy (RenderGives registers bytes) WroteNothing (Ok Done) had has
+    → WroteBy (RenderGives registers bytes) WroteNothing (Ok Done) had.taken has.taken
 picture_rendered registers bytes p had has given put =
-    (ppm_text p.width p.height (colours_of p), (given.0, given.1, (Portable p, given.2, rw put.0 refl)), put.1)
+    (ppm_text p.width p.height (colours_of p), (given.0, given.1, (Portable p, given.2, rw put.0 refl)), put.1.taken)
 
-picture_unrendered : (registers : ℕ) (bytes : List ℕ) (p : PictureValue) (fault : PpmFault) (had has : Option (List ℕ))
+picture_unrendered : (registers : ℕ) (bytes : List ℕ) (p : PictureValue) (fault : PpmFault) (had has : SinkState)
     → CheckAnswers registers (Ok (Portable p)) bytes
     → WritesPpm {A = Unit {0}} (Err fault) had has p.width p.height (colours_of p)
-    → WroteBy (RenderGives registers bytes) WroteNothing (Err (of_ppm fault)) had has
+    → WroteBy (RenderGives registers bytes) WroteNothing (Err (of_ppm fault)) had.taken has.taken
 picture_unrendered registers bytes p ppm.Write had has given put =
     let whole : Text = ppm_text p.width p.height (colours_of p) in (
-      take put.1 whole,
-      put.2,
+      take put.1.taken.0 whole,
+      put.1.taken.1,
       λ text answer g.
           let same = (render-once _ bytes text whole answer (Ok Done) g
           (given.0, given.1, (Portable p, given.2, rw put.0 refl))).0 in
-          (drop put.1 whole, same ∙ sym (take-append-drop put.1 whole)),
+          (drop put.1.taken.0 whole, same ∙ sym (take-append-drop put.1.taken.0 whole)),
     )
 picture_unrendered registers bytes p ppm.NotRgb had has given put =
-    ([], (given.0, given.1, (Portable p, given.2, rw put.0 refl)), nothing_put had has put.1)
+    ([], (given.0, given.1, (Portable p, given.2, rw put.0 refl)), nothing-written had has put.1)
 picture_unrendered registers bytes p (ppm.Format reason place) had has given put = absurd put
 picture_unrendered registers bytes p ppm.OutOfMemory had has given put = absurd put
 picture_unrendered registers bytes p ppm.Read had has given put = absurd put
 
-pub rendered : (registers : ℕ) (a : Option (List ℕ)) (p : PictureValue) (had has : Option (List ℕ))
+pub rendered : (registers : ℕ) (a : Option (List ℕ)) (p : PictureValue) (had has : SinkState)
     → IfSome a (CheckAnswers registers (Ok (Portable p)))
     → WritesPpm {A = Unit {0}} (Ok tt) had has p.width p.height (colours_of p)
-    → IfSome a (λ bytes. WroteBy (RenderGives registers bytes) WroteNothing (Ok Done) had has)
+    → IfSome a (λ bytes. WroteBy (RenderGives registers bytes) WroteNothing (Ok Done) had.taken has.taken)
 rendered registers None p had has given put = tt
 rendered registers (Some bytes) p had has given put = picture_rendered _ bytes p had has given put
 
-pub unrendered : (registers : ℕ) (a : Option (List ℕ)) (p : PictureValue) (fault : PpmFault) (had has : Option (List ℕ))
+pub unrendered : (registers : ℕ) (a : Option (List ℕ)) (p : PictureValue) (fault : PpmFault) (had has : SinkState)
     → IfSome a (CheckAnswers registers (Ok (Portable p)))
     → WritesPpm {A = Unit {0}} (Err fault) had has p.width p.height (colours_of p)
-    → IfSome a (λ bytes. WroteBy (RenderGives registers bytes) WroteNothing (Err (of_ppm fault)) had has)
+    → IfSome a (λ bytes. WroteBy (RenderGives registers bytes) WroteNothing (Err (of_ppm fault)) had.taken has.taken)
 unrendered registers None p fault had has given put = tt
 unrendered registers (Some bytes) p fault had has given put = picture_unrendered _ bytes p fault had has given put
 

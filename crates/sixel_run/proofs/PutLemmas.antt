@@ -2,8 +2,14 @@
 use Rattle.std.proofs.Common.{◌≡◌, ◌∙◌, ℕ, List, [], ◌++◌, Option, Some, None, refl, sym, ap, append_assoc}
 use Rattle.std.proofs.lemmas.List.{append-nil, append_cancel_left}
 use Rattle.std.specs.Io.KnownBytes.{Appends, Keeps}
-use Rattle.sixel_grammar.specs.Blocks.{TakesMore, in_all}
+use Rattle.sixel_io.specs.Blocks.{TakesMore, in_all}
+use Rattle.sixel_io.specs.Devices.{SinkState}
+use Rattle.sixel_io.proofs.SinkLemmas.{Appends-none}
+use Rattle.sixel_run.specs.Outputs.{WroteNothing}
 use Rattle.sixel_run.specs.Texts.{Text, BeginsWith}
+
+pub nothing-written : (had has : SinkState) → has ≡ had → WroteNothing had.taken has.taken
+nothing-written had has same = rw same (Appends-none had.taken)
 
 -- an empty block that was drained again: all went to the sink
 pub drained : (had mid has : Option (List ℕ)) (ws w v text : List ℕ) → ws ≡ [] → v ≡ []

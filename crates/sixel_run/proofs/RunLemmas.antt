@@ -21,7 +21,7 @@ use Rattle.sixel_run.proofs.CheckLemmas.{check-gives, check-once}
 use Rattle.sixel_run.proofs.FileLemmas.{encode-gives, encode-once}
 use Rattle.sixel_run.proofs.PictureLemmas.{render-gives, render-once}
 use Rattle.sixel_run.proofs.ScreenLemmas.{show-gives, show-once}
-use Rattle.sixel_grammar.proofs.SinkLemmas.{Appends-keeps}
+use Rattle.sixel_io.proofs.SinkLemmas.{Appends-keeps}
 use Rattle.sixel_grammar.proofs.TotalLemmas.{judged, viable_before}
 
 -- ---- lists

@@ -1,6 +1,6 @@
 -- What a run of `show` owes.
 use Rattle.std.proofs.Common.{◌≡◌, ◌∙◌, ℕ, ◌+◌, ◌*◌, Bool, true, false, List, [], ◌∷◌, ◌++◌, length, map, take, drop}
-use Rattle.std.proofs.Common.{Option, arith, refl, sym, ap, subst, inl, inr}
+use Rattle.std.proofs.Common.{arith, refl, sym, ap, subst, inl, inr}
 use Rattle.std.specs.Prelude.{Result, Ok, Err, IsTrue, IsFalse}
 use Rattle.std.specs.Io.KnownBytes.{Appends}
 use Rattle.std.specs.List.{range_with_len}
@@ -28,7 +28,8 @@ use Rattle.sixel_run.specs.Outputs.{ShowGives, WroteBy, WroteNothing}
 use Rattle.sixel_model.specs.declared.profile.Profile.{Profile}
 use Rattle.sixel_run.specs.Screens.{grey, percent_at, screen_text}
 use Rattle.sixel_run.specs.Texts.{Text, BeginsWith}
-use Rattle.sixel_grammar.proofs.SinkLemmas.{Appends-keeps, Appends-none}
+use Rattle.sixel_io.specs.Devices.{SinkState}
+use Rattle.sixel_run.proofs.PutLemmas.{nothing-written}
 
 -- two readings of one document are shown in the same colours
 same-screen : (t : Display) (bytes : List ℕ) (d e : List Placed) → Document d bytes → Document e bytes
@@ -120,29 +121,29 @@ written-begins t bytes d n doc rgb text answer g =
       same ∙ sym (take-append-drop n (screen_text t (events_of d))),
     )
 
-pub written : {A : Type 0} (t : Display) (bytes : List ℕ) (d : List Placed) (had has : Option (List ℕ))
+pub written : {A : Type 0} (t : Display) (bytes : List ℕ) (d : List Placed) (had has : SinkState)
     (colours : List Parts) (x : A) → Document d bytes → colours ≡ screen_on t (events_of d)
     → WritesPpm {A = A} (Ok x) had has t.choices.screen_width t.choices.screen_height colours
-    → WroteBy (ShowGives t bytes) WroteNothing (Ok Done) had has
+    → WroteBy (ShowGives t bytes) WroteNothing (Ok Done) had.taken has.taken
 unfolding screen_text
 written t bytes d had has colours x doc is put =
     let w = t.choices.screen_width in let h = t.choices.screen_height in (
       screen_text t (events_of d),
       (refl, (d, doc, subst (λ (cs : List Parts). IsTrue (are_rgb cs)) is put.0, refl)),
-      subst (λ (cs : List Parts). Appends had has (ppm_text w h cs)) is put.1,
+      subst (λ (cs : List Parts). Appends had.taken has.taken (ppm_text w h cs)) is put.1.taken,
     )
 
-pub unwritten : (A : Type 0) (t : Display) (bytes : List ℕ) (d : List Placed) (had has : Option (List ℕ))
+pub unwritten : (A : Type 0) (t : Display) (bytes : List ℕ) (d : List Placed) (had has : SinkState)
     (colours : List Parts) (fault : PpmFault) → Document d bytes → colours ≡ screen_on t (events_of d)
     → WritesPpm {A = A} (Err fault) had has t.choices.screen_width t.choices.screen_height colours
-    → WroteBy (ShowGives t bytes) WroteNothing (Err (of_ppm fault)) had has
+    → WroteBy (ShowGives t bytes) WroteNothing (Err (of_ppm fault)) had.taken has.taken
 unfolding screen_text
 unwritten A t bytes d had has colours ppm.Write doc is put =
     let w = t.choices.screen_width in let h = t.choices.screen_height in
     let rgb = subst (λ (cs : List Parts). IsTrue (are_rgb cs)) is put.0 in (
-      take put.1 (screen_text t (events_of d)),
-      subst (λ (cs : List Parts). Appends had has (take put.1 (ppm_text w h cs))) is put.2,
-      written-begins t bytes d put.1 doc rgb,
+      take put.1.taken.0 (screen_text t (events_of d)),
+      subst (λ (cs : List Parts). Appends had.taken has.taken (take put.1.taken.0 (ppm_text w h cs))) is put.1.taken.1,
+      written-begins t bytes d put.1.taken.0 doc rgb,
     )
 unwritten A t bytes d had has colours (ppm.Format reason place) doc is put = absurd put
 unwritten A t bytes d had has colours ppm.OutOfMemory doc is put = absurd put
@@ -150,5 +151,5 @@ unwritten A t bytes d had has colours ppm.Read doc is put = absurd put
 unwritten A t bytes d had has colours ppm.NotRgb doc is put = (
   [],
   (refl, (d, doc, subst (λ (cs : List Parts). IsFalse (are_rgb cs)) is put.0)),
-  Appends-keeps had had has [] (Appends-none had) put.1,
+  nothing-written had has put.1,
 )

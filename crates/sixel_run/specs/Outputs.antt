@@ -3,7 +3,7 @@ use Rattle.std.specs.Prelude.{◌≡◌, ◌⊎◌, ℕ, List, [], ◌≤◌, le
 use Rattle.std.specs.Prelude.{Result, Ok, Err, if◌then◌else◌}
 use Rattle.std.specs.Io.KnownBytes.{Appends, Consumes}
 use Rattle.sixel_grammar.specs.declared.command.Placed.{Placed}
-use Rattle.sixel_grammar.specs.Devices.{one_more}
+use Rattle.sixel_io.specs.Devices.{one_more}
 use Rattle.sixel_grammar.specs.Document.{Document, events_of, most_bytes}
 use Rattle.sixel_grammar.specs.Fronts.{CompleteIn}
 use Rattle.sixel_grammar.specs.Faults.{IsFaultOf}

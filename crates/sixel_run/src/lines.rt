@@ -2,7 +2,7 @@
 
 ghost use Rattle.std.specs.Prelude.{◌≡◌, ◌+◌, ◌*◌, ◌≤◌, ◌++◌, ◌∷◌, [], codes, length, decimal};
 ghost use Rattle.arrayvec.specs.ArrayVec.{array_vec_len};
-ghost use Rattle.sixel_grammar.specs.Devices.{CountsFailure, NeverFlushes, Puts};
+ghost use Rattle.sixel_io.specs.Devices.{Writes};
 ghost use Rattle.sixel_run.specs.Texts.{event_line, event_parts, fault_line, finding_line, kind_name, numbers, pixel_parts};
 ghost use Rattle.sixel_run.specs.Texts.{portable_line, ppm_reason_name, reason_name, rule_name, spaced, verdict_line};
 
@@ -10,7 +10,8 @@ use crate::fault::RunFault;
 use arrayvec::ArrayVec;
 use itoa::Buffer;
 use sixel_check::{Finding, Rule, Verdict};
-use sixel_grammar::{Command, DeviceFault, Event, Placed, Reason, Sink, put_all};
+use sixel_grammar::{Command, Event, Placed, Reason};
+use sixel_io::{DeviceFault, Sink, put_all};
 use sixel_model::Picture;
 use sixel_ppm::PpmReason;
 
@@ -192,9 +193,7 @@ pub fn fault_line(fault: &RunFault) -> Line
 
 /// Writes the line of a fault, or on an `Err` a front of it. It doesn't flush.
 pub fn write_fault<K: Sink>(fault: &RunFault, out: &mut K) -> Result<(), DeviceFault>
-    ensures bytes { Puts result (K.taken out.old) (K.taken out.new) (fault_line fault.now) }
-    ensures unflushed { NeverFlushes (K.is_flushed out.old) (K.is_flushed out.new) }
-    ensures failures { CountsFailure result (K.failure_count out.old) (K.failure_count out.new) }
+    ensures { Writes result (K.state out.old) (K.state out.new) (fault_line fault.now) }
 {
     let line = fault_line(fault);
     put_all(out, line.as_slice())
@@ -251,9 +250,7 @@ pub fn finding_line(finding: &Finding) -> Line
 
 /// Writes the line of a finding, or on an `Err` a front of it. It doesn't flush.
 pub fn write_finding<K: Sink>(finding: &Finding, out: &mut K) -> Result<(), DeviceFault>
-    ensures bytes { Puts result (K.taken out.old) (K.taken out.new) (finding_line finding.now) }
-    ensures unflushed { NeverFlushes (K.is_flushed out.old) (K.is_flushed out.new) }
-    ensures failures { CountsFailure result (K.failure_count out.old) (K.failure_count out.new) }
+    ensures { Writes result (K.state out.old) (K.state out.new) (finding_line finding.now) }
 {
     put_all(out, finding_line(finding).as_slice())
 }
@@ -272,9 +269,7 @@ fn portable_line(picture: &Picture) -> Line
 
 /// Writes the line of a verdict, or on an `Err` a front of it. It doesn't flush.
 pub fn write_verdict<K: Sink>(verdict: &Verdict, out: &mut K) -> Result<(), DeviceFault>
-    ensures bytes { Puts result (K.taken out.old) (K.taken out.new) (verdict_line verdict.now) }
-    ensures unflushed { NeverFlushes (K.is_flushed out.old) (K.is_flushed out.new) }
-    ensures failures { CountsFailure result (K.failure_count out.old) (K.failure_count out.new) }
+    ensures { Writes result (K.state out.old) (K.state out.new) (verdict_line verdict.now) }
 {
     match verdict {
         Verdict::Portable(picture) => put_all(out, portable_line(picture).as_slice()),

@@ -12,7 +12,7 @@ mod show_box;
 
 use crate::fault::RunFault;
 use crate::task::{Status, Task};
-use sixel_grammar::{Sink, Source};
+use sixel_io::{Sink, Source};
 use std::alloc::Global;
 
 /// Runs a task: reads the input as far as the task wants it, writes what it gives, and flushes once at the end.
@@ -27,12 +27,12 @@ pub fn run<S: Source, K: Sink>(
     output: &mut K,
 ) -> Result<Status, RunFault>
     requires { HasSides task }
-    ensures wrote { IfSome (S.remaining input.old) (λ bytes.
-        Wrote task bytes (S.remaining input.new) result (K.taken output.old) (K.taken output.new)) }
-    ensures memory { result ≡ Err RunFault.OutOfMemory → TakesMemory task (S.remaining input.old) }
-    ensures reads { CountsReads result (S.failure_count input.old) (S.failure_count input.new) }
-    ensures writes { CountsWrites result (K.failure_count output.old) (K.failure_count output.new) }
-    ensures flushed { result ≢ Err RunFault.Write → K.is_flushed output.new ≡ true }
+    ensures wrote { IfSome (S.state input.old).remaining (λ bytes.
+        Wrote task bytes (S.state input.new).remaining result (K.state output.old).taken (K.state output.new).taken) }
+    ensures memory { result ≡ Err RunFault.OutOfMemory → TakesMemory task (S.state input.old).remaining }
+    ensures reads { CountsReads result (S.state input.old).failures (S.state input.new).failures }
+    ensures writes { CountsWrites result (K.state output.old).failures (K.state output.new).failures }
+    ensures flushed { result ≢ Err RunFault.Write → (K.state output.new).is_flushed ≡ true }
 {
     let answer = perform(alloc, task, input, output);
     match answer {
@@ -52,11 +52,11 @@ fn perform<S: Source, K: Sink>(
     output: &mut K,
 ) -> Result<Status, RunFault>
     requires { HasSides task }
-    ensures wrote { IfSome (S.remaining input.old) (λ bytes.
-        Wrote task bytes (S.remaining input.new) result (K.taken output.old) (K.taken output.new)) }
-    ensures memory { result ≡ Err RunFault.OutOfMemory → TakesMemory task (S.remaining input.old) }
-    ensures reads { S.failure_count input.new ≡ failures_by RunFault.Read result (S.failure_count input.old) }
-    ensures writes { CountsWrites result (K.failure_count output.old) (K.failure_count output.new) }
+    ensures wrote { IfSome (S.state input.old).remaining (λ bytes.
+        Wrote task bytes (S.state input.new).remaining result (K.state output.old).taken (K.state output.new).taken) }
+    ensures memory { result ≡ Err RunFault.OutOfMemory → TakesMemory task (S.state input.old).remaining }
+    ensures reads { (S.state input.new).failures ≡ failures_by RunFault.Read result (S.state input.old).failures }
+    ensures writes { CountsWrites result (K.state output.old).failures (K.state output.new).failures }
 {
     match task {
         Task::List => list::list(input, output),

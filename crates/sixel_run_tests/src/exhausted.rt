@@ -3,7 +3,8 @@
 ghost use Rattle.sixel_run.specs.Outputs.{HasSides};
 
 use sixel_check::{Verdict, check};
-use sixel_grammar::{InputFault, SliceSink, SliceSource};
+use sixel_grammar::InputFault;
+use sixel_io::{SliceSink, SliceSource};
 use sixel_model::{Colour, Picture, Profile};
 use sixel_plane::{BandPlane, BytePlane, Plane};
 use sixel_ppm::{PpmFault, read_ppm};

@@ -1,5 +1,6 @@
 use sixel_check::{Finding, Rule};
-use sixel_grammar::{DeviceFault, Fault, Reason, SliceSink};
+use sixel_grammar::{Fault, Reason};
+use sixel_io::{DeviceFault, SliceSink};
 use sixel_ppm::PpmReason;
 use sixel_run::{RunFault, finding_line, write_fault};
 use std::test::Fail;

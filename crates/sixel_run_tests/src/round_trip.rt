@@ -1,7 +1,7 @@
 ghost use Rattle.sixel_run.specs.Outputs.{HasSides};
 
 use sixel_check::{Verdict, check_bytes};
-use sixel_grammar::{SliceSink, SliceSource};
+use sixel_io::{SliceSink, SliceSource};
 use sixel_model::{Colour, Palette, Picture, Profile};
 use sixel_run::{Status, Task, run};
 use std::alloc::{AllocError, Global};

@@ -3,7 +3,8 @@
 ghost use Rattle.sixel_run.specs.Outputs.{HasSides};
 
 use crate::watched::{Calls, Watched};
-use sixel_grammar::{Fault, Reason, SliceSink, SliceSource};
+use sixel_grammar::{Fault, Reason};
+use sixel_io::{SliceSink, SliceSource};
 use sixel_run::{RunFault, Status, Task, run};
 use std::alloc::Global;
 

@@ -1,6 +1,6 @@
 //! Devices that count their calls, for tests.
 
-use sixel_grammar::{DeviceFault, Sink, Source};
+use sixel_io::{DeviceFault, Sink, Source};
 
 /// How often a device was called.
 #[derive(Clone, Copy)]
@@ -31,9 +31,7 @@ impl<D> Watched<D> {
 }
 
 impl<D: Source> Source for Watched<D> {
-    ghost remaining = { λ w. D.remaining w.device };
-
-    ghost failure_count = { λ w. D.failure_count w.device };
+    ghost state = { λ w. D.state w.device };
 
     fn fill(&mut self, piece: &mut [u8]) -> Result<usize, DeviceFault> {
         self.calls.fills = self.calls.fills.saturating_add(1);
@@ -46,11 +44,7 @@ impl<D: Source> Source for Watched<D> {
 }
 
 impl<D: Sink> Sink for Watched<D> {
-    ghost taken = { λ w. D.taken w.device };
-
-    ghost failure_count = { λ w. D.failure_count w.device };
-
-    ghost is_flushed = { λ w. D.is_flushed w.device };
+    ghost state = { λ w. D.state w.device };
 
     fn take(&mut self, piece: &[u8]) -> Result<usize, DeviceFault> {
         self.calls.takes = self.calls.takes.saturating_add(1);

@@ -5,7 +5,7 @@ ghost use Rattle.sixel_run.specs.Outputs.{HasSides};
 use crate::round_trip::{encode_into, is_encoded_as, push_pixel, sends};
 use crate::runs::agrees;
 use sixel_check::{Finding, Rule, Verdict, check_bytes};
-use sixel_grammar::{SliceSink, SliceSource};
+use sixel_io::{SliceSink, SliceSource};
 use sixel_model::{Colour, Palette, Picture, Profile};
 use sixel_ppm::PpmReason;
 use sixel_run::{RunFault, Status, Task, run};

@@ -2,7 +2,6 @@
 use Rattle.std.specs.Prelude.{◌==◌, ◌&&◌, ℕ, ◌*◌, Bool, true, not, nat_le, nat_lt, Option, Some, None, List, length}
 use Rattle.std.specs.Prelude.{if◌then◌else◌}
 use Rattle.sixel_model.specs.declared.colour.Parts.{Parts}
-use Rattle.sixel_ppm.specs.Ppm.{most_file_side}
 use Rattle.sixel_terminal.specs.declared.choices.Choices.{Choices}
 use Rattle.sixel_terminal.specs.declared.choices.Ground.{Ground}
 use Rattle.sixel_terminal.specs.declared.choices.Ground.TheVariants.{Kept, Filled}
@@ -22,7 +21,7 @@ is_ground_below registers (Filled register) = nat_lt register registers
 
 -- the greatest side of a screen, in pixels: a screen can be written as a file
 abbrev pub most_screen_side : ℕ
-most_screen_side = most_file_side
+most_screen_side = 4096
 
 abbrev pub is_screen_side : ℕ → Bool
 is_screen_side n = nat_le 1 n && nat_le n most_screen_side

@@ -1,6 +1,7 @@
 //! What the tests share: colours, choices, terminals, and what they show.
 
-use sixel_grammar::{InputFault, Placed, SliceSource, read_all};
+use sixel_grammar::{InputFault, Placed, read_all};
+use sixel_io::SliceSource;
 use sixel_model::{Colour, Parts};
 use sixel_terminal::{Choices, Ground, Terminal};
 use std::alloc::Global;

@@ -10,7 +10,7 @@ ghost use Rattle.sixel_model.specs.declared.colour.Parts.{Parts};
 use crate::ppm::header::{Frame, Next, Progress};
 use crate::ppm::samples::Samples;
 use crate::ppm::{PpmFault, PpmReason};
-use sixel_grammar::{PIECE, Source};
+use sixel_io::{PIECE, Source};
 use sixel_model::{Picture, Profile};
 use std::alloc::Global;
 
@@ -42,8 +42,8 @@ pub fn read_ppm<S: Source>(
     profile: Profile,
     input: &mut S,
 ) -> Result<Picture, PpmFault>
-    ensures bytes { IfSome (S.remaining input.old) (ReadsPpm (count_of profile) result) }
-    ensures failures { CountsReadFault result (S.failure_count input.old) (S.failure_count input.new) }
+    ensures bytes { IfSome (S.state input.old).remaining (ReadsPpm (count_of profile) result) }
+    ensures failures { CountsReadFault result (S.state input.old).failures (S.state input.new).failures }
 {
     let mut piece = [0u8; PIECE];
     let started = read_header(input, &mut piece)?;
@@ -71,9 +71,10 @@ fn feed_header(begun: Progress, piece: &[u8]) -> Fed
 
 /// Reads up to the end of the header, piece by piece.
 fn read_header<S: Source>(input: &mut S, piece: &mut [u8; PIECE]) -> Result<Started, PpmFault>
-    ensures started { IfOk result (λ s. HasStarted (S.remaining input.old) (S.remaining input.new) piece.new s) }
-    ensures failed { IfErr result (λ fault. IfSome (S.remaining input.old) (ReadsHeader fault)) }
-    ensures failures { CountsReadFault result (S.failure_count input.old) (S.failure_count input.new) }
+    ensures started { IfOk result (λ s.
+        HasStarted (S.state input.old).remaining (S.state input.new).remaining piece.new s) }
+    ensures failed { IfErr result (λ fault. IfSome (S.state input.old).remaining (ReadsHeader fault)) }
+    ensures failures { CountsReadFault result (S.state input.old).failures (S.state input.new).failures }
 {
     let mut progress = Progress::new();
     loop {
@@ -106,8 +107,8 @@ fn read_samples<S: Source>(
 ) -> Result<Picture, PpmFault>
     requires { (colours : List Parts) × Holds begun colours }
     ensures bytes { (colours : List Parts) → Holds begun colours →
-        IfSome (S.remaining input.old) (λ rest. ReadsRest result (samples_on begun colours rest)) }
-    ensures failures { CountsReadFault result (S.failure_count input.old) (S.failure_count input.new) }
+        IfSome (S.state input.old).remaining (λ rest. ReadsRest result (samples_on begun colours rest)) }
+    ensures failures { CountsReadFault result (S.state input.old).failures (S.state input.new).failures }
 {
     let mut samples = begun;
     loop {

@@ -11,7 +11,7 @@ use crate::fault::RunFault;
 use crate::lines::write_verdict;
 use crate::task::Status;
 use sixel_check::Verdict;
-use sixel_grammar::{Sink, Source};
+use sixel_io::{Sink, Source};
 use sixel_model::Profile;
 use std::alloc::Global;
 
@@ -22,11 +22,13 @@ pub fn check<S: Source, K: Sink>(
     input: &mut S,
     output: &mut K,
 ) -> Result<Status, RunFault>
-    ensures wrote { IfSome (S.remaining input.old) (λ bytes.
-        WroteBy (CheckGives (count_of profile) bytes) WroteNothing result (K.taken output.old) (K.taken output.new)) }
-    ensures memory { result ≡ Err RunFault.OutOfMemory → IfSome (S.remaining input.old) (MayGrowIn (count_of profile)) }
-    ensures reads { S.failure_count input.new ≡ failures_by Read result (S.failure_count input.old) }
-    ensures writes { CountsWrites result (K.failure_count output.old) (K.failure_count output.new) }
+    ensures wrote { IfSome (S.state input.old).remaining (λ bytes.
+        WroteBy (CheckGives (count_of profile) bytes) WroteNothing result
+        (K.state output.old).taken (K.state output.new).taken) }
+    ensures memory { result ≡ Err RunFault.OutOfMemory →
+        IfSome (S.state input.old).remaining (MayGrowIn (count_of profile)) }
+    ensures reads { (S.state input.new).failures ≡ failures_by Read result (S.state input.old).failures }
+    ensures writes { CountsWrites result (K.state output.old).failures (K.state output.new).failures }
 {
     let verdict = sixel_check::check(alloc, profile, input)?;
     match write_verdict(&verdict, output) {
@@ -37,12 +39,12 @@ pub fn check<S: Source, K: Sink>(
 
 /// Reads the whole input, and answers with the verdict, whose line isn't written.
 pub fn judge<S: Source>(alloc: Global, profile: Profile, input: &mut S) -> Result<Verdict, RunFault>
-    ensures judged { IfSome (S.remaining input.old) (λ bytes.
+    ensures judged { IfSome (S.state input.old).remaining (λ bytes.
         WroteBy (CheckGives (count_of profile) bytes) WroteNothing
         (answer_of result) (Some []) (Some (line_of result))) }
     ensures memory { answer_of result ≡ Err RunFault.OutOfMemory →
-        IfSome (S.remaining input.old) (MayGrowIn (count_of profile)) }
-    ensures reads { S.failure_count input.new ≡ failures_by Read (answer_of result) (S.failure_count input.old) }
+        IfSome (S.state input.old).remaining (MayGrowIn (count_of profile)) }
+    ensures reads { (S.state input.new).failures ≡ failures_by Read (answer_of result) (S.state input.old).failures }
     ensures unwritten { answer_of result ≢ Err RunFault.Write }
 {
     Ok(sixel_check::check(alloc, profile, input)?)

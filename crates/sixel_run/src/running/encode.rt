@@ -8,7 +8,7 @@ ghost use Rattle.sixel_run.specs.Outputs.{CountsWrites, EncodeGives, WroteBy, Wr
 
 use crate::fault::RunFault;
 use crate::task::Status;
-use sixel_grammar::{Sink, Source};
+use sixel_io::{Sink, Source};
 use sixel_model::Profile;
 use sixel_ppm::read_ppm;
 use std::alloc::Global;
@@ -20,11 +20,12 @@ pub fn encode<S: Source, K: Sink>(
     input: &mut S,
     output: &mut K,
 ) -> Result<Status, RunFault>
-    ensures wrote { IfSome (S.remaining input.old) (λ bytes.
-        WroteBy (EncodeGives (count_of profile) bytes) WroteNothing result (K.taken output.old) (K.taken output.new)) }
-    ensures memory { result ≡ Err RunFault.OutOfMemory → IfSome (S.remaining input.old) HasWholeHeader }
-    ensures reads { S.failure_count input.new ≡ failures_by Read result (S.failure_count input.old) }
-    ensures writes { CountsWrites result (K.failure_count output.old) (K.failure_count output.new) }
+    ensures wrote { IfSome (S.state input.old).remaining (λ bytes.
+        WroteBy (EncodeGives (count_of profile) bytes) WroteNothing result
+        (K.state output.old).taken (K.state output.new).taken) }
+    ensures memory { result ≡ Err RunFault.OutOfMemory → IfSome (S.state input.old).remaining HasWholeHeader }
+    ensures reads { (S.state input.new).failures ≡ failures_by Read result (S.state input.old).failures }
+    ensures writes { CountsWrites result (K.state output.old).failures (K.state output.new).failures }
 {
     let picture = read_ppm(alloc, profile, input)?;
     match sixel_encode::encode(&picture, output) {

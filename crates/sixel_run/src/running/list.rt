@@ -4,8 +4,7 @@ ghost use Rattle.std.specs.Prelude.{◌≡◌, ◌≢◌, ◌∷◌, ℕ, List, 
 ghost use Rattle.std.specs.Option.{option_to_list};
 ghost use Rattle.sixel_grammar.specs.declared.command.Event.TheVariants.{Step};
 ghost use Rattle.sixel_grammar.specs.declared.command.Placed.{Placed as Place};
-ghost use Rattle.sixel_grammar.specs.Blocks.{TakesMore, in_all};
-ghost use Rattle.sixel_grammar.specs.Devices.{CountsFailure, Puts};
+ghost use Rattle.sixel_io.specs.Blocks.{TakesMore, WritesThrough, in_all};
 ghost use Rattle.sixel_grammar.specs.Plain.{plain_of};
 ghost use Rattle.sixel_grammar.specs.Standing.{StandsAfter, completions};
 ghost use Rattle.sixel_run.specs.declared.task.Task.TheVariants.{List as Listing};
@@ -17,9 +16,8 @@ use crate::fault::RunFault;
 use crate::lines::event_line;
 use crate::sixel_line::SixelLine;
 use crate::task::Status;
-use sixel_grammar::{
-    Block, Command, Completed, DeviceFault, Event, PIECE, Placed, Plain, Reader, Sink, Source,
-};
+use sixel_grammar::{Command, Completed, Event, Placed, Plain, Reader};
+use sixel_io::{Block, DeviceFault, PIECE, Sink, Source};
 
 /// Room for 12 bytes of lines a byte read. A data byte gives up to 19, so a piece of them leaves in two writes.
 type Lines = Block<786_432>;
@@ -29,11 +27,12 @@ type Lines = Block<786_432>;
 /// It isn't inlined: else its block would stand on the stack of every task.
 #[inline(never)]
 pub fn list<S: Source, K: Sink>(input: &mut S, output: &mut K) -> Result<Status, RunFault>
-    ensures wrote { IfSome (S.remaining input.old) (λ bytes.
-        Wrote Listing bytes (S.remaining input.new) result (K.taken output.old) (K.taken output.new)) }
+    ensures wrote { IfSome (S.state input.old).remaining (λ bytes.
+        Wrote Listing bytes (S.state input.new).remaining result
+        (K.state output.old).taken (K.state output.new).taken) }
     ensures memory { result ≢ Err RunFault.OutOfMemory }
-    ensures reads { S.failure_count input.new ≡ failures_by RunFault.Read result (S.failure_count input.old) }
-    ensures writes { CountsWrites result (K.failure_count output.old) (K.failure_count output.new) }
+    ensures reads { (S.state input.new).failures ≡ failures_by RunFault.Read result (S.state input.old).failures }
+    ensures writes { CountsWrites result (K.state output.old).failures (K.state output.new).failures }
 {
     let mut reader = Reader::new();
     let mut lines = Lines::new();
@@ -62,9 +61,9 @@ fn list_piece<K: Sink>(
 ) -> Result<(), RunFault>
     requires { lines.old ≡ [] }
     ensures fed { (events : List Place) (bytes : List ℕ) → StandsAfter reader.old events bytes →
-        Feeds result reader.new piece.now (K.taken out.old) (K.taken out.new) events bytes }
+        Feeds result reader.new piece.now (K.state out.old).taken (K.state out.new).taken events bytes }
     ensures drained { OnOk result (lines.new ≡ []) }
-    ensures failures { CountsWrites result (K.failure_count out.old) (K.failure_count out.new) }
+    ensures failures { CountsWrites result (K.state out.old).failures (K.state out.new).failures }
 {
     let fed = feed_all(reader, piece, lines, out);
     match fed {
@@ -85,9 +84,9 @@ fn feed_all<K: Sink>(
 ) -> Result<(), RunFault>
     ensures fed { (events : List Place) (bytes : List ℕ) → StandsAfter reader.old events bytes →
         Feeds result reader.new piece.now
-        (in_all (K.taken out.old) lines.old) (in_all (K.taken out.new) lines.new) events bytes }
-    ensures more { TakesMore (K.taken out.old) (K.taken out.new) }
-    ensures failures { CountsWrites result (K.failure_count out.old) (K.failure_count out.new) }
+        (in_all (K.state out.old).taken lines.old) (in_all (K.state out.new).taken lines.new) events bytes }
+    ensures more { TakesMore (K.state out.old).taken (K.state out.new).taken }
+    ensures failures { CountsWrites result (K.state out.old).failures (K.state out.new).failures }
 {
     let mut sixel = SixelLine::new();
     for byte in piece {
@@ -112,9 +111,9 @@ fn feed_any<K: Sink>(
 ) -> Result<(), RunFault>
     ensures fed { (events : List Place) (bytes : List ℕ) → StandsAfter reader.old events bytes →
         Feeds result reader.new (byte ∷ [])
-        (in_all (K.taken out.old) lines.old) (in_all (K.taken out.new) lines.new) events bytes }
-    ensures more { TakesMore (K.taken out.old) (K.taken out.new) }
-    ensures failures { CountsWrites result (K.failure_count out.old) (K.failure_count out.new) }
+        (in_all (K.state out.old).taken lines.old) (in_all (K.state out.new).taken lines.new) events bytes }
+    ensures more { TakesMore (K.state out.old).taken (K.state out.new).taken }
+    ensures failures { CountsWrites result (K.state out.old).failures (K.state out.new).failures }
 {
     match reader.feed(byte) {
         Ok(completed) => match put_lines(completed, lines, out) {
@@ -132,10 +131,8 @@ fn put_plain<K: Sink>(
     lines: &mut Lines,
     out: &mut K,
 ) -> Result<(), DeviceFault>
-    ensures bytes { Puts result (in_all (K.taken out.old) lines.old) (in_all (K.taken out.new) lines.new)
+    ensures { WritesThrough result (K.state out.old) (K.state out.new) lines.old lines.new
         (list_text (completions (plain_of plain))) }
-    ensures more { TakesMore (K.taken out.old) (K.taken out.new) }
-    ensures failures { CountsFailure result (K.failure_count out.old) (K.failure_count out.new) }
 {
     match plain {
         Plain::Nothing => Ok(()),
@@ -152,10 +149,8 @@ fn put_command<K: Sink>(
     lines: &mut Lines,
     out: &mut K,
 ) -> Result<(), DeviceFault>
-    ensures bytes { Puts result (in_all (K.taken out.old) lines.old) (in_all (K.taken out.new) lines.new)
+    ensures { WritesThrough result (K.state out.old) (K.state out.new) lines.old lines.new
         (list_text (record { place = place; event = Step command } ∷ [])) }
-    ensures more { TakesMore (K.taken out.old) (K.taken out.new) }
-    ensures failures { CountsFailure result (K.failure_count out.old) (K.failure_count out.new) }
 {
     match command {
         Command::Sixel(bits) if place >= 100 && bits < 100 => {
@@ -174,10 +169,8 @@ fn put_lines<K: Sink>(
     lines: &mut Lines,
     out: &mut K,
 ) -> Result<(), DeviceFault>
-    ensures bytes { Puts result (in_all (K.taken out.old) lines.old) (in_all (K.taken out.new) lines.new)
+    ensures { WritesThrough result (K.state out.old) (K.state out.new) lines.old lines.new
         (list_text (completions completed)) }
-    ensures more { TakesMore (K.taken out.old) (K.taken out.new) }
-    ensures failures { CountsFailure result (K.failure_count out.old) (K.failure_count out.new) }
 {
     let Completed { first, second } = completed;
     put_line(first, lines, out)?;
@@ -189,10 +182,8 @@ fn put_line<K: Sink>(
     lines: &mut Lines,
     out: &mut K,
 ) -> Result<(), DeviceFault>
-    ensures bytes { Puts result (in_all (K.taken out.old) lines.old) (in_all (K.taken out.new) lines.new)
+    ensures { WritesThrough result (K.state out.old) (K.state out.new) lines.old lines.new
         (list_text (option_to_list placed)) }
-    ensures more { TakesMore (K.taken out.old) (K.taken out.new) }
-    ensures failures { CountsFailure result (K.failure_count out.old) (K.failure_count out.new) }
 {
     match placed {
         Some(placed) => {

@@ -9,7 +9,7 @@ ghost use Rattle.sixel_run.specs.Outputs.{CountsWrites, RenderGives, WroteBy, Wr
 use crate::fault::RunFault;
 use crate::task::Status;
 use sixel_check::Verdict;
-use sixel_grammar::{Sink, Source};
+use sixel_io::{Sink, Source};
 use sixel_model::Profile;
 use sixel_ppm::write_ppm;
 use std::alloc::Global;
@@ -22,11 +22,13 @@ pub fn render<S: Source, K: Sink>(
     input: &mut S,
     output: &mut K,
 ) -> Result<Status, RunFault>
-    ensures wrote { IfSome (S.remaining input.old) (λ bytes.
-        WroteBy (RenderGives (count_of profile) bytes) WroteNothing result (K.taken output.old) (K.taken output.new)) }
-    ensures memory { result ≡ Err RunFault.OutOfMemory → IfSome (S.remaining input.old) (MayGrowIn (count_of profile)) }
-    ensures reads { S.failure_count input.new ≡ failures_by Read result (S.failure_count input.old) }
-    ensures writes { CountsWrites result (K.failure_count output.old) (K.failure_count output.new) }
+    ensures wrote { IfSome (S.state input.old).remaining (λ bytes.
+        WroteBy (RenderGives (count_of profile) bytes) WroteNothing result
+        (K.state output.old).taken (K.state output.new).taken) }
+    ensures memory { result ≡ Err RunFault.OutOfMemory →
+        IfSome (S.state input.old).remaining (MayGrowIn (count_of profile)) }
+    ensures reads { (S.state input.new).failures ≡ failures_by Read result (S.state input.old).failures }
+    ensures writes { CountsWrites result (K.state output.old).failures (K.state output.new).failures }
 {
     match sixel_check::check(alloc, profile, input)? {
         Verdict::Portable(picture) => {

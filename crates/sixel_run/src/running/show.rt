@@ -15,7 +15,8 @@ ghost use Rattle.sixel_run.specs.Screens.{greys, percent_at, show_choices, show_
 
 use crate::fault::RunFault;
 use crate::task::Status;
-use sixel_grammar::{Placed, Sink, Source, read_all};
+use sixel_grammar::{Placed, read_all};
+use sixel_io::{Sink, Source};
 use sixel_model::{Colour, Profile};
 use sixel_ppm::write_ppm_colours;
 use sixel_terminal::{Choices, Ground, Terminal};
@@ -56,11 +57,11 @@ pub fn show<S: Source, K: Sink>(
     output: &mut K,
 ) -> Result<Status, RunFault>
     requires { terminal_fault choices (greys profile) (white_screen choices) ≡ None }
-    ensures wrote { IfSome (S.remaining input.old) (λ bytes.
+    ensures wrote { IfSome (S.state input.old).remaining (λ bytes.
         WroteBy (ShowGives (show_terminal profile choices) bytes) WroteNothing result
-        (K.taken output.old) (K.taken output.new)) }
-    ensures reads { S.failure_count input.new ≡ failures_by Read result (S.failure_count input.old) }
-    ensures writes { CountsWrites result (K.failure_count output.old) (K.failure_count output.new) }
+        (K.state output.old).taken (K.state output.new).taken) }
+    ensures reads { (S.state input.new).failures ≡ failures_by Read result (S.state input.old).failures }
+    ensures writes { CountsWrites result (K.state output.old).failures (K.state output.new).failures }
 {
     let events = read_all(alloc, input)?;
     let shown = screen_after(alloc, profile, choices, &events)?;
@@ -79,9 +80,9 @@ pub fn write_screen<K: Sink>(
     ensures wrote { (profile : AProfile) (events : List Place) (bytes : List ℕ) → Document events bytes →
         shown.now ≡ screen_on (show_terminal profile choices) (events_of events) →
         WroteBy (ShowGives (show_terminal profile choices) bytes) WroteNothing result
-        (K.taken output.old) (K.taken output.new) }
+        (K.state output.old).taken (K.state output.new).taken }
     ensures unread { result ≢ Err Read }
-    ensures writes { CountsWrites result (K.failure_count output.old) (K.failure_count output.new) }
+    ensures writes { CountsWrites result (K.state output.old).failures (K.state output.new).failures }
 {
     write_ppm_colours(choices.screen_width, choices.screen_height, shown, output)?;
     Ok(Status::Done)

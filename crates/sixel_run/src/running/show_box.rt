@@ -11,7 +11,8 @@ ghost use Rattle.sixel_run.specs.Screens.{declared_screen, screen_terminal, side
 use super::show::{screen_after, show_choices, write_screen};
 use crate::fault::RunFault;
 use crate::task::{MOST_SCREEN_SIDE, Status};
-use sixel_grammar::{Command, Event, Placed, Sink, Source, read_all};
+use sixel_grammar::{Command, Event, Placed, read_all};
+use sixel_io::{Sink, Source};
 use sixel_model::Profile;
 use std::alloc::Global;
 
@@ -26,11 +27,11 @@ pub fn show_box<S: Source, K: Sink>(
     input: &mut S,
     output: &mut K,
 ) -> Result<Status, RunFault>
-    ensures wrote { IfSome (S.remaining input.old) (λ bytes.
+    ensures wrote { IfSome (S.state input.old).remaining (λ bytes.
         WroteBy (ShowBoxGives (screen_terminal profile showing fill selects) bytes) WroteNothing result
-        (K.taken output.old) (K.taken output.new)) }
-    ensures reads { S.failure_count input.new ≡ failures_by Read result (S.failure_count input.old) }
-    ensures writes { CountsWrites result (K.failure_count output.old) (K.failure_count output.new) }
+        (K.state output.old).taken (K.state output.new).taken) }
+    ensures reads { (S.state input.new).failures ≡ failures_by Read result (S.state input.old).failures }
+    ensures writes { CountsWrites result (K.state output.old).failures (K.state output.new).failures }
 {
     let events = read_all(alloc, input)?;
     let Some((width, height)) = declared_screen(&events) else {

@@ -18,7 +18,7 @@ pub loop-checker-init : goal.loop-checker-init
 loop-checker-init g c = (
   [],
   c.nothing_read-reader.ensures,
-  Consumes-nil (g.S.Source.remaining c.args.input.now),
+  Consumes-nil (g.S.Source.state c.args.input.now).remaining,
   refl,
 )
 
@@ -27,17 +27,17 @@ loop-checker-init g c = (
 pub returns-in_err-count : goal.returns-in_err-count
 returns-in_err-count g c =
     let i = c.loop-checker.invariant in
-    let a = g.S.Source.remaining c.args.input.now in
+    let a = (g.S.Source.state c.args.input.now).remaining in
     let r = c.from_residual.result in
     let failed = err_from_is_err_and r c.from_residual.ensures.1 in
     let is : r ≡ Err Read = failed.1 ∙ ap Err failed.2 in
     record {
       answer = read_answers _ a r is;
-      failures = read_counts (g.S.Source.failure_count c.args.input.now)
-          (g.S.Source.failure_count c.loop-checker.input) (g.S.Source.failure_count c.fill.new.self) r is
+      failures = read_counts (g.S.Source.state c.args.input.now).failures
+          (g.S.Source.state c.loop-checker.input).failures (g.S.Source.state c.fill.new.self).failures r is
           c.in_err-count.ensures.failures i.3;
       unread = λ e.
-          no_fault_before a (g.S.Source.remaining c.loop-checker.input) (g.S.Source.remaining c.fill.new.self)
+          no_fault_before a (g.S.Source.state c.loop-checker.input).remaining (g.S.Source.state c.fill.new.self).remaining
           c.loop-checker.reader i.1.events i.0 i.1.read i.2 c.in_err-count.ensures.bytes;
       memory = read_grows _ a r is;
     }
@@ -53,15 +53,15 @@ returns-then-count-eq0-clause-answer g c =
     let i = c.loop-checker.invariant in
     let b = c.in_ok-count.ensures.bytes in
     let none : c.in_ok-count.count ≡ 0 = omega arith in
-    told_all (g.S.Source.remaining c.args.input.now) (g.S.Source.remaining c.loop-checker.input)
-    (g.S.Source.remaining c.fill.new.self) i.0 c.fill.new.piece c.in_ok-count.count
+    told_all (g.S.Source.state c.args.input.now).remaining (g.S.Source.state c.loop-checker.input).remaining
+    (g.S.Source.state c.fill.new.self).remaining i.0 c.fill.new.piece c.in_ok-count.count
     (Answers (count_of c.args.profile) c.conclude.result) i.2 b.0
     none (b.1 none (omega arith)) (c.conclude.ensures.answer _ i.0 i.1)
 
 pub returns-then-count-eq0-clause-failures : goal.returns-then-count-eq0-clause-failures
 returns-then-count-eq0-clause-failures g c =
-    end_counts (g.S.Source.failure_count c.args.input.now) (g.S.Source.failure_count c.loop-checker.input)
-    (g.S.Source.failure_count c.fill.new.self) c.conclude.result c.conclude.ensures.never_read
+    end_counts (g.S.Source.state c.args.input.now).failures (g.S.Source.state c.loop-checker.input).failures
+    (g.S.Source.state c.fill.new.self).failures c.conclude.result c.conclude.ensures.never_read
     c.in_ok-count.ensures.failures c.loop-checker.invariant.3
 
 pub returns-then-count-eq0-clause-unread : goal.returns-then-count-eq0-clause-unread
@@ -69,7 +69,7 @@ returns-then-count-eq0-clause-unread g c = λ is. absurd (c.conclude.ensures.nev
 
 pub returns-then-count-eq0-clause-memory : goal.returns-then-count-eq0-clause-memory
 returns-then-count-eq0-clause-memory g c =
-    end_grows _ (g.S.Source.remaining c.args.input.now) c.conclude.result c.conclude.ensures.memory
+    end_grows _ (g.S.Source.state c.args.input.now).remaining c.conclude.result c.conclude.ensures.memory
 
 -- ---- a piece that was refused
 
@@ -80,20 +80,20 @@ read_piece-requires g c =
 pub returns-in_err-read_piece : goal.returns-in_err-read_piece
 returns-in_err-read_piece g c =
     let i = c.loop-checker.invariant in
-    let a = g.S.Source.remaining c.args.input.now in
-    let z = g.S.Source.remaining c.fill.new.self in
+    let a = (g.S.Source.state c.args.input.now).remaining in
+    let z = (g.S.Source.state c.fill.new.self).remaining in
     let piece = take c.in_ok-count.count c.fill.new.piece in
     let fault = c.in_err-read_piece.field-0.0 in
     let r = c.from_residual-in_err-read_piece.result in
     let failed = err_from_is_err_and r c.from_residual-in_err-read_piece.ensures.1 in
     let is : r ≡ Err fault = failed.1 ∙ ap Err failed.2 in
     let told =
-    consumes-then a (g.S.Source.remaining c.loop-checker.input) z i.0 piece i.2 c.in_ok-count.ensures.bytes.0 in
+    consumes-then a (g.S.Source.state c.loop-checker.input).remaining z i.0 piece i.2 c.in_ok-count.ensures.bytes.0 in
     let refused = c.in_err-read_piece.ensures.refused _ i.0 i.1 in
     record {
       answer = fault_answers _ a z fault r (i.0 ++ piece) is told refused;
-      failures = fault_counts (g.S.Source.failure_count c.args.input.now)
-          (g.S.Source.failure_count c.loop-checker.input) (g.S.Source.failure_count c.fill.new.self) fault r
+      failures = fault_counts (g.S.Source.state c.args.input.now).failures
+          (g.S.Source.state c.loop-checker.input).failures (g.S.Source.state c.fill.new.self).failures fault r
           (i.0 ++ piece) is refused c.in_ok-count.ensures.failures i.3;
       unread = fault_reads (IfSome a (NoFaultBefore z)) fault r (i.0 ++ piece) is refused;
       memory = fault_grows _ a z fault r (i.0 ++ piece) is told (c.in_err-read_piece.ensures.memory _ i.0 i.1);
@@ -124,8 +124,8 @@ loop-checker-preserved g c =
     let i = c.loop-checker.invariant in (
       i.0 ++ take c.in_ok-count.count c.fill.new.piece,
       c.in_ok-read_piece.ensures.read _ i.0 i.1,
-      consumes-then (g.S.Source.remaining c.args.input.now) (g.S.Source.remaining c.loop-checker.input)
-          (g.S.Source.remaining c.fill.new.self) i.0 (take c.in_ok-count.count c.fill.new.piece) i.2
+      consumes-then (g.S.Source.state c.args.input.now).remaining (g.S.Source.state c.loop-checker.input).remaining
+          (g.S.Source.state c.fill.new.self).remaining i.0 (take c.in_ok-count.count c.fill.new.piece) i.2
           c.in_ok-count.ensures.bytes.0,
-      ◌∙◌ {b = g.S.Source.failure_count c.loop-checker.input} c.in_ok-count.ensures.failures i.3,
+      ◌∙◌ {b = (g.S.Source.state c.loop-checker.input).failures} c.in_ok-count.ensures.failures i.3,
     )

@@ -7,8 +7,8 @@ use Rattle.sixel_check.proofs.checking.check.Given as goal
 
 abbrev pub invariant-loop-checker : goal.invariant-loop-checker
 invariant-loop-checker g l = (front : List ℕ) × AreAfter (count_of l.fn.profile) l.reader l.checker front
-    × Consumes (g.S.Source.remaining l.fn.input) (g.S.Source.remaining l.input) front
-    × (g.S.Source.failure_count l.input ≡ g.S.Source.failure_count l.fn.input)
+    × Consumes (g.S.Source.state l.fn.input).remaining (g.S.Source.state l.input).remaining front
+    × ((g.S.Source.state l.input).failures ≡ (g.S.Source.state l.fn.input).failures)
 
 abbrev pub decreases-loop-checker : goal.decreases-loop-checker
 decreases-loop-checker g l = left_of l.reader

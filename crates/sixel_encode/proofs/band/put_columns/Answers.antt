@@ -1,9 +1,7 @@
 use Rattle.std.proofs.Common.{◌≡◌, ◌≢◌, ◌++◌, ◌-◌, List, [], drop, get_or, length, refl, sym, ap, ◌∙◌, arith}
 use Rattle.std.proofs.Common.{append_assoc}
 use Rattle.std.proofs.lemmas.Result.{err_from_is_err_and}
-use Rattle.sixel_grammar.specs.Blocks.{in_all}
-use Rattle.sixel_grammar.proofs.DeviceLemmas.{Appends-then, TakesMore-refl, TakesMore-then}
-use Rattle.sixel_grammar.proofs.SinkLemmas.{Appends-none, puts-joined, puts-stopped, puts-whole}
+use Rattle.sixel_io.proofs.SinkLemmas.{through-next, through-none, through-stopped, through-then}
 use Rattle.sixel_encode.specs.Columns.{columns_of, part}
 use Rattle.sixel_encode.proofs.StretchLemmas.{blank_end, ink_text, next_text}
 use Rattle.sixel_encode.proofs.TextLemmas.{columns_text, run_text}
@@ -12,36 +10,23 @@ use Rattle.sixel_encode.proofs.band.put_columns.Goals.{else-end-sixels-via-then-
 use Rattle.sixel_encode.proofs.band.put_columns.Goals.{else-end-sixels-via-else-end-sixels}
 
 pub loop-start-init : goal.loop-start-init
-loop-start-init g c = record {
-  stands = ([], Appends-none _, refl);
-  within = omega arith;
-  taken = TakesMore-refl _;
-  unflushed = λ t. t;
-  failures = refl;
-}
+loop-start-init g c = record { put = ([], through-none, refl); within = omega arith }
 
-pub returns-then-sixels-start-eq63-clause-bytes : goal.returns-then-sixels-start-eq63-clause-bytes
-returns-then-sixels-start-eq63-clause-bytes g c =
+pub returns-then-sixels-start-eq63 : goal.returns-then-sixels-start-eq63
+returns-then-sixels-start-eq63 g c =
     let xs = c.args.sixels.now in
-    let before = in_all (g.K.Sink.taken c.loop-start.out) c.loop-start.text in
-    let inv = c.loop-start.invariant.stands in
-    let rest = part c.loop-start.from c.in-Some.start xs in
-    puts-joined c.put_part.result _ before _ inv.0 rest _
+    let inv = c.loop-start.invariant.put in
+    through-then c.put_part.result {ys = part c.loop-start.from c.in-Some.start xs}
     (inv.2 ∙ ap (λ (t : List _). inv.0 ++ t)
     (blank_end xs c.loop-start.from c.in-Some.start c.run_end-end.result c.requires.sixels c.in-Some.ensures
     c.run_end-end.ensures c.if-end-sixels.true c.if-sixels-start-eq63.true))
-    inv.1 (puts-whole c.put_part.result _ _ _ c.put_part.ensures.bytes)
+    inv.1 c.put_part.ensures
 
-pub returns-then-sixels-start-eq63-clause-taken : goal.returns-then-sixels-start-eq63-clause-taken
-returns-then-sixels-start-eq63-clause-taken g c =
-    TakesMore-then _ (g.K.Sink.taken c.loop-start.out) _ c.loop-start.invariant.taken c.put_part.ensures.taken
-
-pub returns-in_err-put_until-clause-bytes : goal.returns-in_err-put_until-clause-bytes
-returns-in_err-put_until-clause-bytes g c =
+pub returns-in_err-put_until : goal.returns-in_err-put_until
+returns-in_err-put_until g c =
     let failed = err_from_is_err_and c.from_residual.result c.from_residual.ensures.1 in
     let xs = c.args.sixels.now in
-    let before = in_all (g.K.Sink.taken c.loop-start.out) c.loop-start.text in
-    let inv = c.loop-start.invariant.stands in
+    let inv = c.loop-start.invariant.put in
     let some : c.run_end-end.result ≡ length xs → get_or xs c.in-Some.start 0 ≢ 63 =
     elim c.else-end-sixels.branch [
       | else-end-sixels-via-then-end-sixels+else-sixels-start-eq63 w ↦ λ done blank. w.if-sixels-start-eq63.false blank
@@ -53,18 +38,13 @@ returns-in_err-put_until-clause-bytes g c =
     ++ run_text (c.run_end-end.result - c.in-Some.start) (get_or xs c.in-Some.start 0 - 63) in
     let rest = columns_text (drop c.run_end-end.result (columns_of xs)) in
     rw failed.1
-    (puts-stopped _ before _ inv.0 all rest _ inv.1 c.in_err-put_until.ensures.bytes
-    (inv.2 ∙ ap (λ (t : List _). inv.0 ++ t) more ∙ sym (append_assoc inv.0 all rest)))
-
-pub returns-in_err-put_until-clause-taken : goal.returns-in_err-put_until-clause-taken
-returns-in_err-put_until-clause-taken g c =
-    TakesMore-then _ (g.K.Sink.taken c.loop-start.out) _ c.loop-start.invariant.taken c.put_until.ensures.taken
+    (through-stopped {ys = all} rest (inv.2 ∙ ap (λ (t : List _). inv.0 ++ t) more ∙ sym (append_assoc inv.0 all rest))
+    inv.1 c.in_err-put_until.ensures)
 
 pub loop-start-preserved : goal.loop-start-preserved
 loop-start-preserved g c =
     let xs = c.args.sixels.now in
-    let before = in_all (g.K.Sink.taken c.loop-start.out) c.loop-start.text in
-    let inv = c.loop-start.invariant.stands in
+    let inv = c.loop-start.invariant.put in
     let some : c.run_end-end.result ≡ length xs → get_or xs c.in-Some.start 0 ≢ 63 =
     elim c.else-end-sixels.branch [
       | else-end-sixels-via-then-end-sixels+else-sixels-start-eq63 w ↦ λ done blank. w.if-sixels-start-eq63.false blank
@@ -76,29 +56,19 @@ loop-start-preserved g c =
     ++ run_text (c.run_end-end.result - c.in-Some.start) (get_or xs c.in-Some.start 0 - 63) in
     let rest = columns_text (drop c.run_end-end.result (columns_of xs)) in
     record {
-      stands = (
+      put = (
         inv.0 ++ all,
-        Appends-then _ before _ inv.0 all (inv.0 ++ all) inv.1 c.in_ok-put_until.ensures.bytes refl,
+        through-next {ys = all} refl inv.1 c.in_ok-put_until.ensures,
         inv.2 ∙ ap (λ (t : List _). inv.0 ++ t) more ∙ sym (append_assoc inv.0 all rest),
       );
       within = c.run_end-end.ensures.within;
-      taken = TakesMore-then _
-          (g.K.Sink.taken c.loop-start.out) _ c.loop-start.invariant.taken c.put_until.ensures.taken;
-      unflushed = λ t. c.loop-start.invariant.unflushed (c.put_until.ensures.unflushed t);
-      failures = cc (c.in_ok-put_until.ensures.failures, c.loop-start.invariant.failures);
     }
 
-pub returns-clause-bytes : goal.returns-clause-bytes
-returns-clause-bytes g c =
+pub returns : goal.returns
+returns g c =
     let xs = c.args.sixels.now in
-    let before = in_all (g.K.Sink.taken c.loop-start.out) c.loop-start.text in
-    let inv = c.loop-start.invariant.stands in
-    let rest = part c.loop-start.from c.ink_end.result xs in
-    puts-joined c.put_part-2.result _ before _ inv.0 rest _
+    let inv = c.loop-start.invariant.put in
+    through-then c.put_part-2.result {ys = part c.loop-start.from c.ink_end.result xs}
     (inv.2 ∙ ap (λ (t : List _). inv.0 ++ t)
     (ink_text xs c.loop-start.from c.ink_end.result c.requires.sixels c.in_default.ensures c.ink_end.ensures))
-    inv.1 (puts-whole c.put_part-2.result _ _ _ c.put_part-2.ensures.bytes)
-
-pub returns-clause-taken : goal.returns-clause-taken
-returns-clause-taken g c =
-    TakesMore-then _ (g.K.Sink.taken c.loop-start.out) _ c.loop-start.invariant.taken c.put_part-2.ensures.taken
+    inv.1 c.put_part-2.ensures

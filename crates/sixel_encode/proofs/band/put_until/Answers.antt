@@ -1,15 +1,12 @@
 use Rattle.std.proofs.Common.{refl}
-use Rattle.sixel_grammar.specs.Blocks.{in_all}
-use Rattle.sixel_grammar.proofs.DeviceLemmas.{TakesMore-then}
-use Rattle.sixel_grammar.proofs.SinkLemmas.{puts-joined, puts-whole}
+use Rattle.std.proofs.lemmas.Result.{err_from_is_err_and}
+use Rattle.sixel_io.proofs.SinkLemmas.{through-cut, through-then}
 use Rattle.sixel_encode.proofs.band.put_until.Goals as goal
 
-pub returns-clause-bytes : goal.returns-clause-bytes
-returns-clause-bytes g c =
-    let before = in_all (g.K.Sink.taken c.put_part.new.out) c.put_part.new.text in
-    puts-joined c.put_repeat.result _ before _ _ _ _ refl c.in_ok-put_part.ensures.bytes
-    (puts-whole c.put_repeat.result _ _ _ c.put_repeat.ensures.bytes)
+pub returns-in_err-put_part : goal.returns-in_err-put_part
+returns-in_err-put_part g c =
+    let failed = err_from_is_err_and c.from_residual.result c.from_residual.ensures.1 in
+    rw failed.1 (through-cut _ refl c.in_err-put_part.ensures)
 
-pub returns-clause-taken : goal.returns-clause-taken
-returns-clause-taken g c = TakesMore-then _ (g.K.Sink.taken c.put_part.new.out) _ c.put_part.ensures.taken
-    c.put_repeat.ensures.taken
+pub returns : goal.returns
+returns g c = through-then c.put_repeat.result refl c.in_ok-put_part.ensures c.put_repeat.ensures

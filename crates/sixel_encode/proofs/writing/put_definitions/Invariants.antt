@@ -1,15 +1,7 @@
-use Rattle.std.proofs.Common.{◌≡◌}
-use Rattle.std.specs.Io.KnownBytes.{Appends}
-use Rattle.sixel_grammar.specs.Blocks.{TakesMore, in_all}
-use Rattle.sixel_grammar.specs.Devices.{NeverFlushes}
+use Rattle.sixel_io.proofs.SinkLemmas.{PutThrough}
 use Rattle.sixel_encode.proofs.StepLemmas.{entries_above}
 use Rattle.sixel_encode.proofs.writing.put_definitions.Given as goal
 
 abbrev pub invariant-loop-register : goal.invariant-loop-register
-invariant-loop-register g l = record {
-  bytes : Appends (in_all (g.K.Sink.taken l.fn.out) l.fn.text) (in_all (g.K.Sink.taken l.out) l.text)
-      (entries_above l.palette l.register);
-  taken : TakesMore (g.K.Sink.taken l.fn.out) (g.K.Sink.taken l.out);
-  unflushed : NeverFlushes (g.K.Sink.is_flushed l.fn.out) (g.K.Sink.is_flushed l.out);
-  failures : g.K.Sink.failure_count l.out ≡ g.K.Sink.failure_count l.fn.out;
-}
+invariant-loop-register g l =
+    PutThrough (g.K.Sink.state l.fn.out) (g.K.Sink.state l.out) l.fn.text l.text (entries_above l.palette l.register)

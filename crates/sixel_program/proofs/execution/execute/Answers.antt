@@ -20,15 +20,15 @@ returns-clause-done g c = λ is.
     (λ name. told_chained (λ (bytes : List ℕ). (text : Text) × Gives t bytes text (Ok Done)) contents _ _ _ name
     c.front_of-front.ensures.front)
     (names_read t (map string_bytes c.args.request.now.files.items))
-    (all_read_done _ _ _ _ _ _ _ _ _ _ _ _ _
-    (rw (c.new-input.ensures.bytes, c.chain.ensures.bytes, c.as_slice.ensures.value) at c.answer.ensures) is)
+    (all_read_done _ _ _ _ _ _ _ _ _
+    (rw (c.new-input.ensures, c.chain.ensures.bytes, c.as_slice.ensures.value) at c.answer.ensures) is)
 
 pub returns-clause-broken : goal.returns-clause-broken
 returns-clause-broken g c = λ is once.
     let t = c.args.request.now.task in
     let contents = g.F.Folder.contents c.args.folder.now in
-    let found = one_read_broken _ _ _ _ _ _ _ _ _ _ _ _ _
-    (rw (c.new-input.ensures.bytes, c.chain.ensures.bytes, c.as_slice.ensures.value) at c.answer.ensures) is once in (
+    let found = one_read_broken _ _ _ _ _ _ _ _ _
+    (rw (c.new-input.ensures, c.chain.ensures.bytes, c.as_slice.ensures.value) at c.answer.ensures) is once in (
       found.0,
       found.1,
       told_chained (λ (bytes : List ℕ). (text : Text) × (finding : Finding) × Gives t bytes text (Ok (Broken finding)))
@@ -43,8 +43,8 @@ returns-clause-judged g c = λ is.
     (λ name. told_chained (λ (bytes : List ℕ). (text : Text) × (status : Status) × Gives t bytes text (Ok status))
     contents _ _ _ name c.front_of-front.ensures.front)
     (names_read t (map string_bytes c.args.request.now.files.items))
-    (all_read_judged _ _ _ _ _ _ _ _ _ _ _ _ _
-    (rw (c.new-input.ensures.bytes, c.chain.ensures.bytes, c.as_slice.ensures.value) at c.answer.ensures) is)
+    (all_read_judged _ _ _ _ _ _ _ _ _
+    (rw (c.new-input.ensures, c.chain.ensures.bytes, c.as_slice.ensures.value) at c.answer.ensures) is)
 
 pub returns-clause-no_usage : goal.returns-clause-no_usage
-returns-clause-no_usage g c = request_no_usage _ _ _ _ _ _ _ _ _ _ _ _ _ c.answer.ensures
+returns-clause-no_usage g c = request_no_usage _ _ _ _ _ _ _ _ _ c.answer.ensures

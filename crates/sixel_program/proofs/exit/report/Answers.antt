@@ -11,5 +11,5 @@ returns g c = record {
   flushed = c.run-answer.ensures.flushed;
   ends = c.exit_of.ensures;
   said = is_put c.put_all.result _ _ _
-      (rw (c.as_slice.ensures.value, c.said_of-said.ensures) at c.put_all.ensures.bytes) c.put_all.ensures.failures;
+      (rw (c.as_slice.ensures.value, c.said_of-said.ensures) at c.put_all.ensures);
 }

@@ -13,6 +13,6 @@ returns-in-Err g c =
         refl,
         shown.2.1,
         c.in-Err.ensures.failures,
-        is_put c.write_fault.result _ _ _ c.write_fault.ensures.bytes c.write_fault.ensures.failures,
+        is_put c.write_fault.result _ _ _ c.write_fault.ensures,
       ),
     )

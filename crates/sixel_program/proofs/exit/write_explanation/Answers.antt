@@ -6,5 +6,5 @@ returns-clause-bytes g c = (
   c.explanation.result.now,
   c.explanation.ensures,
   stays_put c.flush.result _ _ _ c.explanation.result.now
-      (rw c.as_bytes.ensures.value at c.in_ok-put_all.ensures.bytes) c.flush.ensures.bytes,
+      (rw c.as_bytes.ensures.value at c.in_ok-put_all.ensures.taken) c.flush.ensures.bytes,
 )

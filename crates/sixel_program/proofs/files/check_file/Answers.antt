@@ -1,5 +1,6 @@
-use Rattle.std.proofs.Common.{◌≡◌, ◌∙◌, [], None, false, refl, sym, true}
+use Rattle.std.proofs.Common.{◌≡◌, ◌∙◌, [], None, ap, false, refl, sym, true}
 use Rattle.std.specs.Prelude.{Err}
+use Rattle.sixel_io.specs.Devices.{SourceState}
 use Rattle.sixel_run.specs.declared.fault.RunFault.TheVariants.{Read}
 use Rattle.sixel_program.specs.Files.{is_dash}
 use Rattle.sixel_program.proofs.FilesLemmas.{none_before, unopened}
@@ -31,7 +32,8 @@ returns-in-Ok g c =
     record {
       e = record { name = c.args.name.now; told = _; left = _; line = checked.0; answer = checked.1 };
       name_is = refl;
-      told = rw file (c.new-file.ensures.bytes ∙ c.chain.ensures.bytes ∙ none_before _ ∙ c.in-Ok.ensures.opened);
+      told = rw file
+          (ap (λ (s : SourceState). s.remaining) c.new-file.ensures ∙ c.chain.ensures.bytes ∙ none_before _ ∙ c.in-Ok.ensures.opened);
       left = rw file refl;
       is_end = checked.2;
       counted = rw file refl;

@@ -1,5 +1,6 @@
 use Rattle.std.proofs.Common.{◌∙◌, inl, refl, subst, sym}
-use Rattle.sixel_grammar.proofs.SinkLemmas.{Appends-none}
+use Rattle.sixel_io.specs.Devices.{change}
+use Rattle.sixel_io.proofs.SinkLemmas.{Appends-none}
 use Rattle.sixel_program.proofs.FilesLemmas.{unsaid}
 use Rattle.sixel_program.proofs.PutLemmas.{is_put}
 use Rattle.sixel_program.specs.Exits.{IsPut}
@@ -9,8 +10,8 @@ use Rattle.sixel_program.proofs.files.check_quietly.Goals as goal
 
 pub returns-in-Ok : goal.returns-in-Ok
 returns-in-Ok g c =
-    let errors = g.E.Sink.taken c.args.errors.now in
-    let complaints = g.E.Sink.failure_count c.args.errors.now in record {
+    let errors = g.E.Sink.state c.args.errors.now in
+    record {
       answer = answer_of c.judge.result;
       line = line_of c.judge.result;
       wrote = c.judge.ensures.judged;
@@ -19,8 +20,8 @@ returns-in-Ok g c =
       written = c.judge.ensures.unwritten;
       ends = c.exit_of.ensures ∙ rw (c.in-Ok.is, c.status_of.ensures) refl;
       said = rw c.in-Ok.is
-          (subst (λ (text : Text). IsPut text (errors, errors) (complaints, complaints))
-          (sym (unsaid c.args.profile (status_of c.in-Ok.verdict))) (inl (Appends-none errors, refl)));
+          (subst (λ (text : Text). IsPut text (change errors errors))
+          (sym (unsaid c.args.profile (status_of c.in-Ok.verdict))) (inl (Appends-none errors.taken, refl)));
     }
 
 pub returns-in-Err : goal.returns-in-Err
@@ -32,5 +33,5 @@ returns-in-Err g c = record {
   read = c.judge.ensures.reads;
   written = c.judge.ensures.unwritten;
   ends = rw c.in-Err.is refl;
-  said = rw c.in-Err.is (is_put c.write_fault.result _ _ _ c.write_fault.ensures.bytes c.write_fault.ensures.failures);
+  said = rw c.in-Err.is (is_put c.write_fault.result _ _ _ c.write_fault.ensures);
 }

@@ -1,13 +1,14 @@
-use Rattle.sixel_grammar.proofs.SinkLemmas.{puts-longer, puts-then}
-use Rattle.sixel_program.proofs.FilesLemmas.{puts_failed}
+use Rattle.std.proofs.Common.{refl}
+use Rattle.std.proofs.lemmas.Result.{err_from_is_err_and}
+use Rattle.sixel_io.proofs.SinkLemmas.{writes-cut, writes-then}
 use Rattle.sixel_program.proofs.files.put_said.Goals as goal
 
-pub returns-in_err-put_complaint-clause-bytes : goal.returns-in_err-put_complaint-clause-bytes
-returns-in_err-put_complaint-clause-bytes g c =
-    puts_failed _ c.from_residual.result _ _ _ c.from_residual.ensures.1
-    (puts-longer _ _ _ _ c.in_err-put_complaint.ensures.bytes)
+pub returns-in_err-put_complaint : goal.returns-in_err-put_complaint
+returns-in_err-put_complaint g c =
+    let failed = err_from_is_err_and c.from_residual.result c.from_residual.ensures.1 in
+    rw failed.1 (writes-cut _ refl c.in_err-put_complaint.ensures)
 
-pub returns-clause-bytes : goal.returns-clause-bytes
-returns-clause-bytes g c =
-    puts-then c.put_all.result _ _ _ _ _ c.in_ok-put_complaint.ensures.bytes
-    (rw (c.as_bytes.ensures.value, c.advice.ensures.text) at c.put_all.ensures.bytes)
+pub returns : goal.returns
+returns g c =
+    writes-then c.put_all.result refl c.in_ok-put_complaint.ensures
+    (rw (c.as_bytes.ensures.value, c.advice.ensures.text) at c.put_all.ensures)

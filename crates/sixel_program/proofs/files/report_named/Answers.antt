@@ -10,5 +10,5 @@ returns g c = record {
   read = c.run-answer.ensures.reads;
   written = c.run-answer.ensures.writes;
   ends = c.exit_of.ensures;
-  said = is_put c.put_said.result _ _ _ c.put_said.ensures.bytes c.put_said.ensures.failures;
+  said = is_put c.put_said.result _ _ _ c.put_said.ensures;
 }

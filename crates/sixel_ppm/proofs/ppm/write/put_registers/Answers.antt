@@ -1,70 +1,62 @@
 use Rattle.std.proofs.Common.{◌≡◌, ◌∙◌, ◌++◌, List, ℕ, [], ap, refl, sym, take, arith}
-use Rattle.std.proofs.KnownBytes.{Appends-trans}
 use Rattle.std.proofs.lemmas.Result.{err_from_is_err_and}
-use Rattle.sixel_grammar.proofs.SinkLemmas.{Appends-none, puts-stopped}
+use Rattle.sixel_io.proofs.SinkLemmas.{writes-done, writes-next, writes-none, writes-stopped}
 use Rattle.sixel_ppm.specs.PpmTables.{samples_from}
-use Rattle.sixel_ppm.proofs.PpmTableLemmas.{copied_front, group_of, last_put, parted, samples_join}
+use Rattle.sixel_ppm.proofs.PpmTableLemmas.{all_put, copied_front, group_of, parted, samples_join}
 use Rattle.sixel_ppm.proofs.ppm.write.put_registers.Goals as goal
 
 pub loop-start-init : goal.loop-start-init
 loop-start-init g c = record {
   short = c.requires.short;
-  bytes = (
+  put = (
     [],
-    Appends-none (g.K.Sink.taken c.args.out.now),
+    writes-none,
     ap (λ (t : List ℕ). t ++ samples_from c.args.table.now c.args.registers.now)
         (sym (copied_front c.args.header.now c.copy_from_slice.new.self _ c.copy_from_slice.ensures.after)),
   );
-  unflushed = λ t. t;
-  failures = refl;
 }
 
 pub loop-start-preserved : goal.loop-start-preserved
 loop-start-preserved g c =
-    let put = c.loop-start.invariant.bytes in
+    let put = c.loop-start.invariant.put in
     let rest = c.loop-start.rest.now in
     let group = c.split_at.result.0.now in
     let more = c.split_at.result.1.now in
     let cut : rest ≡ group ++ more =
     parted rest group more c.min.result c.split_at.ensures.front c.split_at.ensures.back in
-    let before = g.K.Sink.taken c.loop-start.out in
     record {
       short = omega arith;
-      bytes = (
+      put = (
         put.0 ++ _,
-        Appends-trans _ before _ put.0 _ put.1 c.in_ok-put_all.ensures.bytes,
+        writes-next put.1 c.in_ok-put_all.ensures,
         group_of (samples_from c.args.table.now) (samples_join c.args.table.now) rest group more _ put.0
             (take c.loop-start.start c.loop-start.text) _ cut put.2 c.put_samples.ensures,
       );
-      unflushed = λ t. c.loop-start.invariant.unflushed (c.put_all.ensures.unflushed t);
-      failures = cc (c.in_ok-put_all.ensures.failures, c.loop-start.invariant.failures);
     }
 
-pub returns-in_err-put_all-clause-bytes : goal.returns-in_err-put_all-clause-bytes
-returns-in_err-put_all-clause-bytes g c =
+pub returns-in_err-put_all : goal.returns-in_err-put_all
+returns-in_err-put_all g c =
     let failed = err_from_is_err_and c.from_residual.result c.from_residual.ensures.1 in
-    let put = c.loop-start.invariant.bytes in
+    let put = c.loop-start.invariant.put in
     let rest = c.loop-start.rest.now in
     let group = c.split_at.result.0.now in
     let more = c.split_at.result.1.now in
     let cut : rest ≡ group ++ more =
     parted rest group more c.min.result c.split_at.ensures.front c.split_at.ensures.back in
-    let before = g.K.Sink.taken c.loop-start.out in
     rw failed.1
-    (puts-stopped _ before _ put.0 _ (samples_from c.args.table.now more) _ put.1 c.in_err-put_all.ensures.bytes
+    (writes-stopped (samples_from c.args.table.now more) (group_of (samples_from c.args.table.now) (samples_join c.args.table.now) rest group more _ put.0
+    (take c.loop-start.start c.loop-start.text) _ cut put.2 c.put_samples.ensures) put.1 c.in_err-put_all.ensures)
+
+pub returns-then-is_empty : goal.returns-then-is_empty
+returns-then-is_empty g c =
+    let put = c.loop-start.invariant.put in
+    let rest = c.loop-start.rest.now in
+    let group = c.split_at.result.0.now in
+    let more = c.split_at.result.1.now in
+    let cut : rest ≡ group ++ more =
+    parted rest group more c.min.result c.split_at.ensures.front c.split_at.ensures.back in
+    writes-done
+    (all_put (samples_from c.args.table.now) refl more _ (put.0 ++ _) (sym c.is_empty.ensures ∙ c.if-is_empty.true)
     (group_of (samples_from c.args.table.now) (samples_join c.args.table.now) rest group more _ put.0
     (take c.loop-start.start c.loop-start.text) _ cut put.2 c.put_samples.ensures))
-
-pub returns-then-is_empty-clause-bytes : goal.returns-then-is_empty-clause-bytes
-returns-then-is_empty-clause-bytes g c =
-    let put = c.loop-start.invariant.bytes in
-    let rest = c.loop-start.rest.now in
-    let group = c.split_at.result.0.now in
-    let more = c.split_at.result.1.now in
-    let cut : rest ≡ group ++ more =
-    parted rest group more c.min.result c.split_at.ensures.front c.split_at.ensures.back in
-    let before = g.K.Sink.taken c.loop-start.out in
-    last_put (samples_from c.args.table.now) refl more _ (put.0 ++ _) _ _ (sym c.is_empty.ensures ∙ c.if-is_empty.true)
-    (group_of (samples_from c.args.table.now) (samples_join c.args.table.now) rest group more _ put.0
-    (take c.loop-start.start c.loop-start.text) _ cut put.2 c.put_samples.ensures)
-    (Appends-trans _ before _ put.0 _ put.1 c.in_ok-put_all.ensures.bytes)
+    (writes-next put.1 c.in_ok-put_all.ensures)

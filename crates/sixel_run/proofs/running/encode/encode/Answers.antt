@@ -3,4 +3,4 @@ use Rattle.sixel_run.proofs.running.encode.encode.Goals as goal
 
 pub returns-clause-wrote : goal.returns-clause-wrote
 returns-clause-wrote g c =
-    unencoded _ (g.S.Source.remaining c.args.input.now) _ _ _ c.in_ok-picture.ensures.bytes c.in-Err.ensures.bytes
+    unencoded _ (g.S.Source.state c.args.input.now).remaining _ _ _ c.in_ok-picture.ensures.bytes c.in-Err.ensures.written.taken

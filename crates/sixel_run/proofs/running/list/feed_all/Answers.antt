@@ -1,10 +1,10 @@
 use Rattle.std.proofs.Common.{◌≡◌, arith, refl, subst, sym}
 use Rattle.std.proofs.lemmas.Result.{err_from_is_err_and}
 use Rattle.sixel_grammar.specs.declared.reader.Reader.{Reader}
-use Rattle.sixel_grammar.specs.Blocks.{in_all}
+use Rattle.sixel_io.specs.Blocks.{in_all}
 use Rattle.sixel_grammar.specs.Plain.{plain_of}
 use Rattle.sixel_grammar.specs.Standing.{StandsAfter, completions}
-use Rattle.sixel_grammar.proofs.DeviceLemmas.{TakesMore-refl, TakesMore-then}
+use Rattle.sixel_io.proofs.DeviceLemmas.{TakesMore-refl, TakesMore-then}
 use Rattle.sixel_run.specs.declared.fault.RunFault.TheVariants.{Write}
 use Rattle.sixel_run.proofs.ListingLemmas.{byte-stopped, fails-next, lists-more, lists-nothing, lists-whole}
 use Rattle.sixel_run.proofs.running.list.feed_all.Goals as goal
@@ -19,11 +19,11 @@ loop-byte-init g c = record {
 pub loop-byte-preserved-in-Ok : goal.loop-byte-preserved-in-Ok
 loop-byte-preserved-in-Ok g c = record {
   stands = lists-more c.args.reader.now c.loop-byte.reader c.feed_plain.new.self c.args.piece.now c.loop-byte.byte-index
-      _ (in_all (g.K.Sink.taken c.loop-byte.out) c.loop-byte.lines) _ c.loop-byte-test.true c.loop-byte.invariant.stands
+      _ (in_all (g.K.Sink.state c.loop-byte.out).taken c.loop-byte.lines) _ c.loop-byte-test.true c.loop-byte.invariant.stands
       (λ events bytes stands. (
         completions (plain_of c.in-Some.plain),
         c.in-Some.ensures.accepted events bytes stands,
-        c.in-Ok.ensures.bytes,
+        c.in-Ok.ensures.put,
       ));
   more = TakesMore-then _ _ _ c.loop-byte.invariant.more c.in-Ok.ensures.more;
   failures = cc (c.in-Ok.ensures.failures, c.loop-byte.invariant.failures);
@@ -34,7 +34,7 @@ loop-byte-preserved g c =
     let kept : c.feed_plain.new.self ≡ c.loop-byte.reader = c.in_default.ensures.kept refl in
     record {
       stands = lists-more c.args.reader.now c.loop-byte.reader c.feed_any.new.reader c.args.piece.now
-          c.loop-byte.byte-index _ (in_all (g.K.Sink.taken c.loop-byte.out) c.loop-byte.lines) _ c.loop-byte-test.true
+          c.loop-byte.byte-index _ (in_all (g.K.Sink.state c.loop-byte.out).taken c.loop-byte.lines) _ c.loop-byte-test.true
           c.loop-byte.invariant.stands
           (λ events bytes stands. c.in_ok-feed_any.ensures.fed events bytes
           (subst (λ (r : Reader). StandsAfter r events bytes) (sym kept) stands));
@@ -45,10 +45,10 @@ loop-byte-preserved g c =
 pub returns-in-Err-clause-fed : goal.returns-in-Err-clause-fed
 returns-in-Err-clause-fed g c =
     fails-next Write c.args.reader.now c.loop-byte.reader c.feed_plain.new.self c.args.piece.now
-    c.loop-byte.byte-index _ (in_all (g.K.Sink.taken c.loop-byte.out) c.loop-byte.lines) _ c.loop-byte-test.true
+    c.loop-byte.byte-index _ (in_all (g.K.Sink.state c.loop-byte.out).taken c.loop-byte.lines) _ c.loop-byte-test.true
     c.loop-byte.invariant.stands
     (λ events bytes stands. byte-stopped c.loop-byte.reader c.feed_plain.new.self _ _ _ _ events bytes stands
-    c.in-Some.ensures.accepted c.in-Err.ensures.bytes)
+    c.in-Some.ensures.accepted c.in-Err.ensures.put)
 
 pub returns-in-Err-clause-more : goal.returns-in-Err-clause-more
 returns-in-Err-clause-more g c = TakesMore-then _ _ _ c.loop-byte.invariant.more c.in-Err.ensures.more
@@ -59,7 +59,7 @@ returns-in_err-feed_any-clause-fed g c =
     let failed = err_from_is_err_and c.from_residual.result c.from_residual.ensures.1 in
     rw (failed.1, failed.2)
     (fails-next c.in_err-feed_any.field-0.0 c.args.reader.now c.loop-byte.reader c.feed_any.new.reader c.args.piece.now
-    c.loop-byte.byte-index _ (in_all (g.K.Sink.taken c.loop-byte.out) c.loop-byte.lines) _ c.loop-byte-test.true
+    c.loop-byte.byte-index _ (in_all (g.K.Sink.state c.loop-byte.out).taken c.loop-byte.lines) _ c.loop-byte-test.true
     c.loop-byte.invariant.stands
     (λ events bytes stands. c.in_err-feed_any.ensures.fed events bytes
     (subst (λ (r : Reader). StandsAfter r events bytes) (sym kept) stands)))

@@ -1,7 +1,7 @@
 use Rattle.std.proofs.Common.{◌≡◌, ◌∙◌, ◌++◌, take, sym, arith, length-append}
 use Rattle.std.proofs.lemmas.List.{length-take}
 use Rattle.std.proofs.lemmas.Result.{err_from_is_err_and}
-use Rattle.sixel_grammar.proofs.DeviceLemmas.{Appends-then}
+use Rattle.sixel_io.proofs.DeviceLemmas.{Appends-then}
 use Rattle.sixel_grammar.proofs.SourceLemmas.{consumes-then}
 use Rattle.sixel_run.specs.declared.fault.RunFault.TheVariants.{OutOfMemory}
 use Rattle.sixel_run.proofs.ListingLemmas.{list_text-append}
@@ -14,15 +14,15 @@ returns-in-Ok-finish-clause-reads g c = c.in-Ok.ensures.failures ∙ c.loop-coun
 pub returns-in-Err-clause-wrote : goal.returns-in-Err-clause-wrote
 returns-in-Err-clause-wrote g c =
     let inv = c.loop-count.invariant.stands in
-    unread _ (g.S.Source.remaining c.loop-count.input) (g.S.Source.remaining c.fill.new.self) _
-    (g.K.Sink.taken c.loop-count.output) inv.1 inv.0 c.loop-count.reader inv.3 c.in-Err.ensures.bytes inv.2 inv.4
+    unread _ (g.S.Source.state c.loop-count.input).remaining (g.S.Source.state c.fill.new.self).remaining _
+    (g.K.Sink.state c.loop-count.output).taken inv.1 inv.0 c.loop-count.reader inv.3 c.in-Err.ensures.bytes inv.2 inv.4
 
 pub returns-in-Ok-finish-clause-wrote : goal.returns-in-Ok-finish-clause-wrote
 returns-in-Ok-finish-clause-wrote g c =
     let inv = c.loop-count.invariant.stands in
     let read = c.in-Ok.ensures.bytes in
-    ended-well _ (g.S.Source.remaining c.loop-count.input) (g.S.Source.remaining c.fill.new.self) _
-    (g.K.Sink.taken c.loop-count.output) inv.1 c.fill.new.piece c.in-Ok.count inv.0 inv.3 read.0 c.if-count-eq0.true
+    ended-well _ (g.S.Source.state c.loop-count.input).remaining (g.S.Source.state c.fill.new.self).remaining _
+    (g.K.Sink.state c.loop-count.output).taken inv.1 c.fill.new.piece c.in-Ok.count inv.0 inv.3 read.0 c.if-count-eq0.true
     (read.1 c.if-count-eq0.true (omega arith)) (c.in-Ok-finish.ensures.answer inv.0 inv.1 inv.2) inv.4
 
 pub returns-in-Err-finish-clause-wrote : goal.returns-in-Err-finish-clause-wrote
@@ -30,8 +30,8 @@ returns-in-Err-finish-clause-wrote g c =
     let inv = c.loop-count.invariant.stands in
     let read = c.in-Ok.ensures.bytes in
     let fault = c.in-Err-finish.ensures.answer inv.0 inv.1 inv.2 in
-    ended-early _ (g.S.Source.remaining c.loop-count.input) (g.S.Source.remaining c.fill.new.self) _
-    (g.K.Sink.taken c.loop-count.output) inv.1 c.fill.new.piece c.in-Ok.count inv.0 c.loop-count.reader
+    ended-early _ (g.S.Source.state c.loop-count.input).remaining (g.S.Source.state c.fill.new.self).remaining _
+    (g.K.Sink.state c.loop-count.output).taken inv.1 c.fill.new.piece c.in-Ok.count inv.0 c.loop-count.reader
     c.in-Err-finish.fault
     inv.3 read.0 c.if-count-eq0.true (read.1 c.if-count-eq0.true (omega arith)) inv.2 fault.0 fault.1 inv.4
 
@@ -40,8 +40,8 @@ returns-in_err-list_piece-clause-wrote g c =
     let inv = c.loop-count.invariant.stands in
     let failed = err_from_is_err_and c.from_residual.result c.from_residual.ensures.1 in
     rw (failed.1, failed.2)
-    (stopped _ (g.S.Source.remaining c.loop-count.input) (g.S.Source.remaining c.fill.new.self) _
-    (g.K.Sink.taken c.loop-count.output) (g.K.Sink.taken c.list_piece.new.out) inv.1
+    (stopped _ (g.S.Source.state c.loop-count.input).remaining (g.S.Source.state c.fill.new.self).remaining _
+    (g.K.Sink.state c.loop-count.output).taken (g.K.Sink.state c.list_piece.new.out).taken inv.1
     (take c.in-Ok.count c.fill.new.piece) inv.0
     c.list_piece.new.reader c.in_err-list_piece.field-0.0 inv.3 c.in-Ok.ensures.bytes.0 inv.4
     (c.in_err-list_piece.ensures.fed inv.0 inv.1 inv.2))
@@ -88,9 +88,9 @@ loop-count-preserved g c =
         inv.0 ++ fed.0,
         inv.1 ++ take c.in-Ok.count c.fill.new.piece,
         fed.1,
-        consumes-then _ (g.S.Source.remaining c.loop-count.input) _ inv.1 (take c.in-Ok.count c.fill.new.piece) inv.3
+        consumes-then _ (g.S.Source.state c.loop-count.input).remaining _ inv.1 (take c.in-Ok.count c.fill.new.piece) inv.3
             c.in-Ok.ensures.bytes.0,
-        Appends-then _ (g.K.Sink.taken c.loop-count.output) _ _ _ _ inv.4 fed.2 (list_text-append inv.0 fed.0),
+        Appends-then _ (g.K.Sink.state c.loop-count.output).taken _ _ _ _ inv.4 fed.2 (list_text-append inv.0 fed.0),
       );
       drained = c.in_ok-list_piece.ensures.drained;
       reads = cc (c.in-Ok.ensures.failures, c.loop-count.invariant.reads);

@@ -8,11 +8,11 @@ use Rattle.sixel_run.proofs.running.list.list.Given as goal
 abbrev pub invariant-loop-count : goal.invariant-loop-count
 invariant-loop-count g l = record {
   stands : (events : List Placed) × (bytes : List ℕ) × StandsAfter l.reader events bytes
-      × Consumes (g.S.Source.remaining l.fn.input) (g.S.Source.remaining l.input) bytes
-      × Appends (g.K.Sink.taken l.fn.output) (g.K.Sink.taken l.output) (list_text events);
+      × Consumes (g.S.Source.state l.fn.input).remaining (g.S.Source.state l.input).remaining bytes
+      × Appends (g.K.Sink.state l.fn.output).taken (g.K.Sink.state l.output).taken (list_text events);
   drained : l.lines ≡ [];
-  reads : g.S.Source.failure_count l.input ≡ g.S.Source.failure_count l.fn.input;
-  writes : g.K.Sink.failure_count l.output ≡ g.K.Sink.failure_count l.fn.output;
+  reads : (g.S.Source.state l.input).failures ≡ (g.S.Source.state l.fn.input).failures;
+  writes : (g.K.Sink.state l.output).failures ≡ (g.K.Sink.state l.fn.output).failures;
 }
 
 abbrev pub decreases-loop-count : goal.decreases-loop-count

@@ -8,16 +8,16 @@ returns-in_err-write_ppm-in-Portable-clause-wrote g c =
     let failed = err_from_is_err_and c.from_residual-in_err-write_ppm-in-Portable.result
     c.from_residual-in_err-write_ppm-in-Portable.ensures.1 in
     rw (failed.1, failed.2)
-    (unrendered _ (g.S.Source.remaining c.args.input.now) _ c.in_err-write_ppm-in-Portable.field-0.0 _ _
-    (rw c.in-Portable.is at c.in_ok-picture.ensures.answer) c.in_err-write_ppm-in-Portable.ensures.bytes)
+    (unrendered _ (g.S.Source.state c.args.input.now).remaining _ c.in_err-write_ppm-in-Portable.field-0.0 _ _
+    (rw c.in-Portable.is at c.in_ok-picture.ensures.answer) c.in_err-write_ppm-in-Portable.ensures.written)
 
 pub returns-in_err-picture-clause-memory : goal.returns-in_err-picture-clause-memory
 returns-in_err-picture-clause-memory g c =
     let failed = err_from_is_err_and c.from_residual.result c.from_residual.ensures.1 in
-    grown _ (g.S.Source.remaining c.args.input.now) _ failed.0 c.from_residual.result c.in_err-picture.ensures.memory
+    grown _ (g.S.Source.state c.args.input.now).remaining _ failed.0 c.from_residual.result c.in_err-picture.ensures.memory
     failed.1 failed.2
 
 pub returns-in-Broken-clause-wrote : goal.returns-in-Broken-clause-wrote
 returns-in-Broken-clause-wrote g c =
-    broken_rendered _ (g.S.Source.remaining c.args.input.now) c.in-Broken.finding (g.K.Sink.taken c.args.output.now)
+    broken_rendered _ (g.S.Source.state c.args.input.now).remaining c.in-Broken.finding (g.K.Sink.state c.args.output.now).taken
     (rw c.in-Broken.is at c.in_ok-picture.ensures.answer)

@@ -35,14 +35,14 @@ chosen profile x y bytes answer had has e w =
 pub returns-clause-wrote : goal.returns-clause-wrote
 returns-clause-wrote g c =
     let profile = c.args.profile in let events = c.in_ok-events.events.items in
-    let had = g.K.Sink.taken c.args.output.now in let has = g.K.Sink.taken c.write_screen.new.output in
+    let had = (g.K.Sink.state c.args.output.now).taken in let has = (g.K.Sink.state c.write_screen.new.output).taken in
     let choices = c.show_choices-choices.result in
     let shown : c.deref-3.result.now ≡ screen_on (show_terminal profile choices) (events_of events) =
     same_colours c.deref-3.result.now c.in_ok-shown.shown.items
     (show_terminal profile choices) c.deref-2.result.now events
     c.deref-3.ensures.value c.in_ok-shown.ensures c.deref-2.ensures.value in
     shown-boxed (screen_terminal profile c.args.showing c.args.fill c.args.selects)
-    (g.S.Source.remaining c.args.input.now) events (c.in-Some.width, c.in-Some.height) c.write_screen.result had has
+    (g.S.Source.state c.args.input.now).remaining events (c.in-Some.width, c.in-Some.height) c.write_screen.result had has
     c.in_ok-events.ensures.document
     (ap (λ (es : List Placed). declared_screen (events_of es)) (sym c.deref.ensures.value)
     ∙ sym c.declared_screen.ensures.value ∙ c.in-Some.is)

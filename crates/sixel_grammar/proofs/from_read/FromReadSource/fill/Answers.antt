@@ -1,4 +1,0 @@
-use Rattle.sixel_grammar.proofs.from_read.FromReadSource.fill.Goals as goal
-
-pub returns-in-Err-clause-bytes : goal.returns-in-Err-clause-bytes
-returns-in-Err-clause-bytes g c = c.in-Err.ensures.bytes

@@ -1,6 +1,0 @@
-use Rattle.std.proofs.Common.{ap}
-use Rattle.sixel_grammar.specs.SliceDevices.{SinkState}
-use Rattle.sixel_grammar.proofs.slice_sink.SliceSinkSink.failures.Goals as goal
-
-pub returns : goal.returns
-returns c = ap (λ (s : SinkState). s.failures) c.self.view_is

@@ -1,5 +1,0 @@
-use Rattle.std.proofs.Common.{refl}
-use Rattle.sixel_grammar.proofs.to_write.ToWriteSink.failures.Goals as goal
-
-pub returns : goal.returns
-returns g c = refl

@@ -1,0 +1,6 @@
+use Rattle.std.proofs.Common.{ap}
+use Rattle.sixel_io.specs.SliceDevices.{SliceSinkState}
+use Rattle.sixel_io.proofs.slice_sink.SliceSinkSink.failures.Goals as goal
+
+pub returns : goal.returns
+returns c = ap (λ (s : SliceSinkState). s.failures) c.self.view_is

@@ -1,0 +1,16 @@
+//! What gives bytes and what takes them, piece by piece, and blocks of bytes on the way.
+#![tactic(auto)]
+
+mod block;
+mod device;
+mod from_read;
+mod slice_sink;
+mod slice_source;
+mod to_write;
+
+pub use block::Block;
+pub use device::{DeviceFault, PIECE, Sink, Source, put_all};
+pub use from_read::FromRead;
+pub use slice_sink::SliceSink;
+pub use slice_source::SliceSource;
+pub use to_write::ToWrite;

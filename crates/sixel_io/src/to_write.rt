@@ -1,0 +1,69 @@
+//! Any std writer, as a sink.
+
+ghost use Rattle.std.specs.Prelude.{◌≡◌, false};
+
+use crate::device::{DeviceFault, Sink};
+use std::io::Write;
+
+/// Any writer, as a sink: each `take` is one `write`. An error of any kind counts as a failure, an interruption too,
+/// and so does a write that takes no byte.
+///
+/// No contract says when a write succeeds, nor what a writer's flush does, so none says that a failed call is one of
+/// the writer, or that `flush` flushes it: tests show it.
+#[derive(Debug, Drop)]
+pub struct ToWrite<W> {
+    writer: W,
+    failures: u64,
+    flushed: bool,
+}
+
+impl<W: Write> ToWrite<W> {
+    /// A sink over the writer, which has not failed yet and isn't flushed.
+    pub fn new(writer: W) -> ToWrite<W>
+        ensures { ⟦<ToWrite<W> as Sink>⟧.state result ≡ record {
+          taken = W.contents writer;
+          failures = 0;
+          is_flushed = false;
+        } }
+    {
+        ToWrite {
+            writer,
+            failures: 0,
+            flushed: false,
+        }
+    }
+}
+
+impl<W: Write> Sink for ToWrite<W> {
+    ghost state = { λ s. record { taken = W.contents s.writer; failures = s.failures; is_flushed = s.flushed } };
+
+    fn take(&mut self, piece: &[u8]) -> Result<usize, DeviceFault> {
+        match self.writer.write(piece) {
+            Ok(count) if count > 0 => {
+                self.flushed = false;
+                Ok(count)
+            }
+            _ => {
+                self.failures = self.failures.saturating_add(1);
+                Err(DeviceFault)
+            }
+        }
+    }
+
+    fn flush(&mut self) -> Result<(), DeviceFault> {
+        match self.writer.flush() {
+            Ok(()) => {
+                self.flushed = true;
+                Ok(())
+            }
+            Err(_) => {
+                self.failures = self.failures.saturating_add(1);
+                Err(DeviceFault)
+            }
+        }
+    }
+
+    fn failures(&self) -> u64 {
+        self.failures
+    }
+}
