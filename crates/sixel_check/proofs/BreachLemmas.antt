@@ -54,20 +54,16 @@ none_more registers before e n below none m lt h =
         let smaller : m < n = omega (arith, lt, other) in
         below m smaller h
 
-find : (registers : ℕ) (before : List Event) (e : Event) (rule : Rule) (o : Option Rule) (b : Bool)
-    → (b ≡ true → Breaks registers (number_of rule) before e)
-    → (b ≡ false → ¬ Breaks registers (number_of rule) before e)
+find : (registers : ℕ) (before : List Event) (e : Event) (rule : Rule) (o : Option Rule) (noted b : Bool) → noted ≡ b
+    → (IsTrue b → Breaks registers (number_of rule) before e)
+    → (Breaks registers (number_of rule) before e → IsTrue b)
     → IsPixel rule None before e → NoneBelow registers (number_of rule) before e
     → (NoneBelow registers (suc (number_of rule)) before e → IsLeastOf registers before e o)
-    → IsLeastOf registers before e (if b then Some rule else o)
-find registers before e rule o true holds fails pixel below more =
-    record { broken = holds refl; none_smaller = below; no_pixel = pixel }
-find registers before e rule o false holds fails pixel below more =
-    more (none_more _ before e (number_of rule) below (fails refl))
-
-not_both : (b : Bool) → b ≡ false → ¬ IsTrue b
-not_both true f t = cc
-not_both false f t = cc
+    → IsLeastOf registers before e (if noted then Some rule else o)
+find registers before e rule o true b same holds is pixel below more =
+    record { broken = holds (sym same); none_smaller = below; no_pixel = pixel }
+find registers before e rule o false b same holds is pixel below more =
+    more (none_more _ before e (number_of rule) below (λ h. let both : false ≡ true = same ∙ is h in cc))
 
 none_below_one : (registers : ℕ) (before : List Event) (e : Event) → NoneBelow registers raster_first_rule before e
 unfolding Breaks
@@ -191,20 +187,15 @@ least_rule {registers} n before e has_box box s =
     let unselected = unselected_is n before e s in
     let undefined = undefined_is n before e s in
     let redefined = redefined_is n before e s in
-    find _ before e RasterFirst _ (raster_first_in has_box e) (λ h. sym first ∙ h)
-    (λ h. not_both _ (sym first ∙ h)) refl (none_below_one _ before e) (λ n1.
-    find _ before e RasterTwice _ (raster_twice_in has_box e) (λ h. sym twice ∙ h)
-    (λ h. not_both _ (sym twice ∙ h)) refl n1 (λ n2.
-    find _ before e Ratio _ (breaks_ratio e) (λ h. h) (λ h. not_both _ h) refl n2 (λ n3.
-    find _ before e BoxSize _ (breaks_box_size e) (λ h. h) (λ h. not_both _ h) refl n3 (λ n4.
-    find _ before e Register _ (breaks_register (length n.palette) e)
-    (λ h. subst (λ (m : ℕ). IsTrue (breaks_register m e)) long h)
-    (λ h. not_both _ (subst (λ (m : ℕ). breaks_register m e ≡ false) long h)) refl n4 (λ n5.
-    find _ before e ColourValue _ (breaks_colour_value e) (λ h. h) (λ h. not_both _ h) refl n5 (λ n6.
-    find _ before e RepeatZero _ (breaks_repeat_zero e) (λ h. h) (λ h. not_both _ h) refl n6 (λ n7.
-    find _ before e Unselected _ (unselected_in n e) (λ h. sym unselected ∙ h)
-    (λ h. not_both _ (sym unselected ∙ h)) refl n7 (λ n8.
-    find _ before e Undefined _ (undefined_in n e) (λ h. sym undefined ∙ h)
-    (λ h. not_both _ (sym undefined ∙ h)) refl n8 (λ n9.
-    find _ before e Redefined None (redefined_in n e) (λ h. sym redefined ∙ h)
-    (λ h. not_both _ (sym redefined ∙ h)) refl n9 (λ n10. n10))))))))))
+    find _ before e RasterFirst _ (raster_first_in has_box e) _ first (λ h. h) (λ h. h) refl
+    (none_below_one _ before e) (λ n1.
+    find _ before e RasterTwice _ (raster_twice_in has_box e) _ twice (λ h. h) (λ h. h) refl n1 (λ n2.
+    find _ before e Ratio _ (breaks_ratio e) _ refl (λ h. h) (λ h. h) refl n2 (λ n3.
+    find _ before e BoxSize _ (breaks_box_size e) _ refl (λ h. h) (λ h. h) refl n3 (λ n4.
+    find _ before e Register _ (breaks_register (length n.palette) e) _
+    (ap (λ (m : ℕ). breaks_register m e) long) (λ h. h) (λ h. h) refl n4 (λ n5.
+    find _ before e ColourValue _ (breaks_colour_value e) _ refl (λ h. h) (λ h. h) refl n5 (λ n6.
+    find _ before e RepeatZero _ (breaks_repeat_zero e) _ refl (λ h. h) (λ h. h) refl n6 (λ n7.
+    find _ before e Unselected _ (unselected_in n e) _ unselected (λ h. h) (λ h. h) refl n7 (λ n8.
+    find _ before e Undefined _ (undefined_in n e) _ undefined (λ h. h) (λ h. h) refl n8 (λ n9.
+    find _ before e Redefined None (redefined_in n e) _ redefined (λ h. h) (λ h. h) refl n9 (λ n10. n10))))))))))

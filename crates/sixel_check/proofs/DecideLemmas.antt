@@ -16,17 +16,14 @@ use Rattle.sixel_model.specs.Rules.{IsFirstPoint, StaysBlank, is_covered, pictur
 use Rattle.sixel_model.proofs.CoverLemmas.{lies_under}
 use Rattle.sixel_model.proofs.LastLemmas.{item_there}
 use Rattle.sixel_model.proofs.PositionLemmas.{holds_within}
-use Rattle.sixel_model.proofs.RuleLemmas.{no_more_rules}
-use Rattle.sixel_model.specs.RuleNumbers.{raster_first_rule, raster_twice_rule, ratio_rule, box_size_rule}
-use Rattle.sixel_model.specs.RuleNumbers.{register_rule, colour_value_rule, repeat_zero_rule, unselected_rule}
-use Rattle.sixel_model.specs.RuleNumbers.{undefined_rule, redefined_rule, outside_rule, uncovered_rule}
-use Rattle.sixel_model.specs.RuleNumbers.{eight_bit_rule, last_rule}
+use Rattle.sixel_model.proofs.RuleLemmas.{each_rule, no_more_rules}
+use Rattle.sixel_model.specs.RuleNumbers.{last_rule}
 use Rattle.sixel_check.specs.declared.rule.Rule.{Rule}
 use Rattle.sixel_check.specs.declared.rule.Rule.TheVariants.{Outside, Uncovered}
 use Rattle.sixel_check.specs.declared.verdict.Verdict.{Verdict}
 use Rattle.sixel_check.specs.declared.verdict.Verdict.TheVariants.{Portable, Broken}
 use Rattle.sixel_check.specs.Verdicts.{IsPixel, IsVerdict, capped, number_of}
-use Rattle.sixel_check.proofs.SearchLemmas.{Decided, LeastBelow, Searchable, decide_either, decide_true, first_point}
+use Rattle.sixel_check.proofs.SearchLemmas.{Decided, LeastBelow, Searchable, decide_true, first_point}
 use Rattle.sixel_check.proofs.SearchLemmas.{least_below}
 use Rattle.sixel_check.proofs.VerdictLemmas.{numbered}
 
@@ -114,21 +111,9 @@ uncovered_decided before e = both_decided _ _ (decide_true (is_finish e)) (blank
 
 unfoldable pub rule_decided : (registers n : ℕ) (before : List Event) (e : Event)
     → Decided (Breaks registers n before e)
-unfolding Breaks
 rule_decided registers n before e =
-    decide_either (n == raster_first_rule) _ _ (decide_true _)
-    (decide_either (n == raster_twice_rule) _ _ (decide_true _)
-    (decide_either (n == ratio_rule) _ _ (decide_true _)
-    (decide_either (n == box_size_rule) _ _ (decide_true _)
-    (decide_either (n == register_rule) _ _ (decide_true _)
-    (decide_either (n == colour_value_rule) _ _ (decide_true _)
-    (decide_either (n == repeat_zero_rule) _ _ (decide_true _)
-    (decide_either (n == unselected_rule) _ _ (decide_true _)
-    (decide_either (n == undefined_rule) _ _ (decide_true _)
-    (decide_either (n == redefined_rule) _ _ (decide_true _)
-    (decide_either (n == outside_rule) _ _ (outside_decided before e)
-    (decide_either (n == uncovered_rule) _ _ (uncovered_decided before e)
-    (decide_either (n == eight_bit_rule) _ _ (decide_true _) (inr (λ none. none))))))))))))))
+    each_rule Decided registers n before e (λ le b. decide_true b) (λ le. outside_decided before e)
+    (λ le. uncovered_decided before e) (inr (λ none. none))
 
 -- each number up to the last is a rule's
 rule_of : (n : ℕ) → 1 ≤ n → n ≤ last_rule → (r : Rule) × (number_of r ≡ n)

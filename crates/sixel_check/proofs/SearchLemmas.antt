@@ -2,7 +2,6 @@
 use Rattle.std.proofs.Common.{◌≡◌, ◌==◌, ◌<◌, ◌⊎◌, ℕ, zero, suc, Bool, true, false, nat_lt, inl, inr, refl, subst}
 use Rattle.std.proofs.Common.{arith}
 use Rattle.std.specs.Prelude.{IsTrue}
-use Rattle.std.specs.Bool.{MatchBool}
 use Rattle.std.proofs.lemmas.Bool.{and_parts, eqb-false, eqb-true, ltb-true, or_cases}
 use Rattle.sixel_model.specs.Rules.{IsFirstPoint, is_before}
 
@@ -15,10 +14,6 @@ Decided P = P ⊎ ¬ P
 unfoldable pub decide_true : (b : Bool) → Decided (IsTrue b)
 decide_true true = inl refl
 decide_true false = inr (λ h. cc)
-
-unfoldable pub decide_either : (b : Bool) (P Q : Type 0) → Decided P → Decided Q → Decided (MatchBool b P Q)
-decide_either true P Q p q = p
-decide_either false P Q p q = q
 
 -- a number below k of which P holds, and of none below it
 pub record LeastBelow (P : ℕ → Type 0) (k : ℕ) : Type 0 where

@@ -119,22 +119,9 @@ sixel_noted {registers} n s before bits r known fits a d =
     let columns = fits.columns in
     let moves : next_column n e ≡ n.column + 1 = omega (arith, room, columns) in
     let marks : next_painted n e ≡ n.painted = marks_stay n r (is_painting e) known in
-    subst (λ (c : ℕ). AreNotesAfter registers (record {
-      column = c;
-      band = n.band;
-      selected = n.selected;
-      named = n.named;
-      palette = n.palette;
-      painted = n.painted;
-    }) (before ++ e ∷ [])) moves
-    (subst (λ (marked : List Bool). AreNotesAfter registers (record {
-      column = next_column n e;
-      band = n.band;
-      selected = n.selected;
-      named = n.named;
-      palette = n.palette;
-      painted = marked;
-    }) (before ++ e ∷ [])) marks
+    subst (λ (c : ℕ). AreNotesAfter registers (record n { column = c }) (before ++ e ∷ [])) moves
+    (subst (λ (marked : List Bool). AreNotesAfter registers (record n { column = next_column n e; painted = marked })
+    (before ++ e ∷ [])) marks
     (notes_push n before e a (sixel_breaks_none n s before bits r known fits a d)))
 
 -- sheets of the same pixels are drawn by the same events
@@ -223,14 +210,7 @@ stretch_stands {registers} n s seen place count r bytes long each known fits u z
     (events_of l)) (sym (append-nil seen))
     (record {
       unbroken = u.unbroken;
-      notes_are = subst (λ (c : ℕ). AreNotesAfter registers (record {
-        column = c;
-        band = n.band;
-        selected = n.selected;
-        named = n.named;
-        palette = n.palette;
-        painted = n.painted;
-      }) (events_of seen)) still u.notes_are;
+      notes_are = subst (λ (c : ℕ). AreNotesAfter registers (record n { column = c }) (events_of seen)) still u.notes_are;
       sheet_is = none_drawn n s (events_of seen) f r u.sheet_is;
       coloured = u.coloured;
     })
@@ -266,14 +246,8 @@ stretch_stands {registers} n s seen place count r bytes long each known fits u (
     let next : k + 1 ≡ suc k = omega arith in
     subst (λ (l : List Placed). StandsUnbroken registers (moved_by (suc k) n)
     (Some (stretched_sheet s n.column n.band (suc k) f r)) (events_of l)) events
-    (subst (λ (c : ℕ). StandsUnbroken registers (record {
-      column = c;
-      band = n.band;
-      selected = n.selected;
-      named = n.named;
-      palette = n.palette;
-      painted = n.painted;
-    }) (Some (stretched_sheet s n.column n.band (suc k) f r)) (events_of (before ++ p ∷ []))) column
+    (subst (λ (c : ℕ). StandsUnbroken registers (record n { column = c })
+    (Some (stretched_sheet s n.column n.band (suc k) f r)) (events_of (before ++ p ∷ []))) column
     (subst (λ (j : ℕ). StandsUnbroken registers (moved_by 1 m) (Some (stretched_sheet s n.column n.band j f r))
     (events_of (before ++ p ∷ []))) next after))
 
@@ -304,14 +278,7 @@ passed_stands {registers} n s seen place count bytes long blank u zero le =
     let at = u.notes_are.column_is in
     let still : n.column ≡ capped (n.column + 0) = omega (arith, at) in
     subst (λ (l : List Placed). StandsUnbroken registers (passed_by 0 n) (Some s) (events_of l)) (sym (append-nil seen))
-    (subst (λ (c : ℕ). StandsUnbroken registers (record {
-      column = c;
-      band = n.band;
-      selected = n.selected;
-      named = n.named;
-      palette = n.palette;
-      painted = n.painted;
-    }) (Some s) (events_of seen)) still u)
+    (subst (λ (c : ℕ). StandsUnbroken registers (record n { column = c }) (Some s) (events_of seen)) still u)
 passed_stands {registers} n s seen place count bytes long blank u (suc k) le =
     let before = seen ++ sixels_from place (take k bytes) in
     let m : Notes = passed_by k n in
@@ -329,14 +296,8 @@ passed_stands {registers} n s seen place count bytes long blank u (suc k) le =
     ∙ sixels_more place (place + k) k bytes refl (omega arith)) in
     let column : capped (capped (n.column + k) + 1) ≡ capped (n.column + suc k) = omega arith in
     subst (λ (l : List Placed). StandsUnbroken registers (passed_by (suc k) n) (Some s) (events_of l)) events
-    (subst (λ (c : ℕ). StandsUnbroken registers (record {
-      column = c;
-      band = n.band;
-      selected = n.selected;
-      named = n.named;
-      palette = n.palette;
-      painted = n.painted;
-    }) (Some s) (events_of (before ++ p ∷ []))) column after)
+    (subst (λ (c : ℕ). StandsUnbroken registers (record n { column = c }) (Some s) (events_of (before ++ p ∷ []))) column
+    after)
 
 -- ---- where a rule was broken before
 

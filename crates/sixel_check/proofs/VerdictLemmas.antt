@@ -1,7 +1,7 @@
 -- A list has one verdict.
 use Rattle.std.proofs.Common.{◌≡◌, ◌==◌, ◌<◌, ◌⊎◌, ℕ, nat_lt, inl, inr, Option, Some, List, take, refl, sym, ap, subst}
-use Rattle.std.proofs.Common.{◌∙◌, arith}
-use Rattle.std.specs.Prelude.{IsSomeAnd, IsTrue, slice_get, if◌then◌else◌}
+use Rattle.std.proofs.Common.{◌∙◌, ◌∷◌, [], ◌-◌, get_or, arith}
+use Rattle.std.specs.Prelude.{IsSomeAnd, IsTrue, slice_get}
 use Rattle.std.proofs.lemmas.Bool.{and_from, eq-eqb, lt-ltb, or_left, or_right}
 use Rattle.sixel_grammar.specs.declared.command.Event.{Event}
 use Rattle.sixel_grammar.specs.declared.command.Placed.{Placed}
@@ -9,9 +9,6 @@ use Rattle.sixel_grammar.specs.Document.{events_of}
 use Rattle.sixel_model.specs.Positions.{HoldsAtPosition}
 use Rattle.sixel_model.specs.Rules.{FallsOutside, IsFirstPoint, StaysBlank, is_before, raster_before}
 use Rattle.sixel_model.proofs.RuleLemmas.{nowhere}
-use Rattle.sixel_model.specs.RuleNumbers.{raster_first_rule, raster_twice_rule, ratio_rule, box_size_rule}
-use Rattle.sixel_model.specs.RuleNumbers.{register_rule, colour_value_rule, repeat_zero_rule, unselected_rule}
-use Rattle.sixel_model.specs.RuleNumbers.{undefined_rule, redefined_rule, outside_rule, uncovered_rule}
 use Rattle.sixel_check.specs.declared.rule.Rule.{Rule}
 use Rattle.sixel_check.specs.declared.rule.Rule.TheVariants.{RasterFirst, RasterTwice, Ratio, BoxSize, Register}
 use Rattle.sixel_check.specs.declared.rule.Rule.TheVariants.{ColourValue, RepeatZero, Unselected, Undefined, Redefined}
@@ -27,19 +24,8 @@ use Rattle.sixel_check.proofs.OptionLemmas.{same_value}
 -- the rule of a number
 abbrev pub numbered : ℕ → Rule
 numbered n =
-    if n == raster_first_rule then RasterFirst
-    else if n == raster_twice_rule then RasterTwice
-    else if n == ratio_rule then Ratio
-    else if n == box_size_rule then BoxSize
-    else if n == register_rule then Register
-    else if n == colour_value_rule then ColourValue
-    else if n == repeat_zero_rule then RepeatZero
-    else if n == unselected_rule then Unselected
-    else if n == undefined_rule then Undefined
-    else if n == redefined_rule then Redefined
-    else if n == outside_rule then Outside
-    else if n == uncovered_rule then Uncovered
-    else EightBit
+    get_or (RasterFirst ∷ RasterTwice ∷ Ratio ∷ BoxSize ∷ Register ∷ ColourValue ∷ RepeatZero ∷ Unselected ∷ Undefined
+    ∷ Redefined ∷ Outside ∷ Uncovered ∷ []) (n - 1) EightBit
 
 numbered_is : (r : Rule) → numbered (number_of r) ≡ r
 numbered_is RasterFirst = refl

@@ -30,14 +30,7 @@ pub record Fits (notes : Notes) (count : ℕ) (s : Sheet) : Type 0 where
 
 -- the notes after so many sixels in a register that was painted in before
 abbrev pub moved_by : ℕ → Notes → Notes
-moved_by count notes = record {
-  column = notes.column + count;
-  band = notes.band;
-  selected = notes.selected;
-  named = notes.named;
-  palette = notes.palette;
-  painted = notes.painted;
-}
+moved_by count notes = record notes { column = notes.column + count }
 
 -- the notes and the sheet after a stretch, which breaks no rule
 pub record IsStretched (bytes : List ℕ) (count : ℕ) (notes : Notes) (s : Sheet) (next : Notes) (drawn : Sheet) :
@@ -58,14 +51,7 @@ AreBlank bytes count = (k : ℕ) → k < count → slice_index bytes k ≡ blank
 
 -- the notes after so many sixels without a bit
 abbrev pub passed_by : ℕ → Notes → Notes
-passed_by count notes = record {
-  column = capped (notes.column + count);
-  band = notes.band;
-  selected = notes.selected;
-  named = notes.named;
-  palette = notes.palette;
-  painted = notes.painted;
-}
+passed_by count notes = record notes { column = capped (notes.column + count) }
 
 -- the notes and the sheet after a stretch without a bit, wherever it lies
 pub record IsPassed (bytes : List ℕ) (count : ℕ) (notes : Notes) (s : Sheet) (next : Notes) (drawn : Sheet) :

@@ -72,13 +72,9 @@ impl Notes {
 
     #[inline(always)]
     fn move_on(&mut self, event: &Event)
-        ensures { self.new ≡ record {
+        ensures { self.new ≡ record self.old {
           column = next_column self.old event.now;
           band = next_band self.old event.now;
-          selected = self.old.selected;
-          named = self.old.named;
-          palette = self.old.palette;
-          painted = self.old.painted;
         } }
     {
         self.column = if is_return(event) {
@@ -93,13 +89,9 @@ impl Notes {
 
     #[inline(always)]
     fn name(&mut self, event: &Event)
-        ensures { self.new ≡ record {
-          column = self.old.column;
-          band = self.old.band;
+        ensures { self.new ≡ record self.old {
           selected = next_selected self.old event.now;
           named = next_named self.old event.now;
-          palette = self.old.palette;
-          painted = self.old.painted;
         } }
     {
         self.selected = select_of(event).or(self.selected);
@@ -108,14 +100,7 @@ impl Notes {
 
     #[inline(always)]
     fn define(&mut self, event: &Event)
-        ensures { self.new ≡ record {
-          column = self.old.column;
-          band = self.old.band;
-          selected = self.old.selected;
-          named = self.old.named;
-          palette = next_palette self.old event.now;
-          painted = self.old.painted;
-        } }
+        ensures { self.new ≡ record self.old { palette = next_palette self.old event.now } }
     {
         if let Event::Step(
             Command::Define {
@@ -136,14 +121,7 @@ impl Notes {
     #[inline(always)]
     fn mark(&mut self, event: &Event)
         requires { IsBelow self.old }
-        ensures { self.new ≡ record {
-          column = self.old.column;
-          band = self.old.band;
-          selected = self.old.selected;
-          named = self.old.named;
-          palette = self.old.palette;
-          painted = next_painted self.old event.now;
-        } }
+        ensures { self.new ≡ record self.old { painted = next_painted self.old event.now } }
     {
         if is_painting(event)
             && let Some(register) = self.known()

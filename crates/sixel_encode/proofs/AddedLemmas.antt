@@ -1,18 +1,18 @@
 -- Bits that are added in the columns whose pixel is of a register.
-use Rattle.std.proofs.Common.{◌≡◌, ◌==◌, ℕ, ◌+◌, ◌*◌, ◌%◌, ◌^◌, ◌<◌, ◌≤◌, ◌-◌, Bool, true, false, ◌&&◌, cond}
-use Rattle.std.proofs.Common.{List, length, get_or, map, replicate, w8, inl, inr, refl, sym, ap, ap₂, ◌∙◌}
+use Rattle.std.proofs.Common.{◌≡◌, ◌==◌, ℕ, ◌+◌, ◌*◌, ◌%◌, ◌^◌, ◌<◌, ◌≤◌, Bool, true, false, ◌&&◌, cond}
+use Rattle.std.proofs.Common.{List, length, get_or, map, replicate, w8, refl, sym, ap, ap₂, ◌∙◌}
 use Rattle.std.proofs.Common.{arith, subst}
 use Rattle.std.specs.Prelude.{nat_le, nat_lt}
 use Rattle.std.proofs.Math.Pow.{pow_mono}
 use Rattle.std.proofs.lemmas.Bool.Decides.{nat_tests}
-use Rattle.std.proofs.lemmas.Bool.{cases_lt, le-leb, lt-ltb}
+use Rattle.std.proofs.lemmas.Bool.{le-leb, lt-ltb}
 use Rattle.std.proofs.lemmas.List.{ext_get_or, get_or-map, length-map}
 use Rattle.std.proofs.lemmas.List.FromFn.{get_or-map-range_with_len, length-range_with_len}
-use Rattle.std.proofs.lemmas.Simd.{length-put_chunk, get_or-put_chunk_below, get_or-put_chunk_at}
-use Rattle.std.proofs.lemmas.Simd.{get_or-put_chunk_above, length-replicate, get_or-replicate, length-chunk}
+use Rattle.std.proofs.lemmas.Simd.{length-put_chunk, length-replicate, get_or-replicate, length-chunk}
 use Rattle.std.proofs.lemmas.Simd.{get_or-chunk, length-zip2, get_or-zip2, tops_compared, length-sel_l, get_or-sel_l}
 use lib.Lanes.{chunk, put_chunk, sel_l, top, zip2}
 use Rattle.sixel_model.specs.Pictures.{PictureValue, register_of}
+use Rattle.sixel_plane.proofs.LaneLemmas.{stored_group}
 use Rattle.sixel_encode.specs.Canon.{all_columns, below, column_bits, has_pixel}
 use Rattle.sixel_encode.specs.Columns.{AreAdded, AreSixels, sixels_of}
 use Rattle.sixel_encode.proofs.BitLemmas.{bits_above, column_most, row_added, row_passed}
@@ -66,6 +66,11 @@ add_choice : (t : Bool) (b bits : ℕ) → b < 256 → plus b (cond t bits 0) �
 add_choice true b bits small = refl
 add_choice false b bits small = omega arith
 
+three_tests : (a b c : Bool) (x o : ℕ) → cond (a && b) (cond c x o) o ≡ cond (a && (b && c)) x o
+three_tests true true c x o = refl
+three_tests true false c x o = refl
+three_tests false b c x o = refl
+
 -- a group of columns
 pub added_group : (at register bits : ℕ) (row old : List ℕ) → at + 32 ≤ length old → at + 32 ≤ length row
     → ((k : ℕ) → get_or old k 0 < 256)
@@ -79,7 +84,6 @@ added_group at register bits row old room pixels bytes =
     let group = zip2 plus (chunk at 32 old) (marks_of register bits v) in
     let long : length group ≡ 32 =
     length-zip2 plus (chunk at 32 old) (marks_of register bits v) (loaded ∙ sym marks) ∙ loaded in
-    let fits : at + length group ≤ length old = omega (arith, long) in
     let each : (j : ℕ) → j < 32 → get_or group j 0
     ≡ cond (get_or row (at + j) 0 == register) ((get_or old (at + j) 0 + bits) % 256) (get_or old (at + j) 0) = λ j lt.
     let in_old : j < length (chunk at 32 old) = omega (arith, loaded) in
@@ -91,33 +95,10 @@ added_group at register bits row old room pixels bytes =
     ∙ add_choice (get_or row (at + j) 0 == register) (get_or old (at + j) 0) bits (bytes (at + j)) in
     record {
       long = length-put_chunk at old group;
-      added = λ x lt. elim (cases_lt x at) [
-        | inl below ↦
-            let kept : get_or (put_chunk at old group) x 0 ≡ get_or old x 0 =
-            get_or-put_chunk_below at old group x 0 below in
-            grind (arith, nat_tests)
-        | inr from ↦ elim (cases_lt x (at + 32)) [
-          | inl to ↦
-              let back : at + (x - at) ≡ x = omega arith in
-              let few : x - at < 32 = omega arith in
-              let inner : x - at < length group = omega (arith, long) in
-              let written : get_or (put_chunk at old group) x 0
-              ≡ cond (get_or row x 0 == register) ((get_or old x 0 + bits) % 256) (get_or old x 0) =
-              ap (λ k. get_or (put_chunk at old group) k 0) (sym back)
-              ∙ get_or-put_chunk_at at old group (x - at) 0 inner fits
-              ∙ each (x - at) few
-              ∙ ap (λ k. cond (get_or row k 0 == register) ((get_or old k 0 + bits) % 256) (get_or old k 0)) back in
-              written
-              ∙ ap₂ (λ (a b : Bool). cond (a && (b && (get_or row x 0 == register)))
-              ((get_or old x 0 + bits) % 256) (get_or old x 0))
-              (sym (le-leb at x from)) (sym (lt-ltb x (at + 32) to))
-          | inr above ↦
-              let past : at + length group ≤ x = omega (arith, long) in
-              let kept : get_or (put_chunk at old group) x 0 ≡ get_or old x 0 =
-              get_or-put_chunk_above at old group x 0 past in
-              grind (arith, nat_tests)
-        ]
-      ];
+      added = λ x lt.
+          stored_group at 32 (λ k. cond (get_or row k 0 == register) (plus (get_or old k 0) bits) (get_or old k 0))
+          old group long room each x
+          ∙ three_tests (nat_le at x) (nat_lt x (at + 32)) (get_or row x 0 == register) _ (get_or old x 0);
     }
 
 -- ---- the bits of a register, row by row

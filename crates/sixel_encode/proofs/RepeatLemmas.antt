@@ -3,13 +3,13 @@ use Rattle.std.proofs.Common.{◌≡◌, ◌≢◌, ◌==◌, ℕ, ◌+◌, ◌-
 use Rattle.std.proofs.Common.{List, length, get_or, map, replicate, not, w8, refl, sym, ap, ap₂}
 use Rattle.std.proofs.Common.{◌∙◌, arith}
 use Rattle.std.specs.List.{prefix_len}
-use Rattle.std.proofs.lemmas.Bool.{cond-false, cond-true, eq-eqb, ne_eqb}
 use Rattle.std.proofs.lemmas.List.{take_all}
-use Rattle.std.proofs.lemmas.Simd.{bitmask_splat, first_set_mask_l, get_or-chunk, get_or-replicate, get_or-sel_l}
+use Rattle.std.proofs.lemmas.Simd.{bitmask_splat, get_or-chunk, get_or-replicate, get_or-sel_l}
 use Rattle.std.proofs.lemmas.Simd.{get_or-zip2, length-chunk, length-replicate, length-sel_l, length-zip2}
 use Rattle.std.proofs.lemmas.Simd.{run_in_chunk_fails, run_in_chunk_le, run_in_chunk_stops, tops_compared}
 use lib.Count.{count_trailing_zeros}
 use lib.Lanes.{chunk, mask_l, sel_l, top, zip2}
+use Rattle.sixel_plane.proofs.LaneLemmas.{first_in_lanes, none_in_lanes}
 use Rattle.sixel_encode.specs.Columns.{NoFour, are_four}
 
 -- the test of two groups, lane by lane
@@ -123,17 +123,14 @@ whole at bytes room =
 pub counted_none : (at m : ℕ) (bytes : List ℕ) → at + 32 + 3 ≤ length bytes
     → m ≡ mask_l (map (λ n. n == 1) (fours_from at bytes)) → m ≡ 0 → Counted at bytes 32
 counted_none at m bytes room same none =
-    sym (cond-true _ _ _ (eq-eqb _ _ (sym same ∙ none)))
-    ∙ first_set_mask_l (λ n. n == 1) (fours_from at bytes) 32 (length-fours_from at bytes room) (omega arith)
+    none_in_lanes (λ n. n == 1) (fours_from at bytes) m (length-fours_from at bytes room) same none
     ∙ sym (ap (prefix_len (λ n. not (n == 1))) (whole at bytes room))
 
 pub counted_some : (at m : ℕ) (bytes : List ℕ) → at + 32 + 3 ≤ length bytes
     → m ≡ mask_l (map (λ n. n == 1) (fours_from at bytes)) → m ≢ 0
     → Counted at bytes (count_trailing_zeros 64 m)
 counted_some at m bytes room same some =
-    ap (count_trailing_zeros 64) same
-    ∙ sym (cond-false _ _ _ (ne_eqb _ _ (λ none. some (same ∙ none))))
-    ∙ first_set_mask_l (λ n. n == 1) (fours_from at bytes) 32 (length-fours_from at bytes room) (omega arith)
+    first_in_lanes (λ n. n == 1) (fours_from at bytes) m (length-fours_from at bytes room) same some
     ∙ sym (ap (prefix_len (λ n. not (n == 1))) (whole at bytes room))
 
 pub run_most : (at run : ℕ) (bytes : List ℕ) → at + 32 + 3 ≤ length bytes → Counted at bytes run → run ≤ 32

@@ -33,14 +33,9 @@ ended_columns (Some e) = is_columns e
 abbrev No : Option (Form × Option Event) → Type 0
 No w = whole_columns w ≡ false
 
-clash : (x : Bool) → x ≡ true → x ≡ false → ⊥
-clash true t n = cc
-clash false t n = cc
-
 begins_none : (b : ℕ) → is_data b ≡ false → No (begin b)
 begins_none b other =
-    cond_both (is_data b) _ _ No
-    (λ t. absurd (clash (is_data b) t other))
+    cond_both (is_data b) _ _ No (λ t. cc)
     (λ _. cond_both (is_filler b) _ _ No (λ _. refl)
     (λ _. cond_both (eqb b 33) _ _ No (λ _. refl)
     (λ _. cond_both (eqb b 34) _ _ No (λ _. refl)
@@ -71,7 +66,7 @@ whole_none (LastSeparator eight ns) b other = cond_both (eqb b 113) _ _ No (λ _
 whole_none NoCommand b other = begins_none b other
 whole_none (RepeatNumber n) b other =
     cond_both (is_digit b) _ _ No (λ _. digit_none RepeatNumber n b)
-    (λ _. cond_both (is_data b) _ _ No (λ t. absurd (clash (is_data b) t other)) (λ _. refl))
+    (λ _. cond_both (is_data b) _ _ No (λ t. cc) (λ _. refl))
 whole_none (RasterFields ns n) b other =
     cond_both (is_digit b) _ _ No (λ _. digit_none (RasterFields ns) n b)
     (λ _. cond_both (eqb b 59 && ltb (length ns) 3) _ _ No (λ _. refl) (λ _. refl))
@@ -83,59 +78,52 @@ whole_none Ended b other = cond_both (is_filler b) _ _ No (λ _. refl) (λ _. re
 
 -- a command that a byte ends is neither a sixel nor a repeat
 settled_none : (f : Form) → ended_columns (settled f) ≡ false
-settled_none NothingYet = refl
-settled_none Introducing = refl
-settled_none (Parameters eight ns n) = refl
-settled_none (LastSeparator eight ns) = refl
-settled_none NoCommand = refl
-settled_none (RepeatNumber n) = refl
-settled_none (RasterFields [] a) = refl
-settled_none (RasterFields (a ∷ []) b) = refl
-settled_none (RasterFields (a ∷ b ∷ []) c) = refl
-settled_none (RasterFields (a ∷ b ∷ c ∷ []) d) = refl
 settled_none (RasterFields (a ∷ b ∷ c ∷ d ∷ more) e) = refl
-settled_none (ColourFields [] a) = refl
-settled_none (ColourFields (a ∷ []) b) = refl
-settled_none (ColourFields (a ∷ b ∷ []) c) = refl
-settled_none (ColourFields (a ∷ b ∷ c ∷ []) d) = refl
-settled_none (ColourFields (a ∷ b ∷ c ∷ d ∷ []) e) = refl
 settled_none (ColourFields (a ∷ b ∷ c ∷ d ∷ e ∷ more) g) = refl
-settled_none Terminating = refl
-settled_none Ended = refl
+settled_none _ = refl
 
-abbrev plain_with : ℕ → ℕ → Option (Option Event × Form × Option Event) → Bool
-plain_with opened n None = false
-plain_with opened n (Some x) = are_plain (completed_events opened n x.0 x.2)
+-- what the byte does completes these events
+abbrev pub Completes : ℕ → ℕ → Option (Option Event × Form × Option Event) → List Placed → Type 0
+Completes opened n None done = ⊥
+Completes opened n (Some x) done = completed_events opened n x.0 x.2 ≡ done
 
-none_plain : (opened n : ℕ) (w : Option (Form × Option Event)) (s : Option Event) (y : Option (Form × Option Event))
-    → only_grown w ≡ None → No w → ended_columns s ≡ false → plain_with opened n (chosen w s y) ≡ false
-none_plain opened n None None y g h e = refl
-none_plain opened n None (Some k) None g h e = refl
-none_plain opened n None (Some k) (Some (f, None)) g h e = e
-none_plain opened n None (Some k) (Some (f, Some d)) g h e = refl
-none_plain opened n (Some (f, None)) s y g h e = cc
-none_plain opened n (Some (f, Some d)) s y g h e = h
+none_plain : (opened n : ℕ) (done : List Placed) (w : Option (Form × Option Event)) (s : Option Event)
+    (y : Option (Form × Option Event)) → only_grown w ≡ None → No w → ended_columns s ≡ false
+    → are_plain done ≡ true → Completes opened n (chosen w s y) done → ⊥
+none_plain opened n done None None y g h e few c = c
+none_plain opened n done None (Some k) None g h e few c = c
+none_plain opened n done None (Some k) (Some (f, None)) g h e few c = cc (ap are_plain c)
+none_plain opened n done None (Some k) (Some (f, Some d)) g h e few c = cc (ap are_plain c)
+none_plain opened n done (Some (f, None)) s y g h e few c = cc
+none_plain opened n done (Some (f, Some d)) s y g h e few c = cc (ap are_plain c)
 
 came : (f : Form) (events : List Placed) (opened : ℕ) (bytes : List ℕ) (b : ℕ) (done : List Placed)
     (x : Option (Option Event × Form × Option Event)) → next_of f b ≡ x → EndsIn f events opened bytes
-    → CompleteIn (events ++ done) (bytes ++ b ∷ []) → are_plain done ≡ true
-    → plain_with opened (length bytes) x ≡ false → ⊥
-came f events opened bytes b done None h e c few none = not_viable f e b [] h (events ++ done, c)
-came f events opened bytes b done (Some x) h e c few none =
+    → CompleteIn (events ++ done) (bytes ++ b ∷ []) → Completes opened (length bytes) x done
+came f events opened bytes b done None h e c = not_viable f e b [] h (events ++ done, c)
+came f events opened bytes b done (Some x) h e c =
     let went : GoesTo events opened bytes b (Some x) = subst (GoesTo events opened bytes b) h (advances f e b) in
     let same = complete_once (bytes ++ b ∷ []) _ (events ++ done) (complete x.1 went) c in
-    let is : completed_events opened (length bytes) x.0 x.2 ≡ done =
-    append_cancel_left events _ done (sym (handed events opened (length bytes) bytes x.0 x.2 refl) ∙ same) in
-    clash (are_plain done) few (ap are_plain (sym is) ∙ none)
+    append_cancel_left events _ done (sym (handed events opened (length bytes) bytes x.0 x.2 refl) ∙ same)
+
+-- what a reader owes of the events of a byte that is taken: it may come, and completes them
+pub completed : (r q : Reader) (events done : List Placed) (bytes : List ℕ) (b : ℕ) → StandsAfter r events bytes
+    → StandsAfter q (events ++ done) (bytes ++ b ∷ [])
+    → (0 < r.left)
+    × Completes (opened_after (length bytes) r) (length bytes) (next_of (form_of r.pending) b) done
+completed r q events done bytes b s t =
+    let len = length-append bytes (b ∷ []) in (
+      omega (arith, s.left, t.left, len),
+      came (form_of r.pending) events (opened_after (length bytes) r) bytes b done (next_of (form_of r.pending) b) refl
+          s.ends (read_complete q (events ++ done) (bytes ++ b ∷ []) t),
+    )
 
 pub not_plain : (r q : Reader) (events done : List Placed) (bytes : List ℕ) (b : ℕ)
     → (0 < r.left → (only_grown (within (form_of r.pending) b) ≡ None) × (makes_columns (form_of r.pending) b ≡ false))
     → StandsAfter r events bytes → are_plain done ≡ true → StandsAfter q (events ++ done) (bytes ++ b ∷ []) → ⊥
 not_plain r q events done bytes b other s few t =
-    let len = length-append bytes (b ∷ []) in
-    let n = other (omega (arith, s.left, t.left, len)) in
     let f = form_of r.pending in
-    came f events (opened_after (length bytes) r) bytes b done (next_of f b) refl s.ends
-    (read_complete q (events ++ done) (bytes ++ b ∷ []) t) few
-    (none_plain (opened_after (length bytes) r) (length bytes) (within f b) (settled f) (begin b) n.0
-    (whole_none f b n.1) (settled_none f))
+    let c = completed r q events done bytes b s t in
+    let n = other c.0 in
+    none_plain (opened_after (length bytes) r) (length bytes) done (within f b) (settled f) (begin b) n.0
+    (whole_none f b n.1) (settled_none f) few c.1

@@ -3,10 +3,11 @@ use Rattle.std.proofs.Common.{◌≡◌, ◌≢◌, ℕ, ◌+◌, ◌-◌, ◌%�
 use Rattle.std.proofs.Common.{get_or, map, replicate, w8, inl, inr, leb, sym, ap, ◌∙◌, arith, Fits}
 use Rattle.std.specs.List.{prefix_len}
 use Rattle.std.proofs.lemmas.Bool.Decides.{nat_tests}
-use Rattle.std.proofs.lemmas.Bool.{cases_lt, eq-eqb, ne_eqb, cond-true, cond-false}
+use Rattle.std.proofs.lemmas.Bool.{cases_lt}
 use Rattle.std.proofs.lemmas.List.{length-map}
 use Rattle.std.proofs.lemmas.Simd.{length-chunk, zip2_splat, zip2_splat_left, tops_compared, mask_l-mod}
-use Rattle.std.proofs.lemmas.Simd.{first_set_mask_l, map-map, run_in_chunk_le, run_in_chunk_fails, run_in_chunk_stops}
+use Rattle.std.proofs.lemmas.Simd.{leading_from_mask_l, trailing_mask_l, map-map, run_in_chunk_le}
+use Rattle.std.proofs.lemmas.Simd.{run_in_chunk_fails, run_in_chunk_stops}
 use lib.Count.{count_trailing_zeros}
 use lib.Lanes.{chunk, mask_l, top, zip2}
 use Rattle.sixel_grammar.specs.Bytes.{is_data}
@@ -72,8 +73,7 @@ whole_group from bytes room fits none =
     let v = chunk from 16 bytes in
     let long : length v ≡ 16 = length-chunk from 16 bytes room in
     let same = lanes_outside v long in
-    run_there from 16 bytes room fits
-    (sym (cond-true _ _ _ (eq-eqb _ _ (sym same ∙ none))) ∙ first_set_mask_l outside v 16 long (omega arith))
+    run_there from 16 bytes room fits (sym (leading_from_mask_l outside v (sym same ∙ none) ∙ long))
 
 pub part_of_group : (from : ℕ) (bytes : List ℕ) → from + 16 ≤ length bytes → ((k : ℕ) → Fits w8 (get_or bytes k 0))
     → others from bytes ≢ 0 → IsRun bytes from 16 (count_trailing_zeros 64 (others from bytes))
@@ -82,9 +82,7 @@ part_of_group from bytes room fits some =
     let long : length v ≡ 16 = length-chunk from 16 bytes room in
     let same = lanes_outside v long in
     run_there from (count_trailing_zeros 64 (others from bytes)) bytes room fits
-    (ap (count_trailing_zeros 64) same
-    ∙ sym (cond-false _ _ _ (ne_eqb _ _ (λ none. some (same ∙ none))))
-    ∙ first_set_mask_l outside v 16 long (omega arith))
+    (ap (count_trailing_zeros 64) same ∙ trailing_mask_l outside 64 v (omega arith) (omega arith))
 
 -- a run after data bytes
 pub run_after : (from mid count run : ℕ) (bytes : List ℕ) → from ≤ mid → AreData from (mid - from) bytes

@@ -10,8 +10,7 @@ use Rattle.sixel_grammar.specs.declared.command.Placed.{Placed}
 use Rattle.sixel_grammar.specs.declared.reader.Reader.{Reader}
 use Rattle.sixel_grammar.specs.Bytes.{is_data}
 use Rattle.sixel_grammar.specs.Document.{most_bytes}
-use Rattle.sixel_grammar.specs.Faults.{Form, NothingYet, Introducing, Parameters, LastSeparator, NoCommand}
-use Rattle.sixel_grammar.specs.Faults.{RepeatNumber, RasterFields, ColourFields, Terminating, Ended, EndsIn, is_idle}
+use Rattle.sixel_grammar.specs.Faults.{Form, NoCommand, EndsIn, is_idle}
 use Rattle.sixel_grammar.specs.Next.{within}
 use Rattle.sixel_grammar.specs.Pending.{form_of}
 use Rattle.sixel_grammar.specs.Standing.{StandsAfter, opened_after}
@@ -100,28 +99,12 @@ pub other_form : (f : Form) (b : ℕ) → (f ≡ NoCommand → ⊥) → makes_si
 other_form f b h = other f refl
   where
     other : (g : Form) → f ≡ g → makes_sixel g b ≡ false
-    other NothingYet e = refl
-    other Introducing e = refl
-    other (Parameters eight ns n) e = refl
-    other (LastSeparator eight ns) e = refl
     other NoCommand e = absurd (h e)
-    other (RepeatNumber n) e = refl
-    other (RasterFields ns n) e = refl
-    other (ColourFields ns n) e = refl
-    other Terminating e = refl
-    other Ended e = refl
+    other _ e = refl
 
 pub other_byte : (f : Form) (b : ℕ) → is_data b ≡ false → makes_sixel f b ≡ false
-other_byte NothingYet b h = refl
-other_byte Introducing b h = refl
-other_byte (Parameters eight ns n) b h = refl
-other_byte (LastSeparator eight ns) b h = refl
 other_byte NoCommand b h = h
-other_byte (RepeatNumber n) b h = refl
-other_byte (RasterFields ns n) b h = refl
-other_byte (ColourFields ns n) b h = refl
-other_byte Terminating b h = refl
-other_byte Ended b h = refl
+other_byte _ b h = refl
 
 -- a reader that takes so many bytes of a piece, which are data bytes
 pub sixels_taken : (r q : Reader) (place : ℕ) (piece : List ℕ) (n run : ℕ) → place ≡ most_bytes - r.left

@@ -127,30 +127,43 @@ unfolding BreaksNone
 none_before registers last before e none n le i h =
     none n le i (holds_before (Breaks registers n) before e i (holds_within (Breaks registers n) before i h) h)
 
-past : (P Q : Type 0) (b : Bool) → (b ≡ true → ⊥) → ¬ Q → ¬ MatchBool b P Q
-past P Q true h q m = h refl
-past P Q false h q m = q m
+unfoldable pub by_test : (M : Type 0 → Type 0) (P Q : Type 0) (b : Bool) → (b ≡ true → M P) → M Q
+    → M (MatchBool b P Q)
+by_test M P Q true here other = here refl
+by_test M P Q false here other = other
 
-beyond : (P Q : Type 0) (n k : ℕ) → k < n → ¬ Q → ¬ MatchBool (n == k) P Q
-beyond P Q n k lt q = past P Q (n == k) (λ e. let same : n ≡ k = eqb-true n k e in absurd (omega (arith, same, lt))) q
+pub same_low : (n k : ℕ) → k ≤ last_rule → (n == k) ≡ true → n ≤ last_rule
+same_low n k low e = let same : n ≡ k = eqb-true n k e in omega (arith, same, low)
+
+unfoldable pub by_number : (M : Type 0 → Type 0) (P Q : Type 0) (n k : ℕ) → k ≤ last_rule → (n ≤ last_rule → M P) → M Q
+    → M (MatchBool (n == k) P Q)
+by_number M P Q n k low here other = by_test M P Q (n == k) (λ e. here (same_low n k low e)) other
+
+-- what holds of each statement that a rule is, and of none, holds of the rule of a number
+unfoldable pub each_rule : (M : Type 0 → Type 0) (registers n : ℕ) (before : List Event) (e : Event)
+    → (n ≤ last_rule → (b : Bool) → M (IsTrue b)) → (n ≤ last_rule → M (BreaksOutside before e))
+    → (n ≤ last_rule → M (BreaksUncovered before e)) → M ⊥ → M (Breaks registers n before e)
+unfolding Breaks
+each_rule M registers n before e test outside uncovered none =
+    by_number M _ _ n raster_first_rule (lit≤ tt) (λ le. test le _)
+    (by_number M _ _ n raster_twice_rule (lit≤ tt) (λ le. test le _)
+    (by_number M _ _ n ratio_rule (lit≤ tt) (λ le. test le _)
+    (by_number M _ _ n box_size_rule (lit≤ tt) (λ le. test le _)
+    (by_number M _ _ n register_rule (lit≤ tt) (λ le. test le _)
+    (by_number M _ _ n colour_value_rule (lit≤ tt) (λ le. test le _)
+    (by_number M _ _ n repeat_zero_rule (lit≤ tt) (λ le. test le _)
+    (by_number M _ _ n unselected_rule (lit≤ tt) (λ le. test le _)
+    (by_number M _ _ n undefined_rule (lit≤ tt) (λ le. test le _)
+    (by_number M _ _ n redefined_rule (lit≤ tt) (λ le. test le _)
+    (by_number M _ _ n outside_rule (lit≤ tt) outside
+    (by_number M _ _ n uncovered_rule (lit≤ tt) uncovered
+    (by_number M _ _ n eight_bit_rule (lit≤ tt) (λ le. test le _) none))))))))))))
 
 -- no rule has a number above the last
 pub no_more_rules : (registers n : ℕ) (before : List Event) (e : Event) → last_rule < n → ¬ Breaks registers n before e
-unfolding Breaks
-no_more_rules registers n before e lt h =
-    beyond _ _ n raster_first_rule (omega (arith, lt))
-    (beyond _ _ n raster_twice_rule (omega (arith, lt))
-    (beyond _ _ n ratio_rule (omega (arith, lt))
-    (beyond _ _ n box_size_rule (omega (arith, lt))
-    (beyond _ _ n register_rule (omega (arith, lt))
-    (beyond _ _ n colour_value_rule (omega (arith, lt))
-    (beyond _ _ n repeat_zero_rule (omega (arith, lt))
-    (beyond _ _ n unselected_rule (omega (arith, lt))
-    (beyond _ _ n undefined_rule (omega (arith, lt))
-    (beyond _ _ n redefined_rule (omega (arith, lt))
-    (beyond _ _ n outside_rule (omega (arith, lt))
-    (beyond _ _ n uncovered_rule (omega (arith, lt))
-    (beyond _ _ n eight_bit_rule (omega (arith, lt)) (λ f. f))))))))))))) h
+no_more_rules registers n before e lt =
+    each_rule (λ P. ¬ P) registers n before e (λ le. absurd (omega arith)) (λ le. absurd (omega arith))
+    (λ le. absurd (omega arith)) (λ none. none)
 
 -- an event that breaks none up to the last breaks none
 pub nowhere : (registers m i : ℕ) (events : List Event) → BreaksNone registers last_rule events

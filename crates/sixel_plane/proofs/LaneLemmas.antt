@@ -1,18 +1,19 @@
 -- On bytes in a row, and on groups of them taken at once.
 use Rattle.std.proofs.Common.{◌≡◌, ◌==◌, ℕ, ◌+◌, ◌*◌, ◌%◌, ◌^◌, ◌<◌, ◌≤◌, Bool, not, cond, Option, Some, None, List}
 use Rattle.std.proofs.Common.{length, get_or, map, replicate, w8, inl, inr, ◌≢◌, refl, sym, ap, ap₂, ◌∙◌, arith, ◌-◌}
+use Rattle.std.specs.Prelude.{◌&&◌, nat_le, nat_lt}
 use Rattle.std.specs.Int.{bit_at}
 use Rattle.std.specs.Int.Bits.{bit_and, bit_or}
 use Rattle.std.specs.List.{prefix_len}
 use Rattle.std.proofs.lemmas.Bool.Decides.{nat_tests}
-use Rattle.std.proofs.lemmas.Bool.{cases_lt, cases_eq, eq-eqb, ne_eqb, cond-true, cond-false}
+use Rattle.std.proofs.lemmas.Bool.{cases_lt, cases_eq, eq-eqb, ne_eqb}
 use Rattle.std.proofs.lemmas.List.{length-map}
 use Rattle.std.proofs.lemmas.Nat.Bits.{and_pow, bit_at-lt, bit_at_and}
 use Rattle.std.proofs.lemmas.Nat.{one_shl, pow_pos}
 use Rattle.std.proofs.lemmas.Simd.{length-put_chunk, get_or-put_chunk_below, get_or-put_chunk_at}
 use Rattle.std.proofs.lemmas.Simd.{get_or-put_chunk_above, length-replicate, get_or-replicate, length-chunk}
-use Rattle.std.proofs.lemmas.Simd.{get_or-chunk, length-zip2, get_or-zip2, zip2_splat, bitmask_splat, first_set_mask_l}
-use Rattle.std.proofs.lemmas.Simd.{map-map, run_in_chunk_fails, run_in_chunk_stops}
+use Rattle.std.proofs.lemmas.Simd.{get_or-chunk, length-zip2, get_or-zip2, zip2_splat, bitmask_splat, map-map}
+use Rattle.std.proofs.lemmas.Simd.{leading_from_mask_l, trailing_mask_l, run_in_chunk_fails, run_in_chunk_stops}
 use lib.Count.{count_trailing_zeros}
 use lib.Lanes.{chunk, put_chunk, mask_l, top, zip2}
 use Rattle.sixel_plane.specs.Lanes.{AreChanged, NonePasses, IsFirstAt, IsFirst}
@@ -32,41 +33,39 @@ changed_more from mid to f old before new low high first second = record {
       grind (arith, nat_tests);
 }
 
-group_step : (at n i : ℕ) (f : ℕ → ℕ) (old group : List ℕ) → length group ≡ n → at + n ≤ length old
-    → ((j : ℕ) → j < n → get_or group j 0 ≡ f (get_or old (at + j) 0))
-    → at ≤ i → i < at + n → get_or (put_chunk at old group) i 0 ≡ f (get_or old i 0)
-group_step at n i f old group long room each low high =
-    let back : at + (i - at) ≡ i = omega arith in
-    let inner : i - at < length group = omega (arith, long) in
-    let few : i - at < n = omega arith in
-    let fits : at + length group ≤ length old = omega (arith, long) in
-    ap (λ k. get_or (put_chunk at old group) k 0) (sym back)
-    ∙ get_or-put_chunk_at at old group (i - at) 0 inner fits
-    ∙ each (i - at) few ∙ ap (λ k. f (get_or old k 0)) back
+-- a group of bytes that is stored: each stands where it was put, and the others are as before
+pub stored_group : (at n : ℕ) (g : ℕ → ℕ) (old group : List ℕ) → length group ≡ n → at + n ≤ length old
+    → ((j : ℕ) → j < n → get_or group j 0 ≡ g (at + j)) → (i : ℕ)
+    → get_or (put_chunk at old group) i 0 ≡ cond (nat_le at i && nat_lt i (at + n)) (g i) (get_or old i 0)
+stored_group at n g old group long room each i = elim (cases_lt i at) [
+  | inl below ↦
+      let kept : get_or (put_chunk at old group) i 0 ≡ get_or old i 0 =
+      get_or-put_chunk_below at old group i 0 below in
+      grind (arith, nat_tests)
+  | inr from ↦ elim (cases_lt i (at + n)) [
+    | inl to ↦
+        let back : at + (i - at) ≡ i = omega arith in
+        let inner : i - at < length group = omega (arith, long) in
+        let few : i - at < n = omega arith in
+        let fits : at + length group ≤ length old = omega (arith, long) in
+        let written : get_or (put_chunk at old group) i 0 ≡ g i =
+        ap (λ k. get_or (put_chunk at old group) k 0) (sym back)
+        ∙ get_or-put_chunk_at at old group (i - at) 0 inner fits ∙ each (i - at) few ∙ ap g back in
+        grind (arith, nat_tests)
+    | inr above ↦
+        let past : at + length group ≤ i = omega (arith, long) in
+        let kept : get_or (put_chunk at old group) i 0 ≡ get_or old i 0 =
+        get_or-put_chunk_above at old group i 0 past in
+        grind (arith, nat_tests)
+  ]
+]
 
--- one group of bytes that is stored
-pub changed_group : (at n : ℕ) (f : ℕ → ℕ) (old group : List ℕ) → length group ≡ n → at + n ≤ length old
+changed_group : (at n : ℕ) (f : ℕ → ℕ) (old group : List ℕ) → length group ≡ n → at + n ≤ length old
     → ((j : ℕ) → j < n → get_or group j 0 ≡ f (get_or old (at + j) 0))
     → AreChanged at (at + n) f old (put_chunk at old group)
 changed_group at n f old group long room each = record {
   long = length-put_chunk at old group;
-  changed = λ i lt. elim (cases_lt i at) [
-    | inl below ↦
-        let kept : get_or (put_chunk at old group) i 0 ≡ get_or old i 0 =
-        get_or-put_chunk_below at old group i 0 below in
-        grind (arith, nat_tests)
-    | inr from ↦ elim (cases_lt i (at + n)) [
-      | inl to ↦
-          let written : get_or (put_chunk at old group) i 0 ≡ f (get_or old i 0) =
-          group_step at n i f old group long room each from to in
-          grind (arith, nat_tests)
-      | inr above ↦
-          let past : at + length group ≤ i = omega (arith, long) in
-          let kept : get_or (put_chunk at old group) i 0 ≡ get_or old i 0 =
-          get_or-put_chunk_above at old group i 0 past in
-          grind (arith, nat_tests)
-    ]
-  ];
+  changed = λ i lt. stored_group at n (λ k. f (get_or old k 0)) old group long room each i;
 }
 
 -- a group that is filled
@@ -122,20 +121,16 @@ lanes_without bit v small long =
     ∙ ap mask_l (map-map (λ b. b == 0) under v)
     ∙ (λ i. mask_l (map (λ b. no_bit bit b small i) v))
 
--- no lane lacks the bit
-pub none_in_lanes : (bit : ℕ) (v : List ℕ) (m : ℕ) → length v ≡ 32 → m ≡ mask_l (map (λ b. bit_at b bit == 0) v)
-    → m ≡ 0 → 32 ≡ prefix_len (λ b. not (bit_at b bit == 0)) v
-none_in_lanes bit v m long same none =
-    sym (cond-true _ _ _ (eq-eqb _ _ (sym same ∙ none)))
-    ∙ first_set_mask_l (λ b. bit_at b bit == 0) v 32 long (omega arith)
+-- no lane passes a test
+pub none_in_lanes : (test : ℕ → Bool) (v : List ℕ) (m : ℕ) → length v ≡ 32 → m ≡ mask_l (map test v) → m ≡ 0
+    → 32 ≡ prefix_len (λ b. not (test b)) v
+none_in_lanes test v m long same none = sym (leading_from_mask_l test v (sym same ∙ none) ∙ long)
 
--- the first lane that lacks it
-pub first_in_lanes : (bit : ℕ) (v : List ℕ) (m : ℕ) → length v ≡ 32 → m ≡ mask_l (map (λ b. bit_at b bit == 0) v)
-    → m ≢ 0 → count_trailing_zeros 64 m ≡ prefix_len (λ b. not (bit_at b bit == 0)) v
-first_in_lanes bit v m long same some =
-    ap (count_trailing_zeros 64) same
-    ∙ sym (cond-false _ _ _ (ne_eqb _ _ (λ none. some (same ∙ none))))
-    ∙ first_set_mask_l (λ b. bit_at b bit == 0) v 32 long (omega arith)
+-- the first lane that passes it
+pub first_in_lanes : (test : ℕ → Bool) (v : List ℕ) (m : ℕ) → length v ≡ 32 → m ≡ mask_l (map test v) → m ≢ 0
+    → count_trailing_zeros 64 m ≡ prefix_len (λ b. not (test b)) v
+first_in_lanes test v m long same some =
+    ap (count_trailing_zeros 64) same ∙ trailing_mask_l test 64 v (omega arith) (omega arith)
 
 pub none_more : (test : ℕ → Bool) (from mid to : ℕ) (bytes : List ℕ) → NonePasses test from mid bytes
     → NonePasses test mid to bytes → NonePasses test from to bytes

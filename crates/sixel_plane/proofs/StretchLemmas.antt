@@ -9,8 +9,7 @@ use Rattle.std.specs.List.{range_with_len}
 use Rattle.std.proofs.lemmas.Bool.Decides.{nat_tests}
 use Rattle.std.proofs.lemmas.Bool.{cases_lt, lt-ltb, le-ltb}
 use Rattle.std.proofs.lemmas.Nat.Bits.{bit_at-lt}
-use Rattle.std.proofs.lemmas.Simd.{length-put_chunk, get_or-put_chunk_below, get_or-put_chunk_at}
-use Rattle.std.proofs.lemmas.Simd.{get_or-put_chunk_above, length-replicate, get_or-replicate, length-chunk}
+use Rattle.std.proofs.lemmas.Simd.{length-put_chunk, length-replicate, get_or-replicate, length-chunk}
 use Rattle.std.proofs.lemmas.Simd.{get_or-chunk, length-zip2, get_or-zip2, tops_compared, length-sel_l, get_or-sel_l}
 use lib.Lanes.{chunk, put_chunk, top, zip2, sel_l}
 use Rattle.sixel_grammar.specs.Bytes.{is_data}
@@ -18,44 +17,17 @@ use Rattle.sixel_model.specs.Positions.{any_below}
 use Rattle.sixel_plane.specs.Stretches.{AreEqual, AreMapped, ArePainted, AreSixels, in_row, painted_by, run_sixel}
 use Rattle.sixel_plane.specs.Stretches.{sixel_of}
 use Rattle.sixel_model.proofs.PositionLemmas.{any_below_same}
-use Rattle.sixel_plane.proofs.LaneLemmas.{no_bit}
+use Rattle.sixel_plane.proofs.LaneLemmas.{no_bit, stored_group}
 
--- ---- a group that is stored
-
-group_step : (at i : ℕ) (f : ℕ → ℕ → ℕ) (old group : List ℕ) → length group ≡ 16 → at + 16 ≤ length old
-    → ((j : ℕ) → j < 16 → get_or group j 0 ≡ f j (get_or old (at + j) 0))
-    → at ≤ i → i < at + 16 → get_or (put_chunk at old group) i 0 ≡ f (i - at) (get_or old i 0)
-group_step at i f old group long room each low high =
-    let back : at + (i - at) ≡ i = omega arith in
-    let inner : i - at < length group = omega (arith, long) in
-    let few : i - at < 16 = omega arith in
-    let fits : at + length group ≤ length old = omega (arith, long) in
-    ap (λ k. get_or (put_chunk at old group) k 0) (sym back)
-    ∙ get_or-put_chunk_at at old group (i - at) 0 inner fits
-    ∙ each (i - at) few ∙ ap (λ k. f (i - at) (get_or old k 0)) back
-
-pub mapped_group : (at : ℕ) (f : ℕ → ℕ → ℕ) (old group : List ℕ) → length group ≡ 16 → at + 16 ≤ length old
+mapped_group : (at : ℕ) (f : ℕ → ℕ → ℕ) (old group : List ℕ) → length group ≡ 16 → at + 16 ≤ length old
     → ((j : ℕ) → j < 16 → get_or group j 0 ≡ f j (get_or old (at + j) 0))
     → AreMapped at 16 f old (put_chunk at old group)
 mapped_group at f old group long room each = record {
   long = length-put_chunk at old group;
-  changed = λ i lt. elim (cases_lt i at) [
-    | inl below ↦
-        let kept : get_or (put_chunk at old group) i 0 ≡ get_or old i 0 =
-        get_or-put_chunk_below at old group i 0 below in
-        grind (arith, nat_tests)
-    | inr from ↦ elim (cases_lt i (at + 16)) [
-      | inl to ↦
-          let written : get_or (put_chunk at old group) i 0 ≡ f (i - at) (get_or old i 0) =
-          group_step at i f old group long room each from to in
-          grind (arith, nat_tests)
-      | inr above ↦
-          let past : at + length group ≤ i = omega (arith, long) in
-          let kept : get_or (put_chunk at old group) i 0 ≡ get_or old i 0 =
-          get_or-put_chunk_above at old group i 0 past in
-          grind (arith, nat_tests)
-    ]
-  ];
+  changed = λ i lt. stored_group at 16 (λ k. f (k - at) (get_or old k 0)) old group long room
+      (λ j few.
+      let back : j ≡ at + j - at = omega arith in
+      each j few ∙ ap (λ k. f k (get_or old (at + j) 0)) back) i;
 }
 
 -- ---- coverage

@@ -115,10 +115,7 @@ const RENDERED: Case = Case {
 /// A fault, which leaves no picture.
 const RENDERED_FAULT: Case = Case {
     task: RENDER,
-    bytes: LARGE,
-    text: b"",
-    answer: Err(TOO_LARGE),
-    calls: [(1, 9, 0), (5, 2, 0), (64, 1, 0)],
+    ..CHECKED_FAULT
 };
 
 /// Five red pixels, encoded: 26 bytes.
@@ -173,10 +170,7 @@ const SHOWN: Case = Case {
 /// A fault, which leaves no screen.
 const SHOWN_FAULT: Case = Case {
     task: SCREEN,
-    bytes: LARGE,
-    text: b"",
-    answer: Err(TOO_LARGE),
-    calls: [(1, 9, 0), (5, 2, 0), (64, 1, 0)],
+    ..CHECKED_FAULT
 };
 
 const BOX: Task = Task::ShowBox {
@@ -189,10 +183,7 @@ const BOX: Task = Task::ShowBox {
 /// One pixel, on a screen of its box: 26 bytes.
 const BOXED: Case = Case {
     task: BOX,
-    bytes: PIXEL,
-    text: b"P6\n1 1\n100\n\x00\x00\x00",
-    answer: Ok(Status::Done),
-    calls: [(1, 27, 14), (5, 7, 3), (64, 2, 1)],
+    ..RENDERED
 };
 
 /// A document of 5 bytes without a box, which leaves no screen.
@@ -207,10 +198,7 @@ const UNBOXED: Case = Case {
 /// A fault, which leaves none either.
 const BOXED_FAULT: Case = Case {
     task: BOX,
-    bytes: LARGE,
-    text: b"",
-    answer: Err(TOO_LARGE),
-    calls: [(1, 9, 0), (5, 2, 0), (64, 1, 0)],
+    ..CHECKED_FAULT
 };
 
 /// One black pixel in register 16: 28 bytes.
@@ -259,10 +247,7 @@ const WIDE_RED: Case = Case {
     task: Task::Encode {
         profile: Profile::Registers256,
     },
-    bytes: b"P6 3 1 100\nd\0\0d\0\0d\0\0",
-    text: b"\x1bP0;1q\"1;1;3;1#0;2;100;0;0#0@@@\x1b\\",
-    answer: Ok(Status::Done),
-    calls: [(1, 21, 33), (5, 5, 7), (64, 2, 1)],
+    ..SHORT_RED
 };
 
 /// Runs the task on the bytes, in and out in pieces. Fill number `fill_fails` fails, and take or flush number

@@ -17,47 +17,19 @@ registers_of t = length t.colours
 
 -- these choices, but of a terminal that clips (true) or doesn't (false)
 abbrev pub with_clips : Bool → Choices → Choices
-with_clips clips c = record {
-  binds_at_showing = c.binds_at_showing;
-  selects = c.selects;
-  ground = c.ground;
-  selected = c.selected;
-  zero = c.zero;
-  clamps = c.clamps;
-  tall = c.tall;
-  clips = clips;
-  eight_bit = c.eight_bit;
-  screen_width = c.screen_width;
-  screen_height = c.screen_height;
-  origin_x = c.origin_x;
-  origin_y = c.origin_y;
-}
+with_clips clips c = record c { clips = clips }
 
 -- these choices, but with 8-bit controls (true) or without (false)
 abbrev pub with_eight_bit : Bool → Choices → Choices
-with_eight_bit eight_bit c = record {
-  binds_at_showing = c.binds_at_showing;
-  selects = c.selects;
-  ground = c.ground;
-  selected = c.selected;
-  zero = c.zero;
-  clamps = c.clamps;
-  tall = c.tall;
-  clips = c.clips;
-  eight_bit = eight_bit;
-  screen_width = c.screen_width;
-  screen_height = c.screen_height;
-  origin_x = c.origin_x;
-  origin_y = c.origin_y;
-}
+with_eight_bit eight_bit c = record c { eight_bit = eight_bit }
 
 -- this terminal, but with 8-bit controls (true) or without (false)
 abbrev pub hearing : Bool → Display → Display
-hearing eight_bit t = record { choices = with_eight_bit eight_bit t.choices; colours = t.colours; screen = t.screen }
+hearing eight_bit t = record t { choices = with_eight_bit eight_bit t.choices }
 
 -- this terminal, but clipping (true) or not (false)
 abbrev pub clipping : Bool → Display → Display
-clipping clips t = record { choices = with_clips clips t.choices; colours = t.colours; screen = t.screen }
+clipping clips t = record t { choices = with_clips clips t.choices }
 
 -- the register of a filled ground is one of so many
 abbrev pub IsGroundBelow : ℕ → Ground → Type 0

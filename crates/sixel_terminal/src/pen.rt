@@ -28,13 +28,7 @@ pub(crate) struct Pen {
 impl Pen {
     /// So many columns to the right.
     pub(crate) fn moved(self, columns: u16) -> Pen
-        ensures { result ≡ record {
-          column = min (self.column + columns) most;
-          band = self.band;
-          height = self.height;
-          declared = self.declared;
-          selected = self.selected;
-        } }
+        ensures { result ≡ record self { column = min (self.column + columns) most } }
     {
         Pen {
             column: self.column.saturating_add(columns as u32),
@@ -44,13 +38,7 @@ impl Pen {
 
     /// At the left margin of a band.
     pub(crate) fn at_margin(self, band: u32) -> Pen
-        ensures { result ≡ record {
-          column = 0;
-          band = band;
-          height = self.height;
-          declared = self.declared;
-          selected = self.selected;
-        } }
+        ensures { result ≡ record self { column = 0; band = band } }
     {
         Pen {
             column: 0,
@@ -61,12 +49,9 @@ impl Pen {
 
     /// After raster attributes: with this height of a sixel pixel, and with this box if it is the first.
     pub(crate) fn in_box(self, height: u16, sides: Sides) -> Pen
-        ensures { result ≡ record {
-          column = self.column;
-          band = self.band;
+        ensures { result ≡ record self {
           height = height;
           declared = option_or self.declared (Some sides);
-          selected = self.selected;
         } }
     {
         Pen {
@@ -77,13 +62,7 @@ impl Pen {
     }
 
     pub(crate) fn with_selected(self, selected: u16) -> Pen
-        ensures { result ≡ record {
-          column = self.column;
-          band = self.band;
-          height = self.height;
-          declared = self.declared;
-          selected = selected;
-        } }
+        ensures { result ≡ record self { selected = selected } }
     {
         Pen { selected, ..self }
     }

@@ -1,8 +1,9 @@
 -- The names that `explain` lists.
-use Rattle.std.proofs.Common.{arith, refl}
+use Rattle.std.proofs.Common.{◌-◌, arith, refl}
 use Rattle.std.specs.Prelude.{Contains}
 use Rattle.sixel_check.specs.declared.rule.Rule.{Rule}
 use Rattle.sixel_check.specs.declared.rule.Rule.TheVariants as rule
+use Rattle.sixel_check.specs.Verdicts.{number_of}
 use Rattle.sixel_grammar.specs.declared.fault.Reason.{Reason}
 use Rattle.sixel_grammar.specs.declared.fault.Reason.TheVariants as reason
 use Rattle.sixel_ppm.specs.declared.ppm.PpmReason.{PpmReason}
@@ -14,18 +15,7 @@ use Rattle.sixel_run.specs.Texts.{ppm_reason_name, reason_name, rule_name}
 
 pub rule_listed : (r : Rule) → Contains listed_names (rule_name r)
 rule_listed rule.RasterFirst = (0, omega arith, refl)
-rule_listed rule.RasterTwice = (1, omega arith, refl)
-rule_listed rule.Ratio = (2, omega arith, refl)
-rule_listed rule.BoxSize = (3, omega arith, refl)
-rule_listed rule.Register = (4, omega arith, refl)
-rule_listed rule.ColourValue = (5, omega arith, refl)
-rule_listed rule.RepeatZero = (6, omega arith, refl)
-rule_listed rule.Unselected = (7, omega arith, refl)
-rule_listed rule.Undefined = (8, omega arith, refl)
-rule_listed rule.Redefined = (9, omega arith, refl)
-rule_listed rule.Outside = (10, omega arith, refl)
-rule_listed rule.Uncovered = (11, omega arith, refl)
-rule_listed rule.EightBit = (12, omega arith, refl)
+rule_listed r = (number_of r - 1, omega arith, refl)
 
 reason_listed : (r : Reason) → Contains listed_names (reason_name r)
 reason_listed reason.NotSixel = (13, omega arith, refl)
