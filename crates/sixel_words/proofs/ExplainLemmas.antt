@@ -32,6 +32,12 @@ unasked words (fault.Usage error) is = tt
 unasked words (fault.Help error) is = tt
 unasked words fault.OutOfMemory is = tt
 
+pub refused_unasked : (words : List Text) (f : WordsFault) → IsRefusal f → IsAskedBy words f
+refused_unasked words (fault.Explanation topic) is = absurd is
+refused_unasked words (fault.Usage error) is = tt
+refused_unasked words (fault.Help error) is = absurd is
+refused_unasked words fault.OutOfMemory is = tt
+
 -- words that ask for a name have this subcommand, with this option
 pub same_wish : (words : List Text) (wanted : Option Text) (name : Text) (rows : List Row) → AsksFor words wanted
     → subcommand_of sixel_app words ≡ Some (name, rows)

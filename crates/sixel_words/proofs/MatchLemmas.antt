@@ -29,6 +29,10 @@ both_parts (Some p) x y h k = go h k
     go : Some p.0 ≡ Some x → Some p.1 ≡ Some y → Some p ≡ Some (x, y)
     go h k = let a : p.0 ≡ x = cc in let b : p.1 ≡ y = cc in ap₂ (λ u v. Some (u, v)) a b
 
+pub none_of : {X Y : Type 0} (f : X → Y) (o : Option X) → None ≡ option_map f o → o ≡ None
+none_of f None e = refl
+none_of f (Some x) e = cc
+
 pub name_rows : {Z : Type 0} (sub : Option (Box SubCommand Z)) → option_map (λ p. p.0) (subcommand_rows sub) ≡
     option_map (λ b. (out-SubCommand (box_value b)).name.now) sub
 name_rows None = refl

@@ -1,4 +1,4 @@
-use Rattle.std.proofs.Common.{◌≡◌, ◌∙◌, Some, ap, refl, sym, map, true}
+use Rattle.std.proofs.Common.{◌≡◌, ◌∙◌, None, Some, ap, codes, refl, sym, map, true}
 use Rattle.std.specs.Prelude.{option_map}
 use Rattle.std.specs.String.{string_bytes}
 use Rattle.std.proofs.lemmas.Result.{IfErr-weaker, IfOk-weaker}
@@ -8,8 +8,8 @@ use Rattle.clap.specs.Takes.{takes}
 use Rattle.clap.specs.Simple.{App, is_simple, subcommand_of, subcommand_rows_of}
 use Rattle.sixel_words.specs.Words.{sixel_app}
 use Rattle.sixel_words.specs.Explanations.{topic_name}
-use Rattle.sixel_words.proofs.ExplainLemmas.{asked_by, same_wish, unasked}
-use Rattle.sixel_words.proofs.MatchLemmas.{both_parts, name_rows, request_is, same_task}
+use Rattle.sixel_words.proofs.ExplainLemmas.{asked_by, refused_unasked, refused_unhelped, same_wish, unasked}
+use Rattle.sixel_words.proofs.MatchLemmas.{both_parts, name_rows, none_of, request_is, same_task}
 use Rattle.sixel_words.proofs.words.parse_words.Goals as goal
 use Rattle.sixel_words.proofs.words.parse_words.Goals.{In-Some}
 
@@ -41,29 +41,25 @@ returns-in-Err-try_get_matches_from c =
       unhelped = λ taken. rw (memory taken) tt;
     }
 
-pub returns-in-Some-task_of-clause-request : goal.returns-in-Some-task_of-clause-request
-returns-in-Some-task_of-clause-request c =
-    request_is (subcommand_of sixel_app (map string_bytes c.args.words.now)) c.in-Some.name.now
-    (rows_of (found_of c.in-Some.found.now)) c.in-Some-task_of.task c.request_of.result
-    (met (goal.at.returns-in-Some-task_of-clause-request c).In-Some) c.in-Some-task_of.ensures.task
-    c.request_of.ensures.task c.request_of.ensures.quiet c.request_of.ensures.files
-
-pub returns-in-Some-task_of-clause-task : goal.returns-in-Some-task_of-clause-task
-returns-in-Some-task_of-clause-task c =
-    IfOk-weaker c.request_of.result _ _ (λ asked is. (is.0, is.1, is.2, is.3))
-    (returns-in-Some-task_of-clause-request c)
-
-pub returns-in-Some-task_of-clause-accepted : goal.returns-in-Some-task_of-clause-accepted
-returns-in-Some-task_of-clause-accepted c =
-    IfErr-weaker c.request_of.result _ _ (λ fault is taken t given. is) c.request_of.ensures.memory
-
-pub returns-in-Some-task_of-clause-explained : goal.returns-in-Some-task_of-clause-explained
-returns-in-Some-task_of-clause-explained c =
-    IfErr-weaker c.request_of.result _ _ (λ fault is taken topic asks. rw is tt) c.request_of.ensures.memory
-
-pub returns-in-Some-task_of-clause-unhelped : goal.returns-in-Some-task_of-clause-unhelped
-returns-in-Some-task_of-clause-unhelped c =
-    IfErr-weaker c.request_of.result _ _ (λ fault is taken. rw is tt) c.request_of.ensures.memory
+-- the options of a task are refused for want of memory alone
+pub returns-in-Some-task_of : goal.returns-in-Some-task_of
+returns-in-Some-task_of c =
+    let result = c.request_of.result in
+    let memory = c.request_of.ensures.memory in
+    let request = request_is (subcommand_of sixel_app (map string_bytes c.args.words.now)) c.in-Some.name.now
+    (rows_of (found_of c.in-Some.found.now)) c.in-Some-task_of.task result
+    (met (goal.at.returns-in-Some-task_of c).In-Some) c.in-Some-task_of.ensures.task
+    c.request_of.ensures.task c.request_of.ensures.quiet c.request_of.ensures.files in
+    record {
+      task = IfOk-weaker result _ _ (λ asked is. (is.0, is.1, is.2, is.3)) request;
+      request = request;
+      sides = IfOk-weaker result _ _ (λ asked is. rw is c.in-Some-task_of.ensures.sides) c.request_of.ensures.task;
+      fault = IfErr-weaker result _ _ (λ fault is. rw is tt) memory;
+      accepted = IfErr-weaker result _ _ (λ fault is taken t given. is) memory;
+      asked = IfErr-weaker result _ _ (λ fault is. rw is tt) memory;
+      explained = IfErr-weaker result _ _ (λ fault is taken topic asks. rw is tt) memory;
+      unhelped = IfErr-weaker result _ _ (λ fault is taken. rw is tt) memory;
+    }
 
 pub returns-in-Some : goal.returns-in-Some
 returns-in-Some c =
@@ -84,3 +80,34 @@ returns-in-Some c =
           c.without_task.ensures.explained wish.0 topic wish.1;
       unhelped = λ taken. c.without_task.ensures.unhelped;
     }
+
+-- words that name no subcommand have no task
+pub returns : goal.returns
+returns c =
+    let words = map string_bytes c.args.words.now in
+    let given = c.in-Ok-try_get_matches_from.ensures.matches (ap is_simple c.in-Ok.ensures) in
+    let unmet : subcommand_of sixel_app words ≡ None =
+    sym (given.1 ∙ ap (λ (a : App). subcommand_of a words) c.in-Ok.ensures)
+    ∙ none_of (λ p. p.1) (subcommand_rows_of c.in-Ok-try_get_matches_from.matches) c.in-None.ensures.rows in
+    record {
+      task = tt;
+      request = tt;
+      sides = tt;
+      fault = c.usage.ensures.sorted;
+      accepted = λ taken t is. (let bad : None ≡ Some (is.0, is.1) = sym unmet ∙ is.2 in cc);
+      asked = refused_unasked words c.usage.result c.usage.ensures.refusal;
+      explained = λ taken topic asks. (let bad : None ≡ Some (codes "explain", asks.0) = sym unmet ∙ asks.1 in cc);
+      unhelped = λ taken. refused_unhelped c.usage.result c.usage.ensures.refusal;
+    }
+
+pub returns-in-Err : goal.returns-in-Err
+returns-in-Err c = record {
+  task = tt;
+  request = tt;
+  sides = tt;
+  fault = tt;
+  accepted = λ taken t is. refl;
+  asked = tt;
+  explained = λ taken topic asks. tt;
+  unhelped = λ taken. tt;
+}
