@@ -8,7 +8,7 @@ use Rattle.std.proofs.lemmas.Nat.{div_below, mod_below}
 use Rattle.sixel_model.specs.Geometry.{covers}
 use Rattle.sixel_model.specs.Positions.{any_below}
 use Rattle.sixel_model.proofs.PaintLemmas.{IsPaintedBelow, bit_covers, bit_rows, painted_more}
-use Rattle.std.specs.Prelude.{None, unwrap_or, if◌then◌else◌}
+use Rattle.std.specs.Prelude.{None, Some, unwrap_or, if◌then◌else◌}
 use Rattle.std.specs.Bool.{then_some}
 use Rattle.std.specs.Option.{option_map}
 use Rattle.sixel_grammar.specs.declared.command.Command.{Command}
@@ -218,6 +218,30 @@ filled_pixel t p colours pan pad width height register x y ink ground =
     (pixel (is_from_origin t x y) (nat_lt (x - t.choices.origin_x) width && nat_lt (y - t.choices.origin_y) height)
     (ink_by_colours t colours) register ink)
 
+pub none_filled : (g : Ground) (e : Event) (x y : ℕ) → raster_of e ≡ None → filled_on g e x y ≡ None
+none_filled Kept e x y none = refl
+none_filled (Filled register) e x y none = rw none refl
+
+drawn : (from inside : Bool) (f : ℕ → Ink) (register : ℕ) (ink : Ink)
+    → cond (from && inside) (f register) ink
+    ≡ unwrap_or (option_map f (if from then (if inside then Some register else None) else None)) ink
+drawn true true f register ink = refl
+drawn true false f register ink = refl
+drawn false inside f register ink = refl
+
+-- what a data command paints
+pub data_pixel : (t : Display) (p : Pen) (colours : List Parts) (command : Command) (x y : ℕ) (ink : Ink)
+    → raster_of (Step command) ≡ None
+    → cond (pen_covers t p (columns_of t.choices.zero (Step command)) (bits_of (Step command)) x y)
+    (ink_by_colours t colours p.selected) ink
+    ≡ ink_after_event t p colours (Step command) x y ink
+data_pixel t p colours command x y ink none =
+    rw (none_filled t.choices.ground (Step command) (x - t.choices.origin_x) (y - t.choices.origin_y) none)
+    (drawn (is_from_origin t x y)
+    (covers p.column (columns_of t.choices.zero (Step command)) p.band p.height (bits_of (Step command))
+    (x - t.choices.origin_x) (y - t.choices.origin_y)
+    && is_before_edges t p.declared x y) (ink_by_colours t colours) p.selected ink)
+
 -- an event that is neither a data command nor raster attributes paints nothing
 pub unpainted_pixel : (t : Display) (p : Pen) (colours : List Parts) (e : Event) (x y : ℕ) (ink : Ink)
     → columns_of t.choices.zero e ≡ 0
@@ -236,10 +260,6 @@ pub kept_pixel : (t : Display) (p : Pen) (colours : List Parts) (pan pad width h
     → t.choices.ground ≡ Kept → ink ≡ ink_after_event t p colours (Step (Raster pan pad width height)) x y ink
 kept_pixel t p colours pan pad width height x y ink ground =
     unpainted_pixel t p colours (Step (Raster pan pad width height)) x y ink refl (rw ground refl)
-
-pub none_filled : (g : Ground) (e : Event) (x y : ℕ) → raster_of e ≡ None → filled_on g e x y ≡ None
-none_filled Kept e x y none = refl
-none_filled (Filled register) e x y none = rw none refl
 
 -- a command that is neither a data command nor raster attributes
 pub other_pixel : (t : Display) (p : Pen) (colours : List Parts) (command : Command) (x y : ℕ) (ink : Ink)

@@ -1,3 +1,4 @@
+pub mod CommandLemmas
 pub mod MatchLemmas
 pub mod ExplainLemmas
 pub mod NameLemmas

@@ -1,5 +1,5 @@
 -- What an entry's getters read.
-use Rattle.std.proofs.Common.{◌||◌, ◌≡◌, ◌∙◌, ◌≤◌, ◌⊎◌, ℕ, Bool, true, false, List, [], Option, Some, None, arith}
+use Rattle.std.proofs.Common.{◌≡◌, ◌∙◌, ◌≤◌, ◌⊎◌, ℕ, Bool, true, false, List, [], Option, Some, None, arith}
 use Rattle.std.proofs.Common.{codes, refl, slice_index, subst, sym, ap, ap₂, inl, inr}
 use Rattle.std.specs.Prelude.{find, option_and_then, option_map, map, string_bytes, Box, IfSome, IfOk, Result, Ok, Err}
 use Rattle.std.specs.Str.{bytes_eq}
@@ -29,13 +29,14 @@ both_parts (Some p) x y h k = go h k
     go : Some p.0 ≡ Some x → Some p.1 ≡ Some y → Some p ≡ Some (x, y)
     go h k = let a : p.0 ≡ x = cc in let b : p.1 ≡ y = cc in ap₂ (λ u v. Some (u, v)) a b
 
+pub none_of : {X Y : Type 0} (f : X → Y) (o : Option X) → None ≡ option_map f o → o ≡ None
+none_of f None e = refl
+none_of f (Some x) e = cc
+
 pub name_rows : {Z : Type 0} (sub : Option (Box SubCommand Z)) → option_map (λ p. p.0) (subcommand_rows sub) ≡
     option_map (λ b. (out-SubCommand (box_value b)).name.now) sub
 name_rows None = refl
 name_rows (Some b) = refl
-
-pub neither : (a b c : Bool) → a ≡ (b || c) → b ≡ false → c ≡ false → a ≡ false
-neither a b c e h k = rw (e, h, k) refl
 
 -- ---- numbers in range
 
@@ -100,23 +101,17 @@ not_render is = let first : 115 ≡ 114 = ap (λ (t : Text). slice_index t 0) is
 not_encode : codes "show" ≡ codes "encode" → ⊥
 not_encode is = let first : 115 ≡ 101 = ap (λ (t : Text). slice_index t 0) is in omega (arith, first)
 
-pub without_width : (rows : List Row) (t : Task) → is_given (codes "box") rows ≡ false
-    → ((n : ℕ) → HasSide (codes "width") rows n → ⊥) → IsTask (codes "show") rows t → ⊥
-without_width rows Listing plain none is = not_list is
-without_width rows (Check profile) plain none is = not_check is.0
-without_width rows (Render profile) plain none is = not_render is.0
-without_width rows (Encode profile) plain none is = not_encode is.0
-without_width rows (Show profile showing fill selects width height) plain none is = none width is.6
-without_width rows (ShowBox profile showing fill selects) plain none is = not_both _ is.5 plain
-
-pub without_height : (rows : List Row) (t : Task) → is_given (codes "box") rows ≡ false
-    → ((n : ℕ) → HasSide (codes "height") rows n → ⊥) → IsTask (codes "show") rows t → ⊥
-without_height rows Listing plain none is = not_list is
-without_height rows (Check profile) plain none is = not_check is.0
-without_height rows (Render profile) plain none is = not_render is.0
-without_height rows (Encode profile) plain none is = not_encode is.0
-without_height rows (Show profile showing fill selects width height) plain none is = none height is.7
-without_height rows (ShowBox profile showing fill selects) plain none is = not_both _ is.5 plain
+-- without the box, and without one of the sides
+pub without_side : (rows : List Row) (t : Task) → is_given (codes "box") rows ≡ false
+    → ((n : ℕ) → HasSide (codes "width") rows n → ⊥) ⊎ ((n : ℕ) → HasSide (codes "height") rows n → ⊥)
+    → IsTask (codes "show") rows t → ⊥
+without_side rows Listing plain none is = not_list is
+without_side rows (Check profile) plain none is = not_check is.0
+without_side rows (Render profile) plain none is = not_render is.0
+without_side rows (Encode profile) plain none is = not_encode is.0
+without_side rows (Show profile showing fill selects width height) plain (inl none) is = none width is.6
+without_side rows (Show profile showing fill selects width height) plain (inr none) is = none height is.7
+without_side rows (ShowBox profile showing fill selects) plain none is = not_both _ is.5 plain
 
 -- with the box, and a side beside it
 box_beside : (rows : List Row) (t : Task) → is_given (codes "box") rows ≡ true

@@ -1,28 +1,44 @@
 -- Words that ask for a name.
-use Rattle.std.proofs.Common.{◌≡◌, ◌∷◌, [], Some, codes, refl, true}
+use Rattle.std.proofs.Common.{◌≡◌, ◌∷◌, List, [], Option, Some, codes, map, refl, true}
+use Rattle.std.specs.List.{All}
+use Rattle.std.proofs.lemmas.List.Elements.{All-cons, All-contains, All-nil}
+use Rattle.clap.specs.Simple.{subcommand_of}
 use Rattle.clap.specs.Takes.{takes, walk_passes}
-use Rattle.clap.specs.Walk.{walked}
-use Rattle.sixel_check.specs.declared.rule.Rule.TheVariants as rule
-use Rattle.sixel_grammar.specs.declared.fault.Reason.TheVariants as reason
-use Rattle.sixel_ppm.specs.declared.ppm.PpmReason.TheVariants as ppm
+use Rattle.clap.specs.Walk.{first_of, walked}
 use Rattle.sixel_words.specs.declared.explanations.Topic.{Topic}
-use Rattle.sixel_words.specs.declared.explanations.Topic.TheVariants as topic
-use Rattle.sixel_words.specs.Explanations.{topic_name}
+use Rattle.sixel_words.specs.Explanations.{listed_names, topic_name}
 use Rattle.sixel_run.specs.Texts.{Text}
+use Rattle.sixel_words.proofs.MatchLemmas.{rows_in}
+use Rattle.sixel_words.proofs.NameLemmas.{name_listed}
 use Rattle.sixel_words.specs.Words.{AsksFor, sixel_app}
+
+-- what two functions that agree on a list say of each item
+each : {X Y : Type 0} (f g : X → Y) (xs : List X) → map f xs ≡ map g xs → All (λ x. f x ≡ g x) xs
+each f g [] e = All-nil (λ x. f x ≡ g x)
+each f g (x ∷ xs) e =
+    let here : f x ≡ g x = cc in
+    let rest : map f xs ≡ map g xs = cc in
+    All-cons (λ y. f y ≡ g y) x xs here (each f g xs rest)
+
+abbrev explain : Text → Text → List Text
+explain program name = program ∷ codes "explain" ∷ name ∷ []
+
+abbrev named : Text → Text → Option Text
+named program name = first_of (codes "name") (rows_in (subcommand_of sixel_app (explain program name)))
 
 pub name_taken : (program : Text) (t : Topic)
     → takes sixel_app (program ∷ codes "explain" ∷ topic_name t ∷ []) ≡ true
 unfolding walked walk_passes
-name_taken program (topic.Rule rule.RasterFirst) = refl
-name_taken program (topic.Grammar reason.NotSixel) = refl
-name_taken program (topic.Ppm ppm.Header) = refl
-name_taken program _ = refl
+name_taken program t =
+    All-contains (λ (name : Text). takes sixel_app (explain program name) ≡ true) listed_names (topic_name t)
+    (each (λ (name : Text). takes sixel_app (explain program name)) (λ name. true) listed_names refl) (name_listed t)
 
 pub name_asked : (program : Text) (t : Topic)
     → AsksFor (program ∷ codes "explain" ∷ topic_name t ∷ []) (Some (topic_name t))
 unfolding walked
-name_asked program (topic.Rule rule.RasterFirst) = (_, refl, refl)
-name_asked program (topic.Grammar reason.NotSixel) = (_, refl, refl)
-name_asked program (topic.Ppm ppm.Header) = (_, refl, refl)
-name_asked program _ = (_, refl, refl)
+name_asked program t = (
+  rows_in (subcommand_of sixel_app (explain program (topic_name t))),
+  refl,
+  All-contains (λ (name : Text). named program name ≡ Some name) listed_names (topic_name t)
+      (each (named program) (λ (name : Text). Some name) listed_names refl) (name_listed t),
+)

@@ -1,18 +1,18 @@
-use Rattle.std.proofs.Common.{◌∙◌, refl}
+use Rattle.std.proofs.Common.{◌∙◌, inl, inr, refl}
 use Rattle.clap.specs.Walk.{rows_of}
 use Rattle.clap.specs.Matches.{found_of}
-use Rattle.sixel_words.proofs.MatchLemmas.{without_height, without_width}
+use Rattle.sixel_words.proofs.MatchLemmas.{without_side}
 use Rattle.sixel_words.proofs.words.show_task.Goals as goal
 
 pub returns-in_default-clause-none : goal.returns-in_default-clause-none
 returns-in_default-clause-none c = λ none t is.
-    without_height (rows_of (found_of c.args.matches.now)) t (c.flag_of.ensures ∙ c.if-flag_of.false)
-    (c.in_default.ensures'.none refl) is
+    without_side (rows_of (found_of c.args.matches.now)) t (c.flag_of.ensures ∙ c.if-flag_of.false)
+    (inr (c.in_default.ensures'.none refl)) is
 
 pub returns-in_default-2-clause-none : goal.returns-in_default-2-clause-none
 returns-in_default-2-clause-none c = λ none t is.
-    without_width (rows_of (found_of c.args.matches.now)) t (c.flag_of.ensures ∙ c.if-flag_of.false)
-    (c.side_of.ensures.none (rw c.in_default.is-0 refl)) is
+    without_side (rows_of (found_of c.args.matches.now)) t (c.flag_of.ensures ∙ c.if-flag_of.false)
+    (inl (c.side_of.ensures.none (rw c.in_default.is-0 refl))) is
 
 pub returns-in-Some-Some-clause-task : goal.returns-in-Some-Some-clause-task
 returns-in-Some-Some-clause-task c = (

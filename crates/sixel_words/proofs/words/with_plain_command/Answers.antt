@@ -1,21 +1,11 @@
-use Rattle.std.proofs.Common.{◌≡◌, ◌∙◌, ap, ap₂, false}
+use Rattle.std.proofs.Common.{refl}
 use Rattle.std.proofs.lemmas.Result.{IfOk-weaker}
-use Rattle.clap.specs.Simple.{App, app_of, app_of_fields, new_app, with_rule, with_subcommand}
-use Rattle.clap.specs.declared.builder.command.Command.TheViews.{out-Command as fields_of}
-use Rattle.sixel_words.specs.Words.{file}
-use Rattle.sixel_words.proofs.MatchLemmas.{neither}
+use Rattle.sixel_words.proofs.CommandLemmas.{begun, with_arg, with_sub}
 use Rattle.sixel_words.proofs.words.with_plain_command.Goals as goal
 
 pub returns : goal.returns
 returns c =
-    let local : (fields_of c.after_help.result).has_globals ≡ false =
-    ap (λ f. f.has_globals) c.after_help.ensures ∙ ap (λ f. f.has_globals) c.about.ensures ∙ c.new.ensures.local in
-    let app : app_of c.after_help.result ≡ new_app c.args.name.now =
-    ap app_of_fields c.after_help.ensures ∙ rw c.about.ensures c.new.ensures.app in
-    let told : app_of c.in_ok-arg.field-0 ≡ with_rule (new_app c.args.name.now) file =
-    c.in_ok-arg.ensures.shape c.file_arg.ensures.local ∙ ap₂ with_rule app c.file_arg.ensures.rule in
-    let inner : (fields_of c.in_ok-arg.field-0).has_globals ≡ false =
-    neither _ _ _ c.in_ok-arg.ensures.globals local c.file_arg.ensures.local in
-    IfOk-weaker c.subcommand.result _ _
-    (λ r h. h.shape inner ∙ ap (λ (a : App). with_subcommand (app_of c.args.command) a.top) told)
-    c.subcommand.ensures
+    let new = begun c.args.name.now c.new.result c.about.result c.after_help.result _ _ c.new.ensures.app
+    c.new.ensures.local c.about.ensures c.after_help.ensures in
+    let file = with_arg new c.file_arg.ensures.rule c.file_arg.ensures.local c.in_ok-arg.ensures in
+    IfOk-weaker c.subcommand.result _ _ (λ r h. with_sub refl file.app file.local h) c.subcommand.ensures

@@ -1,7 +1,20 @@
-use Rattle.std.proofs.Common.{◌≡◌, sym, ap, ◌∙◌}
+use Rattle.std.proofs.Common.{◌≡◌, refl, sym, ap, ◌∙◌}
+use Rattle.sixel_grammar.specs.declared.command.Command.TheVariants.{Sixel, Repeat}
 use Rattle.sixel_terminal.specs.Displays.{Display}
-use Rattle.sixel_terminal.proofs.PaintLemmas.{filled_pixel, kept_pixel, other_pixel}
+use Rattle.sixel_terminal.proofs.PaintLemmas.{data_pixel, filled_pixel, kept_pixel, other_pixel}
 use Rattle.sixel_terminal.proofs.terminal.Terminal.paint.Goals as goal
+
+pub returns-in-Sixel : goal.returns-in-Sixel
+returns-in-Sixel c = λ i lt.
+    rw c.in-Sixel.is
+    ((rw c.ink.ensures at c.paint_columns.ensures) i lt
+    ∙ data_pixel c.args.self.now c.args.pen c.args.colours.now (Sixel c.in-Sixel.bits) _ _ _ refl)
+
+pub returns-in-Repeat : goal.returns-in-Repeat
+returns-in-Repeat c = λ i lt.
+    rw c.in-Repeat.is
+    ((rw (c.ink-in-Repeat.ensures, c.columns_of-columns.ensures) at c.paint_columns-in-Repeat.ensures) i lt
+    ∙ data_pixel c.args.self.now c.args.pen c.args.colours.now (Repeat c.in-Repeat.count c.in-Repeat.bits) _ _ _ refl)
 
 pub returns-in-Filled : goal.returns-in-Filled
 returns-in-Filled c = λ i lt.
