@@ -161,11 +161,8 @@ samples_go_on old mid new s t u taken i c f = record {
 
 refuses_rest : (fault : PpmFault) (result : Result PictureValue PpmFault) → Refuses fault result
     → ReadsRest (Err fault) result
-refuses_rest (Format reason place) result h = h
-refuses_rest NotRgb result h = h
-refuses_rest OutOfMemory result h = h
 refuses_rest Read result h = tt
-refuses_rest Write result h = h
+refuses_rest _ result h = h
 
 -- what holds of the bytes that were consumed and of those that are left holds of all
 all_of : (a b : Option (List ℕ)) (xs : List ℕ) (P : List ℕ → Type 0) → Consumes a b xs → ((rest : List ℕ)

@@ -50,6 +50,4 @@ WritesPpm {A = A} (Ok x) old new width height colours =
 WritesPpm {A = A} (Err Write) old new width height colours =
     IsTrue (are_rgb colours) × Writes {A = A} {E = PpmFault} (Err Write) old new (ppm_text width height colours)
 WritesPpm (Err NotRgb) old new width height colours = IsFalse (are_rgb colours) × (new ≡ old)
-WritesPpm (Err (Format reason place)) old new width height colours = ⊥
-WritesPpm (Err OutOfMemory) old new width height colours = ⊥
-WritesPpm (Err Read) old new width height colours = ⊥
+WritesPpm (Err fault) old new width height colours = ⊥

@@ -34,16 +34,11 @@ pub record Completes (old : Progress) (piece : List ℕ) (frame : Frame) (start 
 abbrev pub ReadsHeader : PpmFault → List ℕ → Type 0
 ReadsHeader (Format reason place) bytes = head_of bytes ≡ at_fault reason place
 ReadsHeader Read bytes = Unit {0}
-ReadsHeader NotRgb bytes = ⊥
-ReadsHeader OutOfMemory bytes = ⊥
-ReadsHeader Write bytes = ⊥
+ReadsHeader fault bytes = ⊥
 
 abbrev pub RefusesHeader : PpmFault → Result Head PpmFault → Type 0
 RefusesHeader (Format reason place) result = result ≡ at_fault reason place
-RefusesHeader NotRgb result = ⊥
-RefusesHeader OutOfMemory result = ⊥
-RefusesHeader Read result = ⊥
-RefusesHeader Write result = ⊥
+RefusesHeader fault result = ⊥
 
 abbrev pub FeedsHeader : Progress → List ℕ → Fed → Type 0
 FeedsHeader old piece (More new) = MovesOn old new piece
@@ -63,10 +58,8 @@ pub record HasStarted (old new : Option (List ℕ)) (piece : List ℕ) (s : Star
 abbrev pub ReadsRest : Result PictureValue PpmFault → Result PictureValue PpmFault → Type 0
 ReadsRest (Ok picture) result = result ≡ Ok picture
 ReadsRest (Err (Format reason place)) result = result ≡ at_fault reason place
-ReadsRest (Err OutOfMemory) result = ⊥
 ReadsRest (Err Read) result = Unit {0}
-ReadsRest (Err NotRgb) result = ⊥
-ReadsRest (Err Write) result = ⊥
+ReadsRest (Err fault) result = ⊥
 
 -- the bytes so far were read, and the header goes on
 pub record IsInHeader (old new : Option (List ℕ)) (progress : Progress) : Type 0 where

@@ -126,10 +126,7 @@ samples_on s colours rest = pixels_on s colours (held_samples s.held ++ rest)
 -- a fault is that of a reading; memory was taken before the samples, and no device is met
 abbrev pub Refuses : PpmFault → Result PictureValue PpmFault → Type 0
 Refuses (Format reason place) result = result ≡ at_fault reason place
-Refuses OutOfMemory result = ⊥
-Refuses NotRgb result = ⊥
-Refuses Read result = ⊥
-Refuses Write result = ⊥
+Refuses fault result = ⊥
 
 -- the samples of whole pixels were read
 abbrev pub Leads : Samples → Samples → List ℕ → Type 0

@@ -35,7 +35,7 @@ impl<'a> CutSource<'a> {
 }
 
 impl<'a> Source for CutSource<'a> {
-    ghost state = { λ s. record { remaining = None; failures = 0; } };
+    ghost state = { λ s. record { remaining = None; failures = 0 } };
 
     fn fill(&mut self, piece: &mut [u8]) -> Result<usize, DeviceFault> {
         let count = self.next.max(1).min(piece.len()).min(self.rest.len());
@@ -75,7 +75,7 @@ impl KeepingSink {
 }
 
 impl Sink for KeepingSink {
-    ghost state = { λ s. record { taken = None; failures = s.failures; is_flushed = s.is_flushed; } };
+    ghost state = { λ s. record { taken = None; failures = s.failures; is_flushed = s.is_flushed } };
 
     fn take(&mut self, piece: &[u8]) -> Result<usize, DeviceFault> {
         let count = self.most.max(1).min(piece.len());

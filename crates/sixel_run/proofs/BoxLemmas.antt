@@ -94,11 +94,7 @@ pub boxed : (terminal : Sides → Display) (bytes : List ℕ) (d : List Placed) 
 boxed terminal bytes d sides doc is text (Ok s) g = (d, doc, (sides, is, g))
 boxed terminal bytes d sides doc is text (Err NotRgb) g = (d, doc, (sides, is, g))
 boxed terminal bytes d sides doc is text (Err (Grammar f)) g = g
-boxed terminal bytes d sides doc is text (Err NoBox) g = absurd g
-boxed terminal bytes d sides doc is text (Err (Ppm reason place)) g = absurd g
-boxed terminal bytes d sides doc is text (Err OutOfMemory) g = absurd g
-boxed terminal bytes d sides doc is text (Err Read) g = absurd g
-boxed terminal bytes d sides doc is text (Err Write) g = absurd g
+boxed terminal bytes d sides doc is text (Err other) g = absurd g
 
 -- the sides that another reading of the document declares
 same-sides : (bytes : List ℕ) (d e : List Placed) (a b : Sides) → Document d bytes → Document e bytes
@@ -127,10 +123,7 @@ unboxed terminal bytes d sides doc is text (Ok s) g =
     moved terminal bytes sides g.2.0 text (Ok s) (same-sides bytes d g.0 sides g.2.0 doc g.1 is g.2.1) g.2.2
 unboxed terminal bytes d sides doc is text (Err NotRgb) g =
     moved terminal bytes sides g.2.0 text (Err NotRgb) (same-sides bytes d g.0 sides g.2.0 doc g.1 is g.2.1) g.2.2
-unboxed terminal bytes d sides doc is text (Err (Ppm reason place)) g = absurd g.2.2
-unboxed terminal bytes d sides doc is text (Err OutOfMemory) g = absurd g.2.2
-unboxed terminal bytes d sides doc is text (Err Read) g = absurd g.2.2
-unboxed terminal bytes d sides doc is text (Err Write) g = absurd g.2.2
+unboxed terminal bytes d sides doc is text (Err other) g = absurd g.2.2
 
 -- ---- a document without one
 
@@ -141,10 +134,7 @@ refused terminal bytes d doc none text (Err NoBox) g = (g.0, refl)
 refused terminal bytes d doc none text (Err (Grammar f)) g = absurd (fault_no_document bytes f g.1 (d, doc))
 refused terminal bytes d doc none text (Ok s) g = absurd (not-none bytes g.0 d g.2.0 g.1 doc g.2.1 none)
 refused terminal bytes d doc none text (Err NotRgb) g = absurd (not-none bytes g.0 d g.2.0 g.1 doc g.2.1 none)
-refused terminal bytes d doc none text (Err (Ppm reason place)) g = absurd g.2.2
-refused terminal bytes d doc none text (Err OutOfMemory) g = absurd g.2.2
-refused terminal bytes d doc none text (Err Read) g = absurd g.2.2
-refused terminal bytes d doc none text (Err Write) g = absurd g.2.2
+refused terminal bytes d doc none text (Err other) g = absurd g.2.2
 
 -- ---- bytes that are no document
 
@@ -156,10 +146,7 @@ faulty terminal bytes f is text (Err (Grammar e)) g =
 faulty terminal bytes f is text (Err NoBox) g = absurd (fault_no_document bytes f is (g.1.0, g.1.1))
 faulty terminal bytes f is text (Ok s) g = absurd (fault_no_document bytes f is (g.0, g.1))
 faulty terminal bytes f is text (Err NotRgb) g = absurd (fault_no_document bytes f is (g.0, g.1))
-faulty terminal bytes f is text (Err (Ppm reason place)) g = absurd g.2.2
-faulty terminal bytes f is text (Err OutOfMemory) g = absurd g.2.2
-faulty terminal bytes f is text (Err Read) g = absurd g.2.2
-faulty terminal bytes f is text (Err Write) g = absurd g.2.2
+faulty terminal bytes f is text (Err other) g = absurd g.2.2
 
 -- ---- the same as relations both ways
 
@@ -258,18 +245,12 @@ pub written-boxed : (terminal : Sides → Display) (bytes : List ℕ) (d : List 
     → declared_screen (events_of d) ≡ Some sides
     → WroteBy (ShowGives (terminal sides) bytes) WroteNothing answer had has
     → WroteBy (ShowBoxGives terminal bytes) WroteNothing answer had has
-written-boxed terminal bytes d sides (Ok s) had has doc is w =
-    (w.0, boxed terminal bytes d sides doc is w.0 (Ok s) w.1, w.2)
-written-boxed terminal bytes d sides (Err NotRgb) had has doc is w =
-    (w.0, boxed terminal bytes d sides doc is w.0 (Err NotRgb) w.1, w.2)
-written-boxed terminal bytes d sides (Err (Grammar f)) had has doc is w =
-    (w.0, boxed terminal bytes d sides doc is w.0 (Err (Grammar f)) w.1, w.2)
-written-boxed terminal bytes d sides (Err NoBox) had has doc is w = absurd w.1
-written-boxed terminal bytes d sides (Err (Ppm reason place)) had has doc is w = absurd w.1
 written-boxed terminal bytes d sides (Err OutOfMemory) had has doc is w = w
 written-boxed terminal bytes d sides (Err Read) had has doc is w = w
 written-boxed terminal bytes d sides (Err Write) had has doc is w =
     (w.0, w.1, λ text answer g. w.2 text answer (unboxed terminal bytes d sides doc is text answer g))
+written-boxed terminal bytes d sides answer had has doc is w =
+    (w.0, boxed terminal bytes d sides doc is w.0 answer w.1, w.2)
 
 pub shown-boxed : (terminal : Sides → Display) (told : Option (List ℕ)) (d : List Placed) (sides : Sides)
     (answer : Result Status RunFault) (had has : Option (List ℕ)) → IfSome told (Document d)

@@ -40,12 +40,6 @@ check-once registers bytes first second (Ok s) (Err (Grammar f)) g h = absurd (f
 check-once registers bytes first second (Err (Grammar f)) (Ok s) g h = absurd (fault_no_document bytes f g.1 (h.0, h.1))
 check-once registers bytes first second (Err (Grammar f)) (Err (Grammar e)) g h =
     (g.0 ∙ sym h.0, ap (λ (k : Fault). Err (Grammar k)) (fault_once bytes f e g.1 h.1))
-check-once registers bytes first second (Err (Ppm reason place)) b g h = absurd g
-check-once registers bytes first second (Err NotRgb) b g h = absurd g
-check-once registers bytes first second (Err NoBox) b g h = absurd g
-check-once registers bytes first second (Err OutOfMemory) b g h = absurd g
-check-once registers bytes first second (Err Read) b g h = absurd g
-check-once registers bytes first second (Err Write) b g h = absurd g
 check-once registers bytes first second (Ok s) (Err (Ppm reason place)) g h = absurd h
 check-once registers bytes first second (Ok s) (Err NotRgb) g h = absurd h
 check-once registers bytes first second (Ok s) (Err NoBox) g h = absurd h
@@ -58,6 +52,7 @@ check-once registers bytes first second (Err (Grammar f)) (Err NoBox) g h = absu
 check-once registers bytes first second (Err (Grammar f)) (Err OutOfMemory) g h = absurd h
 check-once registers bytes first second (Err (Grammar f)) (Err Read) g h = absurd h
 check-once registers bytes first second (Err (Grammar f)) (Err Write) g h = absurd h
+check-once registers bytes first second (Err other) b g h = absurd g
 
 pub check-gives : (registers : ℕ) (bytes : List ℕ)
     → (text : Text) × (answer : Result Status RunFault) × CheckGives registers bytes text answer

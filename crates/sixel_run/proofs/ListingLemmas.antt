@@ -59,11 +59,7 @@ fed-drained (Err Write) reader piece had mid has ws w v events bytes e d kept fe
   begins = fed.begins;
   lines = drained had mid has ws w v _ e d fed.lines kept;
 }
-fed-drained (Err Read) reader piece had mid has ws w v events bytes e d kept fed = fed
-fed-drained (Err (Ppm reason place)) reader piece had mid has ws w v events bytes e d kept fed = fed
-fed-drained (Err NotRgb) reader piece had mid has ws w v events bytes e d kept fed = fed
-fed-drained (Err NoBox) reader piece had mid has ws w v events bytes e d kept fed = fed
-fed-drained (Err OutOfMemory) reader piece had mid has ws w v events bytes e d kept fed = fed
+fed-drained (Err other) reader piece had mid has ws w v events bytes e d kept fed = fed
 
 -- of the lines that were to be appended, a front went to the sink that failed
 stopped : (reader : Reader) (piece front rest : List ℕ) (had mid has : Option (List ℕ)) (ws w v text : List ℕ)
@@ -100,11 +96,7 @@ fed-stopped (Err (Grammar fault)) reader piece had mid has ws w v events bytes e
 fed-stopped (Err Write) reader piece had mid has ws w v events bytes e kept grows fed =
     stopped fed.before piece fed.front fed.rest had mid has ws w v fed.part events fed.more bytes fed.piece_is
     fed.stands fed.begins e kept grows fed.lines
-fed-stopped (Err Read) reader piece had mid has ws w v events bytes e kept grows fed = absurd fed
-fed-stopped (Err (Ppm reason place)) reader piece had mid has ws w v events bytes e kept grows fed = absurd fed
-fed-stopped (Err NotRgb) reader piece had mid has ws w v events bytes e kept grows fed = absurd fed
-fed-stopped (Err NoBox) reader piece had mid has ws w v events bytes e kept grows fed = absurd fed
-fed-stopped (Err OutOfMemory) reader piece had mid has ws w v events bytes e kept grows fed = absurd fed
+fed-stopped (Err other) reader piece had mid has ws w v events bytes e kept grows fed = absurd fed
 
 -- the line of an event was put
 pub line-put : {A E : Type 0} (result : Result A E) (placed : Placed) {a b : SinkState} {u v text : List ℕ}
@@ -207,11 +199,7 @@ failed-later (Grammar fault) after piece front part rest had mid has events more
     refused-later fault piece front part rest had mid has events more bytes is put fed
 failed-later Write after piece front part rest had mid has events more bytes is put fed =
     stopped-later piece front part rest had mid has events more bytes is put fed
-failed-later Read after piece front part rest had mid has events more bytes is put fed = fed
-failed-later (Ppm reason place) after piece front part rest had mid has events more bytes is put fed = fed
-failed-later NotRgb after piece front part rest had mid has events more bytes is put fed = fed
-failed-later NoBox after piece front part rest had mid has events more bytes is put fed = fed
-failed-later OutOfMemory after piece front part rest had mid has events more bytes is put fed = fed
+failed-later _ after piece front part rest had mid has events more bytes is put fed = fed
 
 -- wherever the reader stood, it then stands after these bytes more, and the lines of their events were appended
 abbrev pub Lists : Reader → Reader → List ℕ → Option (List ℕ) → Option (List ℕ) → Type 0

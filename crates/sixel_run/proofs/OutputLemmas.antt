@@ -41,12 +41,7 @@ gives-begins bytes read more events is c short text (Err (Grammar fault)) g =
     let next = before_fault bytes read more fault.place is past in
     let m = complete_stays read next.0 events g.1.0 c (subst (CompleteIn g.1.0) next.1 g.1.1) in
     (list_text m.0, g.1.2 ∙ ap list_text m.1 ∙ list_text-append events m.0)
-gives-begins bytes read more events is c short text (Err (Ppm reason place)) g = absurd g
-gives-begins bytes read more events is c short text (Err NotRgb) g = absurd g
-gives-begins bytes read more events is c short text (Err NoBox) g = absurd g
-gives-begins bytes read more events is c short text (Err OutOfMemory) g = absurd g
-gives-begins bytes read more events is c short text (Err Read) g = absurd g
-gives-begins bytes read more events is c short text (Err Write) g = absurd g
+gives-begins bytes read more events is c short text (Err other) g = absurd g
 
 -- the lines before a fault are those of the events that a reader handed out up to it
 faulty-lists : (bytes read more : List ℕ) (events : List Placed) (r : Reader) (fault : Fault) → bytes ≡ read ++ more
@@ -134,11 +129,7 @@ stopped-in bytes read piece rest left had mid has events r Write is put fed =
                 ∙ sym (append_assoc (list_text events) fed.part fed.begins.0),
           ),
     )
-stopped-in bytes read piece rest left had mid has events r Read is put fed = absurd fed
-stopped-in bytes read piece rest left had mid has events r (Ppm reason place) is put fed = absurd fed
-stopped-in bytes read piece rest left had mid has events r NotRgb is put fed = absurd fed
-stopped-in bytes read piece rest left had mid has events r NoBox is put fed = absurd fed
-stopped-in bytes read piece rest left had mid has events r OutOfMemory is put fed = absurd fed
+stopped-in bytes read piece rest left had mid has events r _ is put fed = absurd fed
 
 pub stopped : (a b c had mid has : Option (List ℕ)) (read piece : List ℕ) (events : List Placed) (r : Reader)
     (fault : RunFault) → Consumes a b read → Consumes b c piece
@@ -157,17 +148,8 @@ pub unrefused : (fault : RunFault) (r : Reader) (piece : List ℕ) (mid has : Op
     → (fault ≡ OutOfMemory → ⊥) × (fault ≡ Read → ⊥)
 unrefused (Grammar f) r piece mid has events read fed = ((λ e. cc), (λ e. cc))
 unrefused Write r piece mid has events read fed = ((λ e. cc), (λ e. cc))
-unrefused Read r piece mid has events read fed = absurd fed
-unrefused (Ppm reason place) r piece mid has events read fed = absurd fed
-unrefused NotRgb r piece mid has events read fed = absurd fed
-unrefused NoBox r piece mid has events read fed = absurd fed
-unrefused OutOfMemory r piece mid has events read fed = absurd fed
+unrefused _ r piece mid has events read fed = absurd fed
 
 pub not-read : (fault : RunFault) (n : ℕ) → (fault ≡ Read → ⊥) → failures_by {A = Status} Read (Err fault) n ≡ n
-not-read (Grammar f) n other = refl
-not-read (Ppm reason place) n other = refl
-not-read NotRgb n other = refl
-not-read NoBox n other = refl
-not-read OutOfMemory n other = refl
 not-read Read n other = absurd (other refl)
-not-read Write n other = refl
+not-read _ n other = refl

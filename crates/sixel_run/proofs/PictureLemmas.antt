@@ -147,9 +147,7 @@ picture_unrendered registers bytes p ppm.Write had has given put =
     )
 picture_unrendered registers bytes p ppm.NotRgb had has given put =
     ([], (given.0, given.1, (Portable p, given.2, rw put.0 refl)), nothing-written had has put.1)
-picture_unrendered registers bytes p (ppm.Format reason place) had has given put = absurd put
-picture_unrendered registers bytes p ppm.OutOfMemory had has given put = absurd put
-picture_unrendered registers bytes p ppm.Read had has given put = absurd put
+picture_unrendered registers bytes p _ had has given put = absurd put
 
 pub rendered : (registers : ℕ) (a : Option (List ℕ)) (p : PictureValue) (had has : SinkState)
     → IfSome a (CheckAnswers registers (Ok (Portable p)))

@@ -42,12 +42,6 @@ list-once bytes first second (Err (Grammar f)) (Err (Grammar e)) g h =
           ∙ sym h.1.2,
       ap (λ (k : Fault). Err (Grammar k)) same,
     )
-list-once bytes first second (Err (Ppm reason place)) b g h = absurd g
-list-once bytes first second (Err NotRgb) b g h = absurd g
-list-once bytes first second (Err NoBox) b g h = absurd g
-list-once bytes first second (Err OutOfMemory) b g h = absurd g
-list-once bytes first second (Err Read) b g h = absurd g
-list-once bytes first second (Err Write) b g h = absurd g
 list-once bytes first second (Ok s) (Err (Ppm reason place)) g h = absurd h
 list-once bytes first second (Ok s) (Err NotRgb) g h = absurd h
 list-once bytes first second (Ok s) (Err NoBox) g h = absurd h
@@ -60,6 +54,7 @@ list-once bytes first second (Err (Grammar f)) (Err NoBox) g h = absurd h
 list-once bytes first second (Err (Grammar f)) (Err OutOfMemory) g h = absurd h
 list-once bytes first second (Err (Grammar f)) (Err Read) g h = absurd h
 list-once bytes first second (Err (Grammar f)) (Err Write) g h = absurd h
+list-once bytes first second (Err other) b g h = absurd g
 
 pub list-gives : (bytes : List ℕ) → (text : Text) × (answer : Result Status RunFault) × ListGives bytes text answer
 list-gives bytes =
@@ -110,15 +105,7 @@ unflushed-list bytes (Some rest) had mid has w kept = (
 unflushed-unread : (task : Task) (bytes : List ℕ) (left had mid has : Option (List ℕ))
     → WroteUnread task bytes left had mid → Keeps mid has → Wrote task bytes left (Err Write) had has
 unflushed-unread Listing bytes left had mid has w kept = unflushed-list bytes left had mid has w kept
-unflushed-unread (Check profile) bytes left had mid has w kept =
-    ([], Appends-keeps had mid has [] w kept, λ text answer g. (text, refl))
-unflushed-unread (Render profile) bytes left had mid has w kept =
-    ([], Appends-keeps had mid has [] w kept, λ text answer g. (text, refl))
-unflushed-unread (Encode profile) bytes left had mid has w kept =
-    ([], Appends-keeps had mid has [] w kept, λ text answer g. (text, refl))
-unflushed-unread (Show profile showing fill selects width height) bytes left had mid has w kept =
-    ([], Appends-keeps had mid has [] w kept, λ text answer g. (text, refl))
-unflushed-unread (ShowBox profile showing fill selects) bytes left had mid has w kept =
+unflushed-unread _ bytes left had mid has w kept =
     ([], Appends-keeps had mid has [] w kept, λ text answer g. (text, refl))
 
 unflushed-text : (task : Task) (bytes : List ℕ) (left had mid has : Option (List ℕ)) (answer : Result Status RunFault)
@@ -132,20 +119,12 @@ unflushed-text task bytes left had mid has answer text g put kept = (
 
 unflushed-run : (task : Task) (bytes : List ℕ) (left had mid has : Option (List ℕ)) (answer : Result Status RunFault)
     → Wrote task bytes left answer had mid → Keeps mid has → Wrote task bytes left (Err Write) had has
-unflushed-run task bytes left had mid has (Ok status) w kept =
-    unflushed-text task bytes left had mid has (Ok status) w.0 w.1 w.2 kept
-unflushed-run task bytes left had mid has (Err (Grammar fault)) w kept =
-    unflushed-text task bytes left had mid has (Err (Grammar fault)) w.0 w.1 w.2 kept
-unflushed-run task bytes left had mid has (Err (Ppm reason place)) w kept =
-    unflushed-text task bytes left had mid has (Err (Ppm reason place)) w.0 w.1 w.2 kept
-unflushed-run task bytes left had mid has (Err NotRgb) w kept =
-    unflushed-text task bytes left had mid has (Err NotRgb) w.0 w.1 w.2 kept
-unflushed-run task bytes left had mid has (Err NoBox) w kept =
-    unflushed-text task bytes left had mid has (Err NoBox) w.0 w.1 w.2 kept
 unflushed-run task bytes left had mid has (Err OutOfMemory) w kept =
     ([], Appends-keeps had mid has [] w kept, λ text answer g. (text, refl))
 unflushed-run task bytes left had mid has (Err Read) w kept = unflushed-unread task bytes left had mid has w kept
 unflushed-run task bytes left had mid has (Err Write) w kept = (w.0, Appends-keeps had mid has w.0 w.1 kept, w.2)
+unflushed-run task bytes left had mid has answer w kept =
+    unflushed-text task bytes left had mid has answer w.0 w.1 w.2 kept
 
 -- ---- a flush that succeeds
 
@@ -153,26 +132,14 @@ flushed-unread : (task : Task) (bytes : List ℕ) (left had mid has : Option (Li
     → WroteUnread task bytes left had mid → Keeps mid has → WroteUnread task bytes left had has
 flushed-unread Listing bytes left had mid has w kept =
     (w.0, w.1, w.2, w.3, Appends-keeps had mid has w.1 w.4 kept)
-flushed-unread (Check profile) bytes left had mid has w kept = Appends-keeps had mid has [] w kept
-flushed-unread (Render profile) bytes left had mid has w kept = Appends-keeps had mid has [] w kept
-flushed-unread (Encode profile) bytes left had mid has w kept = Appends-keeps had mid has [] w kept
-flushed-unread (Show profile showing fill selects width height) bytes left had mid has w kept =
-    Appends-keeps had mid has [] w kept
-flushed-unread (ShowBox profile showing fill selects) bytes left had mid has w kept =
-    Appends-keeps had mid has [] w kept
+flushed-unread _ bytes left had mid has w kept = Appends-keeps had mid has [] w kept
 
 flushed-run : (task : Task) (bytes : List ℕ) (left had mid has : Option (List ℕ)) (answer : Result Status RunFault)
     → Wrote task bytes left answer had mid → Keeps mid has → Wrote task bytes left answer had has
-flushed-run task bytes left had mid has (Ok status) w kept = (w.0, w.1, Appends-keeps had mid has w.0 w.2 kept)
-flushed-run task bytes left had mid has (Err (Grammar fault)) w kept =
-    (w.0, w.1, Appends-keeps had mid has w.0 w.2 kept)
-flushed-run task bytes left had mid has (Err (Ppm reason place)) w kept =
-    (w.0, w.1, Appends-keeps had mid has w.0 w.2 kept)
-flushed-run task bytes left had mid has (Err NotRgb) w kept = (w.0, w.1, Appends-keeps had mid has w.0 w.2 kept)
-flushed-run task bytes left had mid has (Err NoBox) w kept = (w.0, w.1, Appends-keeps had mid has w.0 w.2 kept)
 flushed-run task bytes left had mid has (Err OutOfMemory) w kept = Appends-keeps had mid has [] w kept
 flushed-run task bytes left had mid has (Err Read) w kept = flushed-unread task bytes left had mid has w kept
 flushed-run task bytes left had mid has (Err Write) w kept = (w.0, Appends-keeps had mid has w.0 w.1 kept, w.2)
+flushed-run task bytes left had mid has answer w kept = (w.0, w.1, Appends-keeps had mid has w.0 w.2 kept)
 
 pub flushed : (task : Task) (a left had mid has : Option (List ℕ)) (answer : Result Status RunFault)
     → IfSome a (λ (bytes : List ℕ). Wrote task bytes left answer had mid) → Keeps mid has

@@ -60,11 +60,6 @@ show-once t bytes first second (Err (Grammar f)) (Err NotRgb) g h = absurd
     (fault_no_document bytes f g.1 (h.1.0, h.1.1))
 show-once t bytes first second (Err (Grammar f)) (Err (Grammar e)) g h =
     (g.0 ∙ sym h.0, ap (λ (k : Fault). Err (Grammar k)) (fault_once bytes f e g.1 h.1))
-show-once t bytes first second (Err NoBox) b g h = absurd g
-show-once t bytes first second (Err (Ppm reason place)) b g h = absurd g
-show-once t bytes first second (Err OutOfMemory) b g h = absurd g
-show-once t bytes first second (Err Read) b g h = absurd g
-show-once t bytes first second (Err Write) b g h = absurd g
 show-once t bytes first second (Ok s) (Err NoBox) g h = absurd h
 show-once t bytes first second (Ok s) (Err (Ppm reason place)) g h = absurd h
 show-once t bytes first second (Ok s) (Err OutOfMemory) g h = absurd h
@@ -80,6 +75,7 @@ show-once t bytes first second (Err (Grammar f)) (Err (Ppm reason place)) g h = 
 show-once t bytes first second (Err (Grammar f)) (Err OutOfMemory) g h = absurd h
 show-once t bytes first second (Err (Grammar f)) (Err Read) g h = absurd h
 show-once t bytes first second (Err (Grammar f)) (Err Write) g h = absurd h
+show-once t bytes first second (Err other) b g h = absurd g
 
 shown : (t : Display) (bytes : List ℕ) (d : List Placed) → Document d bytes → (b : Bool)
     → are_rgb (screen_on t (events_of d)) ≡ b
@@ -145,11 +141,9 @@ unwritten A t bytes d had has colours ppm.Write doc is put =
       subst (λ (cs : List Parts). Appends had.taken has.taken (take put.1.taken.0 (ppm_text w h cs))) is put.1.taken.1,
       written-begins t bytes d put.1.taken.0 doc rgb,
     )
-unwritten A t bytes d had has colours (ppm.Format reason place) doc is put = absurd put
-unwritten A t bytes d had has colours ppm.OutOfMemory doc is put = absurd put
-unwritten A t bytes d had has colours ppm.Read doc is put = absurd put
 unwritten A t bytes d had has colours ppm.NotRgb doc is put = (
   [],
   (refl, (d, doc, subst (λ (cs : List Parts). IsFalse (are_rgb cs)) is put.0)),
   nothing-written had has put.1,
 )
+unwritten A t bytes d had has colours _ doc is put = absurd put

@@ -47,8 +47,4 @@ Feeds (Ok done) reader piece had has events bytes =
     (more : List Placed) × StandsAfter reader (events ++ more) (bytes ++ piece) × Appends had has (list_text more)
 Feeds (Err (Grammar fault)) reader piece had has events bytes = RefusesAt fault piece had has events bytes
 Feeds (Err Write) reader piece had has events bytes = StopsIn piece had has events bytes
-Feeds (Err (Ppm reason place)) reader piece had has events bytes = ⊥
-Feeds (Err NotRgb) reader piece had has events bytes = ⊥
-Feeds (Err NoBox) reader piece had has events bytes = ⊥
-Feeds (Err Read) reader piece had has events bytes = ⊥
-Feeds (Err OutOfMemory) reader piece had has events bytes = ⊥
+Feeds (Err fault) reader piece had has events bytes = ⊥

@@ -41,12 +41,7 @@ abbrev pub ListGives : List ℕ → Text → Result Status RunFault → Type 0
 ListGives bytes text (Ok status) = (status ≡ Done)
     × ((events : List Placed) × Document events bytes × (text ≡ list_text events))
 ListGives bytes text (Err (Grammar fault)) = IsFaultOf bytes fault × ListsFront (take fault.place bytes) text
-ListGives bytes text (Err (Ppm reason place)) = ⊥
-ListGives bytes text (Err NotRgb) = ⊥
-ListGives bytes text (Err NoBox) = ⊥
-ListGives bytes text (Err OutOfMemory) = ⊥
-ListGives bytes text (Err Read) = ⊥
-ListGives bytes text (Err Write) = ⊥
+ListGives bytes text (Err fault) = ⊥
 
 -- the lines of the events complete in the bytes that were given, which are those before `left` and in which no fault
 -- was met
@@ -69,12 +64,7 @@ CheckGives registers bytes text (Ok status) =
     × ((verdict : Verdict) × IsVerdict registers events verdict × (text ≡ verdict_line verdict)
     × (status ≡ status_of verdict))
 CheckGives registers bytes text (Err (Grammar fault)) = (text ≡ []) × IsFaultOf bytes fault
-CheckGives registers bytes text (Err (Ppm reason place)) = ⊥
-CheckGives registers bytes text (Err NotRgb) = ⊥
-CheckGives registers bytes text (Err NoBox) = ⊥
-CheckGives registers bytes text (Err OutOfMemory) = ⊥
-CheckGives registers bytes text (Err Read) = ⊥
-CheckGives registers bytes text (Err Write) = ⊥
+CheckGives registers bytes text (Err fault) = ⊥
 
 -- the answer of a check, and the line that it writes
 abbrev pub answer_of : Result Verdict RunFault → Result Status RunFault
@@ -126,11 +116,7 @@ ShowGives t bytes text (Ok status) = (status ≡ Done)
 ShowGives t bytes text (Err NotRgb) = (text ≡ [])
     × ((events : List Placed) × Document events bytes × IsFalse (are_rgb (screen_on t (events_of events))))
 ShowGives t bytes text (Err (Grammar fault)) = (text ≡ []) × IsFaultOf bytes fault
-ShowGives t bytes text (Err NoBox) = ⊥
-ShowGives t bytes text (Err (Ppm reason place)) = ⊥
-ShowGives t bytes text (Err OutOfMemory) = ⊥
-ShowGives t bytes text (Err Read) = ⊥
-ShowGives t bytes text (Err Write) = ⊥
+ShowGives t bytes text (Err fault) = ⊥
 
 -- what the terminal whose screen has the sides of the declared box gives for a document; of a document without such a
 -- box `NoBox`, and of other bytes their fault, and nothing is written
@@ -147,12 +133,8 @@ ShowBoxGives terminal bytes text answer =
 
 -- the sides of a screen to show are in range
 abbrev pub HasSides : Task → Type 0
-HasSides Listing = Unit {0}
-HasSides (Check profile) = Unit {0}
-HasSides (Render profile) = Unit {0}
-HasSides (Encode profile) = Unit {0}
 HasSides (Show profile showing fill selects width height) = IsTrue (is_file_side width) × IsTrue (is_file_side height)
-HasSides (ShowBox profile showing fill selects) = Unit {0}
+HasSides t = Unit {0}
 
 -- what a task writes for these bytes, and its answer, where memory is ample and no device fails
 abbrev pub Gives : Task → List ℕ → Text → Result Status RunFault → Type 0
@@ -172,11 +154,7 @@ WroteNothing had has = Appends had has []
 -- what a task has written to what the sink `had` when reading these bytes fails before `left`
 abbrev pub WroteUnread : Task → List ℕ → Option (List ℕ) → Option (List ℕ) → Option (List ℕ) → Type 0
 WroteUnread Listing bytes left had has = ListsUnread bytes left had has
-WroteUnread (Check profile) bytes left had has = WroteNothing had has
-WroteUnread (Render profile) bytes left had has = WroteNothing had has
-WroteUnread (Encode profile) bytes left had has = WroteNothing had has
-WroteUnread (Show profile showing fill selects width height) bytes left had has = WroteNothing had has
-WroteUnread (ShowBox profile showing fill selects) bytes left had has = WroteNothing had has
+WroteUnread t bytes left had has = WroteNothing had has
 
 -- a run of the task over these bytes, if they are known, may be refused for want of memory: a check and a picture only
 -- where raster attributes make a box in them, an encode only after a whole header
@@ -188,22 +166,16 @@ TakesMemory (Encode profile) told = IfSome told HasWholeHeader
 TakesMemory (Show profile showing fill selects width height) told = Unit {0}
 TakesMemory (ShowBox profile showing fill selects) told = Unit {0}
 
--- a run that answered so appended to what the sink `had` the text that is given with the answer, or on `Write` a front
--- of what is given, or on `Read` what `unread` says, or for want of memory nothing
+-- a run that answered so appended to what the sink `had` the text that is given with the answer; or, after an accident,
+-- nothing for want of memory, on `Read` what `unread` says, on `Write` a front of what is given
 abbrev pub WroteBy : (Text → Result Status RunFault → Type 0) → (Option (List ℕ) → Option (List ℕ) → Type 0)
     → Result Status RunFault → Option (List ℕ) → Option (List ℕ) → Type 0
-WroteBy gives unread (Ok status) had has = (text : Text) × gives text (Ok status) × Appends had has text
-WroteBy gives unread (Err (Grammar fault)) had has =
-    (text : Text) × gives text (Err (Grammar fault)) × Appends had has text
-WroteBy gives unread (Err (Ppm reason place)) had has =
-    (text : Text) × gives text (Err (Ppm reason place)) × Appends had has text
-WroteBy gives unread (Err NotRgb) had has = (text : Text) × gives text (Err NotRgb) × Appends had has text
-WroteBy gives unread (Err NoBox) had has = (text : Text) × gives text (Err NoBox) × Appends had has text
 WroteBy gives unread (Err OutOfMemory) had has = WroteNothing had has
 WroteBy gives unread (Err Read) had has = unread had has
 WroteBy gives unread (Err Write) had has =
     (part : Text) × Appends had has part
     × ((text : Text) (answer : Result Status RunFault) → gives text answer → BeginsWith text part)
+WroteBy gives unread answer had has = (text : Text) × gives text answer × Appends had has text
 
 -- a run of the task over these bytes, of which `left` are left to give, appended this to what the sink `had` and
 -- answered so
