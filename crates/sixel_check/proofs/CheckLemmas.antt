@@ -8,7 +8,7 @@ use Rattle.sixel_grammar.specs.Reading.{ExplainsAlways, failures_after}
 use Rattle.sixel_grammar.specs.declared.fault.InputFault.{InputFault}
 use Rattle.sixel_grammar.specs.declared.fault.InputFault.TheVariants.{Grammar, OutOfMemory, Read}
 use Rattle.sixel_grammar.proofs.SourceLemmas.{all_read, consumes-then, refused_early, take_none}
-use Rattle.sixel_check.specs.Checking.{Answers}
+use Rattle.sixel_check.specs.Answers.{Answers}
 use Rattle.sixel_check.specs.Growth.{GrowsFor, MayGrowIn}
 use Rattle.sixel_check.specs.declared.verdict.Verdict.{Verdict}
 use Rattle.sixel_check.proofs.GrowthLemmas.{grows_told}

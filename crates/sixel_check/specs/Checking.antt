@@ -1,8 +1,7 @@
--- What a check of bytes answers.
-use Rattle.std.specs.Prelude.{◌++◌, ℕ, List, Option, IfSome, IsTrue, Result, Ok, Err}
+-- How a reader and a checker go over bytes. Contracts of private functions alone cite these.
+use Rattle.std.specs.Prelude.{◌++◌, ℕ, List, Option, IfSome, IsTrue}
 use Rattle.std.specs.Option.{option_to_list}
-use Rattle.sixel_grammar.specs.Document.{Document, events_of}
-use Rattle.sixel_grammar.specs.Reading.{Explains, ExplainsAlways}
+use Rattle.sixel_grammar.specs.Reading.{ExplainsAlways}
 use Rattle.sixel_grammar.specs.Spelling.{IsSpellable}
 use Rattle.sixel_grammar.specs.Standing as grammar
 use Rattle.sixel_grammar.specs.declared.command.Command.{Command}
@@ -11,20 +10,8 @@ use Rattle.sixel_grammar.specs.declared.command.Event.TheVariants.{Step}
 use Rattle.sixel_grammar.specs.declared.command.Placed.{Placed}
 use Rattle.sixel_grammar.specs.declared.fault.InputFault.{InputFault}
 use Rattle.sixel_grammar.specs.declared.reader.Reader.{Reader}
-use Rattle.sixel_check.specs.Alarms.{IsNoFalseAlarm}
 use Rattle.sixel_check.specs.Growth.{GrowsFor, MayGrowAmong}
-use Rattle.sixel_check.specs.Portable.{IsShownEverywhere}
 use Rattle.sixel_check.specs.Standing.{CheckerValue, StandsAfter, expects}
-use Rattle.sixel_check.specs.Verdicts.{IsVerdict}
-use Rattle.sixel_check.specs.declared.verdict.Verdict.{Verdict}
-
--- the bytes are a document, the verdict is that on its events, a picture that it answers is portable, and a finding is
--- no false alarm; or a fault of the grammar is that of the bytes
-abbrev pub Answers : ℕ → Result Verdict InputFault → List ℕ → Type 0
-Answers registers (Ok verdict) bytes =
-    (events : List Placed) × Document events bytes × IsVerdict registers events verdict
-    × IsShownEverywhere registers (events_of events) verdict × IsNoFalseAlarm registers events verdict
-Answers registers (Err fault) bytes = Explains fault bytes
 
 -- the reader stands after these bytes, and the checker after the events that are complete in them
 pub record AreAfter (registers : ℕ) (reader : Reader) (checker : CheckerValue) (bytes : List ℕ) : Type 0 where

@@ -6,6 +6,7 @@ pub mod Breaches
 pub mod Outside
 pub mod Growth
 pub mod Stretches
+pub mod Answers
 pub mod Checking
 pub mod Portable
 pub mod Alarms

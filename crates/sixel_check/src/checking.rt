@@ -13,7 +13,8 @@ ghost use Rattle.sixel_grammar.specs.Standing.{completions};
 ghost use Rattle.sixel_grammar.specs.declared.command.Placed.{Placed as PlacedValue};
 ghost use Rattle.sixel_model.specs.Profiles.{count_of};
 ghost use Rattle.sixel_check.specs.Growth.{MayGrowIn};
-ghost use Rattle.sixel_check.specs.Checking.{Answers, AreAfter, GrowsForBytes, MayCome, MayComplete, MayGrowOver};
+ghost use Rattle.sixel_check.specs.Answers.{Answers};
+ghost use Rattle.sixel_check.specs.Checking.{AreAfter, GrowsForBytes, MayCome, MayComplete, MayGrowOver};
 ghost use Rattle.sixel_check.specs.Checking.{RefusesBytes, TakesBytes, TakesEvents, command_at};
 ghost use Rattle.sixel_check.specs.Standing.{StandsAfter};
 

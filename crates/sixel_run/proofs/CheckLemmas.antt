@@ -12,7 +12,7 @@ use Rattle.sixel_grammar.proofs.TotalLemmas.{judged}
 use Rattle.sixel_grammar.proofs.UniqueLemmas.{document_once, fault_no_document, fault_once}
 use Rattle.sixel_check.specs.declared.verdict.Verdict.{Verdict}
 use Rattle.sixel_check.specs.Growth.{MayGrowIn}
-use Rattle.sixel_check.specs.Checking.{Answers as CheckAnswers}
+use Rattle.sixel_check.specs.Answers.{Answers as CheckAnswers}
 use Rattle.sixel_check.specs.Verdicts.{IsVerdict}
 use Rattle.sixel_check.proofs.DecideLemmas.{verdict_exists}
 use Rattle.sixel_check.proofs.VerdictLemmas.{verdict_once}

@@ -19,7 +19,7 @@ use Rattle.sixel_ppm.specs.Ppm.{WritesPpm, are_rgb, colours_of, ppm_text}
 use Rattle.sixel_check.specs.declared.verdict.Finding.{Finding}
 use Rattle.sixel_check.specs.declared.verdict.Verdict.{Verdict}
 use Rattle.sixel_check.specs.declared.verdict.Verdict.TheVariants.{Portable, Broken}
-use Rattle.sixel_check.specs.Checking.{Answers as CheckAnswers}
+use Rattle.sixel_check.specs.Answers.{Answers as CheckAnswers}
 use Rattle.sixel_check.specs.Verdicts.{IsVerdict}
 use Rattle.sixel_check.proofs.DecideLemmas.{verdict_exists}
 use Rattle.sixel_run.specs.declared.fault.RunFault.{RunFault}

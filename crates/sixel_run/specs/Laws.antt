@@ -8,7 +8,7 @@ use Rattle.sixel_grammar.specs.Document.{Document, events_of}
 use Rattle.sixel_grammar.specs.Faults.{IsFaultOf}
 use Rattle.sixel_model.specs.Pictures.{IsPicture, PictureValue}
 use Rattle.sixel_model.specs.declared.profile.Profile.{Profile}
-use Rattle.sixel_check.specs.Checking.{Answers}
+use Rattle.sixel_check.specs.Answers.{Answers}
 use Rattle.sixel_check.specs.declared.verdict.Verdict.{Verdict}
 use Rattle.sixel_check.specs.declared.verdict.Verdict.TheVariants.{Portable}
 use Rattle.sixel_check.specs.Portable.{IsPortable}

@@ -9,7 +9,7 @@ use Rattle.sixel_grammar.specs.Standing.{left_of}
 use Rattle.sixel_grammar.specs.declared.fault.InputFault.TheVariants.{Read}
 use Rattle.sixel_grammar.proofs.SourceLemmas.{consumes-then, no_fault_before}
 use Rattle.sixel_model.specs.Profiles.{count_of}
-use Rattle.sixel_check.specs.Checking.{Answers}
+use Rattle.sixel_check.specs.Answers.{Answers}
 use Rattle.sixel_check.proofs.CheckLemmas.{end_counts, end_grows, fault_answers, fault_counts, fault_grows, fault_reads}
 use Rattle.sixel_check.proofs.CheckLemmas.{read_answers, read_counts, read_grows, told_all}
 use Rattle.sixel_check.proofs.checking.check.Goals as goal

@@ -1,0 +1,18 @@
+-- What a check answers: what is claimed of `portable`, of a broken rule and of a refusal.
+use Rattle.std.specs.Prelude.{ℕ, List, Result, Ok, Err}
+use Rattle.sixel_grammar.specs.Document.{Document, events_of}
+use Rattle.sixel_grammar.specs.Reading.{Explains}
+use Rattle.sixel_grammar.specs.declared.command.Placed.{Placed}
+use Rattle.sixel_grammar.specs.declared.fault.InputFault.{InputFault}
+use Rattle.sixel_check.specs.Alarms.{IsNoFalseAlarm}
+use Rattle.sixel_check.specs.Portable.{IsShownEverywhere}
+use Rattle.sixel_check.specs.Verdicts.{IsVerdict}
+use Rattle.sixel_check.specs.declared.verdict.Verdict.{Verdict}
+
+-- the bytes are a document, the verdict is that on its events, a picture that it answers is portable, and a finding is
+-- no false alarm; or a fault of the grammar is that of the bytes
+abbrev pub Answers : ℕ → Result Verdict InputFault → List ℕ → Type 0
+Answers registers (Ok verdict) bytes =
+    (events : List Placed) × Document events bytes × IsVerdict registers events verdict
+    × IsShownEverywhere registers (events_of events) verdict × IsNoFalseAlarm registers events verdict
+Answers registers (Err fault) bytes = Explains fault bytes
