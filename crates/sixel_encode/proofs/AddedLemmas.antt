@@ -1,6 +1,6 @@
 -- Bits that are added in the columns whose pixel is of a register.
 use Rattle.std.proofs.Common.{◌≡◌, ◌==◌, ℕ, ◌+◌, ◌*◌, ◌%◌, ◌^◌, ◌<◌, ◌≤◌, Bool, true, false, ◌&&◌, cond}
-use Rattle.std.proofs.Common.{List, length, get_or, map, replicate, w8, refl, sym, ap, ap₂, ◌∙◌}
+use Rattle.std.proofs.Common.{List, length, get_or, replicate, refl, sym, ap, ap₂, ◌∙◌}
 use Rattle.std.proofs.Common.{arith, subst}
 use Rattle.std.specs.Prelude.{nat_le, nat_lt}
 use Rattle.std.proofs.Math.Pow.{pow_mono}
@@ -9,54 +9,33 @@ use Rattle.std.proofs.lemmas.Bool.{le-leb, lt-ltb}
 use Rattle.std.proofs.lemmas.List.{ext_get_or, get_or-map, length-map}
 use Rattle.std.proofs.lemmas.List.FromFn.{get_or-map-range_with_len, length-range_with_len}
 use Rattle.std.proofs.lemmas.Simd.{length-put_chunk, length-replicate, get_or-replicate, length-chunk}
-use Rattle.std.proofs.lemmas.Simd.{get_or-chunk, length-zip2, get_or-zip2, tops_compared, length-sel_l, get_or-sel_l}
-use lib.Lanes.{chunk, put_chunk, sel_l, top, zip2}
+use Rattle.std.proofs.lemmas.Simd.{get_or-chunk, length-zip2, get_or-zip2}
+use lib.Lanes.{chunk, put_chunk, sel_l, zip2}
 use Rattle.sixel_model.specs.Pictures.{PictureValue, register_of}
 use Rattle.sixel_plane.proofs.LaneLemmas.{stored_group}
 use Rattle.sixel_encode.specs.Canon.{all_columns, below, column_bits, has_pixel}
 use Rattle.sixel_encode.specs.Columns.{AreAdded, AreSixels, sixels_of}
 use Rattle.sixel_encode.proofs.BitLemmas.{bits_above, column_most, row_added, row_passed}
+use Rattle.sixel_encode.proofs.RepeatLemmas.{chosen_at, length-chosen, tests}
 use Rattle.sixel_encode.proofs.StretchLemmas.{sixels_are}
 
 -- the marks of a group of pixels
 abbrev pub marks_of : ℕ → ℕ → List ℕ → List ℕ
 marks_of register bits v =
-    sel_l (map (top 7) (zip2 (λ a b. cond (a == b) 255 0) v (replicate 32 register))) (replicate 32 bits)
-    (replicate 32 0)
-
-tests_are : (register : ℕ) (v : List ℕ)
-    → map (top 7) (zip2 (λ a b. cond (a == b) 255 0) v (replicate 32 register))
-    ≡ zip2 (λ a b. a == b) v (replicate 32 register)
-tests_are register v = tops_compared w8 (λ a b. a == b) v (replicate 32 register)
+    sel_l (tests v (replicate 32 register)) (replicate 32 bits) (replicate 32 0)
 
 pub length-marks : (register bits : ℕ) (v : List ℕ) → length v ≡ 32 → length (marks_of register bits v) ≡ 32
 length-marks register bits v long =
-    let tests = zip2 (λ (a b : ℕ). a == b) v (replicate 32 register) in
-    let wide : length tests ≡ 32 =
-    length-zip2 (λ (a b : ℕ). a == b) v (replicate 32 register) (long ∙ sym (length-replicate 32 register)) ∙ long in
-    ap (λ ms. length (sel_l ms (replicate 32 bits) (replicate 32 0))) (tests_are register v)
-    ∙ length-sel_l tests (replicate 32 bits) (replicate 32 0) (wide ∙ sym (length-replicate 32 bits))
-    (wide ∙ sym (length-replicate {A = ℕ} 32 0)) ∙ wide
+    length-chosen v (replicate 32 register) (replicate 32 bits) long (length-replicate 32 register)
+    (length-replicate 32 bits)
 
 pub mark_at : (register bits j : ℕ) (v : List ℕ) → length v ≡ 32 → j < 32
     → get_or (marks_of register bits v) j 0 ≡ cond (get_or v j 0 == register) bits 0
 mark_at register bits j v long small =
-    let tests = zip2 (λ (a b : ℕ). a == b) v (replicate 32 register) in
-    let wide : length tests ≡ 32 =
-    length-zip2 (λ (a b : ℕ). a == b) v (replicate 32 register) (long ∙ sym (length-replicate 32 register)) ∙ long in
-    let in_tests : j < length tests = omega (arith, wide) in
-    let in_v : j < length v = omega (arith, long) in
-    let in_bits : j < length (replicate 32 bits) = omega (arith, length-replicate 32 bits) in
-    let in_zero : j < length (replicate {A = ℕ} 32 0) = omega (arith, length-replicate {A = ℕ} 32 0) in
-    let in_register : j < length (replicate 32 register) = omega (arith, length-replicate 32 register) in
-    let test : get_or tests j false ≡ (get_or v j 0 == register) =
-    get_or-zip2 (λ (a b : ℕ). a == b) v (replicate 32 register) j 0 0 false in_v in_register
-    ∙ ap (λ r. get_or v j 0 == r) (get_or-replicate 32 j register 0 small) in
-    ap (λ ms. get_or (sel_l ms (replicate 32 bits) (replicate 32 0)) j 0) (tests_are register v)
-    ∙ get_or-sel_l tests (replicate 32 bits) (replicate 32 0) j 0 in_tests in_bits in_zero
-    ∙ ap₂ (λ (a b : ℕ). cond (get_or tests j false) a b)
-    (get_or-replicate 32 j bits 0 small) (get_or-replicate 32 j 0 0 small)
-    ∙ ap (λ (t : Bool). cond t bits 0) test
+    chosen_at v (replicate 32 register) (replicate 32 bits) j long (length-replicate 32 register)
+    (length-replicate 32 bits) small
+    ∙ ap₂ (λ (r b : ℕ). cond (get_or v j 0 == r) b 0)
+    (get_or-replicate 32 j register 0 small) (get_or-replicate 32 j bits 0 small)
 
 -- bytes are added as they are in a register of eight bits
 abbrev pub plus : ℕ → ℕ → ℕ

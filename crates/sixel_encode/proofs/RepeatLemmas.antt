@@ -36,14 +36,14 @@ test_at v w j long wide lt =
     ∙ get_or-zip2 (λ (a b : ℕ). a == b) v w j 0 0 false (omega arith) (omega arith)
 
 -- a choice between lanes and zeros
-length-chosen : (v w chosen : List ℕ) → length v ≡ 32 → length w ≡ 32 → length chosen ≡ 32
+pub length-chosen : (v w chosen : List ℕ) → length v ≡ 32 → length w ≡ 32 → length chosen ≡ 32
     → length (sel_l (tests v w) chosen (replicate 32 0)) ≡ 32
 length-chosen v w chosen long wide all =
     let tested = length-tests v w long wide in
     length-sel_l (tests v w) chosen (replicate 32 0) (tested ∙ sym all)
     (tested ∙ sym (length-replicate {A = ℕ} 32 0)) ∙ tested
 
-chosen_at : (v w chosen : List ℕ) (j : ℕ) → length v ≡ 32 → length w ≡ 32 → length chosen ≡ 32 → j < 32
+pub chosen_at : (v w chosen : List ℕ) (j : ℕ) → length v ≡ 32 → length w ≡ 32 → length chosen ≡ 32 → j < 32
     → get_or (sel_l (tests v w) chosen (replicate 32 0)) j 0
     ≡ cond (get_or v j 0 == get_or w j 0) (get_or chosen j 0) 0
 chosen_at v w chosen j long wide all lt =

@@ -11,7 +11,7 @@ use Rattle.std.proofs.lemmas.Simd.{run_in_chunk_fails, run_in_chunk_stops}
 use lib.Count.{count_trailing_zeros}
 use lib.Lanes.{chunk, mask_l, top, zip2}
 use Rattle.sixel_grammar.specs.Bytes.{is_data}
-use Rattle.sixel_grammar.specs.Stretches.{AreData, IsRun}
+use Rattle.sixel_grammar.specs.Stretches.{IsRun}
 
 abbrev pub less : ℕ → ℕ → ℕ
 less a b = (a + (256 - b)) % 256
@@ -83,34 +83,3 @@ part_of_group from bytes room fits some =
     let same = lanes_outside v long in
     run_there from (count_trailing_zeros 64 (others from bytes)) bytes room fits
     (ap (count_trailing_zeros 64) same ∙ trailing_mask_l outside 64 v (omega arith) (omega arith))
-
--- a run after data bytes
-pub run_after : (from mid count run : ℕ) (bytes : List ℕ) → from ≤ mid → AreData from (mid - from) bytes
-    → IsRun bytes mid (count - (mid - from)) run → mid - from ≤ count → IsRun bytes from count (mid - from + run)
-run_after from mid count run bytes low before r room = record {
-  few = omega (arith, r.few);
-  each = λ k le lt. elim (cases_lt k mid) [
-    | inl early ↦ before k le (omega arith)
-    | inr late ↦ r.each k late (omega arith)
-  ];
-  stops = λ lt.
-      let at : mid + run ≡ from + (mid - from + run) = omega arith in
-      ap (λ k. is_data (get_or bytes k 0)) (sym at) ∙ r.stops (omega arith);
-}
-
--- one that stops early is one of more bytes
-pub run_within : (from few more run : ℕ) (bytes : List ℕ) → run < few → few ≤ more → IsRun bytes from few run
-    → IsRun bytes from more run
-run_within from few more run bytes lt le r = record {
-  few = omega arith;
-  each = r.each;
-  stops = λ h. r.stops lt;
-}
-
-pub data_more : (from mid more : ℕ) (bytes : List ℕ) → AreData from (mid - from) bytes → from ≤ mid
-    → AreData mid more bytes
-    → AreData from (mid - from + more) bytes
-data_more from mid more bytes before low after k le lt = elim (cases_lt k mid) [
-  | inl early ↦ before k le (omega arith)
-  | inr late ↦ after k late (omega arith)
-]

@@ -1,6 +1,6 @@
 -- On bytes in a row, and on groups of them taken at once.
-use Rattle.std.proofs.Common.{◌≡◌, ◌==◌, ℕ, ◌+◌, ◌*◌, ◌%◌, ◌^◌, ◌<◌, ◌≤◌, Bool, not, cond, Option, Some, None, List}
-use Rattle.std.proofs.Common.{length, get_or, map, replicate, w8, inl, inr, ◌≢◌, refl, sym, ap, ap₂, ◌∙◌, arith, ◌-◌}
+use Rattle.std.proofs.Common.{◌≡◌, ◌==◌, ℕ, ◌+◌, ◌*◌, ◌%◌, ◌^◌, ◌<◌, ◌≤◌, Bool, not, cond, List}
+use Rattle.std.proofs.Common.{length, get_or, map, replicate, w8, inl, inr, ◌≢◌, sym, ap, ap₂, ◌∙◌, arith, ◌-◌}
 use Rattle.std.specs.Prelude.{◌&&◌, nat_le, nat_lt}
 use Rattle.std.specs.Int.{bit_at}
 use Rattle.std.specs.Int.Bits.{bit_and, bit_or}
@@ -16,22 +16,7 @@ use Rattle.std.proofs.lemmas.Simd.{get_or-chunk, length-zip2, get_or-zip2, zip2_
 use Rattle.std.proofs.lemmas.Simd.{leading_from_mask_l, trailing_mask_l, run_in_chunk_fails, run_in_chunk_stops}
 use lib.Count.{count_trailing_zeros}
 use lib.Lanes.{chunk, put_chunk, mask_l, top, zip2}
-use Rattle.sixel_plane.specs.Lanes.{AreChanged, NonePasses, IsFirstAt, IsFirst}
-
-pub changed_none : (from to : ℕ) (f : ℕ → ℕ) (xs : List ℕ) → to ≤ from → AreChanged from to f xs xs
-changed_none from to f xs empty = record { long = refl; changed = λ i lt. grind (arith, nat_tests) }
-
--- the bytes after those that were changed before
-pub changed_more : (from mid to : ℕ) (f : ℕ → ℕ) (old before new : List ℕ) → from ≤ mid → mid ≤ to
-    → AreChanged from mid f old before → AreChanged mid to f before new → AreChanged from to f old new
-changed_more from mid to f old before new low high first second = record {
-  long = second.long ∙ first.long;
-  changed = λ i lt.
-      let in_before : i < length before = omega (arith, first.long) in
-      let a = first.changed i lt in
-      let b = second.changed i in_before in
-      grind (arith, nat_tests);
-}
+use Rattle.sixel_plane.specs.Lanes.{AreChanged, NonePasses, IsFirstAt}
 
 -- a group of bytes that is stored: each stands where it was put, and the others are as before
 pub stored_group : (at n : ℕ) (g : ℕ → ℕ) (old group : List ℕ) → length group ≡ n → at + n ≤ length old
@@ -131,34 +116,6 @@ pub first_in_lanes : (test : ℕ → Bool) (v : List ℕ) (m : ℕ) → length v
     → count_trailing_zeros 64 m ≡ prefix_len (λ b. not (test b)) v
 first_in_lanes test v m long same some =
     ap (count_trailing_zeros 64) same ∙ trailing_mask_l test 64 v (omega arith) (omega arith)
-
-pub none_more : (test : ℕ → Bool) (from mid to : ℕ) (bytes : List ℕ) → NonePasses test from mid bytes
-    → NonePasses test mid to bytes → NonePasses test from to bytes
-none_more test from mid to bytes first second k low high = elim (cases_lt k mid) [
-  | inl before ↦ first k low before
-  | inr after ↦ second k after high
-]
-
--- the first that passes after some that don't
-pub first_more : (test : ℕ → Bool) (from mid to : ℕ) (bytes : List ℕ) (found : Option ℕ) → from ≤ mid
-    → NonePasses test from mid bytes → IsFirst test mid to bytes found → IsFirst test from to bytes found
-first_more test from mid to bytes None low before none = none_more test from mid to bytes before none
-first_more test from mid to bytes (Some i) low before first = record {
-  after = omega (arith, first.after);
-  below = first.below;
-  passes = first.passes;
-  before = none_more test from mid i bytes before first.before;
-}
-
--- a later end
-pub first_within : (test : ℕ → Bool) (from mid to i : ℕ) (bytes : List ℕ) → mid ≤ to
-    → IsFirstAt test from mid bytes i → IsFirstAt test from to bytes i
-first_within test from mid to i bytes high first = record {
-  after = first.after;
-  below = omega (arith, first.below);
-  passes = first.passes;
-  before = first.before;
-}
 
 -- a group whose lanes all have the bit
 pub none_in_group : (test : ℕ → Bool) (at run : ℕ) (bytes : List ℕ) → at + 32 ≤ length bytes

@@ -131,6 +131,34 @@ sixel_or_none byte count j are = elim (cases_lt j count) [
   | inr past ↦ grind (arith, nat_tests)
 ]
 
+-- so many lanes at the front as they are, and zeros after them
+abbrev front_lanes : ℕ → List ℕ → List ℕ
+front_lanes count lanes =
+    sel_l (map (top 7) (zip2 (λ a b. cond (nat_lt a b) 255 0) (range_with_len 0 16) (replicate 16 count))) lanes
+    (replicate 16 0)
+
+front_at : (count : ℕ) (lanes : List ℕ) → length lanes ≡ 16
+    → (length (front_lanes count lanes) ≡ 16)
+    × ((j : ℕ) → j < 16 → get_or (front_lanes count lanes) j 0 ≡ cond (nat_lt j count) (get_or lanes j 0) 0)
+front_at count lanes whole =
+    let taken = zip2 nat_lt (range_with_len 0 16) (replicate 16 count) in
+    let numbers : length (range_with_len 0 16) ≡ 16 = length-range 0 16 in
+    let counts : length (replicate 16 count) ≡ 16 = length-replicate 16 count in
+    let zeros : length {A = ℕ} (replicate 16 0) ≡ 16 = length-replicate {A = ℕ} 16 0 in
+    let tests : length taken ≡ 16 = length-zip2 nat_lt (range_with_len 0 16) (replicate 16 count)
+    (numbers ∙ sym counts) ∙ numbers in
+    let same = tops_compared w8 nat_lt (range_with_len 0 16) (replicate 16 count) in (
+      ap (λ ms. length (sel_l ms lanes (replicate 16 0))) same
+          ∙ length-sel_l taken lanes (replicate 16 0) (tests ∙ sym whole) (tests ∙ sym zeros) ∙ tests,
+      λ j lt.
+          ap (λ ms. get_or (sel_l ms lanes (replicate 16 0)) j 0) same
+          ∙ get_or-sel_l taken lanes (replicate 16 0) j 0 (omega arith) (omega arith) (omega arith)
+          ∙ ap₂ (λ (t : Bool) (z : ℕ). cond t (get_or lanes j 0) z)
+          (get_or-zip2 nat_lt (range_with_len 0 16) (replicate 16 count) j 0 0 false (omega arith) (omega arith)
+          ∙ ap₂ nat_lt (number j lt) (get_or-replicate 16 j count 0 lt))
+          (get_or-replicate 16 j 0 0 lt),
+    )
+
 pub sixels_of : (at count : ℕ) (bytes : List ℕ) → at + 16 ≤ length bytes
     → ((j : ℕ) → j < count → is_data (get_or bytes (at + j) 0) ≡ true)
     → AreSixels bytes at count (sel_l
@@ -138,56 +166,32 @@ pub sixels_of : (at count : ℕ) (bytes : List ℕ) → at + 16 ≤ length bytes
     (zip2 (λ a b. (a + (256 - b)) % 256) (chunk at 16 bytes) (replicate 16 63)) (replicate 16 0))
 sixels_of at count bytes room are =
     let less : ℕ → ℕ → ℕ = λ a b. (a + (256 - b)) % 256 in
-    let taken = zip2 nat_lt (range_with_len 0 16) (replicate 16 count) in
     let lanes = zip2 less (chunk at 16 bytes) (replicate 16 63) in
-    let numbers : length (range_with_len 0 16) ≡ 16 = length-range 0 16 in
-    let counts : length (replicate 16 count) ≡ 16 = length-replicate 16 count in
     let loaded : length (chunk at 16 bytes) ≡ 16 = length-chunk at 16 bytes room in
     let marks : length {A = ℕ} (replicate 16 63) ≡ 16 = length-replicate {A = ℕ} 16 63 in
-    let zeros : length {A = ℕ} (replicate 16 0) ≡ 16 = length-replicate {A = ℕ} 16 0 in
-    let tests : length taken ≡ 16 = length-zip2 nat_lt (range_with_len 0 16) (replicate 16 count)
-    (numbers ∙ sym counts) ∙ numbers in
     let whole : length lanes ≡ 16 = length-zip2 less (chunk at 16 bytes) (replicate 16 63) (loaded ∙ sym marks)
     ∙ loaded in
-    subst (λ ms. AreSixels bytes at count (sel_l ms lanes (replicate 16 0)))
-    (sym (tops_compared w8 nat_lt (range_with_len 0 16) (replicate 16 count)))
-    (record {
-      long = length-sel_l taken lanes (replicate 16 0) (tests ∙ sym whole) (tests ∙ sym zeros) ∙ tests;
+    let front = front_at count lanes whole in
+    record {
+      long = front.0;
       each = λ j lt.
-          get_or-sel_l taken lanes (replicate 16 0) j 0 (omega arith) (omega arith) (omega arith)
-          ∙ (λ i. cond
-          ((get_or-zip2 nat_lt (range_with_len 0 16) (replicate 16 count) j 0 0 false (omega arith) (omega arith)
-          ∙ ap₂ nat_lt (number j lt) (get_or-replicate 16 j count 0 lt)) i)
-          ((get_or-zip2 less (chunk at 16 bytes) (replicate 16 63) j 0 0 0 (omega arith) (omega arith)
-          ∙ ap₂ less (get_or-chunk at 16 bytes j 0 lt) (get_or-replicate 16 j 63 0 lt)) i)
-          (get_or-replicate 16 j 0 0 lt i))
+          front.1 j lt
+          ∙ ap (λ (n : ℕ). cond (nat_lt j count) n 0)
+          (get_or-zip2 less (chunk at 16 bytes) (replicate 16 63) j 0 0 0 (omega arith) (omega arith)
+          ∙ ap₂ less (get_or-chunk at 16 bytes j 0 lt) (get_or-replicate 16 j 63 0 lt))
           ∙ sixel_or_none (get_or bytes (at + j) 0) count j (are j);
-    })
+    }
 
 -- lanes of one sixel
 pub equal_of : (bits count : ℕ) → AreEqual bits count (sel_l
     (map (top 7) (zip2 (λ a b. cond (nat_lt a b) 255 0) (range_with_len 0 16) (replicate 16 count)))
     (replicate 16 bits) (replicate 16 0))
 equal_of bits count =
-    let taken = zip2 nat_lt (range_with_len 0 16) (replicate 16 count) in
-    let numbers : length (range_with_len 0 16) ≡ 16 = length-range 0 16 in
-    let counts : length (replicate 16 count) ≡ 16 = length-replicate 16 count in
-    let lanes : length (replicate 16 bits) ≡ 16 = length-replicate 16 bits in
-    let zeros : length {A = ℕ} (replicate 16 0) ≡ 16 = length-replicate {A = ℕ} 16 0 in
-    let tests : length taken ≡ 16 = length-zip2 nat_lt (range_with_len 0 16) (replicate 16 count)
-    (numbers ∙ sym counts) ∙ numbers in
-    subst (λ ms. AreEqual bits count (sel_l ms (replicate 16 bits) (replicate 16 0)))
-    (sym (tops_compared w8 nat_lt (range_with_len 0 16) (replicate 16 count)))
-    (record {
-      long = length-sel_l taken (replicate 16 bits) (replicate 16 0) (tests ∙ sym lanes) (tests ∙ sym zeros) ∙ tests;
-      each = λ j lt.
-          get_or-sel_l taken (replicate 16 bits) (replicate 16 0) j 0 (omega arith) (omega arith) (omega arith)
-          ∙ (λ i. cond
-          ((get_or-zip2 nat_lt (range_with_len 0 16) (replicate 16 count) j 0 0 false (omega arith) (omega arith)
-          ∙ ap₂ nat_lt (number j lt) (get_or-replicate 16 j count 0 lt)) i)
-          (get_or-replicate 16 j bits 0 lt i)
-          (get_or-replicate 16 j 0 0 lt i));
-    })
+    let front = front_at count (replicate 16 bits) (length-replicate 16 bits) in
+    record {
+      long = front.0;
+      each = λ j lt. front.1 j lt ∙ ap (λ (n : ℕ). cond (nat_lt j count) n 0) (get_or-replicate 16 j bits 0 lt);
+    }
 
 -- ---- rows and groups after each other
 
@@ -236,10 +240,6 @@ any_below_or (suc n) p q =
     turned false true true d = refl
     turned false true false d = refl
     turned false false c d = refl
-
-and_false : (a : Bool) → (a && false) ≡ false
-and_false true = refl
-and_false false = refl
 
 -- a group after the columns before it, in one row
 row_joined : (s n i k : ℕ) (f g : ℕ → ℕ) → ((j : ℕ) → j < 16 → g j ≡ f (n + j))
