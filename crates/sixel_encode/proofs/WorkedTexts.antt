@@ -30,20 +30,6 @@ unfolding runs column_bits band_columns occurs band_registers register_commands 
     picture_commands canon_commands canon digits
 dot_text = refl
 
--- 1 by 1 of hue, lightness and saturation
-abbrev hue : PictureValue
-hue = record {
-  width = 1;
-  height = 1;
-  palette = Some (Hls 360 50 100) ∷ replicate 15 None;
-  registers = 0 ∷ [];
-}
-
-hue_text : canon_text hue ≡ in_string (codes "1;1;1;1#0;1;360;50;100#0@")
-unfolding runs column_bits band_columns occurs band_registers register_commands band_commands define_commands
-    picture_commands canon_commands canon digits
-hue_text = refl
-
 -- three equal columns are three sixels
 abbrev three : PictureValue
 three = record {
@@ -58,49 +44,8 @@ unfolding runs column_bits band_columns occurs band_registers register_commands 
     picture_commands canon_commands canon digits
 three_text = refl
 
--- four are one repeat
-abbrev four : PictureValue
-four = record {
-  width = 4;
-  height = 1;
-  palette = Some (Rgb 100 0 0) ∷ replicate 15 None;
-  registers = replicate 4 0;
-}
-
-four_text : canon_text four ≡ in_string (codes "1;1;4;1#0;2;100;0;0#0!4@")
-unfolding runs column_bits band_columns occurs band_registers register_commands band_commands define_commands
-    picture_commands canon_commands canon digits
-four_text = refl
-
--- and so are five
-abbrev five : PictureValue
-five = record {
-  width = 5;
-  height = 1;
-  palette = Some (Rgb 100 0 0) ∷ replicate 15 None;
-  registers = replicate 5 0;
-}
-
-five_text : canon_text five ≡ in_string (codes "1;1;5;1#0;2;100;0;0#0!5@")
-unfolding runs column_bits band_columns occurs band_registers register_commands band_commands define_commands
-    picture_commands canon_commands canon digits
-five_text = refl
-
--- two registers of a band, with a carriage return between
-abbrev pair : PictureValue
-pair = record {
-  width = 2;
-  height = 1;
-  palette = Some (Rgb 100 0 0) ∷ Some (Rgb 0 0 100) ∷ replicate 14 None;
-  registers = 0 ∷ 1 ∷ [];
-}
-
-pair_text : canon_text pair ≡ in_string (codes "1;1;2;1#0;2;100;0;0#1;2;0;0;100#0@$#1?@")
-unfolding runs column_bits band_columns occurs band_registers register_commands band_commands define_commands
-    picture_commands canon_commands canon digits
-pair_text = refl
-
--- blank columns lie before the last one that has a bit, never after it
+-- four are one repeat; a carriage return stands between two registers of a band, and blank columns before the last one
+-- that has a bit, never after it
 abbrev ends : PictureValue
 ends = record {
   width = 6;
@@ -114,21 +59,7 @@ unfolding runs column_bits band_columns occurs band_registers register_commands 
     picture_commands canon_commands canon digits
 ends_text = refl
 
--- two bands, the last of one row
-abbrev tower : PictureValue
-tower = record {
-  width = 1;
-  height = 7;
-  palette = Some (Rgb 0 0 0) ∷ replicate 15 None;
-  registers = replicate 7 0;
-}
-
-tower_text : canon_text tower ≡ in_string (codes "1;1;1;7#0;2;0;0;0#0~-#0@")
-unfolding runs column_bits band_columns occurs band_registers register_commands band_commands define_commands
-    picture_commands canon_commands canon digits
-tower_text = refl
-
--- two bands, and registers over one another
+-- two bands, the last of one row, and registers over one another
 abbrev hi : PictureValue
 hi = record {
   width = 14;

@@ -37,17 +37,6 @@ uncovered_there = record {
       (refl, (1, 0, record { inside = refl; blank = refl }));
 }
 
--- EPq"1;1;1;2#0;2;0;0;0#0@E\ : the bits of one column
-abbrev uncovered_row : List Event
-uncovered_row =
-    start ∷ Step (Raster 1 1 1 2) ∷ Step (Define 0 2 0 0 0) ∷ Step (Select 0) ∷ Step (Sixel 1) ∷ Finish false ∷ []
-
-uncovered_row_there : HoldsAtPosition (Rules.Breaks 16 uncovered_rule) uncovered_row 5
-unfolding Rules.Breaks Rules.BreaksUncovered Rules.raster_before earliest Rules.is_covered any_at any_below passes_at
-    falls touches covers column band since
-uncovered_row_there =
-    record { item = Finish false; here = refl; holds = (refl, (0, 1, record { inside = refl; blank = refl })) }
-
 -- EPq"1;1;1;1#0;2;0;0;0@E\ : a definition doesn't select
 abbrev unselected : List Event
 unselected = start ∷ Step (Raster 1 1 1 1) ∷ Step (Define 0 2 0 0 0) ∷ Step (Sixel 1) ∷ Finish false ∷ []
@@ -171,7 +160,7 @@ hue_in_range : Rules.breaks_colour_value (Step (Define 0 1 360 50 100)) ≡ fals
 unfolding Rules.breaks_colour_value
 hue_in_range = refl
 
--- "2;1;0;1 and "1;1;0;1 and "1;1;2049;1 and "1;1
+-- "2;1;0;1 and "1;1;0;1 and "1;1;2049;1
 ratio_there : Rules.Breaks 16 ratio_rule (start ∷ []) (Step (Raster 2 1 0 1))
 unfolding Rules.Breaks Rules.breaks_ratio
 ratio_there = refl
@@ -183,10 +172,6 @@ no_width_there = refl
 wide_there : Rules.Breaks 16 box_size_rule (start ∷ []) (Step (Raster 1 1 2049 1))
 unfolding Rules.Breaks Rules.breaks_box_size
 wide_there = refl
-
-no_sides_there : Rules.Breaks 16 box_size_rule (start ∷ []) (Step (Raster 1 1 0 0))
-unfolding Rules.Breaks Rules.breaks_box_size
-no_sides_there = refl
 
 -- "1;1;1;1"1;1;1;1
 twice_there : Rules.Breaks 16 raster_twice_rule (start ∷ Step (Raster 1 1 1 1) ∷ []) (Step (Raster 1 1 1 1))

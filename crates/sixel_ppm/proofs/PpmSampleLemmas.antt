@@ -5,7 +5,8 @@ use Rattle.std.proofs.Common.{subst, ◌∙◌, append_assoc, arith, eq-eqb, len
 use Rattle.std.specs.Prelude.{◌-◌, IfErr, drop, is_some, slice_index, take, unwrap_or}
 use Rattle.std.specs.List.{list_all, list_any}
 use Rattle.std.proofs.lemmas.Bool.Decides.{nat_tests}
-use Rattle.std.proofs.lemmas.List.{length-map}
+use Rattle.std.proofs.lemmas.Bool.{eqb-true}
+use Rattle.std.proofs.lemmas.List.{append-nil, length-map}
 use Rattle.std.proofs.lemmas.List.Folds.{list_any-append}
 use Rattle.std.proofs.lemmas.List.Sums.{fold-append}
 use Rattle.sixel_grammar.proofs.SourceLemmas.{take_past}
@@ -279,6 +280,27 @@ has_read_more a b c bytes rest tail p q = record {
   fewer = omega (arith, p.fewer, q.fewer, length-append p.front q.front);
   leads = leads_then a b c p.front q.front p.leads q.leads;
 }
+
+no_rest : (rest : List ℕ) → (length rest == 0) ≡ true → rest ≡ []
+no_rest [] e = refl
+no_rest (x ∷ xs) e = let none : length (x ∷ xs) ≡ 0 = eqb-true _ _ e in absurd (omega (arith, none))
+
+pub has_read_all : (a b : Samples) (bytes rest : List ℕ) → HasRead a b bytes rest → (length rest == 0) ≡ true
+    → LeadsOn a b bytes × (budget b + length bytes ≤ budget a)
+has_read_all a b bytes rest p e =
+    let same : p.front ≡ bytes =
+    sym (p.joined ∙ ap (λ (t : List ℕ). p.front ++ t) (no_rest rest e) ∙ append-nil p.front) in
+    (subst (LeadsOn a b) same p.leads, omega (arith, p.fewer, ap length same))
+
+-- a fault behind the bytes that were read
+pub has_read_fails : (a b : Samples) (bytes rest : List ℕ) (fault : PpmFault) → HasRead a b bytes rest
+    → FailsOn b fault rest → FailsOn a fault bytes
+has_read_fails a b bytes rest fault p fails = λ colours holds more.
+    let led = p.leads colours holds in
+    subst (Refuses fault)
+    (sym (ap (λ (t : List ℕ). samples_on a colours (t ++ more)) p.joined
+    ∙ ap (samples_on a colours) (append_assoc p.front rest more) ∙ led.2 (rest ++ more)))
+    (fails led.0 led.1 more)
 
 pub pixel_leads_on : (old new : Samples) (xs : List ℕ) → old.held ≡ Nothing → new.held ≡ Nothing → Leads old new xs
     → LeadsOn old new xs
