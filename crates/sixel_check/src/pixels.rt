@@ -6,6 +6,7 @@ ghost use Rattle.std.specs.Option.{option_map};
 ghost use Rattle.sixel_grammar.specs.declared.command.Event.{Event as EventValue};
 ghost use Rattle.sixel_grammar.specs.Spelling.{IsSpellable};
 ghost use Rattle.sixel_model.specs.Events.{raster_of};
+ghost use Rattle.sixel_model.specs.RuleNumbers.{eight_bit_rule, outside_rule, uncovered_rule};
 ghost use Rattle.sixel_model.specs.Rules.{FallsOutside, StaysBlank, palette_left, picture_left};
 ghost use Rattle.sixel_model.specs.Sheets.{IsFull};
 ghost use Rattle.sixel_check.specs.Breaches.{BreaksNoRule, IsBreachOf, NoneBelow};
@@ -53,7 +54,7 @@ fn pixel_blank<P: Plane>(plane: &P) -> Option<(u64, u64)>
 
 /// The breach of a control of 8 bits, which is looked at last.
 fn breach_of_eight_bit(event: &Event) -> Option<Breach>
-    ensures { (registers : ℕ) (before : List EventValue) → NoneBelow registers 13 before event.now
+    ensures { (registers : ℕ) (before : List EventValue) → NoneBelow registers eight_bit_rule before event.now
         → IsBreachOf registers before event.now result }
 {
     if is_eight_bit(event) {
@@ -69,7 +70,7 @@ fn breach_of_eight_bit(event: &Event) -> Option<Breach>
 /// The breach of an end that leaves a pixel of the box blank, or of a control of 8 bits.
 fn breach_of_end<P: Plane>(plane: &P, event: &Event) -> Option<Breach>
     ensures { (registers : ℕ) (before : List EventValue) → IsDrawn (P.sheet plane.now) before
-        → NoneBelow registers 12 before event.now → IsBreachOf registers before event.now result }
+        → NoneBelow registers uncovered_rule before event.now → IsBreachOf registers before event.now result }
 {
     if !is_finish(event) {
         return breach_of_eight_bit(event);
@@ -87,7 +88,7 @@ fn breach_of_end<P: Plane>(plane: &P, event: &Event) -> Option<Breach>
 #[inline(always)]
 fn breach_of_pixels<P: Plane>(notes: &Notes, plane: &P, event: &Event) -> Option<Breach>
     ensures { (registers : ℕ) (before : List EventValue) → AreNotesAfter registers notes.now before
-        → IsDrawn (P.sheet plane.now) before → NoneBelow registers 11 before event.now
+        → IsDrawn (P.sheet plane.now) before → NoneBelow registers outside_rule before event.now
         → IsBreachOf registers before event.now result }
 {
     match pixel_outside(notes, plane, event) {

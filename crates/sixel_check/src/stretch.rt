@@ -21,7 +21,7 @@ fn try_paint_stretch<P: Plane>(notes: &Notes, plane: &mut P, bytes: &[u8], count
         × Fits notes.now count (P.sheet plane.old)
         × (P.sheet plane.new ≡ stretched_sheet (P.sheet plane.old) notes.now.column notes.now.band count
         (sixel_of bytes.now count) register) }
-    ensures columns { result ≡ true → notes.now.column + count ≤ 4294967295 }
+    ensures columns { result ≡ true → notes.now.column + count ≤ u32.MAX }
     ensures kept { result ≡ false → plane.new ≡ plane.old }
 {
     match notes.known() {

@@ -14,7 +14,7 @@ use Rattle.sixel_grammar.specs.declared.fault.Fault.{Fault}
 use Rattle.sixel_grammar.specs.declared.fault.Reason.{Reason}
 use Rattle.sixel_grammar.specs.declared.fault.Reason.TheVariants.{Truncated, TooLong}
 use Rattle.sixel_grammar.specs.declared.reader.Reader.{Reader}
-use Rattle.sixel_grammar.specs.Document.{IsDocument}
+use Rattle.sixel_grammar.specs.Document.{IsDocument, most_bytes}
 use Rattle.sixel_grammar.specs.Fronts.{CompleteIn, IsViable}
 use Rattle.sixel_grammar.specs.Faults.{Form, NothingYet, Introducing, Parameters, LastSeparator, NoCommand}
 use Rattle.sixel_grammar.specs.Faults.{RepeatNumber, RasterFields, ColourFields, Terminating, Ended, EndsIn, IsFaultOf}
@@ -155,11 +155,11 @@ shut r q events bytes b o event c s lt w form at is fault left =
 pub sixel : (r q : Reader) (events : List Placed) (bytes : List ℕ) (b : ℕ) (c : Completed)
     → StandsAfter r events bytes → 0 < r.left → is_data b ≡ true
     → form_of r.pending ≡ NoCommand → q.pending ≡ r.pending
-    → c ≡ record { first = Some (record { place = 268435456 - r.left; event = Step (Sixel (b - 63)) }); second = None }
+    → c ≡ record { first = Some (record { place = most_bytes - r.left; event = Step (Sixel (b - 63)) }); second = None }
     → q.fault ≡ r.fault → q.left ≡ r.left - 1
     → StandsAfter q (events ++ completions c) (bytes ++ b ∷ [])
 sixel r q events bytes b c s lt t form same is fault left =
-    let place : 268435456 - r.left ≡ length bytes = omega (arith, s.left) in
+    let place : most_bytes - r.left ≡ length bytes = omega (arith, s.left) in
     shut r q events bytes b (length bytes) (Step (Sixel (b - 63))) c s lt
     (ap (λ (f : Form). within f b) form ∙ cond-true (is_data b) _ _ t) (ap form_of same ∙ form)
     (ap (λ (i : Bool). cond i (length bytes) r.opened) (sym (ap is_idle form)))
@@ -197,7 +197,7 @@ ends-unfinished Ended b e g d h = absurd (chosen-none (within Ended b) (begin b)
 pub ended : (r q : Reader) (events : List Placed) (bytes : List ℕ) (b : ℕ) (event : Event)
     → StandsAfter r events bytes → 0 < r.left
     → next_of (form_of r.pending) b ≡ Some (Some event, form_of q.pending, None)
-    → q.opened ≡ 268435456 - r.left → q.fault ≡ r.fault → q.left ≡ r.left - 1
+    → q.opened ≡ most_bytes - r.left → q.fault ≡ r.fault → q.left ≡ r.left - 1
     → StandsAfter q (events ++ record { place = r.opened; event = event } ∷ []) (bytes ++ b ∷ [])
 ended r q events bytes b event s lt e opened fault left =
     let unfinished = ends-unfinished (form_of r.pending) b event (form_of q.pending) None e in
@@ -210,16 +210,16 @@ ended r q events bytes b event s lt e opened fault left =
 pub both : (r q : Reader) (events : List Placed) (bytes : List ℕ) (b o : ℕ) (first second : Event) (c : Completed)
     → StandsAfter r events bytes → 0 < r.left
     → next_of (form_of r.pending) b ≡ Some (Some first, form_of q.pending, Some second)
-    → o ≡ opened_after (268435456 - r.left) r
+    → o ≡ opened_after (most_bytes - r.left) r
     → c
     ≡ record {
       first = Some (record { place = o; event = first });
-      second = Some (record { place = 268435456 - r.left; event = second });
+      second = Some (record { place = most_bytes - r.left; event = second });
     }
-    → q.opened ≡ 268435456 - r.left → q.fault ≡ r.fault → q.left ≡ r.left - 1
+    → q.opened ≡ most_bytes - r.left → q.fault ≡ r.fault → q.left ≡ r.left - 1
     → StandsAfter q (events ++ completions c) (bytes ++ b ∷ [])
 both r q events bytes b o first second c s lt e at is opened fault left =
-    let place : 268435456 - r.left ≡ length bytes = omega (arith, s.left) in
+    let place : most_bytes - r.left ≡ length bytes = omega (arith, s.left) in
     accepted r q events bytes b o (Some first) (Some second) c s lt e (at ∙ ap (λ (n : ℕ). opened_after n r) place)
     (ap completions is
     ∙ ap (λ (n : ℕ). record { place = o; event = first } ∷ record { place = n; event = second } ∷ []) place) fault left
@@ -242,7 +242,7 @@ front_viable f {events = events} {bytes = bytes} e b =
 
 pub refused : (f : Form) {events : List Placed} {opened : ℕ} {bytes : List ℕ} (e : EndsIn f events opened bytes)
     (b : ℕ)
-    → length bytes < 268435456 → next_of f b ≡ None
+    → length bytes < most_bytes → next_of f b ≡ None
     → IsFaultOf (bytes ++ b ∷ []) (fault_at (refusal f b) (length bytes))
 refused f {events = events} {opened = opened} {bytes = bytes} e b lt stop =
     let len = length-append bytes (b ∷ []) in
@@ -263,7 +263,7 @@ refused f {events = events} {opened = opened} {bytes = bytes} e b lt stop =
 
 pub too_long : (f : Form) {events : List Placed} {opened : ℕ} {bytes : List ℕ}
     (e : EndsIn f events opened bytes) (b : ℕ)
-    → length bytes ≡ 268435456 → IsFaultOf (bytes ++ b ∷ []) (fault_at TooLong 268435456)
+    → length bytes ≡ most_bytes → IsFaultOf (bytes ++ b ∷ []) (fault_at TooLong most_bytes)
 too_long f {bytes = bytes} e b k =
     inl (record {
       long = omega (arith, length-append bytes (b ∷ []));
@@ -272,7 +272,7 @@ too_long f {bytes = bytes} e b k =
     })
 
 pub truncated : (f : Form) {events : List Placed} {opened : ℕ} {bytes : List ℕ} (e : EndsIn f events opened bytes)
-    → length bytes ≤ 268435456 → (f ≡ Ended → ⊥) → IsFaultOf bytes (fault_at Truncated (length bytes))
+    → length bytes ≤ most_bytes → (f ≡ Ended → ⊥) → IsFaultOf bytes (fault_at Truncated (length bytes))
 truncated f {events = events} {bytes = bytes} e short other =
     inr (record {
       longest = record {
@@ -293,10 +293,10 @@ truncated f {events = events} {bytes = bytes} e short other =
 
 -- at the limit
 pub stopped : (r : Reader) (events : List Placed) (bytes : List ℕ) (b : ℕ) → StandsAfter r events bytes → r.left ≡ 0
-    → IsFaultOf (bytes ++ b ∷ []) (fault_at TooLong (268435456 - r.left)) × (268435456 - r.left ≡ length bytes)
+    → IsFaultOf (bytes ++ b ∷ []) (fault_at TooLong (most_bytes - r.left)) × (most_bytes - r.left ≡ length bytes)
 stopped r events bytes b s none =
-    let k : length bytes ≡ 268435456 = omega (arith, s.left, none) in
-    let place : 268435456 - r.left ≡ 268435456 = omega (arith, none) in (
+    let k : length bytes ≡ most_bytes = omega (arith, s.left, none) in
+    let place : most_bytes - r.left ≡ most_bytes = omega (arith, none) in (
       subst (λ (n : ℕ). IsFaultOf (bytes ++ b ∷ []) (fault_at TooLong n)) (sym place)
           (too_long (form_of r.pending) s.ends b k),
       place ∙ sym k,
@@ -305,16 +305,16 @@ stopped r events bytes b s none =
 -- a byte that can't follow
 pub refused_at : (r : Reader) (events : List Placed) (bytes : List ℕ) (b : ℕ) → StandsAfter r events bytes
     → 0 < r.left → next_of (form_of r.pending) b ≡ None
-    → IsFaultOf (bytes ++ b ∷ []) (fault_at (refusal (form_of r.pending) b) (268435456 - r.left))
-    × (268435456 - r.left ≡ length bytes)
+    → IsFaultOf (bytes ++ b ∷ []) (fault_at (refusal (form_of r.pending) b) (most_bytes - r.left))
+    × (most_bytes - r.left ≡ length bytes)
 refused_at r events bytes b s lt stop =
-    let place : 268435456 - r.left ≡ length bytes = omega (arith, s.left) in (
+    let place : most_bytes - r.left ≡ length bytes = omega (arith, s.left) in (
       subst (λ (n : ℕ). IsFaultOf (bytes ++ b ∷ []) (fault_at (refusal (form_of r.pending) b) n)) (sym place)
           (refused (form_of r.pending) s.ends b (omega (arith, s.left)) stop),
       place,
     )
 
-pub nothing_read : (r : Reader) → r.fault ≡ None → r.left ≡ 268435456 → form_of r.pending ≡ NothingYet
+pub nothing_read : (r : Reader) → r.fault ≡ None → r.left ≡ most_bytes → form_of r.pending ≡ NothingYet
     → StandsAfter r [] []
 nothing_read r fault left form = record {
   no_fault = fault;
@@ -329,5 +329,5 @@ pub read_complete : (r : Reader) (events : List Placed) (bytes : List ℕ) → S
 read_complete r events bytes s = complete (form_of r.pending) s.ends
 
 pub read_short : (r : Reader) (events : List Placed) (bytes : List ℕ) → StandsAfter r events bytes
-    → length bytes ≤ 268435456
+    → length bytes ≤ most_bytes
 read_short r events bytes s = omega (arith, s.left)

@@ -10,7 +10,7 @@ use Rattle.sixel_grammar.specs.declared.command.Placed.{Placed}
 use Rattle.sixel_grammar.specs.declared.fault.Fault.{Fault}
 use Rattle.sixel_grammar.specs.declared.fault.Reason.TheVariants.{Truncated, TooLong}
 use Rattle.sixel_grammar.specs.Document.{Piece, bytes_of, events_in, events_of, placed_from, AreWhole, Document}
-use Rattle.sixel_grammar.specs.Document.{IsDocument}
+use Rattle.sixel_grammar.specs.Document.{IsDocument, most_bytes}
 use Rattle.sixel_grammar.specs.Fronts.{CompleteIn, IsViable}
 use Rattle.sixel_grammar.specs.Faults.{Form, NothingYet, Introducing, Parameters, LastSeparator, NoCommand}
 use Rattle.sixel_grammar.specs.Faults.{RepeatNumber, RasterFields, ColourFields, Terminating, Ended, AreFront, EndsIn}
@@ -61,7 +61,7 @@ abbrev Judged : List ℕ → Type 0
 Judged bytes = IsDocument bytes ⊎ ((fault : Fault) × IsFaultOf bytes fault)
 
 ended_document : {events : List Placed} {opened : ℕ} {bytes : List ℕ} (e : EndsIn Ended events opened bytes)
-    → length bytes ≤ 268435456 → IsDocument bytes
+    → length bytes ≤ most_bytes → IsDocument bytes
 ended_document {events = events} {bytes = bytes} e short = (
   events,
   record {
@@ -85,7 +85,7 @@ is_ended Terminating = inr (λ e. cc)
 is_ended Ended = inl refl
 
 at_end : (f : Form) (events : List Placed) (opened : ℕ) (bytes : List ℕ) → EndsIn f events opened bytes
-    → length bytes ≤ 268435456 → Judged bytes
+    → length bytes ≤ most_bytes → Judged bytes
 at_end f events opened bytes e short =
     elim (is_ended f) [
       | inl same ↦ inl (ended_document (subst (λ (g : Form). EndsIn g events opened bytes) same e) short)
@@ -103,14 +103,14 @@ then_fault bytes more b fault h at =
     )
 
 from_here : (more : List ℕ) (f : Form) (events : List Placed) (opened : ℕ) (bytes : List ℕ)
-    → EndsIn f events opened bytes → length bytes ≤ 268435456 → Judged (bytes ++ more)
+    → EndsIn f events opened bytes → length bytes ≤ most_bytes → Judged (bytes ++ more)
 from_here [] f events opened bytes e short = subst Judged (sym (append-nil bytes))
     (at_end f events opened bytes e short)
 from_here (b ∷ more) f events opened bytes e short =
-    elim (cases_lt (length bytes) 268435456) [
+    elim (cases_lt (length bytes) most_bytes) [
       | inr full ↦
-          let k : length bytes ≡ 268435456 = omega arith in
-          then_fault bytes more b (fault_at TooLong 268435456) (too_long f e b k) (sym k)
+          let k : length bytes ≡ most_bytes = omega arith in
+          then_fault bytes more b (fault_at TooLong most_bytes) (too_long f e b k) (sym k)
       | inl lt ↦
           elim (next_of f b) as (λ x. next_of f b ≡ x → GoesTo events opened bytes b x → Judged (bytes ++ b ∷ more)) [
             | None ↦ λ is g. then_fault bytes more b (fault_at (refusal f b) (length bytes)) (refused f e b lt is) refl
@@ -136,10 +136,10 @@ viable_before bytes fault h =
 
 -- no fault lies within viable bytes
 pub place_past : (bytes read more : List ℕ) (fault : Fault) → bytes ≡ read ++ more → IsViable read
-    → length read ≤ 268435456 → IsFaultOf bytes fault → length read ≤ fault.place
+    → length read ≤ most_bytes → IsFaultOf bytes fault → length read ≤ fault.place
 place_past bytes read more fault is v short h =
     elim h [
-      | inl t ↦ let e : fault.place ≡ 268435456 = ap (λ (f : Fault). f.place) t.fault_is in omega arith
+      | inl t ↦ let e : fault.place ≡ most_bytes = ap (λ (f : Fault). f.place) t.fault_is in omega arith
       | inr r ↦
           let len : length bytes ≡ length read + length more = ap length is ∙ length-append read more in
           r.longest.longest (length read) (omega arith)

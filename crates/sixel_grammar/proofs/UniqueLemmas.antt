@@ -13,7 +13,7 @@ use Rattle.sixel_grammar.specs.declared.command.Placed.{Placed}
 use Rattle.sixel_grammar.specs.declared.fault.Reason.{Reason}
 use Rattle.sixel_grammar.specs.declared.fault.Fault.{Fault}
 use Rattle.sixel_grammar.specs.Document.{Piece, bytes_of, joined, events_in, placed_from, AreRest, AreWhole, Parses}
-use Rattle.sixel_grammar.specs.Document.{Document, IsDocument}
+use Rattle.sixel_grammar.specs.Document.{Document, IsDocument, most_bytes}
 use Rattle.sixel_grammar.specs.Fronts.{completed_at, complete_from, CompleteIn, IsViable}
 use Rattle.sixel_grammar.specs.declared.command.Event.TheVariants.{Start, Step, Finish}
 use Rattle.sixel_grammar.specs.Spelling.{is_open_ended}
@@ -196,9 +196,9 @@ pub fault_stays : (bytes more : List ℕ) (fault : Fault) → IsFaultOf bytes fa
 fault_stays bytes more fault h lt =
     let len = length-append bytes more in
     elim h [
-      | inl t ↦ let long = t.long in let le : 268435456 ≤ length bytes = omega arith in inl (record {
+      | inl t ↦ let long = t.long in let le : most_bytes ≤ length bytes = omega arith in inl (record {
         long = omega arith;
-        viable = subst IsViable (sym (take-append-le 268435456 bytes more le)) t.viable;
+        viable = subst IsViable (sym (take-append-le most_bytes bytes more le)) t.viable;
         fault_is = t.fault_is;
       })
       | inr r ↦
@@ -284,7 +284,7 @@ fault_once bytes f g a b =
     apart {h} {i} t r =
         let long = t.long in
         let w = r.within in
-        let le = r.longest.longest 268435456 (omega arith) t.viable in
+        let le = r.longest.longest most_bytes (omega arith) t.viable in
         omega arith
 
 -- ---- documents

@@ -35,7 +35,7 @@ pub struct Reader {
     sixels: u8,
     pending: Pending,
     fault: Option<Fault>,
-    ghost within: { left ≤ 268435456 },
+    ghost within: { left ≤ most_bytes },
     ghost stopped: { IsSome fault → left ≡ 0 },
     ghost ready: { 0 < sixels → (sixels ≡ 64) × (0 < left) × (form_of pending ≡ NoCommandForm) },
     ghost open: { 0 < left → form_of pending ≡ NoCommandForm → sixels ≡ 64 },
@@ -232,7 +232,7 @@ impl Reader {
     fn take_sixel(&mut self, byte: u8) -> Plain
         requires data { IsTrue (data_test byte) }
         requires left { 0 < self.old.left }
-        ensures completed { result ≡ plain_command (268435456 - self.old.left) (Command.Sixel (byte - 63)) }
+        ensures completed { result ≡ plain_command (most_bytes - self.old.left) (Command.Sixel (byte - 63)) }
         ensures pending { self.new.pending ≡ self.old.pending }
         ensures fault { self.new.fault ≡ self.old.fault }
         ensures left { self.new.left ≡ self.old.left - 1 }

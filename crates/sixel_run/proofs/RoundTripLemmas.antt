@@ -5,7 +5,7 @@ use Rattle.sixel_grammar.specs.declared.command.Event.{Event}
 use Rattle.sixel_grammar.specs.declared.command.Placed.{Placed}
 use Rattle.sixel_grammar.specs.declared.fault.InputFault.TheVariants.{Grammar, OutOfMemory, Read}
 use Rattle.sixel_grammar.proofs.UniqueLemmas.{fault_no_document}
-use Rattle.sixel_grammar.specs.Document.{events_of}
+use Rattle.sixel_grammar.specs.Document.{events_of, most_bytes}
 use Rattle.sixel_grammar.specs.FixedText.{fixed_places}
 use Rattle.sixel_grammar.specs.Spelling.{fixed_spelling}
 use Rattle.sixel_model.specs.Rules.{BreaksNone, picture_left}
@@ -40,7 +40,7 @@ encoded_is_portable profile p is =
     (left_is_portable registers (canon p) (WrittenLemmas.lists_are_whole p) none) in (
       placed,
       WrittenLemmas.texts_are_documents registers (omega (arith, few))
-          (LengthLemmas.texts_have_at_most 268435456 registers (omega (arith, few)) (omega (arith, few))) p is,
+          (LengthLemmas.texts_have_at_most most_bytes registers (omega (arith, few)) (omega (arith, few))) p is,
       (subst (BreaksNone registers last_rule) (sym same) none, sym left ∙ ap (picture_left registers) (sym same)),
       subst (λ (es : List Event). IsPortable registers es p) (sym same) shown,
     )

@@ -109,7 +109,7 @@ impl Progress {
     }
 
     fn advanced(self, part: Part) -> Next
-        requires { self.place < 65536 }
+        requires { self.place < MOST_BYTES }
         ensures { result ≡ advanced self part }
     {
         Next::More(Progress {
@@ -120,7 +120,7 @@ impl Progress {
     }
 
     fn wanted_byte(self, passes: bool, part: Part) -> Next
-        requires { self.place < 65536 }
+        requires { self.place < MOST_BYTES }
         ensures { result ≡ wanted_byte self passes part }
     {
         if passes {
@@ -131,7 +131,7 @@ impl Progress {
     }
 
     fn in_filler(self, field: Field, byte: u8) -> Next
-        requires { self.place < 65536 }
+        requires { self.place < MOST_BYTES }
         ensures { result ≡ in_filler self field byte }
     {
         if is_space(byte) {
@@ -144,7 +144,7 @@ impl Progress {
     }
 
     fn in_comment(self, field: Field, byte: u8) -> Next
-        requires { self.place < 65536 }
+        requires { self.place < MOST_BYTES }
         ensures { result ≡ in_comment self field byte }
     {
         if byte == b'\n' {
@@ -156,7 +156,7 @@ impl Progress {
 
     /// Filler, or the first digit of the number after it.
     fn filled(self, field: Field, byte: u8) -> Next
-        requires { self.place < 65536 }
+        requires { self.place < MOST_BYTES }
         ensures { result ≡ filled self field byte }
     {
         if is_digit(byte) {
@@ -174,7 +174,7 @@ impl Progress {
 
     /// A digit, or the byte after the last one.
     fn in_digits(self, field: Field, byte: u8) -> Next
-        requires { self.place < 65536 }
+        requires { self.place < MOST_BYTES }
         ensures { result ≡ in_digits self field byte }
     {
         if is_digit(byte) {
@@ -193,7 +193,7 @@ impl Progress {
 
     /// The number is whole, and the byte after it is good.
     fn ended(self, field: Field, byte: u8) -> Next
-        requires { self.place < 65536 }
+        requires { self.place < MOST_BYTES }
         ensures { result ≡ ended self field byte }
     {
         let value = self.value;

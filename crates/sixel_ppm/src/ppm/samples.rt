@@ -6,7 +6,7 @@ ghost use Rattle.sixel_model.specs.Pictures.{is_side};
 ghost use Rattle.sixel_ppm.specs.PpmHeld.{held_samples, is_good};
 ghost use Rattle.sixel_ppm.specs.PpmColours.{IsUnusedFrom};
 ghost use Rattle.sixel_ppm.specs.PpmKnown.{Knows};
-ghost use Rattle.sixel_ppm.specs.PpmReading.{colour_of, percent};
+ghost use Rattle.sixel_ppm.specs.PpmReading.{colour_of, most_header, percent};
 ghost use Rattle.sixel_model.specs.Profiles.{count_of};
 
 use crate::ppm::colours::Colours;
@@ -102,7 +102,7 @@ impl Samples {
     pub(crate) fn new(alloc: Global, profile: Profile, frame: Frame) -> Result<Samples, AllocError>
         requires sides { IsTrue (is_side frame.width && is_side frame.height) }
         requires scaled { 0 < frame.maxval }
-        requires place { frame.place ≤ 65536 }
+        requires place { frame.place ≤ most_header }
         ensures { IfOk result (λ s. Begins (count_of profile) frame s) }
     {
         let pixels = frame.width * frame.height;

@@ -1,4 +1,5 @@
 use Rattle.std.proofs.Common.{arith, lit≤}
+use Rattle.sixel_grammar.specs.Document.{most_bytes}
 use Rattle.sixel_model.proofs.PictureLemmas.{at_most_256}
 use Rattle.sixel_model.specs.Profiles.{count_of}
 use Rattle.sixel_encode.proofs.LengthLemmas
@@ -10,6 +11,6 @@ returns c = record {
   most = LengthLemmas.texts_have_at_most 11234326 16 (lit≤ tt) (lit≤ tt);
   most_wide = LengthLemmas.texts_have_at_most 179748886 256 (lit≤ tt) (lit≤ tt);
   within_limit = λ profile.
-      LengthLemmas.texts_have_at_most 268435456 (count_of profile) (omega (arith, at_most_256 profile))
+      LengthLemmas.texts_have_at_most most_bytes (count_of profile) (omega (arith, at_most_256 profile))
       (omega (arith, at_most_256 profile));
 }

@@ -1,5 +1,6 @@
 use Rattle.std.proofs.Common.{refl, ◌≡◌, [], ◌∷◌, ◌++◌, ◌-◌, ◌<◌, ℕ, length, sym, ap, subst, ◌∙◌, Some, None, arith}
 use Rattle.std.specs.Prelude.{OnSome}
+use Rattle.sixel_grammar.specs.Document.{most_bytes}
 use Rattle.sixel_grammar.specs.declared.command.Event.{Event}
 use Rattle.sixel_grammar.specs.declared.command.Event.TheVariants.{Step}
 use Rattle.sixel_grammar.specs.declared.fault.Fault.{Fault}
@@ -23,7 +24,7 @@ returns-then-self-eq0-clause-refused c = λ events bytes s.
 
 pub returns-in-Some-make_whole-clause-accepted : goal.returns-in-Some-make_whole-clause-accepted
 returns-in-Some-make_whole-clause-accepted c = λ events bytes s.
-    let place : 268435456 - c.args.self.now.left ≡ length bytes = omega (arith, s.left) in
+    let place : most_bytes - c.args.self.now.left ≡ length bytes = omega (arith, s.left) in
     whole c.args.self.now _ events bytes c.args.byte c.opened_at-opened.result
     (event_of c.in-Some-make_whole.whole c.make_whole.new.self) c.of_one.result s
     (omega (arith, c.if-self-eq0.false))
@@ -47,7 +48,7 @@ returns-in-Some-end_and_make_whole-clause-accepted c = λ events bytes s.
     ∙ ap (λ (e : Event).
     record {
       first = Some (record { place = c.opened_at-opened.result; event = Step c.in-Some-end_and_make_whole.both.ended });
-      second = Some (record { place = 268435456 - c.args.self.now.left; event = e });
+      second = Some (record { place = most_bytes - c.args.self.now.left; event = e });
     }) c.event_of-second.ensures)
     refl refl refl
 
@@ -65,8 +66,8 @@ returns-in-None-clause-refused c = λ events bytes s.
     c.reason_for-reason.ensures
     ∙ ap (λ (p : Pending). refusal (form_of p) c.args.byte) (c.in-None.ensures.refused refl ∙ same) in
     let answer : c.refuse-in-None.result
-    ≡ fault_at (refusal (form_of c.args.self.now.pending) c.args.byte) (268435456 - c.args.self.now.left) =
-    c.refuse-in-None.ensures.answer ∙ ap (λ (r : Reason). fault_at r (268435456 - c.args.self.now.left)) reason in (
+    ≡ fault_at (refusal (form_of c.args.self.now.pending) c.args.byte) (most_bytes - c.args.self.now.left) =
+    c.refuse-in-None.ensures.answer ∙ ap (λ (r : Reason). fault_at r (most_bytes - c.args.self.now.left)) reason in (
       subst (IsFaultOf (bytes ++ c.args.byte ∷ [])) (sym answer) f.0,
       ap (λ (t : Fault). t.place) answer ∙ f.1,
       c.refuse-in-None.ensures.after,
