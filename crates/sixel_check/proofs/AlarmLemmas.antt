@@ -19,9 +19,9 @@ use Rattle.sixel_terminal.specs.Laws.{IsPlain}
 use Rattle.sixel_terminal.proofs.PlainLemmas.{same_points_on_each}
 use Rattle.sixel_check.proofs.WithinLemmas.{square_if}
 
--- ---- fronts of a list
+-- ---- prefixes of a list
 
--- an item of a front is that of the list
+-- an item of a prefix is that of the list
 pub taken_there : {X : Type 0} (k j : ℕ) (xs : List X) (x : X) → slice_get (take k xs) j ≡ Some x
     → (j < k) × (slice_get xs j ≡ Some x)
 taken_there zero j xs x h = cc
@@ -78,9 +78,9 @@ pub same_up_to : (t : Display) (events : List Event) (i j : ℕ) (e : Event) (x 
     → j ≤ i → slice_get events j ≡ Some e → IsSome (raster_before (take j events))
     → touches_on t (take j events) e x y ≡ falls (take j events) e x y
 same_up_to t events i j e x y plain le here box =
-    let front : take j (take (suc i) events) ≡ take j events = taken_twice j (suc i) events (omega (arith, le)) in
+    let prefix : take j (take (suc i) events) ≡ take j events = taken_twice j (suc i) events (omega (arith, le)) in
     let there : slice_get (take (suc i) events) j ≡ Some e = taken_get (suc i) j events (omega (arith, le)) ∙ here in
-    rw front at (same_points_on_each t (take (suc i) events) j e x y plain there (rw front box))
+    rw prefix at (same_points_on_each t (take (suc i) events) j e x y plain there (rw prefix box))
 
 -- ---- the end of a whole list
 

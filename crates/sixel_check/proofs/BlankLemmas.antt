@@ -1,4 +1,4 @@
--- The first blank pixel of a sheet that follows the events, and the registers of one without a blank pixel.
+-- The first blank pixel of a grid that follows the events, and the registers of one without a blank pixel.
 use Rattle.std.proofs.Common.{◌≡◌, Bool, not, ◌==◌, ℕ, zero, suc, ◌+◌, ◌*◌, ◌/◌, ◌%◌, ◌<◌, ◌≤◌, true, false, ◌&&◌, cond}
 use Rattle.std.proofs.Common.{Option, Some, None, List, length, get_or, map, nat_le, nat_lt, inl, inr, refl, sym, ap}
 use Rattle.std.proofs.Common.{ap₂, ◌∙◌, arith, subst}
@@ -17,9 +17,9 @@ use Rattle.sixel_model.specs.Events.{Attributes, is_in_box}
 use Rattle.sixel_model.specs.Pictures.{is_side, picture_of_parts, most_side}
 use Rattle.sixel_model.specs.Rules.{IsFirstPoint, StaysBlank, is_before, is_covered, palette_left, picture_left}
 use Rattle.sixel_model.specs.Rules.{register_at}
-use Rattle.sixel_model.specs.Sheets.{Sheet, cell, first_blank, row_by_row}
+use Rattle.sixel_model.specs.Grids.{Grid, cell, first_blank, row_by_row}
 use Rattle.sixel_plane.proofs.PaintedLemmas.{none_passes, row_below}
-use Rattle.sixel_model.proofs.SheetLemmas.{rows_from_index}
+use Rattle.sixel_model.proofs.GridLemmas.{rows_from_index}
 use Rattle.sixel_check.specs.Judging.{IsDrawn, box_of}
 use Rattle.sixel_check.specs.Outside.{IsFirstIfAny}
 use Rattle.sixel_check.specs.Verdicts.{capped}
@@ -63,14 +63,14 @@ in_box_place a x y h =
     let in_y : y < a.height = ltb-true y a.height parts.1 in
     (in_x, in_y, mul-add-lt y a.width x a.height in_y in_x)
 
--- the pixel at a place of the sheet
-pub cell_at : (s : Sheet) (x y : ℕ) → y * s.width + x < length s.cells
+-- the pixel at a place of the grid
+pub cell_at : (s : Grid) (x y : ℕ) → y * s.width + x < length s.cells
     → cell s x y ≡ get_or s.cells (y * s.width + x) None
 unfolding cell
 cell_at s x y lt = ap option_flatten (slice_get-get_or s.cells (y * s.width + x) None lt)
 
 -- where the pixel at this place has a register, an event paints it
-painted_there : (s : Sheet) (before : List Event) (x y : ℕ) → IsDrawn s before → x < s.width → y < s.height
+painted_there : (s : Grid) (before : List Event) (x y : ℕ) → IsDrawn s before → x < s.width → y < s.height
     → is_none (get_or s.cells (y * s.width + x) None) ≡ not (is_covered before x y)
 painted_there s before x y d p q =
     let place : y * s.width + x < s.width * s.height = mul-add-lt y s.width x s.height q p in
@@ -81,7 +81,7 @@ painted_there s before x y d p q =
     opposite None = refl
     opposite (Some r) = refl
 
-not_blank : (s : Sheet) (before : List Event) (x y : ℕ) → IsDrawn s before → x < s.width → y < s.height
+not_blank : (s : Grid) (before : List Event) (x y : ℕ) → IsDrawn s before → x < s.width → y < s.height
     → is_none (get_or s.cells (y * s.width + x) None) ≡ false → is_covered before x y ≡ false → ⊥
 not_blank s before x y d p q has bare =
     both_ways (is_covered before x y) bare (not-false _ (sym (painted_there s before x y d p q) ∙ has))
@@ -102,7 +102,7 @@ place_before w u v x y in_row h = elim (or_cases (nat_lt v y) ((v == y) && nat_l
 ]
 
 -- where no place is blank, each pixel of the box is painted
-no_blank_place : (s : Sheet) (before : List Event) → IsDrawn s before → position_from is_none 0 s.cells ≡ None
+no_blank_place : (s : Grid) (before : List Event) → IsDrawn s before → position_from is_none 0 s.cells ≡ None
     → (x y : ℕ) → StaysBlank before (box_of s) x y → ⊥
 no_blank_place s before d none x y blank =
     let at = in_box_place (box_of s) x y blank.inside in
@@ -110,7 +110,7 @@ no_blank_place s before d none x y blank =
     (none_passes is_none 0 s.cells None none (y * s.width + x) (omega (arith, at.2, d.pixels))) blank.blank
 
 -- the first blank place is that of the first point of the box that no event paints
-blank_place : (s : Sheet) (before : List Event) (i : ℕ) → IsDrawn s before → position_from is_none 0 s.cells ≡ Some i
+blank_place : (s : Grid) (before : List Event) (i : ℕ) → IsDrawn s before → position_from is_none 0 s.cells ≡ Some i
     → (i % s.width < s.width) × (i / s.width < s.height)
     × IsFirstPoint (StaysBlank before (box_of s)) (i % s.width) (i / s.width)
 blank_place s before i d found =
@@ -138,7 +138,7 @@ small n h = let le : n ≤ most_side = leb-true n most_side
     (and_parts (nat_le 1 n) (nat_le n most_side) h).1 in omega arith
 
 -- the first blank pixel is the first point of the box that no event paints, if there is any
-pub first_blank_drawn : (s : Sheet) (before : List Event) → IsDrawn s before
+pub first_blank_drawn : (s : Grid) (before : List Event) → IsDrawn s before
     → IsFirstIfAny (StaysBlank before (box_of s)) (first_blank s)
 unfolding first_blank
 first_blank_drawn s before d = of_place (position_from is_none 0 s.cells) refl
@@ -156,14 +156,14 @@ first_blank_drawn s before d = of_place (position_from is_none 0 s.cells) refl
         let y_is : i / s.width ≡ capped (i / s.width) = omega arith in
         (i % s.width, i / s.width, found.2, ap₂ (λ (x y : ℕ). Some (x, y)) x_is y_is)
 
--- ---- the registers of a sheet without a blank pixel
+-- ---- the registers of a grid without a blank pixel
 
-pub length_drawn : (s : Sheet) (before : List Event) (xs : List ℕ) → IsDrawn s before → map (λ r. Some r) xs ≡ s.cells
+pub length_drawn : (s : Grid) (before : List Event) (xs : List ℕ) → IsDrawn s before → map (λ r. Some r) xs ≡ s.cells
     → length xs ≡ s.width * s.height
 length_drawn s before xs d e = sym (length-map xs (λ r. Some r)) ∙ ap length e ∙ d.pixels
 
 -- each is the one in which its pixel was painted last
-pub register_there : (s : Sheet) (before : List Event) (xs : List ℕ) (i : ℕ) → IsDrawn s before
+pub register_there : (s : Grid) (before : List Event) (xs : List ℕ) (i : ℕ) → IsDrawn s before
     → map (λ r. Some r) xs ≡ s.cells → i < length xs
     → register_at before (i % s.width) (i / s.width) ≡ Some (get_or xs i 0)
 register_there s before xs i d e lt =
@@ -175,7 +175,7 @@ register_there s before xs i d e lt =
     ∙ ap (λ (l : List (Option ℕ)). get_or l i None) (sym e)
     ∙ get_or-map (λ r. Some r) xs i 0 None lt
 
-registers_drawn : (s : Sheet) (before : List Event) (xs : List ℕ) → IsDrawn s before → map (λ r. Some r) xs ≡ s.cells
+registers_drawn : (s : Grid) (before : List Event) (xs : List ℕ) → IsDrawn s before → map (λ r. Some r) xs ≡ s.cells
     → xs ≡ row_by_row s.width s.height (λ x y. unwrap_or (register_at before x y) 0)
 registers_drawn s before xs d e =
     rows_from_index s.width s.height (λ x y. unwrap_or (register_at before x y) 0) xs 0 (length_drawn s before xs d e)
@@ -183,8 +183,8 @@ registers_drawn s before xs d e =
     ap (λ (o : Option ℕ). unwrap_or o 0)
     (sym (register_there s before xs i d e (omega (arith, length_drawn s before xs d e)))))
 
--- the picture that is left has the size of the sheet and these registers
-pub picture_drawn : (registers : ℕ) (s : Sheet) (before : List Event) (xs : List ℕ) → IsDrawn s before
+-- the picture that is left has the size of the grid and these registers
+pub picture_drawn : (registers : ℕ) (s : Grid) (before : List Event) (xs : List ℕ) → IsDrawn s before
     → map Some xs ≡ s.cells
     → picture_left registers before ≡ picture_of_parts s.width s.height (palette_left registers before) xs
 unfolding picture_left

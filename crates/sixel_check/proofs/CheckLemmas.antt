@@ -38,11 +38,11 @@ read_grows registers (Some bytes) r is = λ e. absurd (other (sym is ∙ e))
 -- ---- the end of the bytes
 
 -- what holds of the bytes before a piece of none holds of all
-pub told_all : (a b c : Option (List ℕ)) (front piece : List ℕ) (n : ℕ) (P : List ℕ → Type 0) → Consumes a b front
-    → Consumes b c (take n piece) → n ≡ 0 → IsAtEnd c → P front → IfSome a P
-told_all a b c front piece n P before none zero end p =
-    all_read a c (front ++ take n piece) P (consumes-then a b c front (take n piece) before none) end
-    (subst P (sym (ap (λ (t : List ℕ). front ++ t) (take_none n piece zero) ∙ append-nil front)) p)
+pub told_all : (a b c : Option (List ℕ)) (prefix piece : List ℕ) (n : ℕ) (P : List ℕ → Type 0) → Consumes a b prefix
+    → Consumes b c (take n piece) → n ≡ 0 → IsAtEnd c → P prefix → IfSome a P
+told_all a b c prefix piece n P before none zero end p =
+    all_read a c (prefix ++ take n piece) P (consumes-then a b c prefix (take n piece) before none) end
+    (subst P (sym (ap (λ (t : List ℕ). prefix ++ t) (take_none n piece zero) ∙ append-nil prefix)) p)
 
 pub end_counts : (old mid new : ℕ) (r : Result Verdict InputFault) → r ≢ Err Read → new ≡ mid → mid ≡ old
     → new ≡ failures_after r old

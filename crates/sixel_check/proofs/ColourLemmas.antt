@@ -19,7 +19,7 @@ use Rattle.sixel_model.proofs.RuleLemmas.{Keeps, keeps_at}
 use Rattle.sixel_model.specs.RuleNumbers.{uncovered_rule}
 use Rattle.sixel_terminal.specs.Displays.{Display, registers_of}
 use Rattle.sixel_terminal.specs.Drawing.{defined_on, given_on, map_on}
-use Rattle.sixel_check.proofs.NoteLemmas.{given}
+use Rattle.sixel_check.proofs.DrawingStateLemmas.{given}
 
 -- the register that the event names is below n, and its definition gives a colour in range
 pub record IsSound (n : ℕ) (e : Event) : Type 0 where

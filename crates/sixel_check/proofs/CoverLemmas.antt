@@ -54,18 +54,18 @@ filled_first n events i j d e none lt at_i is_data at_j =
 
 -- the events before the finish
 record EndsIn (events : List Event) : Type 0 where
-  pub front : List Event
+  pub prefix : List Event
   pub eight : Bool
-  pub is : events ≡ front ++ Finish eight ∷ []
+  pub is : events ≡ prefix ++ Finish eight ∷ []
 
 ends_longer : (e : Event) (more : List Event) → EndsIn more → EndsIn (e ∷ more)
 ends_longer e more rest =
-    record { front = e ∷ rest.front; eight = rest.eight; is = ap (λ (es : List Event). e ∷ es) rest.is }
+    record { prefix = e ∷ rest.prefix; eight = rest.eight; is = ap (λ (es : List Event). e ∷ es) rest.is }
 
 rest_ends : (events : List Event) → AreRest events → EndsIn events
 rest_ends (Step command ∷ more) h = ends_longer (Step command) more (rest_ends more h)
 rest_ends (Finish eight ∷ more) h =
-    record { front = []; eight = eight; is = ap (λ (es : List Event). Finish eight ∷ es) h }
+    record { prefix = []; eight = eight; is = ap (λ (es : List Event). Finish eight ∷ es) h }
 rest_ends _ h = absurd h
 
 whole_ends : (events : List Event) → AreWhole events → EndsIn events
@@ -99,8 +99,8 @@ covered_whole n before eight a x y none box inside =
 pub all_covered : (n : ℕ) → AllCovered n
 all_covered n events a x y whole none box inside =
     let e : EndsIn events = whole_ends events whole in
-    let is : events ≡ e.front ++ Finish e.eight ∷ [] = e.is in
-    rw is (covered_whole n e.front e.eight a x y (rw is at none) (rw is at box) inside)
+    let is : events ≡ e.prefix ++ Finish e.eight ∷ [] = e.is in
+    rw is (covered_whole n e.prefix e.eight a x y (rw is at none) (rw is at box) inside)
 
 box_at_end : (n : ℕ) (before : List Event) (eight : Bool) → BreaksNone n uncovered_rule (before ++ Finish eight ∷ [])
     → IsSome (raster_before (before ++ Finish eight ∷ []))
@@ -115,8 +115,8 @@ pub box_there : (n : ℕ) (events : List Event) → AreWhole events → BreaksNo
     → IsSome (raster_before events)
 box_there n events whole none =
     let e : EndsIn events = whole_ends events whole in
-    let is : events ≡ e.front ++ Finish e.eight ∷ [] = e.is in
-    rw is (box_at_end n e.front e.eight (rw is at none))
+    let is : events ≡ e.prefix ++ Finish e.eight ∷ [] = e.is in
+    rw is (box_at_end n e.prefix e.eight (rw is at none))
 
 pub has_box : (n : ℕ) (events : List Event) → AreWhole events → BreaksNone n uncovered_rule events
     → raster_before events ≡ None → ⊥

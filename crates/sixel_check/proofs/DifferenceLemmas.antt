@@ -41,13 +41,13 @@ use Rattle.sixel_check.specs.declared.rule.Rule.TheVariants.{Outside, Uncovered,
 use Rattle.sixel_check.specs.declared.verdict.Finding.{Finding}
 use Rattle.sixel_check.specs.declared.verdict.Verdict.{Verdict}
 use Rattle.sixel_check.specs.declared.verdict.Verdict.TheVariants.{Portable, Broken}
-use Rattle.sixel_check.specs.Alarms.{IsCutOffByClipping, IsTrueAlarm, IsNoFalseAlarm, IsUnseenWithoutEightBits}
+use Rattle.sixel_check.specs.Alarms.{IsPaintedUnlessClipped, IsTrueAlarm, IsNoFalseAlarm, IsUnseenWithoutEightBits}
 use Rattle.sixel_check.specs.Alarms.{StaysOnEach}
 use Rattle.sixel_check.specs.Verdicts.{IsFinding, IsVerdict, IsPixel, capped, number_of, greatest}
 use Rattle.sixel_check.proofs.AlarmLemmas.{below_first, finish_last, not_there, plain_up_to, same_up_to, taken_get}
 use Rattle.sixel_check.proofs.AlarmLemmas.{taken_there, taken_twice}
 use Rattle.sixel_check.proofs.CoverLemmas.{box_later, box_there}
-use Rattle.sixel_check.proofs.NoteLemmas.{or_each}
+use Rattle.sixel_check.proofs.DrawingStateLemmas.{or_each}
 use Rattle.sixel_check.proofs.OptionLemmas.{same_value, some_from, some_value}
 use Rattle.sixel_check.proofs.ShownLemmas.{shows_left, size_left}
 use Rattle.sixel_check.proofs.WithinLemmas.{if_seen, touches_data}
@@ -104,10 +104,10 @@ covered_by : (i j : ℕ) (events : List Event) (e : Event) (x y : ℕ) → j < i
 unfolding is_covered any_at
 covered_by i j events e x y lt here fell =
     let there : slice_get (take i events) j ≡ Some e = taken_get i j events lt ∙ here in
-    let front : take j (take i events) ≡ take j events = taken_twice j i events (omega (arith, lt)) in
+    let prefix : take j (take i events) ≡ take j events = taken_twice j i events (omega (arith, lt)) in
     any_below_at (length (take i events)) j (passes_at (λ earlier d. falls earlier d x y) (take i events))
     (slice_get_within (take i events) j e there)
-    (passes_there (λ earlier d. falls earlier d x y) (take i events) j e there ∙ rw front fell)
+    (passes_there (λ earlier d. falls earlier d x y) (take i events) j e there ∙ rw prefix fell)
 
 -- no event paints a pixel that stays uncovered, on a terminal that keeps its ground
 none_painted : (registers i j x y : ℕ) (t : Display) (events : List Event) (e d : Event) (a : Attributes)
@@ -210,7 +210,7 @@ none_outside registers i j x y t events d a f box out clips there touch =
 pub cut_off_by_some : (registers i x y : ℕ) (events : List Event) (e : Event) (a : Attributes)
     → IsFirstBroken registers events outside_rule i → slice_get events i ≡ Some e
     → raster_before (take i events) ≡ Some a → FallsOutside (take i events) e a x y
-    → IsCutOffByClipping registers events i x y
+    → IsPaintedUnlessClipped registers events i x y
 unfolding IsPainted
 cut_off_by_some registers i x y events e a f here box out = record {
   painted = λ t class clips eight. record {
@@ -288,10 +288,10 @@ sides_if : (o : Option Attributes) → option_map_or (λ a. not (has_sides a)) o
 sides_if None h = tt
 sides_if (Some a) h = not-false _ h
 
-front_sides : {registers n i : ℕ} {events : List Event} (k : ℕ) (a : Attributes) → IsFirstBroken registers events n i
+prefix_sides : {registers n i : ℕ} {events : List Event} (k : ℕ) (a : Attributes) → IsFirstBroken registers events n i
     → box_size_rule < n → k ≤ suc i → raster_before (take k events) ≡ Some a → has_sides a ≡ true
 unfolding Breaks breaks_box_size raster_before
-front_sides {registers} {n} {i} {events} k a f lt le box =
+prefix_sides {registers} {n} {i} {events} k a f lt le box =
     rw box at (earliest_each raster_of (λ a. has_sides a ≡ true) (take k events)
     (each_from_positions (λ e. IfSome (raster_of e) (λ a. has_sides a ≡ true)) (take k events)
     (λ j e here. let at = taken_there k j events e here in
@@ -300,14 +300,14 @@ front_sides {registers} {n} {i} {events} k a f lt le box =
 
 pub box_sides : {registers n i : ℕ} {events : List Event} (a : Attributes) → IsFirstBroken registers events n i
     → box_size_rule < n → raster_before (take i events) ≡ Some a → has_sides a ≡ true
-box_sides {i = i} a f lt box = front_sides i a f lt (omega arith) box
+box_sides {i = i} a f lt box = prefix_sides i a f lt (omega arith) box
 
 -- the box of a list whose last event breaks the last rule
-pub box_of_front : (registers i : ℕ) (events : List Event) (a : Attributes)
+pub box_of_prefix : (registers i : ℕ) (events : List Event) (a : Attributes)
     → IsFirstBroken registers events eight_bit_rule i → length events ≡ suc i → raster_before events ≡ Some a
     → has_sides a ≡ true
-box_of_front registers i events a f last box =
-    front_sides (suc i) a f (lit≤ tt) (omega arith) (rw (sym last) (rw (take-length events) box))
+box_of_prefix registers i events a f last box =
+    prefix_sides (suc i) a f (lit≤ tt) (omega arith) (rw (sym last) (rw (take-length events) box))
 
 -- a coordinate inside a box of such sides is far below the greatest
 small : (x w : ℕ) → nat_lt x w ≡ true → is_side w ≡ true → capped x ≡ x

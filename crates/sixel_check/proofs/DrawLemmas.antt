@@ -15,17 +15,17 @@ use Rattle.sixel_model.specs.Pictures.{is_side, most_side}
 use Rattle.sixel_model.specs.Geometry.{band, column, falls, touches}
 use Rattle.sixel_model.specs.Rules.{BreaksOutside, breaks_box_size, breaks_raster_first, breaks_ratio}
 use Rattle.sixel_model.specs.Rules.{breaks_repeat_zero, breaks_unselected, definition_of, known, register_at}
-use Rattle.sixel_model.specs.Sheets.{Sheet, blank_sheet, painted_sheet}
+use Rattle.sixel_model.specs.Grids.{Grid, blank_grid, painted_grid}
 use Rattle.sixel_model.proofs.CoverLemmas.{idle_falls}
 use Rattle.sixel_model.proofs.StepLemmas.{definition_push, register_push}
-use Rattle.sixel_check.specs.declared.notes.Notes.{Notes}
-use Rattle.sixel_check.specs.Breaches.{BreaksNoRule}
-use Rattle.sixel_check.specs.Judging.{AreColoured, AreNotesAfter, IsDrawn, IsUndrawn}
+use Rattle.sixel_check.specs.declared.drawing_state.DrawingState.{DrawingState}
+use Rattle.sixel_check.specs.Violations.{BreaksNoRule}
+use Rattle.sixel_check.specs.Judging.{AreColoured, IsStateAfter, IsDrawn, IsUndrawn}
 use Rattle.sixel_check.specs.Outside.{PaintsOutside}
-use Rattle.sixel_check.specs.Notes.{known_in}
+use Rattle.sixel_check.specs.DrawingState.{known_in}
 use Rattle.sixel_check.proofs.BlankLemmas.{small}
 use Rattle.sixel_check.proofs.DrawnLemmas.{drawn_first, drawn_idle, undrawn_push}
-use Rattle.sixel_check.proofs.NoteLemmas.{keeps, known_below, known_is}
+use Rattle.sixel_check.proofs.DrawingStateLemmas.{keeps, known_below, known_is}
 use Rattle.sixel_check.proofs.RunLemmas.{RunFits, run_fits, drawn_capped}
 use Rattle.sixel_check.proofs.SteadyLemmas.{defined_there}
 
@@ -44,16 +44,16 @@ few_bits (Step (Sixel bits)) h = h
 few_bits (Step (Repeat count bits)) h = h
 few_bits _ h = omega arith
 
--- nothing falls outside the box of a sheet
-inside_alone : (s : Sheet) (before : List Event) (e : Event) → IsDrawn s before → ¬ BreaksOutside before e
+-- nothing falls outside the box of a grid
+inside_alone : (s : Grid) (before : List Event) (e : Event) → IsDrawn s before → ¬ BreaksOutside before e
     → (x y : ℕ) → PaintsOutside (column 0 before) (columns_of 0 e) (band before) (bits_of e) s.width s.height x y → ⊥
 unfolding BreaksOutside falls touches
 inside_alone s before e d none x y p =
     none (rw d.box (x, y, record { painted = p.painted; outside = p.outside }))
 
 -- the plane takes the run
-pub run_fits_in : {registers : ℕ} (n : Notes) (s : Sheet) (before : List Event) (e : Event)
-    → AreNotesAfter registers n before → IsDrawn s before → BreaksNoRule registers before e → IsSpellable e
+pub run_fits_in : {registers : ℕ} (n : DrawingState) (s : Grid) (before : List Event) (e : Event)
+    → IsStateAfter registers n before → IsDrawn s before → BreaksNoRule registers before e → IsSpellable e
     → is_painting e ≡ true → RunFits n.column n.band (columns_of 0 e) (bits_of e) s.width s.height
 run_fits_in n s before e a d none spellable paints =
     let k = keeps before e none in
@@ -68,22 +68,22 @@ run_fits_in n s before e a d none spellable paints =
     let band_same : n.band ≡ band before = a.band_is ∙ omega arith in
     rw (column_same, band_same) real
 
--- the sheet with the run of a painting command
-pub drawn_paint : {registers : ℕ} (n : Notes) (s : Sheet) (before : List Event) (e : Event) (r : ℕ)
-    → AreNotesAfter registers n before → IsDrawn s before → BreaksNoRule registers before e → IsSpellable e
+-- the grid with the run of a painting command
+pub drawn_paint : {registers : ℕ} (n : DrawingState) (s : Grid) (before : List Event) (e : Event) (r : ℕ)
+    → IsStateAfter registers n before → IsDrawn s before → BreaksNoRule registers before e → IsSpellable e
     → is_painting e ≡ true → known_in n ≡ Some r
-    → IsDrawn (painted_sheet s n.column n.band (columns_of 0 e) (bits_of e) r) (before ++ e ∷ [])
+    → IsDrawn (painted_grid s n.column n.band (columns_of 0 e) (bits_of e) r) (before ++ e ∷ [])
 drawn_paint n s before e r a d none spellable paints is =
     drawn_capped s before e r n.column n.band (sym (known_is n before a) ∙ is) a.column_is a.band_is
     (run_fits_in n s before e a d none spellable paints) d
 
 -- and without one
-pub drawn_still : (s : Sheet) (before : List Event) (e : Event) → is_painting e ≡ false → IsDrawn s before
+pub drawn_still : (s : Grid) (before : List Event) (e : Event) → is_painting e ≡ false → IsDrawn s before
     → IsDrawn s (before ++ e ∷ [])
 drawn_still s before e still d = drawn_idle s before e (eqb-true _ _ (not-false _ still)) d
 
 -- a painting command has a known register
-pub knows : {registers : ℕ} (n : Notes) (before : List Event) (e : Event) → AreNotesAfter registers n before
+pub knows : {registers : ℕ} (n : DrawingState) (before : List Event) (e : Event) → IsStateAfter registers n before
     → BreaksNoRule registers before e → is_painting e ≡ true → known_in n ≡ None → ⊥
 unfolding breaks_unselected
 knows n before e a none paints is =
@@ -140,7 +140,7 @@ sides_good registers before e w h none is = let good = good_raster _ before e w 
 
 -- the first box
 pub drawn_box : (registers : ℕ) (before : List Event) (e : Event) (w h : ℕ) → BreaksNoRule registers before e
-    → sides (raster_of e) ≡ Some (w, h) → IsUndrawn before → IsDrawn (blank_sheet w h) (before ++ e ∷ [])
+    → sides (raster_of e) ≡ Some (w, h) → IsUndrawn before → IsDrawn (blank_grid w h) (before ++ e ∷ [])
 drawn_box registers before e w h none is u =
     let good = good_raster _ before e w h none is in drawn_first before e w h good.0 good.1 good.2 u
 
@@ -155,8 +155,8 @@ pub falls_paints : (before : List Event) (e : Event) (x y : ℕ) → falls befor
 falls_paints before e x y h = not_from_false _ (false_from_ne_true (bits_of e % 64 == 0) (λ is.
     let no : true ≡ false = sym h ∙ idle_falls before e x y (eqb-true (bits_of e % 64) 0 is) in cc))
 
-coloured_there : {registers : ℕ} (n : Notes) (before : List Event) (e : Event) (x y r : ℕ)
-    → AreNotesAfter registers n before → BreaksNoRule registers before e → AreColoured registers before → (b : Bool)
+coloured_there : {registers : ℕ} (n : DrawingState) (before : List Event) (e : Event) (x y r : ℕ)
+    → IsStateAfter registers n before → BreaksNoRule registers before e → AreColoured registers before → (b : Bool)
     → falls before e x y ≡ b → (if b then known before else register_at before x y) ≡ Some r
     → (r < registers) × IsSome (definition_of before r)
 coloured_there {registers} n before e x y r a none c true f is =
@@ -165,7 +165,8 @@ coloured_there {registers} n before e x y r a none c true f is =
     (rw (known_is n before a, is) at low, defined_there registers r before e (keeps before e none) paints is)
 coloured_there {registers} n before e x y r a none c false f is = c x y r is
 
-pub coloured_push : {registers : ℕ} (n : Notes) (before : List Event) (e : Event) → AreNotesAfter registers n before
+pub coloured_push : {registers : ℕ} (n : DrawingState) (before : List Event) (e : Event)
+    → IsStateAfter registers n before
     → BreaksNoRule registers before e → AreColoured registers before → AreColoured registers (before ++ e ∷ [])
 coloured_push n before e a none c x y r is =
     let there =

@@ -1,4 +1,4 @@
--- How a sheet follows the events.
+-- How a grid follows the events.
 use Rattle.std.proofs.Common.{◌≡◌, ℕ, ◌%◌, ◌<◌, Bool, true, false, ◌||◌, Option, Some, None, List, [], ◌∷◌, ◌++◌, refl}
 use Rattle.std.proofs.Common.{sym, ap, ap₂, ◌∙◌}
 use Rattle.std.specs.Prelude.{IsTrue, is_some, if◌then◌else◌}
@@ -11,9 +11,9 @@ use Rattle.sixel_model.specs.Geometry.{band, column, covers, falls, touches}
 use Rattle.sixel_model.specs.Pictures.{is_side}
 use Rattle.sixel_model.specs.Positions.{any_at, any_below, earliest, last_at, last_below}
 use Rattle.sixel_model.specs.Rules.{is_covered, known, raster_before, register_at}
-use Rattle.sixel_model.specs.Sheets.{Sheet, blank_sheet, cell, painted_sheet}
+use Rattle.sixel_model.specs.Grids.{Grid, blank_grid, cell, painted_grid}
 use Rattle.sixel_model.proofs.CoverLemmas.{idle_covered, idle_register}
-use Rattle.sixel_model.proofs.SheetLemmas.{cell-blank_sheet, cell-painted_sheet, length_rows}
+use Rattle.sixel_model.proofs.GridLemmas.{cell-blank_grid, cell-painted_grid, length_rows}
 use Rattle.sixel_model.proofs.StepLemmas.{covered_push, raster_push, register_push}
 use Rattle.sixel_check.specs.Judging.{IsDrawn, IsUndrawn}
 
@@ -53,11 +53,11 @@ undrawn_push before e none no_data u =
 -- the first raster attributes
 pub drawn_first : (before : List Event) (e : Event) (w h : ℕ)
     → raster_of e ≡ Some (record { pan = 1; pad = 1; width = w; height = h }) → IsTrue (is_side w) → IsTrue (is_side h)
-    → IsUndrawn before → IsDrawn (blank_sheet w h) (before ++ e ∷ [])
-unfolding blank_sheet
+    → IsUndrawn before → IsDrawn (blank_grid w h) (before ++ e ∷ [])
+unfolding blank_grid
 drawn_first before e w h is width height u =
     let idle : bits_of e % 64 ≡ 0 = ap (λ (n : ℕ). n % 64) (raster_bits e _ is) in
-    let bare : (x y : ℕ) → x < w → y < h → cell (blank_sheet w h) x y ≡ None = cell-blank_sheet w h in
+    let bare : (x y : ℕ) → x < w → y < h → cell (blank_grid w h) x y ≡ None = cell-blank_grid w h in
     record {
       box = raster_push before e ∙ ap₂ option_or u.no_box is;
       width = width;
@@ -72,8 +72,8 @@ box_stays : (before : List Event) (e : Event) (a : Attributes) → raster_before
     → raster_before (before ++ e ∷ []) ≡ Some a
 box_stays before e a is = raster_push before e ∙ ap (λ (o : Option Attributes). option_or o (raster_of e)) is
 
--- an event without a set bit of the six leaves the sheet as it is
-pub drawn_idle : (s : Sheet) (before : List Event) (e : Event) → bits_of e % 64 ≡ 0 → IsDrawn s before
+-- an event without a set bit of the six leaves the grid as it is
+pub drawn_idle : (s : Grid) (before : List Event) (e : Event) → bits_of e % 64 ≡ 0 → IsDrawn s before
     → IsDrawn s (before ++ e ∷ [])
 drawn_idle s before e idle d = record {
   box = box_stays before e _ d.box;
@@ -85,13 +85,13 @@ drawn_idle s before e idle d = record {
 }
 
 -- the pixel after a command that paints in register r
-painted_register : (s : Sheet) (before : List Event) (e : Event) (r x y : ℕ) → known before ≡ Some r → IsDrawn s before
+painted_register : (s : Grid) (before : List Event) (e : Event) (r x y : ℕ) → known before ≡ Some r → IsDrawn s before
     → x < s.width → y < s.height
-    → cell (painted_sheet s (column 0 before) (band before) (columns_of 0 e) (bits_of e) r) x y
+    → cell (painted_grid s (column 0 before) (band before) (columns_of 0 e) (bits_of e) r) x y
     ≡ register_at (before ++ e ∷ []) x y
 unfolding falls touches
 painted_register s before e r x y is d p q =
-    cell-painted_sheet s (column 0 before) (band before) (columns_of 0 e) (bits_of e) r x y p q
+    cell-painted_grid s (column 0 before) (band before) (columns_of 0 e) (bits_of e) r x y p q
     ∙ ap₂ (λ (o m : Option ℕ).
     if covers (column 0 before) (columns_of 0 e) (band before) 1 (bits_of e) x y then o else m)
     (sym is) (d.registers x y p q)
@@ -102,7 +102,7 @@ known_or : (b covered : Bool) (o q : Option ℕ) (r : ℕ) → q ≡ Some r → 
 known_or true covered o q r is has = rw is refl
 known_or false covered o q r is has = has
 
-register_covered : (s : Sheet) (before : List Event) (e : Event) (r x y : ℕ) → known before ≡ Some r → IsDrawn s before
+register_covered : (s : Grid) (before : List Event) (e : Event) (r x y : ℕ) → known before ≡ Some r → IsDrawn s before
     → x < s.width → y < s.height → is_some (register_at (before ++ e ∷ []) x y) ≡ is_covered (before ++ e ∷ []) x y
 register_covered s before e r x y is d p q =
     let had : is_some (register_at before x y) ≡ is_covered before x y =
@@ -111,9 +111,9 @@ register_covered s before e r x y is d p q =
     (known_or (falls before e x y) (is_covered before x y) (register_at before x y) (known before) r is had)
 
 -- a command that paints in the known register
-pub drawn_run : (s : Sheet) (before : List Event) (e : Event) (r : ℕ) → known before ≡ Some r → IsDrawn s before
-    → IsDrawn (painted_sheet s (column 0 before) (band before) (columns_of 0 e) (bits_of e) r) (before ++ e ∷ [])
-unfolding painted_sheet
+pub drawn_run : (s : Grid) (before : List Event) (e : Event) (r : ℕ) → known before ≡ Some r → IsDrawn s before
+    → IsDrawn (painted_grid s (column 0 before) (band before) (columns_of 0 e) (bits_of e) r) (before ++ e ∷ [])
+unfolding painted_grid
 drawn_run s before e r is d = record {
   box = box_stays before e _ d.box;
   width = d.width;

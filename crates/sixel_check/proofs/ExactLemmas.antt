@@ -100,8 +100,8 @@ band_bound before = count_by-le-length is_next_line before
 
 -- ---- the coordinates
 
-front_short : {X : Type 0} (i : ℕ) (xs : List X) → length (take i xs) ≤ length xs
-front_short i xs = let count = length-take i xs in omega (arith, count)
+prefix_short : {X : Type 0} (i : ℕ) (xs : List X) → length (take i xs) ≤ length xs
+prefix_short i xs = let count = length-take i xs in omega (arith, count)
 
 document_narrow : (placed : List Placed) (bytes : List ℕ) (d : Document placed bytes)
     → AllByRecursion (λ e. columns_of 0 e ≤ 65535) (events_of placed)
@@ -126,7 +126,7 @@ near events i e x y each few here fell =
     let columns = column_bound (take i events) (each_before (λ e. columns_of 0 e ≤ 65535) i events each) in
     let own : columns_of 0 e ≤ 65535 = each_there (λ e. columns_of 0 e ≤ 65535) i events e each here in
     let bands = band_bound (take i events) in
-    let short = front_short i events in
+    let short = prefix_short i events in
     (omega (arith, left.0, columns, own, short, few), omega (arith, left.1, bands, short, few))
 
 not_above : (n m : ℕ) → n ≡ capped m → m < greatest → n < greatest

@@ -6,7 +6,7 @@ use Rattle.std.specs.Io.KnownBytes.{Consumes}
 use Rattle.std.specs.Option.{option_map, option_to_list}
 use Rattle.std.proofs.lemmas.List.{append-nil}
 use Rattle.sixel_grammar.specs.Document.{events_of}
-use Rattle.sixel_grammar.specs.Fronts.{CompleteIn}
+use Rattle.sixel_grammar.specs.Prefixes.{CompleteIn}
 use Rattle.sixel_grammar.specs.Standing as grammar
 use Rattle.sixel_grammar.specs.declared.command.Completed.{Completed}
 use Rattle.sixel_grammar.specs.declared.command.Event.{Event}
@@ -17,19 +17,19 @@ use Rattle.sixel_grammar.specs.declared.reader.Reader.{Reader}
 use Rattle.sixel_grammar.proofs.StandLemmas.{read_complete}
 use Rattle.sixel_grammar.proofs.UniqueLemmas.{complete_stays}
 use Rattle.sixel_model.specs.Events.{raster_of}
-use Rattle.sixel_model.specs.Sheets.{Sheet}
+use Rattle.sixel_model.specs.Grids.{Grid}
 use Rattle.sixel_model.proofs.PositionLemmas.{holds_before, holds_end, holds_within}
 use Rattle.sixel_model.proofs.RuleLemmas.{none_push}
 use Rattle.sixel_model.specs.RuleNumbers.{last_rule}
-use Rattle.sixel_check.specs.declared.notes.Notes.{Notes}
+use Rattle.sixel_check.specs.declared.drawing_state.DrawingState.{DrawingState}
 use Rattle.sixel_check.specs.declared.verdict.Verdict.{Verdict}
-use Rattle.sixel_check.specs.Breaches.{BreaksNoRule}
+use Rattle.sixel_check.specs.Violations.{BreaksNoRule}
 use Rattle.sixel_check.specs.Growth.{GrowsFor, MayGrow, MayGrowAmong, MayGrowIn}
-use Rattle.sixel_check.specs.Judging.{IsSheetAfter, IsUndrawn, StandsUnbroken}
+use Rattle.sixel_check.specs.Judging.{IsGridAfter, IsUndrawn, StandsUnbroken}
 use Rattle.sixel_check.specs.Checking.{AreAfter}
 use Rattle.sixel_check.specs.Standing.{CheckerValue, StandsAfter}
 use Rattle.sixel_check.proofs.JudgeLemmas.{events_push}
-use Rattle.sixel_check.proofs.NoteLemmas.{keeps, seven_bits}
+use Rattle.sixel_check.proofs.DrawingStateLemmas.{keeps, seven_bits}
 
 -- what a refusal says
 pub err_says : {A E : Type 0} (P : Type 0) (r : Result A E) → P → OnErr r P
@@ -38,17 +38,17 @@ err_says P (Err e) h = h
 
 -- ---- events
 
-no_box : (o : Option Sheet) (before : List Event) → o ≡ None → IsSheetAfter o before → IsUndrawn before
+no_box : (o : Option Grid) (before : List Event) → o ≡ None → IsGridAfter o before → IsUndrawn before
 no_box None before e h = h
 no_box (Some s) before e h = cc
 
--- raster attributes that break no rule, where there is no sheet yet
-pub judge_grows : {registers : ℕ} (notes : Notes) (sheet : Option Sheet) (before : List Event) (e : Event)
-    → sheet ≡ None → IsSome (raster_of e) → StandsUnbroken registers notes sheet before
+-- raster attributes that break no rule, where there is no grid yet
+pub judge_grows : {registers : ℕ} (state : DrawingState) (grid : Option Grid) (before : List Event) (e : Event)
+    → grid ≡ None → IsSome (raster_of e) → StandsUnbroken registers state grid before
     → BreaksNoRule registers before e → MayGrow registers before e
-judge_grows {registers} notes sheet before e is declares s none = record {
+judge_grows {registers} state grid before e is declares s none = record {
   declares = declares;
-  first = (no_box sheet before is s.sheet_is).no_box;
+  first = (no_box grid before is s.grid_is).no_box;
   unbroken = none_push registers last_rule before e s.unbroken (keeps before e none) (seven_bits _ before e none);
 }
 
@@ -89,17 +89,17 @@ grows_longer {registers} seen (Some p) g = grows_before seen p g
 
 -- ---- bytes
 
--- an event that is complete in a front is so in a longer one
-pub growth_stays : {registers : ℕ} (front rest : List ℕ) (first second : List Placed) → CompleteIn first front
-    → CompleteIn second (front ++ rest) → MayGrowAmong registers first → MayGrowAmong registers second
-growth_stays {registers} front rest first second c d g =
-    let stays : (more : List Placed) × (second ≡ first ++ more) = complete_stays front rest first second c d in
+-- an event that is complete in a prefix is so in a longer one
+pub growth_stays : {registers : ℕ} (prefix rest : List ℕ) (first second : List Placed) → CompleteIn first prefix
+    → CompleteIn second (prefix ++ rest) → MayGrowAmong registers first → MayGrowAmong registers second
+growth_stays {registers} prefix rest first second c d g =
+    let stays : (more : List Placed) × (second ≡ first ++ more) = complete_stays prefix rest first second c d in
     subst (MayGrowAmong registers) (sym stays.1) (grows_among first stays.0 g)
 
 grows_here : {registers : ℕ} (bytes : List ℕ) (events : List Placed) → CompleteIn events bytes
     → MayGrowAmong registers events → MayGrowIn registers bytes
 grows_here bytes events c g = record {
-  front = bytes;
+  prefix = bytes;
   rest = [];
   bytes_are = sym (append-nil bytes);
   events = events;
@@ -110,9 +110,9 @@ grows_here bytes events c g = record {
 grows_on : {registers : ℕ} (bytes more all : List ℕ) → all ≡ bytes ++ more → MayGrowIn registers bytes
     → MayGrowIn registers all
 grows_on bytes more all is g = record {
-  front = g.front;
+  prefix = g.prefix;
   rest = g.rest ++ more;
-  bytes_are = is ∙ ap (λ (t : List ℕ). t ++ more) g.bytes_are ∙ append_assoc g.front g.rest more;
+  bytes_are = is ∙ ap (λ (t : List ℕ). t ++ more) g.bytes_are ∙ append_assoc g.prefix g.rest more;
   events = g.events;
   complete = g.complete;
   grows = g.grows;
@@ -126,14 +126,15 @@ grows_for_on registers OutOfMemory bytes more all is g = grows_on bytes more all
 grows_for_on registers Read bytes more all is g = tt
 
 -- the byte that completes such raster attributes
-pub grows_byte : {registers : ℕ} (old new : Reader) (checker : CheckerValue) (c : Completed) (byte : ℕ) (front : List ℕ)
+pub grows_byte : {registers : ℕ} (old new : Reader) (checker : CheckerValue) (c : Completed) (byte : ℕ)
+    (prefix : List ℕ)
     → grammar.Takes old new byte (grammar.completions c)
     → ((seen : List Placed) → StandsAfter registers checker seen
     → MayGrowAmong registers (seen ++ grammar.completions c))
-    → AreAfter registers old checker front → MayGrowIn registers (front ++ byte ∷ [])
-grows_byte old new checker c byte front takes g a =
-    grows_here (front ++ byte ∷ []) (a.events ++ grammar.completions c)
-    (read_complete new (a.events ++ grammar.completions c) (front ++ byte ∷ []) (takes a.events front a.read))
+    → AreAfter registers old checker prefix → MayGrowIn registers (prefix ++ byte ∷ [])
+grows_byte old new checker c byte prefix takes g a =
+    grows_here (prefix ++ byte ∷ []) (a.events ++ grammar.completions c)
+    (read_complete new (a.events ++ grammar.completions c) (prefix ++ byte ∷ []) (takes a.events prefix a.read))
     (g a.events a.checked)
 
 -- ---- answers

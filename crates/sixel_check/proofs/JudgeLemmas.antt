@@ -8,19 +8,19 @@ use Rattle.sixel_grammar.specs.Document.{events_of}
 use Rattle.sixel_grammar.specs.declared.command.Placed.{Placed}
 use Rattle.sixel_model.specs.Positions.{last_at, last_below}
 use Rattle.sixel_model.specs.Rules.{register_at}
-use Rattle.sixel_model.specs.Sheets.{Sheet}
+use Rattle.sixel_model.specs.Grids.{Grid}
 use Rattle.sixel_model.proofs.PositionLemmas.{get_before, get_end, holds_before, holds_end, holds_within}
 use Rattle.sixel_model.proofs.RuleLemmas.{first_push, first_there, none_of_none, none_push}
 use Rattle.sixel_model.specs.RuleNumbers.{last_rule}
-use Rattle.sixel_check.specs.declared.breach.Breach.{Breach}
-use Rattle.sixel_check.specs.declared.notes.Notes.{Notes}
+use Rattle.sixel_check.specs.declared.violation.Violation.{Violation}
+use Rattle.sixel_check.specs.declared.drawing_state.DrawingState.{DrawingState}
 use Rattle.sixel_check.specs.declared.verdict.Finding.{Finding}
-use Rattle.sixel_check.specs.Breaches.{IsBreach, BreaksNoRule}
-use Rattle.sixel_check.specs.Judging.{AreNotesAfter, IsSheetAfter, JudgesAfter, StandsUnbroken}
+use Rattle.sixel_check.specs.Violations.{IsViolation, BreaksNoRule}
+use Rattle.sixel_check.specs.Judging.{IsStateAfter, IsGridAfter, JudgesAfter, StandsUnbroken}
 use Rattle.sixel_check.specs.Verdicts.{IsFinding, IsPixel, number_of}
 use Rattle.sixel_check.proofs.DrawLemmas.{coloured_push}
 use Rattle.sixel_check.proofs.DrawnLemmas.{undrawn_empty}
-use Rattle.sixel_check.proofs.NoteLemmas.{keeps, seven_bits}
+use Rattle.sixel_check.proofs.DrawingStateLemmas.{keeps, seven_bits}
 
 pub events_push : (seen : List Placed) (p : Placed) → events_of (seen ++ p ∷ []) ≡ events_of seen ++ p.event ∷ []
 events_push seen p = map-append (λ (q : Placed). q.event) seen (p ∷ [])
@@ -28,13 +28,13 @@ events_push seen p = map-append (λ (q : Placed). q.event) seen (p ∷ [])
 length_events : (seen : List Placed) → length (events_of seen) ≡ length seen
 length_events seen = length-map seen (λ (q : Placed). q.event)
 
-pub judge_start : {registers : ℕ} (notes : Notes) → AreNotesAfter registers notes []
-    → StandsUnbroken registers notes None []
+pub judge_start : {registers : ℕ} (state : DrawingState) → IsStateAfter registers state []
+    → StandsUnbroken registers state None []
 unfolding register_at last_at last_below
-judge_start {registers} notes a = record {
+judge_start {registers} state a = record {
   unbroken = none_of_none registers last_rule;
-  notes_are = a;
-  sheet_is = undrawn_empty;
+  state_is = a;
+  grid_is = undrawn_empty;
   coloured = λ x y r h. cc;
 }
 
@@ -57,55 +57,58 @@ judge_broken {registers} seen p f found =
     )
 
 -- the first finding
-pub judge_finds : {registers : ℕ} (notes : Notes) (sheet : Option Sheet) (seen : List Placed) (p : Placed) (b : Breach)
-    → StandsUnbroken registers notes sheet (events_of seen) → IsBreach registers (events_of seen) p.event b
+pub judge_finds : {registers : ℕ} (state : DrawingState) (grid : Option Grid) (seen : List Placed) (p : Placed)
+    (b : Violation)
+    → StandsUnbroken registers state grid (events_of seen) → IsViolation registers (events_of seen) p.event b
     → (i : ℕ) × IsFinding registers (seen ++ p ∷ []) (record { rule = b.rule; place = p.place; pixel = b.pixel }) i
-judge_finds {registers} notes sheet seen p b s breach = (
+judge_finds {registers} state grid seen p b s violation = (
   length (events_of seen),
   record {
     first = rw (events_push seen p)
-        (first_there registers (number_of b.rule) (events_of seen) p.event s.unbroken breach.broken
-        breach.none_smaller);
+        (first_there registers (number_of b.rule) (events_of seen) p.event s.unbroken violation.broken
+        violation.none_smaller);
     place =
         ap (λ (n : ℕ). option_map (λ (q : Placed). q.place) (slice_get (seen ++ p ∷ []) n)) (length_events seen)
         ∙ ap (option_map (λ (q : Placed). q.place)) (get_end seen p);
-    pixel = rw (events_push seen p) (holds_end (IsPixel b.rule b.pixel) (events_of seen) p.event breach.pixel);
+    pixel = rw (events_push seen p) (holds_end (IsPixel b.rule b.pixel) (events_of seen) p.event violation.pixel);
   },
 )
 
 -- no finding, and an event that breaks no rule
-pub judge_goes_on : {registers : ℕ} (notes next : Notes) (sheet drawn : Option Sheet) (seen : List Placed) (p : Placed)
-    → StandsUnbroken registers notes sheet (events_of seen) → BreaksNoRule registers (events_of seen) p.event
-    → AreNotesAfter registers next (events_of seen ++ p.event ∷ [])
-    → IsSheetAfter drawn (events_of seen ++ p.event ∷ [])
+pub judge_goes_on : {registers : ℕ} (state next : DrawingState) (grid drawn : Option Grid) (seen : List Placed)
+    (p : Placed)
+    → StandsUnbroken registers state grid (events_of seen) → BreaksNoRule registers (events_of seen) p.event
+    → IsStateAfter registers next (events_of seen ++ p.event ∷ [])
+    → IsGridAfter drawn (events_of seen ++ p.event ∷ [])
     → StandsUnbroken registers next drawn (events_of (seen ++ p ∷ []))
-judge_goes_on {registers} notes next sheet drawn seen p s none a d =
+judge_goes_on {registers} state next grid drawn seen p s none a d =
     subst (StandsUnbroken registers next drawn) (sym (events_push seen p))
     (record {
       unbroken =
           none_push registers last_rule (events_of seen) p.event s.unbroken (keeps (events_of seen) p.event none)
           (seven_bits _ (events_of seen) p.event none);
-      notes_are = a;
-      sheet_is = d;
-      coloured = coloured_push notes (events_of seen) p.event s.notes_are none s.coloured;
+      state_is = a;
+      grid_is = d;
+      coloured = coloured_push state (events_of seen) p.event s.state_is none s.coloured;
     })
 
 -- where there is a finding
-pub finding_stays : (registers : ℕ) (o : Option Finding) (notes : Notes) (sheet : Option Sheet) (seen : List Placed)
-    (p : Placed) → is_some o ≡ true → JudgesAfter registers o notes sheet seen
-    → JudgesAfter registers o notes sheet (seen ++ p ∷ [])
-finding_stays registers (Some f) notes sheet seen p e j = judge_broken seen p f j
-finding_stays registers None notes sheet seen p e j = cc
+pub finding_stays : (registers : ℕ) (o : Option Finding) (state : DrawingState) (grid : Option Grid)
+    (seen : List Placed)
+    (p : Placed) → is_some o ≡ true → JudgesAfter registers o state grid seen
+    → JudgesAfter registers o state grid (seen ++ p ∷ [])
+finding_stays registers (Some f) state grid seen p e j = judge_broken seen p f j
+finding_stays registers None state grid seen p e j = cc
 
 -- where there is none
-pub unbroken_of : {registers : ℕ} (o : Option Finding) (notes : Notes) (sheet : Option Sheet) (seen : List Placed)
-    → is_some o ≡ false → JudgesAfter registers o notes sheet seen
-    → StandsUnbroken registers notes sheet (events_of seen)
-unbroken_of (Some f) notes sheet seen e j = cc
-unbroken_of None notes sheet seen e j = j
+pub unbroken_of : {registers : ℕ} (o : Option Finding) (state : DrawingState) (grid : Option Grid) (seen : List Placed)
+    → is_some o ≡ false → JudgesAfter registers o state grid seen
+    → StandsUnbroken registers state grid (events_of seen)
+unbroken_of (Some f) state grid seen e j = cc
+unbroken_of None state grid seen e j = j
 
-pub judges_of : {registers : ℕ} (o : Option Finding) (notes : Notes) (sheet : Option Sheet) (seen : List Placed)
-    → is_some o ≡ false → StandsUnbroken registers notes sheet (events_of seen)
-    → JudgesAfter registers o notes sheet seen
-judges_of (Some f) notes sheet seen e s = cc
-judges_of None notes sheet seen e s = s
+pub judges_of : {registers : ℕ} (o : Option Finding) (state : DrawingState) (grid : Option Grid) (seen : List Placed)
+    → is_some o ≡ false → StandsUnbroken registers state grid (events_of seen)
+    → JudgesAfter registers o state grid seen
+judges_of (Some f) state grid seen e s = cc
+judges_of None state grid seen e s = s

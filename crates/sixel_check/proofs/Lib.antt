@@ -1,5 +1,5 @@
-pub mod NoteLemmas
-pub mod BreachLemmas
+pub mod DrawingStateLemmas
+pub mod ViolationLemmas
 pub mod OutsideLemmas
 pub mod DrawnLemmas
 pub mod BlankLemmas
@@ -23,7 +23,7 @@ pub mod WithinLemmas
 pub mod AlarmLemmas
 pub mod DifferenceLemmas
 pub mod PairLemmas
-pub mod PlainLemmas
+pub mod WitnessLemmas
 pub mod ExactLemmas
 pub mod ShownLemmas
 pub mod AnswerLemmas

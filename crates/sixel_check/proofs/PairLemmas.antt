@@ -6,12 +6,13 @@ use Rattle.sixel_grammar.specs.declared.command.Placed.{Placed}
 use Rattle.sixel_grammar.specs.Document.{events_of}
 use Rattle.sixel_model.specs.declared.colour.Parts.{Parts}
 use Rattle.sixel_model.specs.Rules.{raster_before}
-use Rattle.sixel_terminal.specs.Displays.{Display, HasRoom, IsInClass, clipping, hearing}
+use Rattle.sixel_terminal.specs.Displays.{Display, HasRoom, IsInClass, clipping, with_controls}
 use Rattle.sixel_terminal.proofs.ShownLemmas.{unpainted}
 use Rattle.sixel_check.specs.declared.rule.Rule.{Rule}
 use Rattle.sixel_check.specs.declared.rule.Rule.TheVariants.{Outside, Uncovered, EightBit}
 use Rattle.sixel_check.specs.declared.verdict.Finding.{Finding}
-use Rattle.sixel_check.specs.Alarms.{HasRoomFor, IsCutOffByClipping, IsTrueAlarm, IsUnseenWithoutEightBits, StaysOnEach}
+use Rattle.sixel_check.specs.Alarms.{HasRoomFor, IsPaintedUnlessClipped, IsTrueAlarm, IsUnseenWithoutEightBits}
+use Rattle.sixel_check.specs.Alarms.{StaysOnEach}
 use Rattle.sixel_check.specs.Differences.{EightBitDiffers, IsFound, OutsideDiffers, UncoveredDiffers}
 use Rattle.sixel_check.specs.Verdicts.{greatest}
 use Rattle.sixel_check.proofs.DifferenceLemmas.{found_truly}
@@ -43,8 +44,9 @@ clipping_class b t c = record {
   origin_y = c.origin_y;
 }
 
-hearing_class : {registers : ℕ} (b : Bool) (t : Display) → IsInClass registers t → IsInClass registers (hearing b t)
-hearing_class b t c = record {
+with_controls_class : {registers : ℕ} (b : Bool) (t : Display) → IsInClass registers t
+    → IsInClass registers (with_controls b t)
+with_controls_class b t c = record {
   enough = c.enough;
   selected = c.selected;
   ground = c.ground;
@@ -55,23 +57,23 @@ hearing_class b t c = record {
   origin_y = c.origin_y;
 }
 
-hearing_room : {w h : ℕ} (b : Bool) (t : Display) → HasRoom t w h → HasRoom (hearing b t) w h
-hearing_room b t r = record { across = r.across; down = r.down }
+with_controls_room : {w h : ℕ} (b : Bool) (t : Display) → HasRoom t w h → HasRoom (with_controls b t) w h
+with_controls_room b t r = record { across = r.across; down = r.down }
 
 room_each : {A : Type 0} (o : Option A) (P Q : A → Type 0) → ((a : A) → P a → Q a) → IsSomeAnd o P → IsSomeAnd o Q
 room_each None P Q h p = absurd p
 room_each (Some a) P Q h p = h a p
 
-hearing_has_room : {registers : ℕ} (b : Bool) (t : Display) (events : List Event) → HasRoomFor registers t events
-    → HasRoomFor registers (hearing b t) events
-hearing_has_room b t events r = record {
-  in_class = hearing_class b t r.in_class;
-  room = room_each (raster_before events) _ _ (λ a h. hearing_room b t h) r.room;
+with_controls_has_room : {registers : ℕ} (b : Bool) (t : Display) (events : List Event) → HasRoomFor registers t events
+    → HasRoomFor registers (with_controls b t) events
+with_controls_has_room b t events r = record {
+  in_class = with_controls_class b t r.in_class;
+  room = room_each (raster_before events) _ _ (λ a h. with_controls_room b t h) r.room;
 }
 
 pub outside_differs : (registers : ℕ) → OutsideDiffers registers
 outside_differs registers placed f i x y t is pixel low high class ground eight other same =
-    let cut : x < greatest → y < greatest → IsCutOffByClipping registers (events_of placed) i x y =
+    let cut : x < greatest → y < greatest → IsPaintedUnlessClipped registers (events_of placed) i x y =
     rw pixel at (promised registers placed Outside i f is) in
     let stays = unpainted (clipping true t) (events_of placed) _ _
     ((cut low high).cut_off (clipping true t) (clipping_class true t class) refl ground) in
@@ -80,7 +82,8 @@ outside_differs registers placed f i x y t is pixel low high class ground eight 
 pub eight_bit_differs : (registers : ℕ) → EightBitDiffers registers
 eight_bit_differs registers placed f i x y t is ends room p q other same =
     let seen : IsUnseenWithoutEightBits registers (events_of placed) i = promised registers placed EightBit i f is in
-    let stays = unpainted (hearing false t) (events_of placed) _ _
-    (seen.unpainted (hearing false t) _ _ (hearing_class false t room.in_class) refl) in
-    let shows = seen.shown ends (hearing true t) x y (hearing_has_room true t (events_of placed) room) refl p q in
+    let stays = unpainted (with_controls false t) (events_of placed) _ _
+    (seen.unpainted (with_controls false t) _ _ (with_controls_class false t room.in_class) refl) in
+    let shows = seen.shown ends (with_controls true t) x y (with_controls_has_room true t (events_of placed) room) refl
+    p q in
     other (shows ∙ ap (λ (c : Parts). Some c) (same ∙ stays))

@@ -7,50 +7,52 @@ use Rattle.sixel_grammar.specs.declared.command.Event.{Event}
 use Rattle.sixel_model.specs.Events.{is_eight_bit, is_finish}
 use Rattle.sixel_model.specs.Rules.{Breaks, BreaksOutside, BreaksUncovered, FallsOutside, StaysBlank}
 use Rattle.sixel_model.specs.Rules.{breaks_eight_bit, raster_before}
-use Rattle.sixel_model.specs.Sheets.{Sheet}
+use Rattle.sixel_model.specs.Grids.{Grid}
 use Rattle.sixel_model.specs.RuleNumbers.{outside_rule, uncovered_rule, eight_bit_rule}
-use Rattle.sixel_check.specs.declared.notes.Notes.{Notes}
+use Rattle.sixel_check.specs.declared.drawing_state.DrawingState.{DrawingState}
 use Rattle.sixel_check.specs.declared.rule.Rule.{Rule}
 use Rattle.sixel_check.specs.declared.rule.Rule.TheVariants.{Outside, Uncovered, EightBit}
-use Rattle.sixel_check.specs.Breaches.{IsBreach, BreaksNoRule, NoneBelow, rule_in}
-use Rattle.sixel_check.specs.Judging.{AreNotesAfter, IsDrawn, IsSheetAfter, box_of}
+use Rattle.sixel_check.specs.Violations.{IsViolation, BreaksNoRule, NoneBelow, rule_in}
+use Rattle.sixel_check.specs.Judging.{IsStateAfter, IsDrawn, IsGridAfter, box_of}
 use Rattle.sixel_check.specs.Outside.{IsFirstIfAny}
-use Rattle.sixel_check.proofs.BreachLemmas.{IsLeast, IsLeastOf, least_rule, none_more}
+use Rattle.sixel_check.proofs.ViolationLemmas.{IsLeast, IsLeastOf, least_rule, none_more}
 
--- a breach of a rule that looks at no pixel
-pub breach_plain : {registers : ℕ} (before : List Event) (e : Event) (rule : Rule) → IsLeast registers before e rule
-    → IsBreach registers before e (record { rule = rule; pixel = None })
-breach_plain before e rule l = record { broken = l.broken; none_smaller = l.none_smaller; pixel = l.no_pixel }
+-- a violation of a rule that looks at no pixel
+pub violation_without_pixel : {registers : ℕ} (before : List Event) (e : Event) (rule : Rule)
+    → IsLeast registers before e rule
+    → IsViolation registers before e (record { rule = rule; pixel = None })
+violation_without_pixel before e rule l = record
+    { broken = l.broken; none_smaller = l.none_smaller; pixel = l.no_pixel }
 
-pub breach_outside : {registers : ℕ} (before : List Event) (e : Event) (s : Sheet) (pixel : ℕ × ℕ) → IsDrawn s before
+pub violation_outside : {registers : ℕ} (before : List Event) (e : Event) (s : Grid) (pixel : ℕ × ℕ) → IsDrawn s before
     → NoneBelow registers outside_rule before e → IsFirstIfAny (FallsOutside before e (box_of s)) (Some pixel)
-    → IsBreach registers before e (record { rule = Outside; pixel = Some pixel })
+    → IsViolation registers before e (record { rule = Outside; pixel = Some pixel })
 unfolding Breaks BreaksOutside
-breach_outside before e s pixel d none first = record {
+violation_outside before e s pixel d none first = record {
   broken = rw d.box (first.0, first.1, (first.2).holds);
   none_smaller = none;
   pixel = rw d.box first;
 }
 
-pub none_outside : (registers : ℕ) (before : List Event) (e : Event) (s : Sheet) → IsDrawn s before
+pub none_outside : (registers : ℕ) (before : List Event) (e : Event) (s : Grid) → IsDrawn s before
     → NoneBelow registers outside_rule before e → IsFirstIfAny (FallsOutside before e (box_of s)) None
     → NoneBelow registers uncovered_rule before e
 unfolding Breaks BreaksOutside
 none_outside registers before e s d none first = none_more _ before e outside_rule none
     (λ broken. let point = rw d.box at broken in first point.0 point.1 point.2)
 
-pub breach_uncovered : {registers : ℕ} (before : List Event) (e : Event) (s : Sheet) (pixel : ℕ × ℕ)
+pub violation_uncovered : {registers : ℕ} (before : List Event) (e : Event) (s : Grid) (pixel : ℕ × ℕ)
     → is_finish e ≡ true → IsDrawn s before → NoneBelow registers uncovered_rule before e
     → IsFirstIfAny (StaysBlank before (box_of s)) (Some pixel)
-    → IsBreach registers before e (record { rule = Uncovered; pixel = Some pixel })
+    → IsViolation registers before e (record { rule = Uncovered; pixel = Some pixel })
 unfolding Breaks BreaksUncovered
-breach_uncovered before e s pixel end d none first = record {
+violation_uncovered before e s pixel end d none first = record {
   broken = (end, rw d.box (first.0, first.1, (first.2).holds));
   none_smaller = none;
   pixel = rw d.box first;
 }
 
-pub none_uncovered : (registers : ℕ) (before : List Event) (e : Event) (s : Sheet) → IsDrawn s before
+pub none_uncovered : (registers : ℕ) (before : List Event) (e : Event) (s : Grid) → IsDrawn s before
     → NoneBelow registers uncovered_rule before e
     → IsFirstIfAny (StaysBlank before (box_of s)) None → NoneBelow registers eight_bit_rule before e
 unfolding Breaks BreaksUncovered
@@ -72,11 +74,11 @@ none_without_box registers before e is none =
     none_more _ before e uncovered_rule (none_more _ before e outside_rule none (λ broken. rw is at broken))
     (λ broken. rw is at broken.1)
 
-pub breach_eight_bit : {registers : ℕ} (before : List Event) (e : Event) → is_eight_bit e ≡ true
+pub violation_eight_bit : {registers : ℕ} (before : List Event) (e : Event) → is_eight_bit e ≡ true
     → NoneBelow registers eight_bit_rule before e
-    → IsBreach registers before e (record { rule = EightBit; pixel = None })
+    → IsViolation registers before e (record { rule = EightBit; pixel = None })
 unfolding Breaks breaks_eight_bit
-breach_eight_bit before e eight none = record { broken = eight; none_smaller = none; pixel = refl }
+violation_eight_bit before e eight none = record { broken = eight; none_smaller = none; pixel = refl }
 
 pub none_eight_bit : (registers : ℕ) (before : List Event) (e : Event) → is_eight_bit e ≡ false
     → NoneBelow registers eight_bit_rule before e → BreaksNoRule registers before e
@@ -84,20 +86,21 @@ unfolding Breaks breaks_eight_bit
 none_eight_bit registers before e seven none = none_more _ before e eight_bit_rule none
     (λ broken. both_ways (is_eight_bit e) seven broken)
 
--- there is a sheet exactly where there is a box
-pub box_there : (sheet : Option Sheet) (before : List Event) → IsSheetAfter sheet before
-    → is_some sheet ≡ is_some (raster_before before)
+-- there is a grid exactly where there is a box
+pub box_there : (grid : Option Grid) (before : List Event) → IsGridAfter grid before
+    → is_some grid ≡ is_some (raster_before before)
 box_there None before u = ap is_some (sym u.no_box)
 box_there (Some s) before d = ap is_some (sym d.box)
 
-pub has_sheet : {P : Type 0} (f : P → Sheet) (o : Option P) → is_some o ≡ is_some (option_map f o)
-has_sheet f None = refl
-has_sheet f (Some p) = refl
+pub has_grid : {P : Type 0} (f : P → Grid) (o : Option P) → is_some o ≡ is_some (option_map f o)
+has_grid f None = refl
+has_grid f (Some p) = refl
 
 -- the rule that was found is the least of those that look at no pixel
-pub least_noted : {registers : ℕ} (n : Notes) (sheet : Option Sheet) (before : List Event) (e : Event) (has_box : Bool)
+pub least_by_state : {registers : ℕ} (n : DrawingState) (grid : Option Grid) (before : List Event) (e : Event)
+    (has_box : Bool)
     (o : Option Rule)
-    → has_box ≡ is_some sheet → o ≡ rule_in n has_box e → AreNotesAfter registers n before → IsSheetAfter sheet before
+    → has_box ≡ is_some grid → o ≡ rule_in n has_box e → IsStateAfter registers n before → IsGridAfter grid before
     → IsLeastOf registers before e o
-least_noted {registers} n sheet before e has_box o box is s d =
-    subst (IsLeastOf registers before e) (sym is) (least_rule n before e has_box (box ∙ box_there sheet before d) s)
+least_by_state {registers} n grid before e has_box o box is s d =
+    subst (IsLeastOf registers before e) (sym is) (least_rule n before e has_box (box ∙ box_there grid before d) s)

@@ -10,12 +10,12 @@ use Rattle.sixel_grammar.specs.declared.command.Command.{Command}
 use Rattle.sixel_grammar.specs.declared.command.Command.TheVariants.{Sixel}
 use Rattle.sixel_check.specs.Stretches.{MayStep}
 use Rattle.sixel_grammar.specs.Document.{AreRest, AreWhole, events_of}
-use Rattle.sixel_grammar.specs.Faults.{AreBegun, AreFront, AreSteps, IsFaultOf}
+use Rattle.sixel_grammar.specs.Faults.{AreBegun, ArePrefix, AreSteps, IsFaultOf}
 use Rattle.sixel_grammar.specs.FixedText.{CanWriteAll}
 use Rattle.sixel_grammar.specs.Reading.{Explains, ExplainsAlways, failures_after}
 use Rattle.sixel_grammar.specs.declared.fault.InputFault.{InputFault}
 use Rattle.sixel_grammar.specs.declared.fault.InputFault.TheVariants.{Grammar, OutOfMemory, Read}
-use Rattle.sixel_grammar.specs.Fronts.{CompleteIn}
+use Rattle.sixel_grammar.specs.Prefixes.{CompleteIn}
 use Rattle.sixel_grammar.specs.Spelling.{IsSpellable}
 use Rattle.sixel_grammar.specs.Standing as grammar
 use Rattle.sixel_grammar.specs.declared.command.Completed.{Completed}
@@ -25,20 +25,20 @@ use Rattle.sixel_grammar.specs.declared.command.Placed.{Placed}
 use Rattle.sixel_grammar.specs.declared.reader.Reader.{Reader}
 use Rattle.sixel_grammar.proofs.SourceLemmas.{take_past}
 use Rattle.sixel_grammar.proofs.StandLemmas.{read_complete}
-use Rattle.sixel_grammar.proofs.TotalLemmas.{complete_front}
+use Rattle.sixel_grammar.proofs.TotalLemmas.{complete_prefix}
 use Rattle.sixel_grammar.proofs.WritableLemmas.{events_can}
 use Rattle.sixel_check.specs.Checking.{AreAfter, MayCome, MayComplete}
 use Rattle.sixel_check.specs.Standing.{CheckerValue, StandsAfter, expects, is_start, is_whole}
 use Rattle.sixel_check.proofs.StandLemmas.{begun_goes_on, whole_events}
 
--- ---- an event of a front may come next
+-- ---- an event of a prefix may come next
 
 starts : (e : Event) (more : List Event) → AreBegun (e ∷ more) ⊎ AreWhole (e ∷ more) → is_start e ≡ true
 starts (Start eight parameters) more h = refl
 starts _ more h = elim h [ inl begun ↦ absurd begun | inr whole ↦ absurd whole ]
 
-some_front : (events : List Event) → (events ≡ [] → ⊥) → AreFront events → AreBegun events ⊎ AreWhole events
-some_front events some h = elim h [ inl none ↦ absurd (some none) | inr rest ↦ rest ]
+some_prefix : (events : List Event) → (events ≡ [] → ⊥) → ArePrefix events → AreBegun events ⊎ AreWhole events
+some_prefix events some h = elim h [ inl none ↦ absurd (some none) | inr rest ↦ rest ]
 
 step_next : (e : Event) (more : List Event) → AreSteps (e ∷ more) → is_start e ≡ false
 step_next (Step command) more h = refl
@@ -71,12 +71,12 @@ begun_split (Start eight parameters) xs e ys h =
     elim h [ inl begun ↦ steps_split xs e ys begun | inr whole ↦ rest_split xs e ys whole ]
 begun_split _ xs e ys h = elim h [ inl begun ↦ absurd begun | inr whole ↦ absurd whole ]
 
--- what follows in a front is expected
-expected_next : (seen : List Placed) (e : Event) (ys : List Event) → AreFront (events_of seen ++ e ∷ ys)
+-- what follows in a prefix is expected
+expected_next : (seen : List Placed) (e : Event) (ys : List Event) → ArePrefix (events_of seen ++ e ∷ ys)
     → IsTrue (expects seen e)
-expected_next [] e ys h = starts e ys (some_front (e ∷ ys) (λ n. cc) h)
+expected_next [] e ys h = starts e ys (some_prefix (e ∷ ys) (λ n. cc) h)
 expected_next (q ∷ qs) e ys h =
-    let parts = begun_split q.event (events_of qs) e ys (some_front (events_of (q ∷ qs) ++ e ∷ ys) (λ n. cc) h) in
+    let parts = begun_split q.event (events_of qs) e ys (some_prefix (events_of (q ∷ qs) ++ e ∷ ys) (λ n. cc) h) in
     let unended : is_whole (q ∷ qs) ≡ false =
     sym (whole_events (q ∷ qs)) ∙ begun_goes_on (events_of (q ∷ qs)) parts.0 in
     and_from (not (is_whole (q ∷ qs))) (not (is_start e)) (ap not unended) (ap not parts.1)
@@ -90,26 +90,26 @@ events_then : (seen : List Placed) (p : Placed) (rest : List Placed)
     → events_of (seen ++ p ∷ rest) ≡ events_of seen ++ p.event ∷ events_of rest
 events_then seen p rest = map-append (λ (q : Placed). q.event) seen (p ∷ rest)
 
-may_come : (seen : List Placed) (p : Placed) (rest : List Placed) → AreFront (events_of (seen ++ p ∷ rest))
+may_come : (seen : List Placed) (p : Placed) (rest : List Placed) → ArePrefix (events_of (seen ++ p ∷ rest))
     → CanWriteAll (seen ++ p ∷ rest) → MayCome seen (Some p)
-may_come seen p rest front can = (
-  expected_next seen p.event (events_of rest) (subst AreFront (events_then seen p rest) front),
+may_come seen p rest prefix can = (
+  expected_next seen p.event (events_of rest) (subst ArePrefix (events_then seen p rest) prefix),
   writable_there seen p rest can,
 )
 
 -- the events that a byte completes may come, in order
 may_complete : (seen : List Placed) (first second : Option Placed)
-    → AreFront (events_of (seen ++ (option_to_list first ++ option_to_list second)))
+    → ArePrefix (events_of (seen ++ (option_to_list first ++ option_to_list second)))
     → CanWriteAll (seen ++ (option_to_list first ++ option_to_list second))
     → MayCome seen first × MayCome (seen ++ option_to_list first) second
-may_complete seen None None front can = (tt, tt)
-may_complete seen None (Some q) front can =
-    (tt, subst (λ (l : List Placed). MayCome l (Some q)) (sym (append-nil seen)) (may_come seen q [] front can))
-may_complete seen (Some p) None front can = (may_come seen p [] front can, tt)
-may_complete seen (Some p) (Some q) front can = (
-  may_come seen p (q ∷ []) front can,
+may_complete seen None None prefix can = (tt, tt)
+may_complete seen None (Some q) prefix can =
+    (tt, subst (λ (l : List Placed). MayCome l (Some q)) (sym (append-nil seen)) (may_come seen q [] prefix can))
+may_complete seen (Some p) None prefix can = (may_come seen p [] prefix can, tt)
+may_complete seen (Some p) (Some q) prefix can = (
+  may_come seen p (q ∷ []) prefix can,
   may_come (seen ++ p ∷ []) q []
-      (subst (λ (l : List Placed). AreFront (events_of l)) (sym (append_assoc seen (p ∷ []) (q ∷ []))) front)
+      (subst (λ (l : List Placed). ArePrefix (events_of l)) (sym (append_assoc seen (p ∷ []) (q ∷ []))) prefix)
       (subst CanWriteAll (sym (append_assoc seen (p ∷ []) (q ∷ []))) can),
 )
 
@@ -119,7 +119,7 @@ pub read_may : (reader : Reader) (seen : List Placed) (c : Completed) (bytes : L
 read_may reader seen c bytes s =
     let complete : CompleteIn (seen ++ grammar.completions c) bytes =
     read_complete reader (seen ++ grammar.completions c) bytes s in
-    may_complete seen c.first c.second (complete_front (seen ++ grammar.completions c) bytes complete)
+    may_complete seen c.first c.second (complete_prefix (seen ++ grammar.completions c) bytes complete)
     (events_can (seen ++ grammar.completions c) bytes complete)
 
 any_step : (seen : List Placed) (c : Command) → IsTrue (expects seen (Step c)) → MayStep seen
@@ -134,7 +134,7 @@ stretch_may reader seen place bytes (b ∷ more) some s =
     let complete : CompleteIn (seen ++ sixels_from place (b ∷ more)) bytes = read_complete reader _ bytes s in
     let p : Placed = record { place = place; event = Step (Sixel (b - 63)) } in
     any_step seen (Sixel (b - 63)) (may_come seen p (sixels_from (place + 1) more)
-    (complete_front _ bytes complete) (events_can _ bytes complete)).0
+    (complete_prefix _ bytes complete) (events_can _ bytes complete)).0
 
 take_then : (k n : ℕ) (xs : List ℕ) → take (k + n) xs ≡ take k xs ++ take n (drop k xs)
 take_then k n xs =
@@ -149,30 +149,31 @@ rest_is : (k : ℕ) (xs : List ℕ) → rest_of k xs ≡ drop k xs
 rest_is k xs = take_past (length xs - k) (drop k xs) (omega (arith, length-drop k xs))
 
 -- parts of a piece
-pub part_then : (front xs : List ℕ) (k n : ℕ) → (front ++ take k xs) ++ take n (rest_of k xs) ≡ front ++ take (k + n) xs
-part_then front xs k n =
-    append_assoc front (take k xs) (take n (rest_of k xs))
-    ∙ ap (λ (t : List ℕ). front ++ t)
+pub part_then : (prefix xs : List ℕ) (k n : ℕ) → (prefix ++ take k xs) ++ take n (rest_of k xs) ≡ prefix
+    ++ take (k + n) xs
+part_then prefix xs k n =
+    append_assoc prefix (take k xs) (take n (rest_of k xs))
+    ∙ ap (λ (t : List ℕ). prefix ++ t)
     (ap (λ (t : List ℕ). take k xs ++ take n t) (rest_is k xs) ∙ sym (take_then k n xs))
 
-pub split_part : (front xs : List ℕ) (k n : ℕ)
-    → front ++ xs ≡ ((front ++ take k xs) ++ take n (rest_of k xs)) ++ drop n (rest_of k xs)
-split_part front xs k n =
-    ap (λ (t : List ℕ). front ++ t)
+pub split_part : (prefix xs : List ℕ) (k n : ℕ)
+    → prefix ++ xs ≡ ((prefix ++ take k xs) ++ take n (rest_of k xs)) ++ drop n (rest_of k xs)
+split_part prefix xs k n =
+    ap (λ (t : List ℕ). prefix ++ t)
     (sym (take-append-drop k xs) ∙ ap (λ (t : List ℕ). take k xs ++ t) (sym (rest_is k xs)))
-    ∙ sym (append_assoc front (take k xs) (rest_of k xs))
-    ∙ ap (λ (t : List ℕ). (front ++ take k xs) ++ t) (sym (take-append-drop n (rest_of k xs)))
-    ∙ sym (append_assoc (front ++ take k xs) (take n (rest_of k xs)) (drop n (rest_of k xs)))
+    ∙ sym (append_assoc prefix (take k xs) (rest_of k xs))
+    ∙ ap (λ (t : List ℕ). (prefix ++ take k xs) ++ t) (sym (take-append-drop n (rest_of k xs)))
+    ∙ sym (append_assoc (prefix ++ take k xs) (take n (rest_of k xs)) (drop n (rest_of k xs)))
 
 -- both stand after one byte more
-pub after_byte : {registers : ℕ} (old new : Reader) (kept more : CheckerValue) (c : Completed) (front : List ℕ)
+pub after_byte : {registers : ℕ} (old new : Reader) (kept more : CheckerValue) (c : Completed) (prefix : List ℕ)
     (byte : ℕ) → grammar.Takes old new byte (grammar.completions c)
     → ((seen : List Placed) → StandsAfter registers kept seen
     → StandsAfter registers more (seen ++ grammar.completions c))
-    → AreAfter registers old kept front → AreAfter registers new more (front ++ byte ∷ [])
-after_byte old new kept more c front byte takes keeps a = record {
+    → AreAfter registers old kept prefix → AreAfter registers new more (prefix ++ byte ∷ [])
+after_byte old new kept more c prefix byte takes keeps a = record {
   events = a.events ++ grammar.completions c;
-  read = takes a.events front a.read;
+  read = takes a.events prefix a.read;
   checked = keeps a.events a.checked;
 }
 

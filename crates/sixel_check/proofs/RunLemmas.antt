@@ -9,7 +9,7 @@ use Rattle.sixel_model.specs.Events.{Attributes, bits_of, columns_of}
 use Rattle.sixel_model.specs.Geometry.{band, column, falls, touches}
 use Rattle.sixel_model.specs.Positions.{any_below}
 use Rattle.sixel_model.specs.Rules.{FallsOutside, IsFirstPoint, known}
-use Rattle.sixel_model.specs.Sheets.{Sheet, painted_sheet}
+use Rattle.sixel_model.specs.Grids.{Grid, painted_grid}
 use Rattle.sixel_model.proofs.CoverLemmas.{covers_under, passes_below}
 use Rattle.sixel_check.specs.Judging.{IsDrawn}
 use Rattle.sixel_check.specs.Outside.{IsFirstIfAny, PaintsOutside}
@@ -93,10 +93,10 @@ uncapped n m is lt =
     omega arith
 
 -- a command whose run is painted from a capped column on, in a capped band
-pub drawn_capped : (s : Sheet) (before : List Event) (e : Event) (r left line : ℕ) → known before ≡ Some r
+pub drawn_capped : (s : Grid) (before : List Event) (e : Event) (r left line : ℕ) → known before ≡ Some r
     → left ≡ capped (column 0 before) → line ≡ capped (band before)
     → RunFits left line (columns_of 0 e) (bits_of e) s.width s.height → IsDrawn s before
-    → IsDrawn (painted_sheet s left line (columns_of 0 e) (bits_of e) r) (before ++ e ∷ [])
+    → IsDrawn (painted_grid s left line (columns_of 0 e) (bits_of e) r) (before ++ e ∷ [])
 drawn_capped s before e r left line is column_is band_is fits d =
     let columns : left + columns_of 0 e ≤ s.width = fits.columns in
     let rows : line < s.height = fits.low in

@@ -19,7 +19,7 @@ use Rattle.sixel_model.specs.Rules.{BreaksNone, breaks_unselected, is_covered, k
 use Rattle.sixel_model.specs.Rules.{register_at}
 use Rattle.sixel_model.proofs.LastLemmas.{IsLast, at_there, is_last, item_there, last_is, passes_there, some_last}
 use Rattle.sixel_model.proofs.RuleLemmas.{Keeps, keeps_at, none_drawn, seven_bits_at}
-use Rattle.sixel_model.proofs.SheetLemmas.{get_rows}
+use Rattle.sixel_model.proofs.GridLemmas.{get_rows}
 use Rattle.sixel_model.specs.RuleNumbers.{uncovered_rule, last_rule}
 use Rattle.sixel_terminal.specs.Displays.{Display, registers_of}
 use Rattle.sixel_terminal.specs.Drawing.{inked_on, is_kept_on, is_seen_on, map_on, paint_at, paints_in, paints_on}

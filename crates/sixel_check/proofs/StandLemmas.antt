@@ -7,7 +7,7 @@ use Rattle.std.proofs.lemmas.Bool.{and_parts, both_ways, not-true}
 use Rattle.std.proofs.lemmas.List.Folds.{list_any-append}
 use Rattle.std.proofs.Math.Bool.{or-false}
 use Rattle.sixel_grammar.specs.Document.{AreRest, AreWhole, events_of}
-use Rattle.sixel_grammar.specs.Faults.{AreBegun, AreFront, AreSteps}
+use Rattle.sixel_grammar.specs.Faults.{AreBegun, ArePrefix, AreSteps}
 use Rattle.sixel_grammar.specs.Spelling.{IsSpellable}
 use Rattle.sixel_grammar.proofs.PieceLemmas.{all-append}
 use Rattle.sixel_grammar.specs.declared.command.Event.{Event}
@@ -42,9 +42,9 @@ pub whole_ended : (events : List Event) → AreWhole events → list_any is_fini
 whole_ended (Start eight parameters ∷ more) m = rest_ends more m
 whole_ended _ m = absurd m
 
--- a front in which the end came is whole
-pub front_whole : (events : List Event) → AreFront events → list_any is_finish events ≡ true → AreWhole events
-front_whole events m h =
+-- a prefix in which the end came is whole
+pub prefix_whole : (events : List Event) → ArePrefix events → list_any is_finish events ≡ true → AreWhole events
+prefix_whole events m h =
     elim m [
       | inl none ↦ absurd (both_ways (list_any is_finish events) (ap (list_any is_finish) none) h)
       | inr some ↦ elim some [
@@ -66,10 +66,10 @@ begun_push : (events : List Event) (e : Event) → AreBegun events → is_start 
 begun_push (Start eight parameters ∷ more) e m s = steps_push more e m s
 begun_push _ e m s = absurd m
 
--- an expected event goes on with the front
-front_push : (events : List Event) (e : Event) → AreFront events → list_any is_finish events ≡ false
-    → is_start e ≡ false → (events ≡ [] → ⊥) → AreFront (events ++ e ∷ [])
-front_push events e m h s some =
+-- an expected event goes on with the prefix
+prefix_push : (events : List Event) (e : Event) → ArePrefix events → list_any is_finish events ≡ false
+    → is_start e ≡ false → (events ≡ [] → ⊥) → ArePrefix (events ++ e ∷ [])
+prefix_push events e m h s some =
     elim m [
       | inl none ↦ absurd (some none)
       | inr rest ↦ elim rest [
@@ -78,9 +78,9 @@ front_push events e m h s some =
       ]
     ]
 
-front_first : (e : Event) → is_start e ≡ true → AreFront (e ∷ [])
-front_first (Start eight parameters) h = inr (inl tt)
-front_first _ h = cc
+prefix_first : (e : Event) → is_start e ≡ true → ArePrefix (e ∷ [])
+prefix_first (Start eight parameters) h = inr (inl tt)
+prefix_first _ h = cc
 
 -- ---- one event more
 
@@ -88,12 +88,12 @@ pub whole_events : (seen : List Placed) → list_any is_finish (events_of seen) 
 whole_events [] = refl
 whole_events (p ∷ ps) = ap (λ (b : Bool). is_finish p.event || b) (whole_events ps)
 
-pub front_next : (seen : List Placed) (p : Placed) → AreFront (events_of seen) → IsTrue (expects seen p.event)
-    → AreFront (events_of seen ++ p.event ∷ [])
-front_next [] p front h = front_first p.event h
-front_next (q ∷ qs) p front h =
+pub prefix_next : (seen : List Placed) (p : Placed) → ArePrefix (events_of seen) → IsTrue (expects seen p.event)
+    → ArePrefix (events_of seen ++ p.event ∷ [])
+prefix_next [] p prefix h = prefix_first p.event h
+prefix_next (q ∷ qs) p prefix h =
     let parts = and_parts (not (is_whole (q ∷ qs))) (not (is_start p.event)) h in
-    front_push (events_of (q ∷ qs)) p.event front (whole_events (q ∷ qs) ∙ not-true (is_whole (q ∷ qs)) parts.0)
+    prefix_push (events_of (q ∷ qs)) p.event prefix (whole_events (q ∷ qs) ∙ not-true (is_whole (q ∷ qs)) parts.0)
     (not-true (is_start p.event) parts.1) (λ e. cc)
 
 -- ---- how far the events have come
@@ -129,17 +129,17 @@ progress_push (q ∷ qs) p h =
 -- ---- where a checker stands
 
 pub stands_none : (registers : ℕ) (checker : CheckerValue)
-    → JudgesAfter registers checker.finding checker.notes checker.sheet [] → checker.progress ≡ Fresh
+    → JudgesAfter registers checker.finding checker.state checker.grid [] → checker.progress ≡ Fresh
     → StandsAfter registers checker []
 unfolding StandsAfter
 stands_none registers checker judges fresh = (judges, fresh, inl refl, tt)
 
 -- what its parts say
 pub judges_inside : (registers : ℕ) (inside checker : CheckerValue) (seen : List Placed) → inside ≡ checker
-    → StandsAfter registers checker seen → JudgesAfter registers inside.finding inside.notes inside.sheet seen
+    → StandsAfter registers checker seen → JudgesAfter registers inside.finding inside.state inside.grid seen
 unfolding StandsAfter
 judges_inside registers inside checker seen is s =
-    subst (λ (v : CheckerValue). JudgesAfter registers v.finding v.notes v.sheet seen) (sym is) s.0
+    subst (λ (v : CheckerValue). JudgesAfter registers v.finding v.state v.grid seen) (sym is) s.0
 
 pub stands_expects : (registers : ℕ) (checker : CheckerValue) (seen : List Placed) (e : Event)
     → StandsAfter registers checker seen → expects_from checker.progress e ≡ expects seen e
@@ -154,7 +154,7 @@ stands_whole_at registers checker seen s = ap is_whole_at s.1 ∙ whole_of seen
 -- after one expected event more
 pub stands_push : (others registers : ℕ) (old new : CheckerValue) (first seen : List Placed) (p : Placed)
     → StandsAfter others old first → IsTrue (expects first p.event) → IsSpellable p.event
-    → StandsAfter registers old seen → JudgesAfter registers new.finding new.notes new.sheet (seen ++ p ∷ [])
+    → StandsAfter registers old seen → JudgesAfter registers new.finding new.state new.grid (seen ++ p ∷ [])
     → new.progress ≡ progress_with p.event → StandsAfter registers new (seen ++ p ∷ [])
 unfolding StandsAfter
 stands_push others registers old new first seen p f expected spellable s judges far =
@@ -162,7 +162,7 @@ stands_push others registers old new first seen p f expected spellable s judges 
     sym (stands_expects _ old seen p.event s) ∙ stands_expects _ old first p.event f ∙ expected in (
       judges,
       far ∙ sym (progress_push seen p may),
-      subst AreFront (sym (events_push seen p)) (front_next seen p s.2 may),
+      subst ArePrefix (sym (events_push seen p)) (prefix_next seen p s.2 may),
       subst (AllByRecursion IsSpellable) (sym (events_push seen p))
           (all-append IsSpellable (events_of seen) (p.event ∷ []) s.3 (spellable, tt)),
     )
@@ -173,5 +173,5 @@ pub stands_whole : (others registers : ℕ) (checker : CheckerValue) (first seen
     → IsTrue (is_whole first) → StandsAfter registers checker seen → AreWhole (events_of seen)
 unfolding StandsAfter
 stands_whole others registers checker first seen f whole s =
-    front_whole (events_of seen) s.2
+    prefix_whole (events_of seen) s.2
     (whole_events seen ∙ sym (stands_whole_at _ checker seen s) ∙ stands_whole_at _ checker first f ∙ whole)

@@ -15,22 +15,22 @@ use Rattle.sixel_model.specs.Events.{Definition}
 use Rattle.sixel_model.specs.Pictures.{is_side, picture_fault}
 use Rattle.sixel_model.specs.Rules.{BreaksNone, StaysBlank, colour_by, colour_of, definition_of, is_covered}
 use Rattle.sixel_model.specs.Rules.{palette_left}
-use Rattle.sixel_model.specs.Sheets.{IsFull, Sheet, first_blank}
+use Rattle.sixel_model.specs.Grids.{IsFull, Grid, first_blank}
 use Rattle.sixel_model.proofs.LeftLemmas.{left_at}
 use Rattle.sixel_model.specs.RuleNumbers.{last_rule}
-use Rattle.sixel_check.specs.Judging.{AreColoured, AreNotesAfter, IsDrawn, IsGood, box_of}
+use Rattle.sixel_check.specs.Judging.{AreColoured, IsStateAfter, IsDrawn, IsGood, box_of}
 use Rattle.sixel_model.proofs.RuleLemmas.{none_drawn}
 use Rattle.sixel_check.specs.Outside.{IsFirstIfAny}
-use Rattle.sixel_check.specs.declared.notes.Notes.{Notes}
+use Rattle.sixel_check.specs.declared.drawing_state.DrawingState.{DrawingState}
 use Rattle.sixel_check.proofs.BlankLemmas.{first_blank_drawn, length_drawn, register_there}
 use Rattle.sixel_check.proofs.CoverLemmas.{all_covered}
-use Rattle.sixel_check.proofs.NoteLemmas.{given}
+use Rattle.sixel_check.proofs.DrawingStateLemmas.{given}
 
 -- ---- no pixel is blank
 
-pub full_sheet : (registers : ℕ) (s : Sheet) (events : List Event) → AreWhole events
+pub full_grid : (registers : ℕ) (s : Grid) (events : List Event) → AreWhole events
     → BreaksNone registers last_rule events → IsDrawn s events → IsFull s
-full_sheet registers s events whole none d = split (first_blank s) (first_blank_drawn s events d)
+full_grid registers s events whole none d = split (first_blank s) (first_blank_drawn s events d)
   where
     split : (o : Option (ℕ × ℕ)) → IsFirstIfAny (StaysBlank events (box_of s)) o → o ≡ None
     split None first = refl
@@ -46,7 +46,7 @@ each_passes : (p : ℕ → Bool) (xs : List ℕ) → ((i : ℕ) → i < length x
 each_passes p xs h = list_all-from_AllPass p xs (All-from_get_or (λ x. p x ≡ true) xs 0 h)
 
 -- the register of each pixel is one of the palette, and has a colour
-register_good : {registers : ℕ} (s : Sheet) (events : List Event) (xs : List ℕ) (i : ℕ) → IsDrawn s events
+register_good : {registers : ℕ} (s : Grid) (events : List Event) (xs : List ℕ) (i : ℕ) → IsDrawn s events
     → AreColoured registers events → map (λ r. Some r) xs ≡ s.cells → i < length xs
     → (get_or xs i 0 < registers) × IsSome (definition_of events (get_or xs i 0))
 register_good s events xs i d c e lt =
@@ -57,7 +57,7 @@ coloured : (registers r : ℕ) (o : Option Definition) → IfSome o (IsGood regi
 coloured registers r None h k = cc
 coloured registers r (Some d) h k = ap is_some (given (colour_by d) h.1).1
 
-register_coloured : {registers : ℕ} (n : Notes) (events : List Event) (r : ℕ) → AreNotesAfter registers n events
+register_coloured : {registers : ℕ} (n : DrawingState) (events : List Event) (r : ℕ) → IsStateAfter registers n events
     → r < registers → IsSome (definition_of events r) → is_some (palette_at (palette_left registers events) r) ≡ true
 unfolding colour_of
 register_coloured {registers} n events r a lt has =
@@ -69,8 +69,8 @@ no_fault : (registers : ℕ) (w h : ℕ) (palette : List (Option Parts)) (xs : L
 no_fault registers w h palette xs sides long low coloured = rw (sides, long, low, coloured) refl
 
 -- the parts of the picture that is left make a picture
-pub picture_fits : {registers : ℕ} (n : Notes) (s : Sheet) (events : List Event) (xs : List ℕ)
-    → AreNotesAfter registers n events → IsDrawn s events → AreColoured registers events
+pub picture_fits : {registers : ℕ} (n : DrawingState) (s : Grid) (events : List Event) (xs : List ℕ)
+    → IsStateAfter registers n events → IsDrawn s events → AreColoured registers events
     → map (λ r. Some r) xs ≡ s.cells
     → picture_fault registers s.width s.height (palette_left registers events) xs ≡ None
 picture_fits {registers} n s events xs a d c e =

@@ -34,7 +34,7 @@ StaysOnEach registers events x y =
 
 -- each terminal that doesn't clip and has 8-bit controls paints the point by the event at position i, and on each that
 -- clips and keeps its ground no event paints it
-pub record IsCutOffByClipping (registers : ℕ) (events : List Event) (i x y : ℕ) : Type 0 where
+pub record IsPaintedUnlessClipped (registers : ℕ) (events : List Event) (i x y : ℕ) : Type 0 where
   pub painted : (t : Display) → IsInClass registers t → t.choices.clips ≡ false → t.choices.eight_bit ≡ true
       → HoldsAtPosition (λ before e.
       IsSome (paints_in t events before e (t.choices.origin_x + x) (t.choices.origin_y + y))) events i
@@ -55,7 +55,7 @@ pub record IsUnseenWithoutEightBits (registers : ℕ) (events : List Event) (i :
 abbrev pub IsTrueAlarm : ℕ → List Event → Rule → Option (ℕ × ℕ) → ℕ → Type 0
 IsTrueAlarm registers events Uncovered pixel i = IsSomeAnd pixel (λ p. StaysOnEach registers events p.0 p.1)
 IsTrueAlarm registers events Outside pixel i =
-    IsSomeAnd pixel (λ p. p.0 < greatest → p.1 < greatest → IsCutOffByClipping registers events i p.0 p.1)
+    IsSomeAnd pixel (λ p. p.0 < greatest → p.1 < greatest → IsPaintedUnlessClipped registers events i p.0 p.1)
 IsTrueAlarm registers events EightBit pixel i = IsUnseenWithoutEightBits registers events i
 IsTrueAlarm registers events _ pixel i = Unit {0}
 

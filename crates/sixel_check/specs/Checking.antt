@@ -43,15 +43,16 @@ MayGrowOver checker more =
 -- where both stood after some bytes, they stand after them and these
 abbrev pub TakesBytes : Reader → CheckerValue → Reader → CheckerValue → List ℕ → Type 0
 TakesBytes reader checker r c more =
-    (registers : ℕ) (front : List ℕ) → AreAfter registers reader checker front → AreAfter registers r c (front ++ more)
+    (registers : ℕ) (prefix : List ℕ) → AreAfter registers reader checker prefix
+    → AreAfter registers r c (prefix ++ more)
 
 -- where both stand after some bytes, the fault is one of whatever they and these begin
 abbrev pub RefusesBytes : Reader → CheckerValue → List ℕ → InputFault → Type 0
 RefusesBytes reader checker more fault =
-    (registers : ℕ) (front : List ℕ) → AreAfter registers reader checker front → ExplainsAlways fault (front ++ more)
+    (registers : ℕ) (prefix : List ℕ) → AreAfter registers reader checker prefix → ExplainsAlways fault (prefix ++ more)
 
 -- where both stand after some bytes, want of memory is answered for them and these alone
 abbrev pub GrowsForBytes : Reader → CheckerValue → List ℕ → InputFault → Type 0
 GrowsForBytes reader checker more fault =
-    (registers : ℕ) (front : List ℕ) → AreAfter registers reader checker front
-    → GrowsFor registers fault (front ++ more)
+    (registers : ℕ) (prefix : List ℕ) → AreAfter registers reader checker prefix
+    → GrowsFor registers fault (prefix ++ more)

@@ -15,7 +15,7 @@ use Rattle.sixel_model.specs.Rules.{picture_left, raster_before}
 use Rattle.sixel_terminal.specs.declared.choices.Choices.{Choices}
 use Rattle.sixel_terminal.specs.declared.choices.Ground.{Ground}
 use Rattle.sixel_terminal.specs.declared.choices.Ground.TheVariants.{Kept}
-use Rattle.sixel_terminal.specs.Displays.{Display, IsInClass, clipping, hearing}
+use Rattle.sixel_terminal.specs.Displays.{Display, IsInClass, clipping, with_controls}
 use Rattle.sixel_terminal.specs.Drawing.{shown_on, stood_on}
 use Rattle.sixel_check.specs.declared.rule.Rule.{Rule}
 use Rattle.sixel_check.specs.declared.rule.Rule.TheVariants.{Outside, Uncovered, EightBit}
@@ -64,7 +64,7 @@ EightBitDiffers registers =
     → x < (picture_left registers (events_of placed)).width → y < (picture_left registers (events_of placed)).height
     → palette_at (picture_left registers (events_of placed)).palette
     (register_of (picture_left registers (events_of placed)) x y) ≢ Some (stood_at t x y)
-    → shown_at (hearing true t) placed x y ≢ shown_at (hearing false t) placed x y
+    → shown_at (with_controls true t) placed x y ≢ shown_at (with_controls false t) placed x y
 
 -- ---- two terminals, written out
 
@@ -80,8 +80,8 @@ other_than (Rgb red green blue) = if (red == 0) && (green == 0) && (blue == 0) t
 other_than (Hls hue lightness saturation) = black
 
 -- it keeps its ground, doesn't clip, has 8-bit controls and a screen of this size, at whose top left the picture begins
-abbrev pub plain_choices : ℕ → ℕ → Choices
-plain_choices width height = let ground : Ground = Kept in record {
+abbrev pub witness_choices : ℕ → ℕ → Choices
+witness_choices width height = let ground : Ground = Kept in record {
   binds_at_showing = false;
   selects = false;
   ground = ground;
@@ -98,9 +98,9 @@ plain_choices width height = let ground : Ground = Kept in record {
 }
 
 -- the terminal of these choices with so many registers, all black at the start, and a screen of one colour
-abbrev pub plain : ℕ → ℕ → ℕ → Parts → Display
-plain registers width height colour = record {
-  choices = plain_choices width height;
+abbrev pub witness_terminal : ℕ → ℕ → ℕ → Parts → Display
+witness_terminal registers width height colour = record {
+  choices = witness_choices width height;
   colours = replicate registers black;
   screen = replicate (width * height) colour;
 }
@@ -117,14 +117,14 @@ SomeUncoveredDiffer profile =
     (placed : List Placed) (f : Finding) (i x y : ℕ) (a : Attributes)
     → IsFound (count_of profile) placed Uncovered i f → f.pixel ≡ Some (x, y)
     → raster_before (events_of placed) ≡ Some a
-    → AreApart (count_of profile) placed x y (plain (count_of profile) a.width a.height black)
-    (plain (count_of profile) a.width a.height white)
+    → AreApart (count_of profile) placed x y (witness_terminal (count_of profile) a.width a.height black)
+    (witness_terminal (count_of profile) a.width a.height white)
 
 -- the screen of the two for `Outside`: large enough for the pixel, and of another colour than is painted there
 abbrev pub outside_screen : Profile → List Placed → ℕ → ℕ → Display
 outside_screen profile placed x y =
-    plain (count_of profile) (x + 1) (y + 1)
-    (other_than (shown_at (plain (count_of profile) (x + 1) (y + 1) black) placed x y))
+    witness_terminal (count_of profile) (x + 1) (y + 1)
+    (other_than (shown_at (witness_terminal (count_of profile) (x + 1) (y + 1) black) placed x y))
 
 -- the terminal and the one that differs in clipping alone show other colours at the point
 pub record DifferByClipping (registers : ℕ) (placed : List Placed) (x y : ℕ) (t : Display) : Type 0 where
@@ -143,20 +143,20 @@ SomeOutsideDiffer profile =
 abbrev pub eight_bit_screen : Profile → List Placed → Display
 eight_bit_screen profile placed =
     let left : PictureValue = picture_left (count_of profile) (events_of placed) in
-    plain (count_of profile) left.width left.height
+    witness_terminal (count_of profile) left.width left.height
     (other_than (unwrap_or (palette_at left.palette (register_of left 0 0)) black))
 
 -- the terminal has room, and it and the one that differs in 8-bit controls alone show other colours at the first pixel
-pub record DifferByHearing (registers : ℕ) (placed : List Placed) (t : Display) : Type 0 where
+pub record DifferByControls (registers : ℕ) (placed : List Placed) (t : Display) : Type 0 where
   pub room : HasRoomFor registers t (events_of placed)
-  pub apart : shown_at (hearing true t) placed 0 0 ≢ shown_at (hearing false t) placed 0 0
+  pub apart : shown_at (with_controls true t) placed 0 0 ≢ shown_at (with_controls false t) placed 0 0
 
 -- for each finding of `EightBit` at the end there are two such terminals
 abbrev pub SomeEightBitDiffer : Profile → Type 0
 SomeEightBitDiffer profile =
     (placed : List Placed) (f : Finding) (i : ℕ) → IsFound (count_of profile) placed EightBit i f
     → HoldsAtPosition (λ before e. IsTrue (is_finish e)) (events_of placed) i
-    → DifferByHearing (count_of profile) placed (eight_bit_screen profile placed)
+    → DifferByControls (count_of profile) placed (eight_bit_screen profile placed)
 
 -- ---- coordinates
 

@@ -5,7 +5,7 @@ use Rattle.sixel_grammar.specs.declared.command.Placed.{Placed}
 use Rattle.sixel_grammar.specs.declared.fault.InputFault.{InputFault}
 use Rattle.sixel_grammar.specs.declared.fault.InputFault.TheVariants.{Grammar, OutOfMemory, Read}
 use Rattle.sixel_grammar.specs.Document.{events_of}
-use Rattle.sixel_grammar.specs.Fronts.{CompleteIn}
+use Rattle.sixel_grammar.specs.Prefixes.{CompleteIn}
 use Rattle.sixel_model.specs.Events.{raster_of}
 use Rattle.sixel_model.specs.Positions.{HoldsAtPosition}
 use Rattle.sixel_model.specs.Rules.{BreaksNone, raster_before}
@@ -21,13 +21,13 @@ pub record MayGrow (registers : ℕ) (before : List Event) (e : Event) : Type 0 
 abbrev pub MayGrowAmong : ℕ → List Placed → Type 0
 MayGrowAmong registers placed = (i : ℕ) × HoldsAtPosition (MayGrow registers) (events_of placed) i
 
--- such raster attributes are complete in a front of the bytes with which some document begins, its limit aside
+-- such raster attributes are complete in a prefix of the bytes with which some document begins, its limit aside
 pub record MayGrowIn (registers : ℕ) (bytes : List ℕ) : Type 0 where
-  pub front : List ℕ
+  pub prefix : List ℕ
   pub rest : List ℕ
-  pub bytes_are : bytes ≡ front ++ rest
+  pub bytes_are : bytes ≡ prefix ++ rest
   pub events : List Placed
-  pub complete : CompleteIn events front
+  pub complete : CompleteIn events prefix
   pub grows : MayGrowAmong registers events
 
 -- want of memory is answered for such bytes alone

@@ -10,14 +10,14 @@ use Rattle.sixel_model.specs.Pictures.{is_side}
 use Rattle.sixel_model.specs.Positions.{latest}
 use Rattle.sixel_model.specs.Rules.{BreaksNone, definition_of, gives_colour, is_covered, is_painted_in, palette_left}
 use Rattle.sixel_model.specs.Rules.{raster_before, register_at}
-use Rattle.sixel_model.specs.Sheets.{Sheet, cell}
+use Rattle.sixel_model.specs.Grids.{Grid, cell}
 use Rattle.sixel_model.specs.RuleNumbers.{last_rule}
-use Rattle.sixel_check.specs.declared.notes.Notes.{Notes}
+use Rattle.sixel_check.specs.declared.drawing_state.DrawingState.{DrawingState}
 use Rattle.sixel_check.specs.declared.verdict.Finding.{Finding}
 use Rattle.sixel_check.specs.Verdicts.{IsFinding, capped}
 
--- the box of a sheet
-abbrev pub box_of : Sheet → Attributes
+-- the box of a grid
+abbrev pub box_of : Grid → Attributes
 box_of s = record { pan = 1; pad = 1; width = s.width; height = s.height }
 
 -- no raster attributes, and no point was painted
@@ -26,8 +26,8 @@ pub record IsUndrawn (events : List Event) : Type 0 where
   pub uncovered : (x y : ℕ) → is_covered events x y ≡ false
   pub no_register : (x y : ℕ) → register_at events x y ≡ None
 
--- the sheet has the size of the box, and each pixel the register in which it was painted last
-pub record IsDrawn (s : Sheet) (events : List Event) : Type 0 where
+-- the grid has the size of the box, and each pixel the register in which it was painted last
+pub record IsDrawn (s : Grid) (events : List Event) : Type 0 where
   pub box : raster_before events ≡ Some (box_of s)
   pub width : IsTrue (is_side s.width)
   pub height : IsTrue (is_side s.height)
@@ -35,41 +35,42 @@ pub record IsDrawn (s : Sheet) (events : List Event) : Type 0 where
   pub registers : (x y : ℕ) → x < s.width → y < s.height → cell s x y ≡ register_at events x y
   pub covered : (x y : ℕ) → x < s.width → y < s.height → is_some (cell s x y) ≡ is_covered events x y
 
--- the sheet, if there is a box
-abbrev pub IsSheetAfter : Option Sheet → List Event → Type 0
-IsSheetAfter None events = IsUndrawn events
-IsSheetAfter (Some s) events = IsDrawn s events
+-- the grid, if there is a box
+abbrev pub IsGridAfter : Option Grid → List Event → Type 0
+IsGridAfter None events = IsUndrawn events
+IsGridAfter (Some s) events = IsDrawn s events
 
 -- a definition of one of so many registers that gives a colour in range
 abbrev pub IsGood : ℕ → ℕ → Definition → Type 0
 IsGood registers r d = (r < registers) × IsTrue (gives_colour d)
 
--- the notes after these events, of which none breaks a rule; there are so many registers, each of a byte
-pub record AreNotesAfter (registers : ℕ) (notes : Notes) (events : List Event) : Type 0 where
-  pub column_is : notes.column ≡ capped (column 0 events)
-  pub band_is : notes.band ≡ capped (band events)
-  pub selected_is : notes.selected ≡ latest select_of events
-  pub selected_below : IfSome notes.selected (λ r. r < registers)
-  pub named_is : notes.named ≡ latest named_by events
-  pub palette_is : notes.palette ≡ palette_left registers events
+-- the drawing state after these events, of which none breaks a rule; there are so many registers, each of a byte
+pub record IsStateAfter (registers : ℕ) (state : DrawingState) (events : List Event) : Type 0 where
+  pub column_is : state.column ≡ capped (column 0 events)
+  pub band_is : state.band ≡ capped (band events)
+  pub selected_is : state.selected ≡ latest select_of events
+  pub selected_below : IfSome state.selected (λ r. r < registers)
+  pub named_is : state.named ≡ latest named_by events
+  pub palette_is : state.palette ≡ palette_left registers events
   pub in_range : (r : ℕ) → IfSome (definition_of events r) (IsGood registers r)
   pub bytes : registers ≤ 256
-  pub marks : length notes.painted ≡ 256
-  pub painted_is : (r : ℕ) → r < registers → slice_index_or notes.painted r false ≡ is_painted_in events r
+  pub marks : length state.painted ≡ 256
+  pub painted_is : (r : ℕ) → r < registers → slice_index_or state.painted r false ≡ is_painted_in events r
 
 -- each register in which a pixel was painted last is one of so many, and has a definition
 abbrev pub AreColoured : ℕ → List Event → Type 0
 AreColoured registers events = (x y r : ℕ) → register_at events x y ≡ Some r
     → (r < registers) × IsSome (definition_of events r)
 
--- no rule is broken, and the notes and the sheet are those after the events
-pub record StandsUnbroken (registers : ℕ) (notes : Notes) (sheet : Option Sheet) (events : List Event) : Type 0 where
+-- no rule is broken, and the drawing state and the grid are those after the events
+pub record StandsUnbroken (registers : ℕ) (state : DrawingState) (grid : Option Grid) (events : List Event) : Type
+    0 where
   pub unbroken : BreaksNone registers last_rule events
-  pub notes_are : AreNotesAfter registers notes events
-  pub sheet_is : IsSheetAfter sheet events
+  pub state_is : IsStateAfter registers state events
+  pub grid_is : IsGridAfter grid events
   pub coloured : AreColoured registers events
 
 -- the finding is the first broken rule; or there is none, and no rule is broken
-abbrev pub JudgesAfter : ℕ → Option Finding → Notes → Option Sheet → List Placed → Type 0
-JudgesAfter registers None notes sheet placed = StandsUnbroken registers notes sheet (events_of placed)
-JudgesAfter registers (Some finding) notes sheet placed = (i : ℕ) × IsFinding registers placed finding i
+abbrev pub JudgesAfter : ℕ → Option Finding → DrawingState → Option Grid → List Placed → Type 0
+JudgesAfter registers None state grid placed = StandsUnbroken registers state grid (events_of placed)
+JudgesAfter registers (Some finding) state grid placed = (i : ℕ) × IsFinding registers placed finding i

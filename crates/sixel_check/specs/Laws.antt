@@ -5,7 +5,7 @@ use Rattle.sixel_grammar.specs.declared.command.Event.{Event}
 use Rattle.sixel_grammar.specs.declared.command.Event.TheVariants.{Start, Step, Finish}
 use Rattle.sixel_grammar.specs.declared.command.Placed.{Placed}
 use Rattle.sixel_grammar.specs.Document.{AreWhole, events_of}
-use Rattle.sixel_grammar.specs.Fronts.{CompleteIn}
+use Rattle.sixel_grammar.specs.Prefixes.{CompleteIn}
 use Rattle.sixel_model.specs.Colours.{palette_at}
 use Rattle.sixel_model.specs.Events.{Attributes, is_data_command, is_in_box, is_painting, raster_of}
 use Rattle.sixel_model.specs.Pictures.{PictureValue}
@@ -82,10 +82,11 @@ abbrev pub OneVerdict : ℕ → Type 0
 OneVerdict registers =
     (placed : List Placed) (v w : Verdict) → IsVerdict registers placed v → IsVerdict registers placed w → v ≡ w
 
--- where memory may be taken at an event that is complete in a front of the bytes, it may be at one in each longer front
+-- where memory may be taken at an event that is complete in a prefix of the bytes, it may be at one in each longer
+-- prefix
 abbrev pub GrowthStays : ℕ → Type 0
 GrowthStays registers =
-    (front rest : List ℕ) (first second : List Placed) → CompleteIn first front → CompleteIn second (front ++ rest)
+    (prefix rest : List ℕ) (first second : List Placed) → CompleteIn first prefix → CompleteIn second (prefix ++ rest)
     → MayGrowAmong registers first → MayGrowAmong registers second
 
 -- a box of one pixel, painted in a register that is defined and selected

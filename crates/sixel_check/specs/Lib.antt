@@ -1,8 +1,8 @@
 pub mod Verdicts
 pub mod Judging
 pub mod Standing
-pub mod Notes
-pub mod Breaches
+pub mod DrawingState
+pub mod Violations
 pub mod Outside
 pub mod Growth
 pub mod Stretches

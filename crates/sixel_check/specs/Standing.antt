@@ -5,11 +5,11 @@ use Rattle.sixel_grammar.specs.declared.command.Event.{Event}
 use Rattle.sixel_grammar.specs.declared.command.Event.TheVariants.{Start}
 use Rattle.sixel_grammar.specs.declared.command.Placed.{Placed}
 use Rattle.sixel_grammar.specs.Document.{events_of}
-use Rattle.sixel_grammar.specs.Faults.{AreFront}
+use Rattle.sixel_grammar.specs.Faults.{ArePrefix}
 use Rattle.sixel_grammar.specs.Spelling.{IsSpellable}
 use Rattle.sixel_model.specs.Events.{is_finish}
-use Rattle.sixel_model.specs.Sheets.{Sheet}
-use Rattle.sixel_check.specs.declared.notes.Notes.{Notes}
+use Rattle.sixel_model.specs.Grids.{Grid}
+use Rattle.sixel_check.specs.declared.drawing_state.DrawingState.{DrawingState}
 use Rattle.sixel_check.specs.declared.progress.Progress.{Progress}
 use Rattle.sixel_check.specs.declared.progress.Progress.TheVariants.{Fresh, Begun, Whole}
 use Rattle.sixel_check.specs.declared.verdict.Finding.{Finding}
@@ -51,13 +51,13 @@ progress_with e = if is_finish e then Whole else Begun
 -- what a checker keeps: the first broken rule, else what the rules ask of the events; and how far they have come
 pub record CheckerValue : Type 0 where
   pub finding : Option Finding
-  pub notes : Notes
-  pub sheet : Option Sheet
+  pub state : DrawingState
+  pub grid : Option Grid
   pub progress : Progress
 
 -- the checker, which judges by so many registers, has seen these events, in order: none, or a start and commands, or a
 -- start, commands and a finish
 unfoldable pub StandsAfter : ℕ → CheckerValue → List Placed → Type 0
 StandsAfter registers checker seen =
-    JudgesAfter registers checker.finding checker.notes checker.sheet seen × (checker.progress ≡ progress_of seen)
-    × AreFront (events_of seen) × AllByRecursion IsSpellable (events_of seen)
+    JudgesAfter registers checker.finding checker.state checker.grid seen × (checker.progress ≡ progress_of seen)
+    × ArePrefix (events_of seen) × AllByRecursion IsSpellable (events_of seen)

@@ -6,10 +6,10 @@ use Rattle.sixel_grammar.specs.declared.command.Event.TheVariants.{Step}
 use Rattle.sixel_grammar.specs.declared.command.Placed.{Placed}
 use Rattle.sixel_model.specs.Colours.{palette_at}
 use Rattle.sixel_model.specs.Geometry.{band_rows}
-use Rattle.sixel_model.specs.Sheets.{Sheet}
-use Rattle.sixel_plane.specs.Stretches.{sixel_of, stretched_sheet}
-use Rattle.sixel_check.specs.declared.notes.Notes.{Notes}
-use Rattle.sixel_check.specs.Notes.{known_in}
+use Rattle.sixel_model.specs.Grids.{Grid}
+use Rattle.sixel_plane.specs.Stretches.{sixel_of, stretched_grid}
+use Rattle.sixel_check.specs.declared.drawing_state.DrawingState.{DrawingState}
+use Rattle.sixel_check.specs.DrawingState.{known_in}
 use Rattle.sixel_check.specs.Standing.{expects}
 use Rattle.sixel_check.specs.Verdicts.{capped}
 
@@ -18,50 +18,52 @@ abbrev pub MayStep : List Placed → Type 0
 MayStep seen = (command : Command) → IsTrue (expects seen (Step command))
 
 -- the register is known, has a colour, and a command painted in it
-pub record IsPaintedIn (notes : Notes) (register : ℕ) : Type 0 where
-  pub known : known_in notes ≡ Some register
-  pub coloured : IsSome (palette_at notes.palette register)
-  pub painted : slice_index_or notes.painted register false ≡ true
+pub record IsPaintedIn (state : DrawingState) (register : ℕ) : Type 0 where
+  pub known : known_in state ≡ Some register
+  pub coloured : IsSome (palette_at state.palette register)
+  pub painted : slice_index_or state.painted register false ≡ true
 
 -- so many columns lie in the box, with all six rows of their band
-pub record Fits (notes : Notes) (count : ℕ) (s : Sheet) : Type 0 where
-  pub columns : notes.column + count ≤ s.width
-  pub rows : band_rows * notes.band + band_rows ≤ s.height
+pub record Fits (state : DrawingState) (count : ℕ) (s : Grid) : Type 0 where
+  pub columns : state.column + count ≤ s.width
+  pub rows : band_rows * state.band + band_rows ≤ s.height
 
--- the notes after so many sixels in a register that was painted in before
-abbrev pub moved_by : ℕ → Notes → Notes
-moved_by count notes = record notes { column = notes.column + count }
+-- the drawing state after so many sixels in a register that was painted in before
+abbrev pub moved_by : ℕ → DrawingState → DrawingState
+moved_by count state = record state { column = state.column + count }
 
--- the notes and the sheet after a stretch, which breaks no rule
-pub record IsStretched (bytes : List ℕ) (count : ℕ) (notes : Notes) (s : Sheet) (next : Notes) (drawn : Sheet) :
+-- the drawing state and the grid after a stretch, which breaks no rule
+pub record IsStretched (bytes : List ℕ) (count : ℕ) (state : DrawingState) (s : Grid) (next : DrawingState)
+    (drawn : Grid) :
     Type 0 where
   pub register : ℕ
-  pub painted_in : IsPaintedIn notes register
-  pub fits : Fits notes count s
-  pub next_is : next ≡ moved_by count notes
-  pub drawn_is : drawn ≡ stretched_sheet s notes.column notes.band count (sixel_of bytes count) register
+  pub painted_in : IsPaintedIn state register
+  pub fits : Fits state count s
+  pub next_is : next ≡ moved_by count state
+  pub drawn_is : drawn ≡ stretched_grid s state.column state.band count (sixel_of bytes count) register
 
 -- the byte of a sixel without a bit
 abbrev pub blank_byte : ℕ
 blank_byte = 63
 
--- so many bytes at the front are sixels without a bit
+-- so many bytes at the beginning are sixels without a bit
 abbrev pub AreBlank : List ℕ → ℕ → Type 0
 AreBlank bytes count = (k : ℕ) → k < count → slice_index bytes k ≡ blank_byte
 
--- the notes after so many sixels without a bit
-abbrev pub passed_by : ℕ → Notes → Notes
-passed_by count notes = record notes { column = capped (notes.column + count) }
+-- the drawing state after so many sixels without a bit
+abbrev pub passed_by : ℕ → DrawingState → DrawingState
+passed_by count state = record state { column = capped (state.column + count) }
 
--- the notes and the sheet after a stretch without a bit, wherever it lies
-pub record IsPassed (bytes : List ℕ) (count : ℕ) (notes : Notes) (s : Sheet) (next : Notes) (drawn : Sheet) :
+-- the drawing state and the grid after a stretch without a bit, wherever it lies
+pub record IsPassed (bytes : List ℕ) (count : ℕ) (state : DrawingState) (s : Grid) (next : DrawingState) (drawn : Grid)
+    :
     Type 0 where
   pub blank : AreBlank bytes count
-  pub next_is : next ≡ passed_by count notes
+  pub next_is : next ≡ passed_by count state
   pub drawn_is : drawn ≡ s
 
--- either of these, where there is a sheet
-abbrev pub IsStretchedIn : List ℕ → ℕ → Notes → Option Sheet → Notes → Option Sheet → Type 0
-IsStretchedIn bytes count notes (Some s) next (Some drawn) =
-    IsStretched bytes count notes s next drawn ⊎ IsPassed bytes count notes s next drawn
-IsStretchedIn bytes count notes _ next _ = ⊥
+-- either of these, where there is a grid
+abbrev pub IsStretchedIn : List ℕ → ℕ → DrawingState → Option Grid → DrawingState → Option Grid → Type 0
+IsStretchedIn bytes count state (Some s) next (Some drawn) =
+    IsStretched bytes count state s next drawn ⊎ IsPassed bytes count state s next drawn
+IsStretchedIn bytes count state _ next _ = ⊥

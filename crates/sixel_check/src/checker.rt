@@ -42,8 +42,8 @@ impl<P: Plane> Model for Checker<P> {
 
     ghost view = { λ c. record {
       finding = c.judge.finding;
-      notes = c.judge.notes;
-      sheet = option_map P.sheet c.judge.plane;
+      state = c.judge.state;
+      grid = option_map P.grid c.judge.plane;
       progress = c.progress;
     } };
 }
@@ -96,7 +96,7 @@ impl<P: Plane> Checker<P> {
         Ok(())
     }
 
-    /// Takes the sixels of so many data bytes at the front of `bytes` at once, where any command may come next, and
+    /// Takes the sixels of so many data bytes at the beginning of `bytes` at once, where any command may come next, and
     /// where they break no rule or a rule was broken before. Whether it did; else nothing has changed, and `push` takes
     /// each.
     #[inline(always)]

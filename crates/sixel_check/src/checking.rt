@@ -111,7 +111,7 @@ fn read_byte<P: Plane>(
     checker: &mut Checker<P>,
     byte: u8,
 ) -> Result<(), InputFault>
-    requires { (registers : ℕ) × (front : List ℕ) × AreAfter registers reader.old checker.old front }
+    requires { (registers : ℕ) × (prefix : List ℕ) × AreAfter registers reader.old checker.old prefix }
     ensures read { OnOk result (TakesBytes reader.old checker.old reader.new checker.new (byte ∷ [])) }
     ensures refused { IfErr result (RefusesBytes reader.old checker.old (byte ∷ [])) }
     ensures memory { IfErr result (GrowsForBytes reader.old checker.old (byte ∷ [])) }
@@ -119,18 +119,18 @@ fn read_byte<P: Plane>(
     match reader.feed_plain(byte) {
         Some(Plain::Nothing) => Ok(()),
         Some(Plain::Command { place, command }) => Ok(keep_command(checker, place, command)?),
-        None => read_slowly(reader, checker, byte),
+        None => feed_and_keep(reader, checker, byte),
     }
 }
 
 /// Reads a byte of any kind.
 #[inline(never)]
-fn read_slowly<P: Plane>(
+fn feed_and_keep<P: Plane>(
     reader: &mut Reader,
     checker: &mut Checker<P>,
     byte: u8,
 ) -> Result<(), InputFault>
-    requires { (registers : ℕ) × (front : List ℕ) × AreAfter registers reader.old checker.old front }
+    requires { (registers : ℕ) × (prefix : List ℕ) × AreAfter registers reader.old checker.old prefix }
     ensures read { OnOk result (TakesBytes reader.old checker.old reader.new checker.new (byte ∷ [])) }
     ensures refused { IfErr result (RefusesBytes reader.old checker.old (byte ∷ [])) }
     ensures memory { IfErr result (GrowsForBytes reader.old checker.old (byte ∷ [])) }
@@ -139,8 +139,8 @@ fn read_slowly<P: Plane>(
     Ok(keep(checker, completed)?)
 }
 
-/// Pushes the sixels of so many data bytes at the front of `bytes`, the first of them at `place`. It takes no memory,
-/// and is always `Ok`.
+/// Pushes the sixels of so many data bytes at the beginning of `bytes`, the first of them at `place`. It takes no
+/// memory, and is always `Ok`.
 #[inline(always)]
 fn push_stretch<P: Plane>(
     checker: &mut Checker<P>,
@@ -186,15 +186,15 @@ fn push_each<P: Plane>(
     Ok(())
 }
 
-/// Reads a stretch of data bytes at the front of a piece, or else one byte, and tells how many it read.
+/// Reads a stretch of data bytes at the beginning of a piece, or else one byte, and tells how many it read.
 #[inline(always)]
-fn read_front<P: Plane>(
+fn read_stretch_or_byte<P: Plane>(
     reader: &mut Reader,
     checker: &mut Checker<P>,
     bytes: &[u8],
 ) -> Result<usize, InputFault>
     requires some { 0 < length bytes.now }
-    requires stands { (registers : ℕ) × (front : List ℕ) × AreAfter registers reader.old checker.old front }
+    requires stands { (registers : ℕ) × (prefix : List ℕ) × AreAfter registers reader.old checker.old prefix }
     ensures some { IfOk result (λ count. 0 < count) }
     ensures within { IfOk result (λ count. count ≤ length bytes.now) }
     ensures read { IfOk result (λ count.
@@ -217,14 +217,14 @@ fn read_piece<P: Plane>(
     checker: &mut Checker<P>,
     piece: &[u8],
 ) -> Result<(), InputFault>
-    requires { (registers : ℕ) × (front : List ℕ) × AreAfter registers reader.old checker.old front }
+    requires { (registers : ℕ) × (prefix : List ℕ) × AreAfter registers reader.old checker.old prefix }
     ensures read { OnOk result (TakesBytes reader.old checker.old reader.new checker.new piece.now) }
     ensures refused { IfErr result (RefusesBytes reader.old checker.old piece.now) }
     ensures memory { IfErr result (GrowsForBytes reader.old checker.old piece.now) }
 {
     let mut read = 0;
     while read < piece.len() {
-        read += read_front(reader, checker, &piece[read..])?;
+        read += read_stretch_or_byte(reader, checker, &piece[read..])?;
     }
     Ok(())
 }
@@ -238,9 +238,9 @@ fn nothing_read(alloc: Global, profile: Profile) -> (Reader, Checker<BandPlane>)
 
 /// The answer at the end of the bytes.
 fn conclude<P: Plane>(reader: &Reader, checker: Checker<P>) -> Result<Verdict, InputFault>
-    requires { (registers : ℕ) × (front : List ℕ) × AreAfter registers reader.now checker front }
-    ensures answer { (registers : ℕ) (front : List ℕ) → AreAfter registers reader.now checker front
-        → Answers registers result front }
+    requires { (registers : ℕ) × (prefix : List ℕ) × AreAfter registers reader.now checker prefix }
+    ensures answer { (registers : ℕ) (prefix : List ℕ) → AreAfter registers reader.now checker prefix
+        → Answers registers result prefix }
     ensures never_read { result ≢ Err InputFault.Read }
     ensures memory { result ≢ Err InputFault.OutOfMemory }
 {

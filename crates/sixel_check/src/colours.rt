@@ -1,8 +1,8 @@
 //! Colours that definitions give.
 
 ghost use Rattle.std.specs.Prelude.{◌≡◌};
-ghost use Rattle.sixel_check.specs.Breaches.{is_colour_of as same_colour};
-ghost use Rattle.sixel_check.specs.Notes.{colour_within};
+ghost use Rattle.sixel_check.specs.Violations.{is_colour_of as same_colour};
+ghost use Rattle.sixel_check.specs.DrawingState.{colour_within};
 
 use sixel_model::{Colour, Parts};
 

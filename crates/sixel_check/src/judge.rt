@@ -13,8 +13,8 @@ ghost use Rattle.sixel_check.specs.Growth.{MayGrow};
 ghost use Rattle.sixel_check.specs.Judging.{JudgesAfter};
 ghost use Rattle.sixel_check.specs.Verdicts.{IsVerdict};
 
-use crate::notes::Notes;
-use crate::pixels::{breach_of, draw, picture_of};
+use crate::drawing_state::DrawingState;
+use crate::pixels::{draw, picture_of, violation_of};
 use crate::stretch::try_take_stretch;
 use crate::verdict::{Finding, Verdict};
 use sixel_grammar::Placed;
@@ -26,7 +26,7 @@ use std::alloc::{AllocError, Global};
 #[derive(Drop)]
 pub(crate) struct Judge<P: Plane> {
     pub finding: Option<Finding>,
-    pub notes: Notes,
+    pub state: DrawingState,
     /// The pixels of the box, from the first raster attributes on.
     pub plane: Option<P>,
 }
@@ -34,11 +34,11 @@ pub(crate) struct Judge<P: Plane> {
 impl<P: Plane> Judge<P> {
     /// What stands before any event.
     pub(crate) fn new(profile: Profile) -> Judge<P>
-        ensures { JudgesAfter (count_of profile) result.finding result.notes (option_map P.sheet result.plane) [] }
+        ensures { JudgesAfter (count_of profile) result.finding result.state (option_map P.grid result.plane) [] }
     {
         Judge {
             finding: None,
-            notes: Notes::new(profile),
+            state: DrawingState::new(profile),
             plane: None,
         }
     }
@@ -50,55 +50,55 @@ impl<P: Plane> Judge<P> {
     #[inline(always)]
     pub(crate) fn step(&mut self, alloc: Global, placed: &Placed) -> Result<(), AllocError>
         requires stands { (registers : ℕ) × (seen : List PlacedValue)
-            × JudgesAfter registers self.old.finding self.old.notes (option_map P.sheet self.old.plane) seen }
+            × JudgesAfter registers self.old.finding self.old.state (option_map P.grid self.old.plane) seen }
         requires spellable { IsSpellable placed.now.event }
         ensures ok { OnOk result ((registers : ℕ) (seen : List PlacedValue)
-            → JudgesAfter registers self.old.finding self.old.notes (option_map P.sheet self.old.plane) seen
-            → JudgesAfter registers self.new.finding self.new.notes (option_map P.sheet self.new.plane)
+            → JudgesAfter registers self.old.finding self.old.state (option_map P.grid self.old.plane) seen
+            → JudgesAfter registers self.new.finding self.new.state (option_map P.grid self.new.plane)
             (seen ++ placed.now ∷ [])) }
         ensures err { OnErr result (self.new ≡ self.old) }
         ensures grows { OnErr result ((registers : ℕ) (seen : List PlacedValue)
-            → JudgesAfter registers self.old.finding self.old.notes (option_map P.sheet self.old.plane) seen
+            → JudgesAfter registers self.old.finding self.old.state (option_map P.grid self.old.plane) seen
             → MayGrow registers (events_of seen) placed.now.event) }
     {
         if self.finding.is_some() {
             return Ok(());
         }
-        match breach_of(&self.notes, &self.plane, &placed.event) {
-            Some(breach) => {
+        match violation_of(&self.state, &self.plane, &placed.event) {
+            Some(violation) => {
                 self.finding = Some(Finding {
-                    rule: breach.rule,
+                    rule: violation.rule,
                     place: placed.place,
-                    pixel: breach.pixel,
+                    pixel: violation.pixel,
                 });
             }
             None => {
-                draw(alloc, &self.notes, &mut self.plane, &placed.event)?;
-                self.notes.take(&placed.event);
+                draw(alloc, &self.state, &mut self.plane, &placed.event)?;
+                self.state.take(&placed.event);
             }
         }
         Ok(())
     }
 
-    /// Judges the sixels of so many data bytes at the front of `bytes`, where they break no rule and can be painted at
-    /// once or have no bit, or where a rule was broken before. Whether it did; else nothing has changed.
+    /// Judges the sixels of so many data bytes at the beginning of `bytes`, where they break no rule and can be painted
+    /// at once or have no bit, or where a rule was broken before. Whether it did; else nothing has changed.
     #[inline(always)]
     pub(crate) fn try_take_stretch(&mut self, bytes: &[u8], count: usize) -> bool
         requires stands { (registers : ℕ) × (seen : List PlacedValue)
-            × JudgesAfter registers self.old.finding self.old.notes (option_map P.sheet self.old.plane) seen }
+            × JudgesAfter registers self.old.finding self.old.state (option_map P.grid self.old.plane) seen }
         requires sixels { (k : ℕ) → k < count → IsTrue (is_data (slice_index bytes.now k)) }
         requires bytes { count ≤ length bytes.now }
         ensures finding { self.new.finding ≡ self.old.finding }
         ensures broken { IsSome self.old.finding → self.new ≡ self.old }
         ensures taken { result ≡ true → self.old.finding ≡ None → IsStretchedIn bytes.now count
-            self.old.notes (option_map P.sheet self.old.plane) self.new.notes (option_map P.sheet self.new.plane) }
+            self.old.state (option_map P.grid self.old.plane) self.new.state (option_map P.grid self.new.plane) }
         ensures kept { result ≡ false → self.new ≡ self.old }
     {
         if self.finding.is_some() {
             return true;
         }
         match &mut self.plane {
-            Some(plane) => try_take_stretch(&mut self.notes, plane, bytes, count),
+            Some(plane) => try_take_stretch(&mut self.state, plane, bytes, count),
             None => false,
         }
     }
@@ -106,20 +106,20 @@ impl<P: Plane> Judge<P> {
     /// The verdict on a whole list.
     pub(crate) fn verdict(self) -> Verdict
         requires { (registers : ℕ) × (seen : List PlacedValue)
-            × JudgesAfter registers self.finding self.notes (option_map P.sheet self.plane) seen
+            × JudgesAfter registers self.finding self.state (option_map P.grid self.plane) seen
             × AreWhole (events_of seen) }
         ensures { (registers : ℕ) (seen : List PlacedValue)
-            → JudgesAfter registers self.finding self.notes (option_map P.sheet self.plane) seen
+            → JudgesAfter registers self.finding self.state (option_map P.grid self.plane) seen
             → IsVerdict registers seen result }
     {
         let Judge {
             finding,
-            notes,
+            state,
             plane,
         } = self;
         match (finding, plane) {
             (Some(finding), _) => Verdict::Broken(finding),
-            (None, Some(plane)) => Verdict::Portable(picture_of(notes, plane)),
+            (None, Some(plane)) => Verdict::Portable(picture_of(state, plane)),
             (None, None) => unreachable!(),
         }
     }

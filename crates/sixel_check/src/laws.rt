@@ -41,8 +41,8 @@ pub fn lists_have_one_verdict()
     ensures once { (profile : Profile) → OneVerdict (count_of profile) }
 {}
 
-/// Where memory may be taken at an event that is complete in a front of the bytes, it may be at one in each longer
-/// front, so in the longest with which some document begins.
+/// Where memory may be taken at an event that is complete in a prefix of the bytes, it may be at one in each longer
+/// prefix, so in the longest with which some document begins.
 pub fn growth_stays()
     ensures { (profile : Profile) → GrowthStays (count_of profile) }
 {}

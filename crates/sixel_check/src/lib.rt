@@ -3,14 +3,13 @@
 //! The rules are this project's own, over the commands of DEC EK-VT3XX-GP, volume 2, the chapter on sixel graphics.
 #![tactic(auto)]
 
-mod breach;
 mod checker;
 mod checking;
 mod colours;
+mod drawing_state;
 mod events;
 mod judge;
 pub mod laws;
-mod notes;
 mod outside;
 mod pixels;
 mod progress;
@@ -18,6 +17,7 @@ mod rule;
 mod rules;
 mod stretch;
 mod verdict;
+mod violation;
 
 pub use checker::Checker;
 pub use checking::{check, check_bytes};

@@ -8,18 +8,18 @@ ghost use Rattle.sixel_grammar.specs.Spelling.{IsSpellable};
 ghost use Rattle.sixel_model.specs.Events.{raster_of};
 ghost use Rattle.sixel_model.specs.RuleNumbers.{eight_bit_rule, outside_rule, uncovered_rule};
 ghost use Rattle.sixel_model.specs.Rules.{FallsOutside, StaysBlank, palette_left, picture_left};
-ghost use Rattle.sixel_model.specs.Sheets.{IsFull};
-ghost use Rattle.sixel_check.specs.Breaches.{BreaksNoRule, IsBreachOf, NoneBelow};
-ghost use Rattle.sixel_check.specs.Judging.{AreNotesAfter, IsDrawn, IsSheetAfter, IsUndrawn, StandsUnbroken, box_of};
+ghost use Rattle.sixel_model.specs.Grids.{IsFull};
+ghost use Rattle.sixel_check.specs.Violations.{BreaksNoRule, IsViolationOf, NoneBelow};
+ghost use Rattle.sixel_check.specs.Judging.{IsStateAfter, IsDrawn, IsGridAfter, IsUndrawn, StandsUnbroken, box_of};
 ghost use Rattle.sixel_check.specs.Outside.{IsFirstIfAny};
-ghost use Rattle.sixel_check.specs.Notes.{IsBelow};
+ghost use Rattle.sixel_check.specs.DrawingState.{IsBelow};
 
-use crate::breach::Breach;
+use crate::drawing_state::DrawingState;
 use crate::events::{bits_of, columns_of, is_eight_bit, is_finish, is_painting, sides_of};
-use crate::notes::Notes;
 use crate::outside::outside_pixel;
 use crate::rule::Rule;
 use crate::rules::broken_rule;
+use crate::violation::Violation;
 use sixel_grammar::Event;
 use sixel_model::{Palette, Picture};
 use sixel_plane::Plane;
@@ -27,13 +27,13 @@ use std::alloc::{AllocError, Global};
 
 /// The first pixel outside the box that the event paints.
 #[inline(always)]
-fn pixel_outside<P: Plane>(notes: &Notes, plane: &P, event: &Event) -> Option<(u64, u64)>
-    ensures { (registers : ℕ) (before : List EventValue) → AreNotesAfter registers notes.now before
-        → IsFirstIfAny (FallsOutside before event.now (box_of (P.sheet plane.now))) result }
+fn pixel_outside<P: Plane>(state: &DrawingState, plane: &P, event: &Event) -> Option<(u64, u64)>
+    ensures { (registers : ℕ) (before : List EventValue) → IsStateAfter registers state.now before
+        → IsFirstIfAny (FallsOutside before event.now (box_of (P.grid plane.now))) result }
 {
     outside_pixel(
-        notes.column,
-        notes.band,
+        state.column,
+        state.band,
         columns_of(event),
         bits_of(event),
         plane.width(),
@@ -43,8 +43,8 @@ fn pixel_outside<P: Plane>(notes: &Notes, plane: &P, event: &Event) -> Option<(u
 
 /// The first pixel of the box that is blank.
 fn pixel_blank<P: Plane>(plane: &P) -> Option<(u64, u64)>
-    ensures { (before : List EventValue) → IsDrawn (P.sheet plane.now) before
-        → IsFirstIfAny (StaysBlank before (box_of (P.sheet plane.now))) result }
+    ensures { (before : List EventValue) → IsDrawn (P.grid plane.now) before
+        → IsFirstIfAny (StaysBlank before (box_of (P.grid plane.now))) result }
 {
     match plane.first_blank() {
         Some((x, y)) => Some((x as u64, y as u64)),
@@ -52,13 +52,13 @@ fn pixel_blank<P: Plane>(plane: &P) -> Option<(u64, u64)>
     }
 }
 
-/// The breach of a control of 8 bits, which is looked at last.
-fn breach_of_eight_bit(event: &Event) -> Option<Breach>
+/// The violation of a control of 8 bits, which is looked at last.
+fn violation_of_eight_bit(event: &Event) -> Option<Violation>
     ensures { (registers : ℕ) (before : List EventValue) → NoneBelow registers eight_bit_rule before event.now
-        → IsBreachOf registers before event.now result }
+        → IsViolationOf registers before event.now result }
 {
     if is_eight_bit(event) {
-        Some(Breach {
+        Some(Violation {
             rule: Rule::EightBit,
             pixel: None,
         })
@@ -67,69 +67,77 @@ fn breach_of_eight_bit(event: &Event) -> Option<Breach>
     }
 }
 
-/// The breach of an end that leaves a pixel of the box blank, or of a control of 8 bits.
-fn breach_of_end<P: Plane>(plane: &P, event: &Event) -> Option<Breach>
-    ensures { (registers : ℕ) (before : List EventValue) → IsDrawn (P.sheet plane.now) before
-        → NoneBelow registers uncovered_rule before event.now → IsBreachOf registers before event.now result }
+/// The violation of an end that leaves a pixel of the box blank, or of a control of 8 bits.
+fn violation_of_end<P: Plane>(plane: &P, event: &Event) -> Option<Violation>
+    ensures { (registers : ℕ) (before : List EventValue) → IsDrawn (P.grid plane.now) before
+        → NoneBelow registers uncovered_rule before event.now → IsViolationOf registers before event.now result }
 {
     if !is_finish(event) {
-        return breach_of_eight_bit(event);
+        return violation_of_eight_bit(event);
     }
     match pixel_blank(plane) {
-        Some(pixel) => Some(Breach {
+        Some(pixel) => Some(Violation {
             rule: Rule::Uncovered,
             pixel: Some(pixel),
         }),
-        None => breach_of_eight_bit(event),
+        None => violation_of_eight_bit(event),
     }
 }
 
-/// The breach of one of the rules that look at pixels, or of a control of 8 bits.
+/// The violation of one of the rules that look at pixels, or of a control of 8 bits.
 #[inline(always)]
-fn breach_of_pixels<P: Plane>(notes: &Notes, plane: &P, event: &Event) -> Option<Breach>
-    ensures { (registers : ℕ) (before : List EventValue) → AreNotesAfter registers notes.now before
-        → IsDrawn (P.sheet plane.now) before → NoneBelow registers outside_rule before event.now
-        → IsBreachOf registers before event.now result }
+fn violation_of_pixels<P: Plane>(
+    state: &DrawingState,
+    plane: &P,
+    event: &Event,
+) -> Option<Violation>
+    ensures { (registers : ℕ) (before : List EventValue) → IsStateAfter registers state.now before
+        → IsDrawn (P.grid plane.now) before → NoneBelow registers outside_rule before event.now
+        → IsViolationOf registers before event.now result }
 {
-    match pixel_outside(notes, plane, event) {
-        Some(pixel) => Some(Breach {
+    match pixel_outside(state, plane, event) {
+        Some(pixel) => Some(Violation {
             rule: Rule::Outside,
             pixel: Some(pixel),
         }),
-        None => breach_of_end(plane, event),
+        None => violation_of_end(plane, event),
     }
 }
 
-/// The breach of the least rule that the event breaks.
+/// The violation of the least rule that the event breaks.
 #[inline(always)]
-pub(crate) fn breach_of<P: Plane>(notes: &Notes, plane: &Option<P>, event: &Event) -> Option<Breach>
-    requires { IsBelow notes.now }
-    ensures { (registers : ℕ) (before : List EventValue) → AreNotesAfter registers notes.now before
-        → IsSheetAfter (option_map P.sheet plane.now) before → IsBreachOf registers before event.now result }
+pub(crate) fn violation_of<P: Plane>(
+    state: &DrawingState,
+    plane: &Option<P>,
+    event: &Event,
+) -> Option<Violation>
+    requires { IsBelow state.now }
+    ensures { (registers : ℕ) (before : List EventValue) → IsStateAfter registers state.now before
+        → IsGridAfter (option_map P.grid plane.now) before → IsViolationOf registers before event.now result }
 {
-    match (broken_rule(notes, plane.is_some(), event), plane) {
-        (Some(rule), _) => Some(Breach { rule, pixel: None }),
-        (None, Some(plane)) => breach_of_pixels(notes, plane, event),
-        (None, None) => breach_of_eight_bit(event),
+    match (broken_rule(state, plane.is_some(), event), plane) {
+        (Some(rule), _) => Some(Violation { rule, pixel: None }),
+        (None, Some(plane)) => violation_of_pixels(state, plane, event),
+        (None, None) => violation_of_eight_bit(event),
     }
 }
 
 /// Paints the pixels of a data command.
 #[inline(always)]
-fn paint<P: Plane>(notes: &Notes, plane: &mut P, event: &Event)
-    requires { (registers : ℕ) × (before : List EventValue) × AreNotesAfter registers notes.now before
-        × IsDrawn (P.sheet plane.old) before × BreaksNoRule registers before event.now × IsSpellable event.now }
-    ensures { (registers : ℕ) (before : List EventValue) → AreNotesAfter registers notes.now before
-        → IsDrawn (P.sheet plane.old) before → BreaksNoRule registers before event.now
-        → IsDrawn (P.sheet plane.new) (before ++ event.now ∷ []) }
+fn paint<P: Plane>(state: &DrawingState, plane: &mut P, event: &Event)
+    requires { (registers : ℕ) × (before : List EventValue) × IsStateAfter registers state.now before
+        × IsDrawn (P.grid plane.old) before × BreaksNoRule registers before event.now × IsSpellable event.now }
+    ensures { (registers : ℕ) (before : List EventValue) → IsStateAfter registers state.now before
+        → IsDrawn (P.grid plane.old) before → BreaksNoRule registers before event.now
+        → IsDrawn (P.grid plane.new) (before ++ event.now ∷ []) }
 {
     if !is_painting(event) {
         return;
     }
-    match notes.known() {
+    match state.known() {
         Some(register) => plane.paint_run(
-            notes.column as u32,
-            notes.band as u32,
+            state.column as u32,
+            state.band as u32,
             columns_of(event) as u32,
             bits_of(event),
             register,
@@ -143,7 +151,7 @@ fn first_plane<P: Plane>(alloc: Global, event: &Event) -> Result<Option<P>, Allo
     requires { (registers : ℕ) × (before : List EventValue) × BreaksNoRule registers before event.now }
     ensures ok { IfOk result (λ plane. (registers : ℕ) (before : List EventValue) → IsUndrawn before
         → BreaksNoRule registers before event.now
-        → IsSheetAfter (option_map P.sheet plane) (before ++ event.now ∷ [])) }
+        → IsGridAfter (option_map P.grid plane) (before ++ event.now ∷ [])) }
     ensures declares { OnErr result (IsSome (raster_of event.now)) }
 {
     match sides_of(event) {
@@ -156,23 +164,23 @@ fn first_plane<P: Plane>(alloc: Global, event: &Event) -> Result<Option<P>, Allo
 #[inline(always)]
 pub(crate) fn draw<P: Plane>(
     alloc: Global,
-    notes: &Notes,
+    state: &DrawingState,
     plane: &mut Option<P>,
     event: &Event,
 ) -> Result<(), AllocError>
-    requires { (registers : ℕ) × (before : List EventValue) × AreNotesAfter registers notes.now before
-        × IsSheetAfter (option_map P.sheet plane.old) before × BreaksNoRule registers before event.now
+    requires { (registers : ℕ) × (before : List EventValue) × IsStateAfter registers state.now before
+        × IsGridAfter (option_map P.grid plane.old) before × BreaksNoRule registers before event.now
         × IsSpellable event.now }
-    ensures ok { OnOk result ((registers : ℕ) (before : List EventValue) → AreNotesAfter registers notes.now before
-        → IsSheetAfter (option_map P.sheet plane.old) before → BreaksNoRule registers before event.now
-        → IsSheetAfter (option_map P.sheet plane.new) (before ++ event.now ∷ [])) }
+    ensures ok { OnOk result ((registers : ℕ) (before : List EventValue) → IsStateAfter registers state.now before
+        → IsGridAfter (option_map P.grid plane.old) before → BreaksNoRule registers before event.now
+        → IsGridAfter (option_map P.grid plane.new) (before ++ event.now ∷ [])) }
     ensures err { OnErr result (plane.new ≡ plane.old) }
     ensures first { OnErr result (plane.old ≡ None) }
     ensures declares { OnErr result (IsSome (raster_of event.now)) }
 {
     match plane {
         Some(plane) => {
-            paint(notes, plane, event);
+            paint(state, plane, event);
             Ok(())
         }
         None => {
@@ -183,24 +191,24 @@ pub(crate) fn draw<P: Plane>(
 }
 
 /// The palette that is left: the colour of each register whose definition stands.
-fn left_palette(notes: Notes) -> Palette
-    ensures { (registers : ℕ) (events : List EventValue) → AreNotesAfter registers notes events
+fn left_palette(state: DrawingState) -> Palette
+    ensures { (registers : ℕ) (events : List EventValue) → IsStateAfter registers state events
         → result ≡ palette_left registers events }
 {
-    notes.palette
+    state.palette
 }
 
 /// The picture of a plane without a blank pixel.
-pub(crate) fn picture_of<P: Plane>(notes: Notes, plane: P) -> Picture
-    requires full { IsFull (P.sheet plane) }
+pub(crate) fn picture_of<P: Plane>(state: DrawingState, plane: P) -> Picture
+    requires full { IsFull (P.grid plane) }
     requires stands { (registers : ℕ) × (events : List EventValue)
-        × StandsUnbroken registers notes (Some (P.sheet plane)) events }
-    ensures { (registers : ℕ) (events : List EventValue) → StandsUnbroken registers notes (Some (P.sheet plane)) events
+        × StandsUnbroken registers state (Some (P.grid plane)) events }
+    ensures { (registers : ℕ) (events : List EventValue) → StandsUnbroken registers state (Some (P.grid plane)) events
         → result ≡ picture_left registers events }
 {
     let width = plane.width();
     let height = plane.height();
-    match Picture::new(width, height, left_palette(notes), plane.into_registers()) {
+    match Picture::new(width, height, left_palette(state), plane.into_registers()) {
         Ok(picture) => picture,
         Err(_) => unreachable!(),
     }

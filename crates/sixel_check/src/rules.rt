@@ -2,14 +2,14 @@
 
 ghost use Rattle.std.specs.Prelude.{◌≡◌, length};
 ghost use Rattle.sixel_model.specs.Rules as of;
-ghost use Rattle.sixel_check.specs.Breaches as noted;
-ghost use Rattle.sixel_check.specs.Notes.{IsBelow};
+ghost use Rattle.sixel_check.specs.Violations as by_state;
+ghost use Rattle.sixel_check.specs.DrawingState.{IsBelow};
 
 use crate::colours::{colour_in, is_colour_of};
+use crate::drawing_state::DrawingState;
 use crate::events::{
     is_data_command, is_finish, is_painting, is_raster, is_repeat_of_zero, is_return, named_by,
 };
-use crate::notes::Notes;
 use crate::rule::Rule;
 use sixel_grammar::{Command, Event};
 use sixel_model::MOST_REGISTERS;
@@ -19,14 +19,14 @@ const MOST_SIDE: u16 = 2048;
 
 /// A data command, a return or an end before all raster attributes.
 fn breaks_raster_first(has_box: bool, event: &Event) -> bool
-    ensures { result ≡ noted.raster_first_in has_box event.now }
+    ensures { result ≡ by_state.raster_first_in has_box event.now }
 {
     !has_box && (is_data_command(event) || is_return(event) || is_finish(event))
 }
 
 /// Raster attributes after raster attributes.
 fn breaks_raster_twice(has_box: bool, event: &Event) -> bool
-    ensures { result ≡ noted.raster_twice_in has_box event.now }
+    ensures { result ≡ by_state.raster_twice_in has_box event.now }
 {
     has_box && is_raster(event)
 }
@@ -57,11 +57,11 @@ fn breaks_box_size(event: &Event) -> bool
 
 /// A register above those of the palette's profile.
 #[tactic(auto, unfolding(sixel_model::specs::Rules::breaks_register))]
-fn breaks_register(notes: &Notes, event: &Event) -> bool
-    ensures { result ≡ of.breaks_register (length notes.now.palette) event.now }
+fn breaks_register(state: &DrawingState, event: &Event) -> bool
+    ensures { result ≡ of.breaks_register (length state.now.palette) event.now }
 {
     match named_by(event) {
-        Some(register) => register >= notes.palette.profile().count(),
+        Some(register) => register >= state.palette.profile().count(),
         None => false,
     }
 }
@@ -95,32 +95,32 @@ fn breaks_repeat_zero(event: &Event) -> bool
 
 /// A painting command where no register is known.
 #[inline(always)]
-fn breaks_unselected(notes: &Notes, event: &Event) -> bool
-    requires { IsBelow notes.now }
-    ensures { result ≡ noted.unselected_in notes.now event.now }
+fn breaks_unselected(state: &DrawingState, event: &Event) -> bool
+    requires { IsBelow state.now }
+    ensures { result ≡ by_state.unselected_in state.now event.now }
 {
-    is_painting(event) && notes.known().is_none()
+    is_painting(event) && state.known().is_none()
 }
 
 /// A painting command whose known register has no colour.
 #[inline(always)]
-fn breaks_undefined(notes: &Notes, event: &Event) -> bool
-    requires { IsBelow notes.now }
-    ensures { result ≡ noted.undefined_in notes.now event.now }
+fn breaks_undefined(state: &DrawingState, event: &Event) -> bool
+    requires { IsBelow state.now }
+    ensures { result ≡ by_state.undefined_in state.now event.now }
 {
     if !is_painting(event) {
         return false;
     }
-    match notes.known() {
-        Some(register) => notes.palette.get(register).is_none(),
+    match state.known() {
+        Some(register) => state.palette.get(register).is_none(),
         None => false,
     }
 }
 
 /// A definition of a register that was already painted in, with another colour than it has.
 #[inline(always)]
-fn breaks_redefined(notes: &Notes, event: &Event) -> bool
-    ensures { result ≡ noted.redefined_in notes.now event.now }
+fn breaks_redefined(state: &DrawingState, event: &Event) -> bool
+    ensures { result ≡ by_state.redefined_in state.now event.now }
 {
     match event {
         Event::Step(
@@ -132,10 +132,10 @@ fn breaks_redefined(notes: &Notes, event: &Event) -> bool
                 z,
             },
         ) => {
-            if *register as usize >= MOST_REGISTERS || !notes.painted[*register as usize] {
+            if *register as usize >= MOST_REGISTERS || !state.painted[*register as usize] {
                 return false;
             }
-            match notes.palette.get(*register as u8) {
+            match state.palette.get(*register as u8) {
                 Some(colour) => !is_colour_of(colour, *system, *x, *y, *z),
                 None => false,
             }
@@ -146,9 +146,9 @@ fn breaks_redefined(notes: &Notes, event: &Event) -> bool
 
 /// The first broken rule of the ten that look at no pixel.
 #[inline(always)]
-pub(crate) fn broken_rule(notes: &Notes, has_box: bool, event: &Event) -> Option<Rule>
-    requires { IsBelow notes.now }
-    ensures { result ≡ noted.rule_in notes.now has_box event.now }
+pub(crate) fn broken_rule(state: &DrawingState, has_box: bool, event: &Event) -> Option<Rule>
+    requires { IsBelow state.now }
+    ensures { result ≡ by_state.rule_in state.now has_box event.now }
 {
     if breaks_raster_first(has_box, event) {
         Some(Rule::RasterFirst)
@@ -158,17 +158,17 @@ pub(crate) fn broken_rule(notes: &Notes, has_box: bool, event: &Event) -> Option
         Some(Rule::Ratio)
     } else if breaks_box_size(event) {
         Some(Rule::BoxSize)
-    } else if breaks_register(notes, event) {
+    } else if breaks_register(state, event) {
         Some(Rule::Register)
     } else if breaks_colour_value(event) {
         Some(Rule::ColourValue)
     } else if breaks_repeat_zero(event) {
         Some(Rule::RepeatZero)
-    } else if breaks_unselected(notes, event) {
+    } else if breaks_unselected(state, event) {
         Some(Rule::Unselected)
-    } else if breaks_undefined(notes, event) {
+    } else if breaks_undefined(state, event) {
         Some(Rule::Undefined)
-    } else if breaks_redefined(notes, event) {
+    } else if breaks_redefined(state, event) {
         Some(Rule::Redefined)
     } else {
         None

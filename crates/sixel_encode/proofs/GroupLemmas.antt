@@ -12,7 +12,7 @@ use Rattle.std.proofs.lemmas.List.{get_or-set_other, get_or-set_same, length-set
 use Rattle.std.proofs.lemmas.Nat.Bits.{bit_at-trailing_zeros, bit_at-zero, bit_at_set_other, bit_at_set_same}
 use Rattle.sixel_model.specs.Pictures.{PictureValue, register_of}
 use Rattle.sixel_encode.specs.Canon.{column_bits, has_pixel, occurs}
-use Rattle.sixel_encode.specs.Columns.{AreMarked, HasBandGroups}
+use Rattle.sixel_encode.specs.Columns.{AreGroupsMarked, HasBandGroups}
 use Rattle.sixel_encode.proofs.BitLemmas.{column_has}
 use Rattle.sixel_encode.proofs.OccurLemmas.{occurs_is, pixel_occurs}
 use Rattle.sixel_encode.proofs.RangeLemmas.{InRange, range_any}
@@ -27,7 +27,7 @@ bit_kept n k g small h = elim (cases_eq g k) [
 
 -- one pixel
 pub marked_pixel : (x n : ℕ) (pixels old : List ℕ) → n ≡ get_or pixels x 0 → n < length old → x / 32 < 64
-    → AreMarked x (x + 1) pixels old (set old n (bit_or (get_or old n 0) (1 * 2 ^ (x / 32) % 2 ^ 64)))
+    → AreGroupsMarked x (x + 1) pixels old (set old n (bit_or (get_or old n 0) (1 * 2 ^ (x / 32) % 2 ^ 64)))
 marked_pixel x n pixels old is room small =
     let value = bit_or (get_or old n 0) (1 * 2 ^ (x / 32) % 2 ^ 64) in
     let here : get_or (set old n value) n 0 ≡ value = get_or-set_same old n value 0 room in
@@ -103,7 +103,7 @@ rows_none p band = record {
 pub rows_more : (p : PictureValue) (band row : ℕ) (pixels old new : List ℕ) → row < 6 → 6 * band + row < p.height
     → length pixels ≡ p.width
     → ((x : ℕ) → x < p.width → get_or pixels x 0 ≡ register_of p x (6 * band + row))
-    → AreMarked 0 (length pixels) pixels old new → AreRows p band row old → AreRows p band (row + 1) new
+    → AreGroupsMarked 0 (length pixels) pixels old new → AreRows p band row old → AreRows p band (row + 1) new
 rows_more p band row pixels old new small inside wide same marks before = record {
   long = marks.long ∙ before.long;
   found = λ x k lt less in_picture. elim (cases_eq k row) [

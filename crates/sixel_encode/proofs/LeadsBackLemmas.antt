@@ -17,14 +17,14 @@ use Rattle.sixel_model.specs.declared.colour.Parts.TheVariants.{Rgb, Hls}
 use Rattle.sixel_model.specs.Colours.{palette_at}
 use Rattle.sixel_model.specs.Pictures.{PictureValue}
 use Rattle.sixel_model.specs.Geometry.{falls}
-use Rattle.sixel_model.specs.Sheets.{row_by_row}
+use Rattle.sixel_model.specs.Grids.{row_by_row}
 use Rattle.sixel_model.specs.Events.{is_in_box}
 use Rattle.sixel_model.specs.Rules.{BreaksOutside, BreaksUncovered, colour_by, colour_of, is_covered, palette_left}
 use Rattle.sixel_model.specs.Rules.{picture_left, raster_before, register_at, breaks_box_size, breaks_colour_value}
 use Rattle.sixel_model.specs.Rules.{breaks_ratio, breaks_raster_first, breaks_raster_twice, breaks_redefined}
 use Rattle.sixel_model.specs.Rules.{breaks_register, breaks_repeat_zero, breaks_undefined, breaks_unselected}
 use Rattle.sixel_model.proofs.RuleLemmas.{Keeps}
-use Rattle.sixel_model.proofs.SheetLemmas.{rows_from_index}
+use Rattle.sixel_model.proofs.GridLemmas.{rows_from_index}
 use Rattle.sixel_encode.specs.Canon.{below, bands, band_commands, define_commands, picture_commands, canon_commands}
 use Rattle.sixel_encode.specs.Canon.{canon_start, canon}
 use Rattle.sixel_encode.specs.Laws.{ListsBreakNoRule, ListsLeaveTheirPicture}
@@ -37,18 +37,18 @@ use Rattle.sixel_encode.proofs.OpeningLemmas.{raster_opens}
 use Rattle.sixel_encode.proofs.PartedLemmas.{Parted, parted}
 
 -- the start and the raster attributes
-abbrev front : PictureValue → List Event
-front p = canon_start ∷ raster p ∷ []
+abbrev prefix : PictureValue → List Event
+prefix p = canon_start ∷ raster p ∷ []
 
 -- the definitions and the bands
 abbrev middle : PictureValue → List Event
 middle p = map Step (define_commands p.palette ++ join_by (band_commands p) (NextLine ∷ []) (below (bands p)))
 
 middle_passed : (registers : ℕ) (p : PictureValue) → Parted registers p
-    → Passed registers p (front p) (middle p) (bands p - 1) (is_above p (bands p))
+    → Passed registers p (prefix p) (middle p) (bands p - 1) (is_above p (bands p))
 middle_passed registers p h =
-    let opened : Opened registers p (front p) (map Step (define_commands p.palette)) (length p.palette) =
-    defines_opened registers p (front p) h (raster_opens p) in
+    let opened : Opened registers p (prefix p) (map Step (define_commands p.palette)) (length p.palette) =
+    defines_opened registers p (prefix p) h (raster_opens p) in
     let stands = ran_as opened (opens_stands p) in
     rw (map-append Step (define_commands p.palette) (join_by (band_commands p) (NextLine ∷ []) (below (bands p))))
     (ran_join stands (bands_passed (bands p) h stands.after (opened.after).at_margin))
@@ -87,7 +87,7 @@ pub lists_break_no_rule : (registers : ℕ) → ListsBreakNoRule registers
 unfolding canon canon_commands picture_commands KeepEach
 lists_break_no_rule registers p picture =
     let h : Parted registers p = parted registers p picture in
-    let m : Passed registers p (front p) (middle p) (bands p - 1)
+    let m : Passed registers p (prefix p) (middle p) (bands p - 1)
     (is_above p (bands p)) = middle_passed registers p h in
     keep_none registers (canon_start ∷ raster p ∷ (middle p ++ Finish false ∷ [])) (
       start_keeps registers,
@@ -95,9 +95,9 @@ lists_break_no_rule registers p picture =
       (
         raster_keeps registers p h,
         refl,
-        keep_append registers (front p) (middle p) (Finish false ∷ []) m.keeps
-            (keep_one registers (front p ++ middle p) (Finish false)
-            (finish_keeps registers p (front p ++ middle p) (bands p - 1) m.after) refl),
+        keep_append registers (prefix p) (middle p) (Finish false ∷ []) m.keeps
+            (keep_one registers (prefix p ++ middle p) (Finish false)
+            (finish_keeps registers p (prefix p ++ middle p) (bands p - 1) m.after) refl),
       ),
     )
 
@@ -156,8 +156,8 @@ pub lists_leave_their_picture : (registers : ℕ) → ListsLeaveTheirPicture reg
 unfolding canon canon_commands picture_commands
 lists_leave_their_picture registers p picture =
     let h : Parted registers p = parted registers p picture in
-    let m : Passed registers p (front p) (middle p) (bands p - 1)
+    let m : Passed registers p (prefix p) (middle p) (bands p - 1)
     (is_above p (bands p)) = middle_passed registers p h in
     stands_left registers p (canon_start ∷ raster p ∷ (middle p ++ Finish false ∷ [])) (bands p - 1) h
-    (stands_quiet p (front p ++ middle p) (Finish false) (bands p - 1) (bands p - 1)
+    (stands_quiet p (prefix p ++ middle p) (Finish false) (bands p - 1) (bands p - 1)
     (is_above p (bands p)) m.after refl refl (λ q. refl) (omega arith))

@@ -1,4 +1,4 @@
--- Longest runs, as a loop finds them from the front.
+-- Longest runs, as a loop finds them from the beginning.
 use Rattle.std.proofs.Common.{◌≡◌, ◌≢◌, ℕ, zero, suc, ◌+◌, Bool, true, false, not, cond, Some, List, [], ◌∷◌, ◌++◌}
 use Rattle.std.proofs.Common.{replicate, refl, sym, ap, ◌∙◌, add-one}
 use Rattle.std.specs.Prelude.{◌==◌, slice_get}
@@ -27,11 +27,11 @@ onto_other : (b : ℕ) (r : Run) (rs : List Run) → r.item ≢ b
     → onto_runs b (r ∷ rs) ≡ record { count = 1; item = b } ∷ r ∷ rs
 onto_other b r rs n = rw (ne_eqb r.item b n) refl
 
-one_front : (b : ℕ) (bs : List ℕ) → slice_get bs 0 ≢ Some b
+one_prefix : (b : ℕ) (bs : List ℕ) → slice_get bs 0 ≢ Some b
     → onto_runs b (runs bs) ≡ record { count = 1; item = b } ∷ runs bs
 unfolding runs
-one_front b [] n = refl
-one_front b (c ∷ cs) n =
+one_prefix b [] n = refl
+one_prefix b (c ∷ cs) n =
     let h : Heads c (onto_runs c (runs cs)) = heads c (runs cs) in
     let other : h.first.item ≢ b = (λ e. n (ap (λ (x : ℕ). Some x) (sym h.item ∙ e))) in
     ap (onto_runs b) h.is ∙ onto_other b h.first h.rest other
@@ -42,11 +42,11 @@ onto_same : (b n : ℕ) (rs : List Run)
 onto_same b n rs = rw (eq-eqb b b refl, add-one) refl
 
 -- equal items, as many as there are, are the first run
-pub runs_front : (n b : ℕ) (bs : List ℕ) → slice_get bs 0 ≢ Some b
+pub runs_prefix : (n b : ℕ) (bs : List ℕ) → slice_get bs 0 ≢ Some b
     → runs (replicate (suc n) b ++ bs) ≡ record { count = suc n; item = b } ∷ runs bs
 unfolding runs
-runs_front zero b bs h = one_front b bs h
-runs_front (suc n) b bs h = ap (onto_runs b) (runs_front n b bs h) ∙ onto_same b (suc n) (runs bs)
+runs_prefix zero b bs h = one_prefix b bs h
+runs_prefix (suc n) b bs h = ap (onto_runs b) (runs_prefix n b bs h) ∙ onto_same b (suc n) (runs bs)
 
 -- ---- columns without the blanks at their end
 
@@ -100,7 +100,7 @@ pub run_before : (n b c : ℕ) (cs : List ℕ) → c ≢ b
     ≡ record { count = suc n; item = b } ∷ runs (without_blanks (c ∷ cs))
 run_before n b c cs h =
     ap runs (without_run (suc n) b c cs (b == 0) (eqb-true b 0) (eqb-false b 0) h)
-    ∙ runs_front n b (without_blanks (c ∷ cs)) (first_left b c cs h)
+    ∙ runs_prefix n b (without_blanks (c ∷ cs)) (first_left b c cs h)
 
 -- equal columns with bits at the end are the last run
 pub run_at_end : (n b : ℕ) → b ≢ 0
@@ -109,4 +109,4 @@ unfolding runs
 run_at_end n b h =
     ap (λ (t : List ℕ). runs (without_blanks t)) (sym (append-nil (replicate (suc n) b)))
     ∙ ap runs (without_after (suc n) b [] h)
-    ∙ runs_front n b [] (λ e. cc e)
+    ∙ runs_prefix n b [] (λ e. cc e)

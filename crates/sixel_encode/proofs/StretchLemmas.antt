@@ -11,7 +11,7 @@ use Rattle.sixel_grammar.specs.declared.command.Command.TheVariants.{Select}
 use Rattle.sixel_model.specs.Pictures.{PictureValue}
 use Rattle.sixel_encode.specs.Canon.{all_columns, band_columns, has_bits, register_commands, run_commands, runs}
 use Rattle.sixel_encode.specs.Canon.{without_blanks}
-use Rattle.sixel_encode.specs.Columns.{AreSixels, IsInkEnd, IsRepeatAt, IsRun, NoFour, are_four, columns_of, part}
+use Rattle.sixel_encode.specs.Columns.{AreSixels, IsInkEnd, IsRepeatAt, IsRun, NoFour, are_four, bits_of_sixels, part}
 use Rattle.sixel_encode.specs.Columns.{sixel_commands, sixels_of}
 use Rattle.sixel_encode.proofs.TextLemmas.{columns-before, columns-blank, columns-end, columns_text, replicate-then}
 use Rattle.sixel_encode.proofs.TextLemmas.{run-short, run_text}
@@ -209,7 +209,7 @@ run_behind start end v cs low high each other some = elim (cases_lt end (length 
 spelled_at : (cs : List ℕ) (k : ℕ) → k < length cs → get_or (sixels_of cs) k 0 ≡ 63 + get_or cs k 0
 spelled_at cs k lt = get_or-map (λ bits. 63 + bits) cs k 0 0 lt
 
-pub bits_back : (cs : List ℕ) → columns_of (sixels_of cs) ≡ cs
+pub bits_back : (cs : List ℕ) → bits_of_sixels (sixels_of cs) ≡ cs
 bits_back [] = refl
 bits_back (b ∷ cs) = let e : 63 + b - 63 ≡ b = omega arith in ap₂ (λ (n : ℕ) (t : List ℕ). n ∷ t) e (bits_back cs)
 
@@ -220,12 +220,12 @@ pub register_is : (p : PictureValue) (band register : ℕ) (sixels : List ℕ)
 unfolding register_commands band_columns
 register_is p band register sixels e =
     ap (λ (t : List ℕ). Select register ∷ flat_map run_commands (runs (without_blanks t)))
-    (ap columns_of e ∙ bits_back (all_columns p band register))
+    (ap bits_of_sixels e ∙ bits_back (all_columns p band register))
 
 sixels_later : (x : ℕ) (xs : List ℕ) → AreSixels (x ∷ xs) → AreSixels xs
 sixels_later x xs are k lt = are (suc k) (omega arith)
 
-pub sixels_back : (xs : List ℕ) → AreSixels xs → xs ≡ sixels_of (columns_of xs)
+pub sixels_back : (xs : List ℕ) → AreSixels xs → xs ≡ sixels_of (bits_of_sixels xs)
 sixels_back [] are = refl
 sixels_back (x ∷ xs) are =
     let least = (are 0 (omega arith)).0 in
@@ -296,10 +296,11 @@ next_of cs from start end next run some =
 -- the same, of bytes
 pub next_text : (xs : List ℕ) (from start end : ℕ) → AreSixels xs → IsRepeatAt from xs start → IsRun start end xs
     → (end ≡ length xs → get_or xs start 0 ≢ 63)
-    → columns_text (drop from (columns_of xs))
-    ≡ (part from start xs ++ run_text (end - start) (get_or xs start 0 - 63)) ++ columns_text (drop end (columns_of xs))
+    → columns_text (drop from (bits_of_sixels xs))
+    ≡ (part from start xs ++ run_text (end - start) (get_or xs start 0 - 63))
+    ++ columns_text (drop end (bits_of_sixels xs))
 next_text xs from start end are next run some =
-    let cs = columns_of xs in
+    let cs = bits_of_sixels xs in
     let e : xs ≡ sixels_of cs = sixels_back xs are in
     let wide : length cs ≡ length xs = length-map xs (λ sixel. sixel - 63) in
     let within = run.within in
@@ -353,9 +354,9 @@ last_of_all cs from to low high none blank some =
 
 pub last_text : (xs : List ℕ) (from to : ℕ) → AreSixels xs → from ≤ to → to ≤ length xs → NoFour from to xs
     → ((k : ℕ) → to ≤ k → k < length xs → get_or xs k 0 ≡ 63) → (from < to → get_or xs (to - 1) 0 ≢ 63)
-    → columns_text (drop from (columns_of xs)) ≡ part from to xs
+    → columns_text (drop from (bits_of_sixels xs)) ≡ part from to xs
 last_text xs from to are low high none blank some =
-    let cs = columns_of xs in
+    let cs = bits_of_sixels xs in
     let e : xs ≡ sixels_of cs = sixels_back xs are in
     let wide : length cs ≡ length xs = length-map xs (λ sixel. sixel - 63) in
     let bits : (k : ℕ) → k < length xs → get_or cs k 0 ≡ get_or xs k 0 - 63 =
@@ -376,7 +377,7 @@ last_text xs from to are low high none blank some =
 -- where the last repeat is blank
 pub blank_end : (xs : List ℕ) (from start end : ℕ) → AreSixels xs → IsRepeatAt from xs start → IsRun start end xs
     → end ≡ length xs → get_or xs start 0 ≡ 63
-    → columns_text (drop from (columns_of xs)) ≡ part from start xs
+    → columns_text (drop from (bits_of_sixels xs)) ≡ part from start xs
 blank_end xs from start end are next run done blank =
     let room = next.within in
     last_text xs from start are next.after (omega arith) next.before
@@ -385,7 +386,7 @@ blank_end xs from start end are next run done blank =
 
 -- where no repeat is left
 pub ink_text : (xs : List ℕ) (from to : ℕ) → AreSixels xs → NoFour from (length xs) xs → IsInkEnd from to xs
-    → columns_text (drop from (columns_of xs)) ≡ part from to xs
+    → columns_text (drop from (bits_of_sixels xs)) ≡ part from to xs
 ink_text xs from to are none ink =
     let high = ink.within in
     last_text xs from to are ink.after ink.within (λ k low lt room. none k low (omega arith) room) ink.blank ink.ink

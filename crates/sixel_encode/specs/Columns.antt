@@ -14,12 +14,12 @@ abbrev pub sixels_of : List ℕ → List ℕ
 sixels_of columns = map (λ bits. 63 + bits) columns
 
 -- the bits that bytes spell
-abbrev pub columns_of : List ℕ → List ℕ
-columns_of sixels = map (λ sixel. sixel - 63) sixels
+abbrev pub bits_of_sixels : List ℕ → List ℕ
+bits_of_sixels sixels = map (λ sixel. sixel - 63) sixels
 
 -- the data commands of columns that bytes spell, up to the last one that has a bit
 abbrev pub sixel_commands : List ℕ → List Command
-sixel_commands sixels = flat_map run_commands (runs (without_blanks (columns_of sixels)))
+sixel_commands sixels = flat_map run_commands (runs (without_blanks (bits_of_sixels sixels)))
 
 -- each byte spells six bits
 abbrev pub AreSixels : List ℕ → Type 0
@@ -46,7 +46,7 @@ HasBandGroups p band register groups = (x row : ℕ) → x < p.width → row < b
     → has_pixel p band register x row ≡ true → bit_at groups (x / 32) ≡ 1
 
 -- the registers of the pixels from `from` up to `to` are marked, each by a bit for its group, and no others
-pub record AreMarked (from to : ℕ) (pixels old new : List ℕ) : Type 0 where
+pub record AreGroupsMarked (from to : ℕ) (pixels old new : List ℕ) : Type 0 where
   pub long : length new ≡ length old
   pub kept : (register group : ℕ) → bit_at (get_or old register 0) group ≡ 1
       → bit_at (get_or new register 0) group ≡ 1

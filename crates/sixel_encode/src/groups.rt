@@ -4,7 +4,7 @@ ghost use Rattle.std.specs.Prelude.{◌≡◌, ◌==◌, ◌+◌, ◌*◌, ◌<�
 ghost use Rattle.sixel_model.specs.Geometry.{band_rows};
 ghost use Rattle.sixel_model.specs.Pictures.{IsAnyPicture, most_side};
 ghost use Rattle.sixel_encode.specs.Canon.{most_bands, occurs};
-ghost use Rattle.sixel_encode.specs.Columns.{AreMarked, HasBandGroups};
+ghost use Rattle.sixel_encode.specs.Columns.{AreGroupsMarked, HasBandGroups};
 
 use crate::lanes::{LANES, is_uniform};
 use sixel_model::{BAND_ROWS, MOST_REGISTERS, Picture};
@@ -32,7 +32,7 @@ pub(crate) fn band_groups(picture: &Picture, band: u32) -> [u64; MOST_REGISTERS]
 /// Marks the registers of a row.
 fn mark_row(marks: &mut [u64; MOST_REGISTERS], pixels: &[u8])
     requires { length pixels.now ≤ most_side }
-    ensures { AreMarked 0 (length pixels.now) pixels.now marks.old marks.new }
+    ensures { AreGroupsMarked 0 (length pixels.now) pixels.now marks.old marks.new }
 {
     let rest = mark_groups(marks, pixels);
     for x in rest..pixels.len() {
@@ -44,7 +44,7 @@ fn mark_row(marks: &mut [u64; MOST_REGISTERS], pixels: &[u8])
 fn mark_groups(marks: &mut [u64; MOST_REGISTERS], pixels: &[u8]) -> usize
     requires { length pixels.now ≤ most_side }
     ensures to { result ≤ length pixels.now }
-    ensures marked { AreMarked 0 result pixels.now marks.old marks.new }
+    ensures marked { AreGroupsMarked 0 result pixels.now marks.old marks.new }
 {
     let count = pixels.len() / LANES;
     for group in 0..count {
@@ -57,7 +57,7 @@ fn mark_groups(marks: &mut [u64; MOST_REGISTERS], pixels: &[u8]) -> usize
 fn mark_group(marks: &mut [u64; MOST_REGISTERS], pixels: &[u8], group: usize)
     requires few { length pixels.now ≤ most_side }
     requires within { group * LANES + LANES ≤ length pixels.now }
-    ensures { AreMarked (group * LANES) (group * LANES + LANES) pixels.now marks.old marks.new }
+    ensures { AreGroupsMarked (group * LANES) (group * LANES + LANES) pixels.now marks.old marks.new }
 {
     let at = group * LANES;
     if is_uniform(pixels, at) {
@@ -71,7 +71,7 @@ fn mark_group(marks: &mut [u64; MOST_REGISTERS], pixels: &[u8], group: usize)
 fn mark_pixels(marks: &mut [u64; MOST_REGISTERS], pixels: &[u8], at: usize)
     requires few { length pixels.now ≤ most_side }
     requires within { at + LANES ≤ length pixels.now }
-    ensures { AreMarked at (at + LANES) pixels.now marks.old marks.new }
+    ensures { AreGroupsMarked at (at + LANES) pixels.now marks.old marks.new }
 {
     for x in at..at + LANES {
         mark_pixel(marks, pixels, x);
@@ -82,7 +82,7 @@ fn mark_pixels(marks: &mut [u64; MOST_REGISTERS], pixels: &[u8], at: usize)
 fn mark_pixel(marks: &mut [u64; MOST_REGISTERS], pixels: &[u8], x: usize)
     requires few { length pixels.now ≤ most_side }
     requires within { x < length pixels.now }
-    ensures { AreMarked x (x + 1) pixels.now marks.old marks.new }
+    ensures { AreGroupsMarked x (x + 1) pixels.now marks.old marks.new }
 {
     marks[pixels[x] as usize] |= 1 << (x / LANES);
 }

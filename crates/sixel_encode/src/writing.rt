@@ -18,7 +18,7 @@ use sixel_model::{BAND_ROWS, Palette, Parts, Picture};
 /// Why a picture was not written to its end.
 #[derive(Clone, Copy, Debug, PartialEq, Eq)]
 pub enum EncodeFault {
-    /// The sink failed. It took a front of the text.
+    /// The sink failed. It took a prefix of the text.
     Write = 1,
 }
 

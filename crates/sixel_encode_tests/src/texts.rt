@@ -143,27 +143,27 @@ fn wide_pictures_have_their_texts(rt: HostRuntime) -> Result<(), Fail> {
     Ok(())
 }
 
-/// Whether a sink with this room, of so many bytes a call and with this call failing, fails and has the front.
+/// Whether a sink with this room, of so many bytes a call and with this call failing, fails and has the prefix.
 fn fails(
     picture: &Picture,
     room: &mut [u8],
     piece: usize,
     fail_at: Option<u64>,
-    front: &[u8],
+    prefix: &[u8],
 ) -> bool {
     let mut sink = SliceSink::new(room, piece.max(1), fail_at);
-    encode(picture, &mut sink) == Err(EncodeFault::Write) && sink.written() == front
+    encode(picture, &mut sink) == Err(EncodeFault::Write) && sink.written() == prefix
 }
 
-/// Whether a sink that fails before the end of the text has a front of it: one that takes a byte a call and fails at
+/// Whether a sink that fails before the end of the text has a prefix of it: one that takes a byte a call and fails at
 /// one, and one with too little room.
 fn fails_in_turn(picture: &Picture, text: &[u8]) -> bool {
     for count in 0..text.len().min(33) {
-        let front = &text[..count];
+        let prefix = &text[..count];
         let mut room = [0; 33];
-        if !fails(picture, &mut room, 1, Some(count as u64), front)
-            || !fails(picture, &mut room[..count], 1, None, front)
-            || !fails(picture, &mut room[..count], 64, None, front)
+        if !fails(picture, &mut room, 1, Some(count as u64), prefix)
+            || !fails(picture, &mut room[..count], 1, None, prefix)
+            || !fails(picture, &mut room[..count], 64, None, prefix)
         {
             return false;
         }
@@ -172,7 +172,7 @@ fn fails_in_turn(picture: &Picture, text: &[u8]) -> bool {
 }
 
 #[test]
-fn a_failed_sink_has_a_front_of_the_text(rt: HostRuntime) -> Result<(), Fail> {
+fn a_failed_sink_has_a_prefix_of_the_text(rt: HostRuntime) -> Result<(), Fail> {
     let entries = [(0, Parts::Rgb(100, 0, 0))];
     let narrow = Profile::Registers16;
     let five = picture_of(rt.alloc(), narrow, (5, 1), &entries, &[0; 5])?;

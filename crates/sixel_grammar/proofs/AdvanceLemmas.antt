@@ -1,4 +1,4 @@
--- What a front ends in after one byte more.
+-- What a prefix ends in after one byte more.
 use Rattle.std.proofs.Common.{◌≡◌, ℕ, ◌+◌, ◌-◌, ◌<◌, ◌≤◌, true, false, eqb, leb, ltb, List, [], ◌∷◌, ◌++◌, length}
 use Rattle.std.proofs.Common.{Option, Some, None, refl, ap, ◌∙◌, arith, inl, inr, append_assoc, length-append}
 use Rattle.std.specs.Prelude.{◌&&◌, if◌then◌else◌}
@@ -76,7 +76,7 @@ begins {events} {opened} {bytes} e b =
 both_of : (b c k m : ℕ) → (eqb b c && ltb k m) ≡ true → (b ≡ c) × (k < m)
 both_of b c k m h = grind (arith, nat_tests)
 
--- what is open, whose bytes are a front and then fields, goes on with a byte
+-- what is open, whose bytes are a prefix and then fields, goes on with a byte
 lead-more : (text lead fields : List ℕ) (b : ℕ) → text ≡ lead ++ fields → text ++ b ∷ [] ≡ lead ++ (fields ++ b ∷ [])
 lead-more text lead fields b e = ap (λ (t : List ℕ). t ++ b ∷ []) e ∙ append_assoc lead fields (b ∷ [])
 

@@ -1,4 +1,4 @@
--- Whole documents and their fronts are walked in one way alone.
+-- Whole documents and their prefixes are walked in one way alone.
 use Rattle.std.proofs.Common.{◌≡◌, ℕ, ◌+◌, ◌<◌, ◌≤◌, Bool, true, false, cond, ltb, List, [], ◌∷◌, ◌++◌, length, Option}
 use Rattle.std.proofs.Common.{Some, None, refl, sym, ap, subst, ◌∙◌, append_assoc, arith, length-append, inl, inr}
 use Rattle.std.specs.Prelude.{◌⊎◌, IsTrue}
@@ -17,7 +17,7 @@ use Rattle.sixel_grammar.specs.Number.{Fields}
 use Rattle.sixel_grammar.specs.Spelling.{Spells, SpellsCommand, is_open_ended}
 use Rattle.sixel_grammar.specs.Document.{AreFiller, Piece, IsPiece, bytes_of, joined, events_in, AreRest, AreWhole}
 use Rattle.sixel_grammar.specs.Document.{Parses}
-use Rattle.sixel_grammar.specs.Fronts.{completed_at, IsViable}
+use Rattle.sixel_grammar.specs.Prefixes.{completed_at, IsViable}
 use Rattle.sixel_grammar.specs.Faults.{Form, NothingYet, Introducing, Parameters, LastSeparator, NoCommand}
 use Rattle.sixel_grammar.specs.Faults.{RepeatNumber, RasterFields, ColourFields, Terminating, Ended, EndsIn, AreSteps}
 use Rattle.sixel_grammar.specs.Faults.{AreBegun, IsClosed, is_idle}

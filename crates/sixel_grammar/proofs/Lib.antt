@@ -9,11 +9,11 @@ pub mod WalkLemmas
 pub mod DocumentWalkLemmas
 pub mod ChoiceLemmas
 pub mod StandLemmas
-pub mod FrontLemmas
+pub mod PrefixLemmas
 pub mod UniqueLemmas
 pub mod NotPlainLemmas
 pub mod NotSixelLemmas
-pub mod RunLemmas
+pub mod DataByteLemmas
 pub mod SixelLemmas
 pub mod SourceLemmas
 pub mod WritableLemmas

@@ -13,7 +13,7 @@ use Rattle.sixel_grammar.specs.Faults.{RepeatNumber, RasterFields, ColourFields,
 use Rattle.sixel_grammar.specs.Next.{with_digit, number_next, begin, within, settled, chosen, next_of, only_grown}
 use Rattle.sixel_grammar.specs.Next.{makes_columns}
 use Rattle.sixel_grammar.specs.Pending.{form_of}
-use Rattle.sixel_grammar.specs.Fronts.{CompleteIn}
+use Rattle.sixel_grammar.specs.Prefixes.{CompleteIn}
 use Rattle.sixel_grammar.specs.Standing.{StandsAfter, are_plain, is_columns, opened_after}
 use Rattle.sixel_grammar.proofs.AdvanceLemmas.{GoesTo, advances}
 use Rattle.sixel_grammar.proofs.StandLemmas.{completed_events, handed, read_complete}

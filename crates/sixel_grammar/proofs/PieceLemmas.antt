@@ -1,4 +1,4 @@
--- Pieces with one more at the end, and what a front that ends in a form is after one byte more. Nothing here knows
+-- Pieces with one more at the end, and what a prefix that ends in a form is after one byte more. Nothing here knows
 -- which bytes spell which event.
 use Rattle.std.proofs.Common.{◌≡◌, ℕ, ◌+◌, ◌<◌, ◌≤◌, Bool, false, List, [], ◌∷◌, ◌++◌, length, refl, sym, ap, ◌∙◌}
 use Rattle.std.proofs.Common.{append_assoc, arith, length-append}

@@ -14,7 +14,7 @@ use Rattle.sixel_grammar.specs.Faults.{Form, NoCommand, EndsIn, is_idle}
 use Rattle.sixel_grammar.specs.Next.{within}
 use Rattle.sixel_grammar.specs.Pending.{form_of}
 use Rattle.sixel_grammar.specs.Standing.{StandsAfter, opened_after}
-use Rattle.sixel_grammar.specs.Stretches.{AreData, IsRun, TakesSixels, makes_sixel, sixels_from}
+use Rattle.sixel_grammar.specs.Stretches.{AreData, CountsDataBytes, TakesSixels, makes_sixel, sixels_from}
 use Rattle.sixel_grammar.proofs.AdvanceLemmas.{GoesTo, advances}
 use Rattle.sixel_grammar.proofs.ChoiceLemmas.{goes-on}
 
@@ -31,57 +31,58 @@ sixel_ends events n bytes b at t e =
     (sym at) went
 
 -- a stretch of them
-sixels_end : (front : List ℕ) (events : List Placed) (n : ℕ) (bytes : List ℕ) → n ≡ length bytes
-    → ((k : ℕ) → k < length front → is_data (get_or front k 0) ≡ true)
+sixels_end : (prefix : List ℕ) (events : List Placed) (n : ℕ) (bytes : List ℕ) → n ≡ length bytes
+    → ((k : ℕ) → k < length prefix → is_data (get_or prefix k 0) ≡ true)
     → EndsIn NoCommand events n bytes
-    → EndsIn NoCommand (events ++ sixels_from n front) (n + length front) (bytes ++ front)
+    → EndsIn NoCommand (events ++ sixels_from n prefix) (n + length prefix) (bytes ++ prefix)
 sixels_end [] events n bytes at each e =
     let none : n ≡ n + 0 = omega arith in
     subst (λ (es : List Placed). EndsIn NoCommand es (n + 0) (bytes ++ [])) (sym (append-nil events))
     (subst (λ (bs : List ℕ). EndsIn NoCommand events (n + 0) bs) (sym (append-nil bytes))
     (subst (λ (k : ℕ). EndsIn NoCommand events k bytes) none e))
-sixels_end (b ∷ front) events n bytes at each e =
+sixels_end (b ∷ prefix) events n bytes at each e =
     let first : Placed = record { place = n; event = Step (Sixel (b - 63)) } in
     let one = sixel_ends events n bytes b at (each 0 (omega arith)) e in
     let next : n + 1 ≡ length (bytes ++ b ∷ []) = omega (arith, at, length-append bytes (b ∷ [])) in
-    let rest = sixels_end front (events ++ first ∷ []) (n + 1) (bytes ++ b ∷ []) next
+    let rest = sixels_end prefix (events ++ first ∷ []) (n + 1) (bytes ++ b ∷ []) next
     (λ k lt. each (suc k) (omega arith)) one in
-    let far : n + 1 + length front ≡ n + length (b ∷ front) = omega arith in
-    subst (λ (k : ℕ). EndsIn NoCommand (events ++ sixels_from n (b ∷ front)) k (bytes ++ b ∷ front)) far
-    (subst (λ (es : List Placed). EndsIn NoCommand es (n + 1 + length front) (bytes ++ b ∷ front))
-    (append_assoc events (first ∷ []) (sixels_from (n + 1) front))
-    (subst (λ (bs : List ℕ). EndsIn NoCommand ((events ++ first ∷ []) ++ sixels_from (n + 1) front)
-    (n + 1 + length front) bs)
-    (append_assoc bytes (b ∷ []) front) rest))
+    let far : n + 1 + length prefix ≡ n + length (b ∷ prefix) = omega arith in
+    subst (λ (k : ℕ). EndsIn NoCommand (events ++ sixels_from n (b ∷ prefix)) k (bytes ++ b ∷ prefix)) far
+    (subst (λ (es : List Placed). EndsIn NoCommand es (n + 1 + length prefix) (bytes ++ b ∷ prefix))
+    (append_assoc events (first ∷ []) (sixels_from (n + 1) prefix))
+    (subst (λ (bs : List ℕ). EndsIn NoCommand ((events ++ first ∷ []) ++ sixels_from (n + 1) prefix)
+    (n + 1 + length prefix) bs)
+    (append_assoc bytes (b ∷ []) prefix) rest))
 
 -- a reader that takes as many bytes as may come, all of them sixels by themselves
-pub sixels : (r q : Reader) (place : ℕ) (front : List ℕ) → place ≡ most_bytes - r.left → form_of r.pending ≡ NoCommand
+pub sixels : (r q : Reader) (place : ℕ) (prefix : List ℕ) → place ≡ most_bytes - r.left → form_of r.pending ≡ NoCommand
     → q.pending ≡ r.pending → q.fault ≡ r.fault
-    → length front ≤ r.left → q.left ≡ r.left - length front
-    → ((k : ℕ) → k < length front → is_data (get_or front k 0) ≡ true)
-    → TakesSixels r q place front
-sixels r q place front begins form same fault room left each events bytes s =
+    → length prefix ≤ r.left → q.left ≡ r.left - length prefix
+    → ((k : ℕ) → k < length prefix → is_data (get_or prefix k 0) ≡ true)
+    → TakesSixels r q place prefix
+sixels r q place prefix begins form same fault room left each events bytes s =
     let at : place ≡ length bytes = omega (arith, begins, s.left) in
     let here : opened_after (length bytes) r ≡ length bytes =
     ap (λ (f : Form). cond (is_idle f) (length bytes) r.opened) form in
     let between : form_of q.pending ≡ NoCommand = ap form_of same ∙ form in
-    let len : length (bytes ++ front) ≡ length bytes + length front = length-append bytes front in
-    let there : opened_after (length (bytes ++ front)) q ≡ length bytes + length front =
-    ap (λ (f : Form). cond (is_idle f) (length (bytes ++ front)) q.opened) between ∙ len in
+    let len : length (bytes ++ prefix) ≡ length bytes + length prefix = length-append bytes prefix in
+    let there : opened_after (length (bytes ++ prefix)) q ≡ length bytes + length prefix =
+    ap (λ (f : Form). cond (is_idle f) (length (bytes ++ prefix)) q.opened) between ∙ len in
     let from : EndsIn NoCommand events (length bytes) bytes =
     subst (λ (f : Form). EndsIn f events (length bytes) bytes) form
     (subst (λ (k : ℕ). EndsIn (form_of r.pending) events k bytes) here s.ends) in
-    let went = sixels_end front events (length bytes) bytes refl each from in (
+    let went = sixels_end prefix events (length bytes) bytes refl each from in (
       at,
-      subst (λ (k : ℕ). StandsAfter q (events ++ sixels_from k front) (bytes ++ front)) (sym at)
+      subst (λ (k : ℕ). StandsAfter q (events ++ sixels_from k prefix) (bytes ++ prefix)) (sym at)
           (record {
             no_fault = fault ∙ s.no_fault;
             left = omega (arith, s.left, left, len, room);
             ends = subst
-                (λ (k : ℕ). EndsIn (form_of q.pending) (events ++ sixels_from (length bytes) front) k (bytes ++ front))
+                (λ (k : ℕ). EndsIn (form_of q.pending) (events ++ sixels_from (length bytes) prefix) k
+                (bytes ++ prefix))
                 (sym there)
                 (subst (λ (f : Form).
-                EndsIn f (events ++ sixels_from (length bytes) front) (length bytes + length front) (bytes ++ front))
+                EndsIn f (events ++ sixels_from (length bytes) prefix) (length bytes + length prefix) (bytes ++ prefix))
                 (sym between) went);
           }),
     )
@@ -107,18 +108,20 @@ other_byte NoCommand b h = h
 other_byte _ b h = refl
 
 -- a reader that takes so many bytes of a piece, which are data bytes
-pub sixels_taken : (r q : Reader) (place : ℕ) (piece : List ℕ) (n run : ℕ) → place ≡ most_bytes - r.left
+pub sixels_taken : (r q : Reader) (place : ℕ) (piece : List ℕ) (n data_bytes : ℕ) → place ≡ most_bytes - r.left
     → form_of r.pending ≡ NoCommand → q.pending ≡ r.pending
-    → q.fault ≡ r.fault → n ≤ r.left → q.left ≡ r.left - n → n ≤ run → run ≤ length piece → AreData 0 run piece
+    → q.fault ≡ r.fault → n ≤ r.left → q.left ≡ r.left - n → n ≤ data_bytes → data_bytes ≤ length piece
+    → AreData 0 data_bytes piece
     → TakesSixels r q place (take n piece)
-sixels_taken r q place piece n run begins form same fault room left few whole each =
+sixels_taken r q place piece n data_bytes begins form same fault room left few whole each =
     let long : length (take n piece) ≡ n = length-take-le n piece (omega arith) in
     sixels r q place (take n piece) begins form same fault (omega (arith, long)) (omega (arith, long, left))
     (λ k lt. ap is_data (get_or-take n piece k 0 (omega (arith, long))) ∙ each k (omega arith) (omega (arith, long)))
 
--- the byte after a run that doesn't reach the end
-pub next_is_other : (piece : List ℕ) (run : ℕ) → IsRun piece 0 (length piece) run → run < length piece
-    → is_data (get_or piece run 0) ≡ false
-next_is_other piece run r lt =
-    let at : 0 + run ≡ run = omega arith in
+-- the byte after data bytes that don't reach the end
+pub next_is_other : (piece : List ℕ) (data_bytes : ℕ) → CountsDataBytes piece 0 (length piece) data_bytes
+    → data_bytes < length piece
+    → is_data (get_or piece data_bytes 0) ≡ false
+next_is_other piece data_bytes r lt =
+    let at : 0 + data_bytes ≡ data_bytes = omega arith in
     ap (λ (k : ℕ). is_data (get_or piece k 0)) (sym at) ∙ r.stops lt

@@ -65,17 +65,17 @@ pub take_none : (n : ℕ) (xs : List ℕ) → n ≡ 0 → take n xs ≡ []
 take_none n [] e = rw e refl
 take_none n (x ∷ xs) e = rw e refl
 
-pub one_past : (front xs : List ℕ) (k : ℕ) → k < length xs
-    → (front ++ take k xs) ++ get_or xs k 0 ∷ [] ≡ front ++ take (k + 1) xs
-one_past front xs k lt =
-    append_assoc front (take k xs) (get_or xs k 0 ∷ []) ∙ ap (λ (t : List ℕ). front ++ t) (sym (take_more xs k 0 lt))
+pub one_past : (prefix xs : List ℕ) (k : ℕ) → k < length xs
+    → (prefix ++ take k xs) ++ get_or xs k 0 ∷ [] ≡ prefix ++ take (k + 1) xs
+one_past prefix xs k lt =
+    append_assoc prefix (take k xs) (get_or xs k 0 ∷ []) ∙ ap (λ (t : List ℕ). prefix ++ t) (sym (take_more xs k 0 lt))
 
-pub split_past : (front xs : List ℕ) (k : ℕ) → k < length xs
-    → front ++ xs ≡ ((front ++ take k xs) ++ get_or xs k 0 ∷ []) ++ drop (k + 1) xs
-split_past front xs k lt =
-    ap (λ (t : List ℕ). front ++ t) (sym (take-append-drop (k + 1) xs))
-    ∙ sym (append_assoc front (take (k + 1) xs) (drop (k + 1) xs))
-    ∙ ap (λ (t : List ℕ). t ++ drop (k + 1) xs) (sym (one_past front xs k lt))
+pub split_past : (prefix xs : List ℕ) (k : ℕ) → k < length xs
+    → prefix ++ xs ≡ ((prefix ++ take k xs) ++ get_or xs k 0 ∷ []) ++ drop (k + 1) xs
+split_past prefix xs k lt =
+    ap (λ (t : List ℕ). prefix ++ t) (sym (take-append-drop (k + 1) xs))
+    ∙ sym (append_assoc prefix (take (k + 1) xs) (drop (k + 1) xs))
+    ∙ ap (λ (t : List ℕ). t ++ drop (k + 1) xs) (sym (one_past prefix xs k lt))
 
 pub take_past : (n : ℕ) (xs : List ℕ) → length xs ≤ n → take n xs ≡ xs
 take_past zero [] le = refl

@@ -15,7 +15,7 @@ use Rattle.sixel_grammar.specs.declared.fault.Reason.{Reason}
 use Rattle.sixel_grammar.specs.declared.fault.Reason.TheVariants.{Truncated, TooLong}
 use Rattle.sixel_grammar.specs.declared.reader.Reader.{Reader}
 use Rattle.sixel_grammar.specs.Document.{IsDocument, most_bytes}
-use Rattle.sixel_grammar.specs.Fronts.{CompleteIn, IsViable}
+use Rattle.sixel_grammar.specs.Prefixes.{CompleteIn, IsViable}
 use Rattle.sixel_grammar.specs.Faults.{Form, NothingYet, Introducing, Parameters, LastSeparator, NoCommand}
 use Rattle.sixel_grammar.specs.Faults.{RepeatNumber, RasterFields, ColourFields, Terminating, Ended, EndsIn, IsFaultOf}
 use Rattle.sixel_grammar.specs.Faults.{refusal, is_idle}
@@ -27,7 +27,7 @@ use Rattle.sixel_grammar.specs.Pending.{form_of}
 use Rattle.sixel_grammar.specs.Standing.{StandsAfter, completions, opened_after}
 use Rattle.sixel_grammar.proofs.AdvanceLemmas.{GoesTo, with_done, second_place, advances}
 use Rattle.sixel_grammar.proofs.ChoiceLemmas.{goes-on}
-use Rattle.sixel_grammar.proofs.FrontLemmas.{nothing}
+use Rattle.sixel_grammar.proofs.PrefixLemmas.{nothing}
 use Rattle.sixel_grammar.proofs.ViableLemmas.{complete}
 use Rattle.sixel_grammar.proofs.WalkLemmas.{State, moved, walk}
 use Rattle.sixel_grammar.proofs.DocumentWalkLemmas.{start, not_viable, document_walk, ends_walk}
@@ -234,10 +234,10 @@ get-last : (xs : List ℕ) (b : ℕ) → slice_get (xs ++ b ∷ []) (length xs) 
 get-last [] b = refl
 get-last (x ∷ xs) b = get-last xs b
 
-front_viable : (f : Form) {events : List Placed} {opened : ℕ} {bytes : List ℕ}
+prefix_viable : (f : Form) {events : List Placed} {opened : ℕ} {bytes : List ℕ}
     (e : EndsIn f events opened bytes) (b : ℕ)
     → IsViable (take (length bytes) (bytes ++ b ∷ []))
-front_viable f {events = events} {bytes = bytes} e b =
+prefix_viable f {events = events} {bytes = bytes} e b =
     subst IsViable (sym (take-append_seam bytes (b ∷ []))) (events, complete f e)
 
 pub refused : (f : Form) {events : List Placed} {opened : ℕ} {bytes : List ℕ} (e : EndsIn f events opened bytes)
@@ -249,7 +249,7 @@ refused f {events = events} {opened = opened} {bytes = bytes} e b lt stop =
     inr (record {
       longest = record {
         within = omega arith;
-        viable = front_viable f e b;
+        viable = prefix_viable f e b;
         longest = λ n le v. elim (cases_lt (length bytes) n) [
           | inl more ↦ let k : n ≡ length (bytes ++ b ∷ []) = omega arith in
               absurd (not_viable f e b [] stop
@@ -267,7 +267,7 @@ pub too_long : (f : Form) {events : List Placed} {opened : ℕ} {bytes : List �
 too_long f {bytes = bytes} e b k =
     inl (record {
       long = omega (arith, length-append bytes (b ∷ []));
-      viable = subst (λ (n : ℕ). IsViable (take n (bytes ++ b ∷ []))) k (front_viable f e b);
+      viable = subst (λ (n : ℕ). IsViable (take n (bytes ++ b ∷ []))) k (prefix_viable f e b);
       fault_is = refl;
     })
 

@@ -11,14 +11,14 @@ use Rattle.sixel_grammar.specs.declared.fault.Fault.{Fault}
 use Rattle.sixel_grammar.specs.declared.fault.Reason.TheVariants.{Truncated, TooLong}
 use Rattle.sixel_grammar.specs.Document.{Piece, bytes_of, events_in, events_of, placed_from, AreWhole, Document}
 use Rattle.sixel_grammar.specs.Document.{IsDocument, most_bytes}
-use Rattle.sixel_grammar.specs.Fronts.{CompleteIn, IsViable}
+use Rattle.sixel_grammar.specs.Prefixes.{CompleteIn, IsViable}
 use Rattle.sixel_grammar.specs.Faults.{Form, NothingYet, Introducing, Parameters, LastSeparator, NoCommand}
-use Rattle.sixel_grammar.specs.Faults.{RepeatNumber, RasterFields, ColourFields, Terminating, Ended, AreFront, EndsIn}
+use Rattle.sixel_grammar.specs.Faults.{RepeatNumber, RasterFields, ColourFields, Terminating, Ended, ArePrefix, EndsIn}
 use Rattle.sixel_grammar.specs.Faults.{IsFaultOf, Precede, refusal}
 use Rattle.sixel_grammar.specs.Next.{next_of}
 use Rattle.sixel_grammar.proofs.AdvanceLemmas.{GoesTo, advances}
 use Rattle.sixel_grammar.proofs.DocumentWalkLemmas.{ended_parses}
-use Rattle.sixel_grammar.proofs.FrontLemmas.{nothing, front_ends}
+use Rattle.sixel_grammar.proofs.PrefixLemmas.{nothing, prefix_ends}
 use Rattle.sixel_grammar.proofs.StandLemmas.{fault_at, refused, too_long, truncated}
 use Rattle.sixel_grammar.proofs.UniqueLemmas.{complete_once, fault_stays}
 use Rattle.sixel_grammar.proofs.ViableLemmas.{complete}
@@ -31,29 +31,29 @@ pub document_whole : (events : List Placed) (bytes : List ℕ) → Document even
 document_whole events bytes d = subst AreWhole
     (sym (ap events_of d.events_are ∙ placed-events 0 d.pieces)) d.parses.whole
 
--- ---- fronts
+-- ---- prefixes
 
-precede_front : (f : Form) (events : List Event) → Precede f events → AreFront events
-precede_front NothingYet events h = inl h
-precede_front Introducing events h = inl h
-precede_front (Parameters eight ns n) events h = inl h
-precede_front (LastSeparator eight ns) events h = inl h
-precede_front NoCommand events h = inr (inl h)
-precede_front (RepeatNumber n) events h = inr (inl h)
-precede_front (RasterFields ns n) events h = inr (inl h)
-precede_front (ColourFields ns n) events h = inr (inl h)
-precede_front Terminating events h = inr (inl h)
-precede_front Ended events h = inr (inr h)
+precede_prefix : (f : Form) (events : List Event) → Precede f events → ArePrefix events
+precede_prefix NothingYet events h = inl h
+precede_prefix Introducing events h = inl h
+precede_prefix (Parameters eight ns n) events h = inl h
+precede_prefix (LastSeparator eight ns) events h = inl h
+precede_prefix NoCommand events h = inr (inl h)
+precede_prefix (RepeatNumber n) events h = inr (inl h)
+precede_prefix (RasterFields ns n) events h = inr (inl h)
+precede_prefix (ColourFields ns n) events h = inr (inl h)
+precede_prefix Terminating events h = inr (inl h)
+precede_prefix Ended events h = inr (inr h)
 
-pub complete_front : (events : List Placed) (bytes : List ℕ) → CompleteIn events bytes → AreFront (events_of events)
-complete_front events bytes c =
+pub complete_prefix : (events : List Placed) (bytes : List ℕ) → CompleteIn events bytes → ArePrefix (events_of events)
+complete_prefix events bytes c =
     let v =
-    front_ends bytes []
+    prefix_ends bytes []
     (subst (λ (t : List ℕ). (es : List Placed) × CompleteIn es t) (sym (append-nil bytes)) (events, c)) in
     let e = v.3 in
     let same : events ≡ placed_from 0 e.pieces = complete_once bytes events v.1 c (complete v.0 e) ∙ e.events_are in
-    subst AreFront (sym (ap events_of same ∙ placed-events 0 e.pieces))
-    (precede_front v.0 (events_in e.pieces) e.before)
+    subst ArePrefix (sym (ap events_of same ∙ placed-events 0 e.pieces))
+    (precede_prefix v.0 (events_in e.pieces) e.before)
 
 -- ---- a document, or a fault
 

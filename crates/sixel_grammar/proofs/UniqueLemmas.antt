@@ -14,7 +14,7 @@ use Rattle.sixel_grammar.specs.declared.fault.Reason.{Reason}
 use Rattle.sixel_grammar.specs.declared.fault.Fault.{Fault}
 use Rattle.sixel_grammar.specs.Document.{Piece, bytes_of, joined, events_in, placed_from, AreRest, AreWhole, Parses}
 use Rattle.sixel_grammar.specs.Document.{Document, IsDocument, most_bytes}
-use Rattle.sixel_grammar.specs.Fronts.{completed_at, complete_from, CompleteIn, IsViable}
+use Rattle.sixel_grammar.specs.Prefixes.{completed_at, complete_from, CompleteIn, IsViable}
 use Rattle.sixel_grammar.specs.declared.command.Event.TheVariants.{Start, Step, Finish}
 use Rattle.sixel_grammar.specs.Spelling.{is_open_ended}
 use Rattle.sixel_grammar.specs.Faults.{Form, NothingYet, Ended, EndsIn, IsClosed, refusal, Stops, IsTooLong, IsRefused}
@@ -25,7 +25,7 @@ use Rattle.sixel_grammar.proofs.WalkLemmas.{walk-append, walk-then}
 use Rattle.sixel_grammar.proofs.DocumentWalkLemmas.{start, stamped_from, document_walk, ends_walk}
 use Rattle.sixel_grammar.proofs.StandLemmas.{fault_at, form_at}
 use Rattle.sixel_grammar.proofs.ViableLemmas.{complete}
-use Rattle.sixel_grammar.proofs.FrontLemmas.{fronts}
+use Rattle.sixel_grammar.proofs.PrefixLemmas.{prefixes}
 
 abbrev placed_of : List Stamp → List Placed
 placed_of [] = []
@@ -125,71 +125,71 @@ early-split n held m (x ∷ xs) ys h k =
     cond-true (leb x.completed held) _ _ (le-leb x.completed held h.0.1)
     ∙ ap (λ (t : List Stamp). x ∷ t) (early-split n held m xs ys h.1 k)
 
--- a viable front is walked, and the events so far are those that are complete
+-- a viable prefix is walked, and the events so far are those that are complete
 abbrev Walks : List Placed → List ℕ → Type 0
-Walks events front = (u : State) × (walk 0 start front ≡ Some u) × (events ≡ placed_of u.so_far)
+Walks events prefix = (u : State) × (walk 0 start prefix ≡ Some u) × (events ≡ placed_of u.so_far)
 
-viable_walks : (events : List Placed) (front : List ℕ) → CompleteIn events front → Walks events front
-viable_walks events front c = by_state (walk 0 start front) refl
+viable_walks : (events : List Placed) (prefix : List ℕ) → CompleteIn events prefix → Walks events prefix
+viable_walks events prefix c = by_state (walk 0 start prefix) refl
   where
-    by_state : (w : Option State) → walk 0 start front ≡ w → Walks events front
+    by_state : (w : Option State) → walk 0 start prefix ≡ w → Walks events prefix
     by_state None h =
-        absurd (let d = document_walk c.pieces (front ++ c.tail) c.parses in
-        let n : walk 0 start (front ++ c.tail) ≡ None =
-        walk-then 0 (0 + length front) start None None front c.tail refl h (walk-none (0 + length front) c.tail) in
+        absurd (let d = document_walk c.pieces (prefix ++ c.tail) c.parses in
+        let n : walk 0 start (prefix ++ c.tail) ≡ None =
+        walk-then 0 (0 + length prefix) start None None prefix c.tail refl h (walk-none (0 + length prefix) c.tail) in
         cc)
     by_state (Some u) h =
-        let z : 0 + length front ≡ length front = omega arith in
-        let d = document_walk c.pieces (front ++ c.tail) c.parses in
-        let g1 = grows front 0 (state NothingYet 0 []) u h in
-        let w2 : walk (length front) (Some u) c.tail ≡ Some
-        (state _ (length (front ++ c.tail)) (stamped_from 0 c.pieces)) =
-        ap (λ (s : Option State). walk (length front) s c.tail) (sym h)
-        ∙ sym (walk-append 0 (length front) start front c.tail (sym z))
+        let z : 0 + length prefix ≡ length prefix = omega arith in
+        let d = document_walk c.pieces (prefix ++ c.tail) c.parses in
+        let g1 = grows prefix 0 (state NothingYet 0 []) u h in
+        let w2 : walk (length prefix) (Some u) c.tail ≡ Some
+        (state _ (length (prefix ++ c.tail)) (stamped_from 0 c.pieces)) =
+        ap (λ (s : Option State). walk (length prefix) s c.tail) (sym h)
+        ∙ sym (walk-append 0 (length prefix) start prefix c.tail (sym z))
         ∙ d in
-        let g2 = grows c.tail (length front) u (state _ (length (front ++ c.tail)) (stamped_from 0 c.pieces)) w2 in
-        let came : CameIn 0 (length front) u.so_far =
-        subst (λ (k : ℕ). CameIn 0 k u.so_far) z (subst (CameIn 0 (0 + length front)) (sym g1.1) g1.2) in (
+        let g2 = grows c.tail (length prefix) u (state _ (length (prefix ++ c.tail)) (stamped_from 0 c.pieces)) w2 in
+        let came : CameIn 0 (length prefix) u.so_far =
+        subst (λ (k : ℕ). CameIn 0 k u.so_far) z (subst (CameIn 0 (0 + length prefix)) (sym g1.1) g1.2) in (
           u,
           h,
           c.complete
-              ∙ complete-early (length front) 0 c.pieces
-              ∙ ap (λ (t : List Stamp). placed_of (early_of (length front) t)) g2.1
-              ∙ ap placed_of (early-split 0 (length front) (length front + length c.tail) u.so_far g2.0 came g2.2),
+              ∙ complete-early (length prefix) 0 c.pieces
+              ∙ ap (λ (t : List Stamp). placed_of (early_of (length prefix) t)) g2.1
+              ∙ ap placed_of (early-split 0 (length prefix) (length prefix + length c.tail) u.so_far g2.0 came g2.2),
         )
 
-pub complete_once : (front : List ℕ) (first second : List Placed) → CompleteIn first front
-    → CompleteIn second front → first ≡ second
-complete_once front first second a b =
-    let x = viable_walks first front a in
-    let y = viable_walks second front b in
+pub complete_once : (prefix : List ℕ) (first second : List Placed) → CompleteIn first prefix
+    → CompleteIn second prefix → first ≡ second
+complete_once prefix first second a b =
+    let x = viable_walks first prefix a in
+    let y = viable_walks second prefix b in
     x.2 ∙ ap (λ (s : Option State). placed_of (so_far_at s)) (sym x.1 ∙ y.1) ∙ sym y.2
 
-pub complete_stays : (front rest : List ℕ) (first second : List Placed) → CompleteIn first front
-    → CompleteIn second (front ++ rest) → (more : List Placed) × (second ≡ first ++ more)
-complete_stays front rest first second a b =
-    let x = viable_walks first front a in
-    let y = viable_walks second (front ++ rest) b in
-    let w : walk (0 + length front) (Some x.0) rest ≡ Some y.0 =
-    ap (λ (s : Option State). walk (0 + length front) s rest) (sym x.1)
-    ∙ sym (walk-append 0 (0 + length front) start front rest refl)
+pub complete_stays : (prefix rest : List ℕ) (first second : List Placed) → CompleteIn first prefix
+    → CompleteIn second (prefix ++ rest) → (more : List Placed) × (second ≡ first ++ more)
+complete_stays prefix rest first second a b =
+    let x = viable_walks first prefix a in
+    let y = viable_walks second (prefix ++ rest) b in
+    let w : walk (0 + length prefix) (Some x.0) rest ≡ Some y.0 =
+    ap (λ (s : Option State). walk (0 + length prefix) s rest) (sym x.1)
+    ∙ sym (walk-append 0 (0 + length prefix) start prefix rest refl)
     ∙ y.1 in
-    let g = grows rest (0 + length front) x.0 y.0 w in (
+    let g = grows rest (0 + length prefix) x.0 y.0 w in (
       placed_of g.0,
       y.2 ∙ ap placed_of g.1 ∙ placed-append x.0.so_far g.0 ∙ ap (λ (t : List Placed). t ++ placed_of g.0) (sym x.2),
     )
 
 -- ---- faults
 
-front_of : (m n : ℕ) (xs : List ℕ) → m ≤ n → (r : List ℕ) × (take n xs ≡ take m xs ++ r)
-front_of m n xs le =
+prefix_of : (m n : ℕ) (xs : List ℕ) → m ≤ n → (r : List ℕ) × (take n xs ≡ take m xs ++ r)
+prefix_of m n xs le =
     let e : n ≡ m + (n - m) = omega arith in
     (take (n - m) (drop m xs), ap (λ (k : ℕ). take k xs) e ∙ take-add m (n - m) xs)
 
-get-front : (xs ys : List ℕ) (n : ℕ) → n < length xs → slice_get (xs ++ ys) n ≡ slice_get xs n
-get-front [] ys n h = absurd (omega arith)
-get-front (x ∷ xs) ys zero h = refl
-get-front (x ∷ xs) ys (suc n) h = get-front xs ys n (omega arith)
+get-prefix : (xs ys : List ℕ) (n : ℕ) → n < length xs → slice_get (xs ++ ys) n ≡ slice_get xs n
+get-prefix [] ys n h = absurd (omega arith)
+get-prefix (x ∷ xs) ys zero h = refl
+get-prefix (x ∷ xs) ys (suc n) h = get-prefix xs ys n (omega arith)
 
 pub fault_stays : (bytes more : List ℕ) (fault : Fault) → IsFaultOf bytes fault → fault.place < length bytes
     → IsFaultOf (bytes ++ more) fault
@@ -210,16 +210,16 @@ fault_stays bytes more fault h lt =
               viable = subst IsViable (sym same) r.longest.viable;
               longest = λ n le v. elim (cases_lt fault.place n) [
                 | inl past ↦
-                    let f = front_of (fault.place + 1) n (bytes ++ more) (omega arith) in
-                    let front = fronts (take (fault.place + 1) (bytes ++ more)) f.0 (subst IsViable f.1 v) in
-                    let too = r.longest.longest (fault.place + 1) (omega arith) (subst IsViable next front) in
+                    let f = prefix_of (fault.place + 1) n (bytes ++ more) (omega arith) in
+                    let prefix = prefixes (take (fault.place + 1) (bytes ++ more)) f.0 (subst IsViable f.1 v) in
+                    let too = r.longest.longest (fault.place + 1) (omega arith) (subst IsViable next prefix) in
                     absurd (omega arith)
                 | inr k ↦ k
               ];
             };
             within = let w = r.within in omega arith;
             refuses = subst (λ (o : Option ℕ). Stops (take fault.place (bytes ++ more)) o fault.reason)
-                (sym (get-front bytes more fault.place lt))
+                (sym (get-prefix bytes more fault.place lt))
                 (subst (λ (f : List ℕ). Stops f (slice_get bytes fault.place) fault.reason) (sym same) r.refuses);
           })
     ]
@@ -256,9 +256,9 @@ pub form_once : (bytes : List ℕ) (f g : Form) {events more : List Placed} {o p
     → EndsIn g more p bytes → f ≡ g
 form_once bytes f g a b = ap form_at (sym (ends_walk f a) ∙ ends_walk g b)
 
-reason_once : (front : List ℕ) (next : Option ℕ) (r s : Reason) → Stops front next r → Stops front next s → r ≡ s
-reason_once front None r s a b = a.1 ∙ sym b.1
-reason_once front (Some b) r s a c = a.4 ∙ ap (λ (f : Form). refusal f b) (form_once front a.0 c.0 a.3 c.3) ∙ sym c.4
+reason_once : (prefix : List ℕ) (next : Option ℕ) (r s : Reason) → Stops prefix next r → Stops prefix next s → r ≡ s
+reason_once prefix None r s a b = a.1 ∙ sym b.1
+reason_once prefix (Some b) r s a c = a.4 ∙ ap (λ (f : Form). refusal f b) (form_once prefix a.0 c.0 a.3 c.3) ∙ sym c.4
 
 pub fault_once : (bytes : List ℕ) (f g : Fault) → IsFaultOf bytes f → IsFaultOf bytes g → f ≡ g
 fault_once bytes f g a b =
@@ -339,14 +339,14 @@ pub document_complete : (events : List Placed) (bytes : List ℕ) → Document e
 document_complete events bytes d = complete Ended (document_ends events bytes d).1
 
 -- what a list of bytes that parses begins with is viable
-pub parsed_front : (front rest : List ℕ) (pieces : List Piece) → Parses pieces (front ++ rest) → IsViable front
-parsed_front front rest pieces h = fronts front rest (
-  complete_from (length (front ++ rest)) 0 pieces,
+pub parsed_prefix : (prefix rest : List ℕ) (pieces : List Piece) → Parses pieces (prefix ++ rest) → IsViable prefix
+parsed_prefix prefix rest pieces h = prefixes prefix rest (
+  complete_from (length (prefix ++ rest)) 0 pieces,
   record {
     tail = [];
     is_tail = (9, omega arith, refl);
     pieces = pieces;
-    parses = subst (Parses pieces) (sym (append-nil (front ++ rest))) h;
+    parses = subst (Parses pieces) (sym (append-nil (prefix ++ rest))) h;
     complete = refl;
   },
 )

@@ -1,4 +1,4 @@
--- What ends in a form is the front of a document, and the events before what is open are those that are complete.
+-- What ends in a form is a prefix of a document, and the events before what is open are those that are complete.
 use Rattle.std.proofs.Common.{◌≡◌, ℕ, ◌+◌, ◌<◌, ◌≤◌, Bool, true, false, cond, List, [], ◌∷◌, ◌++◌, length, refl, sym}
 use Rattle.std.proofs.Common.{ap, subst, ◌∙◌, append_assoc, arith, length-append, inl, inr}
 use Rattle.std.specs.Prelude.{Contains, ◌⊎◌}
@@ -14,7 +14,7 @@ use Rattle.sixel_grammar.specs.declared.command.Placed.{Placed}
 use Rattle.sixel_grammar.specs.Bytes.{introducer}
 use Rattle.sixel_grammar.specs.Spelling.{Spells, is_open_ended}
 use Rattle.sixel_grammar.specs.Document.{AreFiller, Piece, IsPiece, bytes_of, joined, events_in, placed_from, AreWhole}
-use Rattle.sixel_grammar.specs.Fronts.{tails, completed_at, complete_from, CompleteIn}
+use Rattle.sixel_grammar.specs.Prefixes.{tails, completed_at, complete_from, CompleteIn}
 use Rattle.sixel_grammar.specs.Faults.{Form, NothingYet, Introducing, Parameters, LastSeparator, NoCommand}
 use Rattle.sixel_grammar.specs.Faults.{RepeatNumber, RasterFields, ColourFields, Terminating, Ended, EndsIn, IsClosed}
 use Rattle.sixel_grammar.specs.Faults.{AreBegun}
@@ -65,12 +65,12 @@ at_most_one : (t : Bool) → cond t 1 0 ≤ 1
 at_most_one true = omega arith
 at_most_one false = omega arith
 
-pub complete-front : (held n k : ℕ) (ps qs : List Piece) → AllByRecursion IsPiece ps
+pub complete-prefix : (held n k : ℕ) (ps qs : List Piece) → AllByRecursion IsPiece ps
     → n + length (joined ps) + k ≤ held → IsClosed ps k → IsShort held (n + length (joined ps)) qs
     → complete_from held n (ps ++ qs) ≡ placed_from n ps
-complete-front held n k [] qs each le closed short = let e : n + 0 ≡ n = omega arith in complete-short held n qs
+complete-prefix held n k [] qs each le closed short = let e : n + 0 ≡ n = omega arith in complete-short held n qs
     (rw e at short)
-complete-front held n k (p ∷ []) qs each le closed short =
+complete-prefix held n k (p ∷ []) qs each le closed short =
     let m = one_more (is_open_ended p.event) k closed in
     let j : length (bytes_of p ++ []) ≡ length (bytes_of p) = ap length (append-nil (bytes_of p)) in
     let first : completed_at n p ≤ held = omega arith in
@@ -78,7 +78,7 @@ complete-front held n k (p ∷ []) qs each le closed short =
     complete-first held n p qs first
     ∙ ap (λ (es : List Placed). record { place = n + length p.filler; event = p.event } ∷ es)
     (complete-short held (n + length (bytes_of p)) qs (rw s at short))
-complete-front held n k (p ∷ q ∷ ps) qs each le closed short =
+complete-prefix held n k (p ∷ q ∷ ps) qs each le closed short =
     let some = spells-some q.event q.text each.1.0.spells in
     let m = at_most_one (is_open_ended p.event) in
     let l1 = length-append (bytes_of p) (joined (q ∷ ps)) in
@@ -88,7 +88,7 @@ complete-front held n k (p ∷ q ∷ ps) qs each le closed short =
     let s : n + length (joined (p ∷ q ∷ ps)) ≡ n + length (bytes_of p) + length (joined (q ∷ ps)) = omega arith in
     complete-first held n p (q ∷ ps ++ qs) first
     ∙ ap (λ (es : List Placed). record { place = n + length p.filler; event = p.event } ∷ es)
-    (complete-front held (n + length (bytes_of p)) k (q ∷ ps) qs each.1 (omega arith) closed (rw s at short))
+    (complete-prefix held (n + length (bytes_of p)) k (q ∷ ps) qs each.1 (omega arith) closed (rw s at short))
 
 -- how many bytes there are
 sizes : {f : Form} {events : List Placed} {opened : ℕ} {bytes : List ℕ} (e : EndsIn f events opened bytes)
@@ -124,7 +124,7 @@ goes_on {bytes = bytes} e tail more after is_tail joins each filler whole short 
     after_is = filler;
   };
   complete = let z : length (joined e.pieces) ≡ 0 + length (joined e.pieces) = omega arith in e.events_are
-      ∙ sym (complete-front (length bytes) 0 (length e.filler + length e.open_bytes) e.pieces more e.each
+      ∙ sym (complete-prefix (length bytes) 0 (length e.filler + length e.open_bytes) e.pieces more e.each
       (omega (arith, sizes e)) e.closed
       (rw z at short));
 }

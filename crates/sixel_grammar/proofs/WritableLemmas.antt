@@ -9,7 +9,7 @@ use Rattle.sixel_grammar.specs.declared.command.Placed.{Placed}
 use Rattle.sixel_grammar.specs.Number.{Fields}
 use Rattle.sixel_grammar.specs.Spelling.{AreNumbers, IsEvent, IsSpellable, Spells, four_of}
 use Rattle.sixel_grammar.specs.Document.{Piece, IsPiece, bytes_of}
-use Rattle.sixel_grammar.specs.Fronts.{completed_at, complete_from, CompleteIn}
+use Rattle.sixel_grammar.specs.Prefixes.{completed_at, complete_from, CompleteIn}
 use Rattle.sixel_grammar.specs.FixedText.{CanWrite, CanWriteAll}
 
 fields_numbers : (ns text : List ℕ) → Fields ns text → AreNumbers ns

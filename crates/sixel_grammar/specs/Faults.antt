@@ -1,4 +1,4 @@
--- Where bytes stop being the front of a document, and why.
+-- Where bytes stop being a prefix of a document, and why.
 use Rattle.std.specs.Prelude.{◌≡◌, ℕ, ◌+◌, ◌<◌, ◌≤◌, ◌⊎◌, IsTrue, List, [], ◌∷◌, ◌++◌, length, take, slice_get, Option}
 use Rattle.std.specs.Prelude.{Some, None, min, Bool, true, false, ◌||◌, ◌==◌, if◌then◌else◌}
 use Rattle.std.specs.List.{AllByRecursion}
@@ -16,9 +16,9 @@ use Rattle.sixel_grammar.specs.Number.{NumberText, Fields}
 use Rattle.sixel_grammar.specs.Spelling.{is_open_ended}
 use Rattle.sixel_grammar.specs.Document.{AreFiller, Piece, IsPiece, joined, events_in, placed_from, AreWhole}
 use Rattle.sixel_grammar.specs.Document.{IsDocument, most_bytes}
-use Rattle.sixel_grammar.specs.Fronts.{IsViable}
+use Rattle.sixel_grammar.specs.Prefixes.{IsViable}
 
--- what is open where a viable front ends; of fields, the numbers before the last `;` and the one after it
+-- what is open where a viable prefix ends; of fields, the numbers before the last `;` and the one after it
 pub data Form : Type 0 where
   -- nothing yet
   NothingYet : Form
@@ -79,8 +79,8 @@ AreBegun (Step command ∷ more) = ⊥
 AreBegun (Finish eight ∷ more) = ⊥
 
 -- none yet, or a start and commands, or a whole document's
-abbrev pub AreFront : List Event → Type 0
-AreFront events = (events ≡ []) ⊎ AreBegun events ⊎ AreWhole events
+abbrev pub ArePrefix : List Event → Type 0
+ArePrefix events = (events ≡ []) ⊎ AreBegun events ⊎ AreWhole events
 
 -- the events that stand before what is open
 abbrev pub Precede : Form → List Event → Type 0
@@ -129,17 +129,17 @@ refusal (ColourFields ns n) b =
 refusal Terminating b = BadTerminator
 refusal Ended b = Trailing
 
--- the longest front of the bytes with which some document begins
+-- the longest prefix of the bytes with which some document begins
 pub record IsLongest (place : ℕ) (bytes : List ℕ) : Type 0 where
   pub within : place ≤ length bytes
   pub viable : IsViable (take place bytes)
   pub longest : (n : ℕ) → n ≤ length bytes → IsViable (take n bytes) → n ≤ place
 
--- why this byte, or the end, can't follow the front
+-- why this byte, or the end, can't follow the prefix
 abbrev pub Stops : List ℕ → Option ℕ → Reason → Type 0
-Stops front None reason = (IsDocument front → ⊥) × (reason ≡ Truncated)
-Stops front (Some b) reason =
-    (form : Form) × (events : List Placed) × (opened : ℕ) × EndsIn form events opened front × (reason ≡ refusal form b)
+Stops prefix None reason = (IsDocument prefix → ⊥) × (reason ≡ Truncated)
+Stops prefix (Some b) reason =
+    (form : Form) × (events : List Placed) × (opened : ℕ) × EndsIn form events opened prefix × (reason ≡ refusal form b)
 
 -- a byte stands past the limit, and those before it are viable
 pub record IsTooLong (bytes : List ℕ) (fault : Fault) : Type 0 where
@@ -147,7 +147,7 @@ pub record IsTooLong (bytes : List ℕ) (fault : Fault) : Type 0 where
   pub viable : IsViable (take most_bytes bytes)
   pub fault_is : fault ≡ record { reason = TooLong; place = most_bytes }
 
--- within the limit, the longest viable front ends at the fault
+-- within the limit, the longest viable prefix ends at the fault
 pub record IsRefused (bytes : List ℕ) (fault : Fault) : Type 0 where
   pub longest : IsLongest fault.place bytes
   pub within : min (fault.place + 1) (length bytes) ≤ most_bytes

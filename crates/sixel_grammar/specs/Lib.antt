@@ -5,7 +5,7 @@ pub mod Bytes
 pub mod Number
 pub mod Spelling
 pub mod Document
-pub mod Fronts
+pub mod Prefixes
 pub mod Faults
 pub mod Standing
 pub mod Stretches

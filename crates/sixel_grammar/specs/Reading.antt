@@ -6,7 +6,7 @@ use Rattle.sixel_grammar.specs.declared.fault.InputFault.TheVariants.{Grammar, O
 use Rattle.sixel_io.specs.Devices.{one_more}
 use Rattle.sixel_grammar.specs.Document.{most_bytes}
 use Rattle.sixel_grammar.specs.Faults.{IsFaultOf}
-use Rattle.sixel_grammar.specs.Fronts.{IsViable}
+use Rattle.sixel_grammar.specs.Prefixes.{IsViable}
 
 -- a fault of the grammar is that of the bytes; the others say nothing of them
 abbrev pub Explains : InputFault → List ℕ → Type 0

@@ -16,9 +16,9 @@ sixels_from place (byte ∷ bytes) =
 
 -- wherever the reader stood, its next byte had this place, and it stands after these bytes more, each a sixel by itself
 abbrev pub TakesSixels : Reader → Reader → ℕ → List ℕ → Type 0
-TakesSixels old new place front =
+TakesSixels old new place prefix =
     (events : List Placed) (bytes : List ℕ) → StandsAfter old events bytes →
-    (place ≡ length bytes) × StandsAfter new (events ++ sixels_from place front) (bytes ++ front)
+    (place ≡ length bytes) × StandsAfter new (events ++ sixels_from place prefix) (bytes ++ prefix)
 
 -- wherever the reader stood, no reader stands after one byte more that completes a sixel by itself
 abbrev pub IsNoSixel : Reader → ℕ → Type 0
@@ -30,11 +30,11 @@ IsNoSixel old byte =
 abbrev pub AreData : ℕ → ℕ → List ℕ → Type 0
 AreData from count bytes = (k : ℕ) → from ≤ k → k < from + count → is_data (slice_index bytes k) ≡ true
 
--- of so many bytes from `from` on, as many as `run` from the first on are data bytes, and no more
-pub record IsRun (bytes : List ℕ) (from count run : ℕ) : Type 0 where
-  pub few : run ≤ count
-  pub each : AreData from run bytes
-  pub stops : run < count → is_data (slice_index bytes (from + run)) ≡ false
+-- of so many bytes from `from` on, as many as `data_bytes` from the first on are data bytes, and no more
+pub record CountsDataBytes (bytes : List ℕ) (from count data_bytes : ℕ) : Type 0 where
+  pub few : data_bytes ≤ count
+  pub each : AreData from data_bytes bytes
+  pub stops : data_bytes < count → is_data (slice_index bytes (from + data_bytes)) ≡ false
 
 -- whether the byte is a sixel by itself, by what is open
 abbrev pub makes_sixel : Form → ℕ → Bool

@@ -7,10 +7,10 @@ ghost use Rattle.sixel_grammar.specs.declared.command.Placed.{Placed as PlacedEv
 ghost use Rattle.sixel_grammar.specs.declared.fault.Fault.{Fault as AFault};
 ghost use Rattle.sixel_grammar.specs.declared.reader.Reader.{Reader as AReader};
 ghost use Rattle.sixel_grammar.specs.Document.{AreWhole, Document, IsDocument, Parses, Piece, events_of, most_bytes};
-ghost use Rattle.sixel_grammar.specs.Faults.{AreFront, IsFaultOf};
+ghost use Rattle.sixel_grammar.specs.Faults.{ArePrefix, IsFaultOf};
 ghost use Rattle.sixel_grammar.specs.FixedText.{CanWrite, CanWriteAll, fixed_places, fixed_text};
 ghost use Rattle.sixel_grammar.specs.Lengths.{most_length};
-ghost use Rattle.sixel_grammar.specs.Fronts.{CompleteIn, IsViable};
+ghost use Rattle.sixel_grammar.specs.Prefixes.{CompleteIn, IsViable};
 ghost use Rattle.sixel_grammar.specs.Spelling.{IsEvent, IsSpellable, Spells, fixed_spelling};
 ghost use Rattle.sixel_grammar.specs.Standing.{StandsAfter};
 
@@ -32,29 +32,29 @@ pub fn documents_are_whole()
 
 /// The events complete in a viable list are none, or a start and commands, or a whole document's.
 pub fn complete_events_come_first()
-    ensures { (events : List PlacedEvent) (bytes : List ℕ) → CompleteIn events bytes → AreFront (events_of events) }
+    ensures { (events : List PlacedEvent) (bytes : List ℕ) → CompleteIn events bytes → ArePrefix (events_of events) }
 {}
 
-/// Each front of a document, its limit aside, is viable.
-pub fn fronts_of_documents_are_viable()
-    ensures { (front rest : List ℕ) (pieces : List Piece) → Parses pieces (front ++ rest) → IsViable front }
+/// Each prefix of a document, its limit aside, is viable.
+pub fn prefixes_of_documents_are_viable()
+    ensures { (prefix rest : List ℕ) (pieces : List Piece) → Parses pieces (prefix ++ rest) → IsViable prefix }
 {}
 
-/// Each front of a viable list is viable.
-pub fn fronts_are_viable()
-    ensures { (front rest : List ℕ) → IsViable (front ++ rest) → IsViable front }
+/// Each prefix of a viable list is viable.
+pub fn prefixes_are_viable()
+    ensures { (prefix rest : List ℕ) → IsViable (prefix ++ rest) → IsViable prefix }
 {}
 
 /// The events complete in a viable list are one list, whatever tail makes it a document.
 pub fn one_list_is_complete()
-    ensures { (front : List ℕ) (first second : List PlacedEvent) → CompleteIn first front → CompleteIn second front →
+    ensures { (prefix : List ℕ) (first second : List PlacedEvent) → CompleteIn first prefix → CompleteIn second prefix →
         first ≡ second }
 {}
 
 /// The events complete in a viable list stay complete, and first, in a longer one.
 pub fn complete_events_stay()
-    ensures { (front rest : List ℕ) (first second : List PlacedEvent) →
-        CompleteIn first front → CompleteIn second (front ++ rest) →
+    ensures { (prefix rest : List ℕ) (first second : List PlacedEvent) →
+        CompleteIn first prefix → CompleteIn second (prefix ++ rest) →
         ((more : List PlacedEvent) × (second ≡ first ++ more)) }
 {}
 

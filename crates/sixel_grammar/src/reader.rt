@@ -16,7 +16,7 @@ ghost use Rattle.sixel_grammar.specs.declared.command.Plain.TheVariants.{Command
 use crate::command::{Command, Completed, Event, Placed, Plain, Stretch};
 use crate::fault::{Fault, Reason};
 use crate::pending::Pending;
-use crate::stretch::run_of;
+use crate::stretch::data_bytes_in;
 
 /// The greatest length of a document.
 const MOST_BYTES: u64 = 268_435_456;
@@ -73,7 +73,7 @@ impl Reader {
         if self.try_grow(byte) {
             return Ok(Completed::of_none());
         }
-        self.feed_slowly(byte)
+        self.complete_or_refuse(byte)
     }
 
     /// Reads one byte as `feed` does, where it completes nothing, is a sixel by itself, or ends a repeat.
@@ -120,7 +120,7 @@ impl Reader {
         }
     }
 
-    /// Reads the longest front of a piece in which each byte is a sixel by itself.
+    /// Reads the longest prefix of a piece in which each byte is a sixel by itself.
     ///
     /// It reads none where a command is open or no byte may come, and then nothing has changed. The byte after those
     /// that it read is one for `feed`.
@@ -138,10 +138,10 @@ impl Reader {
         if self.sixels == 0 {
             return Stretch { place, count: 0 };
         }
-        let run = run_of(piece);
-        if (run as u64) < self.left {
-            self.left -= run as u64;
-            return Stretch { place, count: run };
+        let count = data_bytes_in(piece);
+        if (count as u64) < self.left {
+            self.left -= count as u64;
+            return Stretch { place, count };
         }
         let count = self.left as usize;
         self.left = 0;
@@ -291,7 +291,7 @@ impl Reader {
 
     /// Any other byte. Its answers have places of their own here, so that the ways above touch no memory for them.
     #[inline(always)]
-    fn feed_slowly(&mut self, byte: u8) -> Result<Completed, Fault>
+    fn complete_or_refuse(&mut self, byte: u8) -> Result<Completed, Fault>
         requires { 0 < self.old.left → only_grown (within_of (form_of self.old.pending) byte) ≡ None }
         ensures kept { IfSome (fault_of self.old) (λ fault. (result ≡ Err fault) × (self.new ≡ self.old)) }
         ensures accepted { IfOk result (λ c. Takes self.old self.new byte (completions c)) }
@@ -301,11 +301,11 @@ impl Reader {
         if let Some(ended) = self.end_command(byte) {
             return Ok(Completed::of_plain(ended));
         }
-        self.feed_any(byte)
+        self.make_whole_or_refuse(byte)
     }
 
     #[inline(never)]
-    fn feed_any(&mut self, byte: u8) -> Result<Completed, Fault>
+    fn make_whole_or_refuse(&mut self, byte: u8) -> Result<Completed, Fault>
         requires not_grown { 0 < self.old.left → only_grown (within_of (form_of self.old.pending) byte) ≡ None }
         requires not_ended { 0 < self.old.left →
             OnSome (settled_of (form_of self.old.pending)) (only_grown (begin_of byte) ≡ None) }

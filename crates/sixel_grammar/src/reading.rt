@@ -38,10 +38,10 @@ pub fn read_all<S: Source>(alloc: Global, input: &mut S) -> Result<Vec<Placed>, 
 
 /// Reads the bytes of a piece.
 fn read_piece(reader: &mut Reader, events: &mut Vec<Placed>, piece: &[u8]) -> Result<(), InputFault>
-    ensures read { OnOk result ((front : List ℕ) → StandsAfter reader.old events.old.items front →
-        StandsAfter reader.new events.new.items (front ++ piece.now)) }
-    ensures refused { IfErr result (λ fault. (front : List ℕ) → StandsAfter reader.old events.old.items front →
-        ExplainsAlways fault (front ++ piece.now)) }
+    ensures read { OnOk result ((prefix : List ℕ) → StandsAfter reader.old events.old.items prefix →
+        StandsAfter reader.new events.new.items (prefix ++ piece.now)) }
+    ensures refused { IfErr result (λ fault. (prefix : List ℕ) → StandsAfter reader.old events.old.items prefix →
+        ExplainsAlways fault (prefix ++ piece.now)) }
 {
     for byte in piece {
         read_byte(reader, events, *byte)?;
@@ -51,10 +51,10 @@ fn read_piece(reader: &mut Reader, events: &mut Vec<Placed>, piece: &[u8]) -> Re
 
 /// Reads one byte, and keeps the events that it completes.
 fn read_byte(reader: &mut Reader, events: &mut Vec<Placed>, byte: u8) -> Result<(), InputFault>
-    ensures read { OnOk result ((front : List ℕ) → StandsAfter reader.old events.old.items front →
-        StandsAfter reader.new events.new.items (front ++ byte ∷ [])) }
-    ensures refused { IfErr result (λ fault. (front : List ℕ) → StandsAfter reader.old events.old.items front →
-        ExplainsAlways fault (front ++ byte ∷ [])) }
+    ensures read { OnOk result ((prefix : List ℕ) → StandsAfter reader.old events.old.items prefix →
+        StandsAfter reader.new events.new.items (prefix ++ byte ∷ [])) }
+    ensures refused { IfErr result (λ fault. (prefix : List ℕ) → StandsAfter reader.old events.old.items prefix →
+        ExplainsAlways fault (prefix ++ byte ∷ [])) }
 {
     let completed = reader.feed(byte)?;
     Ok(keep(events, completed)?)

@@ -1,7 +1,7 @@
 //! How many data bytes stand after each other.
 
 ghost use Rattle.std.specs.Prelude.{◌≡◌, ◌<◌, ◌≤◌, ◌+◌, ◌-◌, length};
-ghost use Rattle.sixel_grammar.specs.Stretches.{IsRun};
+ghost use Rattle.sixel_grammar.specs.Stretches.{CountsDataBytes};
 
 use std::simd::prelude::*;
 
@@ -10,8 +10,8 @@ const LANES: usize = 16;
 
 /// How many bytes of a piece, from its first on, are data bytes.
 #[inline(always)]
-pub(crate) fn run_of(piece: &[u8]) -> usize
-    ensures { IsRun piece.now 0 (length piece.now) result }
+pub(crate) fn data_bytes_in(piece: &[u8]) -> usize
+    ensures { CountsDataBytes piece.now 0 (length piece.now) result }
 {
     // Any command begins below the data bytes, and needs no lanes.
     if piece.is_empty() || piece[0] < b'?' {
@@ -19,19 +19,19 @@ pub(crate) fn run_of(piece: &[u8]) -> usize
     }
     let groups = piece.len() / LANES;
     for group in 0..groups {
-        let run = run_in_group(piece, group * LANES);
-        if run < LANES {
-            return group * LANES + run;
+        let data_bytes = data_bytes_in_group(piece, group * LANES);
+        if data_bytes < LANES {
+            return group * LANES + data_bytes;
         }
     }
-    groups * LANES + run_in_rest(piece, groups * LANES)
+    groups * LANES + data_bytes_in_rest(piece, groups * LANES)
 }
 
 /// How many bytes of a group, from its first on, are data bytes.
 #[inline(always)]
-fn run_in_group(piece: &[u8], from: usize) -> usize
+fn data_bytes_in_group(piece: &[u8], from: usize) -> usize
     requires { from + LANES ≤ length piece.now }
-    ensures { IsRun piece.now from LANES result }
+    ensures { CountsDataBytes piece.now from LANES result }
 {
     let sixels = u8x16::from_slice(&piece[from..]) - u8x16::splat(b'?');
     let others = sixels.simd_ge(u8x16::splat(64)).to_bitmask();
@@ -44,9 +44,9 @@ fn run_in_group(piece: &[u8], from: usize) -> usize
 
 /// How many bytes are data bytes of those that are no whole group.
 #[inline(never)]
-fn run_in_rest(piece: &[u8], from: usize) -> usize
+fn data_bytes_in_rest(piece: &[u8], from: usize) -> usize
     requires { from ≤ length piece.now }
-    ensures { IsRun piece.now from (length piece.now - from) result }
+    ensures { CountsDataBytes piece.now from (length piece.now - from) result }
 {
     for index in from..piece.len() {
         if piece[index].wrapping_sub(b'?') >= 64 {

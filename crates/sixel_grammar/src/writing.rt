@@ -11,7 +11,7 @@ use arrayvec::ArrayVec;
 use itoa::Buffer;
 use sixel_io::{Block, DeviceFault, Sink, put_all};
 
-/// Hands the sink the fixed spelling of an event, or on an `Err` a front of it; it doesn't flush.
+/// Hands the sink the fixed spelling of an event, or on an `Err` a prefix of it; it doesn't flush.
 pub fn write_event<K: Sink>(event: &Event, out: &mut K) -> Result<(), DeviceFault>
     requires { IsSpellable event.now }
     ensures written { Writes result (K.state out.old) (K.state out.new) (fixed_spelling event.now) }

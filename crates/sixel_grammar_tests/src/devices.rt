@@ -42,8 +42,8 @@ impl Read for FakeReader {
     fn read(&mut self, buf: &mut [u8]) -> io::Result<usize> {
         let most = next_call(&mut self.calls)?;
         let count = most.min(buf.len()).min(self.rest.len());
-        let (front, rest) = self.rest.split_at(count);
-        buf[..count].copy_from_slice(front);
+        let (prefix, rest) = self.rest.split_at(count);
+        buf[..count].copy_from_slice(prefix);
         self.rest = rest;
         Ok(count)
     }
@@ -73,9 +73,9 @@ impl Write for FakeWriter<'_> {
 fn gives(source: &mut FromRead<FakeReader>, bytes: &[u8], failures: u64) -> bool {
     let mut piece = [0; 4];
     let answer = source.fill(&mut piece);
-    let (front, rest) = piece.split_at(bytes.len().min(4));
+    let (prefix, rest) = piece.split_at(bytes.len().min(4));
     answer == Ok(bytes.len())
-        && front == bytes
+        && prefix == bytes
         && rest.iter().all(|byte| *byte == 0)
         && source.failures() == failures
 }

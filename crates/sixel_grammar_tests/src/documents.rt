@@ -268,12 +268,12 @@ fn plain_bytes_are_read_quickly(rt: HostRuntime) -> Result<(), Fail> {
 /// The bytes, so many times one byte, and bytes after it.
 fn filled(
     rt: &impl AllocGlobal,
-    front: &[u8],
+    prefix: &[u8],
     byte: u8,
     count: u32,
     back: &[u8],
 ) -> Result<Vec<u8>, Fail> {
-    let mut bytes = front.to_vec(rt.alloc())?;
+    let mut bytes = prefix.to_vec(rt.alloc())?;
     for _ in 0..count {
         bytes.push(byte)?;
     }

@@ -13,7 +13,7 @@ fn reason_at(place: u64) -> Reason {
     }
 }
 
-/// Why the picture's front so long is no document; none where it is the whole picture.
+/// Why the prefix of the picture that has so many bytes is no document; none where it is the whole picture.
 fn end_at(place: u64) -> Result<(), Fault> {
     let reason = Reason::Truncated;
     if place < 26 {
@@ -23,13 +23,13 @@ fn end_at(place: u64) -> Result<(), Fault> {
     }
 }
 
-/// Whether the front of the picture is read, its end has its answer, and CAN after it is a fault that stays.
-fn is_refused_after(front: &[u8]) -> bool {
+/// Whether the prefix of the picture is read, its end has its answer, and CAN after it is a fault that stays.
+fn is_refused_after(prefix: &[u8]) -> bool {
     let mut reader = Reader::new();
-    if front.iter().any(|byte| reader.feed(*byte).is_err()) {
+    if prefix.iter().any(|byte| reader.feed(*byte).is_err()) {
         return false;
     }
-    let place = front.len() as u64;
+    let place = prefix.len() as u64;
     let reason = reason_at(place);
     let fault = Fault { reason, place };
     reader.finish() == end_at(place)

@@ -65,7 +65,7 @@ fn some_events_have_no_spelling(rt: HostRuntime) {
 }
 
 #[test]
-fn a_front_is_written_where_the_sink_fails(rt: HostRuntime) {
+fn a_prefix_is_written_where_the_sink_fails(rt: HostRuntime) {
     let event = Event::Step(Command::Select(4711));
     for call in 0..5 {
         let mut room = [0; 30];

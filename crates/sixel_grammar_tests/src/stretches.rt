@@ -2,18 +2,18 @@
 
 use sixel_grammar::{Reader, Stretch};
 
-/// What a reader that was fed this front makes of the piece; `None` where it refuses the front.
-fn stretch_after(front: &[u8], piece: &[u8]) -> Option<Stretch> {
+/// What a reader that was fed this prefix makes of the piece; `None` where it refuses the prefix.
+fn stretch_after(prefix: &[u8], piece: &[u8]) -> Option<Stretch> {
     let mut reader = Reader::new();
-    if front.iter().any(|byte| reader.feed(*byte).is_err()) {
+    if prefix.iter().any(|byte| reader.feed(*byte).is_err()) {
         return None;
     }
     Some(reader.feed_stretch(piece))
 }
 
 /// Whether the stretch begins at the place, and has so many bytes.
-fn is_stretch(front: &[u8], piece: &[u8], place: u64, count: usize) -> bool {
-    stretch_after(front, piece) == Some(Stretch { place, count })
+fn is_stretch(prefix: &[u8], piece: &[u8], place: u64, count: usize) -> bool {
+    stretch_after(prefix, piece) == Some(Stretch { place, count })
 }
 
 /// A stretch ends before the first byte that is no data byte, and at the piece's end.

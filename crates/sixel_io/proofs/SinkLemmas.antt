@@ -9,29 +9,29 @@ use Rattle.std.proofs.lemmas.List.{take_all, take_at, take_more, take-take}
 use Rattle.std.proofs.Math.Seq.{take-append-add}
 use Rattle.sixel_io.specs.Blocks.{Drains, PutsAllOrNone, PutsWhole, TakesMore, WritesThrough, in_all}
 use Rattle.sixel_io.specs.Devices.{NeverFlushes, Puts, SinkState, Writes, one_more}
-use Rattle.sixel_io.proofs.DeviceLemmas.{Appends-then, TakesMore-refl, TakesMore-then, front-more}
+use Rattle.sixel_io.proofs.DeviceLemmas.{Appends-then, TakesMore-refl, TakesMore-then, prefix-more}
 
 -- ---- what the items of a list give, put one after another
 
--- what a front of a list gives is a front of what the list gives
-front_given : {X : Type 0} (f : List X → List ℕ) (xs : List X) (i : ℕ)
+-- what a prefix of a list gives is a prefix of what the list gives
+prefix_given : {X : Type 0} (f : List X → List ℕ) (xs : List X) (i : ℕ)
     → ((ys zs : List X) → f (ys ++ zs) ≡ f ys ++ f zs) → take (length (f (take i xs))) (f xs) ≡ f (take i xs)
-front_given f xs i joins =
+prefix_given f xs i joins =
     let whole : f xs ≡ f (take i xs) ++ f (drop i xs) =
     ap f (sym (take-append-drop i xs)) ∙ joins (take i xs) (drop i xs) in
     ap (take (length (f (take i xs)))) whole ∙ take_at (f (take i xs)) (f (drop i xs)) _ refl
 
--- what a front of the items gives was put, and then nothing: a front of it all was put
-pub put_front : {X : Type 0} (f : List X → List ℕ) (xs : List X) (i : ℕ)
+-- what a prefix of the items gives was put, and then nothing: a prefix of it all was put
+pub put_prefix : {X : Type 0} (f : List X → List ℕ) (xs : List X) (i : ℕ)
     → ((ys zs : List X) → f (ys ++ zs) ≡ f ys ++ f zs)
     → (a b c : Option (List ℕ)) → Appends a b (f (take i xs)) → Keeps b c → (n : ℕ) × Appends a c (take n (f xs))
-put_front f xs i joins None b c put kept = (0, tt)
-put_front f xs i joins (Some a) None c put kept = absurd put
-put_front f xs i joins (Some a) (Some b) None put kept = absurd kept
-put_front f xs i joins (Some a) (Some b) (Some c) put kept =
-    (length (f (take i xs)), rw (front_given f xs i joins) (kept ∙ put))
+put_prefix f xs i joins None b c put kept = (0, tt)
+put_prefix f xs i joins (Some a) None c put kept = absurd put
+put_prefix f xs i joins (Some a) (Some b) None put kept = absurd kept
+put_prefix f xs i joins (Some a) (Some b) (Some c) put kept =
+    (length (f (take i xs)), rw (prefix_given f xs i joins) (kept ∙ put))
 
--- what a front of the items gives was put, and then what one more gives
+-- what a prefix of the items gives was put, and then what one more gives
 pub put_more : {X : Type 0} (f : List X → List ℕ) (xs : List X) (i : ℕ) (x d : X)
     → ((ys zs : List X) → f (ys ++ zs) ≡ f ys ++ f zs)
     → (a b c : Option (List ℕ)) → i < length xs → x ≡ get_or xs i d → Appends a b (f (take i xs))
@@ -43,26 +43,26 @@ put_more f xs i x d joins a b c lt is put more =
 
 -- ---- what the sink took of what was put
 
-cancelled : (x y bs waiting front : List ℕ) → y ≡ x ++ bs → y ++ waiting ≡ x ++ front → bs ++ waiting ≡ front
-cancelled x y bs waiting front taken put =
-    append_cancel_left x (bs ++ waiting) front
+cancelled : (x y bs waiting prefix : List ℕ) → y ≡ x ++ bs → y ++ waiting ≡ x ++ prefix → bs ++ waiting ≡ prefix
+cancelled x y bs waiting prefix taken put =
+    append_cancel_left x (bs ++ waiting) prefix
     (sym (append_assoc x bs waiting) ∙ ap (λ (t : List ℕ). t ++ waiting) (sym taken) ∙ put)
 
 take-take_min : (m n : ℕ) (xs : List ℕ) → m ≤ length (take n xs) → take m (take n xs) ≡ take m xs
 take-take_min m n xs short = take-take m n xs (omega (arith, length-take n xs))
 
--- the sink took a front of what it and the block behind it took
-pub sink_front : (a b : Option (List ℕ)) (waiting text : List ℕ) (n : ℕ)
+-- the sink took a prefix of what it and the block behind it took
+pub sink_prefix : (a b : Option (List ℕ)) (waiting text : List ℕ) (n : ℕ)
     → Appends a (append_known b waiting) (take n text) → TakesMore a b → (m : ℕ) × Appends a b (take m text)
-sink_front None b waiting text n put more = (0, tt)
-sink_front (Some x) None waiting text n put more = absurd more.1
-sink_front (Some x) (Some y) waiting text n put more =
+sink_prefix None b waiting text n put more = (0, tt)
+sink_prefix (Some x) None waiting text n put more = absurd more.1
+sink_prefix (Some x) (Some y) waiting text n put more =
     let bs = more.0 in
     let joined : bs ++ waiting ≡ take n text = cancelled x y bs waiting (take n text) more.1 put in
-    let front : take (length bs) (take n text) ≡ bs =
+    let prefix : take (length bs) (take n text) ≡ bs =
     ap (take (length bs)) (sym joined) ∙ take_at bs waiting _ refl in
     let short : length bs ≤ length (take n text) = omega (arith, ap length joined, length-append bs waiting) in
-    (length bs, more.1 ∙ ap (λ (t : List ℕ). x ++ t) (sym front ∙ take-take_min (length bs) n text short))
+    (length bs, more.1 ∙ ap (λ (t : List ℕ). x ++ t) (sym prefix ∙ take-take_min (length bs) n text short))
 
 -- the block was empty before
 pub put_from_empty : (a b : Option (List ℕ)) (none xs : List ℕ) → none ≡ []
@@ -83,12 +83,12 @@ nothing_put None b kept = tt
 nothing_put (Some x) None kept = absurd kept
 nothing_put (Some x) (Some y) kept = kept ∙ sym (append-nil x)
 
--- all was put, and the sink took what waits, or on an `Err` a front of it
+-- all was put, and the sink took what waits, or on an `Err` a prefix of it
 pub drained : {A E : Type 0} (result : Result A E) (a b : Option (List ℕ)) (waiting text : List ℕ)
     → OnOk result (waiting ≡ []) → Appends a (in_all b waiting) text → TakesMore a b → Puts result a b text
 drained (Ok x) a b waiting text empty put extends = put_to_empty a b waiting text empty put
 drained (Err f) a b waiting text empty put extends =
-    sink_front a b waiting text (length text)
+    sink_prefix a b waiting text (length text)
     (subst (λ (t : List ℕ). Appends a (in_all b waiting) t) (sym (take_all (length text) text (omega arith))) put)
     extends
 
@@ -105,7 +105,7 @@ Appends-keeps (Some a) None c xs p q = absurd p
 Appends-keeps (Some a) (Some b) None xs p q = absurd q
 Appends-keeps (Some a) (Some b) (Some c) xs p q = q ∙ p
 
--- a front of a front is a front
+-- a prefix of a prefix is a prefix
 pub take-longer : (n : ℕ) (xs ys : List ℕ) → (m : ℕ) × (take m (xs ++ ys) ≡ take n xs)
 take-longer zero xs ys = (0, refl)
 take-longer (suc n) [] ys = (0, refl)
@@ -133,7 +133,7 @@ pub puts-whole : {A E : Type 0} (result : Result A E) (a b : Option (List ℕ)) 
 puts-whole (Ok x) a b xs p = p
 puts-whole (Err e) a b xs p = (0, nothing_put a b p)
 
--- some bytes were put, and then a front of others, all of which lie at the front of a whole
+-- some bytes were put, and then a prefix of others, all of which lie at the beginning of a whole
 pub puts-stopped : (a b c : Option (List ℕ)) (xs ys rest whole : List ℕ) → Appends a b xs
     → ((n : ℕ) × Appends b c (take n ys)) → whole ≡ (xs ++ ys) ++ rest → (n : ℕ) × Appends a c (take n whole)
 puts-stopped a b c xs ys rest whole p q e =
@@ -145,7 +145,7 @@ puts-stopped a b c xs ys rest whole p q e =
 
 -- ---- a text that is put step by step
 
--- what is put stays at the front
+-- what is put stays at the beginning
 text-grows : (f s : ℕ → List ℕ) → ((i : ℕ) → f (i + 1) ≡ f i ++ s i) → (k i : ℕ)
     → (rest : List ℕ) × (f (i + k) ≡ f i ++ rest)
 text-grows f s more zero i =
@@ -157,7 +157,7 @@ text-grows f s more (suc k) i =
       ap f last ∙ more (i + k) ∙ ap (λ (t : List ℕ). t ++ s (i + k)) before.1 ∙ append_assoc (f i) before.0 (s (i + k)),
     )
 
--- the first steps were put, and then a front of the next one
+-- the first steps were put, and then a prefix of the next one
 pub steps-stopped : (f s : ℕ → List ℕ) → ((i : ℕ) → f (i + 1) ≡ f i ++ s i) → (i n : ℕ) → i < n
     → (a b c : Option (List ℕ)) → Appends a b (f i) → ((m : ℕ) × Appends b c (take m (s i)))
     → (m : ℕ) × Appends a c (take m (f n))
@@ -177,13 +177,13 @@ steps-put f s more i a b c p q = Appends-then a b c (f i) (s i) (f (i + 1)) p q 
 pub put-as : (a b : Option (List ℕ)) (xs ys : List ℕ) → xs ≡ ys → Appends a b xs → Appends a b ys
 put-as a b xs ys e p = subst (λ (t : List ℕ). Appends a b t) e p
 
--- the first part was put, and then the second, or a front of it
+-- the first part was put, and then the second, or a prefix of it
 pub puts-joined : {A E : Type 0} (result : Result A E) (a b c : Option (List ℕ)) (xs ys zs : List ℕ) → zs ≡ xs ++ ys
     → Appends a b xs → Puts result b c ys → Puts result a c zs
 puts-joined result a b c xs ys zs e p q = subst (λ (t : List ℕ). Puts result a c t) (sym e)
     (puts-then result a b c xs ys p q)
 
--- a front of the first part was put
+-- a prefix of the first part was put
 pub puts-cut : (a b : Option (List ℕ)) (xs ys zs : List ℕ) → zs ≡ xs ++ ys → ((n : ℕ) × Appends a b (take n xs))
     → (n : ℕ) × Appends a b (take n zs)
 puts-cut a b xs ys zs e p = rw e (puts-longer a b xs ys p)
@@ -216,7 +216,7 @@ writes-none {a = a} = record {
   held = λ some. absurd (omega arith);
 }
 
--- some bytes were written, and then others, or a front of them
+-- some bytes were written, and then others, or a prefix of them
 pub writes-then : {A E B F : Type 0} {x : A} (result : Result B F) {a b c : SinkState} {xs ys zs : List ℕ}
     → zs ≡ xs ++ ys → Writes {A = A} {E = E} (Ok x) a b xs → Writes result b c ys → Writes result a c zs
 writes-then {B = B} {F = F} (Ok y) {a} {b} {c} {xs} {ys} {zs} e p q = record {
@@ -239,7 +239,7 @@ writes-next {A} {E} {B} {F} {x} {y} {a} {b} {c} {xs} {ys} p q =
     let both : Writes {A = B} {E = F} (Ok y) a c (xs ++ ys) = writes-then (Ok y) refl p q in
     record { taken = both.taken; failures = both.failures; unflushed = both.unflushed; held = both.held }
 
--- a front of the bytes, with which more begins, was written
+-- a prefix of the bytes, with which more begins, was written
 pub writes-cut : {A E B F : Type 0} {e : E} {f : F} {a b : SinkState} {xs zs : List ℕ} (ys : List ℕ) → zs ≡ xs ++ ys
     → Writes {A = A} {E = E} (Err e) a b xs → Writes {A = B} {E = F} (Err f) a b zs
 writes-cut {a = a} {b = b} {xs = xs} {zs = zs} ys e p = record {
@@ -267,7 +267,7 @@ writes-done e p = record {
   held = λ some. p.held (rw e some);
 }
 
--- some bytes were written, and then a front of others, all of which lie at the front of a whole
+-- some bytes were written, and then a prefix of others, all of which lie at the beginning of a whole
 pub writes-stopped : {A E B F C G : Type 0} {x : A} {e : F} {f : G} {a b c : SinkState} {xs ys whole : List ℕ}
     (rest : List ℕ) → whole ≡ (xs ++ ys) ++ rest → Writes {A = A} {E = E} (Ok x) a b xs
     → Writes {A = B} {E = F} (Err e) b c ys → Writes {A = C} {E = G} (Err f) a c whole
@@ -299,12 +299,12 @@ pub through-whole : {A E : Type 0} (result : Result A E) {a b : SinkState} {u v 
     → PutsWhole result a b u v xs → WritesThrough result a b u v xs
 through-whole result {a} {b} {u} {v} {xs} p = record {
   put = puts-whole result (in_all a.taken u) (in_all b.taken v) xs p.all;
-  more = front-more a.taken b.taken u v _ p.front;
+  more = prefix-more a.taken b.taken u v _ p.prefix;
   failures = p.failures;
   unflushed = p.unflushed;
 }
 
--- some bytes were put, and then others, or a front of them
+-- some bytes were put, and then others, or a prefix of them
 pub through-then : {A E B F : Type 0} {x : A} (result : Result B F) {a b c : SinkState} {u v w xs ys zs : List ℕ}
     → zs ≡ xs ++ ys → WritesThrough {A = A} {E = E} (Ok x) a b u v xs → WritesThrough result b c v w ys
     → WritesThrough result a c u w zs
@@ -341,7 +341,7 @@ through-done {a = a} {b = b} {u = u} {v = v} e p = record {
   unflushed = p.unflushed;
 }
 
--- a front of the bytes, with which more begins, was put
+-- a prefix of the bytes, with which more begins, was put
 pub through-cut : {A E B F : Type 0} {e : E} {f : F} {a b : SinkState} {u v xs zs : List ℕ} (ys : List ℕ)
     → zs ≡ xs ++ ys → WritesThrough {A = A} {E = E} (Err e) a b u v xs
     → WritesThrough {A = B} {E = F} (Err f) a b u v zs
@@ -352,14 +352,14 @@ through-cut {a = a} {b = b} {u = u} {v = v} {xs = xs} {zs = zs} ys e p = record 
   unflushed = p.unflushed;
 }
 
--- some bytes were put, and then a front of others, all of which lie at the front of a whole
+-- some bytes were put, and then a prefix of others, all of which lie at the beginning of a whole
 pub through-stopped : {A E B F C G : Type 0} {x : A} {e : F} {f : G} {a b c : SinkState} {u v w xs ys whole : List ℕ}
     (rest : List ℕ) → whole ≡ (xs ++ ys) ++ rest
     → WritesThrough {A = A} {E = E} (Ok x) a b u v xs → WritesThrough {A = B} {E = F} (Err e) b c v w ys
     → WritesThrough {A = C} {E = G} (Err f) a c u w whole
 through-stopped {e = e} rest is p q = through-cut rest is (through-then (Err e) refl p q)
 
--- the first steps of a text were put, and then a front of the next one
+-- the first steps of a text were put, and then a prefix of the next one
 pub through-steps : {A E B F C G : Type 0} {x : A} {e : F} {f : G} {a b c : SinkState} {u v w : List ℕ}
     (text step : ℕ → List ℕ) → ((i : ℕ) → text (i + 1) ≡ text i ++ step i) → (i n : ℕ) → i < n
     → WritesThrough {A = A} {E = E} (Ok x) a b u v (text i) → WritesThrough {A = B} {E = F} (Err e) b c v w (step i)
@@ -369,7 +369,7 @@ through-steps text step more i n less p q =
     let end : i + 1 + (n - (i + 1)) ≡ n = omega arith in
     through-stopped whole.0 (ap text (sym end) ∙ whole.1 ∙ ap (λ (t : List ℕ). t ++ whole.0) (more i)) p q
 
--- all was put, of which nothing waited before, and then what waits was handed on, or on an `Err` a front of it
+-- all was put, of which nothing waited before, and then what waits was handed on, or on an `Err` a prefix of it
 pub through-drained : {A E B F : Type 0} {x : A} (result : Result B F) {a b c : SinkState} {none v w text : List ℕ}
     → none ≡ [] → 0 < length v → WritesThrough {A = A} {E = E} (Ok x) a b none v text → Drains result b c v w
     → Writes result a c text
@@ -378,7 +378,7 @@ through-drained {B = B} {F = F} (Ok y) {a} {b} {c} {none} {v} {w} {text} empty s
     record {
       taken = drained {A = B} {E = F} (Ok y) a.taken c.taken w text q.empty
           (Appends-keeps a.taken (in_all b.taken v) (in_all c.taken w) text put q.bytes)
-          (TakesMore-then a.taken b.taken c.taken p.more (front-more b.taken c.taken v w [] q.front));
+          (TakesMore-then a.taken b.taken c.taken p.more (prefix-more b.taken c.taken v w [] q.prefix));
       failures = q.failures ∙ p.failures;
       unflushed = λ t. p.unflushed (q.unflushed t);
       held = λ t. q.held some;
@@ -388,17 +388,17 @@ through-drained {B = B} {F = F} (Err f) {a} {b} {c} {none} {v} {w} {text} empty 
     record {
       taken = drained {A = B} {E = F} (Err f) a.taken c.taken w text q.empty
           (Appends-keeps a.taken (in_all b.taken v) (in_all c.taken w) text put q.bytes)
-          (TakesMore-then a.taken b.taken c.taken p.more (front-more b.taken c.taken v w [] q.front));
+          (TakesMore-then a.taken b.taken c.taken p.more (prefix-more b.taken c.taken v w [] q.prefix));
       failures = q.failures ∙ ap one_more p.failures;
       unflushed = λ t. p.unflushed (q.unflushed t);
       held = tt;
     }
 
--- a front of the text was put, of which nothing waited before: the sink took a front of it
+-- a prefix of the text was put, of which nothing waited before: the sink took a prefix of it
 pub through-failed : {A E B F : Type 0} {e : E} {f : F} {a b : SinkState} {none v text : List ℕ} → none ≡ []
     → WritesThrough {A = A} {E = E} (Err e) a b none v text → Writes {A = B} {E = F} (Err f) a b text
 through-failed {a = a} {b = b} {none = none} {v = v} {text = text} empty p = record {
-  taken = sink_front a.taken b.taken v text p.put.0
+  taken = sink_prefix a.taken b.taken v text p.put.0
       (put_from_empty a.taken (in_all b.taken v) none (take p.put.0 text) empty p.put.1) p.more;
   failures = p.failures;
   unflushed = p.unflushed;

@@ -16,21 +16,21 @@ PutsAllOrNone result old new bytes = MatchResult result (λ _. Appends old new b
 abbrev pub TakesMore : Option (List ℕ) → Option (List ℕ) → Type 0
 TakesMore old new = (more : List ℕ) × Appends old new more
 
--- the sink took a front of what waited, and what then waits is the rest of it and more
-abbrev pub TakesFront : Option (List ℕ) → Option (List ℕ) → List ℕ → List ℕ → List ℕ → Type 0
-TakesFront taken_old taken_new waited waits more =
+-- the sink took a prefix of what waited, and what then waits is the rest of it and more
+abbrev pub TakesPrefix : Option (List ℕ) → Option (List ℕ) → List ℕ → List ℕ → List ℕ → Type 0
+TakesPrefix taken_old taken_new waited waits more =
     (n : ℕ) × Appends taken_old taken_new (take n waited) × (waits ≡ drop n waited ++ more)
 
 -- a call that puts these bytes into a block before a sink, all of them or on an `Err` none, with what waited before the
--- call and what waits after it; it doesn't flush the sink, which took a front of what waited
+-- call and what waits after it; it doesn't flush the sink, which took a prefix of what waited
 pub record PutsWhole {A E : Type 0} (result : Result A E) (old new : SinkState) (waited waits bytes : List ℕ)
     : Type 0 where
   pub all : PutsAllOrNone result (in_all old.taken waited) (in_all new.taken waits) bytes
-  pub front : TakesFront old.taken new.taken waited waits (if is_ok result then bytes else [])
+  pub prefix : TakesPrefix old.taken new.taken waited waits (if is_ok result then bytes else [])
   pub failures : CountsFailure result old.failures new.failures
   pub unflushed : NeverFlushes old.is_flushed new.is_flushed
 
--- a call that puts these bytes into a block before a sink piece by piece, or on an `Err` a front of them
+-- a call that puts these bytes into a block before a sink piece by piece, or on an `Err` a prefix of them
 pub record WritesThrough {A E : Type 0} (result : Result A E) (old new : SinkState) (waited waits bytes : List ℕ)
     : Type 0 where
   pub put : Puts result (in_all old.taken waited) (in_all new.taken waits) bytes
@@ -38,10 +38,10 @@ pub record WritesThrough {A E : Type 0} (result : Result A E) (old new : SinkSta
   pub failures : CountsFailure result old.failures new.failures
   pub unflushed : NeverFlushes old.is_flushed new.is_flushed
 
--- a call that hands the sink what waits in a block, or on an `Err` a front of it; it doesn't flush the sink
+-- a call that hands the sink what waits in a block, or on an `Err` a prefix of it; it doesn't flush the sink
 pub record Drains {A E : Type 0} (result : Result A E) (old new : SinkState) (waited waits : List ℕ) : Type 0 where
   pub bytes : Keeps (in_all old.taken waited) (in_all new.taken waits)
-  pub front : TakesFront old.taken new.taken waited waits []
+  pub prefix : TakesPrefix old.taken new.taken waited waits []
   pub empty : OnOk result (waits ≡ [])
   pub failures : CountsFailure result old.failures new.failures
   pub unflushed : NeverFlushes old.is_flushed new.is_flushed

@@ -35,7 +35,7 @@ one_more n = min (n + 1) (2 ^ 64 - 1)
 abbrev pub CountsFailure : {A E : Type 0} → Result A E → ℕ → ℕ → Type 0
 CountsFailure result old new = new ≡ (if is_ok result then old else one_more old)
 
--- all of the bytes were appended, or on an `Err` a front of them
+-- all of the bytes were appended, or on an `Err` a prefix of them
 abbrev pub Puts : {A E : Type 0} → Result A E → Option (List ℕ) → Option (List ℕ) → List ℕ → Type 0
 Puts result old new bytes =
     MatchResult result (λ _. Appends old new bytes) (λ _. (n : ℕ) × Appends old new (take n bytes))

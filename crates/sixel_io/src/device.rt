@@ -20,7 +20,7 @@ pub trait Source {
     /// The bytes to come, where the source tells them, and how many calls failed.
     ghost state: { Self → SourceState };
 
-    /// Writes the next bytes to the front of the piece and says how many; 0 only at the end.
+    /// Writes the next bytes to the beginning of the piece and says how many; 0 only at the end.
     fn fill(&mut self, piece: &mut [u8]) -> Result<usize, DeviceFault>
         requires { 0 < length piece.old }
         ensures bound { IfOk result (λ n. n ≤ length piece.new) }
@@ -37,7 +37,7 @@ pub trait Sink {
     /// The bytes that were taken, where the sink tells them, how many calls failed, and whether it is flushed.
     ghost state: { Self → SinkState };
 
-    /// Takes bytes from the front of the piece, at least one, and says how many.
+    /// Takes the first bytes of the piece, at least one, and says how many.
     fn take(&mut self, piece: &[u8]) -> Result<usize, DeviceFault>
         requires { 0 < length piece.now }
         ensures bound { IfOk result (λ n. (0 < n) × (n ≤ length piece.now)) }
@@ -56,7 +56,7 @@ pub trait Sink {
         ensures { result ≡ (state self.now).failures };
 }
 
-/// Hands the sink all the bytes, or on an `Err` a front of them; it doesn't flush.
+/// Hands the sink all the bytes, or on an `Err` a prefix of them; it doesn't flush.
 pub fn put_all<K: Sink>(out: &mut K, bytes: &[u8]) -> Result<(), DeviceFault>
     ensures { Writes result (K.state out.old) (K.state out.new) bytes.now }
 {

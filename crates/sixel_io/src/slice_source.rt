@@ -82,8 +82,8 @@ impl<'a> Source for SliceSource<'a> {
             return Err(DeviceFault);
         }
         let count = self.piece.min(piece.len()).min(self.rest.len());
-        let (front, rest) = self.rest.split_at(count);
-        piece[..count].copy_from_slice(front);
+        let (prefix, rest) = self.rest.split_at(count);
+        piece[..count].copy_from_slice(prefix);
         self.rest = rest;
         Ok(count)
     }

@@ -1,4 +1,4 @@
-pub mod SheetLemmas
+pub mod GridLemmas
 pub mod PictureLemmas
 pub mod PaintLemmas
 pub mod RunLemmas

@@ -9,7 +9,7 @@ use Rattle.sixel_model.specs.Geometry.{band, column, covers, touches, falls}
 use Rattle.sixel_model.specs.Positions.{latest, earliest, since, any_below, last_below, at_position, passes_at}
 use Rattle.sixel_model.specs.Positions.{last_at, any_at, HoldsAtPosition}
 use Rattle.sixel_model.specs.Rules
-use Rattle.sixel_model.specs.Sheets.{row_by_row}
+use Rattle.sixel_model.specs.Grids.{row_by_row}
 use Rattle.sixel_model.specs.RuleNumbers.{raster_first_rule, raster_twice_rule, ratio_rule, box_size_rule}
 use Rattle.sixel_model.specs.RuleNumbers.{register_rule, colour_value_rule, repeat_zero_rule, unselected_rule}
 use Rattle.sixel_model.specs.RuleNumbers.{undefined_rule, redefined_rule, outside_rule, uncovered_rule}

@@ -5,7 +5,7 @@ pub mod Palettes
 pub mod Positions
 pub mod Events
 pub mod Geometry
-pub mod Sheets
+pub mod Grids
 pub mod RuleNumbers
 pub mod Rules
 pub mod Laws

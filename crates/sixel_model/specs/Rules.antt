@@ -17,7 +17,7 @@ use Rattle.sixel_model.specs.Events.{is_same_definition, is_square, named_by, ra
 use Rattle.sixel_model.specs.Geometry.{falls}
 use Rattle.sixel_model.specs.Pictures.{PictureValue, picture_of_parts}
 use Rattle.sixel_model.specs.Positions.{HoldsAtPosition, HoldsNowhere, any_at, earliest, last_at, latest}
-use Rattle.sixel_model.specs.Sheets.{row_by_row}
+use Rattle.sixel_model.specs.Grids.{row_by_row}
 use Rattle.sixel_model.specs.RuleNumbers.{raster_first_rule, raster_twice_rule, ratio_rule, box_size_rule}
 use Rattle.sixel_model.specs.RuleNumbers.{register_rule, colour_value_rule, repeat_zero_rule, unselected_rule}
 use Rattle.sixel_model.specs.RuleNumbers.{undefined_rule, redefined_rule, outside_rule, uncovered_rule}

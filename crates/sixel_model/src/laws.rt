@@ -1,10 +1,10 @@
 //! Laws about the definitions. Each function's contract is the law.
 
-ghost use Rattle.sixel_model.specs.Laws.{BlankSheetsAreBlank, RunsPaintTheirPixels};
+ghost use Rattle.sixel_model.specs.Laws.{BlankGridsAreBlank, RunsPaintTheirPixels};
 
 /// No pixel of a blank plane has a register.
-pub fn blank_sheets_are_blank()
-    ensures { BlankSheetsAreBlank }
+pub fn blank_grids_are_blank()
+    ensures { BlankGridsAreBlank }
 {}
 
 /// A run gives its pixels the register, and leaves each other pixel as it was.

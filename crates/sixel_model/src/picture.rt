@@ -7,7 +7,7 @@ ghost use Rattle.std.specs.List.{list_all};
 ghost use Rattle.sixel_model.specs.Pictures.{IsAnyPicture, picture_fault, picture_of_parts, register_of};
 ghost use Rattle.sixel_model.specs.Profiles.{count_of};
 
-use crate::palette::{Palette, greatest};
+use crate::palette::{Palette, greatest_register};
 use crate::profile::Profile;
 use std::marker::Model;
 
@@ -64,10 +64,10 @@ fn reason_of_registers(palette: &Palette, registers: &[u8]) -> Option<PictureRea
         else if not (list_all (λ r. is_some (palette_at palette.now r)) registers.now) then Some PictureReason.NoColour
         else None) }
 {
-    let greatest = greatest(registers);
-    if u16::from(greatest) >= palette.profile().count() {
+    let greatest_register = greatest_register(registers);
+    if u16::from(greatest_register) >= palette.profile().count() {
         Some(PictureReason::Register)
-    } else if !palette.has_all(registers, greatest) {
+    } else if !palette.has_all(registers, greatest_register) {
         Some(PictureReason::NoColour)
     } else {
         None

@@ -5,7 +5,7 @@ pub use Rattle.sixel_model.specs.Palettes
 pub use Rattle.sixel_model.specs.Positions
 pub use Rattle.sixel_model.specs.Events
 pub use Rattle.sixel_model.specs.Geometry
-pub use Rattle.sixel_model.specs.Sheets
+pub use Rattle.sixel_model.specs.Grids
 pub use Rattle.sixel_model.specs.RuleNumbers
 pub use Rattle.sixel_model.specs.Rules
 pub use Rattle.sixel_plane.specs.Stretches
@@ -16,9 +16,9 @@ pub use Rattle.sixel_ppm.specs.Ppm
 pub use Rattle.sixel_ppm.specs.PpmReading
 pub use Rattle.sixel_ppm.specs.PpmHeader
 pub use Rattle.sixel_ppm.specs.PpmColours
-pub use Rattle.sixel_ppm.specs.PpmHeld
+pub use Rattle.sixel_ppm.specs.PpmPartialPixel
 pub use Rattle.sixel_ppm.specs.PpmSamples
 pub use Rattle.sixel_ppm.specs.PpmFeeding
 pub use Rattle.sixel_ppm.specs.PpmFiles
 pub use Rattle.sixel_ppm.specs.PpmTables
-pub use Rattle.sixel_ppm.specs.PpmKnown
+pub use Rattle.sixel_ppm.specs.PpmPixelCache

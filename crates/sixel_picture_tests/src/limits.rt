@@ -6,15 +6,15 @@ use sixel_ppm::{PpmFault, PpmReason};
 use std::alloc::{AllocError, Global};
 use std::test::Fail;
 
-/// A front, so many bytes of filler, and the rest.
+/// A prefix, so many bytes of filler, and the rest.
 fn filled(
     alloc: Global,
-    front: &[u8],
+    prefix: &[u8],
     filler: u8,
     count: usize,
     rest: &[u8],
 ) -> Result<Vec<u8>, AllocError> {
-    let mut bytes = front.to_vec(alloc)?;
+    let mut bytes = prefix.to_vec(alloc)?;
     for _ in 0..count {
         bytes.push(filler)?;
     }

@@ -135,7 +135,7 @@ fn both_planes_show_the_same(rt: HostRuntime) -> Result<(), Fail> {
     Ok(())
 }
 
-/// Whether so many bytes at the front are data bytes.
+/// Whether so many bytes at the beginning are data bytes.
 fn are_sixels(bytes: &[u8], count: usize) -> bool
     requires { count ≤ length bytes.now }
     ensures { IsTrue result → (j : ℕ) → j < count → IsTrue (is_data (slice_index bytes.now j)) }

@@ -271,12 +271,12 @@ fn filler_stands_wherever_it_may(rt: HostRuntime) -> Result<(), Fail> {
 }
 
 #[test]
-fn fronts_are_short(rt: HostRuntime) -> Result<(), Fail> {
+fn prefixes_are_short(rt: HostRuntime) -> Result<(), Fail> {
     for count in 0..RED.len() {
         let expected = format(PpmReason::Short, count as u64);
         assert!(rt;
             agrees(rt.alloc(), &RED[..count], 30, expected),
-            "front {count}"
+            "prefix {count}"
         );
     }
     assert!(rt; fault(rt.alloc(), RED, 1).is_none());

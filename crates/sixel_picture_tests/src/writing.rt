@@ -91,15 +91,15 @@ fn colours_are_written_as_ppm(rt: HostRuntime) -> Result<(), Fail> {
     Ok(())
 }
 
-/// Whether a sink that fails before the end of the text has a front of it: one that takes a byte a call and fails at
+/// Whether a sink that fails before the end of the text has a prefix of it: one that takes a byte a call and fails at
 /// one, and one with too little room.
 fn fails_in_turn(picture: &Picture, text: &[u8]) -> bool {
     let failed = Err(PpmFault::Write);
     for count in 0..text.len() {
-        let front = &text[..count];
+        let prefix = &text[..count];
         let mut room = [0; 32];
-        if !writes(picture, &mut room, 1, Some(count as u64), failed, front)
-            || !writes(picture, &mut room[..count.min(32)], 4, None, failed, front)
+        if !writes(picture, &mut room, 1, Some(count as u64), failed, prefix)
+            || !writes(picture, &mut room[..count.min(32)], 4, None, failed, prefix)
         {
             return false;
         }
@@ -108,7 +108,7 @@ fn fails_in_turn(picture: &Picture, text: &[u8]) -> bool {
 }
 
 #[test]
-fn failing_sinks_have_a_front_of_the_text(rt: HostRuntime) -> Result<(), Fail> {
+fn failing_sinks_have_a_prefix_of_the_text(rt: HostRuntime) -> Result<(), Fail> {
     let two = picture_of(
         rt.alloc(),
         2,

@@ -1,4 +1,4 @@
--- On registers and a byte of painted rows for each column and band, that stand for a sheet.
+-- On registers and a byte of painted rows for each column and band, that stand for a grid.
 use Rattle.std.proofs.Common.{◌≡◌, ◌==◌, ◌≢◌, ℕ, zero, suc, ◌+◌, ◌*◌, ◌/◌, ◌%◌, ◌<◌, ◌≤◌, Bool, true, false, ◌&&◌, ◌||◌}
 use Rattle.std.proofs.Common.{cond, List, length, get_or, replicate, nat_le, nat_lt, if◌then◌else◌, inl, inr, refl, sym}
 use Rattle.std.proofs.Common.{ap, ◌∙◌, arith, max, mul_comm, take}
@@ -9,13 +9,13 @@ use Rattle.std.proofs.lemmas.List.{get_or-replicate, get_or-take, length-take-le
 use Rattle.std.proofs.lemmas.Nat.{div-add-mod', mod_below, div-mul-add, mod-mul-add, mul-add-lt, mul-le}
 use Rattle.std.proofs.lemmas.Nat.{row_fits_turned}
 use Rattle.std.proofs.lemmas.Nat.Bits.{bit_at_or, bit_at-lt, bit_at-zero, same_from_bits_below}
-use Rattle.sixel_plane.specs.BandPlanes.{is_covered, sheet_of_bands}
+use Rattle.sixel_plane.specs.BandPlanes.{has_coverage_bit, grid_of_bands}
 use Rattle.sixel_model.specs.Geometry.{covers}
 use Rattle.sixel_plane.specs.Lanes.{AreChanged}
 use Rattle.sixel_model.specs.Positions.{any_below}
-use Rattle.sixel_model.specs.Sheets.{RowsArePainted, blank_sheet, painted_sheet}
+use Rattle.sixel_model.specs.Grids.{RowsArePainted, blank_grid, painted_grid}
 use Rattle.sixel_model.proofs.CoverLemmas.{lies_under, covers_under, PassesBelow, passes_below, any_below_at}
-use Rattle.sixel_plane.proofs.PaintedLemmas.{blank_unpainted, sheet_after_run}
+use Rattle.sixel_plane.proofs.PaintedLemmas.{blank_unpainted, grid_after_run}
 use Rattle.sixel_model.proofs.PaintLemmas.{painted_same}
 use Rattle.sixel_model.proofs.RunLemmas.{IsRunBelow, in_row_at, run_more, same_test}
 
@@ -32,9 +32,9 @@ band_fits w h x y inside_x inside_y = mul-add-lt (y / 6) w x (div_ceil h 6) (ban
 -- ---- a blank plane
 
 pub blank_bands : (w h : ℕ) (registers coverage : List ℕ) → 0 < w → coverage ≡ replicate (w * div_ceil h 6) 0
-    → sheet_of_bands w h registers coverage ≡ blank_sheet w h
+    → grid_of_bands w h registers coverage ≡ blank_grid w h
 blank_bands w h registers coverage some blank =
-    blank_unpainted w h registers (is_covered w coverage) some
+    blank_unpainted w h registers (has_coverage_bit w coverage) some
     (λ x y inside_x inside_y.
     let byte : get_or coverage (y / 6 * w + x) 0 ≡ 0 =
     ap (λ (l : List ℕ). get_or l (y / 6 * w + x) 0) blank
@@ -118,7 +118,7 @@ or_bit false old bits k = refl
 painted_bit : (w left count band bits : ℕ) (old new : List ℕ) (x y : ℕ) → x < w → left + count ≤ w
     → y / 6 * w + x < length old
     → AreChanged (band * w + left) (band * w + left + count) (λ b. bit_or b bits) old new
-    → is_covered w new x y ≡ (covers left count band 1 bits x y || is_covered w old x y)
+    → has_coverage_bit w new x y ≡ (covers left count band 1 bits x y || has_coverage_bit w old x y)
 painted_bit w left count band bits old new x y inside fits there changed =
     let byte = changed.changed (y / 6 * w + x) there in
     let place = in_row_at w band (y / 6) x left count inside fits in
@@ -127,18 +127,18 @@ painted_bit w left count band bits old new x y inside fits there changed =
     ∙ or_bit _ before bits (y % 6)
     ∙ ap (λ t. t || (bit_at before (y % 6) == 1)) (sym (covered_band left count band bits x y))
 
--- the sheet after a run
+-- the grid after a run
 pub painted_bands : (w h left count band bits register : ℕ) (registers coverage registers_after coverage_after : List ℕ)
     → 0 < w → left + count ≤ w → length registers ≡ w * h → length coverage ≡ w * div_ceil h 6
     → AreChanged (band * w + left) (band * w + left + count) (λ b. bit_or b bits) coverage coverage_after
     → ((i : ℕ) → i < length registers → get_or registers_after i 0
     ≡ cond (covers left count band 1 bits (i % w) (i / w)) register (get_or registers i 0))
-    → sheet_of_bands w h registers_after coverage_after
-    ≡ painted_sheet (sheet_of_bands w h registers coverage) left band count bits register
+    → grid_of_bands w h registers_after coverage_after
+    ≡ painted_grid (grid_of_bands w h registers coverage) left band count bits register
 painted_bands w h left count band bits register registers coverage registers_after coverage_after
     some fits whole bands changed written =
-    sheet_after_run w h left count band bits register registers registers_after (is_covered w coverage)
-    (is_covered w coverage_after) some whole
+    grid_after_run w h left count band bits register registers registers_after (has_coverage_bit w coverage)
+    (has_coverage_bit w coverage_after) some whole
     (λ x y inside_x inside_y.
     painted_bit w left count band bits coverage coverage_after x y inside_x fits
     (rw bands (band_fits w h x y inside_x inside_y)) changed)
@@ -208,7 +208,7 @@ bands_fit w h = omega (arith, mul-le (h / 6) w (div_ceil h 6) w (omega arith) (o
 pub whole_painted : (w h common : ℕ) (coverage : List ℕ) → common ≡ 63 → h / 6 * w ≤ length coverage
     → ((i k : ℕ) → i < length (take (h / 6 * w) coverage) → bit_at common k ≡ 1
     → bit_at (get_or (take (h / 6 * w) coverage) i 0) k ≡ 1)
-    → RowsArePainted w (is_covered w coverage) (h / 6 * 6)
+    → RowsArePainted w (has_coverage_bit w coverage) (h / 6 * 6)
 whole_painted w h common coverage all long each x y inside_x inside_y =
     let i : ℕ = y / 6 * w + x in
     let n : ℕ = h / 6 * w in

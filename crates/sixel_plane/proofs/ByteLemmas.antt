@@ -1,4 +1,4 @@
--- On a register and a mark for each pixel, that stand for a sheet.
+-- On a register and a mark for each pixel, that stand for a grid.
 use Rattle.std.proofs.Common.{◌≡◌, ℕ, ◌+◌, ◌*◌, ◌/◌, ◌%◌, ◌<◌, Bool, true, false, ◌||◌, cond, not, Option, Some, None}
 use Rattle.std.proofs.Common.{List, length, get_or, replicate, position, refl, sym, ap, ap₂, ◌∙◌, arith, mul_comm}
 use Rattle.std.specs.Option.{option_map}
@@ -7,15 +7,15 @@ use Rattle.std.proofs.lemmas.Iterator.Adapters.{position_from-zero}
 use Rattle.std.proofs.lemmas.List.{get_or-replicate}
 use Rattle.std.proofs.lemmas.List.Quantifiers.{position-Some}
 use Rattle.std.proofs.lemmas.Nat.{div-add-mod', div-mul-add, mod_below, mod-mul-add, mul-add-lt}
-use Rattle.sixel_plane.specs.BytePlanes.{is_marked, sheet_of_marks}
+use Rattle.sixel_plane.specs.BytePlanes.{is_marked, grid_of_marks}
 use Rattle.sixel_model.specs.Geometry.{covers}
-use Rattle.sixel_model.specs.Sheets.{FirstUnpainted, IsFirstUnpainted, blank_sheet, painted_sheet}
-use Rattle.sixel_plane.proofs.PaintedLemmas.{blank_unpainted, none_passes, place_fits, row_below, sheet_after_run}
+use Rattle.sixel_model.specs.Grids.{FirstUnpainted, IsFirstUnpainted, blank_grid, painted_grid}
+use Rattle.sixel_plane.proofs.PaintedLemmas.{blank_unpainted, none_passes, place_fits, row_below, grid_after_run}
 use Rattle.sixel_model.proofs.RunLemmas.{IsRunBelow, covered_rows}
 
 -- no mark is set
 pub blank_marks : (w h : ℕ) (registers : List ℕ) (marks : List Bool) → 0 < w → marks ≡ replicate (w * h) false
-    → sheet_of_marks w h registers marks ≡ blank_sheet w h
+    → grid_of_marks w h registers marks ≡ blank_grid w h
 blank_marks w h registers marks some blank =
     blank_unpainted w h registers (is_marked w marks) some
     (λ x y inside_x inside_y.
@@ -53,16 +53,16 @@ either : (t b : Bool) → cond t true b ≡ (t || b)
 either true b = refl
 either false b = refl
 
--- the sheet after a run
+-- the grid after a run
 pub painted_marks : (w h left count band bits register : ℕ) (registers registers_after : List ℕ)
     (marks marks_after : List Bool) → 0 < w → length registers ≡ w * h → length marks ≡ w * h
     → IsRunBelow 6 w left count band bits register 0 registers registers_after
     → IsRunBelow 6 w left count band bits true false marks marks_after
-    → sheet_of_marks w h registers_after marks_after
-    ≡ painted_sheet (sheet_of_marks w h registers marks) left band count bits register
+    → grid_of_marks w h registers_after marks_after
+    ≡ painted_grid (grid_of_marks w h registers marks) left band count bits register
 painted_marks w h left count band bits register registers registers_after marks marks_after
     some whole whole_marks written marked =
-    sheet_after_run w h left count band bits register registers registers_after (is_marked w marks)
+    grid_after_run w h left count band bits register registers registers_after (is_marked w marks)
     (is_marked w marks_after) some whole
     (λ x y inside_x inside_y.
     let before : Bool = get_or marks (y * w + x) false in

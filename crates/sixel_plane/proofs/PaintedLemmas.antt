@@ -1,4 +1,4 @@
--- On sheets of a register for each pixel and of which pixels are painted.
+-- On grids of a register for each pixel and of which pixels are painted.
 use Rattle.std.proofs.Common.{◌≡◌, ℕ, zero, suc, ◌+◌, ◌*◌, ◌/◌, ◌%◌, ◌<◌, Bool, true, false, ◌||◌, cond, Option, Some}
 use Rattle.std.proofs.Common.{None, List, [], ◌∷◌, length, get_or, map, nat_lt, inl, inr, refl, sym, ap, ap₂, ◌∙◌}
 use Rattle.std.proofs.Common.{arith, mul_comm}
@@ -11,9 +11,9 @@ use Rattle.std.proofs.lemmas.List.{get_or-map, length-map}
 use Rattle.std.proofs.lemmas.List.Sums.{position_or_len_is}
 use Rattle.std.proofs.lemmas.Nat.{div-add-mod', div_below, mod_below, div-mul-add, mod-mul-add, mul-add-lt}
 use Rattle.sixel_model.specs.Geometry.{covers}
-use Rattle.sixel_model.specs.Sheets.{IsFirstUnpainted, IsFull, FirstUnpainted, RowsArePainted, blank_sheet, cell}
-use Rattle.sixel_model.specs.Sheets.{first_blank, painted_cell, painted_sheet, row_by_row, sheet_of_painted}
-use Rattle.sixel_model.proofs.SheetLemmas.{length_rows, get_index, at_rows, rows_from_index}
+use Rattle.sixel_model.specs.Grids.{IsFirstUnpainted, IsFull, FirstUnpainted, RowsArePainted, blank_grid, cell}
+use Rattle.sixel_model.specs.Grids.{first_blank, painted_cell, painted_grid, row_by_row, grid_of_painted}
+use Rattle.sixel_model.proofs.GridLemmas.{length_rows, get_index, at_rows, rows_from_index}
 
 -- ---- places
 
@@ -33,16 +33,16 @@ same_rows w h f g d some same =
 -- ---- blank and painted pixels
 
 pub cell_of_painted : (w h : ℕ) (registers : List ℕ) (is_painted : ℕ → ℕ → Bool) (x y : ℕ) → x < w → y < h
-    → cell (sheet_of_painted w h registers is_painted) x y ≡ painted_cell w registers is_painted x y
+    → cell (grid_of_painted w h registers is_painted) x y ≡ painted_cell w registers is_painted x y
 unfolding cell
 cell_of_painted w h registers is_painted x y inside_x inside_y =
     ap option_flatten (at_rows w h (painted_cell w registers is_painted) x y inside_x inside_y)
 
--- where no pixel is painted the sheet is blank
+-- where no pixel is painted the grid is blank
 pub blank_unpainted : (w h : ℕ) (registers : List ℕ) (is_painted : ℕ → ℕ → Bool) → 0 < w
     → ((x y : ℕ) → x < w → y < h → is_painted x y ≡ false)
-    → sheet_of_painted w h registers is_painted ≡ blank_sheet w h
-unfolding blank_sheet
+    → grid_of_painted w h registers is_painted ≡ blank_grid w h
+unfolding blank_grid
 blank_unpainted w h registers is_painted some none =
     ap (λ (cells : List (Option ℕ)). record { width = w; height = h; cells = cells })
     (same_rows w h (painted_cell w registers is_painted) (λ x y. None) None some
@@ -62,10 +62,10 @@ pub pixels_after : (w h register : ℕ) (old new : List ℕ) (is_over was_painte
     → get_or new (y * w + x) 0 ≡ cond (is_over x y) register (get_or old (y * w + x) 0))
     → row_by_row w h (painted_cell w new is_painted)
     ≡ row_by_row w h
-    (λ x y. cond (is_over x y) (Some register) (cell (sheet_of_painted w h old was_painted) x y))
+    (λ x y. cond (is_over x y) (Some register) (cell (grid_of_painted w h old was_painted) x y))
 pixels_after w h register old new is_over was_painted is_painted some painted written =
     same_rows w h (painted_cell w new is_painted)
-    (λ x y. cond (is_over x y) (Some register) (cell (sheet_of_painted w h old was_painted) x y))
+    (λ x y. cond (is_over x y) (Some register) (cell (grid_of_painted w h old was_painted) x y))
     None some
     (λ x y inside_x inside_y.
     let t : Bool = is_over x y in
@@ -74,16 +74,16 @@ pixels_after w h register old new is_over was_painted is_painted some painted wr
     ∙ ap (λ (o : Option ℕ). cond t (Some register) o)
     (sym (cell_of_painted w h old was_painted x y inside_x inside_y)))
 
--- the sheet after a run, which paints the pixels that it covers and gives them the register
-pub sheet_after_run : (w h left count band bits register : ℕ) (old new : List ℕ) (was_painted is_painted : ℕ → ℕ → Bool)
+-- the grid after a run, which paints the pixels that it covers and gives them the register
+pub grid_after_run : (w h left count band bits register : ℕ) (old new : List ℕ) (was_painted is_painted : ℕ → ℕ → Bool)
     → 0 < w → length old ≡ w * h
     → ((x y : ℕ) → x < w → y < h → is_painted x y ≡ (covers left count band 1 bits x y || was_painted x y))
     → ((i : ℕ) → i < length old
     → get_or new i 0 ≡ cond (covers left count band 1 bits (i % w) (i / w)) register (get_or old i 0))
-    → sheet_of_painted w h new is_painted
-    ≡ painted_sheet (sheet_of_painted w h old was_painted) left band count bits register
-unfolding painted_sheet
-sheet_after_run w h left count band bits register old new was_painted is_painted some whole painted written =
+    → grid_of_painted w h new is_painted
+    ≡ painted_grid (grid_of_painted w h old was_painted) left band count bits register
+unfolding painted_grid
+grid_after_run w h left count band bits register old new was_painted is_painted some whole painted written =
     ap (λ (cells : List (Option ℕ)). record { width = w; height = h; cells = cells })
     (pixels_after w h register old new (covers left count band 1 bits) was_painted is_painted some painted
     (λ x y inside_x inside_y.
@@ -130,7 +130,7 @@ pub none_from_map : {A B : Type 0} (f : A → B) (o : Option A) → option_map f
 none_from_map f None e = refl
 none_from_map f (Some x) e = cc
 
--- ---- the first blank pixel, and sheets without one
+-- ---- the first blank pixel, and grids without one
 
 -- the places before a pixel are those of the rows before, and of the columns before
 before_pixel : (w h : ℕ) (is_painted : ℕ → ℕ → Bool) (x y k : ℕ) → 0 < w → IsFirstUnpainted w h is_painted (x, y)
@@ -150,7 +150,7 @@ before_pixel w h is_painted x y k some first lt =
     ]
 
 none_found : (w h : ℕ) (registers : List ℕ) (is_painted : ℕ → ℕ → Bool) → 0 < w → RowsArePainted w is_painted h
-    → None ≡ first_blank (sheet_of_painted w h registers is_painted)
+    → None ≡ first_blank (grid_of_painted w h registers is_painted)
 unfolding first_blank
 none_found w h registers is_painted some painted =
     let pixel = painted_cell w registers is_painted in
@@ -163,7 +163,7 @@ none_found w h registers is_painted some painted =
     (painted (k % w) (k / w) (mod_below k w some) (row_below k w h some inside)))))
 
 pixel_found : (w h x y : ℕ) (registers : List ℕ) (is_painted : ℕ → ℕ → Bool) → 0 < w
-    → IsFirstUnpainted w h is_painted (x, y) → Some (x, y) ≡ first_blank (sheet_of_painted w h registers is_painted)
+    → IsFirstUnpainted w h is_painted (x, y) → Some (x, y) ≡ first_blank (grid_of_painted w h registers is_painted)
 unfolding first_blank
 pixel_found w h x y registers is_painted some first =
     let pixel = painted_cell w registers is_painted in
@@ -184,7 +184,7 @@ pixel_found w h x y registers is_painted some first =
 
 -- the first pixel that isn't painted is the first blank one
 pub first_blank_unpainted : (w h : ℕ) (registers : List ℕ) (is_painted : ℕ → ℕ → Bool) (found : Option (ℕ × ℕ)) → 0 < w
-    → FirstUnpainted w h is_painted found → found ≡ first_blank (sheet_of_painted w h registers is_painted)
+    → FirstUnpainted w h is_painted found → found ≡ first_blank (grid_of_painted w h registers is_painted)
 first_blank_unpainted w h registers is_painted None some painted = none_found w h registers is_painted some painted
 first_blank_unpainted w h registers is_painted (Some (x, y)) some first =
     pixel_found w h x y registers is_painted some first
@@ -195,7 +195,7 @@ some_painted false r e = cc
 
 -- where no pixel is blank, the registers are the pixels
 pub full_registers : (w h : ℕ) (registers : List ℕ) (is_painted : ℕ → ℕ → Bool) → length registers ≡ w * h
-    → IsFull (sheet_of_painted w h registers is_painted)
+    → IsFull (grid_of_painted w h registers is_painted)
     → map (λ r. Some r) registers ≡ row_by_row w h (painted_cell w registers is_painted)
 unfolding first_blank
 full_registers w h registers is_painted whole full =

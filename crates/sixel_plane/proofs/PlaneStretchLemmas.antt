@@ -1,4 +1,4 @@
--- On the sheet after a stretch.
+-- On the grid after a stretch.
 use Rattle.std.proofs.Common.{◌≡◌, ◌==◌, ℕ, ◌+◌, ◌-◌, ◌*◌, ◌/◌, ◌%◌, ◌<◌, ◌≤◌, Bool, true, false, ◌&&◌, ◌||◌, cond}
 use Rattle.std.proofs.Common.{Option, Some, None, List, length, get_or, nat_le, nat_lt, inl, inr, refl, sym, ap, ap₂}
 use Rattle.std.proofs.Common.{◌∙◌, arith, subst}
@@ -12,21 +12,21 @@ use Rattle.std.proofs.lemmas.Nat.{mod_below}
 use Rattle.std.proofs.lemmas.Nat.Bits.{bit_at-zero}
 use Rattle.sixel_model.specs.Geometry.{covers}
 use Rattle.sixel_model.specs.Positions.{any_below}
-use Rattle.sixel_model.specs.Sheets.{Sheet, cell, painted_sheet}
-use Rattle.sixel_plane.specs.BandPlanes.{is_covered, sheet_of_bands}
+use Rattle.sixel_model.specs.Grids.{Grid, cell, painted_grid}
+use Rattle.sixel_plane.specs.BandPlanes.{has_coverage_bit, grid_of_bands}
 use Rattle.std.proofs.lemmas.Bool.{cond-false}
 use Rattle.sixel_plane.specs.Stretches.{AreMapped, ArePainted, in_row, in_stretch, run_sixel, sixel_of}
-use Rattle.sixel_plane.specs.Stretches.{stretched_sheet}
-use Rattle.sixel_model.proofs.SheetLemmas.{at_rows, length_rows}
+use Rattle.sixel_plane.specs.Stretches.{stretched_grid}
+use Rattle.sixel_model.proofs.GridLemmas.{at_rows, length_rows}
 use Rattle.sixel_model.proofs.CoverLemmas.{passes_below, any_below_at}
 use Rattle.sixel_plane.proofs.BandLemmas.{band_fits, covered_band, or_bit}
 use Rattle.sixel_plane.proofs.PaintedLemmas.{pixels_after, place_fits, same_rows}
 use Rattle.sixel_model.proofs.RunLemmas.{in_row_at, same_test}
 
-cell-stretched : (s : Sheet) (left band count : ℕ) (f : ℕ → ℕ) (r x y : ℕ) → x < s.width → y < s.height
-    → cell (stretched_sheet s left band count f r) x y
+cell-stretched : (s : Grid) (left band count : ℕ) (f : ℕ → ℕ) (r x y : ℕ) → x < s.width → y < s.height
+    → cell (stretched_grid s left band count f r) x y
     ≡ cond (in_stretch left band count f x y) (Some r) (cell s x y)
-unfolding cell stretched_sheet
+unfolding cell stretched_grid
 cell-stretched s left band count f r x y p q = ap option_flatten (at_rows s.width s.height _ x y p q)
 
 -- ---- a column at a time
@@ -94,16 +94,16 @@ either true b x o = refl
 either false b x o = refl
 
 -- a stretch of no column paints none
-pub stretched_none : (s : Sheet) (left band : ℕ) (f : ℕ → ℕ) (r x y : ℕ) → x < s.width → y < s.height
-    → cell (stretched_sheet s left band 0 f r) x y ≡ cell s x y
+pub stretched_none : (s : Grid) (left band : ℕ) (f : ℕ → ℕ) (r x y : ℕ) → x < s.width → y < s.height
+    → cell (stretched_grid s left band 0 f r) x y ≡ cell s x y
 stretched_none s left band f r x y inside_x inside_y =
     cell-stretched s left band 0 f r x y inside_x inside_y
     ∙ ap (λ (t : Bool). cond t (Some r) (cell s x y))
     (no_column left x (y % 6) (y / 6 == band) f)
 
 -- and one whose last column has no bit is the stretch before it
-pub stretched_blank : (s : Sheet) (left band n : ℕ) (f : ℕ → ℕ) (r x y : ℕ) → f n ≡ 0 → x < s.width → y < s.height
-    → cell (stretched_sheet s left band (n + 1) f r) x y ≡ cell (stretched_sheet s left band n f r) x y
+pub stretched_blank : (s : Grid) (left band n : ℕ) (f : ℕ → ℕ) (r x y : ℕ) → f n ≡ 0 → x < s.width → y < s.height
+    → cell (stretched_grid s left band (n + 1) f r) x y ≡ cell (stretched_grid s left band n f r) x y
 stretched_blank s left band n f r x y none inside_x inside_y =
     let b : Bool = y / 6 == band in
     cell-stretched s left band (n + 1) f r x y inside_x inside_y
@@ -111,14 +111,14 @@ stretched_blank s left band n f r x y none inside_x inside_y =
     ∙ sym (cell-stretched s left band n f r x y inside_x inside_y)
 
 -- a stretch of one column more paints that column after the others
-pub stretched_more : (s : Sheet) (left band n : ℕ) (f : ℕ → ℕ) (r : ℕ) → 0 < s.width
-    → painted_sheet (stretched_sheet s left band n f r) (left + n) band 1 (f n) r
-    ≡ stretched_sheet s left band (n + 1) f r
-unfolding painted_sheet stretched_sheet
+pub stretched_more : (s : Grid) (left band n : ℕ) (f : ℕ → ℕ) (r : ℕ) → 0 < s.width
+    → painted_grid (stretched_grid s left band n f r) (left + n) band 1 (f n) r
+    ≡ stretched_grid s left band (n + 1) f r
+unfolding painted_grid stretched_grid
 stretched_more s left band n f r some =
     ap (λ (cells : List (Option ℕ)). record { width = s.width; height = s.height; cells = cells })
     (same_rows s.width s.height
-    (λ x y. cond (covers (left + n) 1 band 1 (f n) x y) (Some r) (cell (stretched_sheet s left band n f r) x y))
+    (λ x y. cond (covers (left + n) 1 band 1 (f n) x y) (Some r) (cell (stretched_grid s left band n f r) x y))
     (λ x y. cond (in_stretch left band (n + 1) f x y) (Some r) (cell s x y)) None some
     (λ x y inside_x inside_y.
     let b : Bool = y / 6 == band in
@@ -214,7 +214,7 @@ byte_after covered count n i old new f more none is = elim (cases_lt i (covered 
 covered_column : (w left band count n covered : ℕ) (f : ℕ → ℕ) (old new : List ℕ) (x y : ℕ) → x < w → left + count ≤ w
     → count ≤ n → ((j : ℕ) → count ≤ j → f j ≡ 0) → covered ≡ band * w + left → y / 6 * w + x < length old
     → AreMapped covered n (λ j b. bit_or b (f j)) old new
-    → is_covered w new x y ≡ (in_stretch left band count f x y || is_covered w old x y)
+    → has_coverage_bit w new x y ≡ (in_stretch left band count f x y || has_coverage_bit w old x y)
 covered_column w left band count n covered f old new x y inside fits more none at there mapped =
     let i : ℕ = y / 6 * w + x in
     let before : ℕ = get_or old i 0 in
@@ -248,21 +248,21 @@ covered_column w left band count n covered f old new x y inside fits more none a
         && (bit_at (f j) (y % 6) == 1)) lane
     lane_there false t = rw t refl
 
--- the sheet after a stretch
+-- the grid after a stretch
 pub stretched_bands : (w h left band count n start covered : ℕ) (f : ℕ → ℕ) (r : ℕ)
     (registers coverage registers_after coverage_after : List ℕ)
     → 0 < w → left + count ≤ w → length registers ≡ w * h → length coverage ≡ w * div_ceil h 6
     → count ≤ n → ((j : ℕ) → count ≤ j → f j ≡ 0) → start ≡ 6 * band * w + left → covered ≡ band * w + left
     → ArePainted 6 w start n f r registers registers_after
     → AreMapped covered n (λ j b. bit_or b (f j)) coverage coverage_after
-    → sheet_of_bands w h registers_after coverage_after
-    ≡ stretched_sheet (sheet_of_bands w h registers coverage) left band count f r
-unfolding stretched_sheet
+    → grid_of_bands w h registers_after coverage_after
+    ≡ stretched_grid (grid_of_bands w h registers coverage) left band count f r
+unfolding stretched_grid
 stretched_bands w h left band count n start covered f r registers coverage registers_after coverage_after
     some fits whole bands more none at_start at_covered painted mapped =
     ap (λ (cells : List (Option ℕ)). record { width = w; height = h; cells = cells })
-    (pixels_after w h r registers registers_after (in_stretch left band count f) (is_covered w coverage)
-    (is_covered w coverage_after) some
+    (pixels_after w h r registers registers_after (in_stretch left band count f) (has_coverage_bit w coverage)
+    (has_coverage_bit w coverage_after) some
     (λ x y inside_x inside_y.
     covered_column w left band count n covered f coverage coverage_after x y inside_x fits more none at_covered
     (rw bands (band_fits w h x y inside_x inside_y)) mapped)
@@ -271,19 +271,19 @@ stretched_bands w h left band count n start covered f r registers coverage regis
     ∙ ap (λ (b : Bool). cond b r (get_or registers (y * w + x) 0))
     (rows_test w left band count n start f fits at_start none more x y inside_x)))
 
-pub stretched_length : (s : Sheet) (left band n : ℕ) (f : ℕ → ℕ) (r : ℕ)
-    → length (stretched_sheet s left band n f r).cells ≡ s.width * s.height
-unfolding stretched_sheet
+pub stretched_length : (s : Grid) (left band n : ℕ) (f : ℕ → ℕ) (r : ℕ)
+    → length (stretched_grid s left band n f r).cells ≡ s.width * s.height
+unfolding stretched_grid
 stretched_length s left band n f r = length_rows s.width s.height _
 
-pub stretched_width : (s : Sheet) (left band n : ℕ) (f : ℕ → ℕ) (r : ℕ)
-    → (stretched_sheet s left band n f r).width ≡ s.width
-unfolding stretched_sheet
+pub stretched_width : (s : Grid) (left band n : ℕ) (f : ℕ → ℕ) (r : ℕ)
+    → (stretched_grid s left band n f r).width ≡ s.width
+unfolding stretched_grid
 stretched_width s left band n f r = refl
 
-pub stretched_height : (s : Sheet) (left band n : ℕ) (f : ℕ → ℕ) (r : ℕ)
-    → (stretched_sheet s left band n f r).height ≡ s.height
-unfolding stretched_sheet
+pub stretched_height : (s : Grid) (left band n : ℕ) (f : ℕ → ℕ) (r : ℕ)
+    → (stretched_grid s left band n f r).height ≡ s.height
+unfolding stretched_grid
 stretched_height s left band n f r = refl
 
 -- no sixel stands after a stretch
@@ -306,9 +306,9 @@ run_column left count x k bits b = elim (cases_lt x (left + count)) [
 ]
 
 -- a stretch of equal sixels is a run
-pub stretched_run : (s : Sheet) (left band count bits r : ℕ) → 0 < s.width
-    → stretched_sheet s left band count (run_sixel bits count) r ≡ painted_sheet s left band count bits r
-unfolding painted_sheet stretched_sheet
+pub stretched_run : (s : Grid) (left band count bits r : ℕ) → 0 < s.width
+    → stretched_grid s left band count (run_sixel bits count) r ≡ painted_grid s left band count bits r
+unfolding painted_grid stretched_grid
 stretched_run s left band count bits r some =
     ap (λ (cells : List (Option ℕ)). record { width = s.width; height = s.height; cells = cells })
     (same_rows s.width s.height

@@ -14,8 +14,8 @@ use Rattle.std.proofs.lemmas.Simd.{get_or-chunk, length-zip2, get_or-zip2, tops_
 use lib.Lanes.{chunk, put_chunk, top, zip2, sel_l}
 use Rattle.sixel_grammar.specs.Bytes.{is_data}
 use Rattle.sixel_model.specs.Positions.{any_below}
-use Rattle.sixel_plane.specs.Stretches.{AreEqual, AreMapped, ArePainted, AreSixels, in_row, painted_by, run_sixel}
-use Rattle.sixel_plane.specs.Stretches.{sixel_of}
+use Rattle.sixel_plane.specs.Stretches.{AreEqual, AreMapped, ArePainted, AreSixelLanes, in_row, register_by_sixel}
+use Rattle.sixel_plane.specs.Stretches.{run_sixel, sixel_of}
 use Rattle.sixel_model.proofs.PositionLemmas.{any_below_same}
 use Rattle.sixel_plane.proofs.LaneLemmas.{no_bit, stored_group}
 
@@ -78,7 +78,7 @@ get_or-without bit sixels j small long lt =
     ∙ no_bit bit (get_or sixels j 0) small
 
 pub painted_group : (at bit register : ℕ) (old sixels : List ℕ) → bit < 8 → length sixels ≡ 16 → at + 16 ≤ length old
-    → AreMapped at 16 (painted_by sixels bit register) old (put_chunk at old (sel_l
+    → AreMapped at 16 (register_by_sixel sixels bit register) old (put_chunk at old (sel_l
     (map (top 7) (zip2 (λ a b. cond (a == b) 255 0)
     (zip2 bit_and sixels (replicate 16 (1 * 2 ^ bit % 256))) (replicate 16 0)))
     (chunk at 16 old) (replicate 16 register)))
@@ -89,10 +89,10 @@ painted_group at bit register old sixels small long room =
     let whole : length (sel_l (without bit sixels) (chunk at 16 old) (replicate 16 register)) ≡ 16 =
     length-sel_l (without bit sixels) (chunk at 16 old) (replicate 16 register) (tests ∙ sym loaded)
     (tests ∙ sym splat) ∙ tests in
-    subst (λ ms. AreMapped at 16 (painted_by sixels bit register) old
+    subst (λ ms. AreMapped at 16 (register_by_sixel sixels bit register) old
     (put_chunk at old (sel_l ms (chunk at 16 old) (replicate 16 register))))
     (sym (tops_compared w8 (λ a b. a == b) (zip2 bit_and sixels (replicate 16 (1 * 2 ^ bit % 256))) (replicate 16 0)))
-    (mapped_group at (painted_by sixels bit register) old
+    (mapped_group at (register_by_sixel sixels bit register) old
     (sel_l (without bit sixels) (chunk at 16 old) (replicate 16 register)) whole room
     (λ j lt. get_or-sel_l (without bit sixels) (chunk at 16 old) (replicate 16 register) j 0 (omega arith)
     (omega arith) (omega arith)
@@ -131,16 +131,16 @@ sixel_or_none byte count j are = elim (cases_lt j count) [
   | inr past ↦ grind (arith, nat_tests)
 ]
 
--- so many lanes at the front as they are, and zeros after them
-abbrev front_lanes : ℕ → List ℕ → List ℕ
-front_lanes count lanes =
+-- so many lanes at the beginning as they are, and zeros after them
+abbrev prefix_lanes : ℕ → List ℕ → List ℕ
+prefix_lanes count lanes =
     sel_l (map (top 7) (zip2 (λ a b. cond (nat_lt a b) 255 0) (range_with_len 0 16) (replicate 16 count))) lanes
     (replicate 16 0)
 
-front_at : (count : ℕ) (lanes : List ℕ) → length lanes ≡ 16
-    → (length (front_lanes count lanes) ≡ 16)
-    × ((j : ℕ) → j < 16 → get_or (front_lanes count lanes) j 0 ≡ cond (nat_lt j count) (get_or lanes j 0) 0)
-front_at count lanes whole =
+prefix_at : (count : ℕ) (lanes : List ℕ) → length lanes ≡ 16
+    → (length (prefix_lanes count lanes) ≡ 16)
+    × ((j : ℕ) → j < 16 → get_or (prefix_lanes count lanes) j 0 ≡ cond (nat_lt j count) (get_or lanes j 0) 0)
+prefix_at count lanes whole =
     let taken = zip2 nat_lt (range_with_len 0 16) (replicate 16 count) in
     let numbers : length (range_with_len 0 16) ≡ 16 = length-range 0 16 in
     let counts : length (replicate 16 count) ≡ 16 = length-replicate 16 count in
@@ -161,7 +161,7 @@ front_at count lanes whole =
 
 pub sixels_of : (at count : ℕ) (bytes : List ℕ) → at + 16 ≤ length bytes
     → ((j : ℕ) → j < count → is_data (get_or bytes (at + j) 0) ≡ true)
-    → AreSixels bytes at count (sel_l
+    → AreSixelLanes bytes at count (sel_l
     (map (top 7) (zip2 (λ a b. cond (nat_lt a b) 255 0) (range_with_len 0 16) (replicate 16 count)))
     (zip2 (λ a b. (a + (256 - b)) % 256) (chunk at 16 bytes) (replicate 16 63)) (replicate 16 0))
 sixels_of at count bytes room are =
@@ -171,11 +171,11 @@ sixels_of at count bytes room are =
     let marks : length {A = ℕ} (replicate 16 63) ≡ 16 = length-replicate {A = ℕ} 16 63 in
     let whole : length lanes ≡ 16 = length-zip2 less (chunk at 16 bytes) (replicate 16 63) (loaded ∙ sym marks)
     ∙ loaded in
-    let front = front_at count lanes whole in
+    let prefix = prefix_at count lanes whole in
     record {
-      long = front.0;
+      long = prefix.0;
       each = λ j lt.
-          front.1 j lt
+          prefix.1 j lt
           ∙ ap (λ (n : ℕ). cond (nat_lt j count) n 0)
           (get_or-zip2 less (chunk at 16 bytes) (replicate 16 63) j 0 0 0 (omega arith) (omega arith)
           ∙ ap₂ less (get_or-chunk at 16 bytes j 0 lt) (get_or-replicate 16 j 63 0 lt))
@@ -187,10 +187,10 @@ pub equal_of : (bits count : ℕ) → AreEqual bits count (sel_l
     (map (top 7) (zip2 (λ a b. cond (nat_lt a b) 255 0) (range_with_len 0 16) (replicate 16 count)))
     (replicate 16 bits) (replicate 16 0))
 equal_of bits count =
-    let front = front_at count (replicate 16 bits) (length-replicate 16 bits) in
+    let prefix = prefix_at count (replicate 16 bits) (length-replicate 16 bits) in
     record {
-      long = front.0;
-      each = λ j lt. front.1 j lt ∙ ap (λ (n : ℕ). cond (nat_lt j count) n 0) (get_or-replicate 16 j bits 0 lt);
+      long = prefix.0;
+      each = λ j lt. prefix.1 j lt ∙ ap (λ (n : ℕ). cond (nat_lt j count) n 0) (get_or-replicate 16 j bits 0 lt);
     }
 
 -- ---- rows and groups after each other
@@ -208,7 +208,7 @@ painted_none w start count sixel register xs = record { long = refl; pixels = λ
 -- one more row
 pub rows_more : (k w start register from : ℕ) (sixels old mid new : List ℕ) → from ≡ start + k * w
     → ArePainted k w start 16 (λ j. get_or sixels j 0) register old mid
-    → AreMapped from 16 (painted_by sixels k register) mid new
+    → AreMapped from 16 (register_by_sixel sixels k register) mid new
     → ArePainted (k + 1) w start 16 (λ j. get_or sixels j 0) register old new
 unfolding any_below
 rows_more k w start register from sixels old mid new at before row = record {
@@ -348,7 +348,7 @@ left_of count n few j most all lt = elim (cases_lt j few) [
 
 -- the lanes of a group hold the sixels of its columns
 pub lanes_of : (bytes lanes : List ℕ) (count n few : ℕ) → few ≤ count - n → (few < 16 → few ≡ count - n)
-    → AreSixels bytes n few lanes → (j : ℕ) → j < 16 → get_or lanes j 0 ≡ sixel_of bytes count (n + j)
+    → AreSixelLanes bytes n few lanes → (j : ℕ) → j < 16 → get_or lanes j 0 ≡ sixel_of bytes count (n + j)
 lanes_of bytes lanes count n few most all are j lt =
     let same = left_of count n few j most all lt in
     are.each j lt ∙ ap (λ (t : Bool). cond t (get_or bytes (n + j) 0 - 63) 0) same
@@ -368,7 +368,7 @@ group_then w start covered n next register f lanes ro rm rn co cm cn end same be
     )
 
 pub group_more : (w start covered n next register count few : ℕ) (bytes lanes ro rm rn co cm cn : List ℕ)
-    → next ≡ n + 16 → few ≤ count - n → (few < 16 → few ≡ count - n) → AreSixels bytes n few lanes
+    → next ≡ n + 16 → few ≤ count - n → (few < 16 → few ≡ count - n) → AreSixelLanes bytes n few lanes
     → ArePainted 6 w start n (sixel_of bytes count) register ro rm
     × AreMapped covered n (λ j b. bit_or b (sixel_of bytes count j)) co cm
     → ArePainted 6 w (start + n) 16 (λ j. get_or lanes j 0) register rm rn

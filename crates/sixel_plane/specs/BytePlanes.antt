@@ -1,14 +1,14 @@
--- How a register and a mark for each pixel stand for a sheet.
+-- How a register and a mark for each pixel stand for a grid.
 use Rattle.std.specs.Prelude.{◌≡◌, ℕ, ◌+◌, ◌*◌, Bool, false, IsTrue, List, length, slice_index_or}
 use Rattle.sixel_model.specs.Pictures.{is_side}
-use Rattle.sixel_model.specs.Sheets.{Sheet, sheet_of_painted}
+use Rattle.sixel_model.specs.Grids.{Grid, grid_of_painted}
 
 -- the pixel's mark is set
 abbrev pub is_marked : ℕ → List Bool → ℕ → ℕ → Bool
 is_marked width marks x y = slice_index_or marks (y * width + x) false
 
-abbrev pub sheet_of_marks : ℕ → ℕ → List ℕ → List Bool → Sheet
-sheet_of_marks width height registers marks = sheet_of_painted width height registers (is_marked width marks)
+abbrev pub grid_of_marks : ℕ → ℕ → List ℕ → List Bool → Grid
+grid_of_marks width height registers marks = grid_of_painted width height registers (is_marked width marks)
 
 -- the registers and the marks of the rows of a plane
 pub record AreMarked (width height : ℕ) (registers : List ℕ) (marks : List Bool) : Type 0 where

@@ -4,7 +4,7 @@ use Rattle.std.specs.Prelude.{nat_le, nat_lt, if◌then◌else◌}
 use Rattle.std.specs.Int.{bit_at}
 use Rattle.sixel_model.specs.Geometry.{band_rows}
 use Rattle.sixel_model.specs.Positions.{any_below}
-use Rattle.sixel_model.specs.Sheets.{Sheet, cell, row_by_row}
+use Rattle.sixel_model.specs.Grids.{Grid, cell, row_by_row}
 
 -- so many bytes from `from` on are changed, each by f of its number among them, and the others are as before
 pub record AreMapped (from count : ℕ) (f : ℕ → ℕ → ℕ) (old new : List ℕ) : Type 0 where
@@ -14,16 +14,16 @@ pub record AreMapped (from count : ℕ) (f : ℕ → ℕ → ℕ) (old new : Lis
       ≡ (if nat_le from i && nat_lt i (from + count) then f (i - from) (slice_index old i) else slice_index old i)
 
 -- the sixels of so many data bytes from `at` on, and none in the lanes after them
-pub record AreSixels (bytes : List ℕ) (at count : ℕ) (lanes : List ℕ) : Type 0 where
+pub record AreSixelLanes (bytes : List ℕ) (at count : ℕ) (lanes : List ℕ) : Type 0 where
   pub long : length lanes ≡ 16
   pub each : (j : ℕ) → j < 16
       → slice_index lanes j ≡ (if nat_lt j count then slice_index bytes (at + j) - 63 else 0)
 
 -- the register of a pixel, where the sixel of its column has its row's bit, and else as before
-abbrev pub painted_by : List ℕ → ℕ → ℕ → ℕ → ℕ → ℕ
-painted_by sixels bit register j old = if bit_at (slice_index sixels j) bit == 1 then register else old
+abbrev pub register_by_sixel : List ℕ → ℕ → ℕ → ℕ → ℕ → ℕ
+register_by_sixel sixels bit register j old = if bit_at (slice_index sixels j) bit == 1 then register else old
 
--- the sixel of a column of a stretch, which is so many data bytes at the front, and none in the columns after them
+-- the sixel of a column of a stretch, which is so many data bytes at the beginning, and none in the columns after them
 abbrev pub sixel_of : List ℕ → ℕ → ℕ → ℕ
 sixel_of bytes count j = if nat_lt j count then slice_index bytes j - 63 else 0
 
@@ -57,9 +57,9 @@ in_stretch left band count sixel x y =
     ((nat_le left x && nat_lt x (left + count)) && (y / band_rows == band))
     && (bit_at (sixel (x - left)) (y % band_rows) == 1)
 
--- the sheet after a stretch: the pixels of the columns' set bits have the register, and the others are as before
-unfoldable pub stretched_sheet : Sheet → ℕ → ℕ → ℕ → (ℕ → ℕ) → ℕ → Sheet
-stretched_sheet s left band count sixel register = record {
+-- the grid after a stretch: the pixels of the columns' set bits have the register, and the others are as before
+unfoldable pub stretched_grid : Grid → ℕ → ℕ → ℕ → (ℕ → ℕ) → ℕ → Grid
+stretched_grid s left band count sixel register = record {
   width = s.width;
   height = s.height;
   cells = row_by_row s.width s.height

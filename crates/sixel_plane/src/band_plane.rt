@@ -3,12 +3,12 @@
 ghost use Rattle.std.specs.Prelude.{◌≡◌, ◌==◌, ◌<◌, ◌≤◌, ◌+◌, ◌*◌, ◌⊎◌, ℕ, EachIndex, bit_or, length, slice_index};
 ghost use Rattle.std.specs.Prelude.{false, true, if◌then◌else◌, ◌%◌, ◌/◌, ◌-◌, IsTrue};
 ghost use Rattle.sixel_grammar.specs.Bytes.{is_data};
-ghost use Rattle.sixel_plane.specs.Stretches.{sixel_of, stretched_sheet};
+ghost use Rattle.sixel_plane.specs.Stretches.{sixel_of, stretched_grid};
 ghost use Rattle.std.specs.Int.{bit_at, div_ceil};
-ghost use Rattle.sixel_plane.specs.BandPlanes.{is_covered};
+ghost use Rattle.sixel_plane.specs.BandPlanes.{has_coverage_bit};
 ghost use Rattle.sixel_model.specs.Geometry.{covers};
 ghost use Rattle.sixel_plane.specs.Lanes.{AreChanged};
-ghost use Rattle.sixel_model.specs.Sheets.{FirstUnpainted, RowsArePainted, painted_sheet};
+ghost use Rattle.sixel_model.specs.Grids.{FirstUnpainted, RowsArePainted, painted_grid};
 
 use crate::lanes::{common_bits, fill, first_without, or_into, zeros};
 use crate::plane::Plane;
@@ -36,19 +36,19 @@ pub struct BandPlane {
 }
 
 impl Model for BandPlane {
-    ghost use Rattle.sixel_model.specs.Sheets.{Sheet};
+    ghost use Rattle.sixel_model.specs.Grids.{Grid};
 
-    ghost Value = { Sheet };
+    ghost Value = { Grid };
 
-    ghost use Rattle.sixel_plane.specs.BandPlanes.{sheet_of_bands, AreBands};
+    ghost use Rattle.sixel_plane.specs.BandPlanes.{grid_of_bands, AreBands};
 
-    ghost view = { λ p. sheet_of_bands p.width p.height p.registers.items p.coverage.items };
+    ghost view = { λ p. grid_of_bands p.width p.height p.registers.items p.coverage.items };
 
     ghost invariant = { λ p. AreBands p.width p.height p.registers.items p.coverage.items };
 }
 
 impl Plane for BandPlane {
-    ghost sheet = { λ p. p };
+    ghost grid = { λ p. p };
 
     fn blank(alloc: Global, width: u32, height: u32) -> Result<BandPlane, AllocError> {
         let registers = zeros(alloc, (width * height) as usize)?;
@@ -158,7 +158,7 @@ impl BandPlane {
         register: u8,
     ) -> bool
         requires { column + count ≤ self.old.width }
-        ensures painted { result ≡ true → self.new ≡ painted_sheet self.old column band count bits register }
+        ensures painted { result ≡ true → self.new ≡ painted_grid self.old column band count bits register }
         ensures kept { result ≡ false → self.new ≡ self.old }
     {
         if count > MOST_SHORT || band >= self.height / BAND_ROWS {
@@ -283,7 +283,7 @@ fn put(registers: &mut [u8], index: usize, is_painted: bool, register: u8)
 fn painted_rows(coverage: &[u8], width: u32, height: u32) -> u32
     requires { length coverage.now ≡ width * div_ceil height BAND_ROWS }
     ensures within { result ≤ height }
-    ensures painted { RowsArePainted width (is_covered width coverage.now) result }
+    ensures painted { RowsArePainted width (has_coverage_bit width coverage.now) result }
 {
     let bands = height / BAND_ROWS;
     if common_bits(&coverage[..bands as usize * width as usize]) == ALL_ROWS {
@@ -296,7 +296,7 @@ fn painted_rows(coverage: &[u8], width: u32, height: u32) -> u32
 /// The column and the row of the first pixel that isn't painted, in row order.
 fn first_unpainted(coverage: &[u8], width: u32, height: u32) -> Option<(u32, u32)>
     requires { length coverage.now ≡ width * div_ceil height BAND_ROWS }
-    ensures { FirstUnpainted width height (is_covered width coverage.now) result }
+    ensures { FirstUnpainted width height (has_coverage_bit width coverage.now) result }
 {
     let columns = width as usize;
     for row in painted_rows(coverage, width, height)..height {

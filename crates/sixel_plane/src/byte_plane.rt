@@ -20,19 +20,19 @@ pub struct BytePlane {
 }
 
 impl Model for BytePlane {
-    ghost use Rattle.sixel_model.specs.Sheets.{Sheet};
+    ghost use Rattle.sixel_model.specs.Grids.{Grid};
 
-    ghost Value = { Sheet };
+    ghost Value = { Grid };
 
-    ghost use Rattle.sixel_plane.specs.BytePlanes.{sheet_of_marks, AreMarked};
+    ghost use Rattle.sixel_plane.specs.BytePlanes.{grid_of_marks, AreMarked};
 
-    ghost view = { λ p. sheet_of_marks p.width p.height p.registers.items p.marks.items };
+    ghost view = { λ p. grid_of_marks p.width p.height p.registers.items p.marks.items };
 
     ghost invariant = { λ p. AreMarked p.width p.height p.registers.items p.marks.items };
 }
 
 impl Plane for BytePlane {
-    ghost sheet = { λ p. p };
+    ghost grid = { λ p. p };
 
     fn blank(alloc: Global, width: u32, height: u32) -> Result<BytePlane, AllocError> {
         let pixels = (width * height) as usize;

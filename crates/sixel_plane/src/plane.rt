@@ -3,49 +3,49 @@
 ghost use Rattle.std.specs.Prelude.{◌≡◌, ◌<◌, ◌≤◌, ◌+◌, ◌*◌, ℕ, Some, IfOk, IsTrue, false, length, map, slice_index};
 ghost use Rattle.std.specs.Prelude.{true};
 ghost use Rattle.std.specs.Int.{bit_at};
-ghost use Rattle.sixel_model.specs.Sheets.{Sheet, IsFull, blank_sheet, cell, first_blank, painted_sheet};
+ghost use Rattle.sixel_model.specs.Grids.{Grid, IsFull, blank_grid, cell, first_blank, painted_grid};
 ghost use Rattle.sixel_model.specs.Geometry.{band_rows};
 ghost use Rattle.sixel_model.specs.Pictures.{is_side};
-ghost use Rattle.sixel_plane.specs.Stretches.{sixel_of, stretched_sheet};
+ghost use Rattle.sixel_plane.specs.Stretches.{sixel_of, stretched_grid};
 ghost use Rattle.sixel_grammar.specs.Bytes.{is_data};
 
 use std::alloc::{AllocError, Global};
 
 /// The pixels that a picture covers so far.
 ///
-/// However an implementation keeps them, contracts see its sheet: a width and a height in pixels, and
+/// However an implementation keeps them, contracts see its grid: a width and a height in pixels, and
 /// for each pixel, row by row from the top left, its register or none. `blank` makes all its growths
 /// before it answers; no other call takes memory.
 pub trait Plane: Drop {
     /// The width, the height, and an optional register for each pixel, row by row.
-    ghost sheet: { Self → Sheet };
+    ghost grid: { Self → Grid };
 
     /// A plane whose pixels are all blank. Each side is from 1 to 2,048 pixels.
     fn blank(alloc: Global, width: u32, height: u32) -> Result<Self, AllocError>
         requires width { IsTrue (is_side width) }
         requires height { IsTrue (is_side height) }
-        ensures { IfOk result (λ p. sheet p ≡ blank_sheet width height) };
+        ensures { IfOk result (λ p. grid p ≡ blank_grid width height) };
 
     /// The width in pixels.
     fn width(&self) -> u32
-        ensures { result ≡ (sheet self.now).width };
+        ensures { result ≡ (grid self.now).width };
 
     /// The height in pixels.
     fn height(&self) -> u32
-        ensures { result ≡ (sheet self.now).height };
+        ensures { result ≡ (grid self.now).height };
 
     /// Paints so many columns from `column` on in a register, any of the 256 that a byte names, in those
     /// rows of the band whose bits are set. A band is six rows, band 0 at the top, and bit 0 is its
     /// uppermost row.
     fn paint_run(&mut self, column: u32, band: u32, count: u32, bits: u8, register: u8)
         requires bits { bits ≤ 63 }
-        requires columns { column + count ≤ (sheet self.old).width }
-        requires rows { (k : ℕ) → k < band_rows → bit_at bits k ≡ 1 → band_rows * band + k < (sheet self.old).height }
-        ensures { sheet self.new ≡ painted_sheet (sheet self.old) column band count bits register };
+        requires columns { column + count ≤ (grid self.old).width }
+        requires rows { (k : ℕ) → k < band_rows → bit_at bits k ≡ 1 → band_rows * band + k < (grid self.old).height }
+        ensures { grid self.new ≡ painted_grid (grid self.old) column band count bits register };
 
     /// Paints a stretch in a register, many columns at a time, where the plane can: the columns from `column` on, one
-    /// for each of so many data bytes at the front of `bytes`, in those of the six rows of the band whose bits are set
-    /// in its byte. Whether it did; else nothing has changed, and `paint_run` paints each of the columns.
+    /// for each of so many data bytes at the beginning of `bytes`, in those of the six rows of the band whose bits are
+    /// set in its byte. Whether it did; else nothing has changed, and `paint_run` paints each of the columns.
     ///
     /// A data byte holds six bits above `?`. Bytes after the stretch aren't painted, but lanes want 16 of them.
     fn try_paint_stretch(
@@ -58,10 +58,10 @@ pub trait Plane: Drop {
     ) -> bool
         requires sixels { (j : ℕ) → j < count → IsTrue (is_data (slice_index bytes.now j)) }
         requires bytes { count ≤ length bytes.now }
-        requires columns { column + count ≤ (sheet self.old).width }
-        requires rows { band_rows * band + band_rows ≤ (sheet self.old).height }
+        requires columns { column + count ≤ (grid self.old).width }
+        requires rows { band_rows * band + band_rows ≤ (grid self.old).height }
         ensures painted { result ≡ true
-            → sheet self.new ≡ stretched_sheet (sheet self.old) column band count (sixel_of bytes.now count) register }
+            → grid self.new ≡ stretched_grid (grid self.old) column band count (sixel_of bytes.now count) register }
         ensures kept { result ≡ false → self.new ≡ self.old }
     {
         false
@@ -70,16 +70,16 @@ pub trait Plane: Drop {
     /// The register of the pixel in column `x` and row `y`, both from 0 at the top left, or `None` where
     /// it is blank.
     fn register_at(&self, x: u32, y: u32) -> Option<u8>
-        requires inside_x { x < (sheet self.now).width }
-        requires inside_y { y < (sheet self.now).height }
-        ensures { result ≡ cell (sheet self.now) x y };
+        requires inside_x { x < (grid self.now).width }
+        requires inside_y { y < (grid self.now).height }
+        ensures { result ≡ cell (grid self.now) x y };
 
     /// The column and the row of the first blank pixel in row order.
     fn first_blank(&self) -> Option<(u32, u32)>
-        ensures { result ≡ first_blank (sheet self.now) };
+        ensures { result ≡ first_blank (grid self.now) };
 
     /// The registers of a plane without a blank pixel, row by row.
     fn into_registers(self) -> Vec<u8>
-        requires { IsFull (sheet self) }
-        ensures { map Some result.items ≡ (sheet self).cells };
+        requires { IsFull (grid self) }
+        ensures { map Some result.items ≡ (grid self).cells };
 }

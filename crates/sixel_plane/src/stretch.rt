@@ -2,8 +2,8 @@
 
 ghost use Rattle.std.specs.Prelude.{◌≡◌, ◌<◌, ◌≤◌, ◌+◌, ◌*◌, ℕ, IsTrue, bit_or, length, slice_index};
 ghost use Rattle.sixel_grammar.specs.Bytes.{is_data};
-ghost use Rattle.sixel_plane.specs.Stretches.{AreEqual, AreMapped, ArePainted, AreSixels, painted_by, run_sixel};
-ghost use Rattle.sixel_plane.specs.Stretches.{sixel_of};
+ghost use Rattle.sixel_plane.specs.Stretches.{AreEqual, AreMapped, ArePainted, AreSixelLanes, register_by_sixel};
+ghost use Rattle.sixel_plane.specs.Stretches.{run_sixel, sixel_of};
 
 use sixel_model::BAND_ROWS;
 use std::simd::prelude::*;
@@ -20,7 +20,7 @@ fn sixels_at(bytes: &[u8], at: usize, count: usize) -> u8x16
     requires few { count ≤ LANES }
     requires room { at + LANES ≤ length bytes.now }
     requires sixels { (j : ℕ) → j < count → IsTrue (is_data (slice_index bytes.now (at + j))) }
-    ensures { AreSixels bytes.now at count result }
+    ensures { AreSixelLanes bytes.now at count result }
 {
     let taken = u8x16::from_array(NUMBERS).simd_lt(u8x16::splat(count as u8));
     let sixels = u8x16::from_slice(&bytes[at..]) - u8x16::splat(b'?');
@@ -42,7 +42,7 @@ fn sixels_of_run(bits: u8, count: usize) -> u8x16
 fn paint_row(row: &mut [u8], at: usize, sixels: u8x16, bit: u32, register: u8)
     requires bit { bit < 6 }
     requires room { at + LANES ≤ length row.old }
-    ensures { AreMapped at LANES (painted_by sixels bit register) row.old row.new }
+    ensures { AreMapped at LANES (register_by_sixel sixels bit register) row.old row.new }
 {
     let old = u8x16::from_slice(&row[at..]);
     let unpainted = (sixels & u8x16::splat(1 << bit)).simd_eq(u8x16::splat(0));
@@ -72,8 +72,8 @@ fn paint_rows(registers: &mut [u8], at: usize, width: usize, sixels: u8x16, regi
     }
 }
 
-/// Paints the columns of a stretch, which is so many data bytes at the front of `bytes`. Its uppermost row begins at
-/// `start`, and its bytes of coverage at `covered`.
+/// Paints the columns of a stretch, which is so many data bytes at the beginning of `bytes`. Its uppermost row begins
+/// at `start`, and its bytes of coverage at `covered`.
 pub(crate) fn paint_groups(
     registers: &mut [u8],
     coverage: &mut [u8],

@@ -4,7 +4,7 @@ mod WorkedPpms
 pub mod PpmHeaderLemmas
 pub mod PpmColourLemmas
 pub mod PpmSampleLemmas
-pub mod PpmKnownLemmas
+pub mod PpmPixelCacheLemmas
 pub mod PpmReadLemmas
 pub mod PpmFileLemmas
 pub mod PpmPartLemmas

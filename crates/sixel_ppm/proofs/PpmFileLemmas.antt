@@ -325,7 +325,7 @@ grows seen [] = omega arith
 grows seen (c ∷ more) =
     le_trans (grows_by seen c (list_any (is_same c) seen) refl) (grows (with_colour seen c) more)
 
--- a front has no more different colours
+-- a prefix has no more different colours
 distinct_grows : (colours more : List Parts) → length (distinct colours) ≤ length (distinct (colours ++ more))
 distinct_grows colours more =
     subst (λ (seen : List Parts). length (distinct colours) ≤ length seen)

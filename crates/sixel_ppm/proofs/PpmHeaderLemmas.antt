@@ -227,7 +227,7 @@ header_read p b rest = read_by p b rest (nat_lt p.place most_header) refl
 -- a step that wants more stands one byte further
 abbrev pub MovesByOne : Progress → Next → Type 0
 MovesByOne p (More q) = q.place ≡ p.place + 1
-MovesByOne p (Whole frame) = Unit {0}
+MovesByOne p (Whole header) = Unit {0}
 MovesByOne p (Refused reason place) = Unit {0}
 
 one_of : (p : Progress) (t : Bool) (x y : Next) → MovesByOne p x → MovesByOne p y → MovesByOne p (if t then x else y)
@@ -255,12 +255,12 @@ moves_in (Digits field) p b = one_of p (is_digit b) _ _ refl (one_of p (ends fie
 -- a step that wants more stands one byte further, and within the header's limit
 abbrev pub MovesWithin : Progress → Next → Type 0
 MovesWithin p (More q) = (q.place ≡ p.place + 1) × (q.place ≤ 65536)
-MovesWithin p (Whole frame) = Unit {0}
+MovesWithin p (Whole header) = Unit {0}
 MovesWithin p (Refused reason place) = Unit {0}
 
 within_by : (p : Progress) (x : Next) → p.place < 65536 → MovesByOne p x → MovesWithin p x
 within_by p (More q) lt h = (h, omega arith)
-within_by p (Whole frame) lt h = tt
+within_by p (Whole header) lt h = tt
 within_by p (Refused reason place) lt h = tt
 
 step_by : (p : Progress) (b : ℕ) (t : Bool) → nat_lt p.place most_header ≡ t

@@ -18,7 +18,7 @@ use Rattle.sixel_model.specs.declared.colour.Parts.{Parts}
 use Rattle.sixel_ppm.specs.declared.ppm.PpmFault.{PpmFault}
 use Rattle.sixel_ppm.specs.declared.ppm.PpmFault.TheVariants.{Format, NotRgb, OutOfMemory, Read, Write}
 use Rattle.sixel_ppm.specs.declared.ppm.PpmReason.{PpmReason}
-use Rattle.sixel_ppm.specs.declared.ppm.header.Frame.{Frame}
+use Rattle.sixel_ppm.specs.declared.ppm.header.Header.{Header}
 use Rattle.sixel_ppm.specs.declared.ppm.header.Next.{Next}
 use Rattle.sixel_ppm.specs.declared.ppm.header.Next.TheVariants.{More, Whole, Refused}
 use Rattle.sixel_ppm.specs.declared.ppm.header.Progress.{Progress}
@@ -72,10 +72,10 @@ fed_more old now new piece k is fed lt =
       within = λ h. moved.1;
     }
 
-pub fed_whole : (old now : Progress) (frame : Frame) (piece : List ℕ) (k : ℕ)
-    → step now (get_or piece k 0) ≡ Whole frame
-    → HasFed old now piece k → k < length piece → Completes old piece frame (k + 1)
-fed_whole old now frame piece k is fed lt = record {
+pub fed_whole : (old now : Progress) (header : Header) (piece : List ℕ) (k : ℕ)
+    → step now (get_or piece k 0) ≡ Whole header
+    → HasFed old now piece k → k < length piece → Completes old piece header (k + 1)
+fed_whole old now header piece k is fed lt = record {
   reads = λ rest. stepped old now piece k rest fed lt
       ∙ ap (λ (x : Next). header_after x (drop (k + 1) piece ++ rest)) is;
   inside = omega arith;
@@ -110,23 +110,23 @@ pub header_goes_on : (old mid new : Option (List ℕ)) (progress next : Progress
     → IsInHeader old mid progress
     → Consumes mid new taken → MovesOn progress next taken → IsInHeader old new next
 header_goes_on old mid new progress next taken i c m = record {
-  front = i.front ++ taken;
-  consumed = consumes-then old mid new i.front taken i.consumed c;
-  reads = λ rest. ap head_of (append_assoc i.front taken rest) ∙ i.reads (taken ++ rest) ∙ m.reads rest;
+  prefix = i.prefix ++ taken;
+  consumed = consumes-then old mid new i.prefix taken i.consumed c;
+  reads = λ rest. ap head_of (append_assoc i.prefix taken rest) ∙ i.reads (taken ++ rest) ∙ m.reads rest;
   within = m.within i.within;
 }
 
-pub header_started : (old mid new : Option (List ℕ)) (progress : Progress) (frame : Frame) (piece : List ℕ)
+pub header_started : (old mid new : Option (List ℕ)) (progress : Progress) (header : Header) (piece : List ℕ)
     (start count : ℕ)
     → IsInHeader old mid progress → Consumes mid new (take count piece)
-    → Completes progress (take count piece) frame start
-    → count ≤ length piece → HasStarted old new piece (record { frame = frame; start = start; end = count })
-header_started old mid new progress frame piece start count i c w inside =
+    → Completes progress (take count piece) header start
+    → count ≤ length piece → HasStarted old new piece (record { header = header; start = start; end = count })
+header_started old mid new progress header piece start count i c w inside =
     let short = length-take-le count piece inside in
     record {
-      front = i.front ++ take count piece;
-      consumed = consumes-then old mid new i.front (take count piece) i.consumed c;
-      whole = λ rest. ap head_of (append_assoc i.front (take count piece) rest)
+      prefix = i.prefix ++ take count piece;
+      consumed = consumes-then old mid new i.prefix (take count piece) i.consumed c;
+      whole = λ rest. ap head_of (append_assoc i.prefix (take count piece) rest)
           ∙ i.reads (take count piece ++ rest) ∙ w.reads rest;
       ordered = omega (arith, w.inside, short);
       inside = inside;
@@ -148,15 +148,15 @@ consumes_none None = tt
 consumes_none (Some xs) = refl
 
 pub samples_begin : (a : Option (List ℕ)) (s : Samples) → IsInSamples a a s s
-samples_begin a s = record { front = []; consumed = consumes_none a; leads = leads_none s }
+samples_begin a s = record { prefix = []; consumed = consumes_none a; leads = leads_none s }
 
 pub samples_go_on : (old mid new : Option (List ℕ)) (s t u : Samples) (taken : List ℕ) → IsInSamples old mid s t
     → Consumes mid new taken
     → LeadsOn t u taken → IsInSamples old new s u
 samples_go_on old mid new s t u taken i c f = record {
-  front = i.front ++ taken;
-  consumed = consumes-then old mid new i.front taken i.consumed c;
-  leads = leads_then s t u i.front taken i.leads f;
+  prefix = i.prefix ++ taken;
+  consumed = consumes-then old mid new i.prefix taken i.consumed c;
+  leads = leads_then s t u i.prefix taken i.leads f;
 }
 
 refuses_rest : (fault : PpmFault) (result : Result PictureValue PpmFault) → Refuses fault result
@@ -176,10 +176,10 @@ pub samples_refused : (old mid new : Option (List ℕ)) (s t : Samples) (fault :
     → Consumes mid new taken → FailsOn t fault taken → (colours : List Parts) → Holds s colours
     → IfSome old (λ rest. ReadsRest (Err fault) (samples_on s colours rest))
 samples_refused old mid new s t fault taken i c f = λ colours holds.
-    all_of old new (i.front ++ taken) (λ rest. ReadsRest (Err fault) (samples_on s colours rest))
-    (consumes-then old mid new i.front taken i.consumed c)
-    (λ rest. refuses_rest fault (samples_on s colours ((i.front ++ taken) ++ rest))
-    (fails_then s t fault (i.front ++ taken) i.front taken refl i.leads f colours holds rest))
+    all_of old new (i.prefix ++ taken) (λ rest. ReadsRest (Err fault) (samples_on s colours rest))
+    (consumes-then old mid new i.prefix taken i.consumed c)
+    (λ rest. refuses_rest fault (samples_on s colours ((i.prefix ++ taken) ++ rest))
+    (fails_then s t fault (i.prefix ++ taken) i.prefix taken refl i.leads f colours holds rest))
 
 pub samples_fault_counts : (A : Type 0) (s : Samples) (fault : PpmFault) (taken : List ℕ) (a b : ℕ)
     → ((colours : List Parts) × Holds s colours)
@@ -210,9 +210,9 @@ pub samples_finished : (old new : Option (List ℕ)) (s t : Samples) (result : R
     → (colours : List Parts) → Holds s colours → IfSome old (λ rest. ReadsRest result (samples_on s colours rest))
 samples_finished old new s t result i end w f = λ colours holds.
     let p = i.leads colours holds in
-    all_read old new i.front (λ rest. ReadsRest result (samples_on s colours rest)) i.consumed end
+    all_read old new i.prefix (λ rest. ReadsRest result (samples_on s colours rest)) i.consumed end
     (subst (λ (r : Result PictureValue PpmFault). ReadsRest result r)
-    (sym (ap (samples_on s colours) (sym (append-nil i.front)) ∙ p.2 [])) (finished_rest t result p.0 p.1 w f))
+    (sym (ap (samples_on s colours) (sym (append-nil i.prefix)) ∙ p.2 [])) (finished_rest t result p.0 p.1 w f))
 
 -- no byte more was read
 pub in_samples_still : (old mid new : Option (List ℕ)) (s t : Samples) (taken : List ℕ) → taken ≡ []
@@ -224,12 +224,12 @@ in_samples_still old mid new s t taken none i c =
 -- ---- the whole
 
 started_in_range : (old new : Option (List ℕ)) (piece : List ℕ) (s : Started) → HasStarted old new piece s
-    → IsInRange (head_with s.frame (drop s.start (take s.end piece) ++ []))
+    → IsInRange (head_with s.header (drop s.start (take s.end piece) ++ []))
 started_in_range old new piece s h = subst (λ (r : Result Head PpmFault). IfOk r IsInRange) (h.whole [])
-    (head_in_range (h.front ++ []))
+    (head_in_range (h.prefix ++ []))
 
 pub started_sides : (old new : Option (List ℕ)) (piece : List ℕ) (s : Started) → HasStarted old new piece s
-    → (is_side s.frame.width && is_side s.frame.height) ≡ true
+    → (is_side s.header.width && is_side s.header.height) ≡ true
 started_sides old new piece s h = let r = started_in_range old new piece s h in ap₂ (λ (a b : Bool). a && b) r.wide
     r.high
 
@@ -237,25 +237,25 @@ positive : (n : ℕ) → is_within n 255 ≡ true → 0 < n
 positive n e = grind (arith, nat_tests)
 
 pub started_scaled : (old new : Option (List ℕ)) (piece : List ℕ) (s : Started) → HasStarted old new piece s
-    → 0 < s.frame.maxval
-started_scaled old new piece s h = positive s.frame.maxval (started_in_range old new piece s h).scaled
+    → 0 < s.header.maxval
+started_scaled old new piece s h = positive s.header.maxval (started_in_range old new piece s h).scaled
 
 pub started_within : (old new : Option (List ℕ)) (piece : List ℕ) (s : Started) → HasStarted old new piece s
-    → s.frame.place ≤ 65536
+    → s.header.place ≤ 65536
 started_within old new piece s h = (started_in_range old new piece s h).within
 
-begins_reads : (count : ℕ) (f : Frame) (s : Samples) (xs : List ℕ) → Begins count f s
+begins_reads : (count : ℕ) (f : Header) (s : Samples) (xs : List ℕ) → Begins count f s
     → picture_after count (head_with f xs) ≡ samples_on s [] xs
-begins_reads count f s xs b = rw (b.registers, b.maxval, b.left, b.place, b.held, b.width, b.height) refl
+begins_reads count f s xs b = rw (b.registers, b.maxval, b.left, b.place, b.partial, b.width, b.height) refl
 
 -- what all the bytes say, by the samples
 said : (count : ℕ) (old new : Option (List ℕ)) (piece : List ℕ) (s : Started) (t : Samples) (rest : List ℕ)
     → (h : HasStarted old new piece s)
-    → Begins count s.frame t
-    → ppm_read count (h.front ++ rest) ≡ samples_on t [] (drop s.start (take s.end piece) ++ rest)
+    → Begins count s.header t
+    → ppm_read count (h.prefix ++ rest) ≡ samples_on t [] (drop s.start (take s.end piece) ++ rest)
 said count old new piece s t rest h b =
     ap (λ (x : Result Head PpmFault). x >>= picture_after count) (h.whole rest)
-    ∙ begins_reads count s.frame t (drop s.start (take s.end piece) ++ rest) b
+    ∙ begins_reads count s.header t (drop s.start (take s.end piece) ++ rest) b
 
 whole_header : (bytes : List ℕ) (h : Head) → head_of bytes ≡ Ok h → HasWholeHeader bytes
 whole_header bytes h e = subst (λ (x : Result Head PpmFault). IsOk x) (sym e) refl
@@ -273,14 +273,14 @@ rest_reads count (Err Write) bytes r e whole h = h
 pub ppm_refused : (count : ℕ) (old new : Option (List ℕ)) (piece : List ℕ) (s : Started) (t : Samples)
     (fault : PpmFault)
     (samples : List ℕ)
-    → samples ≡ drop s.start (take s.end piece) → HasStarted old new piece s → Begins count s.frame t
+    → samples ≡ drop s.start (take s.end piece) → HasStarted old new piece s → Begins count s.header t
     → FailsOn t fault samples
     → IfSome old (ReadsPpm count (Err fault))
 ppm_refused count old new piece s t fault samples e h b f =
-    all_of old new h.front (ReadsPpm count (Err fault)) h.consumed (λ rest.
-    rest_reads count (Err fault) (h.front ++ rest) (samples_on t [] (samples ++ rest))
+    all_of old new h.prefix (ReadsPpm count (Err fault)) h.consumed (λ rest.
+    rest_reads count (Err fault) (h.prefix ++ rest) (samples_on t [] (samples ++ rest))
     (said count old new piece s t rest h b ∙ ap (λ (xs : List ℕ). samples_on t [] (xs ++ rest)) (sym e))
-    (whole_header (h.front ++ rest) _ (h.whole rest))
+    (whole_header (h.prefix ++ rest) _ (h.whole rest))
     (refuses_rest fault (samples_on t [] (samples ++ rest)) (f [] b.holds rest)))
 
 -- what the source has left reads on
@@ -292,17 +292,18 @@ left_reads (Some a) (Some b) xs P Q c q f = subst P (sym c) (f b q)
 
 pub ppm_finished : (count : ℕ) (old new : Option (List ℕ)) (piece : List ℕ) (s : Started) (t u : Samples)
     (result : Result PictureValue PpmFault)
-    (samples : List ℕ) → samples ≡ drop s.start (take s.end piece) → HasStarted old new piece s → Begins count s.frame t
+    (samples : List ℕ) → samples ≡ drop s.start (take s.end piece) → HasStarted old new piece s
+    → Begins count s.header t
     → LeadsOn t u samples
     → ((colours : List Parts) → Holds u colours → IfSome new (λ rest. ReadsRest result (samples_on u colours rest)))
     → IfSome old (ReadsPpm count result)
 ppm_finished count old new piece s t u result samples e h b f r =
     let p = f [] b.holds in
-    left_reads old new h.front (ReadsPpm count result) (λ rest. ReadsRest result (samples_on u p.0 rest)) h.consumed
+    left_reads old new h.prefix (ReadsPpm count result) (λ rest. ReadsRest result (samples_on u p.0 rest)) h.consumed
     (r p.0 p.1) (λ rest q.
-    rest_reads count result (h.front ++ rest) (samples_on u p.0 rest)
+    rest_reads count result (h.prefix ++ rest) (samples_on u p.0 rest)
     (said count old new piece s t rest h b ∙ ap (λ (xs : List ℕ). samples_on t [] (xs ++ rest)) (sym e) ∙ p.2 rest)
-    (whole_header (h.front ++ rest) _ (h.whole rest)) q)
+    (whole_header (h.prefix ++ rest) _ (h.whole rest)) q)
 
 -- a range of a piece
 pub between : (start end : ℕ) (xs : List ℕ) → start ≤ end

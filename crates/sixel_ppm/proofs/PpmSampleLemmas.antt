@@ -13,7 +13,7 @@ use Rattle.sixel_grammar.proofs.SourceLemmas.{take_past}
 use Rattle.sixel_model.specs.Colours.{is_same, palette_at}
 use Rattle.sixel_model.specs.Pictures.{PictureValue, is_side, picture_fault, picture_of_parts}
 use Rattle.sixel_ppm.specs.PpmColours.{Fills}
-use Rattle.sixel_ppm.specs.PpmHeld.{held_samples, is_good}
+use Rattle.sixel_ppm.specs.PpmPartialPixel.{partial_samples, is_good}
 use Rattle.sixel_ppm.specs.PpmReading.{◌>>=◌, at_fault, colour_of, distinct, palette_of, picture_of, pixels}
 use Rattle.sixel_ppm.specs.PpmReading.{register_among, with_colour}
 use Rattle.sixel_ppm.specs.PpmSamples.{AllSeen, Fails, FailsOn, HasRead, HoldsPixels, KeepsPixels, KnowsLast, Leads}
@@ -24,8 +24,8 @@ use Rattle.sixel_ppm.specs.declared.ppm.PpmFault.{PpmFault}
 use Rattle.sixel_ppm.specs.declared.ppm.PpmReason.{PpmReason}
 use Rattle.sixel_ppm.specs.declared.ppm.PpmReason.TheVariants.{Short, TooManyColours}
 use Rattle.sixel_ppm.specs.declared.ppm.colours.Colours.{Colours}
-use Rattle.sixel_ppm.specs.declared.ppm.samples.Held.{Held}
-use Rattle.sixel_ppm.specs.declared.ppm.samples.Held.TheVariants.{Nothing, Red, RedGreen}
+use Rattle.sixel_ppm.specs.declared.ppm.samples.PartialPixel.{PartialPixel}
+use Rattle.sixel_ppm.specs.declared.ppm.samples.PartialPixel.TheVariants.{Nothing, Red, RedGreen}
 use Rattle.sixel_ppm.specs.declared.ppm.samples.Pixel.{Pixel}
 use Rattle.sixel_ppm.specs.declared.ppm.samples.Samples.{Samples}
 use Rattle.sixel_ppm.proofs.PpmColourLemmas.{entry_there, position_stays, register_within, same_as_itself}
@@ -275,10 +275,10 @@ fails_then a b fault whole xs ys e f g = λ colours holds rest.
 pub has_read_more : (a b c : Samples) (bytes rest tail : List ℕ) → HasRead a b bytes rest → HasRead b c rest tail
     → HasRead a c bytes tail
 has_read_more a b c bytes rest tail p q = record {
-  front = p.front ++ q.front;
-  joined = p.joined ∙ ap (λ (t : List ℕ). p.front ++ t) q.joined ∙ sym (append_assoc p.front q.front tail);
-  fewer = omega (arith, p.fewer, q.fewer, length-append p.front q.front);
-  leads = leads_then a b c p.front q.front p.leads q.leads;
+  prefix = p.prefix ++ q.prefix;
+  joined = p.joined ∙ ap (λ (t : List ℕ). p.prefix ++ t) q.joined ∙ sym (append_assoc p.prefix q.prefix tail);
+  fewer = omega (arith, p.fewer, q.fewer, length-append p.prefix q.prefix);
+  leads = leads_then a b c p.prefix q.prefix p.leads q.leads;
 }
 
 no_rest : (rest : List ℕ) → (length rest == 0) ≡ true → rest ≡ []
@@ -288,8 +288,8 @@ no_rest (x ∷ xs) e = let none : length (x ∷ xs) ≡ 0 = eqb-true _ _ e in ab
 pub has_read_all : (a b : Samples) (bytes rest : List ℕ) → HasRead a b bytes rest → (length rest == 0) ≡ true
     → LeadsOn a b bytes × (budget b + length bytes ≤ budget a)
 has_read_all a b bytes rest p e =
-    let same : p.front ≡ bytes =
-    sym (p.joined ∙ ap (λ (t : List ℕ). p.front ++ t) (no_rest rest e) ∙ append-nil p.front) in
+    let same : p.prefix ≡ bytes =
+    sym (p.joined ∙ ap (λ (t : List ℕ). p.prefix ++ t) (no_rest rest e) ∙ append-nil p.prefix) in
     (subst (LeadsOn a b) same p.leads, omega (arith, p.fewer, ap length same))
 
 -- a fault behind the bytes that were read
@@ -299,32 +299,35 @@ has_read_fails a b bytes rest fault p fails = λ colours holds more.
     let led = p.leads colours holds in
     subst (Refuses fault)
     (sym (ap (λ (t : List ℕ). samples_on a colours (t ++ more)) p.joined
-    ∙ ap (samples_on a colours) (append_assoc p.front rest more) ∙ led.2 (rest ++ more)))
+    ∙ ap (samples_on a colours) (append_assoc p.prefix rest more) ∙ led.2 (rest ++ more)))
     (fails led.0 led.1 more)
 
-pub pixel_leads_on : (old new : Samples) (xs : List ℕ) → old.held ≡ Nothing → new.held ≡ Nothing → Leads old new xs
+pub pixel_leads_on : (old new : Samples) (xs : List ℕ) → old.partial ≡ Nothing → new.partial ≡ Nothing
+    → Leads old new xs
     → LeadsOn old new xs
 pixel_leads_on old new xs e f h = λ colours holds.
     let p = h colours holds in
     (p.0, p.1, λ rest. rw (e, f) (p.2 rest))
 
-pub three_front : (xs : List ℕ) → 3 ≤ length xs
+pub three_prefix : (xs : List ℕ) → 3 ≤ length xs
     → xs ≡ (slice_index xs 0 ∷ slice_index xs 1 ∷ slice_index xs 2 ∷ []) ++ take (length xs - 3) (drop 3 xs)
-three_front [] le = absurd (omega arith)
-three_front (x ∷ []) le = absurd (omega arith)
-three_front (x ∷ y ∷ []) le = absurd (omega arith)
-three_front (x ∷ y ∷ z ∷ xs) le =
+three_prefix [] le = absurd (omega arith)
+three_prefix (x ∷ []) le = absurd (omega arith)
+three_prefix (x ∷ y ∷ []) le = absurd (omega arith)
+three_prefix (x ∷ y ∷ z ∷ xs) le =
     ap (λ (t : List ℕ). x ∷ y ∷ z ∷ t) (sym (take_past (length (x ∷ y ∷ z ∷ xs) - 3) xs (omega arith)))
 
-pub one_front : (xs : List ℕ) → 1 ≤ length xs → xs ≡ (slice_index xs 0 ∷ []) ++ take (length xs - 1) (drop 1 xs)
-one_front [] le = absurd (omega arith)
-one_front (x ∷ xs) le = ap (λ (t : List ℕ). x ∷ t) (sym (take_past (length (x ∷ xs) - 1) xs (omega arith)))
+pub one_prefix : (xs : List ℕ) → 1 ≤ length xs → xs ≡ (slice_index xs 0 ∷ []) ++ take (length xs - 1) (drop 1 xs)
+one_prefix [] le = absurd (omega arith)
+one_prefix (x ∷ xs) le = ap (λ (t : List ℕ). x ∷ t) (sym (take_past (length (x ∷ xs) - 1) xs (omega arith)))
 
 -- ---- samples that are wanting
 
-short_pixel : (count maxval n at : ℕ) (colours : List Parts) (held : Held) → 0 < n → is_good held maxval n ≡ true
-    → pixels count maxval n colours at (held_samples held ++ []) ≡ at_fault Short (at + length (held_samples held))
-short_pixel count maxval zero at colours held some good = absurd (omega arith)
+short_pixel : (count maxval n at : ℕ) (colours : List Parts) (partial : PartialPixel) → 0 < n
+    → is_good partial maxval n ≡ true
+    → pixels count maxval n colours at (partial_samples partial ++ [])
+    ≡ at_fault Short (at + length (partial_samples partial))
+short_pixel count maxval zero at colours partial some good = absurd (omega arith)
 short_pixel count maxval (suc n) at colours Nothing some good = ap (at_fault Short) (omega arith)
 short_pixel count maxval (suc n) at colours (Red red) some good =
     let first : nat_le red maxval ≡ true = grind (arith, nat_tests) in
@@ -334,12 +337,12 @@ short_pixel count maxval (suc n) at colours (RedGreen red green) some good =
     let second : nat_le green maxval ≡ true = grind (arith, nat_tests) in
     simp (first, second)
 
-pub short_fails : (s : Samples) (colours : List Parts) → 0 < s.left → is_good s.held s.maxval s.left ≡ true
-    → samples_on s colours [] ≡ at_fault Short (s.place + length (held_samples s.held))
+pub short_fails : (s : Samples) (colours : List Parts) → 0 < s.left → is_good s.partial s.maxval s.left ≡ true
+    → samples_on s colours [] ≡ at_fault Short (s.place + length (partial_samples s.partial))
 short_fails s colours some good = rw
-    (short_pixel (registers_in s) s.maxval s.left s.place colours s.held some good) refl
+    (short_pixel (registers_in s) s.maxval s.left s.place colours s.partial some good) refl
 
-pub budget_whole : (s : Samples) → s.held ≡ Nothing → budget s ≡ 3 * s.left
+pub budget_whole : (s : Samples) → s.partial ≡ Nothing → budget s ≡ 3 * s.left
 budget_whole s e = rw e (omega arith)
 
 pub refused_by : (fault other : PpmFault) (result : Result PictureValue PpmFault) → fault ≡ other

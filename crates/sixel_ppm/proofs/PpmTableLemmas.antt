@@ -41,10 +41,10 @@ stored_three : (at : ℕ) (xs entry : List ℕ) → length entry ≡ 4 → at + 
 stored_three at xs entry long room =
     let whole : take (at + 4) (put_chunk at xs entry) ≡ take at xs ++ entry =
     take_more_put_chunk at xs entry (at + 4) (omega (arith, long)) room in
-    let front : length (take at xs) ≡ at = omega (arith, length-take at xs) in
+    let prefix : length (take at xs) ≡ at = omega (arith, length-take at xs) in
     sym (take-take (at + 3) (at + 4) (put_chunk at xs entry) (omega arith))
     ∙ ap (take (at + 3)) whole
-    ∙ ap (λ n. take (n + 3) (take at xs ++ entry)) (sym front)
+    ∙ ap (λ n. take (n + 3) (take at xs ++ entry)) (sym prefix)
     ∙ take-append-add (take at xs) entry 3
 
 -- one more pixel's samples are put behind those of the ones before
@@ -83,7 +83,7 @@ four_bytes palette table is = λ r lt. ap length (is r lt) ∙ four (palette_at 
 
 pub parted : {X : Type 0} (rest group more : List X) (n : ℕ) → group ≡ take n rest → more ≡ drop n rest
     → rest ≡ group ++ more
-parted rest group more n front back = rw (front, back) (sym (take-append-drop n rest))
+parted rest group more n prefix back = rw (prefix, back) (sym (take-append-drop n rest))
 
 -- what was put before, what goes out with a group, and what is left after it
 pub group_of : {X : Type 0} (f : List X → List ℕ) → ((ys zs : List X) → f (ys ++ zs) ≡ f ys ++ f zs)
@@ -101,8 +101,8 @@ pub all_put : {X : Type 0} (f : List X → List ℕ) → f [] ≡ [] → (more :
 all_put f none [] whole put e is = sym (is ∙ ap (λ (t : List ℕ). put ++ t) none ∙ append-nil put)
 all_put f none (x ∷ more) whole put e is = absurd (omega (arith, eqb-true (length (x ∷ more)) 0 e))
 
-pub copied_front : (header copied tail : List ℕ) → copied ≡ header → take (length header) (copied ++ tail) ≡ header
-copied_front header copied tail is =
+pub copied_prefix : (header copied tail : List ℕ) → copied ≡ header → take (length header) (copied ++ tail) ≡ header
+copied_prefix header copied tail is =
     ap (λ (t : List ℕ). take (length header) (t ++ tail)) is ∙ take_at header tail (length header) refl
 
 pub samples_join : (table : List (List ℕ)) (xs ys : List ℕ)
@@ -165,11 +165,11 @@ rgb_by_palette p is each = are_rgb_of p ∙ all_true _ p.registers (λ r. elim (
 ])
 
 -- the samples of a colour of red, green and blue are the first three bytes of its entry
-front_of : (o : Option Parts) (cs : List Parts) (t : List ℕ) → is_some o ≡ true → option_map_or is_rgb o true ≡ true
+prefix_of : (o : Option Parts) (cs : List Parts) (t : List ℕ) → is_some o ≡ true → option_map_or is_rgb o true ≡ true
     → t ≡ flat_map samples_of cs → take 3 (bytes_of o) ++ t ≡ flat_map samples_of (cons_option o cs)
-front_of None cs t some rgb e = cc
-front_of (Some (Rgb red green blue)) cs t some rgb e = ap (λ (u : List ℕ). red ∷ green ∷ blue ∷ u) e
-front_of (Some (Hls hue lightness saturation)) cs t some rgb e = cc
+prefix_of None cs t some rgb e = cc
+prefix_of (Some (Rgb red green blue)) cs t some rgb e = ap (λ (u : List ℕ). red ∷ green ∷ blue ∷ u) e
+prefix_of (Some (Hls hue lightness saturation)) cs t some rgb e = cc
 
 within_palette : (palette : List (Option Parts)) (r : ℕ) → is_some (palette_at palette r) ≡ true → r < length palette
 within_palette palette r some = elim (cases_lt r (length palette)) [
@@ -187,7 +187,7 @@ samples_are palette table (r ∷ registers) short is some rgb =
     let are = and_parts (option_map_or is_rgb (palette_at palette r) true) _ rgb in
     let below : r < 256 = omega (arith, within_palette palette r have.0) in
     ap (λ (bs : List ℕ). take 3 bs ++ samples_from table registers) (is r below)
-    ∙ front_of (palette_at palette r) (filter_map (palette_at palette) registers) (samples_from table registers)
+    ∙ prefix_of (palette_at palette r) (filter_map (palette_at palette) registers) (samples_from table registers)
     have.0 are.0 (samples_are palette table registers short is have.1 are.1)
 
 -- the samples of a picture's pixels by the table of its palette
@@ -202,7 +202,8 @@ samples_of_picture p table is entries rgb =
     samples_are p.palette table p.registers (short_palette p is) entries some (sym (are_rgb_of p) ∙ rgb)
 
 -- the text of a picture file is its header and then the samples
-pub text_of : (width height : ℕ) (colours : List Parts) (samples : List ℕ) → samples ≡ flat_map samples_of colours
+pub header_then_samples : (width height : ℕ) (colours : List Parts) (samples : List ℕ)
+    → samples ≡ flat_map samples_of colours
     → ppm_text width height colours ≡ ppm_header width height ++ samples
 unfolding ppm_text
-text_of width height colours samples is = ap (λ (t : List ℕ). ppm_header width height ++ t) (sym is)
+header_then_samples width height colours samples is = ap (λ (t : List ℕ). ppm_header width height ++ t) (sym is)

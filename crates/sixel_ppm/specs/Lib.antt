@@ -2,10 +2,10 @@ pub mod Ppm
 pub mod PpmReading
 pub mod PpmHeader
 pub mod PpmColours
-pub mod PpmHeld
+pub mod PpmPartialPixel
 pub mod PpmSamples
 pub mod PpmFeeding
 pub mod PpmFiles
 pub mod PpmTables
-pub mod PpmKnown
+pub mod PpmPixelCache
 pub mod Laws

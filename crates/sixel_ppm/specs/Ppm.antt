@@ -42,8 +42,8 @@ most_file_side = 4096
 abbrev pub is_file_side : ℕ → Bool
 is_file_side n = nat_le 1 n && nat_le n most_file_side
 
--- all colours are red, green and blue, and the text was written, or on `Write` a front of it; or one isn't, and nothing
--- was done. Writing answers no other fault
+-- all colours are red, green and blue, and the text was written, or on `Write` a prefix of it; or one isn't, and
+-- nothing was done. Writing answers no other fault
 abbrev pub WritesPpm : {A : Type 0} → Result A PpmFault → SinkState → SinkState → ℕ → ℕ → List Parts → Type 0
 WritesPpm {A = A} (Ok x) old new width height colours =
     IsTrue (are_rgb colours) × Writes {A = A} {E = PpmFault} (Ok x) old new (ppm_text width height colours)

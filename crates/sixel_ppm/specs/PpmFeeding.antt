@@ -7,7 +7,7 @@ use Rattle.sixel_ppm.specs.PpmReading.{Head, at_fault, head_of}
 use Rattle.sixel_ppm.specs.PpmSamples.{LeadsOn}
 use Rattle.sixel_ppm.specs.declared.ppm.PpmFault.{PpmFault}
 use Rattle.sixel_ppm.specs.declared.ppm.PpmFault.TheVariants.{Format, NotRgb, OutOfMemory, Read, Write}
-use Rattle.sixel_ppm.specs.declared.ppm.header.Frame.{Frame}
+use Rattle.sixel_ppm.specs.declared.ppm.header.Header.{Header}
 use Rattle.sixel_ppm.specs.declared.ppm.header.Progress.{Progress}
 use Rattle.sixel_ppm.specs.declared.ppm.read.Fed.{Fed}
 use Rattle.sixel_ppm.specs.declared.ppm.read.Fed.TheVariants.{More, Whole, Refused}
@@ -15,7 +15,7 @@ use Rattle.sixel_ppm.specs.declared.ppm.read.Started.{Started}
 use Rattle.sixel_ppm.specs.declared.ppm.samples.Samples.{Samples}
 
 -- what the header says, and the samples after it
-abbrev pub head_with : Frame → List ℕ → Head
+abbrev pub head_with : Header → List ℕ → Head
 head_with f samples =
     record { width = f.width; height = f.height; maxval = f.maxval; place = f.place; samples = samples }
 
@@ -26,8 +26,8 @@ pub record MovesOn (old new : Progress) (piece : List ℕ) : Type 0 where
   pub within : old.place ≤ 65536 → new.place ≤ 65536
 
 -- it is whole within the piece
-pub record Completes (old : Progress) (piece : List ℕ) (frame : Frame) (start : ℕ) : Type 0 where
-  pub reads : (rest : List ℕ) → header_on old (piece ++ rest) ≡ Ok (head_with frame (drop start piece ++ rest))
+pub record Completes (old : Progress) (piece : List ℕ) (header : Header) (start : ℕ) : Type 0 where
+  pub reads : (rest : List ℕ) → header_on old (piece ++ rest) ≡ Ok (head_with header (drop start piece ++ rest))
   pub inside : start ≤ length piece
 
 -- what reading a header answers, but that it is whole
@@ -42,15 +42,15 @@ RefusesHeader fault result = ⊥
 
 abbrev pub FeedsHeader : Progress → List ℕ → Fed → Type 0
 FeedsHeader old piece (More new) = MovesOn old new piece
-FeedsHeader old piece (Whole frame start) = Completes old piece frame start
+FeedsHeader old piece (Whole header start) = Completes old piece header start
 FeedsHeader old piece (Refused fault) = (rest : List ℕ) → RefusesHeader fault (header_on old (piece ++ rest))
 
 -- the bytes up to the end of the header were read, and the samples that came with it
 pub record HasStarted (old new : Option (List ℕ)) (piece : List ℕ) (s : Started) : Type 0 where
-  pub front : List ℕ
-  pub consumed : Consumes old new front
-  pub whole : (rest : List ℕ) → head_of (front ++ rest)
-      ≡ Ok (head_with s.frame (drop s.start (take s.end piece) ++ rest))
+  pub prefix : List ℕ
+  pub consumed : Consumes old new prefix
+  pub whole : (rest : List ℕ) → head_of (prefix ++ rest)
+      ≡ Ok (head_with s.header (drop s.start (take s.end piece) ++ rest))
   pub ordered : s.start ≤ s.end
   pub inside : s.end ≤ length piece
 
@@ -63,13 +63,13 @@ ReadsRest (Err fault) result = ⊥
 
 -- the bytes so far were read, and the header goes on
 pub record IsInHeader (old new : Option (List ℕ)) (progress : Progress) : Type 0 where
-  pub front : List ℕ
-  pub consumed : Consumes old new front
-  pub reads : (rest : List ℕ) → head_of (front ++ rest) ≡ header_on progress rest
+  pub prefix : List ℕ
+  pub consumed : Consumes old new prefix
+  pub reads : (rest : List ℕ) → head_of (prefix ++ rest) ≡ header_on progress rest
   pub within : progress.place ≤ 65536
 
 -- the bytes so far were read, and the samples go on
 pub record IsInSamples (old new : Option (List ℕ)) (begun now : Samples) : Type 0 where
-  pub front : List ℕ
-  pub consumed : Consumes old new front
-  pub leads : LeadsOn begun now front
+  pub prefix : List ℕ
+  pub consumed : Consumes old new prefix
+  pub leads : LeadsOn begun now prefix

@@ -47,8 +47,8 @@ abbrev pub wanted : (ℕ → Bool) → ℕ → List ℕ → Result (ℕ × List 
 wanted passes at [] = at_fault Short at
 wanted passes at (b ∷ rest) = if nat_lt at most_header && passes b then Ok (at + 1, rest) else at_fault Header at
 
--- what follows the whitespace and the comments at the front, from inside a comment or not; a comment goes through the
--- next line feed
+-- what follows the whitespace and the comments at the beginning, from inside a comment or not; a comment goes through
+-- the next line feed
 abbrev pub after_filler : Bool → ℕ → List ℕ → ℕ × List ℕ
 after_filler comment at [] = (at, [])
 after_filler false at (b ∷ rest) =
@@ -58,7 +58,7 @@ after_filler false at (b ∷ rest) =
 after_filler true at (b ∷ rest) =
     if nat_lt at most_header then after_filler (not (b == 10)) (at + 1) rest else (at, b ∷ rest)
 
--- the number that the digits at the front write after those of `value`, and what follows them
+-- the number that the digits at the beginning write after those of `value`, and what follows them
 abbrev pub after_digits : ℕ → ℕ → List ℕ → ℕ × ℕ × List ℕ
 after_digits value at [] = (value, at, [])
 after_digits value at (b ∷ rest) =

@@ -5,8 +5,8 @@ use Rattle.std.specs.List.{list_any}
 use Rattle.sixel_model.specs.Colours.{is_same}
 use Rattle.sixel_model.specs.Pictures.{PictureValue}
 use Rattle.sixel_ppm.specs.PpmColours.{Fills}
-use Rattle.sixel_ppm.specs.PpmHeld.{held_samples}
-use Rattle.sixel_ppm.specs.PpmKnown.{PutsHits}
+use Rattle.sixel_ppm.specs.PpmPartialPixel.{partial_samples}
+use Rattle.sixel_ppm.specs.PpmPixelCache.{PutsHits}
 use Rattle.sixel_ppm.specs.PpmReading.{◌>>=◌, at_fault, colour_of, distinct, picture_of, pixels, register_among}
 use Rattle.sixel_ppm.specs.PpmReading.{with_colour}
 use Rattle.sixel_model.specs.declared.colour.Parts.{Parts}
@@ -14,9 +14,9 @@ use Rattle.sixel_ppm.specs.declared.ppm.PpmFault.{PpmFault}
 use Rattle.sixel_ppm.specs.declared.ppm.PpmFault.TheVariants.{Format, NotRgb, OutOfMemory, Read, Write}
 use Rattle.sixel_ppm.specs.declared.ppm.PpmReason.TheVariants.{TooManyColours}
 use Rattle.sixel_ppm.specs.declared.ppm.colours.Colours.{Colours}
-use Rattle.sixel_ppm.specs.declared.ppm.header.Frame.{Frame}
-use Rattle.sixel_ppm.specs.declared.ppm.samples.Held.{Held}
-use Rattle.sixel_ppm.specs.declared.ppm.samples.Held.TheVariants.{Nothing, Red, RedGreen}
+use Rattle.sixel_ppm.specs.declared.ppm.header.Header.{Header}
+use Rattle.sixel_ppm.specs.declared.ppm.samples.PartialPixel.{PartialPixel}
+use Rattle.sixel_ppm.specs.declared.ppm.samples.PartialPixel.TheVariants.{Nothing, Red, RedGreen}
 use Rattle.sixel_ppm.specs.declared.ppm.samples.Pixel.{Pixel}
 use Rattle.sixel_ppm.specs.declared.ppm.samples.Samples.{Samples}
 
@@ -65,7 +65,7 @@ pub record KeepsPixels (old new : Samples) : Type 0 where
   pub maxval : new.maxval ≡ old.maxval
   pub left : new.left ≡ old.left
   pub place : new.place ≡ old.place
-  pub held : new.held ≡ old.held
+  pub partial : new.partial ≡ old.partial
   pub registers : new.registers.items ≡ old.registers.items
 
 -- a pixel with this register was put: the colours and the last pixel are as before
@@ -75,19 +75,19 @@ pub record PutsPixel (old new : Samples) (register : ℕ) : Type 0 where
   pub maxval : new.maxval ≡ old.maxval
   pub left : new.left + 1 ≡ old.left
   pub place : new.place ≡ old.place + 3
-  pub held : new.held ≡ old.held
+  pub partial : new.partial ≡ old.partial
   pub last : new.last ≡ old.last
   pub colours : new.colours ≡ old.colours
   pub registers : new.registers.items ≡ old.registers.items ++ register ∷ []
 
--- so many pixels with the samples at the front of the bytes were put: the colours and the last pixel are as before
+-- so many pixels with the samples at the beginning of the bytes were put: the colours and the last pixel are as before
 pub record PutsPixels (old new : Samples) (bytes : List ℕ) (count : ℕ) : Type 0 where
   pub width : new.width ≡ old.width
   pub height : new.height ≡ old.height
   pub maxval : new.maxval ≡ old.maxval
   pub left : new.left + count ≡ old.left
   pub place : new.place ≡ old.place + 3 * count
-  pub held : new.held ≡ old.held
+  pub partial : new.partial ≡ old.partial
   pub last : new.last ≡ old.last
   pub colours : new.colours ≡ old.colours
   pub registers : PutsHits old.maxval old.colours.palette (take (3 * count) bytes) old.registers.items
@@ -121,7 +121,7 @@ pixels_on s colours rest = do
 
 -- the same, with the samples that are held
 abbrev pub samples_on : Samples → List Parts → List ℕ → Result PictureValue PpmFault
-samples_on s colours rest = pixels_on s colours (held_samples s.held ++ rest)
+samples_on s colours rest = pixels_on s colours (partial_samples s.partial ++ rest)
 
 -- a fault is that of a reading; memory was taken before the samples, and no device is met
 abbrev pub Refuses : PpmFault → Result PictureValue PpmFault → Type 0
@@ -155,29 +155,29 @@ FailsOn old fault bytes =
     → Refuses fault (samples_on old colours (bytes ++ rest))
 
 -- what is held with one sample more, which isn't the last one of a pixel
-abbrev pub IsNextHeld : Held → ℕ → Held → Type 0
-IsNextHeld Nothing sample held = held ≡ Red sample
-IsNextHeld (Red red) sample held = held ≡ RedGreen red sample
-IsNextHeld (RedGreen red green) sample held = ⊥
+abbrev pub IsNextPartial : PartialPixel → ℕ → PartialPixel → Type 0
+IsNextPartial Nothing sample partial = partial ≡ Red sample
+IsNextPartial (Red red) sample partial = partial ≡ RedGreen red sample
+IsNextPartial (RedGreen red green) sample partial = ⊥
 
 -- how many samples are still to come
 abbrev pub budget : Samples → ℕ
-budget s = 3 * s.left - length (held_samples s.held)
+budget s = 3 * s.left - length (partial_samples s.partial)
 
 -- the bytes up to the rest were read
 pub record HasRead (old new : Samples) (bytes rest : List ℕ) : Type 0 where
-  pub front : List ℕ
-  pub joined : bytes ≡ front ++ rest
-  pub fewer : budget new + length front ≡ budget old
-  pub leads : LeadsOn old new front
+  pub prefix : List ℕ
+  pub joined : bytes ≡ prefix ++ rest
+  pub fewer : budget new + length prefix ≡ budget old
+  pub leads : LeadsOn old new prefix
 
--- no sample of the frame has come, and there are so many registers
-pub record Begins (count : ℕ) (frame : Frame) (s : Samples) : Type 0 where
-  pub width : s.width ≡ frame.width
-  pub height : s.height ≡ frame.height
-  pub maxval : s.maxval ≡ frame.maxval
-  pub left : s.left ≡ frame.width * frame.height
-  pub place : s.place ≡ frame.place
-  pub held : s.held ≡ Nothing
+-- no sample has come after the header, and there are so many registers
+pub record Begins (count : ℕ) (header : Header) (s : Samples) : Type 0 where
+  pub width : s.width ≡ header.width
+  pub height : s.height ≡ header.height
+  pub maxval : s.maxval ≡ header.maxval
+  pub left : s.left ≡ header.width * header.height
+  pub place : s.place ≡ header.place
+  pub partial : s.partial ≡ Nothing
   pub registers : registers_in s ≡ count
   pub holds : Holds s []

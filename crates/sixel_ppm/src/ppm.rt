@@ -2,7 +2,7 @@
 
 mod colours;
 mod header;
-mod known;
+mod pixel_cache;
 mod read;
 mod samples;
 mod table;

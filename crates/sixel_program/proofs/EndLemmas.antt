@@ -31,8 +31,8 @@ broken_gives t (Some bytes) left (Ok (status.Broken finding)) had has wrote is =
 broken_gives t (Some bytes) left (Err fault) had has wrote is = let no : exit.Refused ≡ exit.Broken = is in cc
 
 -- what is said of the bytes of a reader of which some were read holds of those bytes and its rest
-pub chained : (P : List ℕ → Type 0) (told rest : Option (List ℕ)) (front : List ℕ) → Consumes told rest front
-    → IfSome (option_append (Some front) rest) P → IfSome told P
-chained P None rest front consumed h = tt
-chained P (Some bytes) None front consumed h = absurd consumed
-chained P (Some bytes) (Some rest) front consumed h = subst P (sym consumed) h
+pub chained : (P : List ℕ → Type 0) (told rest : Option (List ℕ)) (prefix : List ℕ) → Consumes told rest prefix
+    → IfSome (option_append (Some prefix) rest) P → IfSome told P
+chained P None rest prefix consumed h = tt
+chained P (Some bytes) None prefix consumed h = absurd consumed
+chained P (Some bytes) (Some rest) prefix consumed h = subst P (sym consumed) h

@@ -26,11 +26,11 @@ use Rattle.sixel_run.specs.declared.task.Task.{Task}
 use Rattle.sixel_run.specs.declared.task.Task.TheVariants as task
 use Rattle.sixel_run.specs.declared.task.Task.TheVariants.{Check}
 use Rattle.sixel_program.specs.Exits.{IsPut, RunEnds, complaint, exit_for_answer}
-use Rattle.sixel_program.specs.Files.{AreChecked, ArePut, AreCut, FileEnd, IsChecked, IsFileEnd, IsFront, NamedEnds}
+use Rattle.sixel_program.specs.Files.{AreChecked, ArePut, AreCut, FileEnd, IsChecked, IsFileEnd, IsPrefix, NamedEnds}
 use Rattle.sixel_program.specs.Files.{FileEnds, FilesEnd, RequestEnds, Tells, SaysOfCheck, is_dash, complaints_of}
-use Rattle.sixel_program.specs.Files.{exit_of_end, failures_past, files_exit, files_text, greatest, left_after}
+use Rattle.sixel_program.specs.Files.{exit_of_end, failures_past, files_exit, files_text, worst, left_after}
 use Rattle.sixel_program.specs.Files.{named_complaint, named_fault_line, names_of, names_read, said_of, said_of_check}
-use Rattle.sixel_program.specs.Files.{text_of, told_of, worse}
+use Rattle.sixel_program.specs.Files.{text_of_end, told_of, worse}
 use Rattle.sixel_run.specs.Outputs.{TakesMemory, Wrote}
 use Rattle.sixel_run.specs.Texts.{Text, fault_line, fault_parts}
 use Rattle.sixel_program.proofs.EndLemmas.{chained}
@@ -119,7 +119,7 @@ text_more {X} f ends e =
 
 exits_more : (ends : List FileEnd) (e : FileEnd) → files_exit (ends ++ e ∷ []) ≡ worse (files_exit ends) (exit_of_end e)
 exits_more ends e =
-    ap greatest (map-append exit_of_end ends (e ∷ []))
+    ap worst (map-append exit_of_end ends (e ∷ []))
     ∙ fold_push worse exit.Done (map exit_of_end ends) (exit_of_end e)
 
 counted_more : (ends : List FileEnd) (e : FileEnd) (a b c : ℕ) → b ≡ fold failures_past a ends
@@ -147,8 +147,8 @@ module _ (profile : Profile) (q : Bool) (contents : Text → Option (List ℕ)) 
           (rw one.name_is one.told) (rw one.name_is one.left);
       counted = counted_more ends one.e i₀.failures i₁.failures i₂.failures before.counted one.counted;
       exits = ap₂ worse before.exits one.outcome.0 ∙ sym (exits_more ends one.e);
-      lines = Appends-then o₀.taken o₁.taken o₂.taken (files_text q ends) (text_of q one.e) _ before.lines
-          (rw one.name_is one.outcome.1) (text_more (text_of q) ends one.e);
+      lines = Appends-then o₀.taken o₁.taken o₂.taken (files_text q ends) (text_of_end q one.e) _ before.lines
+          (rw one.name_is one.outcome.1) (text_more (text_of_end q) ends one.e);
       unfailed = one.outcome.2 ∙ before.unfailed;
       said = rw (text_more said_of ends one.e)
           (put_then (complaints_of ends) (said_of one.e) e₀ e₁ e₂ before.said
@@ -161,7 +161,7 @@ module _ (profile : Profile) (q : Bool) (contents : Text → Option (List ℕ)) 
       → IsPut (fault_line run.Write) (change e₂ e₃)
       → AreCut profile q contents all exit.Refused (change i₀ i₂) (change o₀ o₂) (change e₀ e₃)
   cut_after f all rest e₃ is one put =
-      let cut : (count : ℕ) × Appends o₁.taken o₂.taken (take count (text_of q one.e)) =
+      let cut : (count : ℕ) × Appends o₁.taken o₂.taken (take count (text_of_end q one.e)) =
       rw one.name_is one.outcome.0 in
       record {
         whole = ends;
@@ -178,7 +178,7 @@ module _ (profile : Profile) (q : Bool) (contents : Text → Option (List ℕ)) 
         counted = counted_more ends one.e i₀.failures i₁.failures i₂.failures before.counted one.counted;
         exits = refl;
         lines = Appends-trans o₀.taken o₁.taken o₂.taken (files_text q ends) _ before.lines
-            (rw (append-nil (text_of q one.e)) cut.1);
+            (rw (append-nil (text_of_end q one.e)) cut.1);
         failed = one.outcome.2 ∙ ap one_more before.unfailed;
         silent = All-cons (λ (e : FileEnd). said_of e ≡ []) one.e [] (rw one.name_is one.outcome.3)
             (All-nil (λ (e : FileEnd). said_of e ≡ []));
@@ -189,48 +189,48 @@ module _ (profile : Profile) (q : Bool) (contents : Text → Option (List ℕ)) 
 
 -- ---- one file
 
--- the bytes that were read are a front
-pub front_consumed : (told rest : Option (List ℕ)) (front : List ℕ) → Consumes told rest front → IsFront told front
-front_consumed None rest front consumed = tt
-front_consumed (Some bytes) None front consumed = absurd consumed
-front_consumed (Some bytes) (Some rest) front consumed = (rest, consumed)
+-- the bytes that were read are a prefix
+pub prefix_consumed : (told rest : Option (List ℕ)) (prefix : List ℕ) → Consumes told rest prefix → IsPrefix told prefix
+prefix_consumed None rest prefix consumed = tt
+prefix_consumed (Some bytes) None prefix consumed = absurd consumed
+prefix_consumed (Some bytes) (Some rest) prefix consumed = (rest, consumed)
 
-pub no_front : (told : Option (List ℕ)) → IsFront told []
-no_front None = tt
-no_front (Some bytes) = (bytes, refl)
+pub no_prefix : (told : Option (List ℕ)) → IsPrefix told []
+no_prefix None = tt
+no_prefix (Some bytes) = (bytes, refl)
 
-memory_chained : (t : Task) (told rest : Option (List ℕ)) (front : List ℕ) → Consumes told rest front
-    → TakesMemory t (option_append (Some front) rest) → TakesMemory t told
-memory_chained task.List told rest front consumed takes = absurd takes
-memory_chained (task.Check profile) told rest front consumed takes = chained _ told rest front consumed takes
-memory_chained (task.Render profile) told rest front consumed takes = chained _ told rest front consumed takes
-memory_chained (task.Encode profile) told rest front consumed takes = chained _ told rest front consumed takes
-memory_chained (task.Show profile showing fill selects width height) told rest front consumed takes = tt
-memory_chained (task.ShowBox profile showing fill selects) told rest front consumed takes = tt
+memory_chained : (t : Task) (told rest : Option (List ℕ)) (prefix : List ℕ) → Consumes told rest prefix
+    → TakesMemory t (option_append (Some prefix) rest) → TakesMemory t told
+memory_chained task.List told rest prefix consumed takes = absurd takes
+memory_chained (task.Check profile) told rest prefix consumed takes = chained _ told rest prefix consumed takes
+memory_chained (task.Render profile) told rest prefix consumed takes = chained _ told rest prefix consumed takes
+memory_chained (task.Encode profile) told rest prefix consumed takes = chained _ told rest prefix consumed takes
+memory_chained (task.Show profile showing fill selects width height) told rest prefix consumed takes = tt
+memory_chained (task.ShowBox profile showing fill selects) told rest prefix consumed takes = tt
 
 -- where the rest isn't told, nothing was
-untold : (told rest : Option (List ℕ)) (front : List ℕ) → Consumes told rest front
-    → option_append (Some front) rest ≡ None → told ≡ None
-untold None rest front consumed none = refl
-untold (Some bytes) None front consumed none = absurd consumed
-untold (Some bytes) (Some rest) front consumed none = cc
+untold : (told rest : Option (List ℕ)) (prefix : List ℕ) → Consumes told rest prefix
+    → option_append (Some prefix) rest ≡ None → told ≡ None
+untold None rest prefix consumed none = refl
+untold (Some bytes) None prefix consumed none = absurd consumed
+untold (Some bytes) (Some rest) prefix consumed none = cc
 
 -- a run over the bytes that were read and the rest is one over all of them
-pub named_chained : (t : Task) (name : Text) (front : List ℕ) (x : Exit) (told rest : Option (List ℕ)) (n : ℕ)
-    (i : SourceState) (o e : Change SinkState) → Consumes told rest front
-    → NamedEnds t name front x (change (record { remaining = option_append (Some front) rest; failures = n }) i) o e
-    → NamedEnds t name front x (change (record { remaining = told; failures = n }) i) o e
-named_chained t name front x told rest n i o e consumed ended = record {
+pub named_chained : (t : Task) (name : Text) (prefix : List ℕ) (x : Exit) (told rest : Option (List ℕ)) (n : ℕ)
+    (i : SourceState) (o e : Change SinkState) → Consumes told rest prefix
+    → NamedEnds t name prefix x (change (record { remaining = option_append (Some prefix) rest; failures = n }) i) o e
+    → NamedEnds t name prefix x (change (record { remaining = told; failures = n }) i) o e
+named_chained t name prefix x told rest n i o e consumed ended = record {
   answer = ended.answer;
   wrote = elim ended.wrote [
-    | inl unread ↦ inl (untold told rest front consumed unread.0, unread.1, unread.2)
+    | inl unread ↦ inl (untold told rest prefix consumed unread.0, unread.1, unread.2)
     | inr wrote ↦ inr (
-      chained (λ (bytes : List ℕ). Wrote t bytes i.remaining ended.answer o.old.taken o.new.taken) told rest front
+      chained (λ (bytes : List ℕ). Wrote t bytes i.remaining ended.answer o.old.taken o.new.taken) told rest prefix
           consumed wrote.0,
       wrote.1,
     )
   ];
-  memory = λ is. memory_chained t told rest front consumed (ended.memory is);
+  memory = λ is. memory_chained t told rest prefix consumed (ended.memory is);
   read = ended.read;
   written = ended.written;
   ends = ended.ends;
@@ -306,29 +306,30 @@ module _ (t : Task) (contents : Text → Option (List ℕ)) (name : Text) (given
   pub dash_ends : (x : Exit) (i : Change SourceState) → is_dash name ≡ true → NamedEnds t name given x i o e
       → FileEnds t contents name given x i o e
   dash_ends x i dash ended = record {
-    front = given;
+    prefix = given;
     file = i;
-    given_front = λ is. refl;
-    own_front = λ is. let no : true ≡ false = sym dash ∙ is in cc;
+    given_prefix = λ is. refl;
+    own_prefix = λ is. let no : true ≡ false = sym dash ∙ is in cc;
     told = rw dash refl;
     is_input = λ is. refl;
     stays = λ is. let no : true ≡ false = sym dash ∙ is in cc;
     ended = ended;
   }
 
-  pub file_ends : (x : Exit) (i after : SourceState) (rest : Option (List ℕ)) (n : ℕ) (front : List ℕ)
-      → is_dash name ≡ false → Consumes (contents name) rest front
-      → NamedEnds t name front x (change (record { remaining = option_append (Some front) rest; failures = n }) after) o e
+  pub file_ends : (x : Exit) (i after : SourceState) (rest : Option (List ℕ)) (n : ℕ) (prefix : List ℕ)
+      → is_dash name ≡ false → Consumes (contents name) rest prefix
+      → NamedEnds t name prefix x (change (record { remaining = option_append (Some prefix) rest; failures = n }) after)
+      o e
       → FileEnds t contents name given x (change i i) o e
-  file_ends x i after rest n front file consumed ended = record {
-    front = front;
+  file_ends x i after rest n prefix file consumed ended = record {
+    prefix = prefix;
     file = change (record { remaining = contents name; failures = n }) after;
-    given_front = λ is. let no : true ≡ false = sym is ∙ file in cc;
-    own_front = λ is. front_consumed (contents name) rest front consumed;
+    given_prefix = λ is. let no : true ≡ false = sym is ∙ file in cc;
+    own_prefix = λ is. prefix_consumed (contents name) rest prefix consumed;
     told = rw file refl;
     is_input = λ is. let no : true ≡ false = sym is ∙ file in cc;
     stays = λ is. refl;
-    ended = named_chained t name front x (contents name) rest n after o e consumed ended;
+    ended = named_chained t name prefix x (contents name) rest n after o e consumed ended;
   }
 
 pub unopened_ends : (t : Task) (contents : Text → Option (List ℕ)) (name : Text) (given : List ℕ) (i : SourceState)
@@ -336,10 +337,10 @@ pub unopened_ends : (t : Task) (contents : Text → Option (List ℕ)) (name : T
     → IsPut (named_complaint name t (Err run.Read)) e
     → FileEnds t contents name given exit.Refused (change i i) (change o o) e
 unopened_ends t contents name given i o e file none put = record {
-  front = [];
+  prefix = [];
   file = change (record { remaining = contents name; failures = 0 }) (record { remaining = None; failures = one_more 0 });
-  given_front = λ is. let no : true ≡ false = sym is ∙ file in cc;
-  own_front = λ is. no_front (contents name);
+  given_prefix = λ is. let no : true ≡ false = sym is ∙ file in cc;
+  own_prefix = λ is. no_prefix (contents name);
   told = rw file refl;
   is_input = λ is. let no : true ≡ false = sym is ∙ file in cc;
   stays = λ is. refl;
@@ -362,14 +363,14 @@ IsRunOver t x told = (answer : Result Status RunFault) × (x ≡ exit_for_answer
     × ((left : Option (List ℕ)) × (had : Option (List ℕ)) × (has : Option (List ℕ))
     × IfSome told (λ bytes. Wrote t bytes left answer had has))
 
-run_ends : (t : Task) (front : List ℕ) (x : Exit) (i : Change SourceState) (o e : Change SinkState)
-    → RunEnds t front x i o e → IsRunOver t x i.old.remaining
-run_ends t front x i o e ended =
+run_ends : (t : Task) (prefix : List ℕ) (x : Exit) (i : Change SourceState) (o e : Change SinkState)
+    → RunEnds t prefix x i o e → IsRunOver t x i.old.remaining
+run_ends t prefix x i o e ended =
     (ended.answer, ended.ends, (i.new.remaining, o.old.taken, o.new.taken, ended.wrote))
 
-named_ends : (t : Task) (name : Text) (front : List ℕ) (x : Exit) (file : Change SourceState) (o e : Change SinkState)
-    → NamedEnds t name front x file o e → IsRunOver t x file.old.remaining
-named_ends t name front x file o e ended = (
+named_ends : (t : Task) (name : Text) (prefix : List ℕ) (x : Exit) (file : Change SourceState) (o e : Change SinkState)
+    → NamedEnds t name prefix x file o e → IsRunOver t x file.old.remaining
+named_ends t name prefix x file o e ended = (
   ended.answer,
   ended.ends,
   (
@@ -383,14 +384,14 @@ named_ends t name front x file o e ended = (
   ),
 )
 
-file_run : (contents : Text → Option (List ℕ)) (t : Task) (name : Text) (front : List ℕ) (x : Exit)
-    (i : Change SourceState) (o e : Change SinkState) → FileEnds t contents name front x i o e
+file_run : (contents : Text → Option (List ℕ)) (t : Task) (name : Text) (prefix : List ℕ) (x : Exit)
+    (i : Change SourceState) (o e : Change SinkState) → FileEnds t contents name prefix x i o e
     → IsRunOver t x (told_of contents i.old.remaining name)
-file_run contents t name front x i o e ended =
+file_run contents t name prefix x i o e ended =
     subst (λ (told : Option (List ℕ)). IsRunOver t x told) ended.told
-    (named_ends t name ended.front x ended.file o e ended.ended)
+    (named_ends t name ended.prefix x ended.file o e ended.ended)
 
-module _ (contents : Text → Option (List ℕ)) (front : List ℕ) (x : Exit) (i : Change SourceState)
+module _ (contents : Text → Option (List ℕ)) (prefix : List ℕ) (x : Exit) (i : Change SourceState)
     (o e : Change SinkState) where
   -- one input was read, or files were checked
   abbrev pub HasRead : Task → Bool → List Text → Type 0
@@ -400,32 +401,37 @@ module _ (contents : Text → Option (List ℕ)) (front : List ℕ) (x : Exit) (
       × FilesEnd profile q contents names x i o e)
 
   pub request_read : (t : Task) (q : Bool) (names : List Text)
-      → RequestEnds t q names contents front x i o e → HasRead t q names
+      → RequestEnds t q names contents prefix x i o e → HasRead t q names
   request_read (task.Check profile) true [] ended =
       inl (codes "-", refl, (ended.0.answer, ended.0.ends, (i.new.remaining, Some [], Some ended.0.line, ended.0.wrote)))
   request_read (task.Check profile) false [] ended =
-      inl (codes "-", refl, run_ends (Check profile) front x i o e ended)
+      inl (codes "-", refl, run_ends (Check profile) prefix x i o e ended)
   request_read (task.Check profile) q (name ∷ more) ended = inr (profile, refl, refl, ended)
   request_read task.List q [] ended =
-      inl (codes "-", refl, run_ends task.List front x i o e ended)
+      inl (codes "-", refl, run_ends task.List prefix x i o e ended)
   request_read task.List q (name ∷ more) ended =
-      inl (name, refl, file_run contents task.List name front x i o e ended)
+      inl (name, refl, file_run contents task.List name prefix x i o e ended)
   request_read (task.Render profile) q [] ended =
-      inl (codes "-", refl, run_ends (task.Render profile) front x i o e ended)
+      inl (codes "-", refl, run_ends (task.Render profile) prefix x i o e ended)
   request_read (task.Render profile) q (name ∷ more) ended =
-      inl (name, refl, file_run contents (task.Render profile) name front x i o e ended)
+      inl (name, refl, file_run contents (task.Render profile) name prefix x i o e ended)
   request_read (task.Encode profile) q [] ended =
-      inl (codes "-", refl, run_ends (task.Encode profile) front x i o e ended)
+      inl (codes "-", refl, run_ends (task.Encode profile) prefix x i o e ended)
   request_read (task.Encode profile) q (name ∷ more) ended =
-      inl (name, refl, file_run contents (task.Encode profile) name front x i o e ended)
+      inl (name, refl, file_run contents (task.Encode profile) name prefix x i o e ended)
   request_read (task.Show profile showing fill selects width height) q [] ended =
-      inl (codes "-", refl, run_ends (task.Show profile showing fill selects width height) front x i o e ended)
+      inl (codes "-", refl, run_ends (task.Show profile showing fill selects width height) prefix x i o e ended)
   request_read (task.Show profile showing fill selects width height) q (name ∷ more) ended =
-      inl (name, refl, file_run contents (task.Show profile showing fill selects width height) name front x i o e ended)
+      inl (
+        name,
+        refl,
+        file_run contents (task.Show profile showing fill selects width height) name prefix x i o e
+            ended,
+      )
   request_read (task.ShowBox profile showing fill selects) q [] ended =
-      inl (codes "-", refl, run_ends (task.ShowBox profile showing fill selects) front x i o e ended)
+      inl (codes "-", refl, run_ends (task.ShowBox profile showing fill selects) prefix x i o e ended)
   request_read (task.ShowBox profile showing fill selects) q (name ∷ more) ended =
-      inl (name, refl, file_run contents (task.ShowBox profile showing fill selects) name front x i o e ended)
+      inl (name, refl, file_run contents (task.ShowBox profile showing fill selects) name prefix x i o e ended)
 
 answer_no_usage : (a : Result Status RunFault) → exit_for_answer a ≢ exit.Usage
 answer_no_usage (Ok status.Done) = λ (is : exit.Done ≡ exit.Usage). cc
@@ -449,10 +455,11 @@ files_no_usage profile q contents names x i o e (inl checked) is =
 files_no_usage profile q contents names x i o e (inr cut) is =
     let no : exit.Refused ≡ exit.Usage = sym cut.exits ∙ is in cc
 
-pub request_no_usage : (t : Task) (q : Bool) (names : List Text) (contents : Text → Option (List ℕ)) (front : List ℕ)
-    (x : Exit) (i : Change SourceState) (o e : Change SinkState) → RequestEnds t q names contents front x i o e → x ≢ exit.Usage
-request_no_usage t q names contents front x i o e ended is =
-    elim (request_read contents front x i o e t q names ended) [
+pub request_no_usage : (t : Task) (q : Bool) (names : List Text) (contents : Text → Option (List ℕ)) (prefix : List ℕ)
+    (x : Exit) (i : Change SourceState) (o e : Change SinkState) → RequestEnds t q names contents prefix x i o e
+    → x ≢ exit.Usage
+request_no_usage t q names contents prefix x i o e ended is =
+    elim (request_read contents prefix x i o e t q names ended) [
       | inl one ↦ answer_no_usage one.2.0 (sym one.2.1 ∙ is)
       | inr checked ↦ files_no_usage checked.0 q contents names x i o e checked.3 is
     ]

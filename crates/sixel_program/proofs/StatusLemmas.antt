@@ -165,16 +165,16 @@ module _ (profile : Profile) (q : Bool) (contents : Text → Option (List ℕ)) 
 
 -- ---- what is asked for
 
-module _ (t : Task) (q : Bool) (names : List Text) (contents : Text → Option (List ℕ)) (front : List ℕ) (x : Exit)
+module _ (t : Task) (q : Bool) (names : List Text) (contents : Text → Option (List ℕ)) (prefix : List ℕ) (x : Exit)
     (i : Change SourceState) (o e : Change SinkState)
-    (ended : RequestEnds t q names contents front x i o e) where
+    (ended : RequestEnds t q names contents prefix x i o e) where
   all_of_one : (P : Option (List ℕ) → Type 0) (name : Text) → P (told_of contents i.old.remaining name)
       → All (λ n. P (told_of contents i.old.remaining n)) (name ∷ [])
   all_of_one P name p =
       All-cons (λ n. P (told_of contents i.old.remaining n)) name [] p (All-nil (λ n. P (told_of contents i.old.remaining n)))
 
   pub all_read_done : x ≡ exit.Done → All (λ name. IsDoneOver t (told_of contents i.old.remaining name)) (names_read t names)
-  all_read_done is = elim (request_read contents front x i o e t q names ended) [
+  all_read_done is = elim (request_read contents prefix x i o e t q names ended) [
     | inl one ↦
         let run = one.2.2 in
         rw one.1 (all_of_one (IsDoneOver t) one.0
@@ -184,7 +184,7 @@ module _ (t : Task) (q : Bool) (names : List Text) (contents : Text → Option (
   ]
 
   pub all_read_judged : x ≡ exit.Broken → All (λ name. IsJudgedOver t (told_of contents i.old.remaining name)) (names_read t names)
-  all_read_judged is = elim (request_read contents front x i o e t q names ended) [
+  all_read_judged is = elim (request_read contents prefix x i o e t q names ended) [
     | inl one ↦
         let run = one.2.2 in
         let ends : exit_for_answer one.2.0 ≡ exit.Broken = sym one.2.1 ∙ is in
@@ -196,7 +196,7 @@ module _ (t : Task) (q : Bool) (names : List Text) (contents : Text → Option (
 
   pub one_read_broken : x ≡ exit.Broken → NamesInputOnce (names_read t names) → (name : Text)
       × Contains (names_read t names) name × IsBrokenOver t (told_of contents i.old.remaining name)
-  one_read_broken is once = elim (request_read contents front x i o e t q names ended) [
+  one_read_broken is once = elim (request_read contents prefix x i o e t q names ended) [
     | inl one ↦
         let run = one.2.2 in (
           one.0,
@@ -210,13 +210,13 @@ module _ (t : Task) (q : Bool) (names : List Text) (contents : Text → Option (
 
 -- what is said of the bytes that were read and the rest of standard input is said of all that it had
 pub told_chained : (P : List ℕ → Type 0) (contents : Text → Option (List ℕ)) (told rest : Option (List ℕ))
-    (front : List ℕ) (name : Text) → Consumes told rest front
-    → IfSome (told_of contents (option_append (Some front) rest) name) P → IfSome (told_of contents told name) P
-told_chained P contents told rest front name consumed =
-    either P (is_dash name) told rest front (contents name) consumed
+    (prefix : List ℕ) (name : Text) → Consumes told rest prefix
+    → IfSome (told_of contents (option_append (Some prefix) rest) name) P → IfSome (told_of contents told name) P
+told_chained P contents told rest prefix name consumed =
+    either P (is_dash name) told rest prefix (contents name) consumed
   where
-    either : (P : List ℕ → Type 0) (b : Bool) (told rest : Option (List ℕ)) (front : List ℕ)
-        (other : Option (List ℕ)) → Consumes told rest front
-        → IfSome (if b then option_append (Some front) rest else other) P → IfSome (if b then told else other) P
-    either P true told rest front other consumed h = chained P told rest front consumed h
-    either P false told rest front other consumed h = h
+    either : (P : List ℕ → Type 0) (b : Bool) (told rest : Option (List ℕ)) (prefix : List ℕ)
+        (other : Option (List ℕ)) → Consumes told rest prefix
+        → IfSome (if b then option_append (Some prefix) rest else other) P → IfSome (if b then told else other) P
+    either P true told rest prefix other consumed h = chained P told rest prefix consumed h
+    either P false told rest prefix other consumed h = h

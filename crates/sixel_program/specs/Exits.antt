@@ -43,7 +43,7 @@ complaint t (Ok status.Done) = []
 complaint t (Ok (status.Broken finding)) = if is_render t then finding_line finding else []
 complaint t (Err fault) = fault_line fault
 
--- the text was appended to what a sink had, or a front of it, and the sink failed
+-- the text was appended to what a sink had, or a prefix of it, and the sink failed
 abbrev pub IsPut : Text → Change SinkState → Type 0
 IsPut text sink =
     (Appends sink.old.taken sink.new.taken text × (sink.new.failures ≡ sink.old.failures))
@@ -52,7 +52,7 @@ IsPut text sink =
 -- a run of the task had some answer. The source and the first sink are as after such a run, the program ends as after
 -- it, and to the second sink were put the line that is said of it, and what is said of an input of another format, by
 -- the bytes that are given as its first
-pub record RunEnds (t : Task) (front : List ℕ) (exit : Exit) (input : Change SourceState)
+pub record RunEnds (t : Task) (prefix : List ℕ) (exit : Exit) (input : Change SourceState)
     (output errors : Change SinkState) : Type 0 where
   pub answer : Result Status RunFault
   pub wrote : IfSome input.old.remaining
@@ -62,7 +62,7 @@ pub record RunEnds (t : Task) (front : List ℕ) (exit : Exit) (input : Change S
   pub written : CountsWrites answer output.old.failures output.new.failures
   pub flushed : answer ≢ Err run.Write → output.new.is_flushed ≡ true
   pub ends : exit ≡ exit_for_answer answer
-  pub said : IsPut (complaint t answer ++ advice front answer) errors
+  pub said : IsPut (complaint t answer ++ advice prefix answer) errors
 
 -- ---- where the words give no task
 
@@ -74,10 +74,10 @@ IsLeft sink = sink.new ≡ sink.old
 abbrev pub IsShown : Change SinkState → Type 0
 IsShown sink = (text : Text) × IsPut text sink
 
--- a text was put to the first sink, and that was flushed; or a front of it was, the first sink failed, and the line that
--- says so was put to the second
-abbrev pub Shows : Text → Exit → Change SinkState → Change SinkState → Type 0
-Shows text exit output errors =
+-- a text was put to the first sink, and that was flushed; or a prefix of it was, the first sink failed, and the line
+-- that says so was put to the second
+abbrev pub ExplanationEnds : Text → Exit → Change SinkState → Change SinkState → Type 0
+ExplanationEnds text exit output errors =
     ((exit ≡ Done) × Appends output.old.taken output.new.taken text × (output.new.failures ≡ output.old.failures)
     × (output.new.is_flushed ≡ true) × IsLeft errors)
     ⊎ ((n : ℕ) × (exit ≡ Refused) × Appends output.old.taken output.new.taken (take n text)
@@ -88,7 +88,7 @@ Shows text exit output errors =
 abbrev pub WordsEnd : WordsFault → Exit → Change SinkState → Change SinkState → Type 0
 WordsEnd (fault.Help text) exit output errors = (exit ≡ Done) × IsShown output × IsLeft errors
 WordsEnd (fault.Explanation topic) exit output errors =
-    (text : Text) × IsExplanation topic text × Shows text exit output errors
+    (text : Text) × IsExplanation topic text × ExplanationEnds text exit output errors
 WordsEnd (fault.Usage text) exit output errors = (exit ≡ Usage) × IsLeft output × IsShown errors
 WordsEnd fault.OutOfMemory exit output errors =
     (exit ≡ Refused) × IsLeft output × IsPut (fault_line run.OutOfMemory) errors

@@ -94,7 +94,7 @@ notice is_terminal t names =
 -- answer and wrote what a run writes that has it, or the file couldn't be opened; and to the second sink were put the
 -- line that is said of it, and what is said of an input of another format, by the bytes that are given as the first of
 -- the file
-pub record NamedEnds (t : Task) (name : Text) (front : List ℕ) (exit : Exit) (file : Change SourceState)
+pub record NamedEnds (t : Task) (name : Text) (prefix : List ℕ) (exit : Exit) (file : Change SourceState)
     (output errors : Change SinkState) : Type 0 where
   pub answer : Result Status RunFault
   pub wrote : ((file.old.remaining ≡ None) × (answer ≡ Err run.Read)
@@ -106,28 +106,28 @@ pub record NamedEnds (t : Task) (name : Text) (front : List ℕ) (exit : Exit) (
   pub read : CountsReads answer file.old.failures file.new.failures
   pub written : CountsWrites answer output.old.failures output.new.failures
   pub ends : exit ≡ exit_for_answer answer
-  pub said : IsPut (named_complaint name t answer ++ advice front answer) errors
+  pub said : IsPut (named_complaint name t answer ++ advice prefix answer) errors
 
 -- what standard input has left after a file
 abbrev pub left_after : Option (List ℕ) → Text → Option (List ℕ) → Option (List ℕ)
 left_after input name left = if is_dash name then left else input
 
 -- the bytes begin so, if they are known
-abbrev pub IsFront : Option (List ℕ) → List ℕ → Type 0
-IsFront told front = IfSome told (λ bytes. BeginsWith bytes front)
+abbrev pub IsPrefix : Option (List ℕ) → List ℕ → Type 0
+IsPrefix told prefix = IfSome told (λ bytes. BeginsWith bytes prefix)
 
 -- a task over the file of this name ended so, over standard input, of which `given` are the first bytes: that is the
 -- file by its name, and stays beside another file
 pub record FileEnds (t : Task) (contents : Text → Option (List ℕ)) (name : Text) (given : List ℕ) (exit : Exit)
     (input : Change SourceState) (output errors : Change SinkState) : Type 0 where
-  pub front : List ℕ
+  pub prefix : List ℕ
   pub file : Change SourceState
-  pub given_front : is_dash name ≡ true → front ≡ given
-  pub own_front : is_dash name ≡ false → IsFront (contents name) front
+  pub given_prefix : is_dash name ≡ true → prefix ≡ given
+  pub own_prefix : is_dash name ≡ false → IsPrefix (contents name) prefix
   pub told : file.old.remaining ≡ told_of contents input.old.remaining name
   pub is_input : is_dash name ≡ true → file ≡ input
   pub stays : is_dash name ≡ false → input.new ≡ input.old
-  pub ended : NamedEnds t name front exit file output errors
+  pub ended : NamedEnds t name prefix exit file output errors
 
 -- ---- checks of several files
 
@@ -151,12 +151,12 @@ abbrev pub file_text : Bool → Text → Text → Result Status RunFault → Tex
 file_text is_quiet name line (Ok status) = if is_quiet then [] else named name line
 file_text is_quiet name line (Err fault) = []
 
-abbrev pub text_of : Bool → FileEnd → Text
-text_of is_quiet e = file_text is_quiet e.name e.line e.answer
+abbrev pub text_of_end : Bool → FileEnd → Text
+text_of_end is_quiet e = file_text is_quiet e.name e.line e.answer
 
 -- the lines of several files, one after another
 abbrev pub files_text : Bool → List FileEnd → Text
-files_text is_quiet ends = flat_map (text_of is_quiet) ends
+files_text is_quiet ends = flat_map (text_of_end is_quiet) ends
 
 -- what is said of the check of a file of this name: a line where it is refused
 abbrev pub said_of_check : Text → Result Status RunFault → List Text
@@ -175,19 +175,19 @@ abbrev pub worse : Exit → Exit → Exit
 worse a b = if nat_lt (exit_code a) (exit_code b) then b else a
 
 -- the greatest of the files' exit statuses
-abbrev pub greatest : List Exit → Exit
-greatest exits = fold worse Done exits
+abbrev pub worst : List Exit → Exit
+worst exits = fold worse Done exits
 
 abbrev pub exit_of_end : FileEnd → Exit
 exit_of_end e = exit_for_answer e.answer
 
 abbrev pub files_exit : List FileEnd → Exit
-files_exit ends = greatest (map exit_of_end ends)
+files_exit ends = worst (map exit_of_end ends)
 
 abbrev pub names_of : List FileEnd → List Text
 names_of ends = map (λ e. e.name) ends
 
--- the texts were put to a sink in turn, each whole, or a front of it where a call failed; after that the next one is
+-- the texts were put to a sink in turn, each whole, or a prefix of it where a call failed; after that the next one is
 -- still put
 unfoldable pub ArePut : List Text → Change SinkState → Type 0
 ArePut [] sink = sink.new ≡ sink.old
@@ -200,7 +200,7 @@ SaysOfCheck name (Ok status) errors = errors.new ≡ errors.old
 SaysOfCheck name (Err fault) errors = IsPut (named_fault_line name fault) errors
 
 -- what a check of this name, which wrote this line and had this answer, did to the two sinks: what is written and
--- what is said of it was put to them; or a front of the first was, and that sink failed
+-- what is said of it was put to them; or a prefix of the first was, and that sink failed
 abbrev pub IsOutcome : {E : Type 0} → Bool → Text → Text → Result Status RunFault → Result Exit E
     → Change SinkState → Change SinkState → Type 0
 IsOutcome is_quiet name line answer (Ok exit) output errors =
@@ -256,7 +256,7 @@ pub record AreChecked (profile : Profile) (is_quiet : Bool) (contents : Text →
   pub said : ArePut (complaints_of ends) errors
 
 -- the output failed at one of the files, which is the last that was read, or when it was flushed: the lines of those
--- before were appended, and a front of its own
+-- before were appended, and a prefix of its own
 pub record AreCut (profile : Profile) (is_quiet : Bool) (contents : Text → Option (List ℕ)) (names : List Text)
     (exit : Exit) (input : Change SourceState) (output errors : Change SinkState) : Type 0 where
   pub whole : List FileEnd
@@ -298,14 +298,14 @@ pub record QuietEnds (profile : Profile) (exit : Exit) (input : Change SourceSta
   pub ends : exit ≡ exit_for_answer answer
   pub said : IsPut (complaint (Check profile) answer) errors
 
--- what is asked for ended so, over standard input, of which `front` are the first bytes: the task over that where no
+-- what is asked for ended so, over standard input, of which `prefix` are the first bytes: the task over that where no
 -- file is named; a check of all files that are named, and any other task over the first of them
 abbrev pub RequestEnds : Task → Bool → List Text → (Text → Option (List ℕ)) → List ℕ → Exit → Change SourceState
     → Change SinkState → Change SinkState → Type 0
-RequestEnds (Check profile) true [] contents front exit input output errors =
+RequestEnds (Check profile) true [] contents prefix exit input output errors =
     QuietEnds profile exit input errors × (output.new ≡ output.old)  -- nothing went to the first sink
-RequestEnds t is_quiet [] contents front exit input output errors = RunEnds t front exit input output errors
-RequestEnds (Check profile) is_quiet (name ∷ more) contents front exit input output errors =
+RequestEnds t is_quiet [] contents prefix exit input output errors = RunEnds t prefix exit input output errors
+RequestEnds (Check profile) is_quiet (name ∷ more) contents prefix exit input output errors =
     FilesEnd profile is_quiet contents (name ∷ more) exit input output errors
-RequestEnds t is_quiet (name ∷ more) contents front exit input output errors =
-    FileEnds t contents name front exit input output errors
+RequestEnds t is_quiet (name ∷ more) contents prefix exit input output errors =
+    FileEnds t contents name prefix exit input output errors

@@ -10,7 +10,7 @@ use Rattle.sixel_program.specs.declared.formats.Format.TheVariants.{Png, Jpeg, G
 use Rattle.sixel_run.specs.declared.task.Status.{Status}
 use Rattle.sixel_run.specs.Texts.{Text}
 
--- the marks at the front of files
+-- the marks at the beginning of files
 abbrev pub is_png : List ℕ → Bool
 is_png (a ∷ b ∷ c ∷ d ∷ more) = (a == 137) && (b == 80) && (c == 78) && (d == 71)
 is_png _ = false
@@ -29,11 +29,11 @@ is_other_netpbm (a ∷ b ∷ more) = (a == 80) && ((nat_le 49 b && nat_le b 53) 
 is_other_netpbm _ = false
 
 abbrev pub format_of : List ℕ → Option Format
-format_of front =
-    if is_png front then Some Png
-    else if is_jpeg front then Some Jpeg
-    else if is_gif front then Some Gif
-    else if is_other_netpbm front then Some Netpbm
+format_of prefix =
+    if is_png prefix then Some Png
+    else if is_jpeg prefix then Some Jpeg
+    else if is_gif prefix then Some Gif
+    else if is_other_netpbm prefix then Some Netpbm
     else None
 
 abbrev pub advice_on : Format → Text
@@ -44,6 +44,6 @@ advice_on Netpbm = codes "sixel: this is another format of Netpbm; `ppmtoppm` ma
 
 -- what is said beside the fault, where a header is refused at the mark of another format
 abbrev pub advice : List ℕ → Result Status RunFault → Text
-advice front (Err (Ppm Header place)) =
-    if nat_le place 1 then option_map_or advice_on (format_of front) [] else []
-advice front _ = []
+advice prefix (Err (Ppm Header place)) =
+    if nat_le place 1 then option_map_or advice_on (format_of prefix) [] else []
+advice prefix _ = []

@@ -7,7 +7,7 @@ ghost use Rattle.sixel_run.specs.Outputs.{HasSides};
 ghost use Rattle.sixel_run.specs.Texts.{Text};
 
 use crate::exit::Exit;
-use crate::files::{announce, answer, front_of};
+use crate::files::{announce, answer, prefix_of};
 use crate::folder::Folder;
 use sixel_io::{FromRead, ToWrite};
 use sixel_words::Request;
@@ -38,8 +38,8 @@ pub fn execute<F: Folder, R: Read + Drop, W: Write + Drop, E: Write + Drop>(
     ensures no_usage { result ≢ Exit.Usage }
 {
     let mut input = input;
-    let front = front_of(request, &mut input);
-    let mut input = FromRead::new(front.as_slice().chain(input));
+    let prefix = prefix_of(request, &mut input);
+    let mut input = FromRead::new(prefix.as_slice().chain(input));
     let mut output = ToWrite::new(output);
     let mut errors = ToWrite::new(errors);
     announce(request, is_terminal, &mut errors);
@@ -47,7 +47,7 @@ pub fn execute<F: Folder, R: Read + Drop, W: Write + Drop, E: Write + Drop>(
         alloc,
         request,
         folder,
-        front.as_slice(),
+        prefix.as_slice(),
         &mut input,
         &mut output,
         &mut errors,

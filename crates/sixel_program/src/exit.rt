@@ -65,8 +65,8 @@ fn complaint(task: Task, answer: &Result<Status, RunFault>) -> Line
 
 /// What makes a PPM of an input that begins with these bytes, where its header is refused at the mark of another
 /// format; else nothing.
-pub fn advice(front: &[u8], answer: &Result<Status, RunFault>) -> &'static str
-    ensures text { result.now ≡ advice front.now answer.now }
+pub fn advice(prefix: &[u8], answer: &Result<Status, RunFault>) -> &'static str
+    ensures text { result.now ≡ advice prefix.now answer.now }
     ensures short { length result.now ≤ 96 }
 {
     match answer {
@@ -75,7 +75,7 @@ pub fn advice(front: &[u8], answer: &Result<Status, RunFault>) -> &'static str
                 reason: PpmReason::Header,
                 place,
             },
-        ) if *place <= 1 => match format_of(front) {
+        ) if *place <= 1 => match format_of(prefix) {
             Some(format) => advice_on(format),
             None => "",
         },
@@ -84,33 +84,33 @@ pub fn advice(front: &[u8], answer: &Result<Status, RunFault>) -> &'static str
 }
 
 /// All that is said of a run: a complaint, and after it advice.
-fn said_of(task: Task, front: &[u8], answer: &Result<Status, RunFault>) -> ArrayVec<u8, 192>
-    ensures { result.items ≡ complaint task answer.now ++ advice front.now answer.now }
+fn said_of(task: Task, prefix: &[u8], answer: &Result<Status, RunFault>) -> ArrayVec<u8, 192>
+    ensures { result.items ≡ complaint task answer.now ++ advice prefix.now answer.now }
 {
     let mut said = ArrayVec::new();
     let _ = said.try_extend_from_slice(complaint(task, answer).as_slice());
-    let _ = said.try_extend_from_slice(advice(front, answer).as_bytes());
+    let _ = said.try_extend_from_slice(advice(prefix, answer).as_bytes());
     said
 }
 
 /// Runs a task, and puts the line of why it was refused, or of which rule kept a picture from being rendered, into
-/// another sink, and after it what makes a PPM of an input of another format. `front` is what the input begins with,
+/// another sink, and after it what makes a PPM of an input of another format. `prefix` is what the input begins with,
 /// as far as it is known. If that can't be put, the program ends as it would.
 pub fn report<S: Source, K: Sink, E: Sink>(
     alloc: Global,
     task: Task,
-    front: &[u8],
+    prefix: &[u8],
     input: &mut S,
     output: &mut K,
     errors: &mut E,
 ) -> Exit
     requires { HasSides task }
-    ensures { RunEnds task front.now result
+    ensures { RunEnds task prefix.now result
         (change (S.state input.old) (S.state input.new)) (change (K.state output.old) (K.state output.new))
         (change (E.state errors.old) (E.state errors.new)) }
 {
     let answer = run(alloc, task, input, output);
-    let said = said_of(task, front, &answer);
+    let said = said_of(task, prefix, &answer);
     let _ = put_all(errors, said.as_slice());
     exit_of(answer)
 }
@@ -158,7 +158,7 @@ fn show<K: Sink>(alloc: Global, text: &Error, out: &mut K)
     }
 }
 
-/// Puts an explanation, or on an `Err` a front of it, and flushes.
+/// Puts an explanation, or on an `Err` a prefix of it, and flushes.
 fn write_explanation<K: Sink>(topic: Option<Topic>, out: &mut K) -> Result<(), DeviceFault>
     ensures bytes { (text : Text) × IsExplanation topic text
         × Puts result (K.state out.old).taken (K.state out.new).taken text }

@@ -19,7 +19,7 @@ ghost use Rattle.sixel_run.specs.declared.task.Status.{Status as AStatus};
 
 use crate::exit::{Exit, advice, code_of, exit_of, report};
 use crate::folder::Folder;
-use crate::formats::FRONT;
+use crate::formats::PREFIX_LENGTH;
 use crate::names::put_named;
 use arrayvec::ArrayVec;
 use sixel_check::Verdict;
@@ -87,8 +87,8 @@ pub fn announce<E: Sink>(request: &Request, is_terminal: bool, errors: &mut E)
 }
 
 /// What standard input begins with, as far as it is known; where it isn't read, nothing is read of it.
-pub fn front_of<R: Read>(request: &Request, input: &mut R) -> ArrayVec<u8, FRONT>
-    ensures front { Consumes (R.remaining input.old) (R.remaining input.new) result.items }
+pub fn prefix_of<R: Read>(request: &Request, input: &mut R) -> ArrayVec<u8, PREFIX_LENGTH>
+    ensures prefix { Consumes (R.remaining input.old) (R.remaining input.new) result.items }
     ensures unread { reads_input (map string_bytes request.now.files.items) ≡ false → input.new ≡ input.old }
 {
     if reads_input(request.files.as_slice()) {
@@ -100,32 +100,32 @@ pub fn front_of<R: Read>(request: &Request, input: &mut R) -> ArrayVec<u8, FRONT
 
 /// What the input of `encode` begins with, as far as it is known: it is read until there is enough, or a read gives
 /// nothing or fails. A failure that doesn't come again is passed over. Of another task's input nothing is read.
-fn first_bytes<R: Read>(task: Task, input: &mut R) -> ArrayVec<u8, FRONT>
+fn first_bytes<R: Read>(task: Task, input: &mut R) -> ArrayVec<u8, PREFIX_LENGTH>
     ensures { Consumes (R.remaining input.old) (R.remaining input.new) result.items }
 {
-    let mut front = ArrayVec::new();
+    let mut prefix = ArrayVec::new();
     if let Task::Encode { .. } = task {
-        for _ in 0..FRONT {
-            if !read_more(input, &mut front) {
+        for _ in 0..PREFIX_LENGTH {
+            if !read_more(input, &mut prefix) {
                 break;
             }
         }
     }
-    front
+    prefix
 }
 
-/// Reads once, as much as there is room for, and keeps it behind `front`. Whether something came and there is room for
+/// Reads once, as much as there is room for, and keeps it behind `prefix`. Whether something came and there is room for
 /// more.
-fn read_more<R: Read>(input: &mut R, front: &mut ArrayVec<u8, FRONT>) -> bool
-    ensures stops { result ≡ false → (length front.new.items ≡ 4) ⊎ (front.new.items ≡ front.old.items) }
+fn read_more<R: Read>(input: &mut R, prefix: &mut ArrayVec<u8, PREFIX_LENGTH>) -> bool
+    ensures stops { result ≡ false → (length prefix.new.items ≡ 4) ⊎ (prefix.new.items ≡ prefix.old.items) }
     ensures kept { (more : List ℕ) × Consumes (R.remaining input.old) (R.remaining input.new) more
-        × (front.new.items ≡ front.old.items ++ more) }
+        × (prefix.new.items ≡ prefix.old.items ++ more) }
 {
-    let mut piece = [0; FRONT];
-    let room = front.remaining_capacity();
+    let mut piece = [0; PREFIX_LENGTH];
+    let room = prefix.remaining_capacity();
     let count = input.read(&mut piece[..room]).unwrap_or(0);
-    let _ = front.try_extend_from_slice(&piece[..count]);
-    count > 0 && !front.is_full()
+    let _ = prefix.try_extend_from_slice(&piece[..count]);
+    count > 0 && !prefix.is_full()
 }
 
 /// Puts the line of why a run over a file was refused, or of which rule kept its picture from being rendered.
@@ -157,67 +157,67 @@ fn put_complaint<E: Sink>(
 fn put_said<E: Sink>(
     task: Task,
     name: &str,
-    front: &[u8],
+    prefix: &[u8],
     answer: &Result<Status, RunFault>,
     errors: &mut E,
 ) -> Result<(), DeviceFault>
     ensures { Writes result (E.state errors.old) (E.state errors.new)
-        (named_complaint name.now task answer.now ++ advice front.now answer.now) }
+        (named_complaint name.now task answer.now ++ advice prefix.now answer.now) }
 {
     put_complaint(task, name, answer, errors)?;
-    put_all(errors, advice(front, answer).as_bytes())
+    put_all(errors, advice(prefix, answer).as_bytes())
 }
 
-/// Runs a task over a file that is open. `front` is what it begins with, as far as that is known.
+/// Runs a task over a file that is open. `prefix` is what it begins with, as far as that is known.
 fn report_named<S: Source, K: Sink, E: Sink>(
     alloc: Global,
     task: Task,
     name: &str,
-    front: &[u8],
+    prefix: &[u8],
     input: &mut S,
     output: &mut K,
     errors: &mut E,
 ) -> Exit
     requires { HasSides task }
-    ensures { NamedEnds task name.now front.now result
+    ensures { NamedEnds task name.now prefix.now result
         (change (S.state input.old) (S.state input.new)) (change (K.state output.old) (K.state output.new))
         (change (E.state errors.old) (E.state errors.new)) }
 {
     let answer = run(alloc, task, input, output);
-    let _ = put_said(task, name, front, &answer, errors);
+    let _ = put_said(task, name, prefix, &answer, errors);
     exit_of(answer)
 }
 
-/// Runs a task over the file of this name, or over standard input where the name is `-`. `front` is what standard
+/// Runs a task over the file of this name, or over standard input where the name is `-`. `prefix` is what standard
 /// input begins with, as far as that is known.
 fn report_file<F: Folder, S: Source, K: Sink, E: Sink>(
     alloc: Global,
     task: Task,
     name: &str,
     folder: &F,
-    front: &[u8],
+    prefix: &[u8],
     input: &mut S,
     output: &mut K,
     errors: &mut E,
 ) -> Exit
     requires { HasSides task }
-    ensures { FileEnds task (F.contents folder.now) name.now front.now result
+    ensures { FileEnds task (F.contents folder.now) name.now prefix.now result
         (change (S.state input.old) (S.state input.new)) (change (K.state output.old) (K.state output.new))
         (change (E.state errors.old) (E.state errors.new)) }
 {
     if name == "-" {
-        return report_named(alloc, task, name, front, input, output, errors);
+        return report_named(alloc, task, name, prefix, input, output, errors);
     }
     match folder.open(name) {
         Ok(file) => {
             let mut file = file;
-            let front = first_bytes(task, &mut file);
-            let mut file = FromRead::new(front.as_slice().chain(file));
+            let prefix = first_bytes(task, &mut file);
+            let mut file = FromRead::new(prefix.as_slice().chain(file));
             report_named(
                 alloc,
                 task,
                 name,
-                front.as_slice(),
+                prefix.as_slice(),
                 &mut file,
                 output,
                 errors,
@@ -386,20 +386,20 @@ fn check_files<F: Folder, S: Source, K: Sink, E: Sink>(
     }
 }
 
-/// Does what is asked for. A task over a file reads the first that is named; a check reads them all. `front` is what
+/// Does what is asked for. A task over a file reads the first that is named; a check reads them all. `prefix` is what
 /// standard input begins with, as far as it is known.
 pub fn answer<F: Folder, S: Source, K: Sink, E: Sink>(
     alloc: Global,
     request: &Request,
     folder: &F,
-    front: &[u8],
+    prefix: &[u8],
     input: &mut S,
     output: &mut K,
     errors: &mut E,
 ) -> Exit
     requires { HasSides request.now.task }
     ensures { RequestEnds request.now.task request.now.is_quiet (map string_bytes request.now.files.items)
-        (F.contents folder.now) front.now result
+        (F.contents folder.now) prefix.now result
         (change (S.state input.old) (S.state input.new)) (change (K.state output.old) (K.state output.new))
         (change (E.state errors.old) (E.state errors.new)) }
 {
@@ -407,7 +407,7 @@ pub fn answer<F: Folder, S: Source, K: Sink, E: Sink>(
     let is_quiet = request.is_quiet;
     match (request.task, names) {
         (Task::Check { profile }, []) if is_quiet => check_quietly(alloc, profile, input, errors),
-        (task, []) => report(alloc, task, front, input, output, errors),
+        (task, []) => report(alloc, task, prefix, input, output, errors),
         (Task::Check { profile }, _) => {
             check_files(
                 alloc, profile, is_quiet, names, folder, input, output, errors,
@@ -419,7 +419,7 @@ pub fn answer<F: Folder, S: Source, K: Sink, E: Sink>(
                 task,
                 name.as_str(),
                 folder,
-                front,
+                prefix,
                 input,
                 output,
                 errors,

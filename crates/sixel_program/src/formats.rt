@@ -5,8 +5,8 @@
 ghost use Rattle.std.specs.Prelude.{◌≡◌, ◌≤◌, length};
 ghost use Rattle.sixel_program.specs.Formats.{advice_on, format_of};
 
-/// How many bytes at the front of a file tell its format.
-pub const FRONT: usize = 4;
+/// How many bytes at the beginning of a file tell its format.
+pub const PREFIX_LENGTH: usize = 4;
 
 /// A picture format that `encode` doesn't read.
 #[derive(Clone, Copy, Debug, PartialEq, Eq)]
@@ -19,10 +19,10 @@ pub enum Format {
 }
 
 /// The format of a file that begins with these bytes, by its mark; none where they have no mark that is known.
-pub fn format_of(front: &[u8]) -> Option<Format>
-    ensures { result ≡ format_of front.now }
+pub fn format_of(prefix: &[u8]) -> Option<Format>
+    ensures { result ≡ format_of prefix.now }
 {
-    match front {
+    match prefix {
         [0x89, b'P', b'N', b'G', ..] => Some(Format::Png),
         [0xff, 0xd8, 0xff, ..] => Some(Format::Jpeg),
         [b'G', b'I', b'F', b'8', ..] => Some(Format::Gif),

@@ -22,8 +22,8 @@ ghost use Rattle.sixel_run.specs.Texts.{Text};
 /// no file has one of a greater number, and it is that of one of them. Texts that were put one after another stand joined
 /// behind what the sink had, unless a call on it failed.
 pub fn several_files_are_checked_one_by_one()
-    ensures joined { (is_quiet : Bool) (front rest : List FileEnd) →
-        files_text is_quiet (front ++ rest) ≡ files_text is_quiet front ++ files_text is_quiet rest }
+    ensures joined { (is_quiet : Bool) (prefix rest : List FileEnd) →
+        files_text is_quiet (prefix ++ rest) ≡ files_text is_quiet prefix ++ files_text is_quiet rest }
     ensures named { (e : FileEnd) (status : Status) → e.answer ≡ Ok status →
         files_text false (e ∷ []) ≡ printed e.name ++ codes ": " ++ e.line }
     ensures alone { (profile : Profile) (e : FileEnd) (bytes : List ℕ) (status : Status) → IsFileEnd profile e →

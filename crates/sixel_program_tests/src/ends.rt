@@ -3,14 +3,14 @@
 ghost use Rattle.std.specs.Prelude.{◌≡◌};
 ghost use Rattle.sixel_run.specs.Outputs.{HasSides};
 
-use crate::shelf::Shelf;
+use crate::memory_folder::MemoryFolder;
 use sixel_program::{Exit, execute};
 use sixel_run::Task;
 use sixel_words::Request;
 use std::alloc::Global;
 
 /// No file can be opened.
-pub const NO_FILES: Shelf<'static> = Shelf {
+pub const NO_FILES: MemoryFolder<'static> = MemoryFolder {
     files: &[],
     cut: &[],
 };

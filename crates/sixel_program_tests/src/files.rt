@@ -8,7 +8,7 @@ mod notices;
 mod system;
 mod tasks;
 
-use crate::shelf::Shelf;
+use crate::memory_folder::MemoryFolder;
 use crate::streams::Narrow;
 use sixel_model::Profile;
 use sixel_program::{Exit, execute};
@@ -32,7 +32,7 @@ const PNG: &[u8] = b"\x89PNG\r\n\x1a\n\0\0\0\rIHDR";
 /// One red pixel.
 const RED: &[u8] = b"P6 1 1 100\n\x64\0\0";
 
-const SHELF: Shelf<'static> = Shelf {
+const FOLDER: MemoryFolder<'static> = MemoryFolder {
     files: &[
         ("pixel", PIXEL),
         ("a b", PIXEL),
@@ -96,8 +96,8 @@ impl Read for Counted<'_> {
     fn read(&mut self, buf: &mut [u8]) -> io::Result<usize> {
         *self.reads = self.reads.saturating_add(1);
         let count = buf.len().min(self.rest.len());
-        let (front, rest) = self.rest.split_at(count);
-        buf[..count].copy_from_slice(front);
+        let (prefix, rest) = self.rest.split_at(count);
+        buf[..count].copy_from_slice(prefix);
         self.rest = rest;
         Ok(count)
     }
@@ -147,7 +147,7 @@ fn ends_over(
     let exit = execute(
         alloc,
         &request,
-        &SHELF,
+        &FOLDER,
         streams.is_terminal,
         input,
         output,

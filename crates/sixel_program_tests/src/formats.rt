@@ -65,7 +65,8 @@ fn formats_of_netpbm(rt: HostRuntime) {
     assert!(rt; refuses(&rt, b"P8", b"sixel: Header at 1\n"));
 }
 
-/// Bytes without such a mark, or with a front of one, have the fault's line alone, and so has a PPM with another fault.
+/// Bytes without such a mark, or with a prefix of one, have the fault's line alone, and so has a PPM with another
+/// fault.
 #[test]
 fn bytes_of_no_format(rt: HostRuntime) {
     assert!(rt; refuses(&rt, b"", b"sixel: Short at 0\n"));

@@ -8,6 +8,6 @@ mod files;
 #[cfg(test)]
 mod formats;
 #[cfg(test)]
-mod shelf;
+mod memory_folder;
 #[cfg(test)]
 mod streams;

@@ -56,7 +56,7 @@ impl Write for Narrow<'_> {
     }
 }
 
-/// Whether a front of the line was written, as long as there is room for.
+/// Whether a prefix of the line was written, as long as there is room for.
 fn fills(written: &[u8], line: &[u8], room: usize) -> bool {
     Some(written) == line.get(..room.min(line.len()))
 }

@@ -39,8 +39,8 @@ impl<'a> Source for CutSource<'a> {
 
     fn fill(&mut self, piece: &mut [u8]) -> Result<usize, DeviceFault> {
         let count = self.next.max(1).min(piece.len()).min(self.rest.len());
-        let (front, rest) = self.rest.split_at(count);
-        piece[..count].copy_from_slice(front);
+        let (prefix, rest) = self.rest.split_at(count);
+        piece[..count].copy_from_slice(prefix);
         self.rest = rest;
         self.next = self.later;
         Ok(count)

@@ -20,7 +20,7 @@ use crate::format::{Row, rows_of};
 use crate::judged::{judge_made, judge_rows};
 use crate::prefixes::{has_prefixes, prefix_of};
 use crate::tasks::{Wrong, wrong_in_some_pieces, wrong_of};
-use crate::wrong::text_of;
+use crate::wrong::wrong_lines;
 use anyhow::{Context, anyhow};
 use sixel_model::Profile;
 use std::fs;
@@ -108,7 +108,7 @@ fn report(
     match wrong {
         None => Ok(0),
         Some(wrong) => {
-            rt.println(text_of(rt.alloc(), name, row, &wrong)?)?;
+            rt.println(wrong_lines(rt.alloc(), name, row, &wrong)?)?;
             Ok(1)
         }
     }

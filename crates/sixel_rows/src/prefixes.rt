@@ -14,12 +14,12 @@ pub fn has_prefixes(row: &Row<'_>) -> bool {
 
 /// The row of a prefix of so many bytes: it is refused there as truncated, and nothing is written.
 pub fn prefix_of<'a>(alloc: Global, row: &Row<'a>, length: usize) -> Result<Row<'a>, AllocError> {
-    let front = row.input.as_slice().get(..length).unwrap_or(&[]);
+    let prefix = row.input.as_slice().get(..length).unwrap_or(&[]);
     let said = format!(in alloc; "sixel: Truncated at {length}\n")?;
     Ok(Row {
         line: row.line,
         words: row.words,
-        input: front.to_vec(alloc)?,
+        input: prefix.to_vec(alloc)?,
         status: 2,
         output: Vec::new(alloc),
         said: said.as_bytes().to_vec(alloc)?,

@@ -48,7 +48,7 @@ fn columns(alloc: Global, status: u8, output: &[u8], said: &[u8]) -> Result<Stri
 }
 
 /// The lines of a wrong row: where it stands, what came of it and in which cutting, and what was wanted.
-pub fn text_of(
+pub fn wrong_lines(
     alloc: Global,
     file: &str,
     row: &Row<'_>,

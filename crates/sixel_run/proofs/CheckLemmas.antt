@@ -72,7 +72,7 @@ verdict_written : (registers : ℕ) (bytes : List ℕ) (v : Verdict) (had has : 
     → WroteBy (CheckGives registers bytes) WroteNothing (Ok (status_of v)) had has
 verdict_written _ bytes v had has given put = (verdict_line v, (given.0, given.1, (v, given.2, refl, refl)), put)
 
--- or a front of it
+-- or a prefix of it
 verdict_unwritten : (registers : ℕ) (bytes : List ℕ) (v : Verdict) (had has : Option (List ℕ))
     → CheckAnswers registers (Ok v) bytes → (n : ℕ) × Appends had has (take n (verdict_line v))
     → WroteBy (CheckGives registers bytes) WroteNothing (Err Write) had has

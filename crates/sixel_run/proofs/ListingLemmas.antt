@@ -37,7 +37,7 @@ pub fed-drained : {A : Type 0} (result : Result A RunFault) (reader : Reader) (p
 fed-drained (Ok done) reader piece had mid has ws w v events bytes e d kept fed =
     (fed.0, fed.1, drained had mid has ws w v _ e d fed.2 kept)
 fed-drained (Err (Grammar fault)) reader piece had mid has ws w v events bytes e d kept fed = record {
-  front = fed.front;
+  prefix = fed.prefix;
   byte = fed.byte;
   rest = fed.rest;
   before = fed.before;
@@ -49,7 +49,7 @@ fed-drained (Err (Grammar fault)) reader piece had mid has ws w v events bytes e
   lines = drained had mid has ws w v _ e d fed.lines kept;
 }
 fed-drained (Err Write) reader piece had mid has ws w v events bytes e d kept fed = record {
-  front = fed.front;
+  prefix = fed.prefix;
   rest = fed.rest;
   before = fed.before;
   more = fed.more;
@@ -61,17 +61,17 @@ fed-drained (Err Write) reader piece had mid has ws w v events bytes e d kept fe
 }
 fed-drained (Err other) reader piece had mid has ws w v events bytes e d kept fed = fed
 
--- of the lines that were to be appended, a front went to the sink that failed
-stopped : (reader : Reader) (piece front rest : List ℕ) (had mid has : Option (List ℕ)) (ws w v text : List ℕ)
+-- of the lines that were to be appended, a prefix went to the sink that failed
+stopped : (reader : Reader) (piece prefix rest : List ℕ) (had mid has : Option (List ℕ)) (ws w v text : List ℕ)
     (events more : List Placed) (bytes : List ℕ)
-    → piece ≡ front ++ rest → StandsAfter reader (events ++ more) (bytes ++ front) → BeginsWith (list_text more) text
+    → piece ≡ prefix ++ rest → StandsAfter reader (events ++ more) (bytes ++ prefix) → BeginsWith (list_text more) text
     → ws ≡ [] → Keeps (in_all mid w) (in_all has v) → TakesMore had has → Appends (in_all had ws) (in_all mid w) text
     → StopsIn piece had has events bytes
-stopped reader piece front rest had mid has ws w v text events more bytes is stands begins e kept grows put =
+stopped reader piece prefix rest had mid has ws w v text events more bytes is stands begins e kept grows put =
     let part = cut had has ws v text e (Appends-keeps (in_all had ws) (in_all mid w) (in_all has v) text put kept)
     grows in
     record {
-      front = front;
+      prefix = prefix;
       rest = rest;
       before = reader;
       more = more;
@@ -91,10 +91,10 @@ fed-stopped (Ok done) reader piece had mid has ws w v events bytes e kept grows 
     stopped reader piece piece [] had mid has ws w v _ events fed.0 bytes (sym (append-nil piece)) fed.1
     ([], sym (append-nil _)) e kept grows fed.2
 fed-stopped (Err (Grammar fault)) reader piece had mid has ws w v events bytes e kept grows fed =
-    stopped fed.before piece fed.front (fed.byte ∷ fed.rest) had mid has ws w v _ events fed.more bytes fed.piece_is
+    stopped fed.before piece fed.prefix (fed.byte ∷ fed.rest) had mid has ws w v _ events fed.more bytes fed.piece_is
     fed.stands ([], sym (append-nil _)) e kept grows fed.lines
 fed-stopped (Err Write) reader piece had mid has ws w v events bytes e kept grows fed =
-    stopped fed.before piece fed.front fed.rest had mid has ws w v fed.part events fed.more bytes fed.piece_is
+    stopped fed.before piece fed.prefix fed.rest had mid has ws w v fed.part events fed.more bytes fed.piece_is
     fed.stands fed.begins e kept grows fed.lines
 fed-stopped (Err other) reader piece had mid has ws w v events bytes e kept grows fed = absurd fed
 
@@ -111,7 +111,7 @@ pub byte-stopped : (old new : Reader) (byte : ℕ) (done : List Placed) (had has
     (events : List Placed) (bytes : List ℕ) → StandsAfter old events bytes → Takes old new byte done
     → ((n : ℕ) × Appends had has (take n (list_text done))) → StopsIn (byte ∷ []) had has events bytes
 byte-stopped old new byte done had has events bytes stands takes put = record {
-  front = byte ∷ [];
+  prefix = byte ∷ [];
   rest = [];
   before = new;
   more = done;
@@ -130,7 +130,7 @@ byte-refused old new byte fault had events bytes stands refuses =
     let refused = refuses events bytes stands in
     let same : bytes ≡ bytes ++ [] = sym (append-nil bytes) in
     record {
-      front = [];
+      prefix = [];
       byte = byte;
       rest = [];
       before = old;
@@ -142,26 +142,26 @@ byte-refused old new byte fault had events bytes stands refuses =
       lines = Appends-none had;
     }
 
--- a front of a piece and a part behind it, which has a front of its own
-piece-joined : (piece front part rest inner outer : List ℕ) → piece ≡ front ++ (part ++ rest)
-    → part ≡ inner ++ outer → piece ≡ (front ++ inner) ++ (outer ++ rest)
-piece-joined piece front part rest inner outer is e =
-    is ∙ ap (λ (t : List ℕ). front ++ (t ++ rest)) e ∙ ap (λ (t : List ℕ). front ++ t) (append_assoc inner outer rest)
-    ∙ sym (append_assoc front inner (outer ++ rest))
+-- a prefix of a piece and a part behind it, which has a prefix of its own
+piece-joined : (piece prefix part rest inner outer : List ℕ) → piece ≡ prefix ++ (part ++ rest)
+    → part ≡ inner ++ outer → piece ≡ (prefix ++ inner) ++ (outer ++ rest)
+piece-joined piece prefix part rest inner outer is e =
+    is ∙ ap (λ (t : List ℕ). prefix ++ (t ++ rest)) e ∙ ap (λ (t : List ℕ). prefix ++ t) (append_assoc inner outer rest)
+    ∙ sym (append_assoc prefix inner (outer ++ rest))
 
--- the lines of a front of the piece were put, and then the part behind it was refused
-refused-later : (fault : Fault) (piece front part rest : List ℕ) (had mid has : Option (List ℕ))
-    (events more : List Placed) (bytes : List ℕ) → piece ≡ front ++ (part ++ rest) → Appends had mid (list_text more)
-    → RefusesAt fault part mid has (events ++ more) (bytes ++ front) → RefusesAt fault piece had has events bytes
-refused-later fault piece front part rest had mid has events more bytes is put r =
-    let same : (bytes ++ front) ++ r.front ≡ bytes ++ (front ++ r.front) = append_assoc bytes front r.front in
+-- the lines of a prefix of the piece were put, and then the part behind it was refused
+refused-later : (fault : Fault) (piece prefix part rest : List ℕ) (had mid has : Option (List ℕ))
+    (events more : List Placed) (bytes : List ℕ) → piece ≡ prefix ++ (part ++ rest) → Appends had mid (list_text more)
+    → RefusesAt fault part mid has (events ++ more) (bytes ++ prefix) → RefusesAt fault piece had has events bytes
+refused-later fault piece prefix part rest had mid has events more bytes is put r =
+    let same : (bytes ++ prefix) ++ r.prefix ≡ bytes ++ (prefix ++ r.prefix) = append_assoc bytes prefix r.prefix in
     record {
-      front = front ++ r.front;
+      prefix = prefix ++ r.prefix;
       byte = r.byte;
       rest = r.rest ++ rest;
       before = r.before;
       more = more ++ r.more;
-      piece_is = piece-joined piece front part rest r.front (r.byte ∷ r.rest) is r.piece_is;
+      piece_is = piece-joined piece prefix part rest r.prefix (r.byte ∷ r.rest) is r.piece_is;
       stands = stands-as r.before _ _ _ _ (append_assoc events more r.more) same r.stands;
       fault_is = subst (λ (b : List ℕ). IsFaultOf (b ++ r.byte ∷ []) fault) same r.fault_is;
       place = r.place ∙ ap length same;
@@ -169,18 +169,18 @@ refused-later fault piece front part rest had mid has events more bytes is put r
           (list_text-append more r.more);
     }
 
--- the lines of a front of the piece were put, and then those of the part behind it failed to be
-stopped-later : (piece front part rest : List ℕ) (had mid has : Option (List ℕ))
-    (events more : List Placed) (bytes : List ℕ) → piece ≡ front ++ (part ++ rest) → Appends had mid (list_text more)
-    → StopsIn part mid has (events ++ more) (bytes ++ front) → StopsIn piece had has events bytes
-stopped-later piece front part rest had mid has events more bytes is put s = record {
-  front = front ++ s.front;
+-- the lines of a prefix of the piece were put, and then those of the part behind it failed to be
+stopped-later : (piece prefix part rest : List ℕ) (had mid has : Option (List ℕ))
+    (events more : List Placed) (bytes : List ℕ) → piece ≡ prefix ++ (part ++ rest) → Appends had mid (list_text more)
+    → StopsIn part mid has (events ++ more) (bytes ++ prefix) → StopsIn piece had has events bytes
+stopped-later piece prefix part rest had mid has events more bytes is put s = record {
+  prefix = prefix ++ s.prefix;
   rest = s.rest ++ rest;
   before = s.before;
   more = more ++ s.more;
   part = list_text more ++ s.part;
-  piece_is = piece-joined piece front part rest s.front s.rest is s.piece_is;
-  stands = stands-as s.before _ _ _ _ (append_assoc events more s.more) (append_assoc bytes front s.front) s.stands;
+  piece_is = piece-joined piece prefix part rest s.prefix s.rest is s.piece_is;
+  stands = stands-as s.before _ _ _ _ (append_assoc events more s.more) (append_assoc bytes prefix s.prefix) s.stands;
   begins = (
     s.begins.0,
     list_text-append more s.more ∙ ap (λ (t : List ℕ). list_text more ++ t) s.begins.1
@@ -189,17 +189,17 @@ stopped-later piece front part rest had mid has events more bytes is put s = rec
   lines = Appends-then had mid has (list_text more) s.part (list_text more ++ s.part) put s.lines refl;
 }
 
--- a front of the piece was fed, and then the part behind it failed
-failed-later : (fault : RunFault) (after : Reader) (piece front part rest : List ℕ)
-    (had mid has : Option (List ℕ)) (events more : List Placed) (bytes : List ℕ) → piece ≡ front ++ (part ++ rest)
+-- a prefix of the piece was fed, and then the part behind it failed
+failed-later : (fault : RunFault) (after : Reader) (piece prefix part rest : List ℕ)
+    (had mid has : Option (List ℕ)) (events more : List Placed) (bytes : List ℕ) → piece ≡ prefix ++ (part ++ rest)
     → Appends had mid (list_text more)
-    → Feeds {A = Unit {0}} (Err fault) after part mid has (events ++ more) (bytes ++ front)
+    → Feeds {A = Unit {0}} (Err fault) after part mid has (events ++ more) (bytes ++ prefix)
     → Feeds {A = Unit {0}} (Err fault) after piece had has events bytes
-failed-later (Grammar fault) after piece front part rest had mid has events more bytes is put fed =
-    refused-later fault piece front part rest had mid has events more bytes is put fed
-failed-later Write after piece front part rest had mid has events more bytes is put fed =
-    stopped-later piece front part rest had mid has events more bytes is put fed
-failed-later _ after piece front part rest had mid has events more bytes is put fed = fed
+failed-later (Grammar fault) after piece prefix part rest had mid has events more bytes is put fed =
+    refused-later fault piece prefix part rest had mid has events more bytes is put fed
+failed-later Write after piece prefix part rest had mid has events more bytes is put fed =
+    stopped-later piece prefix part rest had mid has events more bytes is put fed
+failed-later _ after piece prefix part rest had mid has events more bytes is put fed = fed
 
 -- wherever the reader stood, it then stands after these bytes more, and the lines of their events were appended
 abbrev pub Lists : Reader → Reader → List ℕ → Option (List ℕ) → Option (List ℕ) → Type 0

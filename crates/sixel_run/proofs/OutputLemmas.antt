@@ -9,7 +9,7 @@ use Rattle.sixel_grammar.specs.declared.command.Placed.{Placed}
 use Rattle.sixel_grammar.specs.declared.fault.Fault.{Fault}
 use Rattle.sixel_grammar.specs.declared.reader.Reader.{Reader}
 use Rattle.sixel_grammar.specs.Document.{Document, most_bytes}
-use Rattle.sixel_grammar.specs.Fronts.{CompleteIn}
+use Rattle.sixel_grammar.specs.Prefixes.{CompleteIn}
 use Rattle.sixel_grammar.specs.Faults.{IsFaultOf}
 use Rattle.sixel_grammar.specs.Standing.{StandsAfter}
 use Rattle.sixel_io.proofs.DeviceLemmas.{Appends-then}
@@ -28,7 +28,7 @@ use Rattle.sixel_run.specs.Texts.{Text, BeginsWith, list_text}
 use Rattle.sixel_run.proofs.ListingLemmas.{list_text-append}
 use Rattle.sixel_run.proofs.PutLemmas.{begins-then}
 
--- what a list gives begins with the lines of the events that are complete in a viable front
+-- what a list gives begins with the lines of the events that are complete in a viable prefix
 pub gives-begins : (bytes read more : List ℕ) (events : List Placed) → bytes ≡ read ++ more → CompleteIn events read
     → length read ≤ most_bytes
     → (text : Text) (answer : Result Status RunFault) → ListGives bytes text answer → BeginsWith text (list_text events)
@@ -48,9 +48,9 @@ faulty-lists : (bytes read more : List ℕ) (events : List Placed) (r : Reader) 
     → IsFaultOf bytes fault → fault.place ≡ length read
     → StandsAfter r events read → ListGives bytes (list_text events) (Err (Grammar fault))
 faulty-lists bytes read more events r fault is h place s =
-    let front : take fault.place bytes ≡ read = ap (λ (n : ℕ). take n bytes) place ∙ ap (take (length read)) is
+    let prefix : take fault.place bytes ≡ read = ap (λ (n : ℕ). take n bytes) place ∙ ap (take (length read)) is
     ∙ take-append_seam read more in
-    (h, (events, subst (CompleteIn events) (sym front) (read_complete r events read s), refl))
+    (h, (events, subst (CompleteIn events) (sym prefix) (read_complete r events read s), refl))
 
 -- reading failed
 pub unread : (a b c had has : Option (List ℕ)) (given : List ℕ) (events : List Placed) (r : Reader)
@@ -92,11 +92,11 @@ ended-early a b c had has bytes piece n events r fault consumed last zero at_end
     zero at_end
     (list_text events, faulty-lists bytes bytes [] events r fault (sym (append-nil bytes)) h place s, put)
 
-split-piece : (bytes read piece front tail rest : List ℕ) → bytes ≡ (read ++ piece) ++ rest → piece ≡ front ++ tail
-    → bytes ≡ (read ++ front) ++ (tail ++ rest)
-split-piece bytes read piece front tail rest is e =
+split-piece : (bytes read piece prefix tail rest : List ℕ) → bytes ≡ (read ++ piece) ++ rest → piece ≡ prefix ++ tail
+    → bytes ≡ (read ++ prefix) ++ (tail ++ rest)
+split-piece bytes read piece prefix tail rest is e =
     is ∙ ap (λ (t : List ℕ). (read ++ t) ++ rest) e
-    ∙ ap (λ (t : List ℕ). t ++ rest) (sym (append_assoc read front tail)) ∙ append_assoc (read ++ front) tail rest
+    ∙ ap (λ (t : List ℕ). t ++ rest) (sym (append_assoc read prefix tail)) ∙ append_assoc (read ++ prefix) tail rest
 
 -- the piece that was read last has a fault, or its lines couldn't be written
 stopped-in : (bytes read piece rest : List ℕ) (left had mid has : Option (List ℕ)) (events : List Placed) (r : Reader)
@@ -104,24 +104,24 @@ stopped-in : (bytes read piece rest : List ℕ) (left had mid has : Option (List
     → Appends had mid (list_text events) → Feeds {A = Unit {0}} (Err fault) r piece mid has events read
     → Wrote Listing bytes left (Err fault) had has
 stopped-in bytes read piece rest left had mid has events r (Grammar fault) is put fed =
-    let split : bytes ≡ (read ++ fed.front) ++ (fed.byte ∷ fed.rest ++ rest) = split-piece bytes read piece fed.front
+    let split : bytes ≡ (read ++ fed.prefix) ++ (fed.byte ∷ fed.rest ++ rest) = split-piece bytes read piece fed.prefix
     (fed.byte ∷ fed.rest) rest is fed.piece_is in
-    let at : bytes ≡ ((read ++ fed.front) ++ fed.byte ∷ []) ++ (fed.rest ++ rest) = split
-    ∙ sym (append_assoc (read ++ fed.front) (fed.byte ∷ []) (fed.rest ++ rest)) in
-    let faulty = fault_stays ((read ++ fed.front) ++ fed.byte ∷ []) (fed.rest ++ rest) fault fed.fault_is
-    (let len = length-append (read ++ fed.front) (fed.byte ∷ []) in let k = fed.place in omega arith) in (
+    let at : bytes ≡ ((read ++ fed.prefix) ++ fed.byte ∷ []) ++ (fed.rest ++ rest) = split
+    ∙ sym (append_assoc (read ++ fed.prefix) (fed.byte ∷ []) (fed.rest ++ rest)) in
+    let faulty = fault_stays ((read ++ fed.prefix) ++ fed.byte ∷ []) (fed.rest ++ rest) fault fed.fault_is
+    (let len = length-append (read ++ fed.prefix) (fed.byte ∷ []) in let k = fed.place in omega arith) in (
       list_text (events ++ fed.more),
-      faulty-lists bytes (read ++ fed.front) (fed.byte ∷ fed.rest ++ rest) (events ++ fed.more) fed.before fault split
+      faulty-lists bytes (read ++ fed.prefix) (fed.byte ∷ fed.rest ++ rest) (events ++ fed.more) fed.before fault split
           (subst (λ (t : List ℕ). IsFaultOf t fault) (sym at) faulty) fed.place fed.stands,
       Appends-then had mid has _ _ _ put fed.lines (list_text-append events fed.more),
     )
 stopped-in bytes read piece rest left had mid has events r Write is put fed =
-    let at : bytes ≡ (read ++ fed.front) ++ (fed.rest ++ rest) = split-piece bytes read piece fed.front fed.rest rest
+    let at : bytes ≡ (read ++ fed.prefix) ++ (fed.rest ++ rest) = split-piece bytes read piece fed.prefix fed.rest rest
     is fed.piece_is in (
       list_text events ++ fed.part,
       Appends-then had mid has _ _ _ put fed.lines refl,
       λ text answer g.
-          let begins = gives-begins bytes (read ++ fed.front) (fed.rest ++ rest) (events ++ fed.more) at
+          let begins = gives-begins bytes (read ++ fed.prefix) (fed.rest ++ rest) (events ++ fed.more) at
           (read_complete fed.before _ _ fed.stands) (read_short fed.before _ _ fed.stands) text answer g in
           begins-then text (list_text (events ++ fed.more)) (list_text events ++ fed.part) begins (
             fed.begins.0,

@@ -22,7 +22,7 @@ drained (Some x) (Some y) (Some z) ws w v text e d put kept =
     sym (append-nil z) ∙ ap (λ (t : List ℕ). z ++ t) (sym d) ∙ whole ∙ ap (λ (t : List ℕ). (x ++ t) ++ text) e
     ∙ ap (λ (t : List ℕ). t ++ text) (append-nil x)
 
--- an empty block before a sink that failed: a front went to the sink
+-- an empty block before a sink that failed: a prefix went to the sink
 pub cut : (had has : Option (List ℕ)) (ws w text : List ℕ) → ws ≡ [] → Appends (in_all had ws) (in_all has w) text
     → TakesMore had has → (part : Text) × BeginsWith text part × Appends had has part
 cut None has ws w text e put more = ([], (text, refl), tt)

@@ -1,10 +1,10 @@
--- What any run owes: a task gives one text and answer, and where the flush fails a front of the text was written.
+-- What any run owes: a task gives one text and answer, and where the flush fails a prefix of the text was written.
 use Rattle.std.proofs.Common.{◌≡◌, ◌∙◌, ℕ, List, [], take, Option, Some, None, refl, sym, ap, subst, inl, inr}
 use Rattle.std.specs.Prelude.{Result, Ok, Err, IfSome}
 use Rattle.std.specs.Io.KnownBytes.{Appends, Keeps}
 use Rattle.std.proofs.lemmas.List.{append-nil}
 use Rattle.sixel_grammar.specs.declared.fault.Fault.{Fault}
-use Rattle.sixel_grammar.specs.Fronts.{CompleteIn}
+use Rattle.sixel_grammar.specs.Prefixes.{CompleteIn}
 use Rattle.sixel_grammar.proofs.UniqueLemmas.{complete_once, document_once, fault_no_document, fault_once}
 use Rattle.sixel_run.specs.declared.fault.RunFault.{RunFault}
 use Rattle.sixel_run.specs.declared.fault.RunFault.TheVariants.{Grammar, Ppm, NotRgb, NoBox, OutOfMemory, Read, Write}
@@ -91,7 +91,7 @@ begins-all first second e = ([], sym e ∙ sym (append-nil first))
 
 -- ---- a flush that fails
 
--- what was written before reading failed is a front of what a list gives
+-- what was written before reading failed is a prefix of what a list gives
 unflushed-list : (bytes : List ℕ) (left had mid has : Option (List ℕ)) → ListsUnread bytes left had mid → Keeps mid has
     → Wrote Listing bytes left (Err Write) had has
 unflushed-list bytes None had mid has w kept = absurd w.2

@@ -17,7 +17,7 @@ use Rattle.sixel_ppm.specs.declared.ppm.PpmFault.{PpmFault}
 use Rattle.sixel_ppm.specs.declared.ppm.PpmFault.TheVariants as ppm
 use Rattle.sixel_ppm.specs.Ppm.{WritesPpm, are_rgb, ppm_text}
 use Rattle.sixel_terminal.specs.Displays.{Display}
-use Rattle.sixel_model.proofs.SheetLemmas.{length_rows}
+use Rattle.sixel_model.proofs.GridLemmas.{length_rows}
 use Rattle.sixel_terminal.specs.Drawing.{screen_on, shown_on}
 use Rattle.sixel_run.specs.declared.fault.RunFault.{RunFault}
 use Rattle.sixel_run.specs.declared.fault.RunFault.TheVariants.{Grammar, Ppm, NotRgb, NoBox, OutOfMemory, Read, Write}

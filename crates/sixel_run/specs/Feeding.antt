@@ -10,37 +10,37 @@ use Rattle.sixel_run.specs.declared.fault.RunFault.{RunFault}
 use Rattle.sixel_run.specs.declared.fault.RunFault.TheVariants.{Grammar, Ppm, NotRgb, NoBox, OutOfMemory, Read, Write}
 use Rattle.sixel_run.specs.Texts.{Text, BeginsWith, list_text}
 
--- the fault is that of the bytes and this front of the piece with one byte more, and lies at that byte; and the lines
+-- the fault is that of the bytes and this prefix of the piece with one byte more, and lies at that byte; and the lines
 -- of the events that came before it were appended
 pub record RefusesAt (fault : Fault) (piece : List ℕ) (had has : Option (List ℕ))
     (events : List Placed) (bytes : List ℕ) : Type 0 where
-  pub front : List ℕ
+  pub prefix : List ℕ
   pub byte : ℕ
   pub rest : List ℕ
   pub before : Reader
   pub more : List Placed
-  pub piece_is : piece ≡ front ++ byte ∷ rest
-  pub stands : StandsAfter before (events ++ more) (bytes ++ front)
-  pub fault_is : IsFaultOf ((bytes ++ front) ++ byte ∷ []) fault
-  pub place : fault.place ≡ length (bytes ++ front)
+  pub piece_is : piece ≡ prefix ++ byte ∷ rest
+  pub stands : StandsAfter before (events ++ more) (bytes ++ prefix)
+  pub fault_is : IsFaultOf ((bytes ++ prefix) ++ byte ∷ []) fault
+  pub place : fault.place ≡ length (bytes ++ prefix)
   pub lines : Appends had has (list_text more)
 
--- a reader came as far as this front of the piece, and of the lines of the events that came by then a front was
+-- a reader came as far as this prefix of the piece, and of the lines of the events that came by then a prefix was
 -- appended
 pub record StopsIn (piece : List ℕ) (had has : Option (List ℕ))
     (events : List Placed) (bytes : List ℕ) : Type 0 where
-  pub front : List ℕ
+  pub prefix : List ℕ
   pub rest : List ℕ
   pub before : Reader
   pub more : List Placed
   pub part : Text
-  pub piece_is : piece ≡ front ++ rest
-  pub stands : StandsAfter before (events ++ more) (bytes ++ front)
+  pub piece_is : piece ≡ prefix ++ rest
+  pub stands : StandsAfter before (events ++ more) (bytes ++ prefix)
   pub begins : BeginsWith (list_text more) part
   pub lines : Appends had has part
 
 -- a reader that stood after these events and bytes was fed the piece, and the lines of the events that came were
--- appended to what was had: of all of them, or before a fault, or a front of them before a failed write
+-- appended to what was had: of all of them, or before a fault, or a prefix of them before a failed write
 abbrev pub Feeds : {A : Type 0} → Result A RunFault → Reader → List ℕ → Option (List ℕ)
     → Option (List ℕ) → List Placed → List ℕ → Type 0
 Feeds (Ok done) reader piece had has events bytes =

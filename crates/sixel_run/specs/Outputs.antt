@@ -5,7 +5,7 @@ use Rattle.std.specs.Io.KnownBytes.{Appends, Consumes}
 use Rattle.sixel_grammar.specs.declared.command.Placed.{Placed}
 use Rattle.sixel_io.specs.Devices.{one_more}
 use Rattle.sixel_grammar.specs.Document.{Document, events_of, most_bytes}
-use Rattle.sixel_grammar.specs.Fronts.{CompleteIn}
+use Rattle.sixel_grammar.specs.Prefixes.{CompleteIn}
 use Rattle.sixel_grammar.specs.Faults.{IsFaultOf}
 use Rattle.sixel_ppm.specs.declared.ppm.PpmFault.{PpmFault}
 use Rattle.sixel_model.specs.Pictures.{PictureValue}
@@ -33,14 +33,14 @@ use Rattle.sixel_run.specs.Texts.{Text, BeginsWith, list_text, verdict_line}
 -- ---- lists
 
 -- the lines of the events that are complete in the bytes
-abbrev pub ListsFront : List ℕ → Text → Type 0
-ListsFront bytes text = (events : List Placed) × CompleteIn events bytes × (text ≡ list_text events)
+abbrev pub ListsPrefix : List ℕ → Text → Type 0
+ListsPrefix bytes text = (events : List Placed) × CompleteIn events bytes × (text ≡ list_text events)
 
 -- the lines of all events of a document; of other bytes their fault, and the lines of the events complete before it
 abbrev pub ListGives : List ℕ → Text → Result Status RunFault → Type 0
 ListGives bytes text (Ok status) = (status ≡ Done)
     × ((events : List Placed) × Document events bytes × (text ≡ list_text events))
-ListGives bytes text (Err (Grammar fault)) = IsFaultOf bytes fault × ListsFront (take fault.place bytes) text
+ListGives bytes text (Err (Grammar fault)) = IsFaultOf bytes fault × ListsPrefix (take fault.place bytes) text
 ListGives bytes text (Err fault) = ⊥
 
 -- the lines of the events complete in the bytes that were given, which are those before `left` and in which no fault
@@ -48,7 +48,7 @@ ListGives bytes text (Err fault) = ⊥
 abbrev pub ListsUnread : List ℕ → Option (List ℕ) → Option (List ℕ) → Option (List ℕ) → Type 0
 ListsUnread bytes left had has =
     (given : List ℕ) × (text : Text) × Consumes (Some bytes) left given
-    × ((length given ≤ most_bytes) × ListsFront given text) × Appends had has text
+    × ((length given ≤ most_bytes) × ListsPrefix given text) × Appends had has text
 
 -- ---- verdicts
 
@@ -167,7 +167,7 @@ TakesMemory (Show profile showing fill selects width height) told = Unit {0}
 TakesMemory (ShowBox profile showing fill selects) told = Unit {0}
 
 -- a run that answered so appended to what the sink `had` the text that is given with the answer; or, after an accident,
--- nothing for want of memory, on `Read` what `unread` says, on `Write` a front of what is given
+-- nothing for want of memory, on `Read` what `unread` says, on `Write` a prefix of what is given
 abbrev pub WroteBy : (Text → Result Status RunFault → Type 0) → (Option (List ℕ) → Option (List ℕ) → Type 0)
     → Result Status RunFault → Option (List ℕ) → Option (List ℕ) → Type 0
 WroteBy gives unread (Err OutOfMemory) had has = WroteNothing had has

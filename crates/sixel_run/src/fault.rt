@@ -27,7 +27,7 @@ pub enum RunFault {
     /// The input could not be read.
     #[error("Read")]
     Read,
-    /// The output could not be written or flushed; a front of it was written.
+    /// The output could not be written or flushed; a prefix of it was written.
     #[error("Write")]
     Write,
 }

@@ -191,7 +191,7 @@ pub fn fault_line(fault: &RunFault) -> Line
     line
 }
 
-/// Writes the line of a fault, or on an `Err` a front of it. It doesn't flush.
+/// Writes the line of a fault, or on an `Err` a prefix of it. It doesn't flush.
 pub fn write_fault<K: Sink>(fault: &RunFault, out: &mut K) -> Result<(), DeviceFault>
     ensures { Writes result (K.state out.old) (K.state out.new) (fault_line fault.now) }
 {
@@ -248,7 +248,7 @@ pub fn finding_line(finding: &Finding) -> Line
     line
 }
 
-/// Writes the line of a finding, or on an `Err` a front of it. It doesn't flush.
+/// Writes the line of a finding, or on an `Err` a prefix of it. It doesn't flush.
 pub fn write_finding<K: Sink>(finding: &Finding, out: &mut K) -> Result<(), DeviceFault>
     ensures { Writes result (K.state out.old) (K.state out.new) (finding_line finding.now) }
 {
@@ -267,7 +267,7 @@ fn portable_line(picture: &Picture) -> Line
     line
 }
 
-/// Writes the line of a verdict, or on an `Err` a front of it. It doesn't flush.
+/// Writes the line of a verdict, or on an `Err` a prefix of it. It doesn't flush.
 pub fn write_verdict<K: Sink>(verdict: &Verdict, out: &mut K) -> Result<(), DeviceFault>
     ensures { Writes result (K.state out.old) (K.state out.new) (verdict_line verdict.now) }
 {

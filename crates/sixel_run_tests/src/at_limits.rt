@@ -1,6 +1,6 @@
 //! Runs on long inputs, and on numbers and places at their limits.
 
-use crate::runs::{Limits, agrees, run_watched};
+use crate::runs::{Limits, agrees, run_counted};
 use sixel_check::{Finding, Rule};
 use sixel_model::Profile;
 use sixel_ppm::PpmReason;
@@ -11,12 +11,12 @@ use std::test::Fail;
 /// Some bytes, others so many times, and some more.
 fn with_many(
     alloc: Global,
-    front: &[u8],
+    prefix: &[u8],
     count: usize,
     part: &[u8],
     rest: &[u8],
 ) -> Result<Vec<u8>, AllocError> {
-    let mut bytes = Vec::from_slice(alloc, front)?;
+    let mut bytes = Vec::from_slice(alloc, prefix)?;
     for _ in 0..count {
         bytes.extend_from_slice(part)?;
     }
@@ -116,7 +116,7 @@ fn shows_a_pixel(alloc: Global, bytes: &[u8]) -> Result<bool, AllocError> {
         most: 65_536,
         take_fails: None,
     };
-    let ran = run_watched(alloc, SCREEN, bytes, limits, &mut room);
+    let ran = run_counted(alloc, SCREEN, bytes, limits, &mut room);
     Ok(
         ran.answer == Ok(Status::Done)
             && ran.written == 3_300_017

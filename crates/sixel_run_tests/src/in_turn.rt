@@ -2,7 +2,7 @@
 
 ghost use Rattle.sixel_run.specs.Outputs.{HasSides};
 
-use crate::runs::{Limits, Ran, run_watched};
+use crate::runs::{Limits, Ran, run_counted};
 use sixel_check::{Finding, Rule};
 use sixel_grammar::{Fault, Reason};
 use sixel_model::Profile;
@@ -269,7 +269,7 @@ fn run_in_pieces(
         most: piece,
         take_fails,
     };
-    run_watched(alloc, task, bytes, limits, room)
+    run_counted(alloc, task, bytes, limits, room)
 }
 
 /// The lines of the events that the first bytes of one pixel complete, and of the number that is too large.
@@ -286,7 +286,7 @@ fn lines_of(given: usize) -> &'static [u8] {
 }
 
 /// What is written where the source fails after so many bytes: only a list doesn't wait for the end.
-fn text_of(task: Task, given: usize) -> &'static [u8] {
+fn written_text(task: Task, given: usize) -> &'static [u8] {
     if task == Task::List {
         lines_of(given)
     } else {
@@ -308,7 +308,7 @@ fn stops_at_fill(alloc: Global, case: Case, piece: usize, fill: u64) -> bool
         None,
         &mut room,
     );
-    let text = text_of(case.task, piece.saturating_mul(fill as usize));
+    let text = written_text(case.task, piece.saturating_mul(fill as usize));
     ran.answer == Err(RunFault::Read)
         && room.get(..ran.written) == Some(text)
         && ran.source.fills == fill.saturating_add(1)
@@ -317,12 +317,12 @@ fn stops_at_fill(alloc: Global, case: Case, piece: usize, fill: u64) -> bool
 
 /// How much is written where this take fails. The lines of a list that a piece completes leave by themselves, so its
 /// takes aren't all full.
-fn is_front(case: Case, piece: usize, take: u64, written: usize) -> bool {
+fn is_prefix(case: Case, piece: usize, take: u64, written: usize) -> bool {
     let full = piece.saturating_mul(take as usize);
     (case.task == Task::List && piece > 1) || written == full.min(case.text.len())
 }
 
-/// Whether a run stops where this take or flush fails, and calls the sink no more: a front of the text is written.
+/// Whether a run stops where this take or flush fails, and calls the sink no more: a prefix of the text is written.
 fn stops_at_take(alloc: Global, case: Case, piece: usize, take: u64, flushes: u64) -> bool
     requires { HasSides case.task }
 {
@@ -337,7 +337,7 @@ fn stops_at_take(alloc: Global, case: Case, piece: usize, take: u64, flushes: u6
         &mut room,
     );
     ran.answer == Err(RunFault::Write)
-        && is_front(case, piece, take, ran.written)
+        && is_prefix(case, piece, take, ran.written)
         && room.get(..ran.written) == case.text.get(..ran.written)
         && ran.sink.takes.saturating_add(ran.sink.flushes) == take.saturating_add(1)
         && ran.sink.flushes == flushes

@@ -4,6 +4,8 @@
 #[cfg(test)]
 mod at_limits;
 #[cfg(test)]
+mod counting_device;
+#[cfg(test)]
 mod exhausted;
 #[cfg(test)]
 mod in_turn;
@@ -15,7 +17,5 @@ mod round_trip;
 mod runs;
 #[cfg(test)]
 mod show_box;
-#[cfg(test)]
-mod watched;
 #[cfg(test)]
 mod wide;

@@ -15,7 +15,7 @@ const PPM: RunFault = RunFault::Ppm {
     place: 60,
 };
 
-/// Whether this is the line of the fault, and five bytes a call are a front of it where the third call fails.
+/// Whether this is the line of the fault, and five bytes a call are a prefix of it where the third call fails.
 fn says(fault: RunFault, line: &str) -> bool {
     let (mut room, mut short) = ([0; 64], [0; 64]);
     let mut out = SliceSink::new(&mut room, 64, None);

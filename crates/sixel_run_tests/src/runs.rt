@@ -2,13 +2,13 @@
 
 ghost use Rattle.sixel_run.specs.Outputs.{HasSides};
 
-use crate::watched::{Calls, Watched};
+use crate::counting_device::{Calls, CountingDevice};
 use sixel_grammar::{Fault, Reason};
 use sixel_io::{SliceSink, SliceSource};
 use sixel_run::{RunFault, Status, Task, run};
 use std::alloc::Global;
 
-/// What a run over watched devices answered and wrote into the room, and the calls that they saw.
+/// What a run over counting devices answered and wrote into the room, and the calls that they saw.
 #[derive(Drop)]
 pub struct Ran {
     pub answer: Result<Status, RunFault>,
@@ -27,13 +27,13 @@ pub struct Limits {
 }
 
 /// Runs the task on the bytes over devices with these limits.
-pub fn run_watched(alloc: Global, task: Task, bytes: &[u8], limits: Limits, room: &mut [u8]) -> Ran
+pub fn run_counted(alloc: Global, task: Task, bytes: &[u8], limits: Limits, room: &mut [u8]) -> Ran
     requires { HasSides task }
 {
     let piece = limits.piece.max(1);
     let most = limits.most.max(1);
-    let mut input = Watched::new(SliceSource::new(bytes, piece, limits.fill_fails));
-    let mut output = Watched::new(SliceSink::new(room, most, limits.take_fails));
+    let mut input = CountingDevice::new(SliceSource::new(bytes, piece, limits.fill_fails));
+    let mut output = CountingDevice::new(SliceSink::new(room, most, limits.take_fails));
     let answer = run(alloc, task, &mut input, &mut output);
     let written = output.device.written().len();
     Ran {
@@ -62,7 +62,7 @@ pub fn agrees(
         most: 512,
         take_fails: None,
     };
-    let ran = run_watched(alloc, task, bytes, limits, &mut room);
+    let ran = run_counted(alloc, task, bytes, limits, &mut room);
     ran.answer == answer && room.get(..ran.written) == Some(text) && ran.sink.flushes == 1
 }
 

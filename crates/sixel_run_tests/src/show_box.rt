@@ -1,6 +1,6 @@
 //! The greatest boxes that a screen can have.
 
-use crate::runs::{Limits, run_watched};
+use crate::runs::{Limits, run_counted};
 use sixel_model::Profile;
 use sixel_run::{Status, Task};
 use std::alloc::{AllocError, Global};
@@ -26,7 +26,7 @@ fn shows_white(
         fill: false,
         selects: false,
     };
-    let ran = run_watched(alloc, task, bytes, limits, &mut room);
+    let ran = run_counted(alloc, task, bytes, limits, &mut room);
     let white = room.iter().skip(header.len()).all(|sample| *sample == 100);
     Ok(
         ran.answer == Ok(Status::Done)

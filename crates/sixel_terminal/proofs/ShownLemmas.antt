@@ -14,7 +14,7 @@ use Rattle.sixel_model.specs.declared.colour.Parts.{Parts}
 use Rattle.sixel_model.specs.declared.colour.Parts.TheVariants.{Rgb}
 use Rattle.sixel_model.specs.Positions.{at_position, last_at, last_below}
 use Rattle.sixel_model.proofs.PositionLemmas.{last_below_same}
-use Rattle.sixel_model.proofs.SheetLemmas.{rows_from_index}
+use Rattle.sixel_model.proofs.GridLemmas.{rows_from_index}
 use Rattle.sixel_terminal.specs.declared.canvas.Ink.{Ink}
 use Rattle.sixel_terminal.specs.declared.canvas.Ink.TheVariants.{Fixed, Bound}
 use Rattle.sixel_terminal.specs.declared.pen.Pen.{Pen}

@@ -24,8 +24,8 @@ abbrev pub with_eight_bit : Bool → Choices → Choices
 with_eight_bit eight_bit c = record c { eight_bit = eight_bit }
 
 -- this terminal, but with 8-bit controls (true) or without (false)
-abbrev pub hearing : Bool → Display → Display
-hearing eight_bit t = record t { choices = with_eight_bit eight_bit t.choices }
+abbrev pub with_controls : Bool → Display → Display
+with_controls eight_bit t = record t { choices = with_eight_bit eight_bit t.choices }
 
 -- this terminal, but clipping (true) or not (false)
 abbrev pub clipping : Bool → Display → Display

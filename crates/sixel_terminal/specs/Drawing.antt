@@ -14,7 +14,7 @@ use Rattle.sixel_model.specs.Events.{named_by, raster_of, select_of}
 use Rattle.sixel_model.specs.Geometry.{touches}
 use Rattle.sixel_model.specs.Positions.{HoldsAtPosition, last_at, latest}
 use Rattle.sixel_model.specs.Rules.{raster_before}
-use Rattle.sixel_model.specs.Sheets.{row_by_row}
+use Rattle.sixel_model.specs.Grids.{row_by_row}
 use Rattle.sixel_terminal.specs.declared.choices.Ground.{Ground}
 use Rattle.sixel_terminal.specs.declared.choices.Ground.TheVariants.{Kept, Filled}
 use Rattle.sixel_terminal.specs.Displays.{Display, registers_of}

@@ -227,7 +227,7 @@ fn a_refused_growth_is_answered_unseen(rt: HostRuntime) -> Result<(), Fail> {
 }
 
 /// So many black columns of six rows, one event each.
-fn columns_of(alloc: Global, count: usize) -> Result<Vec<Placed>, Fail> {
+fn events_of_columns(alloc: Global, count: usize) -> Result<Vec<Placed>, Fail> {
     let mut events = Vec::with_capacity(alloc, count)?;
     for _ in 0..count {
         events.push(Placed {
@@ -249,7 +249,7 @@ fn are_black_first(colours: &[Colour], count: usize) -> bool {
 #[test]
 fn the_largest_screen_is_shown(rt: HostRuntime) -> Result<(), Fail> {
     let terminal = terminal(rt.alloc(), plain_choices(4_096, 4_096), 16)?;
-    let events = columns_of(rt.alloc(), 150_000)?;
+    let events = events_of_columns(rt.alloc(), 150_000)?;
     let colours = terminal.show(rt.alloc(), &events)?;
     assert_eq!(rt; colours.len(), 16_777_216);
     assert!(rt; are_black_first(&colours, 24_576));

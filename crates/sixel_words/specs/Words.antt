@@ -32,8 +32,8 @@ abbrev pub files : Rule
 files = record (new_rule (codes "FILE")) { action = Some Append }
 
 -- with one subcommand more, which has no options
-abbrev pub with_plain : App → Text → App
-with_plain a name = with_subcommand a (with_rule (new_app name) file).top
+abbrev pub with_file_only : App → Text → App
+with_file_only a name = with_subcommand a (with_rule (new_app name) file).top
 
 -- `--name`, which takes no value
 abbrev pub flag : Text → Rule
@@ -81,7 +81,7 @@ explain_app = with_rule (new_app (codes "explain")) (record (new_rule (codes "na
 abbrev pub sixel_app : App
 sixel_app =
     with_subcommand (with_subcommand
-    (with_profile (with_profile (with_subcommand (with_plain
+    (with_profile (with_profile (with_subcommand (with_file_only
     (on_top (λ s. record s { has_version = true; subcommand_required = true }) (new_app (codes "sixel")))
     (codes "list")) check_app.top) (codes "render")) (codes "encode"))
     show_app.top) explain_app.top
@@ -176,10 +176,10 @@ IsAskedBy words (fault.Explanation topic) = AsksFor words (option_map topic_name
 IsAskedBy words _ = ⊤
 
 -- it is the explanation of this name, or there is no memory
-abbrev pub Explains : Option Text → WordsFault → Type 0
-Explains name (fault.Explanation topic) = option_map topic_name topic ≡ name
-Explains name fault.OutOfMemory = ⊤
-Explains name _ = ⊥
+abbrev pub IsExplanationOf : Option Text → WordsFault → Type 0
+IsExplanationOf name (fault.Explanation topic) = option_map topic_name topic ≡ name
+IsExplanationOf name fault.OutOfMemory = ⊤
+IsExplanationOf name _ = ⊥
 
 -- ---- the refusals
 

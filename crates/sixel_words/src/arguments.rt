@@ -5,8 +5,8 @@ ghost use Rattle.std.specs.String.{string_bytes};
 ghost use Rattle.std.specs.Vec.Iter.{into_iter_items};
 ghost use Rattle.sixel_run.specs.Outputs.{HasSides};
 ghost use Rattle.sixel_words.specs.Explanations.{topic_name};
-ghost use Rattle.sixel_words.specs.Words.{AsksFor, Explains, IsAskedBy, IsNoHelp, IsRefusal, IsRequestOf, IsSortedOut};
-ghost use Rattle.sixel_words.specs.Words.{IsTaskOf, sixel_app};
+ghost use Rattle.sixel_words.specs.Words.{AsksFor, IsExplanationOf, IsAskedBy, IsNoHelp, IsRefusal, IsRequestOf};
+ghost use Rattle.sixel_words.specs.Words.{IsSortedOut, IsTaskOf, sixel_app};
 ghost use Rattle.sixel_words.specs.declared.explanations.Topic.{Topic as ATopic};
 ghost use Rattle.sixel_run.specs.declared.task.Task.{Task as ATask};
 ghost use Rattle.clap.specs.Takes.{takes};
@@ -37,7 +37,7 @@ pub fn task_in(alloc: Global, arguments: io::Result<Args>) -> Result<Request, Wo
     ensures explained { IfErr result (λ fault. IfOk arguments (λ words.
         takes sixel_app (map string_bytes (into_iter_items words)) ≡ true → (topic : Option ATopic) →
         AsksFor (map string_bytes (into_iter_items words)) (option_map topic_name topic) →
-        Explains (option_map topic_name topic) fault)) }
+        IsExplanationOf (option_map topic_name topic) fault)) }
     ensures unhelped { IfErr result (λ fault. IfOk arguments (λ words.
         takes sixel_app (map string_bytes (into_iter_items words)) ≡ true → IsNoHelp fault)) }
 {

@@ -12,11 +12,11 @@ ghost use Rattle.std.specs.String.{string_bytes};
 ghost use Rattle.sixel_terminal.specs.Limits.{most_screen_side};
 ghost use Rattle.sixel_run.specs.declared.task.Task.{Task as ATask};
 ghost use Rattle.sixel_run.specs.Outputs.{HasSides};
-ghost use Rattle.sixel_words.specs.Words.{AsksFor, Explains, HasSide, IsAskedBy, IsAskedIn, IsRefusal, IsRequestOf};
-ghost use Rattle.sixel_words.specs.Words.{IsNoHelp, IsSortedOut, IsTask, IsTaskOf, IsUnexplained, check_app, explain_app};
-ghost use Rattle.sixel_words.specs.Words.{file, files};
+ghost use Rattle.sixel_words.specs.Words.{AsksFor, IsExplanationOf, HasSide, IsAskedBy, IsAskedIn, IsRefusal};
+ghost use Rattle.sixel_words.specs.Words.{IsRequestOf, IsNoHelp, IsSortedOut, IsTask, IsTaskOf, IsUnexplained};
+ghost use Rattle.sixel_words.specs.Words.{check_app, explain_app, file, files};
 ghost use Rattle.sixel_words.specs.Words.{files_of, flag, is_given, is_named, profile_of, quiet, show_app, side, sixel_app};
-ghost use Rattle.sixel_words.specs.Words.{with_plain, with_profile};
+ghost use Rattle.sixel_words.specs.Words.{with_file_only, with_profile};
 ghost use Rattle.sixel_words.specs.Explanations.{topic_name};
 ghost use Rattle.sixel_words.specs.declared.explanations.Topic.{Topic as ATopic};
 ghost use Rattle.clap.specs.Walk.{first_of};
@@ -60,7 +60,7 @@ pub fn parse_words(alloc: Global, words: &[String]) -> Result<Request, WordsFaul
     ensures asked { IfErr result (IsAskedBy (map string_bytes words.now)) }
     ensures explained { IfErr result (λ fault. takes sixel_app (map string_bytes words.now) ≡ true →
         (topic : Option ATopic) → AsksFor (map string_bytes words.now) (option_map topic_name topic) →
-        Explains (option_map topic_name topic) fault) }
+        IsExplanationOf (option_map topic_name topic) fault) }
     ensures unhelped { IfErr result (λ fault. takes sixel_app (map string_bytes words.now) ≡ true → IsNoHelp fault) }
 {
     let command = match sixel_command(alloc) {
@@ -131,7 +131,7 @@ fn without_task(alloc: Global, name: &str, matches: &ArgMatches<'_>) -> WordsFau
     ensures asked { IsAskedIn name.now (rows_of (found_of matches.now)) result }
     ensures explained { name.now ≡ codes "explain" → (topic : Option ATopic) →
         first_of (codes "name") (rows_of (found_of matches.now)) ≡ option_map topic_name topic →
-        Explains (option_map topic_name topic) result }
+        IsExplanationOf (option_map topic_name topic) result }
     ensures unhelped { IsNoHelp result }
 {
     match name {
@@ -146,7 +146,7 @@ fn asked(alloc: Global, matches: &ArgMatches<'_>) -> WordsFault
     ensures asked { IsAskedIn (codes "explain") (rows_of (found_of matches.now)) result }
     ensures explained { (topic : Option ATopic) →
         first_of (codes "name") (rows_of (found_of matches.now)) ≡ option_map topic_name topic →
-        Explains (option_map topic_name topic) result }
+        IsExplanationOf (option_map topic_name topic) result }
     ensures unhelped { IsNoHelp result }
 {
     match matches.get_str("name") {
@@ -308,7 +308,7 @@ fn with_plain_command<'a>(
     about: &'a str,
     more: &'a str,
 ) -> Result<Command<'a>, AllocError>
-    ensures { IfOk result (λ c. app_of c ≡ with_plain (app_of command.entry) name.entry.now) }
+    ensures { IfOk result (λ c. app_of c ≡ with_file_only (app_of command.entry) name.entry.now) }
 {
     command.subcommand(
         Command::new(alloc, name)

@@ -51,7 +51,7 @@ pub(crate) struct Progress {
 
 /// What a header says, and the offset of the first sample.
 #[derive(Clone, Copy, Debug, PartialEq, Eq)]
-pub(crate) struct Frame {
+pub(crate) struct Header {
     pub(crate) width: u32,
     pub(crate) height: u32,
     pub(crate) maxval: u8,
@@ -62,7 +62,7 @@ pub(crate) struct Frame {
 #[derive(Clone, Copy, Debug, PartialEq, Eq)]
 pub(crate) enum Next {
     More(Progress),
-    Whole(Frame),
+    Whole(Header),
     Refused { reason: PpmReason, place: u64 },
 }
 
@@ -208,7 +208,7 @@ impl Progress {
                 ..self
             }
             .in_filler(Field::Maxval, byte),
-            Field::Maxval if is_within(value, 255) => Next::Whole(Frame {
+            Field::Maxval if is_within(value, 255) => Next::Whole(Header {
                 width: self.width,
                 height: self.height,
                 maxval: value as u8,

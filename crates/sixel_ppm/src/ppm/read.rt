@@ -7,7 +7,7 @@ ghost use Rattle.sixel_ppm.specs.PpmSamples.{Holds, samples_on};
 ghost use Rattle.sixel_model.specs.Profiles.{count_of};
 ghost use Rattle.sixel_model.specs.declared.colour.Parts.{Parts};
 
-use crate::ppm::header::{Frame, Next, Progress};
+use crate::ppm::header::{Header, Next, Progress};
 use crate::ppm::samples::Samples;
 use crate::ppm::{PpmFault, PpmReason};
 use sixel_io::{PIECE, Source};
@@ -19,14 +19,14 @@ use std::alloc::Global;
 pub(crate) enum Fed {
     More(Progress),
     /// The header is whole, and so many bytes of the piece belong to it.
-    Whole(Frame, usize),
+    Whole(Header, usize),
     Refused(PpmFault),
 }
 
 /// A whole header, and where in the piece the samples after it stand.
 #[derive(Clone, Copy, Debug, PartialEq, Eq)]
 pub(crate) struct Started {
-    pub(crate) frame: Frame,
+    pub(crate) header: Header,
     pub(crate) start: usize,
     pub(crate) end: usize,
 }
@@ -47,7 +47,7 @@ pub fn read_ppm<S: Source>(
 {
     let mut piece = [0u8; PIECE];
     let started = read_header(input, &mut piece)?;
-    let mut samples = Samples::new(alloc, profile, started.frame)?;
+    let mut samples = Samples::new(alloc, profile, started.header)?;
     samples.feed(&piece[started.start..started.end])?;
     read_samples(samples, input, &mut piece)
 }
@@ -60,7 +60,7 @@ fn feed_header(begun: Progress, piece: &[u8]) -> Fed
     for (index, byte) in piece.iter().enumerate() {
         match progress.step(*byte) {
             Next::More(next) => progress = next,
-            Next::Whole(frame) => return Fed::Whole(frame, index + 1),
+            Next::Whole(header) => return Fed::Whole(header, index + 1),
             Next::Refused { reason, place } => {
                 return Fed::Refused(PpmFault::Format { reason, place });
             }
@@ -87,9 +87,9 @@ fn read_header<S: Source>(input: &mut S, piece: &mut [u8; PIECE]) -> Result<Star
         }
         match feed_header(progress, &piece[..count]) {
             Fed::More(next) => progress = next,
-            Fed::Whole(frame, start) => {
+            Fed::Whole(header, start) => {
                 return Ok(Started {
-                    frame,
+                    header,
                     start,
                     end: count,
                 });

@@ -3,15 +3,15 @@
 ghost use Rattle.std.specs.Prelude.{◌≡◌, ◌≤◌, ◌<◌, ◌+◌, ◌*◌, ◌^◌, ◌∷◌, [], length, ◌&&◌, List, IsTrue, IfErr, IfNone};
 ghost use Rattle.std.specs.Prelude.{IfOk, IfSome, Ok, OnOk, vec_capacity, vec_len};
 ghost use Rattle.sixel_model.specs.Pictures.{is_side};
-ghost use Rattle.sixel_ppm.specs.PpmHeld.{held_samples, is_good};
+ghost use Rattle.sixel_ppm.specs.PpmPartialPixel.{partial_samples, is_good};
 ghost use Rattle.sixel_ppm.specs.PpmColours.{IsUnusedFrom};
-ghost use Rattle.sixel_ppm.specs.PpmKnown.{Knows};
+ghost use Rattle.sixel_ppm.specs.PpmPixelCache.{Knows};
 ghost use Rattle.sixel_ppm.specs.PpmReading.{colour_of, most_header, percent};
 ghost use Rattle.sixel_model.specs.Profiles.{count_of};
 
 use crate::ppm::colours::Colours;
-use crate::ppm::header::Frame;
-use crate::ppm::known::Known;
+use crate::ppm::header::Header;
+use crate::ppm::pixel_cache::PixelCache;
 use crate::ppm::{PpmFault, PpmReason};
 use sixel_model::{Colour, Picture, Profile};
 use std::alloc::{AllocError, Global};
@@ -27,7 +27,7 @@ pub(crate) struct Pixel {
 
 /// The samples of a pixel that isn't whole.
 #[derive(Clone, Copy, Debug, PartialEq, Eq)]
-pub(crate) enum Held {
+pub(crate) enum PartialPixel {
     Nothing,
     Red(u8),
     RedGreen(u8, u8),
@@ -43,19 +43,19 @@ pub(crate) struct Samples {
     pub(crate) left: u32,
     /// The offset of the first sample of the next one of them.
     pub(crate) place: u64,
-    pub(crate) held: Held,
+    pub(crate) partial: PartialPixel,
     /// The last pixel: one that repeats it needs no look at the palette.
     pub(crate) last: Option<Pixel>,
     /// Pixels that came before: one of them needs no look at the palette, either.
-    pub(crate) known: Known,
+    pub(crate) cache: PixelCache,
     pub(crate) colours: Colours,
     pub(crate) registers: Vec<u8>,
     ghost scaled: { 0 < maxval },
     ghost bounded: { place + 3 * left ≤ 2 ^ 63 },
-    ghost held_is_good: { IsTrue (is_good held maxval left) },
+    ghost partial_is_good: { IsTrue (is_good partial maxval left) },
     ghost sides: { IsTrue (is_side width && is_side height) },
     ghost unused: { IsUnusedFrom colours.palette colours.count },
-    ghost knows: { Knows known maxval colours.palette },
+    ghost knows: { Knows cache maxval colours.palette },
     ghost room: { vec_len registers + left ≤ vec_capacity registers },
 }
 
@@ -93,29 +93,33 @@ fn fault(reason: PpmReason, place: u64) -> PpmFault
 }
 
 impl Samples {
-    ghost use Rattle.sixel_ppm.specs.PpmSamples.{Begins, Fails, FailsOn, IsLast, IsNextHeld, KeepsPixels, Leads};
+    ghost use Rattle.sixel_ppm.specs.PpmSamples.{Begins, Fails, FailsOn, IsLast, IsNextPartial, KeepsPixels, Leads};
     ghost use Rattle.sixel_ppm.specs.PpmSamples.{LeadsOn, HasRead, PutsPixel, PutsPixels, Refuses, Registers};
     ghost use Rattle.sixel_ppm.specs.PpmSamples.{TooMany, budget, samples_on, Holds};
     ghost use Rattle.sixel_model.specs.declared.colour.Parts.{Parts};
 
     /// No sample has come. This is the one growth of a reading.
-    pub(crate) fn new(alloc: Global, profile: Profile, frame: Frame) -> Result<Samples, AllocError>
-        requires sides { IsTrue (is_side frame.width && is_side frame.height) }
-        requires scaled { 0 < frame.maxval }
-        requires place { frame.place ≤ most_header }
-        ensures { IfOk result (λ s. Begins (count_of profile) frame s) }
+    pub(crate) fn new(
+        alloc: Global,
+        profile: Profile,
+        header: Header,
+    ) -> Result<Samples, AllocError>
+        requires sides { IsTrue (is_side header.width && is_side header.height) }
+        requires scaled { 0 < header.maxval }
+        requires place { header.place ≤ most_header }
+        ensures { IfOk result (λ s. Begins (count_of profile) header s) }
     {
-        let pixels = frame.width * frame.height;
+        let pixels = header.width * header.height;
         let registers = Vec::with_capacity(alloc, pixels as usize)?;
         Ok(Samples {
-            width: frame.width,
-            height: frame.height,
-            maxval: frame.maxval,
+            width: header.width,
+            height: header.height,
+            maxval: header.maxval,
             left: pixels,
-            place: frame.place,
-            held: Held::Nothing,
+            place: header.place,
+            partial: PartialPixel::Nothing,
             last: None,
-            known: Known::new(),
+            cache: PixelCache::new(),
             colours: Colours::new(profile),
             registers,
         })
@@ -163,7 +167,7 @@ impl Samples {
         match self.colours.register_of(colour) {
             None => Err(fault(PpmReason::TooManyColours, self.place)),
             Some(register) => {
-                self.known.keep(red, green, blue, register);
+                self.cache.keep(red, green, blue, register);
                 self.last = Some(Pixel {
                     red,
                     green,
@@ -194,7 +198,7 @@ impl Samples {
     /// Puts a pixel into the list of those that are whole, where `new` has left room for it.
     fn put(&mut self, register: u8)
         requires some { 0 < self.old.left }
-        requires whole { self.old.held ≡ Held.Nothing }
+        requires whole { self.old.partial ≡ PartialPixel.Nothing }
         ensures { PutsPixel self.old self.new register }
     {
         self.registers.push_reserved(register);
@@ -204,10 +208,10 @@ impl Samples {
 
     /// Reads the three samples of a pixel.
     fn pixel(&mut self, red: u8, green: u8, blue: u8) -> Result<(), PpmFault>
-        requires { self.old.held ≡ Held.Nothing }
+        requires { self.old.partial ≡ PartialPixel.Nothing }
         ensures read { OnOk result (Leads self.old self.new (red ∷ green ∷ blue ∷ [])) }
         ensures failed { IfErr result (λ fault. Fails self.old fault (red ∷ green ∷ blue ∷ [])) }
-        ensures held { OnOk result (self.new.held ≡ Held.Nothing) }
+        ensures partial { OnOk result (self.new.partial ≡ PartialPixel.Nothing) }
         ensures fewer { OnOk result (self.new.left + 1 ≡ self.old.left) }
     {
         if self.left == 0 {
@@ -219,10 +223,10 @@ impl Samples {
     }
 
     /// Keeps the first or the second sample of a pixel.
-    fn hold(&mut self, sample: u8, place: u64, held: Held) -> Result<(), PpmFault>
-        requires good { IsTrue (is_good self.old.held self.old.maxval self.old.left) }
-        requires next { IsNextHeld self.old.held sample held }
-        requires place { place ≡ self.old.place + length (held_samples self.old.held) }
+    fn hold(&mut self, sample: u8, place: u64, partial: PartialPixel) -> Result<(), PpmFault>
+        requires good { IsTrue (is_good self.old.partial self.old.maxval self.old.left) }
+        requires next { IsNextPartial self.old.partial sample partial }
+        requires place { place ≡ self.old.place + length (partial_samples self.old.partial) }
         ensures read { OnOk result (LeadsOn self.old self.new (sample ∷ [])) }
         ensures failed { IfErr result (λ fault. FailsOn self.old fault (sample ∷ [])) }
         ensures fewer { OnOk result (budget self.new + 1 ≡ budget self.old) }
@@ -233,7 +237,7 @@ impl Samples {
         if sample > self.maxval {
             return Err(fault(PpmReason::Sample, place));
         }
-        self.held = held;
+        self.partial = partial;
         Ok(())
     }
 
@@ -243,25 +247,29 @@ impl Samples {
         ensures failed { IfErr result (λ fault. FailsOn self.old fault (sample ∷ [])) }
         ensures fewer { OnOk result (budget self.new + 1 ≡ budget self.old) }
     {
-        match self.held {
-            Held::Nothing => self.hold(sample, self.place, Held::Red(sample)),
-            Held::Red(red) => self.hold(sample, self.place + 1, Held::RedGreen(red, sample)),
-            Held::RedGreen(red, green) => {
-                self.held = Held::Nothing;
+        match self.partial {
+            PartialPixel::Nothing => self.hold(sample, self.place, PartialPixel::Red(sample)),
+            PartialPixel::Red(red) => self.hold(
+                sample,
+                self.place + 1,
+                PartialPixel::RedGreen(red, sample),
+            ),
+            PartialPixel::RedGreen(red, green) => {
+                self.partial = PartialPixel::Nothing;
                 self.pixel(red, green, sample)
             }
         }
     }
 
-    /// Reads a whole pixel from the front of the bytes, or else one sample, and gives what follows.
-    fn front<'a>(&mut self, bytes: &'a [u8]) -> Result<&'a [u8], PpmFault>
+    /// Reads a whole pixel from the beginning of the bytes, or else one sample, and gives what follows.
+    fn read_first<'a>(&mut self, bytes: &'a [u8]) -> Result<&'a [u8], PpmFault>
         requires { 0 < length bytes.now }
         ensures read { IfOk result (λ rest. HasRead self.old self.new bytes.now rest.now) }
         ensures shorter { IfOk result (λ rest. length rest.now < length bytes.now) }
         ensures failed { IfErr result (λ fault. FailsOn self.old fault bytes.now) }
     {
-        match (self.held, bytes) {
-            (Held::Nothing, [red, green, blue, rest @ ..]) => {
+        match (self.partial, bytes) {
+            (PartialPixel::Nothing, [red, green, blue, rest @ ..]) => {
                 self.pixel(*red, *green, *blue)?;
                 Ok(rest)
             }
@@ -273,31 +281,31 @@ impl Samples {
         }
     }
 
-    /// Puts at most so many pixels from the front of the bytes into the list of those that are whole, up to the
-    /// first one that isn't known, and tells how many they are.
-    fn put_known(&mut self, bytes: &[u8], most: usize) -> usize
+    /// Puts at most so many pixels from the beginning of the bytes into the list of those that are whole, up to the
+    /// first one that isn't in the cache, and tells how many they are.
+    fn put_cached(&mut self, bytes: &[u8], most: usize) -> usize
         requires left { most ≤ self.old.left }
         requires within { 3 * most ≤ length bytes.now }
-        requires whole { self.old.held ≡ Held.Nothing }
+        requires whole { self.old.partial ≡ PartialPixel.Nothing }
         ensures most { result ≤ most }
         ensures put { PutsPixels self.old self.new bytes.now result }
     {
-        let count = self.known.put_all(bytes, most, &mut self.registers);
+        let count = self.cache.put_all(bytes, most, &mut self.registers);
         self.left -= count as u32;
         self.place += 3 * count as u64;
         count
     }
 
-    /// Reads the whole pixels at the front that are known, and gives what follows.
-    fn known_front<'a>(&mut self, bytes: &'a [u8]) -> &'a [u8]
+    /// Reads the whole pixels at the beginning that are in the cache, and gives what follows.
+    fn read_cached<'a>(&mut self, bytes: &'a [u8]) -> &'a [u8]
         ensures read { HasRead self.old self.new bytes.now result.now }
         ensures shorter { length result.now ≤ length bytes.now }
     {
-        let Held::Nothing = self.held else {
+        let PartialPixel::Nothing = self.partial else {
             return bytes;
         };
         let most = (bytes.len() / 3).min(self.left as usize);
-        let count = self.put_known(bytes, most);
+        let count = self.put_cached(bytes, most);
         &bytes[3 * count..]
     }
 
@@ -309,8 +317,8 @@ impl Samples {
     {
         let mut rest = piece;
         while !rest.is_empty() {
-            rest = self.front(rest)?;
-            rest = self.known_front(rest);
+            rest = self.read_first(rest)?;
+            rest = self.read_cached(rest);
         }
         Ok(())
     }
@@ -328,26 +336,26 @@ impl Samples {
             height,
             left,
             place,
-            held,
+            partial,
             colours,
             registers,
             ..
         } = self;
         if left > 0 {
-            return Err(fault(PpmReason::Short, place + count(held)));
+            return Err(fault(PpmReason::Short, place + count(partial)));
         }
         Ok(Picture::of_parts(width, height, colours.palette, registers))
     }
 }
 
 /// How many samples are held.
-fn count(held: Held) -> u64
-    ensures count { result ≡ length (held_samples held) }
+fn count(partial: PartialPixel) -> u64
+    ensures count { result ≡ length (partial_samples partial) }
     ensures few { result ≤ 2 }
 {
-    match held {
-        Held::Nothing => 0,
-        Held::Red(_) => 1,
-        Held::RedGreen(_, _) => 2,
+    match partial {
+        PartialPixel::Nothing => 0,
+        PartialPixel::Red(_) => 1,
+        PartialPixel::RedGreen(_, _) => 2,
     }
 }

@@ -96,14 +96,14 @@ fn feed_all<K: Sink>(
                 Err(_) => return Err(RunFault::Write),
             }
         }
-        feed_any(reader, *byte, lines, out)?;
+        feed_and_put(reader, *byte, lines, out)?;
     }
     Ok(())
 }
 
 /// Reads a byte of any kind.
 #[inline(never)]
-fn feed_any<K: Sink>(
+fn feed_and_put<K: Sink>(
     reader: &mut Reader,
     byte: u8,
     lines: &mut Lines,

@@ -288,7 +288,7 @@ folder.
 pub const WRITE: &str = "Write: the output couldn't be written
 
 Refused: with the line sixel: write failed, where the output couldn't be
-written. A front of it may be there.
+written. A prefix of it may be there.
 
 Mend it: look at where the output goes: a disk may be full, or a program may
 have stopped reading.

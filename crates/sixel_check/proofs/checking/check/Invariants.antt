@@ -6,8 +6,8 @@ use Rattle.sixel_check.specs.Checking.{AreAfter}
 use Rattle.sixel_check.proofs.checking.check.Given as goal
 
 abbrev pub invariant-loop-checker : goal.invariant-loop-checker
-invariant-loop-checker g l = (front : List ℕ) × AreAfter (count_of l.fn.profile) l.reader l.checker front
-    × Consumes (g.S.Source.state l.fn.input).remaining (g.S.Source.state l.input).remaining front
+invariant-loop-checker g l = (prefix : List ℕ) × AreAfter (count_of l.fn.profile) l.reader l.checker prefix
+    × Consumes (g.S.Source.state l.fn.input).remaining (g.S.Source.state l.input).remaining prefix
     × ((g.S.Source.state l.input).failures ≡ (g.S.Source.state l.fn.input).failures)
 
 abbrev pub decreases-loop-checker : goal.decreases-loop-checker

@@ -19,9 +19,9 @@ finish-requires-2 g c =
     }
 
 pub returns-clause-answer : goal.returns-clause-answer
-returns-clause-answer g c = λ registers front a. (
+returns-clause-answer g c = λ registers prefix a. (
   a.events,
-  c.in_ok-finish.ensures.answer a.events front a.read,
+  c.in_ok-finish.ensures.answer a.events prefix a.read,
   c.in_ok-finish-2.ensures.verdict registers a.events a.checked,
   c.in_ok-finish-2.ensures.everywhere registers a.events a.checked,
   c.in_ok-finish-2.ensures.no_false_alarm registers a.events a.checked,
@@ -30,4 +30,4 @@ returns-clause-answer g c = λ registers front a. (
 pub returns-in_err-finish-clause-answer : goal.returns-in_err-finish-clause-answer
 returns-in_err-finish-clause-answer g c =
     let failed = err_from_is_err_and c.from_residual.result c.from_residual.ensures.1 in
-    rw (failed.1, failed.2) (λ registers front a. (c.in_err-finish.ensures.answer a.events front a.read).0)
+    rw (failed.1, failed.2) (λ registers prefix a. (c.in_err-finish.ensures.answer a.events prefix a.read).0)

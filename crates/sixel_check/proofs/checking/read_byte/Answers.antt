@@ -21,19 +21,19 @@ keep_command-requires g c =
     (c.requires.0, a.events, a.checked, may.0)
 
 pub returns-in-Some-Nothing-clause-read : goal.returns-in-Some-Nothing-clause-read
-returns-in-Some-Nothing-clause-read g c = λ registers front a.
+returns-in-Some-Nothing-clause-read g c = λ registers prefix a.
     let takes = λ (p : Plain). Takes c.args.reader.now c.feed_plain.new.self c.args.byte (completions (plain_of p)) in
     let accepted : takes Nothing = subst takes c.in-Some-Nothing.field-0-is c.in-Some-Nothing.ensures.accepted in
-    after_byte c.args.reader.now c.feed_plain.new.self c.args.checker.now c.args.checker.now (plain_of Nothing) front
+    after_byte c.args.reader.now c.feed_plain.new.self c.args.checker.now c.args.checker.now (plain_of Nothing) prefix
     c.args.byte accepted (λ seen s. subst (StandsAfter registers c.args.checker.now) (sym (append-nil seen)) s) a
 
 pub returns-in_ok-keep_command-in-Some-Command-clause-read : goal.returns-in_ok-keep_command-in-Some-Command-clause-read
-returns-in_ok-keep_command-in-Some-Command-clause-read g c = λ registers front a.
+returns-in_ok-keep_command-in-Some-Command-clause-read g c = λ registers prefix a.
     let plain = Command c.in-Some-Command.place c.in-Some-Command.command in
     let takes = λ (p : Plain). Takes c.args.reader.now c.feed_plain.new.self c.args.byte (completions (plain_of p)) in
     let accepted : takes plain = subst takes c.in-Some-Command.field-0-is c.in-Some-Command.ensures.accepted in
     after_byte c.args.reader.now c.feed_plain.new.self c.args.checker.now c.keep_command.new.checker
-    (plain_of plain) front
+    (plain_of plain) prefix
     c.args.byte accepted (c.in_ok-keep_command-in-Some-Command.ensures.kept registers) a
 
 pub returns-in_err-keep_command-in-Some-Command-clause-memory :
@@ -41,9 +41,9 @@ pub returns-in_err-keep_command-in-Some-Command-clause-memory :
 returns-in_err-keep_command-in-Some-Command-clause-memory g c =
     let failed = err_from_is_err_and c.from_residual.result c.from_residual.ensures.1 in
     rw (failed.1, failed.2)
-    (λ registers front a.
+    (λ registers prefix a.
     let plain = Command c.in-Some-Command.place c.in-Some-Command.command in
     let takes = λ (p : Plain). Takes c.args.reader.now c.feed_plain.new.self c.args.byte (completions (plain_of p)) in
     let accepted : takes plain = subst takes c.in-Some-Command.field-0-is c.in-Some-Command.ensures.accepted in
-    grows_byte c.args.reader.now c.feed_plain.new.self c.args.checker.now (plain_of plain) c.args.byte front accepted
+    grows_byte c.args.reader.now c.feed_plain.new.self c.args.checker.now (plain_of plain) c.args.byte prefix accepted
     (c.in_err-keep_command-in-Some-Command.ensures.grows registers) a)

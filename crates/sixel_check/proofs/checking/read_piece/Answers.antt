@@ -6,8 +6,8 @@ use Rattle.sixel_check.proofs.GrowthLemmas.{grows_for_on}
 use Rattle.sixel_check.proofs.ReadLemmas.{part_then, rest_of, split_part}
 use Rattle.sixel_check.proofs.checking.read_piece.Goals as goal
 
-pub read_front-requires-clause-stands : goal.read_front-requires-clause-stands
-read_front-requires-clause-stands g c = (
+pub read_stretch_or_byte-requires-clause-stands : goal.read_stretch_or_byte-requires-clause-stands
+read_stretch_or_byte-requires-clause-stands g c = (
   c.requires.0,
   c.requires.1 ++ take c.loop-read.read c.args.piece.now,
   c.loop-read.invariant c.requires.0 c.requires.1 c.requires.2,
@@ -17,34 +17,34 @@ pub returns-in_err-read-clause-refused : goal.returns-in_err-read-clause-refused
 returns-in_err-read-clause-refused g c =
     let failed = err_from_is_err_and c.from_residual.result c.from_residual.ensures.1 in
     rw (failed.1, failed.2)
-    (λ registers front a.
+    (λ registers prefix a.
     let h =
-    c.in_err-read.ensures.refused registers (front ++ take c.loop-read.read c.args.piece.now)
-    (c.loop-read.invariant registers front a) in
-    refuses-more _ _ (drop 1 (rest_of c.loop-read.read c.args.piece.now)) (front ++ c.args.piece.now)
-    (split_part front c.args.piece.now c.loop-read.read 1) h)
+    c.in_err-read.ensures.refused registers (prefix ++ take c.loop-read.read c.args.piece.now)
+    (c.loop-read.invariant registers prefix a) in
+    refuses-more _ _ (drop 1 (rest_of c.loop-read.read c.args.piece.now)) (prefix ++ c.args.piece.now)
+    (split_part prefix c.args.piece.now c.loop-read.read 1) h)
 
 pub returns-in_err-read-clause-memory : goal.returns-in_err-read-clause-memory
 returns-in_err-read-clause-memory g c =
     let failed = err_from_is_err_and c.from_residual.result c.from_residual.ensures.1 in
     rw (failed.1, failed.2)
-    (λ registers front a.
+    (λ registers prefix a.
     let h =
-    c.in_err-read.ensures.memory registers (front ++ take c.loop-read.read c.args.piece.now)
-    (c.loop-read.invariant registers front a) in
-    grows_for_on _ _ _ (drop 1 (rest_of c.loop-read.read c.args.piece.now)) (front ++ c.args.piece.now)
-    (split_part front c.args.piece.now c.loop-read.read 1) h)
+    c.in_err-read.ensures.memory registers (prefix ++ take c.loop-read.read c.args.piece.now)
+    (c.loop-read.invariant registers prefix a) in
+    grows_for_on _ _ _ (drop 1 (rest_of c.loop-read.read c.args.piece.now)) (prefix ++ c.args.piece.now)
+    (split_part prefix c.args.piece.now c.loop-read.read 1) h)
 
 pub loop-read-preserved : goal.loop-read-preserved
-loop-read-preserved g c = λ registers front a.
+loop-read-preserved g c = λ registers prefix a.
     let h =
-    c.in_ok-read.ensures.read registers (front ++ take c.loop-read.read c.args.piece.now)
-    (c.loop-read.invariant registers front a) in
-    subst (λ (t : List ℕ). AreAfter registers c.read_front.new.reader c.read_front.new.checker t)
-    (part_then front c.args.piece.now c.loop-read.read c.in_ok-read.field-0) h
+    c.in_ok-read.ensures.read registers (prefix ++ take c.loop-read.read c.args.piece.now)
+    (c.loop-read.invariant registers prefix a) in
+    subst (λ (t : List ℕ). AreAfter registers c.read_stretch_or_byte.new.reader c.read_stretch_or_byte.new.checker t)
+    (part_then prefix c.args.piece.now c.loop-read.read c.in_ok-read.field-0) h
 
 pub returns-clause-read : goal.returns-clause-read
-returns-clause-read g c = λ registers front a.
+returns-clause-read g c = λ registers prefix a.
     let whole = take_past c.loop-read.read c.args.piece.now (omega arith) in
-    subst (λ (t : List ℕ). AreAfter registers c.loop-read.reader c.loop-read.checker (front ++ t)) whole
-    (c.loop-read.invariant registers front a)
+    subst (λ (t : List ℕ). AreAfter registers c.loop-read.reader c.loop-read.checker (prefix ++ t)) whole
+    (c.loop-read.invariant registers prefix a)

@@ -1,4 +1,4 @@
-use Rattle.sixel_check.proofs.PlainLemmas.{some_eight_bit_differ, some_outside_differ, some_uncovered_differ}
+use Rattle.sixel_check.proofs.WitnessLemmas.{some_eight_bit_differ, some_outside_differ, some_uncovered_differ}
 use Rattle.sixel_check.proofs.laws.some_terminals_differ.Goals as goal
 
 pub returns : goal.returns

@@ -2,7 +2,7 @@ use Rattle.std.proofs.Common.{◌≡◌, ◌≢◌, ◌++◌, ◌-◌, List, [],
 use Rattle.std.proofs.Common.{append_assoc}
 use Rattle.std.proofs.lemmas.Result.{err_from_is_err_and}
 use Rattle.sixel_io.proofs.SinkLemmas.{through-next, through-none, through-stopped, through-then}
-use Rattle.sixel_encode.specs.Columns.{columns_of, part}
+use Rattle.sixel_encode.specs.Columns.{bits_of_sixels, part}
 use Rattle.sixel_encode.proofs.StretchLemmas.{blank_end, ink_text, next_text}
 use Rattle.sixel_encode.proofs.TextLemmas.{columns_text, run_text}
 use Rattle.sixel_encode.proofs.band.put_columns.Goals as goal
@@ -36,7 +36,7 @@ returns-in_err-put_until g c =
     c.in-Some.ensures c.run_end-end.ensures some in
     let all = part c.loop-start.from c.in-Some.start xs
     ++ run_text (c.run_end-end.result - c.in-Some.start) (get_or xs c.in-Some.start 0 - 63) in
-    let rest = columns_text (drop c.run_end-end.result (columns_of xs)) in
+    let rest = columns_text (drop c.run_end-end.result (bits_of_sixels xs)) in
     rw failed.1
     (through-stopped {ys = all} rest (inv.2 ∙ ap (λ (t : List _). inv.0 ++ t) more ∙ sym (append_assoc inv.0 all rest))
     inv.1 c.in_err-put_until.ensures)
@@ -54,7 +54,7 @@ loop-start-preserved g c =
     c.in-Some.ensures c.run_end-end.ensures some in
     let all = part c.loop-start.from c.in-Some.start xs
     ++ run_text (c.run_end-end.result - c.in-Some.start) (get_or xs c.in-Some.start 0 - 63) in
-    let rest = columns_text (drop c.run_end-end.result (columns_of xs)) in
+    let rest = columns_text (drop c.run_end-end.result (bits_of_sixels xs)) in
     record {
       put = (
         inv.0 ++ all,

@@ -18,7 +18,7 @@ returns-clause-done g c = λ is.
     let contents = g.F.Folder.contents c.args.folder.now in
     All-weaker _ _
     (λ name. told_chained (λ (bytes : List ℕ). (text : Text) × Gives t bytes text (Ok Done)) contents _ _ _ name
-    c.front_of-front.ensures.front)
+    c.prefix_of-prefix.ensures.prefix)
     (names_read t (map string_bytes c.args.request.now.files.items))
     (all_read_done _ _ _ _ _ _ _ _ _
     (rw (c.new-input.ensures, c.chain.ensures.bytes, c.as_slice.ensures.value) at c.answer.ensures) is)
@@ -32,7 +32,7 @@ returns-clause-broken g c = λ is once.
       found.0,
       found.1,
       told_chained (λ (bytes : List ℕ). (text : Text) × (finding : Finding) × Gives t bytes text (Ok (Broken finding)))
-          contents _ _ _ found.0 c.front_of-front.ensures.front found.2,
+          contents _ _ _ found.0 c.prefix_of-prefix.ensures.prefix found.2,
     )
 
 pub returns-clause-judged : goal.returns-clause-judged
@@ -41,7 +41,7 @@ returns-clause-judged g c = λ is.
     let contents = g.F.Folder.contents c.args.folder.now in
     All-weaker _ _
     (λ name. told_chained (λ (bytes : List ℕ). (text : Text) × (status : Status) × Gives t bytes text (Ok status))
-    contents _ _ _ name c.front_of-front.ensures.front)
+    contents _ _ _ name c.prefix_of-prefix.ensures.prefix)
     (names_read t (map string_bytes c.args.request.now.files.items))
     (all_read_judged _ _ _ _ _ _ _ _ _
     (rw (c.new-input.ensures, c.chain.ensures.bytes, c.as_slice.ensures.value) at c.answer.ensures) is)

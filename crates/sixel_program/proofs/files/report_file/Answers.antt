@@ -9,7 +9,7 @@ returns-then-eq g c = dash_ends _ _ _ _ _ _ _ _ (sym c.eq.ensures ∙ c.if-eq.tr
 pub returns-in-Ok : goal.returns-in-Ok
 returns-in-Ok g c =
     file_ends _ _ _ _ _ _ _ _ _ _ _ _ (sym c.eq.ensures ∙ c.if-eq.false)
-    (rw c.in-Ok.ensures.opened at c.first_bytes-front.ensures)
+    (rw c.in-Ok.ensures.opened at c.first_bytes-prefix.ensures)
     (rw (c.new-file.ensures, c.chain.ensures.bytes, c.as_slice.ensures.value, c.as_slice-in-Ok.ensures.value)
     at c.report_named-in-Ok.ensures)
 

@@ -1,13 +1,13 @@
 use Rattle.std.proofs.Common.{refl}
 use Rattle.std.proofs.lemmas.Grind.{flat_map-append}
 use Rattle.std.proofs.lemmas.List.{append-nil}
-use Rattle.sixel_program.specs.Files.{named, text_of}
+use Rattle.sixel_program.specs.Files.{named, text_of_end}
 use Rattle.sixel_program.proofs.SeveralLemmas.{alone, faulty, greatest_of, quiet, reached, said_whole}
 use Rattle.sixel_program.proofs.laws.several_files_are_checked_one_by_one.Goals as goal
 
 pub returns : goal.returns
 returns c = record {
-  joined = λ is_quiet front rest. flat_map-append (text_of is_quiet) front rest;
+  joined = λ is_quiet prefix rest. flat_map-append (text_of_end is_quiet) prefix rest;
   named = λ e status answer. rw answer (append-nil (named e.name e.line));
   alone = alone;
   refused = λ is_quiet e fault answer. rw answer refl;

@@ -1,7 +1,7 @@
 use Rattle.std.proofs.Common.{◌≡◌, ◌∙◌, ap, codes, true}
 use Rattle.std.proofs.lemmas.Result.{IfOk-weaker}
 use Rattle.clap.specs.Simple.{App, app_of, app_of_fields, new_app, on_top}
-use Rattle.sixel_words.specs.Words.{with_plain, with_profile}
+use Rattle.sixel_words.specs.Words.{with_file_only, with_profile}
 use Rattle.sixel_words.proofs.CommandLemmas.{with_sub}
 use Rattle.sixel_words.proofs.words.sixel_command.Goals as goal
 
@@ -17,7 +17,7 @@ returns c =
     ap app_of_fields c.subcommand_required-command.ensures
     ∙ ap (on_top (λ s. record s { subcommand_required = true })) (ap app_of_fields c.version.ensures
     ∙ ap (on_top (λ s. record s { has_version = true })) about) in
-    let list = c.in_ok-command.ensures ∙ ap (λ (a : App). with_plain a (codes "list")) new in
+    let list = c.in_ok-command.ensures ∙ ap (λ (a : App). with_file_only a (codes "list")) new in
     let check = with_sub list c.in_ok-check_command.ensures.app c.in_ok-check_command.ensures.local c.in_ok-command-2.ensures in
     let render = c.in_ok-command-3.ensures ∙ ap (λ (a : App). with_profile a (codes "render")) check in
     let encode = c.in_ok-command-4.ensures ∙ ap (λ (a : App). with_profile a (codes "encode")) render in

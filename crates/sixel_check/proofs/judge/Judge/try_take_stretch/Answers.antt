@@ -2,7 +2,7 @@ use Rattle.std.proofs.Common.{◌≡◌, false, sym, ◌∙◌}
 use Rattle.std.specs.Prelude.{is_some}
 use Rattle.std.specs.Option.{option_map}
 use Rattle.sixel_grammar.specs.Document.{events_of}
-use Rattle.sixel_check.proofs.NoteLemmas.{notes_below}
+use Rattle.sixel_check.proofs.DrawingStateLemmas.{state_below}
 use Rattle.sixel_check.proofs.JudgeLemmas.{unbroken_of}
 use Rattle.sixel_check.proofs.judge.Judge.try_take_stretch.Goals as goal
 
@@ -10,6 +10,6 @@ pub try_take_stretch-requires-clause-below : goal.try_take_stretch-requires-clau
 try_take_stretch-requires-clause-below g c =
     let none : is_some c.args.self.now.finding ≡ false = sym c.is_some.ensures ∙ c.if-is_some.false in
     let q = c.requires.stands in
-    notes_below c.args.self.now.notes (events_of q.1)
-    (unbroken_of c.args.self.now.finding c.args.self.now.notes (option_map g.P.Plane.sheet c.args.self.now.plane) q.1
-    none q.2).notes_are
+    state_below c.args.self.now.state (events_of q.1)
+    (unbroken_of c.args.self.now.finding c.args.self.now.state (option_map g.P.Plane.grid c.args.self.now.plane) q.1
+    none q.2).state_is

@@ -25,12 +25,14 @@ returns-clause-accepted c =
     ∙ c.in_default.ensures.kept refl in
     let from =
     λ (r : Reader).
-    IfOk c.feed_slowly.result (λ (done : Completed). Takes r c.feed_slowly.new.self c.args.byte (completions done)) in
-    subst from same c.feed_slowly.ensures.accepted
+    IfOk c.complete_or_refuse.result (λ (done : Completed). Takes r c.complete_or_refuse.new.self c.args.byte
+    (completions done)) in
+    subst from same c.complete_or_refuse.ensures.accepted
 
 pub returns-clause-refused : goal.returns-clause-refused
 returns-clause-refused c =
     let same : c.try_grow.new.self ≡ c.args.self.now = c.if-try_grow.ensures.kept refl
     ∙ c.in_default.ensures.kept refl in
-    let from = λ (r : Reader). IfErr c.feed_slowly.result (Refuses r c.feed_slowly.new.self c.args.byte) in
-    subst from same c.feed_slowly.ensures.refused
+    let from = λ (r : Reader). IfErr c.complete_or_refuse.result (Refuses r c.complete_or_refuse.new.self c.args.byte)
+    in
+    subst from same c.complete_or_refuse.ensures.refused

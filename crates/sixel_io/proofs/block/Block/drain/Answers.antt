@@ -8,7 +8,7 @@ loop-self-init g c =
     let none = nothing-taken (g.K.Sink.state c.args.out.now).taken c.args.self.now in
     record {
       in_range = (c.self.invariant.0, c.self.invariant.1);
-      front = (none.0, none.1, c.self.view_is ∙ none.2);
+      prefix = (none.0, none.1, c.self.view_is ∙ none.2);
       unflushed = λ t. t;
       held = λ less. absurd (omega (arith, ap length c.self.view_is));
       failures = refl;
@@ -26,8 +26,8 @@ loop-self-preserved g c =
     let bound : c.in_ok-count.count ≤ length c.part.result.now = c.in_ok-count.ensures.bound.1 in
     record {
       in_range = (omega (arith, length-drop start text), c.loop-self.invariant.in_range.1);
-      front = takes-further _ (g.K.Sink.state c.loop-self.out).taken _ c.args.self.now
-          (drop start text) _ c.in_ok-count.count c.loop-self.invariant.front (rw part at c.in_ok-count.ensures.bytes)
+      prefix = takes-further _ (g.K.Sink.state c.loop-self.out).taken _ c.args.self.now
+          (drop start text) _ c.in_ok-count.count c.loop-self.invariant.prefix (rw part at c.in_ok-count.ensures.bytes)
           (sym (drop-drop c.in_ok-count.count start text));
       unflushed = λ t. cc (c.in_ok-count.ensures.flushed, t);
       held = λ less. c.in_ok-count.ensures.flushed;

@@ -6,7 +6,7 @@ use Rattle.sixel_io.proofs.block.Block.drain.Given as goal
 abbrev pub invariant-loop-self : goal.invariant-loop-self
 invariant-loop-self g l = record {
   in_range : (l.self-inside.start ≤ l.self-inside.end) × (l.self-inside.end ≤ length l.self-inside.text);
-  front : (n : ℕ) × Appends (g.K.Sink.state l.fn.out).taken (g.K.Sink.state l.out).taken (take n l.fn.self)
+  prefix : (n : ℕ) × Appends (g.K.Sink.state l.fn.out).taken (g.K.Sink.state l.out).taken (take n l.fn.self)
       × (drop l.self-inside.start (take l.self-inside.end l.self-inside.text) ≡ drop n l.fn.self);
   unflushed : NeverFlushes (g.K.Sink.state l.fn.out).is_flushed (g.K.Sink.state l.out).is_flushed;
   held : length (drop l.self-inside.start (take l.self-inside.end l.self-inside.text)) < length l.fn.self

@@ -1,8 +1,8 @@
 use Rattle.std.proofs.Common.{◌≡◌, ◌+◌, ◌*◌, ◌<◌, ◌≤◌, ℕ, length, refl, ap, ap₂, ◌∙◌, arith, rules, subst, List}
 use Rattle.std.specs.Int.Bits.{bit_or}
 use Rattle.std.proofs.lemmas.List.{take_at}
-use Rattle.sixel_plane.specs.BandPlanes.{sheet_of_bands}
-use Rattle.sixel_model.specs.Sheets.{Sheet, painted_sheet}
+use Rattle.sixel_plane.specs.BandPlanes.{grid_of_bands}
+use Rattle.sixel_model.specs.Grids.{Grid, painted_grid}
 use Rattle.sixel_plane.specs.Stretches.{AreMapped, ArePainted, run_sixel}
 use Rattle.sixel_plane.proofs.PlaneStretchLemmas.{no_run_past, stretched_bands, stretched_run}
 use Rattle.sixel_plane.proofs.band_plane.BandPlane.try_paint_short_run.Goals as goal
@@ -10,7 +10,7 @@ use Rattle.sixel_plane.proofs.band_plane.BandPlane.try_paint_short_run.Goals as 
 pub returns-clause-painted : goal.returns-clause-painted
 returns-clause-painted c = λ _.
     let inside = c.self.inside in
-    let wide : inside.width ≡ c.args.self.now.width = ap (λ (s : Sheet). s.width) c.self.view_is in
+    let wide : inside.width ≡ c.args.self.now.width = ap (λ (s : Grid). s.width) c.self.view_is in
     let some : 0 < inside.width = search rules in
     let fits : c.args.column + c.args.count ≤ inside.width = omega (arith, c.requires, wide) in
     let f : ℕ → ℕ = run_sixel c.args.bits c.args.count in
@@ -27,14 +27,14 @@ returns-clause-painted c = λ _.
     c.deref_mut-2.ensures.value q.3 in
     let registers : length c.paint_short_run.new.registers ≡ inside.registers.len = omega (arith, painted.long) in
     let coverage : length c.paint_short_run.new.coverage ≡ inside.coverage.len = omega (arith, mapped.long) in
-    ap₂ (sheet_of_bands inside.width inside.height) (take_at c.paint_short_run.new.registers _ _ registers)
+    ap₂ (grid_of_bands inside.width inside.height) (take_at c.paint_short_run.new.registers _ _ registers)
     (take_at c.paint_short_run.new.coverage _ _ coverage)
     ∙ stretched_bands inside.width inside.height c.args.column c.args.band c.args.count n start covered f
     c.args.register inside.registers.items inside.coverage.items c.paint_short_run.new.registers
     c.paint_short_run.new.coverage some fits c.self.invariant.each_pixel c.self.invariant.each_band
     q.1 (no_run_past c.args.bits c.args.count) refl refl painted mapped
     ∙ stretched_run
-    (sheet_of_bands inside.width inside.height inside.registers.items inside.coverage.items) c.args.column
+    (grid_of_bands inside.width inside.height inside.registers.items inside.coverage.items) c.args.column
     c.args.band c.args.count c.args.bits c.args.register some
-    ∙ ap (λ (s : Sheet). painted_sheet s c.args.column c.args.band c.args.count c.args.bits c.args.register)
+    ∙ ap (λ (s : Grid). painted_grid s c.args.column c.args.band c.args.count c.args.bits c.args.register)
     c.self.view_is

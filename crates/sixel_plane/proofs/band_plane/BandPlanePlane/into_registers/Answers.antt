@@ -1,6 +1,6 @@
 use Rattle.std.proofs.Common.{◌∙◌, ap}
-use Rattle.sixel_plane.specs.BandPlanes.{is_covered}
-use Rattle.sixel_model.specs.Sheets.{Sheet, IsFull}
+use Rattle.sixel_plane.specs.BandPlanes.{has_coverage_bit}
+use Rattle.sixel_model.specs.Grids.{Grid, IsFull}
 use Rattle.sixel_plane.proofs.PaintedLemmas.{full_registers}
 use Rattle.sixel_plane.proofs.band_plane.BandPlanePlane.into_registers.Goals as goal
 
@@ -8,6 +8,7 @@ pub returns : goal.returns
 returns c =
     let inside = c.self.inside in
     let full : IsFull _ = rw (← c.self.view_is) at c.requires in
-    full_registers inside.width inside.height inside.registers.items (is_covered inside.width inside.coverage.items)
+    full_registers inside.width inside.height inside.registers.items
+    (has_coverage_bit inside.width inside.coverage.items)
     c.self.invariant.each_pixel full
-    ∙ ap (λ (s : Sheet). s.cells) c.self.view_is
+    ∙ ap (λ (s : Grid). s.cells) c.self.view_is

@@ -1,15 +1,15 @@
 use Rattle.std.proofs.Common.{◌≡◌, ◌%◌, ◌/◌, ◌*◌, ◌<◌, ℕ, Bool, List, Option, Some, None, length, not, position, sym}
 use Rattle.std.proofs.Common.{ap, ◌∙◌, rules}
 use Rattle.std.specs.Option.{option_map}
-use Rattle.sixel_plane.specs.BytePlanes.{is_marked, sheet_of_marks}
-use Rattle.sixel_model.specs.Sheets.{Sheet, first_blank}
+use Rattle.sixel_plane.specs.BytePlanes.{is_marked, grid_of_marks}
+use Rattle.sixel_model.specs.Grids.{Grid, first_blank}
 use Rattle.sixel_plane.proofs.ByteLemmas.{first_unmarked}
 use Rattle.sixel_plane.proofs.PaintedLemmas.{first_blank_unpainted}
 use Rattle.sixel_plane.proofs.byte_plane.BytePlanePlane.first_blank.Goals as goal
 
 -- the answer for the index of the first pixel without a mark
-answered : (w h : ℕ) (registers : List ℕ) (marks : List Bool) (s : Sheet) (found : Option ℕ) → 0 < w
-    → length marks ≡ w * h → sheet_of_marks w h registers marks ≡ s → found ≡ position not marks
+answered : (w h : ℕ) (registers : List ℕ) (marks : List Bool) (s : Grid) (found : Option ℕ) → 0 < w
+    → length marks ≡ w * h → grid_of_marks w h registers marks ≡ s → found ≡ position not marks
     → option_map (λ i. (i % w, i / w)) found ≡ first_blank s
 answered w h registers marks s found some whole same at =
     first_blank_unpainted w h registers (is_marked w marks) _ some (first_unmarked w h marks found some whole at)

@@ -5,8 +5,8 @@ use Rattle.std.proofs.lemmas.Bool.{eqb-true}
 use Rattle.std.proofs.lemmas.Nat.{row_fits_turned}
 use Rattle.std.proofs.lemmas.List.{take_at}
 use Rattle.sixel_plane.specs.declared.byte_plane.BytePlane.TheInside.{Inside}
-use Rattle.sixel_plane.specs.BytePlanes.{sheet_of_marks}
-use Rattle.sixel_model.specs.Sheets.{Sheet, painted_sheet}
+use Rattle.sixel_plane.specs.BytePlanes.{grid_of_marks}
+use Rattle.sixel_model.specs.Grids.{Grid, painted_grid}
 use Rattle.sixel_plane.proofs.ByteLemmas.{painted_marks}
 use Rattle.sixel_model.proofs.PaintLemmas.{painted_none, painted_same}
 use Rattle.sixel_model.proofs.RunLemmas.{run_more}
@@ -43,8 +43,8 @@ fill_row-requires c =
     let set : bit_at c.args.bits c.loop-bit.bit ≡ 1 =
     eqb-true (bit_at c.args.bits c.loop-bit.bit) 1 (sym c.if-is_set.ensures) in
     let room = row_fits c.self.inside.width c.self.inside.height c.args.self.now.width c.args.self.now.height
-    c.args.band c.loop-bit.bit c.args.column c.args.count (ap (λ (s : Sheet). s.width) c.self.view_is)
-    (ap (λ (s : Sheet). s.height) c.self.view_is) c.requires.columns
+    c.args.band c.loop-bit.bit c.args.column c.args.count (ap (λ (s : Grid). s.width) c.self.view_is)
+    (ap (λ (s : Grid). s.height) c.self.view_is) c.requires.columns
     (c.requires.rows c.loop-bit.bit c.loop-bit-test.true set) in
     let stored : length c.deref_mut.result.now ≡ c.self.inside.width * c.self.inside.height =
     ap length c.deref_mut.ensures.value ∙ c.loop-bit.invariant.painted.long ∙ c.self.invariant.each_register in
@@ -55,8 +55,8 @@ fill_row-requires-then-is_set c =
     let set : bit_at c.args.bits c.loop-bit.bit ≡ 1 =
     eqb-true (bit_at c.args.bits c.loop-bit.bit) 1 (sym c.if-is_set.ensures) in
     let room = row_fits c.self.inside.width c.self.inside.height c.args.self.now.width c.args.self.now.height
-    c.args.band c.loop-bit.bit c.args.column c.args.count (ap (λ (s : Sheet). s.width) c.self.view_is)
-    (ap (λ (s : Sheet). s.height) c.self.view_is) c.requires.columns
+    c.args.band c.loop-bit.bit c.args.column c.args.count (ap (λ (s : Grid). s.width) c.self.view_is)
+    (ap (λ (s : Grid). s.height) c.self.view_is) c.requires.columns
     (c.requires.rows c.loop-bit.bit c.loop-bit-test.true set) in
     let stored : length c.deref_mut-then-is_set.result.now ≡ c.self.inside.width * c.self.inside.height =
     ap length c.deref_mut-then-is_set.ensures.value ∙ c.loop-bit.invariant.marked.long ∙ c.self.invariant.each_mark in
@@ -79,7 +79,7 @@ loop-bit-preserved c = elim c.if-is_set.branch [
       w.deref_mut-then-is_set.ensures.value in
       let long_marks : length c.if-is_set.self-inside.marks.items ≡ length c.loop-bit.self-inside.marks.items =
       ap length marks ∙ w.fill_row-then-is_set.auto.items ∙ ap length stored_marks in
-      let wide : c.self.inside.width ≡ c.args.self.now.width = ap (λ (s : Sheet). s.width) c.self.view_is in
+      let wide : c.self.inside.width ≡ c.args.self.now.width = ap (λ (s : Grid). s.width) c.self.view_is in
       let start : (6 * c.args.band + c.loop-bit.bit) * c.loop-bit.self-inside.width + c.args.column
       ≡ (6 * c.args.band + c.loop-bit.bit) * c.self.inside.width + c.args.column =
       ap (λ n. (6 * c.args.band + c.loop-bit.bit) * n + c.args.column) c.loop-bit.invariant.same_width in
@@ -120,9 +120,9 @@ returns c =
     let marks = c.loop-bit.self-inside.marks.items in
     let kept = c.loop-bit.invariant in
     let some : 0 < inside.width = search rules in
-    ap₂ (λ (w h : ℕ). sheet_of_marks w h registers marks) kept.same_width kept.same_height
+    ap₂ (λ (w h : ℕ). grid_of_marks w h registers marks) kept.same_width kept.same_height
     ∙ painted_marks inside.width inside.height c.args.column c.args.count c.args.band c.args.bits c.args.register
     inside.registers.items registers inside.marks.items marks some c.self.invariant.each_register
     c.self.invariant.each_mark (rw done at kept.painted) (rw done at kept.marked)
-    ∙ ap (λ (s : Sheet). painted_sheet s c.args.column c.args.band c.args.count c.args.bits c.args.register)
+    ∙ ap (λ (s : Grid). painted_grid s c.args.column c.args.band c.args.count c.args.bits c.args.register)
     c.self.view_is

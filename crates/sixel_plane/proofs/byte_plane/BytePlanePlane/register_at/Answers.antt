@@ -3,7 +3,7 @@ use Rattle.std.proofs.Common.{◌≡◌, ◌+◌, ◌*◌, ◌<◌, ℕ, Bool, t
 use Rattle.std.proofs.Common.{◌∙◌, arith}
 use Rattle.std.proofs.lemmas.List.{get_or_read}
 use Rattle.sixel_plane.specs.BytePlanes.{is_marked}
-use Rattle.sixel_model.specs.Sheets.{Sheet, cell}
+use Rattle.sixel_model.specs.Grids.{Grid, cell}
 use Rattle.sixel_plane.proofs.PaintedLemmas.{cell_of_painted, place_fits}
 use Rattle.sixel_plane.proofs.byte_plane.BytePlanePlane.register_at.Goals as goal
 
@@ -14,8 +14,8 @@ marked_then false r = refl
 pub returns : goal.returns
 returns c =
     let inside = c.self.inside in
-    let wide : inside.width ≡ c.args.self.now.width = ap (λ (s : Sheet). s.width) c.self.view_is in
-    let high : inside.height ≡ c.args.self.now.height = ap (λ (s : Sheet). s.height) c.self.view_is in
+    let wide : inside.width ≡ c.args.self.now.width = ap (λ (s : Grid). s.width) c.self.view_is in
+    let high : inside.height ≡ c.args.self.now.height = ap (λ (s : Grid). s.height) c.self.view_is in
     let in_x : c.args.x < inside.width = omega (arith, c.requires.inside_x, wide) in
     let in_y : c.args.y < inside.height = omega (arith, c.requires.inside_y, high) in
     let place = place_fits inside.width inside.height c.args.x c.args.y in_x in_y in
@@ -27,4 +27,4 @@ returns c =
     (get_or_read inside.registers.items _ _ registers c.index-2.ensures 0)
     ∙ sym (cell_of_painted inside.width inside.height inside.registers.items
     (is_marked inside.width inside.marks.items) c.args.x c.args.y in_x in_y)
-    ∙ ap (λ (s : Sheet). cell s c.args.x c.args.y) c.self.view_is
+    ∙ ap (λ (s : Grid). cell s c.args.x c.args.y) c.self.view_is

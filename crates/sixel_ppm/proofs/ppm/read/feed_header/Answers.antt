@@ -4,7 +4,7 @@ use Rattle.sixel_ppm.proofs.ppm.read.feed_header.Goals as goal
 
 pub returns-in-Whole : goal.returns-in-Whole
 returns-in-Whole c =
-    fed_whole c.args.begun c.loop-index.progress c.in-Whole.frame c.args.piece.now c.loop-index.index
+    fed_whole c.args.begun c.loop-index.progress c.in-Whole.header c.args.piece.now c.loop-index.index
     (sym c.step.ensures ∙ c.in-Whole.is)
     c.loop-index.invariant c.loop-index-test.true
 

@@ -19,7 +19,7 @@ returns-in-Whole-clause-started g c =
     let filled = answered _ _ _ _ c.in_ok-count.was c.map_err.ensures.cases in
     let bytes = rw filled at c.fill.ensures.bytes in
     let bound = rw filled at c.fill.ensures.bound in
-    header_started _ _ _ c.loop-count.progress c.in-Whole.frame c.fill.new.piece c.in-Whole.start c.in_ok-count.count
+    header_started _ _ _ c.loop-count.progress c.in-Whole.header c.fill.new.piece c.in-Whole.start c.in_ok-count.count
     c.loop-count.invariant.0
     bytes.0 c.in-Whole.ensures bound
 

@@ -2,7 +2,7 @@ use Rattle.std.proofs.Common.{◌≡◌, ◌∙◌, ◌++◌, List, ℕ, [], ap,
 use Rattle.std.proofs.lemmas.Result.{err_from_is_err_and}
 use Rattle.sixel_io.proofs.SinkLemmas.{writes-done, writes-next, writes-none, writes-stopped}
 use Rattle.sixel_ppm.specs.PpmTables.{samples_from}
-use Rattle.sixel_ppm.proofs.PpmTableLemmas.{all_put, copied_front, group_of, parted, samples_join}
+use Rattle.sixel_ppm.proofs.PpmTableLemmas.{all_put, copied_prefix, group_of, parted, samples_join}
 use Rattle.sixel_ppm.proofs.ppm.write.put_registers.Goals as goal
 
 pub loop-start-init : goal.loop-start-init
@@ -12,7 +12,7 @@ loop-start-init g c = record {
     [],
     writes-none,
     ap (λ (t : List ℕ). t ++ samples_from c.args.table.now c.args.registers.now)
-        (sym (copied_front c.args.header.now c.copy_from_slice.new.self _ c.copy_from_slice.ensures.after)),
+        (sym (copied_prefix c.args.header.now c.copy_from_slice.new.self _ c.copy_from_slice.ensures.after)),
   );
 }
 

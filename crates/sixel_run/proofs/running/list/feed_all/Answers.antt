@@ -33,13 +33,13 @@ pub loop-byte-preserved : goal.loop-byte-preserved
 loop-byte-preserved g c =
     let kept : c.feed_plain.new.self ≡ c.loop-byte.reader = c.in_default.ensures.kept refl in
     record {
-      stands = lists-more c.args.reader.now c.loop-byte.reader c.feed_any.new.reader c.args.piece.now
+      stands = lists-more c.args.reader.now c.loop-byte.reader c.feed_and_put.new.reader c.args.piece.now
           c.loop-byte.byte-index _ (in_all (g.K.Sink.state c.loop-byte.out).taken c.loop-byte.lines) _ c.loop-byte-test.true
           c.loop-byte.invariant.stands
-          (λ events bytes stands. c.in_ok-feed_any.ensures.fed events bytes
+          (λ events bytes stands. c.in_ok-feed_and_put.ensures.fed events bytes
           (subst (λ (r : Reader). StandsAfter r events bytes) (sym kept) stands));
-      more = TakesMore-then _ _ _ c.loop-byte.invariant.more c.in_ok-feed_any.ensures.more;
-      failures = cc (c.in_ok-feed_any.ensures.failures, c.loop-byte.invariant.failures);
+      more = TakesMore-then _ _ _ c.loop-byte.invariant.more c.in_ok-feed_and_put.ensures.more;
+      failures = cc (c.in_ok-feed_and_put.ensures.failures, c.loop-byte.invariant.failures);
     }
 
 pub returns-in-Err-clause-fed : goal.returns-in-Err-clause-fed
@@ -53,20 +53,21 @@ returns-in-Err-clause-fed g c =
 pub returns-in-Err-clause-more : goal.returns-in-Err-clause-more
 returns-in-Err-clause-more g c = TakesMore-then _ _ _ c.loop-byte.invariant.more c.in-Err.ensures.more
 
-pub returns-in_err-feed_any-clause-fed : goal.returns-in_err-feed_any-clause-fed
-returns-in_err-feed_any-clause-fed g c =
+pub returns-in_err-feed_and_put-clause-fed : goal.returns-in_err-feed_and_put-clause-fed
+returns-in_err-feed_and_put-clause-fed g c =
     let kept : c.feed_plain.new.self ≡ c.loop-byte.reader = c.in_default.ensures.kept refl in
     let failed = err_from_is_err_and c.from_residual.result c.from_residual.ensures.1 in
     rw (failed.1, failed.2)
-    (fails-next c.in_err-feed_any.field-0.0 c.args.reader.now c.loop-byte.reader c.feed_any.new.reader c.args.piece.now
+    (fails-next c.in_err-feed_and_put.field-0.0 c.args.reader.now c.loop-byte.reader c.feed_and_put.new.reader
+    c.args.piece.now
     c.loop-byte.byte-index _ (in_all (g.K.Sink.state c.loop-byte.out).taken c.loop-byte.lines) _ c.loop-byte-test.true
     c.loop-byte.invariant.stands
-    (λ events bytes stands. c.in_err-feed_any.ensures.fed events bytes
+    (λ events bytes stands. c.in_err-feed_and_put.ensures.fed events bytes
     (subst (λ (r : Reader). StandsAfter r events bytes) (sym kept) stands)))
 
-pub returns-in_err-feed_any-clause-more : goal.returns-in_err-feed_any-clause-more
-returns-in_err-feed_any-clause-more g c = TakesMore-then _ _ _ c.loop-byte.invariant.more
-    c.in_err-feed_any.ensures.more
+pub returns-in_err-feed_and_put-clause-more : goal.returns-in_err-feed_and_put-clause-more
+returns-in_err-feed_and_put-clause-more g c = TakesMore-then _ _ _ c.loop-byte.invariant.more
+    c.in_err-feed_and_put.ensures.more
 
 pub returns-clause-fed : goal.returns-clause-fed
 returns-clause-fed g c =

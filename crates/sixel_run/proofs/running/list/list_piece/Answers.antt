@@ -1,4 +1,4 @@
-use Rattle.sixel_io.proofs.DeviceLemmas.{Keeps-refl, TakesMore-then, front-more}
+use Rattle.sixel_io.proofs.DeviceLemmas.{Keeps-refl, TakesMore-then, prefix-more}
 use Rattle.sixel_run.proofs.ListingLemmas.{fed-drained, fed-stopped}
 use Rattle.sixel_run.proofs.running.list.list_piece.Goals as goal
 
@@ -22,5 +22,5 @@ returns-in-Err-clause-fed g c = λ events bytes h.
     (g.K.Sink.state c.feed_all-fed.new.out).taken (g.K.Sink.state c.drain.new.out).taken c.args.lines.now
     c.feed_all-fed.new.lines c.drain.new.self events bytes
     c.requires c.in-Err.ensures.bytes
-    (TakesMore-then _ _ _ c.feed_all-fed.ensures.more (front-more _ _ _ _ _ c.in-Err.ensures.front))
+    (TakesMore-then _ _ _ c.feed_all-fed.ensures.more (prefix-more _ _ _ _ _ c.in-Err.ensures.prefix))
     (c.feed_all-fed.ensures.fed events bytes h)

@@ -7,11 +7,11 @@ pub loop-rest-preserved : goal.loop-rest-preserved
 loop-rest-preserved c =
     let start = c.args.self.now in
     let piece = c.args.piece.now in
-    has_read_more start c.front.new.self c.known_front-rest.new.self piece c.in_ok-rest.rest.now
-    c.known_front-rest.result.now
-    (has_read_more start c.loop-rest.self c.front.new.self piece c.loop-rest.rest.now c.in_ok-rest.rest.now
+    has_read_more start c.read_first.new.self c.read_cached-rest.new.self piece c.in_ok-rest.rest.now
+    c.read_cached-rest.result.now
+    (has_read_more start c.loop-rest.self c.read_first.new.self piece c.loop-rest.rest.now c.in_ok-rest.rest.now
     c.loop-rest.invariant c.in_ok-rest.ensures.read)
-    c.known_front-rest.ensures.read
+    c.read_cached-rest.ensures.read
 
 pub returns : goal.returns
 returns c =

@@ -10,7 +10,7 @@ returns-then-left-gt0-clause-failed c = λ colours holds.
     let s = c.args.self in
     refused_by c.fault.result _ (samples_on s colours []) (c.fault.ensures
     ∙ ap (λ n. Format Short (s.place + n)) c.count.ensures.count)
-    (short_fails s colours c.if-left-gt0.true s.held_is_good)
+    (short_fails s colours c.if-left-gt0.true s.partial_is_good)
 
 pub of_parts-requires : goal.of_parts-requires
 of_parts-requires c =

@@ -4,4 +4,4 @@ pub invariant_of-result-clause-unused : goal.invariant_of-result-clause-unused
 invariant_of-result-clause-unused c = c.new-2.ensures.unused
 
 pub invariant_of-result-clause-knows : goal.invariant_of-result-clause-knows
-invariant_of-result-clause-knows c = c.new.ensures c.args.frame.maxval c.new-2.result.palette
+invariant_of-result-clause-knows c = c.new.ensures c.args.header.maxval c.new-2.result.palette

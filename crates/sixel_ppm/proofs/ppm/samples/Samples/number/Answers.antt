@@ -5,7 +5,7 @@ use Rattle.sixel_ppm.specs.PpmColours.{Fills}
 use Rattle.sixel_ppm.specs.PpmReading.{colour_of, distinct, register_among, with_colour}
 use Rattle.sixel_ppm.specs.PpmSamples.{IsKnown}
 use Rattle.sixel_model.specs.declared.colour.Parts.{Parts}
-use Rattle.sixel_ppm.proofs.PpmKnownLemmas.{still_known}
+use Rattle.sixel_ppm.proofs.PpmPixelCacheLemmas.{still_cached}
 use Rattle.sixel_ppm.proofs.PpmSampleLemmas.{seen_with}
 use Rattle.sixel_ppm.proofs.ppm.samples.Samples.number.Goals as goal
 
@@ -34,7 +34,7 @@ invariant_of-self-clause-unused c = (c.register_of.ensures.kept c.args.self.now.
 pub invariant_of-self-clause-knows : goal.invariant_of-self-clause-knows
 invariant_of-self-clause-knows c =
     let s = c.args.self.now in
-    still_known s.known s.maxval s.colours.palette c.register_of.new.self.palette
+    still_cached s.cache s.maxval s.colours.palette c.register_of.new.self.palette
     (c.register_of.ensures.kept s.unused).1 s.knows
 
 pub invariant_of-self-in-Some-clause-unused : goal.invariant_of-self-in-Some-clause-unused
@@ -44,7 +44,7 @@ pub invariant_of-self-in-Some-clause-knows : goal.invariant_of-self-in-Some-clau
 invariant_of-self-in-Some-clause-knows c =
     let s = c.args.self.now in
     c.keep.ensures s.maxval c.register_of.new.self.palette
-    (still_known s.known s.maxval s.colours.palette c.register_of.new.self.palette
+    (still_cached s.cache s.maxval s.colours.palette c.register_of.new.self.palette
     (c.register_of.ensures.kept s.unused).1 s.knows)
     record {
       good_red = c.requires.red;

@@ -1,6 +1,0 @@
-use Rattle.std.proofs.Common.{◌*◌}
-use Rattle.sixel_grammar.specs.Stretches.{AreData}
-use Rattle.sixel_grammar.proofs.stretch.run_of.Given as goal
-
-abbrev pub invariant-loop-group : goal.invariant-loop-group
-invariant-loop-group l = AreData 0 (l.group * 16) l.piece

@@ -1,9 +1,0 @@
-use Rattle.std.proofs.Common.{refl, arith}
-use Rattle.sixel_ppm.proofs.PpmKnownLemmas.{keeps}
-use Rattle.sixel_ppm.proofs.ppm.known.Known.keep.Goals as goal
-
-pub returns : goal.returns
-returns c = λ maxval palette knows hit.
-    keeps c.args.self.now _ maxval palette c.place_of-place.result c.key_of-key.result c.args.red c.args.green
-    c.args.blue c.args.register refl refl c.place_of-place.ensures (omega (arith, c.ranges.red.fits))
-    (omega (arith, c.ranges.green.fits)) (omega (arith, c.ranges.blue.fits)) c.key_of-key.ensures.value knows hit
