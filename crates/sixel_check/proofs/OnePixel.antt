@@ -32,7 +32,8 @@ second_of (inr b) h = b
 unbroken : (profile : Profile) → BreaksNone (count_of profile) last_rule one_pixel
 unfolding decided_by falls_searchable blank_searchable first_of outside_first blank_first outside_decided
     blank_somewhere both_decided uncovered_decided rule_decided held_decided position_decided broken_decided
-    broken_or_none decide_true by_test by_number each_rule least_here least_more least_below in_row row_decided first_point Breaks
+    broken_or_none decide_true by_test by_number each_rule least_here least_more least_below in_row row_decided
+    first_point Breaks
     BreaksOutside BreaksUncovered breaks_box_size breaks_colour_value breaks_eight_bit breaks_ratio
     breaks_raster_first breaks_raster_twice breaks_redefined breaks_register breaks_repeat_zero breaks_undefined
     breaks_unselected definition_of is_covered is_painted_in known raster_before band column covers falls touches any_at

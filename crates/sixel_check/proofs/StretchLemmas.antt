@@ -301,7 +301,8 @@ passed_stands {registers} n s seen place count bytes long blank u (suc k) le =
     ∙ sixels_more place (place + k) k bytes refl (omega arith)) in
     let column : capped (capped (n.column + k) + 1) ≡ capped (n.column + suc k) = omega arith in
     subst (λ (l : List Placed). StandsUnbroken registers (passed_by (suc k) n) (Some s) (events_of l)) events
-    (subst (λ (c : ℕ). StandsUnbroken registers (record n { column = c }) (Some s) (events_of (before ++ p ∷ []))) column
+    (subst (λ (c : ℕ). StandsUnbroken registers (record n { column = c }) (Some s) (events_of (before ++ p ∷ [])))
+    column
     after)
 
 -- ---- where a rule was broken before

@@ -52,5 +52,9 @@ not_sixel r q events bytes b place bits other s t =
     let n = length bytes in
     let c = completed r q events (sixel_at place bits) bytes b s t in
     not_plain r q events (sixel_at place bits) bytes b
-    (λ lt. (not_grown o n place bits (within f b) (settled f) (begin b) c.1, no_columns o n place bits f b (other lt) c.1))
+    (λ lt. (
+      not_grown o n place bits (within f b) (settled f) (begin b) c.1,
+      no_columns o n place bits f b (other lt)
+          c.1,
+    ))
     s refl t

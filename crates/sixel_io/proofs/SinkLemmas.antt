@@ -374,7 +374,8 @@ pub through-drained : {A E B F : Type 0} {x : A} (result : Result B F) {a b c : 
     → none ≡ [] → 0 < length v → WritesThrough {A = A} {E = E} (Ok x) a b none v text → Drains result b c v w
     → Writes result a c text
 through-drained {B = B} {F = F} (Ok y) {a} {b} {c} {none} {v} {w} {text} empty some p q =
-    let put : Appends a.taken (in_all b.taken v) text = put_from_empty a.taken (in_all b.taken v) none text empty p.put in
+    let put : Appends a.taken (in_all b.taken v) text = put_from_empty a.taken (in_all b.taken v) none text empty p.put
+    in
     record {
       taken = drained {A = B} {E = F} (Ok y) a.taken c.taken w text q.empty
           (Appends-keeps a.taken (in_all b.taken v) (in_all c.taken w) text put q.bytes)
@@ -384,7 +385,8 @@ through-drained {B = B} {F = F} (Ok y) {a} {b} {c} {none} {v} {w} {text} empty s
       held = λ t. q.held some;
     }
 through-drained {B = B} {F = F} (Err f) {a} {b} {c} {none} {v} {w} {text} empty some p q =
-    let put : Appends a.taken (in_all b.taken v) text = put_from_empty a.taken (in_all b.taken v) none text empty p.put in
+    let put : Appends a.taken (in_all b.taken v) text = put_from_empty a.taken (in_all b.taken v) none text empty p.put
+    in
     record {
       taken = drained {A = B} {E = F} (Err f) a.taken c.taken w text q.empty
           (Appends-keeps a.taken (in_all b.taken v) (in_all c.taken w) text put q.bytes)

@@ -1,5 +1,6 @@
 -- What a contract sees of a device, and what a call does to that.
-use Rattle.std.specs.Prelude.{◌≡◌, ℕ, ◌+◌, ◌-◌, ◌^◌, ◌<◌, min, List, length, take, Result, Option, Bool, false, IsTrue, is_ok}
+use Rattle.std.specs.Prelude.{◌≡◌, ℕ, ◌+◌, ◌-◌, ◌^◌, ◌<◌, min, List, length, take, Result, Option, Bool, false}
+use Rattle.std.specs.Prelude.{IsTrue, is_ok}
 use Rattle.std.specs.Prelude.{MatchResult, OnOk, if◌then◌else◌}
 use Rattle.std.specs.Io.KnownBytes.{Appends}
 

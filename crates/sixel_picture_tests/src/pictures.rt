@@ -89,8 +89,8 @@ fn hands_back(fault: &PictureFault, palette: &Palette, registers: &[u8]) -> bool
     fault.palette == *palette && fault.registers.as_slice() == registers
 }
 
-/// Why the parts with a palette of the profile in which registers 0 and 3 are red and blue make no picture, if they come back as they
-/// were.
+/// Why the parts with a palette of the profile in which registers 0 and 3 are red and blue make no picture, if they
+/// come back as they were.
 fn reason_of(
     alloc: Global,
     profile: Profile,

@@ -182,8 +182,8 @@ fn starts_of(profile: Profile, choice: Choice) -> [Start; 2] {
     [start, other]
 }
 
-/// Whether some two terminals that differ in the choice alone show two pictures of the events. They are looked at in the
-/// pixel that the finding names, or as a whole where it names none. No column or row from `MOST_SHOWN` up is shown.
+/// Whether some two terminals that differ in the choice alone show two pictures of the events. They are looked at in
+/// the pixel that the finding names, or as a whole where it names none. No column or row from `MOST_SHOWN` up is shown.
 pub fn terminals_differ(
     alloc: Global,
     profile: Profile,

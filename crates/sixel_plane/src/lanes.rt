@@ -1,6 +1,7 @@
 //! Work on bytes in a row, 32 lanes at a time.
 
-ghost use Rattle.std.specs.Prelude.{◌≡◌, ◌==◌, ◌+◌, ◌<◌, ◌≤◌, ℕ, IfOk, length, bit_or, drop, not, replicate, slice_index, take};
+ghost use Rattle.std.specs.Prelude.{◌≡◌, ◌==◌, ◌+◌, ◌<◌, ◌≤◌, ℕ, IfOk, length, bit_or, drop, not, replicate};
+ghost use Rattle.std.specs.Prelude.{slice_index, take};
 ghost use Rattle.std.specs.Int.{bit_at};
 ghost use Rattle.std.specs.List.{prefix_len};
 ghost use Rattle.sixel_plane.specs.Lanes.{AreChanged, IsFirst};

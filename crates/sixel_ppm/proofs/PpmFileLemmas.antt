@@ -247,7 +247,8 @@ height_read : (width height at place b : ℕ) (filler text after rest : List ℕ
     → place ≡ past at filler text → place < 65536
     → height_on width at (filler ++ (text ++ after)) ≡ maxval_on width height place after
 height_read width height at place b filler text after rest is begins f number range e lt =
-    let read = filled_read begins_filler Size most_side height at place b filler text after rest is f number range begins
+    let read = filled_read begins_filler Size most_side height at place b filler text after rest is f number range
+    begins
     (filler_no_digit b begins) e lt in
     rw read refl
 

@@ -190,8 +190,8 @@ ppm_read registers bytes = do
 abbrev pub HasWholeHeader : List ℕ → Type 0
 HasWholeHeader bytes = IsOk (head_of bytes)
 
--- an answer is what the bytes say, with so many registers; memory is wanting only after a whole header without a fault, and the answer of a
--- device that failed says nothing of the bytes
+-- an answer is what the bytes say, with so many registers; memory is wanting only after a whole header without a fault,
+-- and the answer of a device that failed says nothing of the bytes
 abbrev pub ReadsPpm : ℕ → Result PictureValue PpmFault → List ℕ → Type 0
 ReadsPpm registers (Ok picture) bytes = ppm_read registers bytes ≡ Ok picture
 ReadsPpm registers (Err (Format reason place)) bytes = ppm_read registers bytes ≡ at_fault reason place

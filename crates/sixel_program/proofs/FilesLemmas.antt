@@ -1,6 +1,7 @@
 -- On checks of several files.
 use Rattle.std.proofs.Common.{◌≡◌, ◌∙◌, ◌+◌, ◌<◌, ℕ, Bool, true, false, List, [], ◌∷◌, ◌++◌, length, take}
-use Rattle.std.proofs.Common.{codes, drop, Option, Some, None, refl, sym, ap, ap₂, subst, arith, inl, inr, flat_map, fold, map}
+use Rattle.std.proofs.Common.{codes, drop, Option, Some, None, refl, sym, ap, ap₂, subst, arith, inl, inr, flat_map}
+use Rattle.std.proofs.Common.{fold, map}
 use Rattle.std.specs.Prelude.{◌≢◌, ◌⊎◌, Result, Ok, Err, IfSome, String, string_bytes, if◌then◌else◌}
 use Rattle.std.specs.Global.{Global}
 use Rattle.std.specs.Fmt.{option_append}
@@ -68,7 +69,8 @@ put_then (text ∷ texts) more a b c before are = (before.0, before.1, put_then 
 
 -- ---- one file more
 
-pub none_checked : (profile : Profile) (q : Bool) (contents : Text → Option (List ℕ)) (i : SourceState) (o e : SinkState)
+pub none_checked : (profile : Profile) (q : Bool) (contents : Text → Option (List ℕ)) (i : SourceState)
+    (o e : SinkState)
     → AreChecked profile q contents [] [] exit.Done (change i i) (change o o) (change e e)
 unfolding Tells
 none_checked profile q contents i o e = record {
@@ -338,7 +340,8 @@ pub unopened_ends : (t : Task) (contents : Text → Option (List ℕ)) (name : T
     → FileEnds t contents name given exit.Refused (change i i) (change o o) e
 unopened_ends t contents name given i o e file none put = record {
   prefix = [];
-  file = change (record { remaining = contents name; failures = 0 }) (record { remaining = None; failures = one_more 0 });
+  file = change (record { remaining = contents name; failures = 0 })
+      (record { remaining = None; failures = one_more 0 });
   given_prefix = λ is. let no : true ≡ false = sym is ∙ file in cc;
   own_prefix = λ is. no_prefix (contents name);
   told = rw file refl;
@@ -403,7 +406,20 @@ module _ (contents : Text → Option (List ℕ)) (prefix : List ℕ) (x : Exit) 
   pub request_read : (t : Task) (q : Bool) (names : List Text)
       → RequestEnds t q names contents prefix x i o e → HasRead t q names
   request_read (task.Check profile) true [] ended =
-      inl (codes "-", refl, (ended.0.answer, ended.0.ends, (i.new.remaining, Some [], Some ended.0.line, ended.0.wrote)))
+      inl (
+        codes "-",
+        refl,
+        (
+          ended.0.answer,
+          ended.0.ends,
+          (
+            i.new.remaining,
+            Some [],
+            Some ended.0.line,
+            ended.0.wrote,
+          ),
+        ),
+      )
   request_read (task.Check profile) false [] ended =
       inl (codes "-", refl, run_ends (Check profile) prefix x i o e ended)
   request_read (task.Check profile) q (name ∷ more) ended = inr (profile, refl, refl, ended)

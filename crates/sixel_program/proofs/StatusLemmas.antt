@@ -18,7 +18,8 @@ use Rattle.sixel_run.specs.declared.task.Task.TheVariants.{Check}
 use Rattle.sixel_program.specs.Exits.{exit_code, exit_for_answer}
 use Rattle.sixel_run.specs.Outputs.{Wrote}
 use Rattle.sixel_program.specs.Files.{FileEnd, FilesEnd, IsBrokenOver, IsDoneOver, IsFileEnd, IsJudgedOver}
-use Rattle.sixel_program.specs.Files.{NamesInputOnce, RequestEnds, Tells, exit_of_end, files_exit, is_dash, left_after, names_of, names_read}
+use Rattle.sixel_program.specs.Files.{NamesInputOnce, RequestEnds, Tells, exit_of_end, files_exit, is_dash}
+use Rattle.sixel_program.specs.Files.{left_after, names_of, names_read}
 use Rattle.sixel_program.specs.Files.{told_of}
 use Rattle.sixel_run.specs.Texts.{Text}
 use Rattle.sixel_program.proofs.EndLemmas.{broken_gives, chained, done_gives}
@@ -171,9 +172,11 @@ module _ (t : Task) (q : Bool) (names : List Text) (contents : Text → Option (
   all_of_one : (P : Option (List ℕ) → Type 0) (name : Text) → P (told_of contents i.old.remaining name)
       → All (λ n. P (told_of contents i.old.remaining n)) (name ∷ [])
   all_of_one P name p =
-      All-cons (λ n. P (told_of contents i.old.remaining n)) name [] p (All-nil (λ n. P (told_of contents i.old.remaining n)))
+      All-cons (λ n. P (told_of contents i.old.remaining n)) name [] p
+      (All-nil (λ n. P (told_of contents i.old.remaining n)))
 
-  pub all_read_done : x ≡ exit.Done → All (λ name. IsDoneOver t (told_of contents i.old.remaining name)) (names_read t names)
+  pub all_read_done : x ≡ exit.Done → All (λ name. IsDoneOver t (told_of contents i.old.remaining name))
+      (names_read t names)
   all_read_done is = elim (request_read contents prefix x i o e t q names ended) [
     | inl one ↦
         let run = one.2.2 in
@@ -183,7 +186,8 @@ module _ (t : Task) (q : Bool) (names : List Text) (contents : Text → Option (
         rw (checked.2, checked.1) (files_done checked.0 q contents names x i o e checked.3 is)
   ]
 
-  pub all_read_judged : x ≡ exit.Broken → All (λ name. IsJudgedOver t (told_of contents i.old.remaining name)) (names_read t names)
+  pub all_read_judged : x ≡ exit.Broken → All (λ name. IsJudgedOver t (told_of contents i.old.remaining name))
+      (names_read t names)
   all_read_judged is = elim (request_read contents prefix x i o e t q names ended) [
     | inl one ↦
         let run = one.2.2 in

@@ -19,8 +19,8 @@ ghost use Rattle.sixel_run.specs.Texts.{Text};
 /// The output of a check of several files is the line of each, one after another, with its name before it, and each
 /// line is the one that a check of the file's bytes alone writes. Of a refused file there is none, and the grammar's
 /// fault is that of its bytes alone; where no verdict is wanted, there is none of any. The exit status is the greatest:
-/// no file has one of a greater number, and it is that of one of them. Texts that were put one after another stand joined
-/// behind what the sink had, unless a call on it failed.
+/// no file has one of a greater number, and it is that of one of them. Texts that were put one after another stand
+/// joined behind what the sink had, unless a call on it failed.
 pub fn several_files_are_checked_one_by_one()
     ensures joined { (is_quiet : Bool) (prefix rest : List FileEnd) →
         files_text is_quiet (prefix ++ rest) ≡ files_text is_quiet prefix ++ files_text is_quiet rest }
@@ -43,6 +43,7 @@ pub fn several_files_are_checked_one_by_one()
 /// The name of a file is printed without control characters, so that it can't end a line; and one that has none is
 /// printed as it is.
 pub fn names_are_printed_without_controls()
-    ensures clean { (name : Text) → All (λ byte. byte < 256) name → All (λ byte. is_control byte ≡ false) (printed name) }
+    ensures clean { (name : Text) → All (λ byte. byte < 256) name → All (λ byte. is_control byte ≡ false)
+        (printed name) }
     ensures plain { (name : Text) → All (λ byte. is_control byte ≡ false) name → printed name ≡ name }
 {}

@@ -18,8 +18,8 @@ fn profile_of(words: &str) -> Option<Profile> {
     }
 }
 
-/// Whether the check says of the row and its neighbours what the plain judge says, and the terminals go along. A rule by
-/// whose choice two of them differ is added to the rules.
+/// Whether the check says of the row and its neighbours what the plain judge says, and the terminals go along. A rule
+/// by whose choice two of them differ is added to the rules.
 fn is_right(alloc: Global, row: &Row<'_>, rules: &mut Vec<Rule>) -> Result<bool, InputFault> {
     let bytes = row.input.as_slice();
     match profile_of(row.words) {

@@ -18,8 +18,8 @@ fn is_in_sight(finding: &Finding) -> bool {
     x < MOST_SHOWN as u64 && y < MOST_SHOWN as u64
 }
 
-/// The choice by which some two terminals must differ: a pixel is outside or uncovered, a control of 8 bits stands at the
-/// end, or a register without a colour is painted in.
+/// The choice by which some two terminals must differ: a pixel is outside or uncovered, a control of 8 bits stands at
+/// the end, or a register without a colour is painted in.
 fn choice_of(finding: &Finding) -> Option<Choice> {
     let differs = match finding.rule {
         Rule::Outside | Rule::Uncovered | Rule::Undefined => is_in_sight(finding),

@@ -3,7 +3,8 @@
 ghost use Rattle.std.specs.Prelude.{◌≡◌, ◌+◌, ◌*◌, ◌≤◌, ◌++◌, ◌∷◌, [], codes, length, decimal};
 ghost use Rattle.arrayvec.specs.ArrayVec.{array_vec_len};
 ghost use Rattle.sixel_io.specs.Devices.{Writes};
-ghost use Rattle.sixel_run.specs.Texts.{event_line, event_parts, fault_line, finding_line, kind_name, numbers, pixel_parts};
+ghost use Rattle.sixel_run.specs.Texts.{event_line, event_parts, fault_line, finding_line, kind_name, numbers};
+ghost use Rattle.sixel_run.specs.Texts.{pixel_parts};
 ghost use Rattle.sixel_run.specs.Texts.{portable_line, ppm_reason_name, reason_name, rule_name, spaced, verdict_line};
 
 use crate::fault::RunFault;

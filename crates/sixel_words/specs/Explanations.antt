@@ -10,7 +10,8 @@ use Rattle.sixel_grammar.specs.declared.fault.Reason.TheVariants.{BadRepeat, Bad
 use Rattle.sixel_grammar.specs.declared.fault.Reason.TheVariants.{Trailing}
 use Rattle.sixel_ppm.specs.declared.ppm.PpmReason.TheVariants.{Header, Size, Maxval, Sample, Short, TooManyColours}
 use Rattle.sixel_words.specs.declared.explanations.Topic.{Topic}
-use Rattle.sixel_words.specs.declared.explanations.Topic.TheVariants.{Rule, Grammar, Ppm, NotRgb, NoBox, OutOfMemory, Read}
+use Rattle.sixel_words.specs.declared.explanations.Topic.TheVariants.{Rule, Grammar, Ppm, NotRgb, NoBox, OutOfMemory}
+use Rattle.sixel_words.specs.declared.explanations.Topic.TheVariants.{Read}
 use Rattle.sixel_words.specs.declared.explanations.Topic.TheVariants.{Write}
 use Rattle.sixel_run.specs.declared.fault.RunFault.{RunFault}
 use Rattle.sixel_run.specs.declared.fault.RunFault.TheVariants as fault

@@ -8,7 +8,8 @@ lowest : (k : ℕ) → bit_at 3 k ≡ 1 → k < 2
 lowest zero set = omega arith
 lowest (suc zero) set = omega arith
 lowest (suc (suc k)) set =
-    let clear : bit_at 3 (suc (suc k)) ≡ 0 = bit_at-suc 3 (suc k) ∙ bit_at-suc 1 k ∙ bit_at-zero k in absurd (omega arith)
+    let clear : bit_at 3 (suc (suc k)) ≡ 0 = bit_at-suc 3 (suc k) ∙ bit_at-suc 1 k ∙ bit_at-zero k in absurd
+    (omega arith)
 
 pub paint_run-requires-clause-rows : goal.paint_run-requires-clause-rows
 paint_run-requires-clause-rows g c = λ k small set. let low = lowest k set in omega arith

@@ -31,7 +31,8 @@ impl Colours {
 
     /// The register of a colour, which gets the next one if it is new; `None` where none is left.
     pub(crate) fn register_of(&mut self, colour: Colour) -> Option<u8>
-        ensures numbers { (seen : List Parts) → Fills self.old seen → Numbers result self.new (with_colour seen colour) colour }
+        ensures numbers { (seen : List Parts) → Fills self.old seen → Numbers result self.new (with_colour seen colour)
+            colour }
         ensures profile { length self.new.palette ≡ length self.old.palette }
         ensures first { IfSome result (λ register. position (is_entry colour) self.new.palette ≡ Some register) }
         ensures kept { IsUnusedFrom self.old.palette self.old.count →

@@ -37,7 +37,8 @@ returns-in_err-count g c =
           (g.S.Source.state c.loop-checker.input).failures (g.S.Source.state c.fill.new.self).failures r is
           c.in_err-count.ensures.failures i.3;
       unread = λ e.
-          no_fault_before a (g.S.Source.state c.loop-checker.input).remaining (g.S.Source.state c.fill.new.self).remaining
+          no_fault_before a (g.S.Source.state c.loop-checker.input).remaining
+          (g.S.Source.state c.fill.new.self).remaining
           c.loop-checker.reader i.1.events i.0 i.1.read i.2 c.in_err-count.ensures.bytes;
       memory = read_grows _ a r is;
     }

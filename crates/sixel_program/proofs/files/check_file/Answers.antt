@@ -33,7 +33,8 @@ returns-in-Ok g c =
       e = record { name = c.args.name.now; told = _; left = _; line = checked.0; answer = checked.1 };
       name_is = refl;
       told = rw file
-          (ap (λ (s : SourceState). s.remaining) c.new-file.ensures ∙ c.chain.ensures.bytes ∙ none_before _ ∙ c.in-Ok.ensures.opened);
+          (ap (λ (s : SourceState). s.remaining) c.new-file.ensures ∙ c.chain.ensures.bytes ∙ none_before _ ∙
+          c.in-Ok.ensures.opened);
       left = rw file refl;
       is_end = checked.2;
       counted = rw file refl;

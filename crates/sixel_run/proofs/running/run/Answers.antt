@@ -10,14 +10,16 @@ returns-in-Ok-clause-writes g c = c.in-Ok.ensures.failures ∙ c.perform-answer.
 
 pub returns-in-Err-clause-wrote : goal.returns-in-Err-clause-wrote
 returns-in-Err-clause-wrote g c =
-    unflushed c.args.task (g.S.Source.state c.args.input.now).remaining (g.S.Source.state c.perform-answer.new.input).remaining
+    unflushed c.args.task (g.S.Source.state c.args.input.now).remaining
+    (g.S.Source.state c.perform-answer.new.input).remaining
     (g.K.Sink.state c.args.output.now).taken (g.K.Sink.state c.perform-answer.new.output).taken
     (g.K.Sink.state c.flush.new.self).taken c.perform-answer.result
     c.perform-answer.ensures.wrote c.in-Err.ensures.bytes
 
 pub returns-in-Ok-clause-wrote : goal.returns-in-Ok-clause-wrote
 returns-in-Ok-clause-wrote g c =
-    flushed c.args.task (g.S.Source.state c.args.input.now).remaining (g.S.Source.state c.perform-answer.new.input).remaining
+    flushed c.args.task (g.S.Source.state c.args.input.now).remaining
+    (g.S.Source.state c.perform-answer.new.input).remaining
     (g.K.Sink.state c.args.output.now).taken (g.K.Sink.state c.perform-answer.new.output).taken
     (g.K.Sink.state c.flush.new.self).taken c.perform-answer.result
     c.perform-answer.ensures.wrote c.in-Ok.ensures.bytes

@@ -45,7 +45,8 @@ returns-in_err-put_all g c =
     parted rest group more c.min.result c.split_at.ensures.front c.split_at.ensures.back in
     rw failed.1
     (writes-stopped (samples_made more) (group_of samples_made made_join rest group more _ put.0
-    (take c.loop-start.start c.loop-start.text) _ cut put.2 c.put_colour_samples.ensures) put.1 c.in_err-put_all.ensures)
+    (take c.loop-start.start c.loop-start.text) _ cut put.2 c.put_colour_samples.ensures) put.1
+    c.in_err-put_all.ensures)
 
 pub returns-then-is_empty : goal.returns-then-is_empty
 returns-then-is_empty g c =

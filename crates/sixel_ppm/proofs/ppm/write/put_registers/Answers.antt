@@ -44,7 +44,8 @@ returns-in_err-put_all g c =
     let cut : rest ≡ group ++ more =
     parted rest group more c.min.result c.split_at.ensures.front c.split_at.ensures.back in
     rw failed.1
-    (writes-stopped (samples_from c.args.table.now more) (group_of (samples_from c.args.table.now) (samples_join c.args.table.now) rest group more _ put.0
+    (writes-stopped (samples_from c.args.table.now more) (group_of (samples_from c.args.table.now)
+    (samples_join c.args.table.now) rest group more _ put.0
     (take c.loop-start.start c.loop-start.text) _ cut put.2 c.put_samples.ensures) put.1 c.in_err-put_all.ensures)
 
 pub returns-then-is_empty : goal.returns-then-is_empty

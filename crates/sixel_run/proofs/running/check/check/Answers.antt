@@ -18,5 +18,6 @@ returns-clause-wrote g c =
 pub returns-in_err-verdict-clause-memory : goal.returns-in_err-verdict-clause-memory
 returns-in_err-verdict-clause-memory g c =
     let failed = err_from_is_err_and c.from_residual.result c.from_residual.ensures.1 in
-    grown _ (g.S.Source.state c.args.input.now).remaining _ failed.0 c.from_residual.result c.in_err-verdict.ensures.memory
+    grown _ (g.S.Source.state c.args.input.now).remaining _ failed.0 c.from_residual.result
+    c.in_err-verdict.ensures.memory
     failed.1 failed.2

@@ -19,7 +19,8 @@ loop-byte-init g c = record {
 pub loop-byte-preserved-in-Ok : goal.loop-byte-preserved-in-Ok
 loop-byte-preserved-in-Ok g c = record {
   stands = lists-more c.args.reader.now c.loop-byte.reader c.feed_plain.new.self c.args.piece.now c.loop-byte.byte-index
-      _ (in_all (g.K.Sink.state c.loop-byte.out).taken c.loop-byte.lines) _ c.loop-byte-test.true c.loop-byte.invariant.stands
+      _ (in_all (g.K.Sink.state c.loop-byte.out).taken c.loop-byte.lines) _ c.loop-byte-test.true
+      c.loop-byte.invariant.stands
       (λ events bytes stands. (
         completions (plain_of c.in-Some.plain),
         c.in-Some.ensures.accepted events bytes stands,
@@ -34,7 +35,8 @@ loop-byte-preserved g c =
     let kept : c.feed_plain.new.self ≡ c.loop-byte.reader = c.in_default.ensures.kept refl in
     record {
       stands = lists-more c.args.reader.now c.loop-byte.reader c.feed_and_put.new.reader c.args.piece.now
-          c.loop-byte.byte-index _ (in_all (g.K.Sink.state c.loop-byte.out).taken c.loop-byte.lines) _ c.loop-byte-test.true
+          c.loop-byte.byte-index _ (in_all (g.K.Sink.state c.loop-byte.out).taken c.loop-byte.lines) _
+          c.loop-byte-test.true
           c.loop-byte.invariant.stands
           (λ events bytes stands. c.in_ok-feed_and_put.ensures.fed events bytes
           (subst (λ (r : Reader). StandsAfter r events bytes) (sym kept) stands));

@@ -22,7 +22,8 @@ returns-in-Ok-finish-clause-wrote g c =
     let inv = c.loop-count.invariant.stands in
     let read = c.in-Ok.ensures.bytes in
     ended-well _ (g.S.Source.state c.loop-count.input).remaining (g.S.Source.state c.fill.new.self).remaining _
-    (g.K.Sink.state c.loop-count.output).taken inv.1 c.fill.new.piece c.in-Ok.count inv.0 inv.3 read.0 c.if-count-eq0.true
+    (g.K.Sink.state c.loop-count.output).taken inv.1 c.fill.new.piece c.in-Ok.count inv.0 inv.3 read.0
+    c.if-count-eq0.true
     (read.1 c.if-count-eq0.true (omega arith)) (c.in-Ok-finish.ensures.answer inv.0 inv.1 inv.2) inv.4
 
 pub returns-in-Err-finish-clause-wrote : goal.returns-in-Err-finish-clause-wrote
@@ -88,7 +89,8 @@ loop-count-preserved g c =
         inv.0 ++ fed.0,
         inv.1 ++ take c.in-Ok.count c.fill.new.piece,
         fed.1,
-        consumes-then _ (g.S.Source.state c.loop-count.input).remaining _ inv.1 (take c.in-Ok.count c.fill.new.piece) inv.3
+        consumes-then _ (g.S.Source.state c.loop-count.input).remaining _ inv.1 (take c.in-Ok.count c.fill.new.piece)
+            inv.3
             c.in-Ok.ensures.bytes.0,
         Appends-then _ (g.K.Sink.state c.loop-count.output).taken _ _ _ _ inv.4 fed.2 (list_text-append inv.0 fed.0),
       );

@@ -14,10 +14,12 @@ returns-in_err-write_ppm-in-Portable-clause-wrote g c =
 pub returns-in_err-picture-clause-memory : goal.returns-in_err-picture-clause-memory
 returns-in_err-picture-clause-memory g c =
     let failed = err_from_is_err_and c.from_residual.result c.from_residual.ensures.1 in
-    grown _ (g.S.Source.state c.args.input.now).remaining _ failed.0 c.from_residual.result c.in_err-picture.ensures.memory
+    grown _ (g.S.Source.state c.args.input.now).remaining _ failed.0 c.from_residual.result
+    c.in_err-picture.ensures.memory
     failed.1 failed.2
 
 pub returns-in-Broken-clause-wrote : goal.returns-in-Broken-clause-wrote
 returns-in-Broken-clause-wrote g c =
-    broken_rendered _ (g.S.Source.state c.args.input.now).remaining c.in-Broken.finding (g.K.Sink.state c.args.output.now).taken
+    broken_rendered _ (g.S.Source.state c.args.input.now).remaining c.in-Broken.finding
+    (g.K.Sink.state c.args.output.now).taken
     (rw c.in-Broken.is at c.in_ok-picture.ensures.answer)

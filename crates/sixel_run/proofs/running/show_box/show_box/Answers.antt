@@ -42,7 +42,8 @@ returns-clause-wrote g c =
     (show_terminal profile choices) c.deref-2.result.now events
     c.deref-3.ensures.value c.in_ok-shown.ensures c.deref-2.ensures.value in
     shown-boxed (screen_terminal profile c.args.showing c.args.fill c.args.selects)
-    (g.S.Source.state c.args.input.now).remaining events (c.in-Some.width, c.in-Some.height) c.write_screen.result had has
+    (g.S.Source.state c.args.input.now).remaining events (c.in-Some.width, c.in-Some.height) c.write_screen.result had
+    has
     c.in_ok-events.ensures.document
     (ap (λ (es : List Placed). declared_screen (events_of es)) (sym c.deref.ensures.value)
     ∙ sym c.declared_screen.ensures.value ∙ c.in-Some.is)
