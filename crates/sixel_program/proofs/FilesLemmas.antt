@@ -27,11 +27,12 @@ use Rattle.sixel_run.specs.declared.task.Task.{Task}
 use Rattle.sixel_run.specs.declared.task.Task.TheVariants as task
 use Rattle.sixel_run.specs.declared.task.Task.TheVariants.{Check}
 use Rattle.sixel_program.specs.Exits.{IsPut, RunEnds, complaint, exit_for_answer}
-use Rattle.sixel_program.specs.Files.{AreChecked, ArePut, AreCut, FileEnd, IsChecked, IsFileEnd, IsPrefix, NamedEnds}
+use Rattle.sixel_program.specs.Files.{AreChecked, ArePut, AreCut, FileEnd, IsChecked, IsFileEnd, IsPrefix}
 use Rattle.sixel_program.specs.Files.{FileEnds, FilesEnd, RequestEnds, Tells, SaysOfCheck, is_dash, complaints_of}
 use Rattle.sixel_program.specs.Files.{exit_of_end, failures_past, files_exit, files_text, worst, left_after}
-use Rattle.sixel_program.specs.Files.{named_complaint, named_fault_line, names_of, names_read, said_of, said_of_check}
+use Rattle.sixel_program.specs.Files.{names_of, names_read, said_of, said_of_check}
 use Rattle.sixel_program.specs.Files.{text_of_end, told_of, worse}
+use Rattle.sixel_program.specs.Names.{named_fault_line}
 use Rattle.sixel_run.specs.Outputs.{TakesMemory, Wrote}
 use Rattle.sixel_run.specs.Texts.{Text, fault_line, fault_parts}
 use Rattle.sixel_program.proofs.EndLemmas.{chained}
@@ -39,7 +40,7 @@ use Rattle.sixel_program.proofs.EndLemmas.{chained}
 -- ---- what is said of one file
 
 -- a check that isn't refused says nothing
-pub unsaid : (profile : Profile) (status : Status) → complaint (Check profile) (Ok status) ≡ []
+pub unsaid : (profile : Profile) (status : Status) → complaint (Check profile) None (Ok status) ≡ []
 unsaid profile status.Done = refl
 unsaid profile (status.Broken finding) = refl
 
@@ -210,31 +211,19 @@ memory_chained (task.Encode profile) told rest prefix consumed takes = chained _
 memory_chained (task.Show profile showing fill selects width height) told rest prefix consumed takes = tt
 memory_chained (task.ShowBox profile showing fill selects) told rest prefix consumed takes = tt
 
--- where the rest isn't told, nothing was
-untold : (told rest : Option (List ℕ)) (prefix : List ℕ) → Consumes told rest prefix
-    → option_append (Some prefix) rest ≡ None → told ≡ None
-untold None rest prefix consumed none = refl
-untold (Some bytes) None prefix consumed none = absurd consumed
-untold (Some bytes) (Some rest) prefix consumed none = cc
-
 -- a run over the bytes that were read and the rest is one over all of them
-pub named_chained : (t : Task) (name : Text) (prefix : List ℕ) (x : Exit) (told rest : Option (List ℕ)) (n : ℕ)
+pub run_chained : (t : Task) (name : Option Text) (prefix : List ℕ) (x : Exit) (told rest : Option (List ℕ)) (n : ℕ)
     (i : SourceState) (o e : Change SinkState) → Consumes told rest prefix
-    → NamedEnds t name prefix x (change (record { remaining = option_append (Some prefix) rest; failures = n }) i) o e
-    → NamedEnds t name prefix x (change (record { remaining = told; failures = n }) i) o e
-named_chained t name prefix x told rest n i o e consumed ended = record {
+    → RunEnds t name prefix x (change (record { remaining = option_append (Some prefix) rest; failures = n }) i) o e
+    → RunEnds t name prefix x (change (record { remaining = told; failures = n }) i) o e
+run_chained t name prefix x told rest n i o e consumed ended = record {
   answer = ended.answer;
-  wrote = elim ended.wrote [
-    | inl unread ↦ inl (untold told rest prefix consumed unread.0, unread.1, unread.2)
-    | inr wrote ↦ inr (
-      chained (λ (bytes : List ℕ). Wrote t bytes i.remaining ended.answer o.old.taken o.new.taken) told rest prefix
-          consumed wrote.0,
-      wrote.1,
-    )
-  ];
+  wrote = chained (λ (bytes : List ℕ). Wrote t bytes i.remaining ended.answer o.old.taken o.new.taken) told rest prefix
+      consumed ended.wrote;
   memory = λ is. memory_chained t told rest prefix consumed (ended.memory is);
   read = ended.read;
   written = ended.written;
+  flushed = ended.flushed;
   ends = ended.ends;
   said = ended.said;
 }
@@ -305,7 +294,7 @@ module _ (profile : Profile) (q : Bool) (contents : Text → Option (List ℕ)) 
 -- ---- a task over a file
 
 module _ (t : Task) (contents : Text → Option (List ℕ)) (name : Text) (given : List ℕ) (o e : Change SinkState) where
-  pub dash_ends : (x : Exit) (i : Change SourceState) → is_dash name ≡ true → NamedEnds t name given x i o e
+  pub dash_ends : (x : Exit) (i : Change SourceState) → is_dash name ≡ true → RunEnds t (Some name) given x i o e
       → FileEnds t contents name given x i o e
   dash_ends x i dash ended = record {
     prefix = given;
@@ -315,12 +304,12 @@ module _ (t : Task) (contents : Text → Option (List ℕ)) (name : Text) (given
     told = rw dash refl;
     is_input = λ is. refl;
     stays = λ is. let no : true ≡ false = sym dash ∙ is in cc;
-    ended = ended;
+    ended = inl ended;
   }
 
   pub file_ends : (x : Exit) (i after : SourceState) (rest : Option (List ℕ)) (n : ℕ) (prefix : List ℕ)
       → is_dash name ≡ false → Consumes (contents name) rest prefix
-      → NamedEnds t name prefix x (change (record { remaining = option_append (Some prefix) rest; failures = n }) after)
+      → RunEnds t (Some name) prefix x (change (record { remaining = option_append (Some prefix) rest; failures = n }) after)
       o e
       → FileEnds t contents name given x (change i i) o e
   file_ends x i after rest n prefix file consumed ended = record {
@@ -331,32 +320,25 @@ module _ (t : Task) (contents : Text → Option (List ℕ)) (name : Text) (given
     told = rw file refl;
     is_input = λ is. let no : true ≡ false = sym is ∙ file in cc;
     stays = λ is. refl;
-    ended = named_chained t name prefix x (contents name) rest n after o e consumed ended;
+    ended = inl (run_chained t (Some name) prefix x (contents name) rest n after o e consumed ended);
   }
 
 pub unopened_ends : (t : Task) (contents : Text → Option (List ℕ)) (name : Text) (given : List ℕ) (i : SourceState)
     (o : SinkState) (e : Change SinkState) → is_dash name ≡ false → contents name ≡ None
-    → IsPut (named_complaint name t (Err run.Read)) e
+    → IsPut (complaint t (Some name) (Err run.Read)) e
     → FileEnds t contents name given exit.Refused (change i i) (change o o) e
-unopened_ends t contents name given i o e file none put = record {
-  prefix = [];
-  file = change (record { remaining = contents name; failures = 0 })
-      (record { remaining = None; failures = one_more 0 });
-  given_prefix = λ is. let no : true ≡ false = sym is ∙ file in cc;
-  own_prefix = λ is. no_prefix (contents name);
-  told = rw file refl;
-  is_input = λ is. let no : true ≡ false = sym is ∙ file in cc;
-  stays = λ is. refl;
-  ended = record {
-    answer = Err run.Read;
-    wrote = inl (none, refl, Appends-none o.taken);
-    memory = λ is. cc;
-    read = inl refl;
-    written = refl;
-    ends = refl;
-    said = subst (λ (text : Text). IsPut text e) (sym (append-nil (named_complaint name t (Err run.Read)))) put;
-  };
-}
+unopened_ends t contents name given i o e file none put =
+    let unread : SourceState = record { remaining = contents name; failures = 0 } in
+    record {
+      prefix = [];
+      file = change unread unread;
+      given_prefix = λ is. let no : true ≡ false = sym is ∙ file in cc;
+      own_prefix = λ is. no_prefix (contents name);
+      told = rw file refl;
+      is_input = λ is. let no : true ≡ false = sym is ∙ file in cc;
+      stays = λ is. refl;
+      ended = inr (none, refl, refl, put);
+    }
 
 -- ---- what is asked for
 
@@ -366,33 +348,19 @@ IsRunOver t x told = (answer : Result Status RunFault) × (x ≡ exit_for_answer
     × ((left : Option (List ℕ)) × (had : Option (List ℕ)) × (has : Option (List ℕ))
     × IfSome told (λ bytes. Wrote t bytes left answer had has))
 
-run_ends : (t : Task) (prefix : List ℕ) (x : Exit) (i : Change SourceState) (o e : Change SinkState)
-    → RunEnds t prefix x i o e → IsRunOver t x i.old.remaining
-run_ends t prefix x i o e ended =
+run_ends : (t : Task) (name : Option Text) (prefix : List ℕ) (x : Exit) (i : Change SourceState) (o e : Change SinkState)
+    → RunEnds t name prefix x i o e → IsRunOver t x i.old.remaining
+run_ends t name prefix x i o e ended =
     (ended.answer, ended.ends, (i.new.remaining, o.old.taken, o.new.taken, ended.wrote))
-
-named_ends : (t : Task) (name : Text) (prefix : List ℕ) (x : Exit) (file : Change SourceState) (o e : Change SinkState)
-    → NamedEnds t name prefix x file o e → IsRunOver t x file.old.remaining
-named_ends t name prefix x file o e ended = (
-  ended.answer,
-  ended.ends,
-  (
-    file.new.remaining,
-    o.old.taken,
-    o.new.taken,
-    elim ended.wrote [
-      | inl unread ↦ rw unread.0 tt
-      | inr wrote ↦ wrote.0
-    ],
-  ),
-)
 
 file_run : (contents : Text → Option (List ℕ)) (t : Task) (name : Text) (prefix : List ℕ) (x : Exit)
     (i : Change SourceState) (o e : Change SinkState) → FileEnds t contents name prefix x i o e
     → IsRunOver t x (told_of contents i.old.remaining name)
 file_run contents t name prefix x i o e ended =
-    subst (λ (told : Option (List ℕ)). IsRunOver t x told) ended.told
-    (named_ends t name ended.prefix x ended.file o e ended.ended)
+    subst (λ (told : Option (List ℕ)). IsRunOver t x told) ended.told (elim ended.ended [
+      | inl ran ↦ run_ends t (Some name) ended.prefix x ended.file o e ran
+      | inr unopened ↦ (Err run.Read, unopened.1, (None, None, None, rw unopened.0 tt))
+    ])
 
 module _ (contents : Text → Option (List ℕ)) (prefix : List ℕ) (x : Exit) (i : Change SourceState)
     (o e : Change SinkState) where
@@ -421,22 +389,22 @@ module _ (contents : Text → Option (List ℕ)) (prefix : List ℕ) (x : Exit) 
         ),
       )
   request_read (task.Check profile) false [] ended =
-      inl (codes "-", refl, run_ends (Check profile) prefix x i o e ended)
+      inl (codes "-", refl, run_ends (Check profile) None prefix x i o e ended)
   request_read (task.Check profile) q (name ∷ more) ended = inr (profile, refl, refl, ended)
   request_read task.List q [] ended =
-      inl (codes "-", refl, run_ends task.List prefix x i o e ended)
+      inl (codes "-", refl, run_ends task.List None prefix x i o e ended)
   request_read task.List q (name ∷ more) ended =
       inl (name, refl, file_run contents task.List name prefix x i o e ended)
   request_read (task.Render profile) q [] ended =
-      inl (codes "-", refl, run_ends (task.Render profile) prefix x i o e ended)
+      inl (codes "-", refl, run_ends (task.Render profile) None prefix x i o e ended)
   request_read (task.Render profile) q (name ∷ more) ended =
       inl (name, refl, file_run contents (task.Render profile) name prefix x i o e ended)
   request_read (task.Encode profile) q [] ended =
-      inl (codes "-", refl, run_ends (task.Encode profile) prefix x i o e ended)
+      inl (codes "-", refl, run_ends (task.Encode profile) None prefix x i o e ended)
   request_read (task.Encode profile) q (name ∷ more) ended =
       inl (name, refl, file_run contents (task.Encode profile) name prefix x i o e ended)
   request_read (task.Show profile showing fill selects width height) q [] ended =
-      inl (codes "-", refl, run_ends (task.Show profile showing fill selects width height) prefix x i o e ended)
+      inl (codes "-", refl, run_ends (task.Show profile showing fill selects width height) None prefix x i o e ended)
   request_read (task.Show profile showing fill selects width height) q (name ∷ more) ended =
       inl (
         name,
@@ -445,7 +413,7 @@ module _ (contents : Text → Option (List ℕ)) (prefix : List ℕ) (x : Exit) 
             ended,
       )
   request_read (task.ShowBox profile showing fill selects) q [] ended =
-      inl (codes "-", refl, run_ends (task.ShowBox profile showing fill selects) prefix x i o e ended)
+      inl (codes "-", refl, run_ends (task.ShowBox profile showing fill selects) None prefix x i o e ended)
   request_read (task.ShowBox profile showing fill selects) q (name ∷ more) ended =
       inl (name, refl, file_run contents (task.ShowBox profile showing fill selects) name prefix x i o e ended)
 

@@ -1,6 +1,6 @@
 -- How the program ends.
 use Rattle.std.specs.Prelude.{◌≡◌, ◌≢◌, ◌⊎◌, ◌++◌, ℕ, List, [], Bool, false, true, take, IfSome, Result, Ok}
-use Rattle.std.specs.Prelude.{Err, if◌then◌else◌}
+use Rattle.std.specs.Prelude.{Err, None, Option, Some, if◌then◌else◌}
 use Rattle.std.specs.Io.KnownBytes.{Appends}
 use Rattle.sixel_io.specs.Devices.{Change, SinkState, SourceState, one_more}
 use Rattle.sixel_program.specs.declared.exit.Exit.{Exit}
@@ -15,6 +15,7 @@ use Rattle.sixel_words.specs.declared.words.WordsFault.TheVariants as fault
 use Rattle.sixel_run.specs.declared.fault.RunFault.TheVariants as run
 use Rattle.sixel_words.specs.Explanations.{IsExplanation}
 use Rattle.sixel_program.specs.Formats.{advice}
+use Rattle.sixel_program.specs.Names.{named, named_fault_line}
 use Rattle.sixel_run.specs.Outputs.{CountsReads, CountsWrites, TakesMemory, Wrote}
 use Rattle.sixel_run.specs.Texts.{Text, fault_line, finding_line}
 
@@ -37,11 +38,21 @@ abbrev pub is_render : Task → Bool
 is_render (task.Render profile) = true
 is_render _ = false
 
+-- a line of an input that has this name, or none
+abbrev pub labelled : Option Text → Text → Text
+labelled None text = text
+labelled (Some name) text = named name text
+
+-- the line of a fault in an input; that the output can't be written is the fault of no input
+abbrev pub fault_said : Option Text → RunFault → Text
+fault_said None fault = fault_line fault
+fault_said (Some name) fault = named_fault_line name fault
+
 -- the line of a refusal, or of the broken rule that kept a picture from being rendered; else none
-abbrev pub complaint : Task → Result Status RunFault → Text
-complaint t (Ok status.Done) = []
-complaint t (Ok (status.Broken finding)) = if is_render t then finding_line finding else []
-complaint t (Err fault) = fault_line fault
+abbrev pub complaint : Task → Option Text → Result Status RunFault → Text
+complaint t name (Ok status.Done) = []
+complaint t name (Ok (status.Broken finding)) = if is_render t then labelled name (finding_line finding) else []
+complaint t name (Err fault) = fault_said name fault
 
 -- the text was appended to what a sink had, or a prefix of it, and the sink failed
 abbrev pub IsPut : Text → Change SinkState → Type 0
@@ -49,10 +60,10 @@ IsPut text sink =
     (Appends sink.old.taken sink.new.taken text × (sink.new.failures ≡ sink.old.failures))
     ⊎ ((n : ℕ) × Appends sink.old.taken sink.new.taken (take n text) × (sink.new.failures ≡ one_more sink.old.failures))
 
--- a run of the task had some answer. The source and the first sink are as after such a run, the program ends as after
--- it, and to the second sink were put the line that is said of it, and what is said of an input of another format, by
--- the bytes that are given as its first
-pub record RunEnds (t : Task) (prefix : List ℕ) (exit : Exit) (input : Change SourceState)
+-- a run of the task over an input, which has this name or none, had some answer. The input and the first sink are as
+-- after such a run, the program ends as after it, and to the second sink were put the line that is said of it, and what
+-- is said of an input of another format, by the bytes that are given as its first
+pub record RunEnds (t : Task) (name : Option Text) (prefix : List ℕ) (exit : Exit) (input : Change SourceState)
     (output errors : Change SinkState) : Type 0 where
   pub answer : Result Status RunFault
   pub wrote : IfSome input.old.remaining
@@ -62,7 +73,7 @@ pub record RunEnds (t : Task) (prefix : List ℕ) (exit : Exit) (input : Change 
   pub written : CountsWrites answer output.old.failures output.new.failures
   pub flushed : answer ≢ Err run.Write → output.new.is_flushed ≡ true
   pub ends : exit ≡ exit_for_answer answer
-  pub said : IsPut (complaint t answer ++ advice prefix answer) errors
+  pub said : IsPut (complaint t name answer ++ advice prefix answer) errors
 
 -- ---- where the words give no task
 

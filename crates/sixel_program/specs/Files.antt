@@ -19,28 +19,13 @@ use Rattle.sixel_run.specs.declared.task.Status.{Status}
 use Rattle.sixel_run.specs.declared.task.Status.TheVariants as status
 use Rattle.sixel_run.specs.declared.task.Task.{Task}
 use Rattle.sixel_run.specs.declared.task.Task.TheVariants.{Check}
-use Rattle.sixel_program.specs.Exits.{IsPut, RunEnds, complaint, exit_code, exit_for_answer, is_render}
+use Rattle.sixel_program.specs.Exits.{IsPut, RunEnds, complaint, exit_code, exit_for_answer}
 use Rattle.sixel_run.specs.Outputs.{CountsReads, CountsWrites, Gives, TakesMemory, WroteNothing, Wrote, failures_by}
 use Rattle.sixel_program.specs.Formats.{advice}
-use Rattle.sixel_program.specs.Names.{printed}
+use Rattle.sixel_program.specs.Names.{named, named_fault_line}
 use Rattle.sixel_run.specs.Texts.{BeginsWith, Text, fault_line, fault_parts, finding_line, line}
 
 -- ---- names
-
--- a name before a line
-abbrev pub named : Text → Text → Text
-named name text = printed name ++ codes ": " ++ text
-
--- the line of a fault in a file of this name; that the output can't be written is the fault of no file
-abbrev pub named_fault_line : Text → RunFault → Text
-named_fault_line name run.Write = fault_line run.Write
-named_fault_line name fault = line (codes "sixel: " ++ printed name ++ codes ":") (fault_parts fault)
-
--- the line of a refusal, or of the broken rule that kept a picture from being rendered; else none
-abbrev pub named_complaint : Text → Task → Result Status RunFault → Text
-named_complaint name t (Ok status.Done) = []
-named_complaint name t (Ok (status.Broken finding)) = if is_render t then named name (finding_line finding) else []
-named_complaint name t (Err fault) = named_fault_line name fault
 
 -- this name is that of standard input
 abbrev pub is_dash : Text → Bool
@@ -92,24 +77,6 @@ notice is_terminal t names =
 
 -- ---- one file
 
--- a task over a file of this name ended so: a run of it had some
--- answer and wrote what a run writes that has it, or the file couldn't be opened; and to the second sink were put the
--- line that is said of it, and what is said of an input of another format, by the bytes that are given as the first of
--- the file
-pub record NamedEnds (t : Task) (name : Text) (prefix : List ℕ) (exit : Exit) (file : Change SourceState)
-    (output errors : Change SinkState) : Type 0 where
-  pub answer : Result Status RunFault
-  pub wrote : ((file.old.remaining ≡ None) × (answer ≡ Err run.Read)
-      × WroteNothing output.old.taken output.new.taken)
-      ⊎ (IfSome file.old.remaining
-      (λ bytes. Wrote t bytes file.new.remaining answer output.old.taken output.new.taken)
-      × (answer ≢ Err run.Write → output.new.is_flushed ≡ true))
-  pub memory : answer ≡ Err run.OutOfMemory → TakesMemory t file.old.remaining
-  pub read : CountsReads answer file.old.failures file.new.failures
-  pub written : CountsWrites answer output.old.failures output.new.failures
-  pub ends : exit ≡ exit_for_answer answer
-  pub said : IsPut (named_complaint name t answer ++ advice prefix answer) errors
-
 -- what standard input has left after a file
 abbrev pub left_after : Option (List ℕ) → Text → Option (List ℕ) → Option (List ℕ)
 left_after input name left = if is_dash name then left else input
@@ -118,8 +85,13 @@ left_after input name left = if is_dash name then left else input
 abbrev pub IsPrefix : Option (List ℕ) → List ℕ → Type 0
 IsPrefix told prefix = IfSome told (λ bytes. BeginsWith bytes prefix)
 
+-- the file of this name couldn't be opened: nothing was done, but that to the second sink was put the line that says so
+abbrev pub IsUnopened : Task → Option (List ℕ) → Text → Exit → Change SinkState → Change SinkState → Type 0
+IsUnopened t told name exit output errors =
+    (told ≡ None) × (exit ≡ Refused) × (output.new ≡ output.old) × IsPut (complaint t (Some name) (Err run.Read)) errors
+
 -- a task over the file of this name ended so, over standard input, of which `given` are the first bytes: that is the
--- file by its name, and stays beside another file
+-- file by its name, and stays beside another file, which is run over or couldn't be opened
 pub record FileEnds (t : Task) (contents : Text → Option (List ℕ)) (name : Text) (given : List ℕ) (exit : Exit)
     (input : Change SourceState) (output errors : Change SinkState) : Type 0 where
   pub prefix : List ℕ
@@ -129,7 +101,8 @@ pub record FileEnds (t : Task) (contents : Text → Option (List ℕ)) (name : T
   pub told : file.old.remaining ≡ told_of contents input.old.remaining name
   pub is_input : is_dash name ≡ true → file ≡ input
   pub stays : is_dash name ≡ false → input.new ≡ input.old
-  pub ended : NamedEnds t name prefix exit file output errors
+  pub ended : RunEnds t (Some name) prefix exit file output errors
+      ⊎ IsUnopened t file.old.remaining name exit output errors
 
 -- ---- checks of several files
 
@@ -298,7 +271,7 @@ pub record QuietEnds (profile : Profile) (exit : Exit) (input : Change SourceSta
   pub read : input.new.failures ≡ failures_by run.Read answer input.old.failures
   pub written : answer ≢ Err run.Write
   pub ends : exit ≡ exit_for_answer answer
-  pub said : IsPut (complaint (Check profile) answer) errors
+  pub said : IsPut (complaint (Check profile) None answer) errors
 
 -- what is asked for ended so, over standard input, of which `prefix` are the first bytes: the task over that where no
 -- file is named; a check of all files that are named, and any other task over the first of them
@@ -306,7 +279,7 @@ abbrev pub RequestEnds : Task → Bool → List Text → (Text → Option (List 
     → Change SinkState → Change SinkState → Type 0
 RequestEnds (Check profile) true [] contents prefix exit input output errors =
     QuietEnds profile exit input errors × (output.new ≡ output.old)  -- nothing went to the first sink
-RequestEnds t is_quiet [] contents prefix exit input output errors = RunEnds t prefix exit input output errors
+RequestEnds t is_quiet [] contents prefix exit input output errors = RunEnds t None prefix exit input output errors
 RequestEnds (Check profile) is_quiet (name ∷ more) contents prefix exit input output errors =
     FilesEnd profile is_quiet contents (name ∷ more) exit input output errors
 RequestEnds t is_quiet (name ∷ more) contents prefix exit input output errors =

@@ -1,6 +1,9 @@
--- Names of files as they are printed.
-use Rattle.std.specs.Prelude.{◌+◌, ◌-◌, ◌/◌, ◌%◌, ◌==◌, ◌||◌, ℕ, Bool, [], ◌∷◌, nat_lt, flat_map, if◌then◌else◌}
-use Rattle.sixel_run.specs.Texts.{Text}
+-- Names of files as they are printed, and lines with one.
+use Rattle.std.specs.Prelude.{◌+◌, ◌-◌, ◌/◌, ◌%◌, ◌==◌, ◌||◌, ℕ, Bool, [], ◌∷◌, ◌++◌, codes, nat_lt, flat_map}
+use Rattle.std.specs.Prelude.{if◌then◌else◌}
+use Rattle.sixel_run.specs.declared.fault.RunFault.{RunFault}
+use Rattle.sixel_run.specs.declared.fault.RunFault.TheVariants as run
+use Rattle.sixel_run.specs.Texts.{Text, fault_line, fault_parts, line}
 
 -- a number below 16 as a hexadecimal digit: 0 to 9, A to F
 abbrev pub hex_digit : ℕ → ℕ
@@ -18,3 +21,12 @@ printed_byte byte =
 -- a name as it is printed
 abbrev pub printed : Text → Text
 printed name = flat_map printed_byte name
+
+-- a name before a line
+abbrev pub named : Text → Text → Text
+named name text = printed name ++ codes ": " ++ text
+
+-- the line of a fault in a file of this name; that the output can't be written is the fault of no file
+abbrev pub named_fault_line : Text → RunFault → Text
+named_fault_line name run.Write = fault_line run.Write
+named_fault_line name fault = line (codes "sixel: " ++ printed name ++ codes ":") (fault_parts fault)

@@ -1,41 +1,35 @@
 //! Files in place of standard input, and checks that write no verdict.
 
 ghost use Rattle.std.specs.Prelude.{◌≡◌, ◌++◌, [], ℕ, List, Option, Some, IfSome, false};
-ghost use Rattle.std.specs.Prelude.{◌⊎◌, Result, length, map, true};
+ghost use Rattle.std.specs.Prelude.{◌⊎◌, Result, length, map, option_copied, true};
 ghost use Rattle.std.specs.Io.KnownBytes.{Consumes};
 ghost use Rattle.std.specs.List.{list_any};
 ghost use Rattle.std.specs.String.{string_bytes};
-ghost use Rattle.sixel_io.specs.Devices.{Writes, change};
+ghost use Rattle.sixel_io.specs.Devices.{change};
 ghost use Rattle.sixel_run.specs.declared.task.Task.TheVariants.{Check};
-ghost use Rattle.sixel_program.specs.Exits.{IsPut};
-ghost use Rattle.sixel_program.specs.Files.{FileEnds, FilesEnd, IsChecked, IsFileEnd, IsOutcome, NamedEnds, QuietEnds};
-ghost use Rattle.sixel_program.specs.Files.{RequestEnds, awaits_text, is_dash, named_complaint, notice, reads_input};
+ghost use Rattle.sixel_program.specs.Exits.{IsPut, RunEnds};
+ghost use Rattle.sixel_program.specs.Files.{FileEnds, FilesEnd, IsChecked, IsFileEnd, IsOutcome, QuietEnds};
+ghost use Rattle.sixel_program.specs.Files.{RequestEnds, awaits_text, is_dash, notice, reads_input};
 ghost use Rattle.sixel_program.specs.Files.{worse};
-ghost use Rattle.sixel_program.specs.Formats.{advice};
 ghost use Rattle.sixel_run.specs.Outputs.{HasSides, answer_of, failures_by, line_of};
 ghost use Rattle.sixel_run.specs.Texts.{Text, fault_line};
 ghost use Rattle.sixel_run.specs.declared.fault.RunFault.{RunFault as AFault};
 ghost use Rattle.sixel_run.specs.declared.fault.RunFault.TheVariants.{Read as ReadFault};
 ghost use Rattle.sixel_run.specs.declared.task.Status.{Status as AStatus};
 
-use crate::exit::{Exit, advice, code_of, exit_of, report};
+use crate::exit::{Exit, code_of, exit_of};
 use crate::folder::Folder;
 use crate::formats::PREFIX_LENGTH;
 use crate::names::put_named;
+use crate::saying::{put_fault, put_said};
 use arrayvec::ArrayVec;
 use sixel_check::Verdict;
 use sixel_io::{DeviceFault, FromRead, Sink, Source, put_all};
 use sixel_model::Profile;
-use sixel_run::{
-    RunFault, Status, Task, fault_line, finding_line, judge, run, status_of, verdict_line,
-    write_fault,
-};
+use sixel_run::{RunFault, Task, judge, run, status_of, verdict_line, write_fault};
 use sixel_words::Request;
 use std::alloc::Global;
 use std::io::Read;
-
-/// How many bytes of the line of a fault stand before a file's name: those of `sixel:`.
-const MARK: usize = 6;
 
 /// What is said before a check that reads a terminal.
 const WAITING: &[u8] = b"sixel: waiting for sixel text on standard input\n";
@@ -129,58 +123,20 @@ fn read_more<R: Read>(input: &mut R, prefix: &mut ArrayVec<u8, PREFIX_LENGTH>) -
     count > 0 && !prefix.is_full()
 }
 
-/// Puts the line of why a run over a file was refused, or of which rule kept its picture from being rendered.
-fn put_complaint<E: Sink>(
-    task: Task,
-    name: &str,
-    answer: &Result<Status, RunFault>,
-    errors: &mut E,
-) -> Result<(), DeviceFault>
-    ensures { Writes result (E.state errors.old) (E.state errors.new) (named_complaint name.now task answer.now) }
-{
-    match answer {
-        Ok(Status::Broken(finding)) if matches!(task, Task::Render { .. }) => {
-            put_named(errors, b"", name, b": ", finding_line(finding).as_slice())
-        }
-        Ok(_) => Ok(()),
-        Err(RunFault::Write) => write_fault(&RunFault::Write, errors),
-        Err(fault) => put_named(
-            errors,
-            b"sixel: ",
-            name,
-            b":",
-            &fault_line(fault).as_slice()[MARK..],
-        ),
-    }
-}
-
-/// The same, and after it what makes a PPM of a file of another format, by its first bytes.
-fn put_said<E: Sink>(
-    task: Task,
-    name: &str,
-    prefix: &[u8],
-    answer: &Result<Status, RunFault>,
-    errors: &mut E,
-) -> Result<(), DeviceFault>
-    ensures { Writes result (E.state errors.old) (E.state errors.new)
-        (named_complaint name.now task answer.now ++ advice prefix.now answer.now) }
-{
-    put_complaint(task, name, answer, errors)?;
-    put_all(errors, advice(prefix, answer).as_bytes())
-}
-
-/// Runs a task over a file that is open. `prefix` is what it begins with, as far as that is known.
-fn report_named<S: Source, K: Sink, E: Sink>(
+/// Runs a task over an input, which has this name or none, and says to another sink why it was refused, or which rule
+/// kept a picture from being rendered, and what makes a PPM of an input of another format. `prefix` is what the input
+/// begins with, as far as that is known. If that can't be put, the program ends as it would.
+fn report<S: Source, K: Sink, E: Sink>(
     alloc: Global,
     task: Task,
-    name: &str,
+    name: Option<&str>,
     prefix: &[u8],
     input: &mut S,
     output: &mut K,
     errors: &mut E,
 ) -> Exit
     requires { HasSides task }
-    ensures { NamedEnds task name.now prefix.now result
+    ensures { RunEnds task (option_copied name.entry) prefix.now result
         (change (S.state input.old) (S.state input.new)) (change (K.state output.old) (K.state output.new))
         (change (E.state errors.old) (E.state errors.new)) }
 {
@@ -207,17 +163,17 @@ fn report_file<F: Folder, S: Source, K: Sink, E: Sink>(
         (change (E.state errors.old) (E.state errors.new)) }
 {
     if name == "-" {
-        return report_named(alloc, task, name, prefix, input, output, errors);
+        return report(alloc, task, Some(name), prefix, input, output, errors);
     }
     match folder.open(name) {
         Ok(file) => {
             let mut file = file;
             let prefix = first_bytes(task, &mut file);
             let mut file = FromRead::new(prefix.as_slice().chain(file));
-            report_named(
+            report(
                 alloc,
                 task,
-                name,
+                Some(name),
                 prefix.as_slice(),
                 &mut file,
                 output,
@@ -225,7 +181,7 @@ fn report_file<F: Folder, S: Source, K: Sink, E: Sink>(
             )
         }
         Err(_) => {
-            let _ = put_complaint(task, name, &Err(RunFault::Read), errors);
+            let _ = put_fault(Some(name), &RunFault::Read, errors);
             Exit::Refused
         }
     }
@@ -252,7 +208,6 @@ fn check_quietly<S: Source, E: Sink>(
 
 /// Puts what is written of a checked file, and what is said of it; on an `Err` the first sink failed.
 fn put_judged<K: Sink, E: Sink>(
-    profile: Profile,
     is_quiet: bool,
     name: &str,
     judged: Result<Verdict, RunFault>,
@@ -270,7 +225,7 @@ fn put_judged<K: Sink, E: Sink>(
             Ok(exit_of(Ok(status_of(&verdict))))
         }
         Err(fault) => {
-            let _ = put_complaint(Task::Check { profile }, name, &Err(fault), errors);
+            let _ = put_fault(Some(name), &fault, errors);
             Ok(Exit::Refused)
         }
     }
@@ -299,7 +254,7 @@ fn check_named<S: Source, K: Sink, E: Sink>(
         (change (K.state output.old) (K.state output.new)) (change (E.state errors.old) (E.state errors.new)) }
 {
     let judged = judge(alloc, profile, input);
-    put_judged(profile, is_quiet, name, judged, output, errors)
+    put_judged(is_quiet, name, judged, output, errors)
 }
 
 /// Checks the file of this name, or standard input where the name is `-`.
@@ -326,7 +281,7 @@ fn check_file<F: Folder, S: Source, K: Sink, E: Sink>(
             let mut file = FromRead::new(none.chain(file));
             check_named(alloc, profile, is_quiet, name, &mut file, output, errors)
         }
-        Err(_) => put_judged(profile, is_quiet, name, Err(RunFault::Read), output, errors),
+        Err(_) => put_judged(is_quiet, name, Err(RunFault::Read), output, errors),
     }
 }
 
@@ -408,7 +363,7 @@ pub fn answer<F: Folder, S: Source, K: Sink, E: Sink>(
     let is_quiet = request.is_quiet;
     match (request.task, names) {
         (Task::Check { profile }, []) if is_quiet => check_quietly(alloc, profile, input, errors),
-        (task, []) => report(alloc, task, prefix, input, output, errors),
+        (task, []) => report(alloc, task, None, prefix, input, output, errors),
         (Task::Check { profile }, _) => {
             check_files(
                 alloc, profile, is_quiet, names, folder, input, output, errors,

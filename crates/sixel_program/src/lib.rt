@@ -8,6 +8,7 @@ mod folder;
 mod formats;
 pub mod laws;
 mod names;
+mod saying;
 
 pub use execution::execute;
 pub use exit::{Exit, code_of, tell};

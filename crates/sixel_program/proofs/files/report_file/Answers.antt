@@ -4,16 +4,16 @@ use Rattle.sixel_program.proofs.PutLemmas.{is_put}
 use Rattle.sixel_program.proofs.files.report_file.Goals as goal
 
 pub returns-then-eq : goal.returns-then-eq
-returns-then-eq g c = dash_ends _ _ _ _ _ _ _ _ (sym c.eq.ensures ∙ c.if-eq.true) c.report_named.ensures
+returns-then-eq g c = dash_ends _ _ _ _ _ _ _ _ (sym c.eq.ensures ∙ c.if-eq.true) c.report.ensures
 
 pub returns-in-Ok : goal.returns-in-Ok
 returns-in-Ok g c =
     file_ends _ _ _ _ _ _ _ _ _ _ _ _ (sym c.eq.ensures ∙ c.if-eq.false)
     (rw c.in-Ok.ensures.opened at c.first_bytes-prefix.ensures)
     (rw (c.new-file.ensures, c.chain.ensures.bytes, c.as_slice.ensures.value, c.as_slice-in-Ok.ensures.value)
-    at c.report_named-in-Ok.ensures)
+    at c.report-in-Ok.ensures)
 
 pub returns-in-Err : goal.returns-in-Err
 returns-in-Err g c =
     unopened_ends _ _ _ _ _ _ _ (sym c.eq.ensures ∙ c.if-eq.false) c.in-Err.ensures.unopened
-    (is_put c.put_complaint.result _ _ _ c.put_complaint.ensures)
+    (is_put c.put_fault.result _ _ _ c.put_fault.ensures)

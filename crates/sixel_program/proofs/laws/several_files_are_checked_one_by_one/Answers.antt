@@ -1,7 +1,8 @@
 use Rattle.std.proofs.Common.{refl}
 use Rattle.std.proofs.lemmas.Grind.{flat_map-append}
 use Rattle.std.proofs.lemmas.List.{append-nil}
-use Rattle.sixel_program.specs.Files.{named, text_of_end}
+use Rattle.sixel_program.specs.Files.{text_of_end}
+use Rattle.sixel_program.specs.Names.{named}
 use Rattle.sixel_program.proofs.SeveralLemmas.{alone, faulty, greatest_of, quiet, reached, said_whole}
 use Rattle.sixel_program.proofs.laws.several_files_are_checked_one_by_one.Goals as goal
 

@@ -1,5 +1,5 @@
 use Rattle.sixel_program.proofs.PutLemmas.{is_put}
-use Rattle.sixel_program.proofs.exit.report.Goals as goal
+use Rattle.sixel_program.proofs.files.report.Goals as goal
 
 pub returns : goal.returns
 returns g c = record {
@@ -10,6 +10,5 @@ returns g c = record {
   written = c.run-answer.ensures.writes;
   flushed = c.run-answer.ensures.flushed;
   ends = c.exit_of.ensures;
-  said = is_put c.put_all.result _ _ _
-      (rw (c.as_slice.ensures.value, c.said_of-said.ensures) at c.put_all.ensures);
+  said = is_put c.put_said.result _ _ _ c.put_said.ensures;
 }

@@ -1,7 +1,7 @@
 use Rattle.std.proofs.Common.{refl}
 use Rattle.std.proofs.lemmas.Result.{err_from_is_err_and}
 use Rattle.sixel_io.proofs.SinkLemmas.{writes-cut, writes-then}
-use Rattle.sixel_program.proofs.files.put_said.Goals as goal
+use Rattle.sixel_program.proofs.saying.put_said.Goals as goal
 
 pub returns-in_err-put_complaint : goal.returns-in_err-put_complaint
 returns-in_err-put_complaint g c =

@@ -1,0 +1,99 @@
+//! What is said of a run: why an input was refused, and what makes a PPM of one of another format.
+
+ghost use Rattle.std.specs.Prelude.{◌≡◌, ◌≤◌, ◌++◌, length, option_copied};
+ghost use Rattle.sixel_io.specs.Devices.{Writes};
+ghost use Rattle.sixel_program.specs.Exits.{complaint, fault_said, labelled};
+ghost use Rattle.sixel_program.specs.Formats.{advice};
+
+use crate::formats::{advice_on, format_of};
+use crate::names::put_named;
+use sixel_io::{DeviceFault, Sink, put_all};
+use sixel_ppm::PpmReason;
+use sixel_run::{RunFault, Status, Task, fault_line, finding_line, write_fault};
+
+/// How many bytes of the line of a fault stand before the name of an input: those of `sixel:`.
+const MARK: usize = 6;
+
+/// What makes a PPM of an input that begins with these bytes, where its header is refused at the mark of another
+/// format; else nothing.
+fn advice(prefix: &[u8], answer: &Result<Status, RunFault>) -> &'static str
+    ensures text { result.now ≡ advice prefix.now answer.now }
+    ensures short { length result.now ≤ 96 }
+{
+    match answer {
+        Err(
+            RunFault::Ppm {
+                reason: PpmReason::Header,
+                place,
+            },
+        ) if *place <= 1 => match format_of(prefix) {
+            Some(format) => advice_on(format),
+            None => "",
+        },
+        _ => "",
+    }
+}
+
+/// Puts a line of an input, after its name if it has one.
+fn put_labelled<K: Sink>(name: Option<&str>, line: &[u8], out: &mut K) -> Result<(), DeviceFault>
+    ensures { Writes result (K.state out.old) (K.state out.new) (labelled (option_copied name.entry) line.now) }
+{
+    match name {
+        Some(name) => put_named(out, b"", name, b": ", line),
+        None => put_all(out, line),
+    }
+}
+
+/// Puts the line of a fault in an input. That the output can't be written is the fault of no input.
+pub fn put_fault<K: Sink>(
+    name: Option<&str>,
+    fault: &RunFault,
+    out: &mut K,
+) -> Result<(), DeviceFault>
+    ensures { Writes result (K.state out.old) (K.state out.new) (fault_said (option_copied name.entry) fault.now) }
+{
+    match (name, fault) {
+        (Some(_), RunFault::Write) => write_fault(fault, out),
+        (Some(name), _) => put_named(
+            out,
+            b"sixel: ",
+            name,
+            b":",
+            &fault_line(fault).as_slice()[MARK..],
+        ),
+        (None, _) => write_fault(fault, out),
+    }
+}
+
+/// Puts the line of why a run was refused, or of which rule kept its picture from being rendered.
+fn put_complaint<K: Sink>(
+    task: Task,
+    name: Option<&str>,
+    answer: &Result<Status, RunFault>,
+    out: &mut K,
+) -> Result<(), DeviceFault>
+    ensures { Writes result (K.state out.old) (K.state out.new) (complaint task (option_copied name.entry) answer.now) }
+{
+    match answer {
+        Ok(Status::Broken(finding)) if matches!(task, Task::Render { .. }) => {
+            put_labelled(name, finding_line(finding).as_slice(), out)
+        }
+        Ok(_) => Ok(()),
+        Err(fault) => put_fault(name, fault, out),
+    }
+}
+
+/// The same, and after it what makes a PPM of an input of another format, by its first bytes.
+pub fn put_said<K: Sink>(
+    task: Task,
+    name: Option<&str>,
+    prefix: &[u8],
+    answer: &Result<Status, RunFault>,
+    out: &mut K,
+) -> Result<(), DeviceFault>
+    ensures { Writes result (K.state out.old) (K.state out.new)
+        (complaint task (option_copied name.entry) answer.now ++ advice prefix.now answer.now) }
+{
+    put_complaint(task, name, answer, out)?;
+    put_all(out, advice(prefix, answer).as_bytes())
+}
