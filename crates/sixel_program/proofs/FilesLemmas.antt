@@ -337,7 +337,7 @@ unopened_ends t contents name given i o e file none put =
       told = rw file refl;
       is_input = λ is. let no : true ≡ false = sym is ∙ file in cc;
       stays = λ is. refl;
-      ended = inr (none, refl, refl, put);
+      ended = inr (file, none, refl, refl, put);
     }
 
 -- ---- what is asked for
@@ -359,7 +359,7 @@ file_run : (contents : Text → Option (List ℕ)) (t : Task) (name : Text) (pre
 file_run contents t name prefix x i o e ended =
     subst (λ (told : Option (List ℕ)). IsRunOver t x told) ended.told (elim ended.ended [
       | inl ran ↦ run_ends t (Some name) ended.prefix x ended.file o e ran
-      | inr unopened ↦ (Err run.Read, unopened.1, (None, None, None, rw unopened.0 tt))
+      | inr unopened ↦ (Err run.Read, unopened.2, (None, None, None, rw unopened.1 tt))
     ])
 
 module _ (contents : Text → Option (List ℕ)) (prefix : List ℕ) (x : Exit) (i : Change SourceState)

@@ -85,10 +85,12 @@ left_after input name left = if is_dash name then left else input
 abbrev pub IsPrefix : Option (List ℕ) → List ℕ → Type 0
 IsPrefix told prefix = IfSome told (λ bytes. BeginsWith bytes prefix)
 
--- the file of this name couldn't be opened: nothing was done, but that to the second sink was put the line that says so
+-- the file of this name, which isn't that of standard input, couldn't be opened: nothing was done, but that to the
+-- second sink was put the line that says so
 abbrev pub IsUnopened : Task → Option (List ℕ) → Text → Exit → Change SinkState → Change SinkState → Type 0
 IsUnopened t told name exit output errors =
-    (told ≡ None) × (exit ≡ Refused) × (output.new ≡ output.old) × IsPut (complaint t (Some name) (Err run.Read)) errors
+    (is_dash name ≡ false) × (told ≡ None) × (exit ≡ Refused) × (output.new ≡ output.old)
+    × IsPut (complaint t (Some name) (Err run.Read)) errors
 
 -- a task over the file of this name ended so, over standard input, of which `given` are the first bytes: that is the
 -- file by its name, and stays beside another file, which is run over or couldn't be opened
