@@ -164,7 +164,11 @@ not_other (Rgb red green blue) e = split ((red == 0) && (green == 0) && (blue ==
         let g : green ≡ 0 = (let s : 0 ≡ green = cc in sym s) in
         let b : blue ≡ 0 = (let s : 0 ≡ blue = cc in sym s) in
         let bad : true ≡ false = rw (r, g, b) at q in cc
-not_other (Hls hue lightness saturation) e = cc
+not_other (Hls hue lightness saturation) e = split (lightness == 0) e
+  where
+    split : (b : Bool) → (if b then white else black) ≡ Hls hue lightness saturation → ⊥
+    split true e = cc
+    split false e = cc
 
 last_some : {X A : Type 0} (g : List X → X → Option A) (xs : List X) (j : ℕ) (x : X) → slice_get xs j ≡ Some x
     → IsSome (g (take j xs) x) → IsSome (last_at g xs)

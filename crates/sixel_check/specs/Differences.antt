@@ -74,10 +74,10 @@ black = Rgb 0 0 0
 abbrev pub white : Parts
 white = Rgb 100 100 100
 
--- black or white, and not this colour
+-- black or white, and not this colour; white beside a black of either colour system
 abbrev pub other_than : Parts → Parts
 other_than (Rgb red green blue) = if (red == 0) && (green == 0) && (blue == 0) then white else black
-other_than (Hls hue lightness saturation) = black
+other_than (Hls hue lightness saturation) = if lightness == 0 then white else black
 
 -- it keeps its ground, doesn't clip, has 8-bit controls and a screen of this size, at whose top left the picture begins
 abbrev pub witness_choices : ℕ → ℕ → Choices
