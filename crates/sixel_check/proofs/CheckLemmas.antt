@@ -1,6 +1,6 @@
 -- On the answer of a check of a source.
 use Rattle.std.proofs.Common.{◌≡◌, ◌≢◌, ◌++◌, ◌∙◌, ℕ, List, Option, Some, None, ap, sym, subst, take, refl}
-use Rattle.std.specs.Prelude.{Err, IfErr, IfSome, Ok, Result}
+use Rattle.std.specs.Prelude.{Err, IfErr, IfSome, Ok, OnOk, Result}
 use Rattle.std.specs.Io.KnownBytes.{Consumes, IsAtEnd}
 use Rattle.std.proofs.lemmas.List.{append-nil}
 use Rattle.sixel_io.specs.Devices.{one_more}
@@ -59,6 +59,15 @@ pub end_grows : (registers : ℕ) (o : Option (List ℕ)) (r : Result Verdict In
     → IfSome o (λ bytes. r ≡ Err OutOfMemory → MayGrowIn registers bytes)
 end_grows registers None r other = tt
 end_grows registers (Some bytes) r other = λ e. absurd (other e)
+
+-- where the answer is a fault, nothing is said of an end
+pub none_ended : (P : Type 0) (r : Result Verdict InputFault) (fault : InputFault) → r ≡ Err fault → OnOk r P
+none_ended P (Ok v) fault is = cc
+none_ended P (Err f) fault is = tt
+
+pub all_ended : (P : Type 0) (r : Result Verdict InputFault) → P → OnOk r P
+all_ended P (Ok v) p = p
+all_ended P (Err f) p = tt
 
 -- ---- a piece that was refused
 

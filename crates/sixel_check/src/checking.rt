@@ -2,6 +2,7 @@
 
 ghost use Rattle.std.specs.Prelude.{◌≡◌, ◌≢◌, ◌+◌, ◌<◌, ◌≤◌, ◌++◌, ◌∷◌, [], ℕ, List, Err, IfErr, IfOk, IfSome, IsOk};
 ghost use Rattle.std.specs.Prelude.{IsTrue, OnErr, OnOk, Some, length, slice_index, take};
+ghost use Rattle.sixel_io.specs.Devices.{ReadsToEnd};
 ghost use Rattle.sixel_grammar.specs.Bytes.{is_data};
 ghost use Rattle.sixel_grammar.specs.Document.{most_bytes};
 ghost use Rattle.sixel_grammar.specs.Stretches.{sixels_from};
@@ -265,6 +266,7 @@ pub fn check<S: Source>(
     ensures failures { (S.state input.new).failures ≡ failures_after result (S.state input.old).failures }
     ensures unread { result ≡ Err ReadFault →
         IfSome (S.state input.old).remaining (NoFaultBefore (S.state input.new).remaining) }
+    ensures left { ReadsToEnd result (S.state input.old) (S.state input.new) }
     ensures memory { IfSome (S.state input.old).remaining (λ bytes. result ≡ Err InputFault.OutOfMemory
         → MayGrowIn (count_of profile) bytes) }
 {

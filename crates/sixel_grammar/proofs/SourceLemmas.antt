@@ -29,6 +29,13 @@ consumes-then (Some a) None c xs ys p q = absurd p
 consumes-then (Some a) (Some b) None xs ys p q = absurd q
 consumes-then (Some a) (Some b) (Some c) xs ys p q = p ∙ ap (λ (t : List ℕ). xs ++ t) q ∙ sym (append_assoc xs ys c)
 
+-- a call that failed took no bytes
+pub consumes-kept : (a b c : Option (List ℕ)) (xs : List ℕ) → Consumes a b xs → Keeps b c → Consumes a c xs
+consumes-kept None b c xs p q = tt
+consumes-kept (Some a) None c xs p q = absurd p
+consumes-kept (Some a) (Some b) None xs p q = absurd q
+consumes-kept (Some a) (Some b) (Some c) xs p q = p ∙ ap (λ (t : List ℕ). xs ++ t) (sym q)
+
 -- at the end the bytes that were read are all
 pub all_read : (a b : Option (List ℕ)) (xs : List ℕ) (P : List ℕ → Type 0) → Consumes a b xs → IsAtEnd b → P xs
     → IfSome a P

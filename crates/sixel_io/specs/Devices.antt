@@ -2,7 +2,7 @@
 use Rattle.std.specs.Prelude.{◌≡◌, ℕ, ◌+◌, ◌-◌, ◌^◌, ◌<◌, min, List, length, take, Result, Option, Bool, false}
 use Rattle.std.specs.Prelude.{IsTrue, is_ok}
 use Rattle.std.specs.Prelude.{MatchResult, OnOk, if◌then◌else◌}
-use Rattle.std.specs.Io.KnownBytes.{Appends}
+use Rattle.std.specs.Io.KnownBytes.{Appends, Consumes, IsAtEnd}
 
 -- what gives bytes
 pub record SourceState : Type 0 where
@@ -35,6 +35,11 @@ one_more n = min (n + 1) (2 ^ 64 - 1)
 -- a call counts as a failure exactly where it answers `Err`
 abbrev pub CountsFailure : {A E : Type 0} → Result A E → ℕ → ℕ → Type 0
 CountsFailure result old new = new ≡ (if is_ok result then old else one_more old)
+
+-- some bytes were read, and what is left is what followed them; after an `Ok` nothing is left
+pub record ReadsToEnd {A E : Type 0} (result : Result A E) (old new : SourceState) : Type 0 where
+  pub read : (bytes : List ℕ) × Consumes old.remaining new.remaining bytes
+  pub ended : OnOk result (IsAtEnd new.remaining)
 
 -- all of the bytes were appended, or on an `Err` a prefix of them
 abbrev pub Puts : {A E : Type 0} → Result A E → Option (List ℕ) → Option (List ℕ) → List ℕ → Type 0

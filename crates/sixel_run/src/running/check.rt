@@ -1,6 +1,7 @@
 //! Checks a sixel picture, and writes the verdict.
 
 ghost use Rattle.std.specs.Prelude.{◌≡◌, ◌≢◌, [], Err, IfSome, Some};
+ghost use Rattle.sixel_io.specs.Devices.{ReadsToEnd};
 ghost use Rattle.sixel_model.specs.Profiles.{count_of};
 ghost use Rattle.sixel_check.specs.Growth.{MayGrowIn};
 ghost use Rattle.sixel_run.specs.declared.fault.RunFault.TheVariants.{Read};
@@ -46,6 +47,7 @@ pub fn judge<S: Source>(alloc: Global, profile: Profile, input: &mut S) -> Resul
     ensures memory { answer_of result ≡ Err RunFault.OutOfMemory →
         IfSome (S.state input.old).remaining (MayGrowIn (count_of profile)) }
     ensures reads { (S.state input.new).failures ≡ failures_by Read (answer_of result) (S.state input.old).failures }
+    ensures left { ReadsToEnd result (S.state input.old) (S.state input.new) }
     ensures unwritten { answer_of result ≢ Err RunFault.Write }
 {
     Ok(sixel_check::check(alloc, profile, input)?)

@@ -7,9 +7,10 @@ use Rattle.sixel_grammar.specs.Document.{most_bytes}
 use Rattle.sixel_grammar.specs.Reading.{NoFaultBefore}
 use Rattle.sixel_grammar.specs.Standing.{left_of}
 use Rattle.sixel_grammar.specs.declared.fault.InputFault.TheVariants.{Read}
-use Rattle.sixel_grammar.proofs.SourceLemmas.{consumes-then, no_fault_before}
+use Rattle.sixel_grammar.proofs.SourceLemmas.{consumes-kept, consumes-then, no_fault_before}
 use Rattle.sixel_model.specs.Profiles.{count_of}
 use Rattle.sixel_check.specs.Answers.{Answers}
+use Rattle.sixel_check.proofs.CheckLemmas.{all_ended, none_ended}
 use Rattle.sixel_check.proofs.CheckLemmas.{end_counts, end_grows, fault_answers, fault_counts, fault_grows, fault_reads}
 use Rattle.sixel_check.proofs.CheckLemmas.{read_answers, read_counts, read_grows, told_all}
 use Rattle.sixel_check.proofs.checking.check.Goals as goal
@@ -40,6 +41,11 @@ returns-in_err-count g c =
           no_fault_before a (g.S.Source.state c.loop-checker.input).remaining
           (g.S.Source.state c.fill.new.self).remaining
           c.loop-checker.reader i.1.events i.0 i.1.read i.2 c.in_err-count.ensures.bytes;
+      left = record {
+        read = (i.0, consumes-kept a (g.S.Source.state c.loop-checker.input).remaining
+            (g.S.Source.state c.fill.new.self).remaining i.0 i.2 c.in_err-count.ensures.bytes);
+        ended = none_ended _ r Read is;
+      };
       memory = read_grows _ a r is;
     }
 
@@ -67,6 +73,17 @@ returns-then-count-eq0-clause-failures g c =
 
 pub returns-then-count-eq0-clause-unread : goal.returns-then-count-eq0-clause-unread
 returns-then-count-eq0-clause-unread g c = λ is. absurd (c.conclude.ensures.never_read is)
+
+pub returns-then-count-eq0-clause-left : goal.returns-then-count-eq0-clause-left
+returns-then-count-eq0-clause-left g c =
+    let i = c.loop-checker.invariant in
+    let b = c.in_ok-count.ensures.bytes in
+    let none : c.in_ok-count.count ≡ 0 = omega arith in record {
+      read = (_, consumes-then (g.S.Source.state c.args.input.now).remaining
+          (g.S.Source.state c.loop-checker.input).remaining (g.S.Source.state c.fill.new.self).remaining i.0
+          (take c.in_ok-count.count c.fill.new.piece) i.2 b.0);
+      ended = all_ended _ c.conclude.result (b.1 none (omega arith));
+    }
 
 pub returns-then-count-eq0-clause-memory : goal.returns-then-count-eq0-clause-memory
 returns-then-count-eq0-clause-memory g c =
@@ -97,6 +114,7 @@ returns-in_err-read_piece g c =
           (g.S.Source.state c.loop-checker.input).failures (g.S.Source.state c.fill.new.self).failures fault r
           (i.0 ++ piece) is refused c.in_ok-count.ensures.failures i.3;
       unread = fault_reads (IfSome a (NoFaultBefore z)) fault r (i.0 ++ piece) is refused;
+      left = record { read = (i.0 ++ piece, told); ended = none_ended _ r fault is };
       memory = fault_grows _ a z fault r (i.0 ++ piece) is told (c.in_err-read_piece.ensures.memory _ i.0 i.1);
     }
 
