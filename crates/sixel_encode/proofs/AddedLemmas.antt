@@ -1,4 +1,4 @@
--- Bits that are added in the columns whose pixel is of a register.
+-- Adding bits in the columns whose pixel has the register.
 use Rattle.std.proofs.Common.{◌≡◌, ◌==◌, ℕ, ◌+◌, ◌*◌, ◌%◌, ◌^◌, ◌<◌, ◌≤◌, Bool, true, false, ◌&&◌, cond}
 use Rattle.std.proofs.Common.{List, length, get_or, replicate, refl, sym, ap, ap₂, ◌∙◌}
 use Rattle.std.proofs.Common.{arith, subst}
@@ -19,7 +19,7 @@ use Rattle.sixel_encode.proofs.BitLemmas.{bits_above, column_most, row_added, ro
 use Rattle.sixel_encode.proofs.RepeatLemmas.{chosen_at, length-chosen, tests}
 use Rattle.sixel_encode.proofs.StretchLemmas.{sixels_are}
 
--- the marks of a group of pixels
+-- the bits to add in a group of pixels
 abbrev pub marks_of : ℕ → ℕ → List ℕ → List ℕ
 marks_of register bits v =
     sel_l (tests v (replicate 32 register)) (replicate 32 bits) (replicate 32 0)
@@ -37,7 +37,7 @@ mark_at register bits j v long small =
     ∙ ap₂ (λ (r b : ℕ). cond (get_or v j 0 == r) b 0)
     (get_or-replicate 32 j register 0 small) (get_or-replicate 32 j bits 0 small)
 
--- bytes are added as they are in a register of eight bits
+-- addition in eight bits
 abbrev pub plus : ℕ → ℕ → ℕ
 plus a b = (a + b) % 256
 
@@ -82,14 +82,14 @@ added_group at register bits row old room pixels bytes =
 
 -- ---- the bits of a register, row by row
 
--- no pixel of a row past the picture
+-- a row below the picture has no pixel
 pub no_pixel : (p : PictureValue) (band register x row : ℕ) → p.height ≤ 6 * band + row
     → has_pixel p band register x row ≡ false
 no_pixel p band register x row past =
     let out : nat_lt (6 * band + row) p.height ≡ false = search (arith, nat_tests) in
     ap (λ (t : Bool). t && (register_of p x (6 * band + row) == register)) out
 
--- what the first rows of a column spell
+-- the data byte of the first rows of a column
 abbrev pub Spells : PictureValue → ℕ → ℕ → ℕ → ℕ → ℕ → Type 0
 Spells p band register x row sixel =
     (sixel ≡ 63 + bits_above p band register x row) × (bits_above p band register x row < 2 ^ row)
@@ -109,7 +109,7 @@ row_step p band register x row sixel false small gone before =
     let same = row_passed p band register x row (bits_above p band register x row) gone refl before.1 in
     (omega arith, rw (sym same.0) same.1)
 
--- a row that lies in the picture
+-- a row in the picture
 pub row_found : (p : PictureValue) (band register row : ℕ) (pixels old new : List ℕ) → row < 6
     → 6 * band + row < p.height → length pixels ≡ p.width → length old ≡ p.width
     → ((x : ℕ) → x < p.width → get_or pixels x 0 ≡ register_of p x (6 * band + row))
@@ -129,7 +129,7 @@ row_found p band register row pixels old new small inside wide long same before 
     adds.added x in_old ∙ ap (λ (t : Bool). cond t (plus b (1 * 2 ^ row % 256)) b) has in
     rw written (row_step p band register x row b (has_pixel p band register x row) small refl (before x lt))
 
--- and one that doesn't
+-- a row below the picture
 pub row_missing : (p : PictureValue) (band register row sixel x : ℕ) → row < 6 → p.height ≤ 6 * band + row
     → Spells p band register x row sixel → Spells p band register x (row + 1) sixel
 row_missing p band register row sixel x small past before =
@@ -154,7 +154,7 @@ sixels_found p band register sixels long spelled =
     ∙ ap (λ b. 63 + b) (sym (get_or-map-range_with_len f 0 p.width x x 0 inside (omega arith)))
     ∙ sym (get_or-map (λ bits. 63 + bits) (all_columns p band register) x 0 0 within))
 
--- each of them has six bits
+-- each column has at most six bits
 columns_most : (p : PictureValue) (band register x : ℕ) → x < length (all_columns p band register)
     → get_or (all_columns p band register) x 0 ≤ 63
 columns_most p band register x lt =

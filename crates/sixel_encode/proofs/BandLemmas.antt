@@ -37,7 +37,7 @@ own_pixel p band r x y h =
       own = eqb-true (register_of p x y) r a.1;
     }
 
--- from the left margin, a register's commands paint its pixels of the band
+-- from the left margin, the commands of a register paint its pixels in the band
 register_passed : {registers : ℕ} {p : PictureValue} {before : List Event} (band : ℕ) {r : ℕ} {done : ℕ → ℕ → Bool}
     → Stands p before band done → column 0 before ≡ 0 → IsUsed registers p r
     → Passed registers p before (map Step (register_commands p band r)) band (λ x y. owns p band r x y || done x y)
@@ -90,7 +90,7 @@ any_none : (rs : List ℕ) → list_any (λ r. false) rs ≡ false
 any_none [] = refl
 any_none (r ∷ rs) = any_none rs
 
--- the pixels of a band's registers are those of the band
+-- the pixels of a band's registers together are those of the band
 band_owns : {registers : ℕ} {p : PictureValue} (band x y : ℕ) → Parted registers p
     → list_any (λ r. owns p band r x y) (band_registers p band) ≡ is_in_band p band x y
 band_owns {registers} {p} band x y f = split (is_in_band p band x y) here
@@ -120,7 +120,7 @@ band_passed {registers} {p} band {done} f s margin =
     passed_as (registers_passed (band_registers p band) band s margin (band_used registers p band f)) refl
     (λ x y. ap (λ o. o || done x y) (band_owns band x y f))
 
--- the point is a pixel of one of the first bands
+-- the point is a pixel of one of the first `count` bands
 abbrev pub is_above : PictureValue → ℕ → ℕ → ℕ → Bool
 is_above p count x y = nat_lt x p.width && (nat_lt y p.height && nat_lt (y / 6) count)
 
@@ -160,7 +160,7 @@ above_none p x y = step (nat_lt x p.width) (nat_lt y p.height)
     step true false = refl
     step false b = refl
 
--- the first bands paint just their pixels
+-- the first bands paint exactly their pixels
 pub bands_passed : (n : ℕ) {registers : ℕ} {p : PictureValue} {before : List Event} → Parted registers p
     → Stands p before 0 (λ x y. false) → column 0 before ≡ 0
     → Passed registers p before (map Step (join_by (band_commands p) (NextLine ∷ []) (below n))) (n - 1) (is_above p n)

@@ -10,7 +10,7 @@ use Rattle.sixel_model.specs.Pictures.{PictureValue}
 use Rattle.sixel_encode.specs.Canon.{below, column_bits, has_pixel}
 use Rattle.sixel_encode.proofs.RangeLemmas.{below_then}
 
--- ---- facts of six Bools
+-- ---- facts about six Bools
 
 -- six bits as a number
 abbrev pub six : Bool → Bool → Bool → Bool → Bool → Bool → ℕ
@@ -64,7 +64,7 @@ column_most p band register x =
     (has_pixel p band register x 0) (has_pixel p band register x 1) (has_pixel p band register x 2)
     (has_pixel p band register x 3) (has_pixel p band register x 4) (has_pixel p band register x 5)))
 
--- a column has a bit where one of its pixels is of the register
+-- a column has a set bit exactly if one of its pixels has the register
 pub column_has : (p : PictureValue) (band register x : ℕ)
     → list_any (has_pixel p band register x) (below 6) ≡ not (column_bits p band register x == 0)
 column_has p band register x =
@@ -74,7 +74,7 @@ column_has p band register x =
     (has_pixel p band register x 0) (has_pixel p band register x 1) (has_pixel p band register x 2)
     (has_pixel p band register x 3) (has_pixel p band register x 4) (has_pixel p band register x 5))))
 
--- the bit of a row, in a byte
+-- the weight of a row's bit, in a byte
 pub weight_is : (k : ℕ) → k < 6 → 1 * 2 ^ k % 256 ≡ 2 ^ k
 weight_is k h = eqb-true _ _ (agree_below_at (λ i. 1 * 2 ^ i % 256 == 2 ^ i) (λ i. true) 6 k refl h)
 
@@ -103,7 +103,7 @@ row_added p band register x row bits small here is less =
     let double : 2 ^ (row + 1) ≡ 2 ^ row + 2 ^ row = twice row in
     (omega arith, omega arith)
 
--- any other row adds none
+-- any other row adds nothing
 pub row_passed : (p : PictureValue) (band register x row bits : ℕ) → has_pixel p band register x row ≡ false
     → bits ≡ bits_above p band register x row → bits < 2 ^ row
     → (bits ≡ bits_above p band register x (row + 1)) × (bits < 2 ^ (row + 1))

@@ -25,20 +25,20 @@ use Rattle.sixel_encode.proofs.StandLemmas.{ran_join, ran_none, ran_one, stands_
 
 -- ---- one data command
 
--- the same, inside a register's commands
+-- the state inside the commands of a register
 pub record Draws (p : PictureValue) (before : List Event) (band col r : ℕ) (done : ℕ → ℕ → Bool) : Type 0 where
   pub stands : Stands p before band done
   pub at_column : column 0 before ≡ col
   pub knows : known before ≡ Some r
   pub coloured : is_some (palette_at p.palette r) ≡ true
 
--- the point is a pixel, and of this register
+-- the point is a pixel with this register
 pub record IsOwn (p : PictureValue) (r x y : ℕ) : Type 0 where
   pub inside_x : x < p.width
   pub inside_y : y < p.height
   pub own : register_of p x y ≡ r
 
--- a data command of so many columns and these bits
+-- a data command with n columns and the bits b
 record IsData (e : Event) (n b : ℕ) : Type 0 where
   columns : columns_of 0 e ≡ n
   bits : bits_of e ≡ b
@@ -93,7 +93,7 @@ some_map : {A B : Type 0} (f : A → B) (o : Option A) → is_some o ≡ true �
 some_map f None h = cc h
 some_map f (Some a) h = refl
 
--- events that keep the rules, and what stands after them
+-- events that keep the rules, and the state after them
 abbrev pub Drawn : ℕ → PictureValue → List Event → List Event → ℕ → ℕ → ℕ → (ℕ → ℕ → Bool) → Type 0
 Drawn registers p before events band col r done = Ran registers (λ b. Draws p b band col r done) before events
 
@@ -133,7 +133,7 @@ drawn_one {registers} {p} {before} {band} {col} {r} {n} {b} {done} {e} d is own 
       coloured = d.coloured;
     })
 
--- ---- data commands, one after another
+-- ---- data commands one after another
 
 pub or_turn : (a b c : Bool) → (a || (b || c)) ≡ ((b || a) || c)
 or_turn true true c = refl
@@ -141,7 +141,7 @@ or_turn true false c = refl
 or_turn false true c = refl
 or_turn false false c = refl
 
--- the points of these columns are the register's own
+-- the points that these columns cover have the register
 abbrev pub AreOwn : PictureValue → ℕ → ℕ → List ℕ → ℕ → Type 0
 AreOwn p band col bits r = (x y : ℕ) → lies col band bits x y ≡ true → IsOwn p r x y
 
@@ -156,7 +156,7 @@ sixels_drawn (suc n) b {band = band} {col} {done = done} d own =
     drawn_as (ran_join one (sixels_drawn n b one.after (λ x y h. own x y (or_right _ _ h)))) (omega arith)
     (λ x y. or_turn (lies (col + 1) band (replicate n b) x y) (covers col 1 band 1 b x y) (done x y))
 
--- a run draws its columns
+-- a run paints its columns
 run_drawn : (run : Run) {registers : ℕ} {p : PictureValue} {before : List Event} {band col r : ℕ}
     {done : ℕ → ℕ → Bool} → Draws p before band col r done → AreOwn p band col (replicate run.count run.item) r
     → Drawn registers p before (map Step (run_commands run)) band (col + run.count) r
@@ -174,7 +174,7 @@ run_drawn run {registers} {p} {before} {band} {col} {r} {done} d own =
         refl (λ x y. ap (λ o. o || done x y) (lies_replicate run.count col band run.item x y))
     split false h = sixels_drawn run.count run.item d own
 
--- runs draw their columns
+-- runs paint their columns
 pub runs_drawn : (rs : List Run) {registers : ℕ} {p : PictureValue} {before : List Event} {band col r : ℕ}
     {done : ℕ → ℕ → Bool} → Draws p before band col r done → AreOwn p band col (items_of rs) r
     → Drawn registers p before (map Step (flat_map run_commands rs)) band (col + length (items_of rs)) r

@@ -1,4 +1,4 @@
--- In which groups of columns a band has the pixels of a register.
+-- Which groups of columns of a band have pixels of a register.
 use Rattle.std.proofs.Common.{◌≡◌, ◌≢◌, ◌==◌, ℕ, zero, suc, ◌+◌, ◌-◌, ◌*◌, ◌%◌, ◌/◌, ◌^◌, ◌<◌, ◌≤◌, Bool, true, false}
 use Rattle.std.proofs.Common.{List, min, length, get_or, set, replicate, not, w64, inl, inr, refl, sym, ap, ◌∙◌, arith}
 use Rattle.std.specs.Prelude.{nat_lt}
@@ -58,14 +58,14 @@ bit_shifted : (n k i : ℕ) → bit_at (n / 2 ^ k) i ≡ bit_at n (k + i)
 bit_shifted n k i =
     ap (λ (m : ℕ). m % 2) (div-div-eq-div-mul n (2 ^ k) (2 ^ i) ∙ ap (λ (m : ℕ). n / m) (sym (pow-add 2 k i)))
 
--- no bit from a place on
+-- if no bit from k on is set, bit g isn't
 pub none_left : (n k g : ℕ) → n / 2 ^ k ≡ 0 → k ≤ g → bit_at n g ≡ 0
 none_left n k g none low =
     let at : k + (g - k) ≡ g = omega arith in
     ap (bit_at n) (sym at) ∙ sym (bit_shifted n k (g - k)) ∙ ap (λ (m : ℕ). bit_at m (g - k)) none
     ∙ bit_at-zero (g - k)
 
--- none before the lowest one from a place on
+-- no bit from k on and before the lowest set one is set
 pub none_before : (n k m r g : ℕ) → n < 2 ^ 64 → n / 2 ^ k ≢ 0 → r ≡ min (k + trailing_zeros w64 (n / 2 ^ k)) m
     → k ≤ g → g < r → bit_at n g ≡ 0
 none_before n k m r g small some is low less =
@@ -76,7 +76,7 @@ none_before n k m r g small some is low less =
 
 -- ---- rows of a band
 
--- a pixel of the register in the band
+-- the band has a pixel with the register
 abbrev pub HasSome : PictureValue → ℕ → ℕ → Type 0
 HasSome p band register =
     (x : ℕ) × (k : ℕ) × (x < p.width) × (k < 6) × (has_pixel p band register x k ≡ true)
@@ -136,7 +136,7 @@ rows_past p band row marks past before = record {
   only = before.only;
 }
 
--- all rows: the groups of a register
+-- after all rows, the mask of a register has its groups
 pub rows_groups : (p : PictureValue) (band register : ℕ) (marks : List ℕ) → AreRows p band 6 marks
     → HasBandGroups p band register (get_or marks register 0)
 rows_groups p band register marks rows x k lt small has =
@@ -154,7 +154,7 @@ set_some n i h = λ e.
     let none : bit_at n i ≡ 0 = ap (λ (m : ℕ). bit_at m i) e ∙ bit_at-zero i in
     absurd (omega arith)
 
--- and whether it occurs
+-- after all rows, the mask of a register says whether it occurs
 pub rows_occur : (p : PictureValue) (band register : ℕ) (marks : List ℕ) → AreRows p band 6 marks
     → not (get_or marks register 0 == 0) ≡ occurs p band register
 rows_occur p band register marks rows =

@@ -36,11 +36,11 @@ use Rattle.sixel_encode.proofs.OpeningLemmas.{Opened, defines_opened, opens_stan
 use Rattle.sixel_encode.proofs.OpeningLemmas.{raster_opens}
 use Rattle.sixel_encode.proofs.PartedLemmas.{Parted, parted}
 
--- the start and the raster attributes
+-- the start, then the raster attributes
 abbrev prefix : PictureValue → List Event
 prefix p = canon_start ∷ raster p ∷ []
 
--- the definitions and the bands
+-- the definitions, then the bands
 abbrev middle : PictureValue → List Event
 middle p = map Step (define_commands p.palette ++ join_by (band_commands p) (NextLine ∷ []) (below (bands p)))
 
@@ -53,7 +53,7 @@ middle_passed registers p h =
     rw (map-append Step (define_commands p.palette) (join_by (band_commands p) (NextLine ∷ []) (below (bands p))))
     (ran_join stands (bands_passed (bands p) h stands.after (opened.after).at_margin))
 
--- each pixel of the box lies in one of the bands
+-- each pixel of the box is in one of the bands
 box_above : (p : PictureValue) (x y : ℕ) → is_in_box (box_of p) x y ≡ true → is_above p (bands p) x y ≡ true
 box_above p x y h =
     let parts = and_parts (nat_lt x p.width) (nat_lt y p.height) h in
@@ -101,9 +101,9 @@ lists_break_no_rule registers p picture =
       ),
     )
 
--- ---- what is left
+-- ---- the picture that is left
 
--- a colour comes back from its definition
+-- the definition of a colour gives back the colour
 colour_back : (o : Option Parts) → option_and_then colour_by (option_map definition_by o) ≡ o
 colour_back None = refl
 colour_back (Some (Rgb r g b)) = refl
@@ -151,7 +151,7 @@ stands_left registers p events band h s =
     ≡ p.registers = sym (left_pixels registers p events band h s) in
     rw (box, palette, pixels) refl
 
--- what the canonical list of a picture leaves is the picture
+-- the picture that the canonical list of a picture leaves is the same
 pub lists_leave_their_picture : (registers : ℕ) → ListsLeaveTheirPicture registers
 unfolding canon canon_commands picture_commands
 lists_leave_their_picture registers p picture =

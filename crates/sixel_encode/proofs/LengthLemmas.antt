@@ -1,4 +1,4 @@
--- How long a picture's text is at most.
+-- A bound on the length of a picture's text.
 use Rattle.std.proofs.Common.{◌≡◌, ℕ, zero, suc, ◌+◌, ◌*◌, ◌<◌, ◌≤◌, false, cond, Option, Some, None, List, [], ◌∷◌}
 use Rattle.std.proofs.Common.{◌++◌, length, replicate, decimal, refl, ap, ◌∙◌, arith, lit<, lit≤, le_trans}
 use Rattle.std.proofs.Common.{length-append, mul-le-mul_right, mul_assoc, mul-le-mul, subst, suc-mul}
@@ -42,7 +42,7 @@ three_digits n h = length-decimal-le 3 n (lit< tt) h (omega arith)
 four_digits : (n : ℕ) → n < 10000 → length (decimal n) ≤ 4
 four_digits n h = length-decimal-le 4 n (lit< tt) h (omega arith)
 
--- a repeat of 4 or more is no longer than its columns
+-- a repeat of 4 or more isn't longer than its columns as single sixels
 repeat_short : (n : ℕ) → 4 ≤ n → 2 + digit_count n ≤ n
 repeat_short n h = grind (arith, nat_tests)
 
@@ -112,9 +112,9 @@ register_size p band r h w =
     let select : length (decimal r) ≤ 3 = three_digits r h in
     omega (arith, size_cons (Select r) (flat_map run_commands (runs columns)))
 
--- ---- what is joined by a command of one byte
+-- ---- texts joined by a command of one byte
 
--- of each, with that command, at most w bytes
+-- each text has at most w bytes with that command
 abbrev AreShort : (ℕ → List Command) → ℕ → List ℕ → Type 0
 AreShort f w xs = AllByRecursion (λ x. size (f x) + 1 ≤ w) xs
 
@@ -271,7 +271,7 @@ parts_size p =
     ∙ ap (λ m. m + 2) (length-append (fixed_spelling canon_start) (commands_text (canon_commands p))
     ∙ ap (λ m. m + size (canon_commands p)) start_size ∙ ap (λ m. 6 + m) commands)
 
--- the text of a picture is no longer than the bound
+-- the text of a picture isn't longer than the bound
 pub texts_are_short : (registers : ℕ) → registers ≤ 1000 → TextsAreShort registers
 texts_are_short registers n p picture =
     let h : Parted registers p = parted registers p picture in

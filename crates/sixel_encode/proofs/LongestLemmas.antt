@@ -1,4 +1,4 @@
--- Runs give their row back, and each is longest.
+-- The runs of a row, joined, are the row, and each run is as long as it can be.
 use Rattle.std.proofs.Common.{◌≡◌, ◌≢◌, ℕ, ◌+◌, Bool, true, false, cond, List, [], ◌∷◌, refl, sym, ap, ◌∙◌, add-one}
 use Rattle.std.proofs.Common.{arith}
 use Rattle.std.specs.Prelude.{◌==◌}

@@ -23,7 +23,7 @@ pub occurs_is : (p : PictureValue) (band r : ℕ)
 unfolding occurs
 occurs_is p band r = any_map (column_bits p band r) (λ bits. not (bits == 0)) (below p.width)
 
--- a register that occurs in a band has a pixel there
+-- a register that occurs in a band is one of the palette, and has a colour
 pub occurs_used : (registers : ℕ) (p : PictureValue) (band r : ℕ) → Parted registers p → occurs p band r ≡ true
     → IsUsed registers p r
 occurs_used registers p band r h here =
@@ -59,7 +59,7 @@ any_some : (q : ℕ → Bool) (rs : List ℕ) → list_any q rs ≡ true → 1 �
 any_some q [] h = cc h
 any_some q (r ∷ rs) h = omega arith
 
--- the register of a pixel of a band is among those of the band, with what passes of it
+-- the register of a pixel of a band is one of the band's registers; if it passes, one of them does
 pub own_listed : (registers : ℕ) (p : PictureValue) (band x k : ℕ) (q : ℕ → Bool) → Parted registers p
     → x < p.width → k < 6 → 6 * band + k < p.height → q (register_of p x (6 * band + k)) ≡ true
     → list_any q (band_registers p band) ≡ true
@@ -73,7 +73,7 @@ own_listed registers p band x k q h l m inside passes =
     (and_from _ _ (pixel_occurs p band own x k l m
     (and_from _ _ (lt-ltb (6 * band + k) p.height inside) (eq-eqb own own refl))) passes)
 
--- a register occurs in each band
+-- each band has at least one register
 pub band_some : (registers : ℕ) (p : PictureValue) (band : ℕ) → Parted registers p → band < bands p
     → 1 ≤ length (band_registers p band)
 band_some registers p band h l =
@@ -81,9 +81,9 @@ band_some registers p band h l =
     any_some (λ r. true) (band_registers p band)
     (own_listed registers p band 0 0 (λ r. true) h some (omega arith) (omega arith) refl)
 
--- ---- no more than the palette has entries
+-- ---- no more than the entries of the palette
 
--- how many numbers from a on pass
+-- how many of the n numbers from a on pass
 abbrev pub entries : (ℕ → Bool) → ℕ → ℕ → ℕ
 entries t a zero = 0
 entries t a (suc n) = cond (t a) (1 + entries t (a + 1) n) (entries t (a + 1) n)

@@ -1,4 +1,4 @@
--- The start, the raster attributes and the definitions of a canonical list, and what a picture says of its parts.
+-- The start, the raster attributes and the definitions of a canonical list.
 use Rattle.std.proofs.Common.{◌≡◌, ℕ, zero, suc, ◌+◌, ◌<◌, ◌≤◌, Bool, true, false, not, ◌||◌, Option, Some, None, List}
 use Rattle.std.proofs.Common.{[], ◌∷◌, ◌++◌, map, length, refl, sym, ap, ◌∙◌, subst, arith}
 use Rattle.std.specs.Prelude.{◌==◌, if◌then◌else◌, nat_lt, IfSome}
@@ -31,14 +31,14 @@ use Rattle.sixel_encode.proofs.StandLemmas.{ran_one}
 use Rattle.sixel_encode.proofs.LengthLemmas.{defines_from, entry_colour}
 use Rattle.sixel_encode.proofs.PartedLemmas.{Parted}
 
--- a colour's definition gives a colour in range
+-- the definition of a colour gives a colour in range
 in_range_by : (c : Parts) → IsColour c → gives_colour (definition_by c) ≡ true
 in_range_by (Rgb r g b) h = and_from _ _ (and_from _ _ (le-leb r 100 h.0) (le-leb g 100 h.1)) (le-leb b 100 h.2)
 in_range_by (Hls u l s) h = and_from _ _ (and_from _ _ (le-leb u 360 h.0) (le-leb l 100 h.1)) (le-leb s 100 h.2)
 
 -- ---- before the data
 
--- nothing is painted, and the first registers are defined
+-- nothing is painted yet, and the first n registers are defined
 pub record Opens (p : PictureValue) (before : List Event) (n : ℕ) : Type 0 where
   pub at_line : band before ≡ 0
   pub at_margin : column 0 before ≡ 0
@@ -49,11 +49,11 @@ pub record Opens (p : PictureValue) (before : List Event) (n : ℕ) : Type 0 whe
   pub none_there : (x y : ℕ) → register_at before x y ≡ None
   pub none_covered : (x y : ℕ) → is_covered before x y ≡ false
 
--- events that keep the rules, and what stands after them
+-- events that keep the rules, and the state after them
 abbrev pub Opened : ℕ → PictureValue → List Event → List Event → ℕ → Type 0
 Opened registers p before events n = Ran registers (λ b. Opens p b n) before events
 
--- the definition that a palette's entry gets, by its number
+-- what is defined for register r, after the definition of register n
 define_step : (r n : ℕ) (d o q : Option Definition) → (r ≡ n → q ≡ d) → o ≡ (if nat_lt r n then q else None)
     → option_or (if n == r then d else None) o ≡ (if nat_lt r (n + 1) then q else None)
 define_step r n d o q h k =
@@ -102,7 +102,7 @@ none_or : (t : Bool) (o : Option Definition) → option_or (if t then None else 
 none_or true o = refl
 none_or false o = refl
 
--- a register without a colour
+-- a register without a colour has no definition
 opens_skip : {p : PictureValue} {before : List Event} {n : ℕ} → Opens p before n → palette_at p.palette n ≡ None
     → Opens p before (n + 1)
 opens_skip {p} {before} {n} o h = record {
@@ -146,7 +146,7 @@ defines_opened registers p before h o =
     (let e : 0 + length p.palette ≡ length p.palette = omega arith in e)
     (opened_from (length p.palette) before 0 h o (omega arith))
 
--- where all registers are defined the data may begin
+-- after the definitions of all registers, the data may begin
 pub opens_stands : (p : PictureValue) (before : List Event) → Opens p before (length p.palette)
     → Stands p before 0 (λ x y. false)
 opens_stands p before o = record {

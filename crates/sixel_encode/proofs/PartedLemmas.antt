@@ -1,4 +1,4 @@
--- What a picture says of its parts.
+-- What holds for the parts of a picture.
 use Rattle.std.proofs.Common.{◌≡◌, refl, ℕ, ◌+◌, ◌*◌, ◌<◌, ◌≤◌, Bool, true, false, not, ◌&&◌, Some, None, List, length}
 use Rattle.std.specs.Prelude.{◌==◌, nat_le, nat_lt, IfSome, is_some, slice_index, if◌then◌else◌}
 use Rattle.std.specs.List.{list_all, AllByRecursion}
@@ -20,7 +20,7 @@ no_fault true true false d h = cc h
 no_fault true false c d h = cc h
 no_fault false b c d h = cc h
 
--- the register is there, and has a colour
+-- the register is one of the palette, and has a colour
 pub record IsUsed (registers : ℕ) (p : PictureValue) (r : ℕ) : Type 0 where
   pub under : r < registers
   pub coloured : is_some (palette_at p.palette r) ≡ true
@@ -61,7 +61,7 @@ all_there : (q : ℕ → Bool) (xs : List ℕ) (i : ℕ) → i < length xs → l
 all_there q xs i l h = true_from_ne_false (q (slice_index xs i))
     (λ f. (let some_fails : list_all q xs ≡ false = list_all_at q xs i 0 l f in cc (some_fails, h)))
 
--- the register of a pixel is there, and has a colour
+-- the register of a pixel is one of the palette, and has a colour
 pub pixel_used : (registers : ℕ) (p : PictureValue) → Parted registers p → (x y : ℕ) → x < p.width → y < p.height
     → IsUsed registers p (register_of p x y)
 pixel_used registers p h x y l m =

@@ -1,4 +1,4 @@
--- The columns of a register in a band, and its pixels.
+-- The columns of a register in a band, and the register's pixels.
 use Rattle.std.proofs.Common.{◌≡◌, ℕ, zero, suc, ◌+◌, ◌*◌, ◌/◌, ◌%◌, ◌<◌, ◌≤◌, Bool, true, false, not, ◌&&◌, ◌||◌, List}
 use Rattle.std.proofs.Common.{[], ◌∷◌, map, get_or, refl, sym, ap, ◌∙◌, subst, arith}
 use Rattle.std.specs.Prelude.{◌==◌, if◌then◌else◌, nat_le, nat_lt}
@@ -18,7 +18,7 @@ use Rattle.sixel_encode.proofs.StripLemmas.{lies, or_and, within_split}
 
 -- ---- bits
 
--- bit k of six bits as a number, where t gives them
+-- bit k of the number made of six bits is the k-th of them
 six_at : (t : ℕ → Bool) (k : ℕ) → k < 6 → (bit_at (six (t 0) (t 1) (t 2) (t 3) (t 4) (t 5)) k == 1) ≡ t k
 six_at t k l =
     agree_below_at (λ i. bit_at (six (t 0) (t 1) (t 2) (t 3) (t 4) (t 5)) i == 1) t 6 k
@@ -35,15 +35,15 @@ bit_is p band register x k l = ap (λ n. bit_at n k == 1) (bits_are p band regis
 abbrev pub is_in_band : PictureValue → ℕ → ℕ → ℕ → Bool
 is_in_band p band x y = nat_lt x p.width && (nat_lt y p.height && (y / 6 == band))
 
--- and of the register
+-- the point is a pixel of the band with the register
 abbrev pub owns : PictureValue → ℕ → ℕ → ℕ → ℕ → Bool
 owns p band register x y = is_in_band p band x y && (register_of p x y == register)
 
--- the same, whatever the column
+-- the same, in any column
 abbrev is_here : PictureValue → ℕ → ℕ → ℕ → ℕ → Bool
 is_here p band register x y = (nat_lt y p.height && (y / 6 == band)) && (register_of p x y == register)
 
--- a pixel's row in its band
+-- the row of a pixel in its band
 pub row_of_pixel : (p : PictureValue) (band register x y : ℕ) → is_here p band register x y ≡ true
     → (y ≡ 6 * band + y % 6) × (has_pixel p band register x (y % 6) ≡ true)
 row_of_pixel p band register x y h =
@@ -55,7 +55,7 @@ row_of_pixel p band register x y h =
 
 -- ---- columns
 
--- columns of no bits paint nothing
+-- columns without set bits paint nothing
 lies_blank : (left band : ℕ) (bs : List ℕ) (x y : ℕ) → has_bits bs ≡ false → lies left band bs x y ≡ false
 unfolding lies
 lies_blank left band [] x y h = refl
@@ -77,7 +77,7 @@ lies_without left band (b ∷ bs) x y =
     blank_step left band b bs x y (has_bits (b ∷ bs)) (lies_blank left band (b ∷ bs) x y)
     (lies_without (left + 1) band bs x y)
 
--- a column's bits paint its pixels of the register
+-- the bits of a column paint its pixels with the register
 column_forth : (p : PictureValue) (band register a x y : ℕ)
     → covers a 1 band 1 (column_bits p band register a) x y ≡ true
     → ((nat_le a x && nat_lt x (a + 1)) && is_here p band register x y) ≡ true
@@ -131,7 +131,7 @@ lies_range p band register (suc n) a x y =
     (sym (or_and (nat_le a x && nat_lt x (a + 1)) (nat_le (a + 1) x && nat_lt x (a + 1 + n))
     (is_here p band register x y)))
 
--- the columns of a register paint just its pixels
+-- the columns of a register paint exactly its pixels
 pub lies_owns : (p : PictureValue) (band register x y : ℕ)
     → lies 0 band (band_columns p band register) x y ≡ owns p band register x y
 unfolding band_columns

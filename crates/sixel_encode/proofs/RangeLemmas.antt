@@ -10,7 +10,7 @@ range_then : (a n j : ℕ) → a + n ≡ j → range_with_len a (suc n) ≡ rang
 range_then a zero j e = let same : a ≡ j = omega arith in ap (λ (k : ℕ). k ∷ []) same
 range_then a (suc n) j e = ap (λ (ks : List ℕ). a ∷ ks) (range_then (a + 1) n j (omega arith))
 
--- one more number comes last
+-- the longer range ends with one more number
 pub below_then : (n : ℕ) → below (n + 1) ≡ below n ++ n ∷ []
 below_then n = rw add-one (range_then 0 n n (omega arith))
 
@@ -25,7 +25,7 @@ range_split (suc n) a m =
     rw longer (ap (λ (ks : List ℕ). a ∷ ks) (range_split n (a + 1) m
     ∙ ap (λ (k : ℕ). range_with_len (a + 1) n ++ range_with_len k m) start))
 
--- ---- a number of a range that passes a test
+-- ---- a number of the range that passes
 
 -- a number of the range passes
 pub record InRange (a n : ℕ) (q : ℕ → Bool) : Type 0 where
@@ -68,7 +68,7 @@ pub any_filter : (p q : ℕ → Bool) (xs : List ℕ) → list_any q (filter p x
 any_filter p q [] = refl
 any_filter p q (x ∷ xs) = any_filter_step (p x) (q x) _ q x (filter p xs) refl (any_filter p q xs)
 
--- what holds of each number below m that passes holds of each that is kept
+-- if P holds for each number below m that passes, it holds for each number of the filtered range
 pub filter_range : (P : ℕ → Type 0) (p : ℕ → Bool) (n a m : ℕ) → a + n ≤ m → ((r : ℕ) → r < m → p r ≡ true → P r)
     → AllByRecursion P (filter p (range_with_len a n))
 filter_range P p zero a m l h = tt

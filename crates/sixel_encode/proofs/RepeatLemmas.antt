@@ -1,4 +1,4 @@
--- Where four equal bytes stand, found many at once.
+-- Finding four equal bytes, many indices at once.
 use Rattle.std.proofs.Common.{◌≡◌, ◌≢◌, ◌==◌, ℕ, ◌+◌, ◌-◌, ◌%◌, ◌^◌, ◌<◌, ◌≤◌, Bool, true, false, ◌&&◌, cond}
 use Rattle.std.proofs.Common.{List, length, get_or, map, replicate, not, w8, refl, sym, ap, ap₂}
 use Rattle.std.proofs.Common.{◌∙◌, arith}
@@ -12,11 +12,11 @@ use lib.Lanes.{chunk, mask_l, sel_l, top, zip2}
 use Rattle.sixel_plane.proofs.LaneLemmas.{first_in_lanes, none_in_lanes}
 use Rattle.sixel_encode.specs.Columns.{NoFour, are_four}
 
--- the test of two groups, lane by lane
+-- which lanes of two groups are equal
 abbrev pub tests : List ℕ → List ℕ → List Bool
 tests v w = map (top 7) (zip2 (λ a b. cond (a == b) 255 0) v w)
 
--- the marks where a group is equal to three others
+-- 1 in each lane in which a group equals three others, and 0 elsewhere
 abbrev pub fours : List ℕ → List ℕ → List ℕ → List ℕ → List ℕ
 fours a b c d =
     sel_l (tests a b) (sel_l (tests a c) (sel_l (tests a d) (replicate 32 1) (replicate 32 0)) (replicate 32 0))
@@ -35,7 +35,7 @@ test_at v w j long wide lt =
     ap (λ (t : List Bool). get_or t j false) (tests_are v w)
     ∙ get_or-zip2 (λ (a b : ℕ). a == b) v w j 0 0 false (omega arith) (omega arith)
 
--- a choice between lanes and zeros
+-- the length of lanes chosen from a group and zeros
 pub length-chosen : (v w chosen : List ℕ) → length v ≡ 32 → length w ≡ 32 → length chosen ≡ 32
     → length (sel_l (tests v w) chosen (replicate 32 0)) ≡ 32
 length-chosen v w chosen long wide all =
@@ -82,7 +82,7 @@ four_at a b c d j la lb lc ld lt =
     ∙ ap (λ (n : ℕ). cond (get_or a j 0 == get_or d j 0) n 0) (get_or-replicate 32 j 1 0 lt))))
     ∙ chosen_all (get_or a j 0 == get_or b j 0) (get_or a j 0 == get_or c j 0) (get_or a j 0 == get_or d j 0)
 
--- the marks of a group
+-- the marks of the group at `at`: 1 where four equal bytes begin
 abbrev pub fours_from : ℕ → List ℕ → List ℕ
 fours_from at bytes =
     fours (chunk at 32 bytes) (chunk (at + 1) 32 bytes) (chunk (at + 2) 32 bytes) (chunk (at + 3) 32 bytes)

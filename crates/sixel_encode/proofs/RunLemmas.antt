@@ -1,4 +1,4 @@
--- Longest runs, as a loop finds them from the beginning.
+-- The longest runs, as a loop finds them from the beginning.
 use Rattle.std.proofs.Common.{◌≡◌, ◌≢◌, ℕ, zero, suc, ◌+◌, Bool, true, false, not, cond, Some, List, [], ◌∷◌, ◌++◌}
 use Rattle.std.proofs.Common.{replicate, refl, sym, ap, ◌∙◌, add-one}
 use Rattle.std.specs.Prelude.{◌==◌, slice_get}
@@ -7,7 +7,7 @@ use Rattle.std.proofs.lemmas.List.{append-nil}
 use Rattle.std.proofs.lemmas.List.Folds.{list_any-append}
 use Rattle.sixel_encode.specs.Canon.{Run, onto_runs, runs, has_bits, without_blanks}
 
--- the runs begin with this item
+-- the first run has this item
 record Heads (c : ℕ) (rs : List Run) : Type 0 where
   first : Run
   rest : List Run
@@ -41,16 +41,16 @@ onto_same : (b n : ℕ) (rs : List Run)
     → onto_runs b (record { count = n; item = b } ∷ rs) ≡ record { count = suc n; item = b } ∷ rs
 onto_same b n rs = rw (eq-eqb b b refl, add-one) refl
 
--- equal items, as many as there are, are the first run
+-- all equal items at the beginning form the first run
 pub runs_prefix : (n b : ℕ) (bs : List ℕ) → slice_get bs 0 ≢ Some b
     → runs (replicate (suc n) b ++ bs) ≡ record { count = suc n; item = b } ∷ runs bs
 unfolding runs
 runs_prefix zero b bs h = one_prefix b bs h
 runs_prefix (suc n) b bs h = ap (onto_runs b) (runs_prefix n b bs h) ∙ onto_same b (suc n) (runs bs)
 
--- ---- columns without the blanks at their end
+-- ---- columns without the blank ones at their end
 
--- bits stand behind these columns
+-- a set bit follows these columns
 without_before : (bs cs : List ℕ) → has_bits cs ≡ true → without_blanks (bs ++ cs) ≡ bs ++ without_blanks cs
 without_before [] cs h = refl
 without_before (b ∷ bs) cs h =
@@ -59,7 +59,7 @@ without_before (b ∷ bs) cs h =
     (list_any-append (λ bits. not (bits == 0)) bs cs ∙ or_right (has_bits bs) (has_bits cs) h) in
     rw some (ap (λ (t : List ℕ). b ∷ t) (without_before bs cs h))
 
--- these columns have bits
+-- these columns have set bits
 without_after : (n b : ℕ) (cs : List ℕ) → b ≢ 0
     → without_blanks (replicate n b ++ cs) ≡ replicate n b ++ without_blanks cs
 without_after zero b cs h = refl
@@ -72,7 +72,7 @@ none_blank : (n : ℕ) → has_bits (replicate n 0) ≡ false
 none_blank zero = refl
 none_blank (suc n) = none_blank n
 
--- blanks alone leave nothing
+-- only blank columns: nothing is left
 pub without_all : (n : ℕ) → without_blanks (replicate n 0) ≡ []
 without_all zero = refl
 without_all (suc n) = rw (none_blank (suc n)) refl
@@ -81,11 +81,11 @@ first_step : (b c : ℕ) (cs : List ℕ) (t : Bool) → c ≢ b → slice_get (c
 first_step b c cs true h = λ e. h (cc e)
 first_step b c cs false h = λ e. cc e
 
--- what is left of columns begins with none but their first
+-- what is left of columns that begin with c doesn't begin with another column b
 first_left : (b c : ℕ) (cs : List ℕ) → c ≢ b → slice_get (without_blanks (c ∷ cs)) 0 ≢ Some b
 first_left b c cs h = first_step b c (without_blanks cs) (has_bits (c ∷ cs)) h
 
--- equal columns before another one are none of the blanks at the end
+-- equal columns before a different one aren't blank ones at the end
 without_run : (n b c : ℕ) (cs : List ℕ) (t : Bool) → (t ≡ true → b ≡ 0) → (t ≡ false → b ≢ 0) → c ≢ b
     → without_blanks (replicate n b ++ c ∷ cs) ≡ replicate n b ++ without_blanks (c ∷ cs)
 without_run n b c cs true zero_bits bits h =
@@ -94,7 +94,7 @@ without_run n b c cs true zero_bits bits h =
     (or_left (not (c == 0)) (has_bits cs) (not_from_false (c == 0) (ne_eqb c 0 some)))
 without_run n b c cs false zero_bits bits h = without_after n b (c ∷ cs) (bits refl)
 
--- equal columns before another one are the first run
+-- equal columns before a different one are the first run
 pub run_before : (n b c : ℕ) (cs : List ℕ) → c ≢ b
     → runs (without_blanks (replicate (suc n) b ++ c ∷ cs))
     ≡ record { count = suc n; item = b } ∷ runs (without_blanks (c ∷ cs))
@@ -102,7 +102,7 @@ run_before n b c cs h =
     ap runs (without_run (suc n) b c cs (b == 0) (eqb-true b 0) (eqb-false b 0) h)
     ∙ runs_prefix n b (without_blanks (c ∷ cs)) (first_left b c cs h)
 
--- equal columns with bits at the end are the last run
+-- equal columns with set bits at the end are the last run
 pub run_at_end : (n b : ℕ) → b ≢ 0
     → runs (without_blanks (replicate (suc n) b)) ≡ record { count = suc n; item = b } ∷ []
 unfolding runs

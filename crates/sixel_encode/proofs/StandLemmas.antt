@@ -1,4 +1,4 @@
--- What stands before an event of a canonical list.
+-- The state before an event of a canonical list.
 use Rattle.std.proofs.Common.{◌≡◌, ℕ, ◌+◌, Bool, true, false, ◌||◌, cond, Option, Some, None, List, [], ◌∷◌, ◌++◌, refl}
 use Rattle.std.proofs.Common.{sym, ap, ◌∙◌, subst, append_assoc, append-nil}
 use Rattle.std.specs.Prelude.{◌==◌, if◌then◌else◌}
@@ -24,7 +24,7 @@ use Rattle.sixel_model.proofs.RuleLemmas.{Keeps}
 use Rattle.sixel_model.proofs.CoverLemmas.{idle_falls}
 use Rattle.sixel_model.proofs.KeepLemmas.{KeepEach, keep_append, keep_one}
 
--- ---- the words
+-- ---- the definitions
 
 -- what the definition of a colour says
 abbrev pub definition_by : Parts → Definition
@@ -35,8 +35,7 @@ definition_by (Hls h l s) = record { system = 1; x = h; y = l; z = s }
 abbrev pub box_of : PictureValue → Attributes
 box_of p = record { pan = 1; pad = 1; width = p.width; height = p.height }
 
--- after so many next lines the picture's palette is defined, and of its pixels these are painted, each in its own
--- register
+-- after `line` new lines, the palette is defined, and the pixels in `done` are painted, each in its own register
 pub record Stands (p : PictureValue) (before : List Event) (line : ℕ) (done : ℕ → ℕ → Bool) : Type 0 where
   pub at_line : band before ≡ line
   pub has_box : raster_before before ≡ Some (box_of p)
@@ -44,7 +43,7 @@ pub record Stands (p : PictureValue) (before : List Event) (line : ℕ) (done : 
   pub paints : (x y : ℕ) → register_at before x y ≡ (if done x y then Some (register_of p x y) else None)
   pub covers_done : (x y : ℕ) → is_covered before x y ≡ done x y
 
--- ---- events that keep the rules, and what is so after them
+-- ---- events that keep the rules, and what holds after them
 
 pub record Ran (registers : ℕ) (S : List Event → Type 0) (before events : List Event) : Type 0 where
   pub keeps : KeepEach registers before events
@@ -76,7 +75,7 @@ paints_step : (b d : Bool) (k o : Option ℕ) (r : ℕ) → (b ≡ true → k �
 paints_step true d k o r h e = rw (h refl) refl
 paints_step false d k o r h e = e
 
--- an event that isn't raster attributes, nor a definition, and paints points in their own register
+-- an event that is neither raster attributes nor a definition, and paints points in their own registers
 pub stands_push : (p : PictureValue) (before : List Event) (e : Event) (line next : ℕ) (done f : ℕ → ℕ → Bool)
     → Stands p before line done →
     raster_of e ≡ None → ((r : ℕ) → definition_where (λ q. q == r) e ≡ None) → line + cond (is_next_line e) 1 0 ≡ next →
@@ -92,7 +91,7 @@ stands_push p before e line next done f s raster define move fall own = record {
   covers_done = λ x y. covered_push before e x y ∙ rw (fall x y) (ap (λ d. f x y || d) (s.covers_done x y));
 }
 
--- the same, where it paints nothing
+-- the same for an event that paints nothing
 pub stands_quiet : (p : PictureValue) (before : List Event) (e : Event) (line next : ℕ) (done : ℕ → ℕ → Bool)
     → Stands p before line done →
     bits_of e ≡ 0 → raster_of e ≡ None → ((r : ℕ) → definition_where (λ q. q == r) e ≡ None)
@@ -102,7 +101,7 @@ stands_quiet p before e line next done s bits raster define move =
     stands_push p before e line next done (λ x y. false) s raster define move
     (λ x y. idle_falls before e x y (rw bits refl)) (λ x y h. cc h)
 
--- the line and the points may be said in another way
+-- the same state, for an equal line and equal points
 pub stands_as : {p : PictureValue} {before : List Event} {l1 l2 : ℕ} {done also : ℕ → ℕ → Bool}
     → Stands p before l1 done → l1 ≡ l2 → ((x y : ℕ) → done x y ≡ also x y) → Stands p before l2 also
 stands_as s e h = record {
@@ -156,7 +155,7 @@ keeps_in_box registers before e a box raster finish r5 r6 r7 r8 r9 r10 inside = 
   uncovered = λ h. (let k : false ≡ true = sym finish ∙ h.0 in cc k);
 }
 
--- the same, where it paints nothing
+-- the same for an event that paints nothing
 pub quiet_keeps : {registers : ℕ} {before : List Event} {e : Event} {a : Attributes} → raster_before before ≡ Some a
     → bits_of e ≡ 0 → raster_of e ≡ None → is_finish e ≡ false → breaks_register registers e ≡ false
     → breaks_colour_value e ≡ false → breaks_repeat_zero e ≡ false → breaks_redefined before e ≡ false
@@ -166,7 +165,7 @@ quiet_keeps {registers} {before} {e} {a} box bits raster finish r5 r6 r7 r10 =
     keeps_in_box registers before e a box raster finish r5 r6 r7 (rw bits refl) (rw bits refl) r10
     (λ x y h. (let n : falls before e x y ≡ false = idle_falls before e x y (rw bits refl) in cc (n, h)))
 
--- events of a canonical list that keep the rules, and what stands after them
+-- events of a canonical list that keep the rules, and the state after them
 abbrev pub Passed : ℕ → PictureValue → List Event → List Event → ℕ → (ℕ → ℕ → Bool) → Type 0
 Passed registers p before events line done = Ran registers (λ b. Stands p b line done) before events
 
@@ -175,7 +174,7 @@ pub passed_as : {registers : ℕ} {p : PictureValue} {before events : List Event
     → Passed registers p before events l2 also
 passed_as s e h = ran_as s (λ b t. stands_as t e h)
 
--- one event that paints nothing
+-- an event that paints nothing
 pub quiet_passed : {registers : ℕ} {p : PictureValue} {before : List Event} {e : Event} {line next : ℕ}
     {done : ℕ → ℕ → Bool} → Stands p before line done → bits_of e ≡ 0 → raster_of e ≡ None → is_finish e ≡ false
     → is_eight_bit e ≡ false → breaks_register registers e ≡ false → breaks_colour_value e ≡ false

@@ -1,4 +1,4 @@
--- The text of a picture's parts, one by one.
+-- The texts of a picture's parts, one after another.
 use Rattle.std.proofs.Common.{◌≡◌, ℕ, zero, suc, ◌+◌, Bool, true, false, cond, Option, Some, None, List, [], ◌∷◌, ◌++◌}
 use Rattle.std.proofs.Common.{length, map, refl, sym, ap, ◌∙◌, append_assoc}
 use Rattle.std.specs.Prelude.{◌==◌, filter, flat_map, filter_map, if◌then◌else◌}
@@ -25,13 +25,13 @@ use Rattle.sixel_encode.specs.Columns.{sixel_commands, sixels_of}
 use Rattle.sixel_encode.proofs.StretchLemmas.{register_is}
 use Rattle.sixel_encode.proofs.TextLemmas.{text-append}
 
--- ---- registers and bands one by one
+-- ---- registers and bands, one after another
 
 abbrev pub is_nil : List ℕ → Bool
 is_nil [] = true
 is_nil (x ∷ xs) = false
 
--- one more, behind what stands between
+-- one more item, after a separator
 join-then : (f : ℕ → List Command) (between : List Command) (xs : List ℕ) (x : ℕ)
     → join_by f between (xs ++ x ∷ []) ≡ join_by f between xs ++ ((if is_nil xs then [] else between) ++ f x)
 join-then f between [] x = append-nil (f x)
@@ -46,7 +46,7 @@ join-then f between (y ∷ ys) x =
 abbrev pub bands_above : PictureValue → ℕ → List ℕ
 bands_above p band = commands_text (join_by (band_commands p) (NextLine ∷ []) (below band))
 
--- and of the next one
+-- the text of the next band
 abbrev pub band_step : PictureValue → ℕ → List ℕ
 band_step p band = commands_text ((if band == 0 then [] else NextLine ∷ []) ++ band_commands p band)
 
@@ -76,7 +76,7 @@ abbrev pub next_text : PictureValue → ℕ → ℕ → Bool → List ℕ
 next_text p band register is_first =
     commands_text ((if is_first then [] else CarriageReturn ∷ []) ++ register_commands p band register)
 
--- and of any other
+-- the text of a register, which is empty if it doesn't occur
 abbrev pub register_step : PictureValue → ℕ → ℕ → List ℕ
 register_step p band register =
     if occurs p band register then next_text p band register (is_first_of p band register) else []
@@ -111,7 +111,7 @@ first_step : (xs : List ℕ) (x : ℕ) → is_nil (xs ++ x ∷ []) ≡ false
 first_step [] x = refl
 first_step (y ∷ ys) x = refl
 
--- a register that occurs is before the next one
+-- after a register that occurs, the next one isn't the first
 pub first-after : (p : PictureValue) (band register : ℕ) → occurs p band register ≡ true
     → false ≡ is_first_of p band (register + 1)
 first-after p band register h =
@@ -119,7 +119,7 @@ first-after p band register h =
     ∙ ap (λ (t : Bool). is_nil (filter (occurs p band) (below register) ++ cond t (register ∷ []) [])) h
     ∙ first_step (filter (occurs p band) (below register)) register)
 
--- any other changes nothing
+-- a register that doesn't occur changes nothing
 pub first-same : (p : PictureValue) (band register : ℕ) → occurs p band register ≡ false
     → is_first_of p band register ≡ is_first_of p band (register + 1)
 first-same p band register h =
@@ -127,9 +127,9 @@ first-same p band register h =
     ∙ ap (λ (t : Bool). is_nil (filter (occurs p band) (below register) ++ cond t (register ∷ []) [])) h
     ∙ ap is_nil (append-nil (filter (occurs p band) (below register))))
 
--- ---- definitions one by one
+-- ---- definitions, one after another
 
--- the definition of an entry
+-- the text of the definition of an entry
 abbrev pub entry_step : List (Option Parts) → ℕ → List ℕ
 entry_step palette register =
     commands_text (option_to_list (option_map (define_command register) (palette_at palette register)))
@@ -167,14 +167,14 @@ pub bands-all : (p : PictureValue) → commands_text (picture_commands p) ≡ ba
 unfolding picture_commands
 bands-all p = refl
 
--- the step of a register that occurs
+-- the text of a register that occurs
 pub step-is : (p : PictureValue) (band register : ℕ) (is_first : Bool) → occurs p band register ≡ true
     → is_first ≡ is_first_of p band register → next_text p band register is_first ≡ register_step p band register
 step-is p band register is_first h first =
     ap (next_text p band register) first
     ∙ ap (λ (t : Bool). if t then next_text p band register (is_first_of p band register) else []) (sym h)
 
--- the same, by the sixels of its columns
+-- the same, from the sixels of its columns
 pub step-found : (p : PictureValue) (band register : ℕ) (sixels : List ℕ) (is_first : Bool)
     → sixels ≡ sixels_of (all_columns p band register) → occurs p band register ≡ true
     → is_first ≡ is_first_of p band register
@@ -185,7 +185,7 @@ step-found p band register sixels is_first found h first =
     (register_is p band register sixels found)
     ∙ step-is p band register is_first h first
 
--- and of one that doesn't
+-- a register that doesn't occur adds no text
 pub step-none : (p : PictureValue) (band register : ℕ) → occurs p band register ≡ false
     → registers_above p band register ≡ registers_above p band (register + 1)
 step-none p band register h =
@@ -205,7 +205,7 @@ pub commands-parts : (p : PictureValue) → commands_text (canon_commands p)
 unfolding canon_commands
 commands-parts p = text-append (Raster 1 1 p.width p.height ∷ define_commands p.palette) (picture_commands p)
 
--- the start, the commands, and the finish
+-- the start, the commands, the finish
 pub canon-parts : (p : PictureValue) → canon_text p
     ≡ (fixed_spelling canon_start ++ commands_text (canon_commands p)) ++ fixed_spelling (Finish false)
 unfolding canon commands_text

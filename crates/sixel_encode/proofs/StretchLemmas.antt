@@ -1,4 +1,4 @@
--- The text of columns by stretches: columns that stand alone, and the repeat behind them.
+-- The text of columns, in steps: single sixels, then the repeat after them.
 use Rattle.std.proofs.Common.{◌≡◌, ◌≢◌, ◌==◌, ℕ, zero, suc, ◌+◌, ◌-◌, ◌<◌, ◌≤◌, true, false, ◌&&◌, List, [], ◌∷◌}
 use Rattle.std.proofs.Common.{◌++◌, length, get_or, take, drop, replicate, not, inl, inr, refl, sym, ap, ap₂, ◌∙◌}
 use Rattle.std.proofs.Common.{subst, arith, append_assoc, drop-cons}
@@ -16,13 +16,13 @@ use Rattle.sixel_encode.specs.Columns.{sixel_commands, sixels_of}
 use Rattle.sixel_encode.proofs.TextLemmas.{columns-before, columns-blank, columns-end, columns_text, replicate-then}
 use Rattle.sixel_encode.proofs.TextLemmas.{run-short, run_text}
 
--- ---- a column that stands alone
+-- ---- one single sixel
 
--- four columns of the same bits don't begin here, and a bit comes at or behind it
+-- no repeat begins at column k, and it or a later column has a set bit
 abbrev pub IsAlone : ℕ → List ℕ → Type 0
 IsAlone k cs = (has_bits (drop k cs) ≡ true) × (k + 3 < length cs → are_four (sixels_of cs) k ≡ false)
 
--- one column in front of fewer than three of the same bits
+-- a column before fewer than three equal ones
 one_more : (m b : ℕ) → m < 3 → run_text (suc m) b ≡ (63 + b) ∷ run_text m b
 one_more m b few =
     run-short (suc m) b (omega arith) ∙ sym (ap (λ (t : List ℕ). (63 + b) ∷ t) (run-short m b (omega arith)))
@@ -52,7 +52,7 @@ has_some m b ink = λ e.
 same_twice : (v : ℕ) → ((v == v) && ((v == v) && (v == v))) ≡ true
 same_twice v = let e = eq-eqb v v refl in and_from _ _ e (and_from _ _ e e)
 
--- at most two columns of the same bits come next
+-- fewer than three equal columns follow
 alone_step : (m b : ℕ) (cs : List ℕ) → m < 3 → IsAlone 0 (b ∷ (replicate m b ++ cs))
     → columns_text (b ∷ (replicate m b ++ cs)) ≡ (63 + b) ∷ columns_text (replicate m b ++ cs)
 alone_step m b [] few alone = before_end m b few (has_some m b alone.0)
@@ -77,7 +77,7 @@ alone_step m b (c ∷ cs) few alone = elim (cases_eq c b) [
 alone : (b : ℕ) (cs : List ℕ) → IsAlone 0 (b ∷ cs) → columns_text (b ∷ cs) ≡ (63 + b) ∷ columns_text cs
 alone b cs free = alone_step 0 b cs (omega arith) free
 
--- ---- a stretch of such columns
+-- ---- several single sixels
 
 four_later : (v k : ℕ) (vs : List ℕ) → are_four (v ∷ vs) (suc k) ≡ are_four vs k
 four_later v k vs =
@@ -114,7 +114,7 @@ part_of : (from n : ℕ) (cs : List ℕ) → sixels_of (take n (drop from cs)) �
 part_of from n cs =
     sym (ap (take n) (drop-map (λ bits. 63 + bits) from cs) ∙ take-map (λ bits. 63 + bits) n (drop from cs))
 
--- a bit comes at j
+-- column j has a set bit
 has_at : (j : ℕ) (cs : List ℕ) → get_or cs j 0 ≢ 0 → has_bits cs ≡ true
 has_at j [] some = absurd (some refl)
 has_at zero (b ∷ cs) some = or_left (not (b == 0)) (has_bits cs) (not_from_false (b == 0) (ne_eqb b 0 some))
@@ -126,7 +126,7 @@ has_from j (suc k) [] some le = absurd (some refl)
 has_from zero (suc k) (b ∷ cs) some le = absurd (omega arith)
 has_from (suc j) (suc k) (b ∷ cs) some le = has_from j k cs some (omega arith)
 
--- the columns up to a place, behind which or just before which a bit stands, begin no repeat
+-- if a set bit comes at or after the last of these columns, and no repeat begins in them, they are single sixels
 pub stretch_text : (cs : List ℕ) (from to j : ℕ) → from ≤ to → to ≤ length cs → get_or cs j 0 ≢ 0 → to ≤ j + 1
     → NoFour from to (sixels_of cs)
     → columns_text (drop from cs) ≡ part from to (sixels_of cs) ++ columns_text (drop to cs)
@@ -142,7 +142,7 @@ stretch_text cs from to j low high some ink none =
 
 -- ---- a run
 
--- equal columns from here on
+-- `n` equal columns from `a` on
 equal_from : (n a v : ℕ) (cs : List ℕ) → a + n ≤ length cs → ((k : ℕ) → a ≤ k → k < a + n → get_or cs k 0 ≡ v)
     → take n (drop a cs) ≡ replicate n v
 equal_from zero a v cs room each = refl
@@ -162,7 +162,7 @@ run_from start end v cs low high each =
     (equal_from (end - start) start v cs (omega arith) (λ k from to. each k from (omega arith)))
     (drop-drop (end - start) start cs ∙ ap (λ (n : ℕ). drop n cs) whole)
 
--- before another column
+-- a run before a different column
 run_inside : (start end v : ℕ) (cs : List ℕ) → start ≤ end → end < length cs
     → ((k : ℕ) → start ≤ k → k < end → get_or cs k 0 ≡ v) → get_or cs end 0 ≢ v
     → columns_text (drop start cs) ≡ run_text (end - start) v ++ columns_text (drop end cs)
@@ -173,7 +173,7 @@ run_inside start end v cs low high each other =
     ∙ columns-before (end - start) v (get_or cs end 0) (drop (suc end) cs) other
     ∙ ap (λ (t : List ℕ). run_text (end - start) v ++ columns_text t) (sym rest)
 
--- at the end of the row
+-- a run at the end of the row
 run_at_end : (start v : ℕ) (cs : List ℕ) → start ≤ length cs
     → ((k : ℕ) → start ≤ k → k < length cs → get_or cs k 0 ≡ v)
     → columns_text (drop start cs) ≡ columns_text (replicate (length cs - start) v ++ [])
@@ -181,13 +181,13 @@ run_at_end start v cs low each =
     ap columns_text (run_from start (length cs) v cs low (omega arith) each
     ∙ ap (λ (t : List ℕ). replicate (length cs - start) v ++ t) (drop_all (length cs) cs (omega arith)))
 
--- blank columns at the end leave nothing
+-- blank columns at the end have no text
 pub blank_text : (start : ℕ) (cs : List ℕ) → start ≤ length cs
     → ((k : ℕ) → start ≤ k → k < length cs → get_or cs k 0 ≡ 0) → columns_text (drop start cs) ≡ []
 blank_text start cs low each =
     run_at_end start 0 cs low each ∙ columns-blank (length cs - start) 0 refl
 
--- the text of a run, at the end or before it
+-- the text of a run, at the end of the row or before another column
 pub run_behind : (start end v : ℕ) (cs : List ℕ) → start ≤ end → end ≤ length cs
     → ((k : ℕ) → start ≤ k → k < end → get_or cs k 0 ≡ v) → (end < length cs → get_or cs end 0 ≢ v)
     → (end ≡ length cs → v ≢ 0)
@@ -204,7 +204,7 @@ run_behind start end v cs low high each other some = elim (cases_lt end (length 
       ∙ sym (ap (λ (t : List ℕ). run_text (end - start) v ++ t) none ∙ append-nil (run_text (end - start) v))
 ]
 
--- ---- sixels and what they spell
+-- ---- data bytes and their bits
 
 spelled_at : (cs : List ℕ) (k : ℕ) → k < length cs → get_or (sixels_of cs) k 0 ≡ 63 + get_or cs k 0
 spelled_at cs k lt = get_or-map (λ bits. 63 + bits) cs k 0 0 lt
@@ -213,7 +213,7 @@ pub bits_back : (cs : List ℕ) → bits_of_sixels (sixels_of cs) ≡ cs
 bits_back [] = refl
 bits_back (b ∷ cs) = let e : 63 + b - 63 ≡ b = omega arith in ap₂ (λ (n : ℕ) (t : List ℕ). n ∷ t) e (bits_back cs)
 
--- the commands of a register, by the sixels of its columns
+-- the commands of a register, from the data bytes of its columns
 pub register_is : (p : PictureValue) (band register : ℕ) (sixels : List ℕ)
     → sixels ≡ sixels_of (all_columns p band register)
     → Select register ∷ sixel_commands sixels ≡ register_commands p band register
@@ -239,9 +239,9 @@ sixels_are cs most k lt =
     let few = most k inside in
     (omega arith, omega arith)
 
--- ---- what is put, one stretch and repeat after another
+-- ---- the text so far, one step after another
 
--- the columns of a run, by their bits
+-- the columns of a run have equal bits
 run_bits : (start end : ℕ) (cs : List ℕ) → IsRun start end (sixels_of cs)
     → (k : ℕ) → start ≤ k → k < end → get_or cs k 0 ≡ get_or cs start 0
 run_bits start end cs run k low high =
@@ -264,7 +264,7 @@ run_other start end cs run inside = λ e.
     run.ends (omega arith)
     (spelled_at cs end inside ∙ ap (λ (n : ℕ). 63 + n) e ∙ sym (spelled_at cs start first))
 
--- a stretch and the repeat behind it
+-- single sixels, then the repeat after them
 next_of : (cs : List ℕ) (from start end : ℕ) → IsRepeatAt from (sixels_of cs) start → IsRun start end (sixels_of cs)
     → (end ≡ length cs → get_or cs start 0 ≢ 0)
     → columns_text (drop from cs)
@@ -293,7 +293,7 @@ next_of cs from start end next run some =
     ∙ sym (append_assoc (part from start (sixels_of cs)) (run_text (end - start) (get_or cs start 0))
     (columns_text (drop end cs)))
 
--- the same, of bytes
+-- the same for data bytes
 pub next_text : (xs : List ℕ) (from start end : ℕ) → AreSixels xs → IsRepeatAt from xs start → IsRun start end xs
     → (end ≡ length xs → get_or xs start 0 ≢ 63)
     → columns_text (drop from (bits_of_sixels xs))
@@ -314,7 +314,7 @@ next_text xs from start end are next run some =
     ∙ ap₂ (λ (t : List ℕ) (b : ℕ). (part from start t ++ run_text (end - start) b) ++ columns_text (drop end cs))
     (sym e) bits
 
--- a blank repeat at the end: the column before it isn't blank
+-- if the last repeat is blank, the column before it isn't
 last_of : (xs : List ℕ) (from start : ℕ) → from < start → IsRepeatAt from xs start → get_or xs start 0 ≡ 63
     → get_or xs (start - 1) 0 ≢ 63
 last_of xs from start low next blank = λ also.
@@ -334,7 +334,7 @@ last_of xs from start low next blank = λ also.
     let none : are_four xs k ≡ false = next.before k (omega arith) (omega arith) (omega arith) in
     cc (all, none)
 
--- the last stretch, and nothing but blank columns behind it
+-- the last single sixels, followed only by blank columns
 last_of_all : (cs : List ℕ) (from to : ℕ) → from ≤ to → to ≤ length cs → NoFour from to (sixels_of cs)
     → ((k : ℕ) → to ≤ k → k < length cs → get_or cs k 0 ≡ 0) → (from < to → get_or cs (to - 1) 0 ≢ 0)
     → columns_text (drop from cs) ≡ part from to (sixels_of cs)
@@ -374,7 +374,7 @@ last_text xs from to are low high none blank some =
     some less (omega arith))
     ∙ ap (λ (t : List ℕ). part from to t) (sym e)
 
--- where the last repeat is blank
+-- the end, if the last repeat is blank
 pub blank_end : (xs : List ℕ) (from start end : ℕ) → AreSixels xs → IsRepeatAt from xs start → IsRun start end xs
     → end ≡ length xs → get_or xs start 0 ≡ 63
     → columns_text (drop from (bits_of_sixels xs)) ≡ part from start xs
@@ -384,7 +384,7 @@ blank_end xs from start end are next run done blank =
     (λ k low high. run.equal k low (omega arith) ∙ blank)
     (λ less. last_of xs from start less next blank)
 
--- where no repeat is left
+-- the end, if no repeat is left
 pub ink_text : (xs : List ℕ) (from to : ℕ) → AreSixels xs → NoFour from (length xs) xs → IsInkEnd from to xs
     → columns_text (drop from (bits_of_sixels xs)) ≡ part from to xs
 ink_text xs from to are none ink =

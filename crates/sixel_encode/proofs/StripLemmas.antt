@@ -1,4 +1,4 @@
--- The points that columns of bits paint.
+-- The points that columns with given bits cover.
 use Rattle.std.proofs.Common.{◌≡◌, ℕ, zero, suc, ◌+◌, ◌*◌, Bool, true, false, ◌&&◌, ◌||◌, List, [], ◌∷◌, ◌++◌, length}
 use Rattle.std.proofs.Common.{replicate, refl, sym, ap, ◌∙◌, arith}
 use Rattle.std.specs.Prelude.{◌==◌, nat_le, nat_lt}
@@ -18,7 +18,7 @@ or_and true b true = refl
 or_and true b false = sym (and-false b)
 or_and false b c = refl
 
--- the first column, and the others
+-- the first column, then the others
 pub covers_split : (left n band rows bits x y : ℕ)
     → covers left (suc n) band rows bits x y
     ≡ (covers left 1 band rows bits x y || covers (left + 1) n band rows bits x y)
@@ -28,7 +28,7 @@ covers_split left n band rows bits x y = rw (within_split left n x)
     (any_below 6 (λ k. (bit_at bits k == 1) && nat_le ((6 * band + k) * rows) y && nat_lt y
     ((6 * band + k) * rows + rows))))
 
--- the point lies in one of these columns, from the first one on, in the row of a set bit
+-- one of these columns, the first of them at `left`, covers the point
 unfoldable pub lies : ℕ → ℕ → List ℕ → ℕ → ℕ → Bool
 lies left band [] x y = false
 lies left band (b ∷ bs) x y = covers left 1 band 1 b x y || lies (left + 1) band bs x y

@@ -1,4 +1,4 @@
--- The text of commands, and of columns.
+-- The texts of commands and of columns.
 use Rattle.std.proofs.Common.{◌≡◌, ◌≢◌, ℕ, zero, suc, ◌+◌, ◌<◌, Bool, false, List, [], ◌∷◌, ◌++◌, map}
 use Rattle.std.proofs.Common.{replicate, refl, ap, ◌∙◌}
 use Rattle.std.specs.Prelude.{flat_map, nat_le, if◌then◌else◌}
@@ -25,7 +25,7 @@ pub text-one : (c : Command) → commands_text (c ∷ []) ≡ fixed_command c
 unfolding commands_text
 text-one c = append-nil (fixed_command c)
 
--- as many sixels
+-- n equal sixels
 pub text-sixels : (n b : ℕ) → commands_text (replicate n (Sixel b)) ≡ replicate n (63 + b)
 unfolding commands_text
 text-sixels zero b = refl
@@ -33,15 +33,15 @@ text-sixels (suc n) b = ap (λ (t : List ℕ). (63 + b) ∷ t) (text-sixels n b)
 
 -- ---- the text of columns
 
--- of a run of so many columns of these bits
+-- the text of a run of `count` columns with these bits
 abbrev pub run_text : ℕ → ℕ → List ℕ
 run_text count bits = commands_text (run_commands (record { count = count; item = bits }))
 
--- of columns up to the last one that has a bit
+-- the text of columns up to the last one with a set bit
 abbrev pub columns_text : List ℕ → List ℕ
 columns_text columns = commands_text (flat_map run_commands (runs (without_blanks columns)))
 
--- equal columns come before another one
+-- equal columns before a different one
 pub columns-before : (n b c : ℕ) (cs : List ℕ) → c ≢ b
     → columns_text (replicate n b ++ c ∷ cs) ≡ run_text n b ++ columns_text (c ∷ cs)
 unfolding commands_text
@@ -51,7 +51,7 @@ columns-before (suc n) b c cs h =
     ∙ text-append (run_commands (record { count = suc n; item = b }))
     (flat_map run_commands (runs (without_blanks (c ∷ cs))))
 
--- equal columns with bits come last
+-- equal columns with set bits at the end
 pub columns-end : (n b : ℕ) → b ≢ 0 → columns_text (replicate n b ++ []) ≡ run_text n b
 unfolding commands_text runs
 columns-end zero b h = refl
@@ -60,19 +60,19 @@ columns-end (suc n) b h =
     ∙ ap (λ (rs : List Run). commands_text (flat_map run_commands rs)) (run_at_end n b h)
     ∙ ap commands_text (append-nil (run_commands (record { count = suc n; item = b })))
 
--- blanks that come last leave nothing
+-- blank columns at the end have no text
 pub columns-blank : (n b : ℕ) → b ≡ 0 → columns_text (replicate n b ++ []) ≡ []
 unfolding commands_text runs
 columns-blank n b h =
     ap columns_text (append-nil (replicate n b)) ∙ ap (λ (t : ℕ). columns_text (replicate n t)) h
     ∙ ap (λ (t : List ℕ). commands_text (flat_map run_commands (runs t))) (without_all n)
 
--- one column more
+-- one more column
 pub replicate-then : {A : Type 0} (n : ℕ) (b : A) (cs : List A) → replicate n b ++ b ∷ cs ≡ replicate (suc n) b ++ cs
 replicate-then zero b cs = refl
 replicate-then (suc n) b cs = ap (λ (t : List _). b ∷ t) (replicate-then n b cs)
 
--- a run of less than four
+-- a run of fewer than four columns
 pub run-short : (count bits : ℕ) → count < 4 → run_text count bits ≡ replicate count (63 + bits)
 run-short count bits less =
     let short : nat_le 4 count ≡ false = lt-leb 4 count less in

@@ -16,7 +16,7 @@ use Rattle.sixel_encode.proofs.LeadsBackLemmas.{lists_leave_their_picture}
 abbrev in_string : List ℕ → List ℕ
 in_string text = 27 ∷ codes "P0;1q" ++ 34 ∷ text ++ 27 ∷ 92 ∷ []
 
--- 1 by 1 of register 0, and an entry of hue, lightness and saturation that no pixel uses
+-- 1 by 1 pixels in register 0, and an HLS entry that no pixel uses
 abbrev dot : PictureValue
 dot = record {
   width = 1;
@@ -30,7 +30,7 @@ unfolding runs column_bits band_columns occurs band_registers register_commands 
     picture_commands canon_commands canon digits
 dot_text = refl
 
--- three equal columns are three sixels
+-- three equal columns are three single sixels
 abbrev three : PictureValue
 three = record {
   width = 3;
@@ -44,8 +44,8 @@ unfolding runs column_bits band_columns occurs band_registers register_commands 
     picture_commands canon_commands canon digits
 three_text = refl
 
--- four are one repeat; a carriage return stands between two registers of a band, and blank columns before the last one
--- that has a bit, never after it
+-- four equal columns are one repeat. A carriage return comes between two registers of a band. Blank columns are written
+-- only before a column with a set bit
 abbrev ends : PictureValue
 ends = record {
   width = 6;
@@ -59,7 +59,7 @@ unfolding runs column_bits band_columns occurs band_registers register_commands 
     picture_commands canon_commands canon digits
 ends_text = refl
 
--- two bands, the last of one row, and registers over one another
+-- two bands, the second of one row, with several registers in a band
 abbrev hi : PictureValue
 hi = record {
   width = 14;
@@ -80,7 +80,7 @@ unfolding runs column_bits band_columns occurs band_registers register_commands 
     picture_commands canon_commands canon digits
 hi_text = refl
 
--- ---- the laws aren't empty: such a picture is there
+-- ---- the laws aren't empty: there is such a picture
 
 dot_is_picture : IsPicture 16 dot
 dot_is_picture = record {

@@ -199,7 +199,7 @@ pub lists_are_whole : ListsAreWhole
 unfolding canon
 lists_are_whole p = rest_are (canon_commands p)
 
--- the text is a document where it is within the limit
+-- the text is a document if it is within the limit
 pub texts_are_documents : (registers : ℕ) → registers ≤ 65535 → TextsHaveAtMost most_bytes registers
     → TextsAreDocuments registers
 texts_are_documents registers n short p picture =

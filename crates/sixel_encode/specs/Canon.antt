@@ -22,12 +22,12 @@ below n = range_with_len 0 n
 
 -- ---- runs
 
--- a run of equal items: how many, and which
+-- a run of equal items: how many there are, and the item
 pub record Run : Type 0 where
   pub count : ℕ
   pub item : ℕ
 
--- one more item in front, which lengthens the first run if it is equal
+-- the runs with one more item in front, which lengthens the first run if it is equal
 abbrev pub onto_runs : ℕ → List Run → List Run
 onto_runs b [] = record { count = 1; item = b } ∷ []
 onto_runs b (r ∷ rs) =
@@ -39,13 +39,13 @@ unfoldable pub runs : List ℕ → List Run
 runs [] = []
 runs (b ∷ bs) = onto_runs b (runs bs)
 
--- a run of bits as data commands: four columns or more are one repeat
+-- a run of columns with the same bits, as data commands: four or more are one repeat
 abbrev pub run_commands : Run → List Command
 run_commands r = if nat_le 4 r.count then Repeat r.count r.item ∷ [] else replicate r.count (Sixel r.item)
 
 -- ---- columns
 
--- the pixel of this column and this row of a band lies in the picture, and is of the register
+-- the pixel in this column and this row of a band is in the picture, and has the register
 abbrev pub has_pixel : PictureValue → ℕ → ℕ → ℕ → ℕ → Bool
 has_pixel p band register x k =
     nat_lt (band_rows * band + k) p.height && (register_of p x (band_rows * band + k) == register)
@@ -54,26 +54,26 @@ has_pixel p band register x k =
 unfoldable pub column_bits : PictureValue → ℕ → ℕ → ℕ → ℕ
 column_bits p band register x = sum_by (λ k. if has_pixel p band register x k then 2 ^ k else 0) (below band_rows)
 
--- some of the columns has a bit
+-- some column has a set bit
 abbrev pub has_bits : List ℕ → Bool
 has_bits columns = list_any (λ bits. not (bits == 0)) columns
 
--- the columns up to the last one that has a bit
+-- the columns up to the last one with a set bit
 abbrev pub without_blanks : List ℕ → List ℕ
 without_blanks [] = []
 without_blanks (bits ∷ columns) = if has_bits (bits ∷ columns) then bits ∷ without_blanks columns else []
 
--- all columns of a register in a band
+-- the bits of a register in all columns of a band
 abbrev pub all_columns : PictureValue → ℕ → ℕ → List ℕ
 all_columns p band register = map (column_bits p band register) (below p.width)
 
--- the columns of a register in a band, up to the last one that has a bit
+-- the bits of a register in the columns of a band, up to the last one with a set bit
 unfoldable pub band_columns : PictureValue → ℕ → ℕ → List ℕ
 band_columns p band register = without_blanks (all_columns p band register)
 
 -- ---- bands
 
--- how many bands of six rows, the last of which may have fewer
+-- how many bands of six rows there are; the last one may have fewer rows
 abbrev pub bands : PictureValue → ℕ
 bands p = div_ceil p.height band_rows
 
@@ -85,7 +85,7 @@ occurs p band register = has_bits (all_columns p band register)
 unfoldable pub band_registers : PictureValue → ℕ → List ℕ
 band_registers p band = filter (occurs p band) (below (length p.palette))
 
--- a select, and the columns of the register
+-- a select, then the columns of the register
 unfoldable pub register_commands : PictureValue → ℕ → ℕ → List Command
 register_commands p band register = Select register ∷ flat_map run_commands (runs (band_columns p band register))
 
@@ -105,27 +105,27 @@ unfoldable pub define_commands : List (Option Parts) → List Command
 define_commands palette =
     filter_map (λ r. option_map (define_command r) (palette_at palette r)) (below (length palette))
 
--- the raster attributes, and the definitions, of entries that no pixel uses too
+-- the raster attributes, then the definitions, even of entries that no pixel uses
 abbrev pub opening_commands : PictureValue → List Command
 opening_commands p = Raster 1 1 p.width p.height ∷ define_commands p.palette
 
--- the bands of the tallest picture
+-- how many bands the tallest picture has
 abbrev pub most_bands : ℕ
 most_bands = div_ceil most_side band_rows
 
--- the bands, with a next line between two
+-- the bands, with a new line between two
 unfoldable pub picture_commands : PictureValue → List Command
 picture_commands p = join_by (band_commands p) (NextLine ∷ []) (below (bands p))
 
--- what stands before the bands, and the bands
+-- the opening, then the bands
 unfoldable pub canon_commands : PictureValue → List Command
 canon_commands p = opening_commands p ++ picture_commands p
 
--- parameters 0 and 1, and an introducer of 7 bits
+-- a 7-bit introducer with the parameters 0 and 1
 abbrev pub canon_start : Event
 canon_start = Start false (record { items = 0 ∷ 1 ∷ [] })
 
--- the canonical events
+-- the canonical list of events
 unfoldable pub canon : PictureValue → List Event
 canon p = canon_start ∷ (map Step (canon_commands p) ++ Finish false ∷ [])
 

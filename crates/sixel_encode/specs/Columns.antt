@@ -1,4 +1,4 @@
--- The sixels of a register in the columns of a band, as a list of bytes.
+-- The sixels of a register in the columns of a band, as data bytes.
 use Rattle.std.specs.Prelude.{◌≡◌, ◌≢◌, ◌==◌, ◌&&◌, ◌⊎◌, ◌%◌, ◌/◌, ℕ, ◌+◌, ◌-◌, ◌<◌, ◌≤◌, Bool, true, false, Option}
 use Rattle.std.specs.Prelude.{List, drop, flat_map, get_or, length, map, nat_le, nat_lt, slice_index, take}
 use Rattle.std.specs.Prelude.{if◌then◌else◌}
@@ -9,24 +9,24 @@ use Rattle.sixel_model.specs.Geometry.{band_rows}
 use Rattle.sixel_model.specs.Pictures.{PictureValue}
 use Rattle.sixel_encode.specs.Canon.{has_pixel, run_commands, runs, without_blanks}
 
--- the bytes that spell columns of these bits
+-- the data bytes of columns with these bits
 abbrev pub sixels_of : List ℕ → List ℕ
 sixels_of columns = map (λ bits. 63 + bits) columns
 
--- the bits that bytes spell
+-- the bits of data bytes
 abbrev pub bits_of_sixels : List ℕ → List ℕ
 bits_of_sixels sixels = map (λ sixel. sixel - 63) sixels
 
--- the data commands of columns that bytes spell, up to the last one that has a bit
+-- the data commands for columns given as data bytes, up to the last column with a set bit
 abbrev pub sixel_commands : List ℕ → List Command
 sixel_commands sixels = flat_map run_commands (runs (without_blanks (bits_of_sixels sixels)))
 
--- each byte spells six bits
+-- all bytes are data bytes
 abbrev pub AreSixels : List ℕ → Type 0
 AreSixels sixels =
     (x : ℕ) → x < length sixels → (63 ≤ slice_index sixels x) × (slice_index sixels x ≤ 126)
 
--- the bit is added in the columns from `from` up to `to` whose pixel is of the register, and the others are as before
+-- the bit was added in the columns from `from` up to `to` whose pixel has the register; all others are as before
 pub record AreAdded (from to register bit : ℕ) (row old new : List ℕ) : Type 0 where
   pub long : length new ≡ length old
   pub added : (x : ℕ) → x < length old
@@ -35,17 +35,17 @@ pub record AreAdded (from to register bit : ℕ) (row old new : List ℕ) : Type
 
 -- ---- groups of 32 columns
 
--- the mask has a bit for each group of columns in which the row has a pixel of the register
+-- the mask has the bit of each group of columns in which the row has a pixel of the register
 abbrev pub HasRowGroups : ℕ → List ℕ → ℕ → Type 0
 HasRowGroups register row groups =
     (x : ℕ) → x < length row → slice_index row x ≡ register → bit_at groups (x / 32) ≡ 1
 
--- and in which the band has one
+-- the same for a band
 abbrev pub HasBandGroups : PictureValue → ℕ → ℕ → ℕ → Type 0
 HasBandGroups p band register groups = (x row : ℕ) → x < p.width → row < band_rows
     → has_pixel p band register x row ≡ true → bit_at groups (x / 32) ≡ 1
 
--- the registers of the pixels from `from` up to `to` are marked, each by a bit for its group, and no others
+-- the registers of the pixels from `from` up to `to` were marked, each with the bit of its group, and no others
 pub record AreGroupsMarked (from to : ℕ) (pixels old new : List ℕ) : Type 0 where
   pub long : length new ≡ length old
   pub kept : (register group : ℕ) → bit_at (get_or old register 0) group ≡ 1
@@ -56,34 +56,34 @@ pub record AreGroupsMarked (from to : ℕ) (pixels old new : List ℕ) : Type 0 
 
 -- ---- repeats
 
--- four equal bytes stand here
+-- four equal bytes begin at index k
 abbrev pub are_four : List ℕ → ℕ → Bool
 are_four bytes k = (slice_index bytes k == slice_index bytes (k + 1))
     && ((slice_index bytes k == slice_index bytes (k + 2)) && (slice_index bytes k == slice_index bytes (k + 3)))
 
--- from none of the places from `from` up to `to` on four equal bytes stand
+-- at no index from `from` up to `to` do four equal bytes begin
 abbrev pub NoFour : ℕ → ℕ → List ℕ → Type 0
 NoFour from to bytes = (k : ℕ) → from ≤ k → k < to → k + 3 < length bytes → are_four bytes k ≡ false
 
--- the first place from `from` on at which four equal bytes stand
+-- the first index from `from` on at which four equal bytes begin
 pub record IsRepeatAt (from : ℕ) (bytes : List ℕ) (start : ℕ) : Type 0 where
   pub after : from ≤ start
   pub within : start + 3 < length bytes
   pub four : are_four bytes start ≡ true
   pub before : NoFour from start bytes
 
--- the same, if there is one before `to`
+-- the same, if there is one; otherwise there is none before `to`
 abbrev pub IsRepeat : ℕ → ℕ → List ℕ → Option ℕ → Type 0
 IsRepeat from to bytes found = MatchOption found (NoFour from to bytes) (IsRepeatAt from bytes)
 
--- the bytes from `start` up to `end` are equal, and the next one is another, if there is one
+-- the bytes from `start` up to `end` are equal, and the next one, if there is one, is different
 pub record IsRun (start end : ℕ) (bytes : List ℕ) : Type 0 where
   pub some : start < end
   pub within : end ≤ length bytes
   pub equal : (k : ℕ) → start ≤ k → k < end → slice_index bytes k ≡ slice_index bytes start
   pub ends : end < length bytes → slice_index bytes end ≢ slice_index bytes start
 
--- the bytes from `end` on are blank, and the last one before them that comes after `from` isn't
+-- the bytes from `end` on are blank, and the one before `end` isn't, unless `end` is `from`
 pub record IsInkEnd (from end : ℕ) (bytes : List ℕ) : Type 0 where
   pub after : from ≤ end
   pub within : end ≤ length bytes

@@ -1,4 +1,4 @@
-//! Writes a band: six rows of a picture, or fewer in the last one.
+//! Writes a band: six rows of a picture, or fewer in the last band.
 
 ghost use Rattle.std.specs.Prelude.{◌≡◌, ◌==◌, ◌+◌, ◌-◌, ◌<◌, ◌≤◌, ◌++◌, ◌∷◌, [], if◌then◌else◌, length};
 ghost use Rattle.std.specs.Prelude.{slice_index};
@@ -15,13 +15,13 @@ use sixel_grammar::{Command, Event, put_event};
 use sixel_io::{Block, DeviceFault, Sink};
 use sixel_model::Picture;
 
-/// The greatest width of a picture.
+/// The greatest width of a picture, in pixels.
 const MOST_COLUMNS: usize = 2048;
 
-/// Text on the way to a sink, which takes so many bytes at once.
+/// Text on its way to a sink, buffered in blocks of 65,536 bytes.
 pub(crate) type Text = Block<65_536>;
 
-/// Puts the registers of a band, each with its columns, and a carriage return between two.
+/// Writes the registers of a band, each with its columns, with a carriage return between two.
 pub(crate) fn put_band<K: Sink>(
     text: &mut Text,
     picture: &Picture,
@@ -47,7 +47,7 @@ pub(crate) fn put_band<K: Sink>(
     Ok(())
 }
 
-/// Puts a register and its columns, after a carriage return if it isn't the first.
+/// Writes a register and its columns, after a carriage return unless it is the first.
 fn put_next<K: Sink>(
     text: &mut Text,
     register: u8,
@@ -65,7 +65,7 @@ fn put_next<K: Sink>(
     put_register(text, register, sixels, out)
 }
 
-/// Puts the command, but nothing before the first of what it stands between.
+/// Writes the command as a separator: nothing before the first item.
 pub(crate) fn put_between<K: Sink>(
     text: &mut Text,
     is_first: bool,
@@ -83,7 +83,7 @@ pub(crate) fn put_between<K: Sink>(
     }
 }
 
-/// Puts a command.
+/// Writes a command.
 pub(crate) fn put_command<K: Sink>(
     text: &mut Text,
     command: Command,
@@ -96,7 +96,7 @@ pub(crate) fn put_command<K: Sink>(
     put_event(text, &Event::Step(command), out)
 }
 
-/// Puts a select, and the columns of the register.
+/// Writes a select, and the columns of the register.
 fn put_register<K: Sink>(
     text: &mut Text,
     register: u8,
@@ -118,8 +118,8 @@ fn select(register: u8) -> Command
     Command::Select(register.into())
 }
 
-/// Puts the columns up to the last one that has a bit: four or more of the same bits as a repeat, and any other as
-/// it stands.
+/// Writes the columns up to the last one with a set bit: four or more equal columns as a repeat, any others as single
+/// sixels.
 fn put_columns<K: Sink>(text: &mut Text, sixels: &[u8], out: &mut K) -> Result<(), DeviceFault>
     requires sixels { AreSixels sixels.now }
     requires few { length sixels.now ≤ most_side }
@@ -139,7 +139,7 @@ fn put_columns<K: Sink>(text: &mut Text, sixels: &[u8], out: &mut K) -> Result<(
     put_part(text, sixels, from, ink_end(sixels, from), out)
 }
 
-/// Puts columns as they stand.
+/// Writes columns as single sixels.
 #[inline]
 fn put_part<K: Sink>(
     text: &mut Text,
@@ -157,7 +157,7 @@ fn put_part<K: Sink>(
     text.put(&sixels[from..to], out)
 }
 
-/// Puts columns as they stand, and the repeat behind them.
+/// Writes columns as single sixels, then a repeat.
 fn put_until<K: Sink>(
     text: &mut Text,
     sixels: &[u8],
@@ -179,7 +179,7 @@ fn put_until<K: Sink>(
     put_repeat(text, (end - start) as u16, sixels[start] - b'?', out)
 }
 
-/// Puts so many columns of the same bits.
+/// Writes a repeat of `count` columns.
 fn put_repeat<K: Sink>(
     text: &mut Text,
     count: u16,

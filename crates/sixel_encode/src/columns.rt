@@ -1,4 +1,4 @@
-//! What a register has in a band: six rows of a picture, or fewer in the last one.
+//! The sixels of one register in a band: six rows of a picture, or fewer in the last band.
 
 ghost use Rattle.std.specs.Prelude.{◌≡◌, ◌+◌, ◌<◌, ◌≤◌, ℕ, length};
 ghost use Rattle.std.specs.Int.{bit_at};
@@ -10,9 +10,9 @@ use crate::lanes::LANES;
 use sixel_model::{BAND_ROWS, Picture};
 use std::simd::prelude::*;
 
-/// The sixels of a register in all columns of a band. Rows past the picture have no bits.
+/// The sixels of a register in all columns of a band. Rows below the picture have no bits.
 ///
-/// `groups` has a bit for each group of columns that has a pixel of the register.
+/// `groups` has a bit for each group of columns with a pixel of the register.
 pub(crate) fn find_sixels(
     sixels: &mut [u8],
     picture: &Picture,
@@ -34,7 +34,7 @@ pub(crate) fn find_sixels(
     }
 }
 
-/// Adds the bit to the sixels of the columns whose pixel of a row is of the register.
+/// Adds the bit to the sixels of the columns whose pixel in this row has the register.
 fn add_row(sixels: &mut [u8], row: &[u8], register: u8, groups: u64, bit: u8)
     requires width { length sixels.old ≡ length row.now }
     requires few { length row.now ≤ most_side }
@@ -49,7 +49,7 @@ fn add_row(sixels: &mut [u8], row: &[u8], register: u8, groups: u64, bit: u8)
     }
 }
 
-/// Does so in as many columns as whole groups hold, and tells where the rest begins.
+/// The same in all whole groups of columns. Returns where the rest begins.
 fn add_groups(sixels: &mut [u8], row: &[u8], register: u8, groups: u64, bit: u8) -> usize
     requires width { length sixels.old ≡ length row.now }
     requires few { length row.now ≤ most_side }
@@ -67,7 +67,7 @@ fn add_groups(sixels: &mut [u8], row: &[u8], register: u8, groups: u64, bit: u8)
     count * LANES
 }
 
-/// The first of so many groups from `from` on that has its bit, or their number if none has.
+/// The first of `count` groups, from `from` on, whose bit is set, or `count` if none is.
 #[inline]
 fn next_group(groups: u64, from: usize, count: usize) -> usize
     requires from { from ≤ count }

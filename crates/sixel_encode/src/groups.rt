@@ -1,4 +1,4 @@
-//! In which groups of columns a band has the pixels of a register.
+//! Which groups of columns of a band have pixels of a register.
 
 ghost use Rattle.std.specs.Prelude.{◌≡◌, ◌==◌, ◌+◌, ◌*◌, ◌<◌, ◌≤◌, ℕ, get_or, length, not};
 ghost use Rattle.sixel_model.specs.Geometry.{band_rows};
@@ -9,7 +9,7 @@ ghost use Rattle.sixel_encode.specs.Columns.{AreGroupsMarked, HasBandGroups};
 use crate::lanes::{LANES, is_uniform};
 use sixel_model::{BAND_ROWS, MOST_REGISTERS, Picture};
 
-/// For each register a mask: a bit for each group of columns in which the band has a pixel of it.
+/// For each register a mask, with a bit for each group of columns in which the band has a pixel of it.
 pub(crate) fn band_groups(picture: &Picture, band: u32) -> [u64; MOST_REGISTERS]
     requires { band < most_bands }
     ensures occurs { (register : ℕ) → register < MOST_REGISTERS →
@@ -40,7 +40,7 @@ fn mark_row(marks: &mut [u64; MOST_REGISTERS], pixels: &[u8])
     }
 }
 
-/// Marks the registers of as many pixels as whole groups hold, and tells where the rest begins.
+/// Marks the registers of all whole groups of pixels. Returns where the rest begins.
 fn mark_groups(marks: &mut [u64; MOST_REGISTERS], pixels: &[u8]) -> usize
     requires { length pixels.now ≤ most_side }
     ensures to { result ≤ length pixels.now }
@@ -53,7 +53,7 @@ fn mark_groups(marks: &mut [u64; MOST_REGISTERS], pixels: &[u8]) -> usize
     count * LANES
 }
 
-/// Marks the registers of a group, at once where they are the same.
+/// Marks the registers of a group, at once if all its pixels have the same one.
 fn mark_group(marks: &mut [u64; MOST_REGISTERS], pixels: &[u8], group: usize)
     requires few { length pixels.now ≤ most_side }
     requires within { group * LANES + LANES ≤ length pixels.now }

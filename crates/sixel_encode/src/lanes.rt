@@ -1,4 +1,4 @@
-//! Bytes that are equal, 32 lanes at a time.
+//! Finds equal bytes, 32 lanes at a time.
 
 ghost use Rattle.std.specs.Prelude.{◌≡◌, ◌==◌, ◌+◌, ◌<◌, ◌≤◌, ℕ, drop, length, not, slice_index, take, true};
 ghost use Rattle.std.specs.List.{prefix_len};
@@ -6,10 +6,10 @@ ghost use Rattle.sixel_plane.specs.Lanes.{IsFirst};
 
 use std::simd::prelude::*;
 
-/// How many columns are taken at once, as a group. A row has at most 64 groups.
+/// How many columns form a group, which is handled at once. A row has at most 64 groups.
 pub(crate) const LANES: usize = 32;
 
-/// The first other byte from `from` on.
+/// The index of the first byte from `from` on that isn't `byte`, if any.
 pub(crate) fn first_other(bytes: &[u8], from: usize, byte: u8) -> Option<usize>
     requires { from ≤ length bytes.now }
     ensures { IsFirst (λ b. not (b == byte)) from (length bytes.now) bytes.now result }
@@ -36,7 +36,7 @@ fn first_in_group(bytes: &[u8], at: usize, byte: u8) -> Option<usize>
     }
 }
 
-/// How many bytes of the group from `at` on come before the first other one.
+/// How many bytes of the group at `at` come before the first one that isn't `byte`.
 #[inline]
 fn equal_in_group(bytes: &[u8], at: usize, byte: u8) -> usize
     requires { at + LANES ≤ length bytes.now }
@@ -52,7 +52,7 @@ fn equal_in_group(bytes: &[u8], at: usize, byte: u8) -> usize
     }
 }
 
-/// Whether the bytes of the group from `at` on are all equal.
+/// Whether all bytes of the group at `at` are equal.
 #[inline]
 pub(crate) fn is_uniform(bytes: &[u8], at: usize) -> bool
     requires { at + LANES ≤ length bytes.now }

@@ -8,13 +8,14 @@ ghost use Rattle.sixel_encode.specs.Laws.{EventsCanBeWritten, ListsAreWhole, Lis
 ghost use Rattle.sixel_encode.specs.Laws.{RunsAreLongest, RunsGiveTheirRow, TextsAreDocuments, TextsAreShort};
 ghost use Rattle.sixel_encode.specs.Laws.{TextsHaveAtMost};
 
-/// The runs of a row give the row back, and each is as long as it can be.
+/// The runs of a row, joined, are the row, and each run is as long as it can be.
 pub fn runs_are_longest()
     ensures joined { RunsGiveTheirRow }
     ensures longest { RunsAreLongest }
 {}
 
-/// How long the text of a picture is at most: by its size and its palette, in all, and within the limit of a document.
+/// Bounds on the length of a picture's text: by size and palette, and for any picture. No text is over the limit of a
+/// document.
 pub fn texts_are_short()
     ensures bound { (profile : Profile) → TextsAreShort (count_of profile) }
     ensures most { TextsHaveAtMost 11234326 (count_of Registers16) }
@@ -22,15 +23,15 @@ pub fn texts_are_short()
     ensures within_limit { (profile : Profile) → TextsHaveAtMost most_bytes (count_of profile) }
 {}
 
-/// The canonical list of a picture is a start, commands and a finish, each of which can be written; and the text of a
-/// picture is a document of just this list.
+/// The canonical list of a picture is a start, commands and a finish. Each of them can be written, and the text of the
+/// picture is a document of exactly this list.
 pub fn canonical_lists_can_be_written()
     ensures whole { ListsAreWhole }
     ensures each { (profile : Profile) → EventsCanBeWritten (count_of profile) }
     ensures documents { (profile : Profile) → TextsAreDocuments (count_of profile) }
 {}
 
-/// The canonical list of a picture breaks no rule, and what it leaves is the picture, its palette included.
+/// The canonical list of a picture breaks no rule, and the picture that it leaves is the same, with its palette.
 pub fn canonical_lists_lead_back()
     ensures unbroken { (profile : Profile) → ListsBreakNoRule (count_of profile) }
     ensures left { (profile : Profile) → ListsLeaveTheirPicture (count_of profile) }

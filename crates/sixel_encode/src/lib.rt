@@ -1,4 +1,4 @@
-//! Pictures as sixel text (DEC EK-VT3XX-GP, volume 2, the chapter on sixel graphics), one text for each picture.
+//! Pictures as sixel text (DEC EK-VT3XX-GP-002, the chapter on sixel graphics), exactly one text for each picture.
 #![tactic(auto)]
 
 mod band;

@@ -1,4 +1,4 @@
-//! Where columns of the same bits stand in a row of sixels.
+//! Finds equal columns in a row of sixels.
 
 ghost use Rattle.std.specs.Prelude.{◌≡◌, ◌+◌, ◌<◌, ◌≤◌, length, true};
 ghost use Rattle.sixel_encode.specs.Columns.{IsInkEnd, IsRepeat, IsRun, NoFour, are_four};
@@ -6,10 +6,10 @@ ghost use Rattle.sixel_encode.specs.Columns.{IsInkEnd, IsRepeat, IsRun, NoFour, 
 use crate::lanes::{LANES, first_other};
 use std::simd::prelude::*;
 
-/// The fewest columns of the same bits that are a repeat.
+/// The fewest equal columns that become a repeat.
 const LEAST_REPEAT: usize = 4;
 
-/// Where the first repeat from `from` on begins.
+/// Where the first repeat from `from` on begins, if there is one.
 pub(crate) fn find_repeat(sixels: &[u8], from: usize) -> Option<usize>
     requires { from ≤ length sixels.now }
     ensures { IsRepeat from (length sixels.now) sixels.now result }
@@ -37,7 +37,7 @@ fn repeat_in_group(sixels: &[u8], at: usize) -> Option<usize>
     }
 }
 
-/// How many columns of the group from `at` on come before the first at which a repeat begins.
+/// How many columns of the group at `at` come before the first one at which a repeat begins.
 #[inline]
 fn singles_in_group(sixels: &[u8], at: usize) -> usize
     requires { at + LANES + 3 ≤ length sixels.now }
@@ -71,7 +71,7 @@ fn repeat_in_rest(sixels: &[u8], from: usize) -> Option<usize>
     None
 }
 
-/// Whether a repeat begins here.
+/// Whether a repeat begins at `start`.
 #[inline]
 fn is_repeat(sixels: &[u8], start: usize) -> bool
     requires { start + 3 < length sixels.now }
@@ -81,7 +81,7 @@ fn is_repeat(sixels: &[u8], start: usize) -> bool
     first == sixels[start + 1] && (first == sixels[start + 2] && first == sixels[start + 3])
 }
 
-/// Where the run of equal columns ends that begins at `start`.
+/// The end of the run of equal columns that begins at `start`.
 #[inline]
 pub(crate) fn run_end(sixels: &[u8], start: usize) -> usize
     requires { start < length sixels.now }
@@ -93,7 +93,7 @@ pub(crate) fn run_end(sixels: &[u8], start: usize) -> usize
     }
 }
 
-/// Where the columns from `from` on end, without the blank ones at their end.
+/// The end of the columns from `from` on, without the blank ones after the last set bit.
 pub(crate) fn ink_end(sixels: &[u8], from: usize) -> usize
     requires { from ≤ length sixels.now }
     ensures { IsInkEnd from result sixels.now }

@@ -15,18 +15,18 @@ use sixel_grammar::{Command, Event, put_event};
 use sixel_io::{DeviceFault, Sink};
 use sixel_model::{BAND_ROWS, Palette, Parts, Picture};
 
-/// Why a picture was not written to its end.
+/// Why a picture wasn't written to its end.
 #[derive(Clone, Copy, Debug, PartialEq, Eq)]
 pub enum EncodeFault {
     /// The sink failed. It took a prefix of the text.
     Write = 1,
 }
 
-/// Writes a picture as a sixel text: the same one for equal pictures, with all entries of its palette. Takes no memory
-/// and doesn't flush.
+/// Writes a picture as sixel text. Equal pictures have the same text, and it has all entries of the palette. Allocates
+/// nothing and doesn't flush.
 ///
-/// The text declares the size and the colours, and then paints each band of six rows register by register, in
-/// increasing order. Each pixel is painted once, in the register that it has.
+/// The text declares the size and the colours. Then it paints each band of six rows, register by register in increasing
+/// order. Each pixel is painted once, in its own register.
 pub fn encode<K: Sink>(picture: &Picture, out: &mut K) -> Result<(), EncodeFault>
     ensures written { Writes result (K.state out.old) (K.state out.new) (canon_text picture.now) }
     ensures held { OnOk result ((K.state out.new).is_flushed ≡ false) }
@@ -61,7 +61,7 @@ fn put_commands<K: Sink>(text: &mut Text, picture: &Picture, out: &mut K) -> Res
     put_bands(text, picture, out)
 }
 
-/// Puts the raster attributes and the definitions.
+/// Writes the raster attributes and the definitions.
 fn put_opening<K: Sink>(text: &mut Text, picture: &Picture, out: &mut K) -> Result<(), DeviceFault>
     ensures { WritesThrough result (K.state out.old) (K.state out.new) text.old text.new
         (commands_text (opening_commands picture.now)) }
@@ -93,7 +93,7 @@ fn raster(picture: &Picture) -> Command
     }
 }
 
-/// Puts a definition for each entry of the palette.
+/// Writes a definition for each entry of the palette.
 fn put_definitions<K: Sink>(
     text: &mut Text,
     picture: &Picture,
@@ -146,7 +146,7 @@ fn define(register: u8, parts: Parts) -> Command
     }
 }
 
-/// Puts the bands of a picture, and a next line between two.
+/// Writes the bands of a picture, with a new line between two.
 fn put_bands<K: Sink>(text: &mut Text, picture: &Picture, out: &mut K) -> Result<(), DeviceFault>
     ensures { WritesThrough result (K.state out.old) (K.state out.new) text.old text.new
         (commands_text (picture_commands picture.now)) }
@@ -157,7 +157,7 @@ fn put_bands<K: Sink>(text: &mut Text, picture: &Picture, out: &mut K) -> Result
     Ok(())
 }
 
-/// Puts a band, after a next line if it isn't the first.
+/// Writes a band, after a new line unless it is the first.
 fn put_next_band<K: Sink>(
     text: &mut Text,
     picture: &Picture,

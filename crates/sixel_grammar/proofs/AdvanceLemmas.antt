@@ -1,4 +1,4 @@
--- What a prefix ends in after one byte more.
+-- What a prefix ends in after one more byte.
 use Rattle.std.proofs.Common.{◌≡◌, ℕ, ◌+◌, ◌-◌, ◌<◌, ◌≤◌, true, false, eqb, leb, ltb, List, [], ◌∷◌, ◌++◌, length}
 use Rattle.std.proofs.Common.{Option, Some, None, refl, ap, ◌∙◌, arith, inl, inr, append_assoc, length-append}
 use Rattle.std.specs.Prelude.{◌&&◌, if◌then◌else◌}
@@ -18,12 +18,12 @@ use Rattle.sixel_grammar.specs.Next.{with_digit, begin, within, settled, chosen,
 use Rattle.sixel_grammar.proofs.NumberLemmas.{no_digits, number-more, fields-more, fields-separator}
 use Rattle.sixel_grammar.proofs.PieceLemmas.{Loose, loosen, grow, fill, close, settle, begun-step, begun-finish}
 
--- the events, and the one that is done
+-- the events, then the completed one
 abbrev pub with_done : List Placed → ℕ → Option Event → List Placed
 with_done events opened None = events
 with_done events opened (Some e) = events ++ record { place = opened; event = e } ∷ []
 
--- what is so after the byte, if it is accepted
+-- what holds after the byte, if it is accepted
 abbrev pub Goes : List Placed → ℕ → List ℕ → ℕ → Option (Form × Option Event) → Type 0
 Goes events opened bytes b None = Unit {0}
 Goes events opened bytes b (Some x) =
@@ -76,11 +76,11 @@ begins {events} {opened} {bytes} e b =
 both_of : (b c k m : ℕ) → (eqb b c && ltb k m) ≡ true → (b ≡ c) × (k < m)
 both_of b c k m h = grind (arith, nat_tests)
 
--- what is open, whose bytes are a prefix and then fields, goes on with a byte
+-- bytes that are a lead and then fields stay so with one more byte
 lead-more : (text lead fields : List ℕ) (b : ℕ) → text ≡ lead ++ fields → text ++ b ∷ [] ≡ lead ++ (fields ++ b ∷ [])
 lead-more text lead fields b e = ap (λ (t : List ℕ). t ++ b ∷ []) e ∙ append_assoc lead fields (b ∷ [])
 
--- fields behind what begins them, of which the last may grow
+-- fields after a lead; the last field may grow
 abbrev FieldsOpen : List ℕ → ℕ → List ℕ → ℕ → List ℕ → Type 0
 FieldsOpen lead most ns n bytes =
     (fields : List ℕ) × Fields (ns ++ n ∷ []) fields × (length ns ≤ most) × (bytes ≡ lead ++ fields)
@@ -236,7 +236,7 @@ goes_on Ended {events} {opened} {bytes} e b =
     let P : Option (Form × Option Event) → Type 0 = Goes events opened bytes b in
     cond_both (is_filler b) _ _ P (λ t. fill e b Ended e.opens t refl e.before) (λ _. tt)
 
--- what is open is whole as it stands, if it settles
+-- what is open is a whole command as it is, if it has all its fields
 abbrev pub SettlesAs : List Placed → ℕ → List ℕ → Option Event → Type 0
 SettlesAs events opened bytes None = Unit {0}
 SettlesAs events opened bytes (Some event) =
@@ -279,12 +279,12 @@ settles (ColourFields (a ∷ b ∷ c ∷ d ∷ k ∷ ns) n) e = tt
 settles Terminating e = tt
 settles Ended e = tt
 
--- where an event stands that the byte begins, after the one that the byte ends
+-- the offset of the byte's own event: that of the byte if it ends a command, otherwise `opened`
 abbrev pub second_place : ℕ → List ℕ → Option Event → ℕ
 second_place opened bytes None = opened
 second_place opened bytes (Some event) = length bytes
 
--- what is so after the byte, if it is accepted
+-- what holds after the byte, if it is accepted
 abbrev pub GoesTo : List Placed → ℕ → List ℕ → ℕ → Option (Option Event × Form × Option Event) → Type 0
 GoesTo events opened bytes b None = Unit {0}
 GoesTo events opened bytes b (Some x) =

@@ -1,4 +1,4 @@
--- What a byte does, told by what it only grows and what it makes whole.
+-- `next_of` by cases: the byte completes nothing, or completes an event.
 use Rattle.std.proofs.Common.{◌≡◌, Option, Some, None, refl, ap, ◌∙◌, ℕ}
 use Rattle.std.specs.Prelude.{OnSome}
 use Rattle.std.specs.Option.{option_map}
@@ -22,11 +22,11 @@ neither-is None h k = refl
 neither-is (Some (g, None)) h k = cc
 neither-is (Some (g, Some e)) h k = cc
 
--- a byte that goes on with what is open
+-- a byte that continues what is open
 pub goes-on : (f g : Form) (b : ℕ) (d : Option Event) → within f b ≡ Some (g, d) → next_of f b ≡ Some (None, g, d)
 goes-on f g b d h = ap (λ (v : Option (Form × Option Event)). chosen v (settled f) (begin b)) h
 
--- a byte that neither goes on with what is open nor ends it
+-- a byte that neither continues what is open nor ends it
 pub stops : (f : Form) (b : ℕ) → only_grown (within f b) ≡ None → only_whole (within f b) ≡ None
     → OnSome (settled f) (only_grown (begin b) ≡ None) → OnSome (settled f) (only_whole (begin b) ≡ None)
     → next_of f b ≡ None

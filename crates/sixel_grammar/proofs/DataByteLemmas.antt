@@ -1,4 +1,4 @@
--- On data bytes after each other, and on groups of bytes looked at at once.
+-- Runs of data bytes, and groups of bytes tested at once.
 use Rattle.std.proofs.Common.{◌≡◌, ◌≢◌, ℕ, ◌+◌, ◌-◌, ◌%◌, ◌^◌, ◌<◌, ◌≤◌, Bool, true, false, not, cond, List, length}
 use Rattle.std.proofs.Common.{get_or, map, replicate, w8, inl, inr, leb, sym, ap, ◌∙◌, arith, Fits}
 use Rattle.std.specs.List.{prefix_len}
@@ -16,7 +16,7 @@ use Rattle.sixel_grammar.specs.Stretches.{CountsDataBytes}
 abbrev pub less : ℕ → ℕ → ℕ
 less a b = (a + (256 - b)) % 256
 
--- the byte is none of the 64 from `?` on
+-- the byte isn't one of the 64 from `?` on
 abbrev pub outside : ℕ → Bool
 outside b = leb 64 (less b 63)
 
@@ -51,7 +51,7 @@ lanes_outside v long =
     ∙ ap (map (leb 64)) splat ∙ map-map (leb 64) (λ x. less x 63) v)
     ∙ mask_l-mod (map outside v) 64 few
 
--- data bytes of lanes are those of bytes
+-- the data bytes that a group of lanes counts are those of the bytes
 data_bytes_there : (from r : ℕ) (bytes : List ℕ) → from + 16 ≤ length bytes → ((k : ℕ) → Fits w8 (get_or bytes k 0))
     → r ≡ prefix_len (λ x. not (outside x)) (chunk from 16 bytes) → CountsDataBytes bytes from 16 r
 data_bytes_there from r bytes room fits is = record {

@@ -1,4 +1,4 @@
--- Whole documents and their prefixes are walked in one way alone.
+-- The walk over a document or a prefix of one is unique.
 use Rattle.std.proofs.Common.{◌≡◌, ℕ, ◌+◌, ◌<◌, ◌≤◌, Bool, true, false, cond, ltb, List, [], ◌∷◌, ◌++◌, length, Option}
 use Rattle.std.proofs.Common.{Some, None, refl, sym, ap, subst, ◌∙◌, append_assoc, arith, length-append, inl, inr}
 use Rattle.std.specs.Prelude.{◌⊎◌, IsTrue}
@@ -30,7 +30,7 @@ use Rattle.sixel_grammar.proofs.WalkLemmas.{colour-digits, colour-separators, pa
 use Rattle.sixel_grammar.proofs.WalkLemmas.{is_data-bits, Ready, Rests, command-reaches}
 use Rattle.sixel_grammar.proofs.PieceLemmas.{start_of}
 
--- the events of pieces that stand from n on, each with the number of bytes with which it is complete
+-- the events of pieces from offset n on, each with the number of bytes that complete it
 abbrev pub stamped_from : ℕ → List Piece → List Stamp
 stamped_from n [] = []
 stamped_from n (p ∷ ps) = stamp (completed_at n p) (n + length p.filler) p.event ∷ stamped_from
@@ -47,7 +47,7 @@ filler_not_data b h = grind (arith, nat_tests)
 begin-filler : (b : ℕ) → is_filler b ≡ true → begin b ≡ Some (NoCommand, None)
 begin-filler b h = cond-false (is_data b) _ _ (filler_not_data b h) ∙ cond-true (is_filler b) _ _ h
 
--- filler keeps a form in which nothing is open, and what opens next opens after it
+-- filler keeps a form in which nothing is open; the next thing opens after the filler
 filler_walk : (f : Form) → is_idle f ≡ true → ((b : ℕ) → is_filler b ≡ true → within f b ≡ Some (f, None))
     → (n : ℕ) (s : List Stamp) (xs : List ℕ) → AreFiller xs
     → walk n (Some (state f n s)) xs ≡ Some (state f (n + length xs) s)
@@ -71,7 +71,7 @@ ended-filler n s xs k = filler_walk Ended refl (λ b t. cond-true (is_filler b) 
 
 -- ---- from a ready state
 
--- the first byte may stand where no command is open
+-- the first byte is allowed when no command is open
 abbrev pub Begins : List ℕ → Type 0
 Begins [] = ⊥
 Begins (b ∷ bs) = (x : Form × Option Event) × (begin b ≡ Some x)
@@ -131,18 +131,18 @@ step_piece n st s filler text (Step c) r k spells more h =
     )
 step_piece n st s filler text (Finish eight) r k spells more h = absurd h
 
--- after pieces of which the last is p or one of ps
+-- after pieces: the state is ready, and it is idle or needs a byte after the last piece
 abbrev pub Settles : List Piece → ℕ → List Stamp → State → Type 0
 Settles ps n s u = Ready n u s × ((Some u ≡ idle n s) ⊎ ((j : ℕ) → IsClosed ps j → 0 < j))
 
--- a fact on how many bytes were walked, on the events of pieces and on the state after them
+-- a statement about the number of bytes walked, the events of pieces and the state after them
 abbrev pub Fact : Type 1
 Fact = ℕ → List Stamp → Option State → Type 0
 
 abbrev pub HoldsAfter : Fact → ℕ → List Stamp → Option State → List Piece → Type 0
 HoldsAfter F n s w ps = F (n + length (joined ps)) (s ++ stamped_from n ps) (walk n w (joined ps))
 
--- one piece, and then the others
+-- one piece, then the others
 holds-more : (F : Fact) (ps : List Piece) (p : Piece) (n : ℕ) (s : List Stamp) (w v : Option State)
     → walk n w (bytes_of p) ≡ v
     → HoldsAfter F (n + length (bytes_of p)) (s ++ stamp (completed_at n p) (n + length p.filler) p.event ∷ []) v ps
@@ -218,7 +218,7 @@ finish_piece n st s filler text eight r k spells =
     ∙ ap (λ (i : ℕ). Some (state Ended i (s ++ stamp (n + length filler + length text) m (Finish eight) ∷ []))) end
     ∙ ap (λ (j : ℕ). Some (state Ended (n + length ((filler ++ text) ++ [])) (s ++ stamp j m (Finish eight) ∷ []))) done
 
--- a piece of the rest of a document is a step or the finish, and then no more follow
+-- a piece after the start is a step, or the finish, which is the last one
 rest_piece : (n : ℕ) (st : State) (s : List Stamp) (filler text : List ℕ) (event : Event) → Ready n st s
     → AreFiller filler → Spells event text → (more : List Event) → AreRest (event ∷ more)
     → (PieceReaches n st s (record { filler = filler; text = text; event = event }) × AreRest more) ⊎
@@ -257,7 +257,7 @@ parameters_walk n m eight ns k fields f le =
     (fields_walk (Parameters eight) 2 (parameters-digits eight) (parameters-separators eight)
     (n + length (introducer eight)) m [] ns k [] fields f (omega arith))
 
--- from parameters on: `q`, or after three of them `;q`
+-- after the parameters: `q`, or `;q` if there are three
 last_walk : (n m : ℕ) (eight : Bool) (ns : List ℕ) (k : ℕ) (last : List ℕ) → length ns ≤ 2
     → ((last ≡ 113 ∷ []) ⊎ ((last ≡ 59 ∷ 113 ∷ []) × (length (ns ++ k ∷ []) ≡ 3)))
     → walk n (Some (state (Parameters eight ns k) m [])) last
@@ -372,7 +372,7 @@ document_walk ps bytes d =
 abbrev Walked : Form → ℕ → List ℕ → List Piece → Type 0
 Walked f opened bytes ps = walk 0 start bytes ≡ Some (state f opened (stamped_from 0 ps))
 
--- before the start
+-- forms before the start
 early : (f : Form) {events : List Placed} {opened : ℕ} {bytes : List ℕ} (e : EndsIn f events opened bytes)
     → events_in e.pieces ≡ []
     → ((n m : ℕ) → walk n (Some (state NothingYet m [])) e.open_bytes ≡ Some (state f m []))
@@ -387,7 +387,7 @@ early f {opened = opened} e none w =
     ∙ ap (λ (j : ℕ). Some (state f j [])) z
     ∙ ap (λ (t : List Piece). Some (state f opened (stamped_from 0 t))) (sym ps)
 
--- filler and what is open, after pieces
+-- after pieces: filler, then what is open
 settles-then : (n m : ℕ) (u : State) (s : List Stamp) (ps : List Piece) (filler text : List ℕ) (v : Option State)
     → Settles ps n s u → AreFiller filler → (text ≡ []) ⊎ Begins text → IsClosed ps (length filler + length text)
     → m ≡ n + length filler → walk m (idle m s) text ≡ v → walk n (Some u) (filler ++ text) ≡ v
@@ -407,7 +407,7 @@ settles-then n m u s ps filler text v l k h closed e w =
           ready-then n m u s filler text v l.0 k b e w
     ]
 
--- after the start
+-- forms after the start
 late : (f : Form) {events : List Placed} {opened : ℕ} {bytes : List ℕ} (e : EndsIn f events opened bytes)
     → AreBegun (events_in e.pieces) → (e.open_bytes ≡ []) ⊎ Begins e.open_bytes
     → ((m : ℕ) (s : List Stamp) → walk m (idle m s) e.open_bytes ≡ Some (state f m s))
@@ -433,7 +433,7 @@ last_parameters n m eight (a ∷ b ∷ c ∷ []) fields f e =
     (parameters_walk n m eight (a ∷ b ∷ []) c fields f (omega arith)) refl
 last_parameters n m eight (a ∷ b ∷ c ∷ d ∷ ns) fields f e = absurd (omega arith)
 
--- what ends in a whole document is one
+-- the bytes of an ended string are its pieces and then filler
 ended_bytes : {events : List Placed} {opened : ℕ} {bytes : List ℕ} (e : EndsIn Ended events opened bytes)
     → bytes ≡ joined e.pieces ++ e.filler
 ended_bytes e =
@@ -450,7 +450,7 @@ ended_parses e = record {
   after_is = e.filler_is;
 }
 
--- what ends in a form is walked to it
+-- the walk over bytes that end in a form reaches that form
 pub ends_walk : (f : Form) {events : List Placed} {opened : ℕ} {bytes : List ℕ} (e : EndsIn f events opened bytes)
     → walk 0 start bytes ≡ Some (state f opened (stamped_from 0 e.pieces))
 ends_walk NothingYet e = early NothingYet e e.before (λ n m. ap (walk n (Some (state NothingYet m []))) e.opens)
@@ -488,7 +488,7 @@ ends_walk Ended {events} {opened} {bytes} e =
     document_walk e.pieces bytes (ended_parses e)
     ∙ ap (λ (j : ℕ). Some (state Ended j (stamped_from 0 e.pieces))) long
 
--- no document goes on with a byte that is not accepted
+-- no document continues with a byte that isn't accepted
 pub not_viable : (f : Form) {events : List Placed} {opened : ℕ} {bytes : List ℕ}
     (e : EndsIn f events opened bytes) (b : ℕ) (more : List ℕ)
     → next_of f b ≡ None → IsViable (bytes ++ b ∷ more) → ⊥

@@ -1,4 +1,4 @@
--- Fixed spellings, joined, are a document of just these events.
+-- Joined fixed spellings are a document of exactly these events.
 use Rattle.std.proofs.Common.{◌≡◌, ℕ, ◌+◌, ◌≤◌, List, [], ◌∷◌, ◌++◌, length, refl, sym, ap, subst, ◌∙◌, append_assoc}
 use Rattle.std.proofs.Common.{arith}
 use Rattle.std.specs.List.{AllByRecursion}

@@ -1,4 +1,4 @@
--- What a byte completes that is no plain one: more than a sixel or a repeat alone, if it may come.
+-- What a byte that isn't plain completes, if it is accepted: more than a single sixel or repeat.
 use Rattle.std.proofs.Common.{◌≡◌, ◌∙◌, ◌<◌, ℕ, Bool, true, false, eqb, leb, ltb, List, [], ◌∷◌, ◌++◌, length, Option}
 use Rattle.std.proofs.Common.{Some, None, refl, sym, ap, subst, arith, length-append}
 use Rattle.std.specs.Prelude.{◌&&◌}
@@ -48,7 +48,7 @@ begins_none b other =
 digit_none : (form : ℕ → Form) (n b : ℕ) → No (number_next form n b)
 digit_none form n b = cond_both (leb (with_digit n b) 65535) _ _ No (λ _. refl) (λ _. refl)
 
--- a byte that goes on with what is open
+-- a byte that continues what is open
 whole_none : (f : Form) (b : ℕ) → makes_columns f b ≡ false → No (within f b)
 whole_none NothingYet b other =
     cond_both (is_filler b) _ _ No (λ _. refl)
@@ -76,13 +76,13 @@ whole_none (ColourFields ns n) b other =
 whole_none Terminating b other = cond_both (eqb b 92) _ _ No (λ _. refl) (λ _. refl)
 whole_none Ended b other = cond_both (is_filler b) _ _ No (λ _. refl) (λ _. refl)
 
--- a command that a byte ends is neither a sixel nor a repeat
+-- a command that the next byte ends is neither a sixel nor a repeat
 settled_none : (f : Form) → ended_columns (settled f) ≡ false
 settled_none (RasterFields (a ∷ b ∷ c ∷ d ∷ more) e) = refl
 settled_none (ColourFields (a ∷ b ∷ c ∷ d ∷ e ∷ more) g) = refl
 settled_none _ = refl
 
--- what the byte does completes these events
+-- a byte that does this completes these events
 abbrev pub Completes : ℕ → ℕ → Option (Option Event × Form × Option Event) → List Placed → Type 0
 Completes opened n None done = ⊥
 Completes opened n (Some x) done = completed_events opened n x.0 x.2 ≡ done
@@ -106,7 +106,7 @@ came f events opened bytes b done (Some x) h e c =
     let same = complete_once (bytes ++ b ∷ []) _ (events ++ done) (complete x.1 went) c in
     append_cancel_left events _ done (sym (handed events opened (length bytes) bytes x.0 x.2 refl) ∙ same)
 
--- what a reader owes of the events of a byte that is taken: it may come, and completes them
+-- if a reader takes the byte, the byte may come and completes these events
 pub completed : (r q : Reader) (events done : List Placed) (bytes : List ℕ) (b : ℕ) → StandsAfter r events bytes
     → StandsAfter q (events ++ done) (bytes ++ b ∷ [])
     → (0 < r.left)

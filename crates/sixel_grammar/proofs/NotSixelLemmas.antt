@@ -1,4 +1,4 @@
--- What a byte completes that is no sixel by itself: nothing, a repeat alone, or more.
+-- What a byte that isn't a single sixel completes: nothing, a repeat, or more.
 use Rattle.std.proofs.Common.{◌≡◌, ℕ, ◌-◌, ◌<◌, false, leb, List, [], ◌∷◌, ◌++◌, length, Option, Some, None}
 use Rattle.std.proofs.Common.{refl, ap}
 use Rattle.std.proofs.lemmas.Bool.{cond_both}
@@ -18,7 +18,7 @@ use Rattle.sixel_grammar.proofs.NotPlainLemmas.{Completes, completed, not_plain}
 abbrev sixel_at : ℕ → ℕ → List Placed
 sixel_at place bits = record { place = place; event = Step (Sixel bits) } ∷ []
 
--- what completes a sixel completes something
+-- a byte that completes a sixel completes something
 not_grown : (opened n place bits : ℕ) (w : Option (Form × Option Event)) (s : Option Event)
     (y : Option (Form × Option Event)) → Completes opened n (chosen w s y) (sixel_at place bits) → only_grown w ≡ None
 not_grown opened n place bits None s y c = refl
@@ -28,7 +28,7 @@ not_grown opened n place bits (Some (f, Some e)) s y c = refl
 same_event : (p q : Placed) → p ∷ [] ≡ q ∷ [] → p.event ≡ q.event
 same_event p q e = let same : p ≡ q = cc in ap (λ (r : Placed). r.event) same
 
--- what completes a sixel ends no repeat
+-- a byte that completes a sixel ends no repeat
 no_columns : (opened n place bits : ℕ) (f : Form) (b : ℕ) → makes_sixel f b ≡ false
     → Completes opened n (next_of f b) (sixel_at place bits) → makes_columns f b ≡ false
 no_columns opened n place bits NoCommand b other = λ c. other
@@ -41,7 +41,7 @@ no_columns opened n place bits (RepeatNumber k) b other =
     (λ _. λ c. let same : Step (Repeat k (b - 63)) ≡ Step (Sixel bits) = same_event _ _ c in cc) (λ no. λ c. no))
 no_columns opened n place bits _ b other = λ c. refl
 
--- where the byte is no sixel by itself, or none may come
+-- the byte isn't a single sixel, or no byte may come
 pub not_sixel : (r q : Reader) (events : List Placed) (bytes : List ℕ) (b place bits : ℕ)
     → (0 < r.left → makes_sixel (form_of r.pending) b ≡ false)
     → StandsAfter r events bytes

@@ -1,5 +1,5 @@
--- Pieces with one more at the end, and what a prefix that ends in a form is after one byte more. Nothing here knows
--- which bytes spell which event.
+-- Adding a piece at the end, and what a prefix ends in after one more byte. Nothing here depends on which bytes spell
+-- which event.
 use Rattle.std.proofs.Common.{◌≡◌, ℕ, ◌+◌, ◌<◌, ◌≤◌, Bool, false, List, [], ◌∷◌, ◌++◌, length, refl, sym, ap, ◌∙◌}
 use Rattle.std.proofs.Common.{append_assoc, arith, length-append}
 use Rattle.std.specs.Prelude.{IsTrue}
@@ -91,7 +91,7 @@ closed-some [] n h = tt
 closed-some (p ∷ []) n h = λ t. h
 closed-some (p ∷ q ∷ ps) n h = closed-some (q ∷ ps) n h
 
--- as EndsIn, but the next byte may still lengthen the last piece
+-- like EndsIn, but the next byte may still lengthen the last piece
 pub record Loose (form : Form) (events : List Placed) (opened : ℕ) (bytes : List ℕ) : Type 0 where
   pub pieces : List Piece
   pub filler : List ℕ
@@ -120,7 +120,7 @@ loosen e =
       opened_is = e.opened_is;
     }
 
--- the open piece grows by a byte
+-- the byte continues the open piece
 pub grow : {f : Form} {events : List Placed} {opened : ℕ} {bytes : List ℕ} (e : Loose f events opened bytes)
     (b : ℕ) (g : Form)
     → Opens g (e.open_bytes ++ b ∷ []) → Precede g (events_in e.pieces) → EndsIn g events opened (bytes ++ b ∷ [])
@@ -140,7 +140,7 @@ grow e b g opens before = record {
   opened_is = e.opened_is;
 }
 
--- filler grows by a byte
+-- the byte is more filler
 pub fill : {f : Form} {events : List Placed} {opened : ℕ} {bytes : List ℕ} (e : Loose f events opened bytes)
     (b : ℕ) (g : Form)
     → e.open_bytes ≡ [] → IsTrue (is_filler b) → Opens g [] → Precede g (events_in e.pieces)
@@ -167,7 +167,7 @@ fill {bytes} e b g none is opens before =
           (arith, ap length whole, length-append (joined e.pieces) e.filler, length-append e.filler (b ∷ []));
     }
 
--- the open piece is whole with the byte
+-- the byte completes the open piece
 pub close : {f : Form} {events : List Placed} {opened : ℕ} {bytes : List ℕ} (e : Loose f events opened bytes)
     (b : ℕ) (event : Event) (g : Form)
     → Spells event (e.open_bytes ++ b ∷ []) → is_open_ended event ≡ false → Opens g []
@@ -197,7 +197,7 @@ close {events = events} {opened = opened} {bytes = bytes} e b event g spells shu
       opened_is = omega (arith, ap length whole, length-append bytes (b ∷ []));
     }
 
--- the open piece is whole as it stands
+-- the open piece is whole as it is
 pub settle : {f : Form} {events : List Placed} {opened : ℕ} {bytes : List ℕ} (e : Loose f events opened bytes)
     (event : Event)
     → Spells event e.open_bytes → AreBegun (events_in e.pieces ++ event ∷ [])

@@ -1,4 +1,4 @@
--- Each prefix of what is viable is viable.
+-- Each prefix of a viable list is viable.
 use Rattle.std.proofs.Common.{◌≡◌, ℕ, ◌+◌, List, [], ◌∷◌, ◌++◌, length, Option, Some, None, refl, sym, ap, subst, ◌∙◌}
 use Rattle.std.proofs.Common.{append_assoc, inl, inr}
 use Rattle.std.specs.Prelude.{◌⊎◌}

@@ -1,4 +1,4 @@
--- What a reader that stands after some bytes owes at a stretch of sixels.
+-- What a reader must ensure when it takes a run of sixels.
 use Rattle.std.proofs.Common.{cond, ◌≡◌, ◌∙◌, ℕ, ◌+◌, ◌-◌, ◌<◌, ◌≤◌, true, false, List, [], ◌∷◌, ◌++◌, length, get_or}
 use Rattle.std.proofs.Common.{take, Some, None, refl, sym, ap, subst, arith, length-append, append_assoc, suc}
 use Rattle.std.proofs.lemmas.Bool.{cond-true}
@@ -18,7 +18,7 @@ use Rattle.sixel_grammar.specs.Stretches.{AreData, CountsDataBytes, TakesSixels,
 use Rattle.sixel_grammar.proofs.AdvanceLemmas.{GoesTo, advances}
 use Rattle.sixel_grammar.proofs.ChoiceLemmas.{goes-on}
 
--- one sixel more
+-- one more sixel
 sixel_ends : (events : List Placed) (n : ℕ) (bytes : List ℕ) (b : ℕ) → n ≡ length bytes → is_data b ≡ true
     → EndsIn NoCommand events n bytes
     → EndsIn NoCommand (events ++ record { place = n; event = Step (Sixel (b - 63)) } ∷ []) (n + 1) (bytes ++ b ∷ [])
@@ -30,7 +30,7 @@ sixel_ends events n bytes b at t e =
     subst (λ (k : ℕ). EndsIn NoCommand (events ++ record { place = n; event = event } ∷ []) (k + 1) (bytes ++ b ∷ []))
     (sym at) went
 
--- a stretch of them
+-- a run of sixels
 sixels_end : (prefix : List ℕ) (events : List Placed) (n : ℕ) (bytes : List ℕ) → n ≡ length bytes
     → ((k : ℕ) → k < length prefix → is_data (get_or prefix k 0) ≡ true)
     → EndsIn NoCommand events n bytes
@@ -54,7 +54,7 @@ sixels_end (b ∷ prefix) events n bytes at each e =
     (n + 1 + length prefix) bs)
     (append_assoc bytes (b ∷ []) prefix) rest))
 
--- a reader that takes as many bytes as may come, all of them sixels by themselves
+-- a reader takes no more bytes than may come, all of them single sixels
 pub sixels : (r q : Reader) (place : ℕ) (prefix : List ℕ) → place ≡ most_bytes - r.left → form_of r.pending ≡ NoCommand
     → q.pending ≡ r.pending → q.fault ≡ r.fault
     → length prefix ≤ r.left → q.left ≡ r.left - length prefix
@@ -87,7 +87,7 @@ sixels r q place prefix begins form same fault room left each events bytes s =
           }),
     )
 
--- a reader that takes none
+-- a reader takes none
 pub no_sixels : (r : Reader) (place : ℕ) → place ≡ most_bytes - r.left → TakesSixels r r place []
 no_sixels r place begins events bytes s = (
   omega (arith, begins, s.left),
@@ -95,7 +95,7 @@ no_sixels r place begins events bytes s = (
       (subst (λ (bs : List ℕ). StandsAfter r events bs) (sym (append-nil bytes)) s),
 )
 
--- where a byte is no data byte, or a command is open
+-- in any form but `NoCommand`, no byte is a single sixel
 pub other_form : (f : Form) (b : ℕ) → (f ≡ NoCommand → ⊥) → makes_sixel f b ≡ false
 other_form f b h = other f refl
   where
@@ -107,7 +107,7 @@ pub other_byte : (f : Form) (b : ℕ) → is_data b ≡ false → makes_sixel f 
 other_byte NoCommand b h = h
 other_byte _ b h = refl
 
--- a reader that takes so many bytes of a piece, which are data bytes
+-- a reader takes the first n bytes of a piece, all of them data bytes
 pub sixels_taken : (r q : Reader) (place : ℕ) (piece : List ℕ) (n data_bytes : ℕ) → place ≡ most_bytes - r.left
     → form_of r.pending ≡ NoCommand → q.pending ≡ r.pending
     → q.fault ≡ r.fault → n ≤ r.left → q.left ≡ r.left - n → n ≤ data_bytes → data_bytes ≤ length piece
@@ -118,7 +118,7 @@ sixels_taken r q place piece n data_bytes begins form same fault room left few w
     sixels r q place (take n piece) begins form same fault (omega (arith, long)) (omega (arith, long, left))
     (λ k lt. ap is_data (get_or-take n piece k 0 (omega (arith, long))) ∙ each k (omega arith) (omega (arith, long)))
 
--- the byte after data bytes that don't reach the end
+-- the byte that stops a run of data bytes before the end isn't a data byte
 pub next_is_other : (piece : List ℕ) (data_bytes : ℕ) → CountsDataBytes piece 0 (length piece) data_bytes
     → data_bytes < length piece
     → is_data (get_or piece data_bytes 0) ≡ false

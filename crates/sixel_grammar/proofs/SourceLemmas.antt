@@ -36,14 +36,14 @@ consumes-kept (Some a) None c xs p q = absurd p
 consumes-kept (Some a) (Some b) None xs p q = absurd q
 consumes-kept (Some a) (Some b) (Some c) xs p q = p ∙ ap (λ (t : List ℕ). xs ++ t) (sym q)
 
--- at the end the bytes that were read are all
+-- at the end of the source, the bytes read are all of its bytes
 pub all_read : (a b : Option (List ℕ)) (xs : List ℕ) (P : List ℕ → Type 0) → Consumes a b xs → IsAtEnd b → P xs
     → IfSome a P
 all_read None b xs P c end h = tt
 all_read (Some a) None xs P c end h = absurd c
 all_read (Some a) (Some b) xs P c end h = subst P (sym (c ∙ ap (λ (t : List ℕ). xs ++ t) end ∙ append-nil xs)) h
 
--- a refusal within what was read is that of the whole
+-- a fault in the bytes read so far is the fault of all of the source's bytes
 pub refused_early : (a b : Option (List ℕ)) (fault : InputFault) (xs : List ℕ) → Consumes a b xs
     → ExplainsAlways fault xs → IfSome a (Explains fault)
 refused_early None b fault xs c h = tt
@@ -52,7 +52,7 @@ refused_early (Some a) (Some b) (Grammar f) xs c h = subst (λ (t : List ℕ). I
 refused_early (Some a) (Some b) OutOfMemory xs c h = tt
 refused_early (Some a) (Some b) Read xs c h = absurd h
 
--- a reader that stands after all that was given found no fault in it, and a call that fails gives nothing
+-- the bytes that a reader has taken have no fault, and a failed call gives no more
 pub no_fault_before : (a b c : Option (List ℕ)) (r : Reader) (events : List Placed) (given : List ℕ)
     → StandsAfter r events given
     → Consumes a b given → Keeps b c → IfSome a (NoFaultBefore c)

@@ -1,4 +1,4 @@
--- What a reader that stands after some bytes owes at the next one.
+-- What a reader must ensure for the next byte.
 use Rattle.std.proofs.Common.{◌≡◌, ℕ, ◌+◌, ◌-◌, ◌<◌, ◌≤◌, Bool, true, false, cond, List, [], ◌∷◌, ◌++◌, length, take}
 use Rattle.std.proofs.Common.{Option, Some, None, refl, sym, ap, subst, ◌∙◌, append_assoc, arith, inl, inr}
 use Rattle.std.proofs.Common.{length-append}
@@ -35,7 +35,7 @@ use Rattle.sixel_grammar.proofs.DocumentWalkLemmas.{start, not_viable, document_
 abbrev pub fault_at : Reason → ℕ → Fault
 fault_at reason place = record { reason = reason; place = place }
 
--- the events that byte number n completes: the one that it ends, and the one that is whole with it
+-- the events that byte number n completes: the command that it ends, and its own event
 abbrev pub completed_events : ℕ → ℕ → Option Event → Option Event → List Placed
 completed_events opened n None None = []
 completed_events opened n None (Some event) = record { place = opened; event = event } ∷ []
@@ -43,7 +43,7 @@ completed_events opened n (Some event) None = record { place = opened; event = e
 completed_events opened n (Some first) (Some second) =
     record { place = opened; event = first } ∷ record { place = n; event = second } ∷ []
 
--- what the byte hands out: the event that it ends, and the one that is whole with it
+-- the events after the byte are those before it and those that it completes
 pub handed : (events : List Placed) (opened n : ℕ) (bytes : List ℕ) (first second : Option Event) → n ≡ length bytes
     → with_done (with_done events opened first) (second_place opened bytes first) second
     ≡ events ++ completed_events opened n first second
@@ -59,12 +59,12 @@ second-same : (opened n : ℕ) (bytes : List ℕ) (first : Option Event) → n �
 second-same opened n bytes None e = refl
 second-same opened n bytes (Some x) e = sym e
 
--- where what is open after a byte began
+-- the offset where what is open after a byte began
 opened-next : (idle : Bool) (n o k : ℕ) → (idle ≡ false → o ≡ k) → cond idle n k ≡ cond idle n o
 opened-next true n o k h = refl
 opened-next false n o k h = sym (h refl)
 
--- a byte that goes on with what is open, and what it hands out
+-- a byte is accepted, with the events that it completes
 pub accepted : (r q : Reader) (events : List Placed) (bytes : List ℕ) (b o : ℕ) (first second : Option Event)
     (c : Completed)
     → StandsAfter r events bytes
@@ -97,7 +97,7 @@ accepted r q events bytes b o first second c s lt e at out fault left opened =
           (bytes ++ b ∷ [])) place went);
     }
 
--- a byte that goes on with what is open, and completes nothing
+-- a byte continues what is open, and completes nothing
 pub grown : (r q : Reader) (events : List Placed) (bytes : List ℕ) (b o : ℕ) → StandsAfter r events bytes → 0 < r.left
     → within (form_of r.pending) b ≡ Some (form_of q.pending, None) → o ≡ opened_after (length bytes) r
     → q.opened ≡ o → q.fault ≡ r.fault → q.left ≡ r.left - 1
@@ -107,7 +107,7 @@ grown r q events bytes b o s lt w at opened fault left =
     (accepted r q events bytes b o None None (record { first = None; second = None }) s lt
     (goes-on (form_of r.pending) (form_of q.pending) b None w) at refl fault left (λ i. opened))
 
--- the same, where nothing is handed out
+-- the same, as an empty `Completed`
 pub quiet : (q : Reader) (events : List Placed) (bytes : List ℕ) (c : Completed)
     → c ≡ record { first = None; second = None } → StandsAfter q events bytes
     → StandsAfter q (events ++ completions c) bytes
@@ -115,7 +115,7 @@ quiet q events bytes c none s =
     subst (λ (es : List Placed). StandsAfter q es bytes)
     (sym (append-nil events) ∙ ap (λ (d : Completed). events ++ completions d) (sym none)) s
 
--- a byte of a command that is open
+-- a byte inside an open command, which completes nothing
 pub inner : (r q : Reader) (events : List Placed) (bytes : List ℕ) (b : ℕ) (c : Completed)
     → StandsAfter r events bytes → 0 < r.left
     → within (form_of r.pending) b ≡ Some (form_of q.pending, None) → is_idle (form_of r.pending) ≡ false
@@ -127,7 +127,7 @@ inner r q events bytes b c s lt w unfinished none opened fault left =
     (grown r q events bytes b r.opened s lt w
     (ap (λ (i : Bool). cond i (length bytes) r.opened) (sym unfinished)) opened fault left)
 
--- one event that is whole with the byte
+-- a byte completes one event
 pub whole : (r q : Reader) (events : List Placed) (bytes : List ℕ) (b o : ℕ) (event : Event) (c : Completed)
     → StandsAfter r events bytes → 0 < r.left
     → within (form_of r.pending) b ≡ Some (form_of q.pending, Some event) → o ≡ opened_after (length bytes) r
@@ -138,7 +138,7 @@ whole r q events bytes b o event c s lt w at is fault left opened =
     accepted r q events bytes b o None (Some event) c s lt
     (goes-on (form_of r.pending) (form_of q.pending) b (Some event) w) at (ap completions is) fault left opened
 
--- the same, after which no command is open
+-- the same, and then no command is open
 pub shut : (r q : Reader) (events : List Placed) (bytes : List ℕ) (b o : ℕ) (event : Event) (c : Completed)
     → StandsAfter r events bytes → 0 < r.left
     → within (form_of r.pending) b ≡ Some (NoCommand, Some event) → form_of q.pending ≡ NoCommand
@@ -151,7 +151,7 @@ shut r q events bytes b o event c s lt w form at is fault left =
     (w ∙ ap (λ (f : Form). Some (f, Some event)) (sym form)) at is fault left
     (λ i. absurd (let n = ap is_idle form in cc))
 
--- a sixel where no command is open
+-- a single sixel when no command is open
 pub sixel : (r q : Reader) (events : List Placed) (bytes : List ℕ) (b : ℕ) (c : Completed)
     → StandsAfter r events bytes → 0 < r.left → is_data b ≡ true
     → form_of r.pending ≡ NoCommand → q.pending ≡ r.pending
@@ -167,7 +167,7 @@ sixel r q events bytes b c s lt t form same is fault left =
     (λ (n : ℕ). record { first = Some (record { place = n; event = Step (Sixel (b - 63)) }); second = None }) place)
     fault left
 
--- where no command is open, a byte ends none
+-- when no command is open, a byte ends none
 chosen-none : (w y : Option (Form × Option Event)) (e : Event) (g : Form) (d : Option Event)
     → chosen w None y ≡ Some (Some e, g, d) → ⊥
 chosen-none None y e g d h = cc
@@ -193,7 +193,7 @@ ends-unfinished (ColourFields ns n) b e g d h = refl
 ends-unfinished Terminating b e g d h = refl
 ends-unfinished Ended b e g d h = absurd (chosen-none (within Ended b) (begin b) e g d h)
 
--- a byte that ends a command, and makes nothing whole itself
+-- a byte ends a command, and completes nothing itself
 pub ended : (r q : Reader) (events : List Placed) (bytes : List ℕ) (b : ℕ) (event : Event)
     → StandsAfter r events bytes → 0 < r.left
     → next_of (form_of r.pending) b ≡ Some (Some event, form_of q.pending, None)
@@ -206,7 +206,7 @@ ended r q events bytes b event s lt e opened fault left =
     (ap (λ (i : Bool). cond i (length bytes) r.opened) (sym unfinished)) refl fault left
     (λ i. opened ∙ omega (arith, s.left))
 
--- a byte that ends a command, and makes an event whole itself
+-- a byte ends a command, and completes an event itself
 pub both : (r q : Reader) (events : List Placed) (bytes : List ℕ) (b o : ℕ) (first second : Event) (c : Completed)
     → StandsAfter r events bytes → 0 < r.left
     → next_of (form_of r.pending) b ≡ Some (Some first, form_of q.pending, Some second)
@@ -302,7 +302,7 @@ stopped r events bytes b s none =
       place ∙ sym k,
     )
 
--- a byte that can't follow
+-- a byte that isn't accepted
 pub refused_at : (r : Reader) (events : List Placed) (bytes : List ℕ) (b : ℕ) → StandsAfter r events bytes
     → 0 < r.left → next_of (form_of r.pending) b ≡ None
     → IsFaultOf (bytes ++ b ∷ []) (fault_at (refusal (form_of r.pending) b) (most_bytes - r.left))
@@ -322,7 +322,7 @@ nothing_read r fault left form = record {
   ends = subst (λ (f : Form). EndsIn f [] (cond (is_idle f) 0 r.opened) []) (sym form) nothing;
 }
 
--- ---- what a reader that stands after some bytes says of them
+-- ---- what follows for the bytes that a reader has read
 
 pub read_complete : (r : Reader) (events : List Placed) (bytes : List ℕ) → StandsAfter r events bytes
     → CompleteIn events bytes

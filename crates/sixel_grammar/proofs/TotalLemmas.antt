@@ -1,4 +1,4 @@
--- Bytes are a document or have a fault, and the events complete in them are a document's first.
+-- Bytes are a document or have a fault, and the events complete in them are the first ones of a document.
 use Rattle.std.proofs.Common.{take, ◌-◌, ◌≡◌, ℕ, ◌+◌, ◌≤◌, List, [], ◌∷◌, ◌++◌, length, Some, None, refl, sym, ap}
 use Rattle.std.proofs.Common.{subst, ◌∙◌, append_assoc, arith, length-append, inl, inr}
 use Rattle.std.specs.Prelude.{◌⊎◌}
@@ -92,7 +92,7 @@ at_end f events opened bytes e short =
       | inr other ↦ inr (fault_at Truncated (length bytes), truncated f e short other)
     ]
 
--- a fault at the byte after these stays
+-- a fault at the next byte stays the fault of longer bytes
 then_fault : (bytes more : List ℕ) (b : ℕ) (fault : Fault) → IsFaultOf (bytes ++ b ∷ []) fault
     → fault.place ≡ length bytes → Judged (bytes ++ b ∷ more)
 then_fault bytes more b fault h at =
@@ -124,7 +124,7 @@ from_here (b ∷ more) f events opened bytes e short =
 pub judged : (bytes : List ℕ) → IsDocument bytes ⊎ ((fault : Fault) × IsFaultOf bytes fault)
 judged bytes = from_here bytes NothingYet [] 0 [] nothing (omega arith)
 
--- ---- what stands before a fault
+-- ---- what comes before a fault
 
 -- the bytes before a fault are viable
 pub viable_before : (bytes : List ℕ) (fault : Fault) → IsFaultOf bytes fault → IsViable (take fault.place bytes)
@@ -134,7 +134,7 @@ viable_before bytes fault h =
       | inr r ↦ r.longest.viable
     ]
 
--- no fault lies within viable bytes
+-- a fault isn't inside viable bytes
 pub place_past : (bytes read more : List ℕ) (fault : Fault) → bytes ≡ read ++ more → IsViable read
     → length read ≤ most_bytes → IsFaultOf bytes fault → length read ≤ fault.place
 place_past bytes read more fault is v short h =
@@ -146,7 +146,7 @@ place_past bytes read more fault is v short h =
           (subst IsViable (sym (ap (take (length read)) is ∙ take-append_seam read more)) v)
     ]
 
--- so the bytes before a fault begin with them
+-- so the bytes before a fault begin with the viable ones
 pub before_fault : (bytes read more : List ℕ) (place : ℕ) → bytes ≡ read ++ more → length read ≤ place
     → (next : List ℕ) × (take place bytes ≡ read ++ next)
 before_fault bytes read more place is le =

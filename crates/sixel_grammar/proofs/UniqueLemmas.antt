@@ -1,4 +1,4 @@
--- What is said of bytes is said in one way alone: events, complete events, faults.
+-- Events, complete events and faults of bytes are unique.
 use Rattle.std.proofs.Common.{◌≡◌, ℕ, zero, suc, ◌+◌, ◌-◌, ◌<◌, ◌≤◌, Bool, true, false, cond, leb, List, [], ◌∷◌, ◌++◌}
 use Rattle.std.proofs.Common.{length, take, drop, Option, Some, None, refl, sym, ap, subst, ◌∙◌, append_assoc, arith}
 use Rattle.std.proofs.Common.{length-append, inl, inr}
@@ -56,7 +56,7 @@ pub document_once : (bytes : List ℕ) (first second : List Placed) → Document
     → first ≡ second
 document_once bytes first second a b = events_walk first bytes a ∙ sym (events_walk second bytes b)
 
--- ---- events come at the byte that completes them
+-- ---- events come with the byte that completes them
 
 abbrev CameIn : ℕ → ℕ → List Stamp → Type 0
 CameIn n m ts = AllByRecursion (λ (t : Stamp). (n < t.completed) × (t.completed ≤ m)) ts
@@ -101,7 +101,7 @@ grows (b ∷ more) n s u h = by_next (λ v k. grows more (n + 1) v u k) (next_of
               (came-append n (n + 1) (n + 1 + length more) a.0 g.0 (omega arith) (omega arith) a.2 g.2),
         )
 
--- those that came up to a byte
+-- the events completed by the first `held` bytes
 abbrev early_of : ℕ → List Stamp → List Stamp
 early_of held [] = []
 early_of held (t ∷ ts) = cond (leb t.completed held) (t ∷ early_of held ts) []
@@ -125,7 +125,7 @@ early-split n held m (x ∷ xs) ys h k =
     cond-true (leb x.completed held) _ _ (le-leb x.completed held h.0.1)
     ∙ ap (λ (t : List Stamp). x ∷ t) (early-split n held m xs ys h.1 k)
 
--- a viable prefix is walked, and the events so far are those that are complete
+-- a viable prefix can be walked, and the events so far are the complete ones
 abbrev Walks : List Placed → List ℕ → Type 0
 Walks events prefix = (u : State) × (walk 0 start prefix ≡ Some u) × (events ≡ placed_of u.so_far)
 
@@ -314,7 +314,7 @@ closed_whole [] n h = absurd h
 closed_whole (p ∷ []) n h = absurd (rest_of p.event [] h)
 closed_whole (p ∷ q ∷ ps) n h = closed_rest (q ∷ ps) n (rest_of p.event (events_in (q ∷ ps)) h)
 
--- a document ends where its string has ended
+-- a document ends in the form `Ended`
 pub document_ends : (events : List Placed) (bytes : List ℕ) → Document events bytes
     → (opened : ℕ) × EndsIn Ended events opened bytes
 document_ends events bytes d = (
@@ -334,11 +334,11 @@ document_ends events bytes d = (
   },
 )
 
--- the events of a document are complete in all of its bytes
+-- all events of a document are complete in its bytes
 pub document_complete : (events : List Placed) (bytes : List ℕ) → Document events bytes → CompleteIn events bytes
 document_complete events bytes d = complete Ended (document_ends events bytes d).1
 
--- what a list of bytes that parses begins with is viable
+-- a prefix of bytes that parse is viable
 pub parsed_prefix : (prefix rest : List ℕ) (pieces : List Piece) → Parses pieces (prefix ++ rest) → IsViable prefix
 parsed_prefix prefix rest pieces h = prefixes prefix rest (
   complete_from (length (prefix ++ rest)) 0 pieces,

@@ -1,4 +1,4 @@
--- What ends in a form is a prefix of a document, and the events before what is open are those that are complete.
+-- Bytes that end in a form are a prefix of a document, and the events before what is open are the complete ones.
 use Rattle.std.proofs.Common.{◌≡◌, ℕ, ◌+◌, ◌<◌, ◌≤◌, Bool, true, false, cond, List, [], ◌∷◌, ◌++◌, length, refl, sym}
 use Rattle.std.proofs.Common.{ap, subst, ◌∙◌, append_assoc, arith, length-append, inl, inr}
 use Rattle.std.specs.Prelude.{Contains, ◌⊎◌}
@@ -35,7 +35,7 @@ spells-some (Step NextLine) text h = omega (arith, ap length h)
 spells-some (Finish true) text h = omega (arith, ap length h)
 spells-some (Finish false) text h = omega (arith, ap length h)
 
--- the first piece, from n on, is not complete in this many bytes
+-- the first piece, from offset n on, isn't complete in this many bytes
 abbrev pub IsShort : ℕ → ℕ → List Piece → Type 0
 IsShort held n [] = Unit {0}
 IsShort held n (p ∷ ps) = held < completed_at n p
@@ -101,7 +101,7 @@ sizes e =
       length-append (joined e.pieces) e.filler,
     )
 
--- where the pieces go on so with a tail, the events before them are complete
+-- if a tail continues the bytes with more pieces, the events before those are complete
 pub goes_on : {f : Form} {events : List Placed} {opened : ℕ} {bytes : List ℕ} (e : EndsIn f events opened bytes)
     (tail : List ℕ) (more : List Piece) (after : List ℕ)
     → Contains tails tail
@@ -135,7 +135,7 @@ finish_piece filler = record { filler = filler; text = 27 ∷ 92 ∷ []; event =
 is_finish : (filler : List ℕ) → AreFiller filler → IsPiece (finish_piece filler)
 is_finish filler h = record { filler_is = h; spells = refl }
 
--- before a start: the tail makes it whole, and then ends the string
+-- before the start: the tail completes the start, then ends the string
 with_start : {f : Form} {events : List Placed} {opened : ℕ} {bytes : List ℕ} (e : EndsIn f events opened bytes)
     (eight : Bool) (ns more : List ℕ)
     → events_in e.pieces ≡ [] → Contains tails (more ++ 27 ∷ 92 ∷ []) → 0 < length more
@@ -147,7 +147,7 @@ with_start e eight ns more none is_tail some spells =
     (record { filler_is = e.filler_is; spells = spells }, (is_finish [] tt, tt)) tt (rw none refl)
     (omega (arith, sizes e, length-append e.filler (e.open_bytes ++ more), length-append e.open_bytes more))
 
--- after a start: the tail makes the command whole, if it isn't, and then ends the string
+-- after the start: the tail completes the command if necessary, then ends the string
 with_step : {f : Form} {events : List Placed} {opened : ℕ} {bytes : List ℕ} (e : EndsIn f events opened bytes)
     (c : Command) (more : List ℕ)
     → AreBegun (events_in e.pieces) → Contains tails (more ++ 27 ∷ 92 ∷ [])

@@ -1,4 +1,4 @@
--- A byte list is walked in one way alone: states, numbers, fields and commands.
+-- A walk over bytes, state by state: numbers, fields and commands. It is unique.
 use Rattle.std.proofs.Common.{◌≡◌, ℕ, ◌+◌, ◌-◌, ◌*◌, ◌<◌, ◌≤◌, Bool, true, false, cond, eqb, ltb, leb, List, [], ◌∷◌}
 use Rattle.std.proofs.Common.{◌++◌, length, Option, Some, None, refl, sym, ap, subst, ◌∙◌, append_assoc, arith}
 use Rattle.std.proofs.Common.{length-append, inl, inr}
@@ -21,7 +21,7 @@ use Rattle.sixel_grammar.specs.Faults.{Form, Parameters, NoCommand, RepeatNumber
 use Rattle.sixel_grammar.specs.Next.{with_digit, number_next, begin, within, settled, chosen, next_of}
 use Rattle.sixel_grammar.proofs.NumberLemmas.{digit_range, digit_value-is}
 
--- an event with its place, and the number of bytes with which it was complete
+-- an event with its offset, and the number of bytes that completed it
 pub record Stamp : Type 0 where
   pub completed : ℕ
   pub placed : Placed
@@ -29,7 +29,7 @@ pub record Stamp : Type 0 where
 abbrev pub stamp : ℕ → ℕ → Event → Stamp
 stamp k place event = record { completed = k; placed = record { place = place; event = event } }
 
--- what is open, from which place on, and the events so far
+-- what is open, the offset where it began, and the events so far
 pub record State : Type 0 where
   pub form : Form
   pub opened : ℕ
@@ -42,7 +42,7 @@ abbrev pub with_stamp : List Stamp → ℕ → ℕ → Option Event → List Sta
 with_stamp s k place None = s
 with_stamp s k place (Some event) = s ++ stamp k place event ∷ []
 
--- where an event stands that byte number n begins, after the one that it ends
+-- the offset of the own event of byte number n: n if the byte ends a command, otherwise `opened`
 abbrev pub moved : ℕ → ℕ → Option Event → ℕ
 moved opened n None = opened
 moved opened n (Some event) = n
@@ -58,7 +58,7 @@ abbrev pub one : ℕ → Option State → ℕ → Option State
 one n None b = None
 one n (Some s) b = after n s.opened s.so_far (next_of s.form b)
 
--- the state after these bytes, which stand from n on, if all are accepted
+-- the state after these bytes, the first of them at offset n, if all are accepted
 abbrev pub walk : ℕ → Option State → List ℕ → Option State
 walk n s [] = s
 walk n s (b ∷ bs) = walk (n + 1) (one n s b) bs
@@ -105,7 +105,7 @@ begin-digit b h =
     ∙ cond-false (eqb b 27) _ _ (ne_eqb b 27 (λ e. omega arith))
     ∙ cond-false (eqb b 156) _ _ (ne_eqb b 156 (λ e. omega arith))
 
--- what begins a command is no digit and no `;`
+-- a byte that begins a command is neither a digit nor `;`
 pub begin-not_digit : (b : ℕ) (x : Form × Option Event) → begin b ≡ Some x → is_digit b ≡ false
 begin-not_digit b x h = by_test (is_digit b) (λ t. absurd (let n = begin-digit b t in cc))
   where
@@ -123,7 +123,7 @@ after-ge : (ds : List ℕ) (n : ℕ) → n ≤ digits_value_after 10 n ds
 after-ge [] n = omega arith
 after-ge (d ∷ ds) n = let h = after-ge ds (n * 10 + digit_value d) in omega arith
 
--- a form with a number goes on with each digit that doesn't make the number too large
+-- a form with an open number takes each digit that doesn't make the number too large
 abbrev pub TakesDigits : (ℕ → Form) → Type 0
 TakesDigits k =
     (n o : ℕ) (s : List Stamp) (m b : ℕ) → is_digit b ≡ true → with_digit m b ≤ 65535
@@ -153,7 +153,7 @@ TakesSeparators k most =
     (n o : ℕ) (s : List Stamp) (ns : List ℕ) (m : ℕ) → length ns < most
     → one n (Some (state (k ns m) o s)) 59 ≡ Some (state (k (ns ++ m ∷ []) 0) o s)
 
--- one field, and then the others
+-- one field, then the others
 first_field : (k : List ℕ → ℕ → Form) (most : ℕ) → ((ns : List ℕ) → TakesDigits (k ns)) → TakesSeparators k most
     → (n o : ℕ) (s : List Stamp) (j : ℕ) (before text more whole : List ℕ) (f : Form) → whole ≡ text ++ 59 ∷ more
     → NumberText j text → length before < most
@@ -229,7 +229,7 @@ parameters-separators eight n o s ns m lt =
 
 -- ---- commands
 
--- at a byte that begins a command, the state is as one in which no command is open
+-- for a byte that begins a command, the state is like one in which no command is open
 abbrev pub Ready : ℕ → State → List Stamp → Type 0
 Ready n st s = (b : ℕ) (x : Form × Option Event) → begin b ≡ Some x → one n (Some st) b ≡ one n (idle n s) b
 
@@ -256,7 +256,7 @@ colour-within ns m b x h =
     ∙ cond-false (eqb b 59 && ltb (length ns) 4) _ _
     (ap (λ (t : Bool). t && ltb (length ns) 4) (begin-not_separator b x h))
 
--- the text of an event that began at m and of which the last byte stands before k leads here
+-- the state after the text of an event that began at m and ends before offset k
 abbrev pub Rests : ℕ → ℕ → List Stamp → Event → State → Type 0
 Rests k m s event st = Ready k st (s ++ stamp (k + cond (is_open_ended event) 1 0) m event ∷ [])
     × ((Some st ≡ idle k (s ++ stamp (k + cond (is_open_ended event) 1 0) m event ∷ [])) ⊎ IsTrue (is_open_ended event))

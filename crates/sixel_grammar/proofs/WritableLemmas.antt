@@ -1,4 +1,4 @@
--- What some bytes spell can be written: its numbers are in range, its bits are six, a start has a parameter.
+-- An event that some bytes spell can be written: numbers in range, six bits, and a parameter in each start.
 use Rattle.std.proofs.Common.{ℕ, ◌+◌, ◌<◌, ◌≤◌, Bool, true, false, cond, leb, List, [], ◌∷◌, length, sym, subst, arith}
 use Rattle.std.specs.List.{AllByRecursion}
 use Rattle.sixel_grammar.specs.declared.command.Command.TheVariants.{Sixel, Repeat, Raster, Select, Define}
@@ -60,6 +60,6 @@ complete_can held n (p ∷ ps) each =
     (complete_from held (n + length (bytes_of p)) ps) (spelled_can p.event p.text each.0.spells)
     (complete_can held (n + length (bytes_of p)) ps each.1)
 
--- so can be all events that are complete in some bytes
+-- so can all events that are complete in some bytes
 pub events_can : (events : List Placed) (bytes : List ℕ) → CompleteIn events bytes → CanWriteAll events
 events_can events bytes c = subst CanWriteAll (sym c.complete) (complete_can (length bytes) 0 c.pieces c.parses.each)

@@ -10,7 +10,7 @@ use Rattle.sixel_grammar.specs.Spelling.{Spells}
 abbrev pub AreFiller : List ℕ → Type 0
 AreFiller bytes = AllByRecursion (λ b. IsTrue (is_filler b)) bytes
 
--- an event, bytes that spell it, and the filler before them
+-- an event, the bytes that spell it, and the filler before them
 pub record Piece : Type 0 where
   pub filler : List ℕ
   pub text : List ℕ
@@ -33,27 +33,27 @@ abbrev pub events_in : List Piece → List Event
 events_in [] = []
 events_in (p ∷ ps) = p.event ∷ events_in ps
 
--- the same, each with its place, where the pieces stand from n on
+-- the events with their offsets, if the first piece begins at offset n
 abbrev pub placed_from : ℕ → List Piece → List Placed
 placed_from n [] = []
 placed_from n (p ∷ ps) =
     record { place = n + length p.filler; event = p.event } ∷ placed_from (n + length (bytes_of p)) ps
 
--- commands, and then one finish
+-- commands, then one finish
 abbrev pub AreRest : List Event → Type 0
 AreRest [] = ⊥
 AreRest (Start eight parameters ∷ more) = ⊥
 AreRest (Step command ∷ more) = AreRest more
 AreRest (Finish eight ∷ more) = more ≡ []
 
--- a start, commands, a finish
+-- a start, commands, and a finish
 abbrev pub AreWhole : List Event → Type 0
 AreWhole [] = ⊥
 AreWhole (Start eight parameters ∷ more) = AreRest more
 AreWhole (Step command ∷ more) = ⊥
 AreWhole (Finish eight ∷ more) = ⊥
 
--- the bytes are these pieces, of a start, commands and a finish, and then filler
+-- the bytes are these pieces and then filler; the pieces are a start, commands and a finish
 pub record Parses (pieces : List Piece) (bytes : List ℕ) : Type 0 where
   pub after : List ℕ
   pub bytes_are : bytes ≡ joined pieces ++ after
@@ -61,7 +61,7 @@ pub record Parses (pieces : List Piece) (bytes : List ℕ) : Type 0 where
   pub whole : AreWhole (events_in pieces)
   pub after_is : AreFiller after
 
--- the greatest length of a document
+-- the greatest length of a document, in bytes
 abbrev pub most_bytes : ℕ
 most_bytes = 268435456
 
@@ -75,6 +75,6 @@ pub record Document (events : List Placed) (bytes : List ℕ) : Type 0 where
 abbrev pub IsDocument : List ℕ → Type 0
 IsDocument bytes = (events : List Placed) × Document events bytes
 
--- the events, without their places
+-- the events, without their offsets
 abbrev pub events_of : List Placed → List Event
 events_of placed = map (λ (p : Placed). p.event) placed

@@ -18,7 +18,7 @@ use Rattle.sixel_grammar.specs.Document.{AreFiller, Piece, IsPiece, joined, even
 use Rattle.sixel_grammar.specs.Document.{IsDocument, most_bytes}
 use Rattle.sixel_grammar.specs.Prefixes.{IsViable}
 
--- what is open where a viable prefix ends; of fields, the numbers before the last `;` and the one after it
+-- what is open at the end of a viable prefix; fields are the numbers before the last `;`, and the number after it
 pub data Form : Type 0 where
   -- nothing yet
   NothingYet : Form
@@ -41,14 +41,14 @@ pub data Form : Type 0 where
   -- the string has ended
   Ended : Form
 
--- nothing is open
+-- whether nothing is open
 abbrev pub is_idle : Form → Bool
 is_idle NothingYet = true
 is_idle NoCommand = true
 is_idle Ended = true
 is_idle _ = false
 
--- these bytes open it
+-- the bytes read so far of what is open
 abbrev pub Opens : Form → List ℕ → Type 0
 Opens NothingYet bytes = bytes ≡ []
 Opens Introducing bytes = bytes ≡ escape ∷ []
@@ -71,18 +71,18 @@ AreSteps (Start eight parameters ∷ more) = ⊥
 AreSteps (Step command ∷ more) = AreSteps more
 AreSteps (Finish eight ∷ more) = ⊥
 
--- a start, and commands
+-- a start, then commands
 abbrev pub AreBegun : List Event → Type 0
 AreBegun [] = ⊥
 AreBegun (Start eight parameters ∷ more) = AreSteps more
 AreBegun (Step command ∷ more) = ⊥
 AreBegun (Finish eight ∷ more) = ⊥
 
--- none yet, or a start and commands, or a whole document's
+-- none, a start and commands, or those of a whole document
 abbrev pub ArePrefix : List Event → Type 0
 ArePrefix events = (events ≡ []) ⊎ AreBegun events ⊎ AreWhole events
 
--- the events that stand before what is open
+-- the events allowed before what is open
 abbrev pub Precede : Form → List Event → Type 0
 Precede NothingYet events = events ≡ []
 Precede Introducing events = events ≡ []
@@ -95,13 +95,13 @@ Precede (ColourFields ns n) events = AreBegun events
 Precede Terminating events = AreBegun events
 Precede Ended events = AreWhole events
 
--- the last of the pieces is not open-ended, or n bytes follow it, at least one
+-- if the last piece is open-ended, some byte follows it; n is how many bytes follow
 abbrev pub IsClosed : List Piece → ℕ → Type 0
 IsClosed [] n = Unit {0}
 IsClosed (p ∷ []) n = IsTrue (is_open_ended p.event) → 0 < n
 IsClosed (p ∷ q ∷ ps) n = IsClosed (q ∷ ps) n
 
--- the bytes are whole pieces, then filler, and then what is open from this place on
+-- the bytes are whole pieces, then filler, then what is open, which begins at offset `opened`
 pub record EndsIn (form : Form) (events : List Placed) (opened : ℕ) (bytes : List ℕ) : Type 0 where
   pub pieces : List Piece
   pub filler : List ℕ
@@ -115,7 +115,7 @@ pub record EndsIn (form : Form) (events : List Placed) (opened : ℕ) (bytes : L
   pub events_are : events ≡ placed_from 0 pieces
   pub opened_is : opened ≡ length (joined pieces) + length filler
 
--- why a byte can't follow, by what is open
+-- the reason for refusing a byte, by what is open
 abbrev pub refusal : Form → ℕ → Reason
 refusal NothingYet b = NotSixel
 refusal Introducing b = NotSixel
@@ -129,19 +129,19 @@ refusal (ColourFields ns n) b =
 refusal Terminating b = BadTerminator
 refusal Ended b = Trailing
 
--- the longest prefix of the bytes with which some document begins
+-- the longest viable prefix of the bytes has this length
 pub record IsLongest (place : ℕ) (bytes : List ℕ) : Type 0 where
   pub within : place ≤ length bytes
   pub viable : IsViable (take place bytes)
   pub longest : (n : ℕ) → n ≤ length bytes → IsViable (take n bytes) → n ≤ place
 
--- why this byte, or the end, can't follow the prefix
+-- why this byte, or the end of the input, can't follow the prefix
 abbrev pub Stops : List ℕ → Option ℕ → Reason → Type 0
 Stops prefix None reason = (IsDocument prefix → ⊥) × (reason ≡ Truncated)
 Stops prefix (Some b) reason =
     (form : Form) × (events : List Placed) × (opened : ℕ) × EndsIn form events opened prefix × (reason ≡ refusal form b)
 
--- a byte stands past the limit, and those before it are viable
+-- the bytes are longer than the limit, and viable up to it
 pub record IsTooLong (bytes : List ℕ) (fault : Fault) : Type 0 where
   pub long : most_bytes < length bytes
   pub viable : IsViable (take most_bytes bytes)
@@ -153,6 +153,6 @@ pub record IsRefused (bytes : List ℕ) (fault : Fault) : Type 0 where
   pub within : min (fault.place + 1) (length bytes) ≤ most_bytes
   pub refuses : Stops (take fault.place bytes) (slice_get bytes fault.place) fault.reason
 
--- the fault of bytes that are no document
+-- the fault of bytes that aren't a document
 abbrev pub IsFaultOf : List ℕ → Fault → Type 0
 IsFaultOf bytes fault = IsTooLong bytes fault ⊎ IsRefused bytes fault

@@ -9,12 +9,12 @@ abbrev pub fixed_text : List Event → List ℕ
 fixed_text [] = []
 fixed_text (e ∷ es) = fixed_spelling e ++ fixed_text es
 
--- the events with their places in that text, which begins at n
+-- the events with their offsets in that text, which begins at offset n
 abbrev pub fixed_places : ℕ → List Event → List Placed
 fixed_places n [] = []
 fixed_places n (e ∷ es) = record { place = n; event = e } ∷ fixed_places (n + length (fixed_spelling e)) es
 
--- an event that a program may write
+-- an event that can be written
 pub record CanWrite (e : Event) : Type 0 where
   pub is_event : IsEvent e
   pub spellable : IsSpellable e

@@ -1,4 +1,4 @@
--- What one byte does to what is open, as functions. Contracts of private functions alone cite these.
+-- What one byte does to what is open, as functions. Only contracts of private functions cite these.
 use Rattle.std.specs.Prelude.{ℕ, ◌+◌, ◌-◌, ◌*◌, Bool, true, false, List, [], ◌∷◌, ◌++◌, length, Option, Some, None}
 use Rattle.std.specs.Prelude.{◌==◌, ◌&&◌, nat_le, nat_lt, if◌then◌else◌}
 use Rattle.sixel_grammar.specs.declared.command.Command.TheVariants.{Sixel, Repeat, Raster, Select, Define}
@@ -9,15 +9,15 @@ use Rattle.sixel_grammar.specs.Bytes.{is_filler, is_digit, is_data}
 use Rattle.sixel_grammar.specs.Faults.{Form, NothingYet, Introducing, Parameters, LastSeparator, NoCommand}
 use Rattle.sixel_grammar.specs.Faults.{RepeatNumber, RasterFields, ColourFields, Terminating, Ended}
 
--- n with a digit more
+-- n with the digit b appended
 abbrev pub with_digit : ℕ → ℕ → ℕ
 with_digit n b = n * 10 + (b - 48)
 
--- the number that is open goes on with a digit, if it is not too large then
+-- the open number takes a digit, if it stays at most 65,535
 abbrev pub number_next : (ℕ → Form) → ℕ → ℕ → Option (Form × Option Event)
 number_next with_number n b = if nat_le (with_digit n b) 65535 then Some (with_number (with_digit n b), None) else None
 
--- what a byte begins where no command is open, and the event that it is
+-- what a byte begins when no command is open, and the event that it completes
 abbrev pub begin : ℕ → Option (Form × Option Event)
 begin b =
     if is_data b then Some (NoCommand, Some (Step (Sixel (b - 63))))
@@ -39,7 +39,7 @@ parameter_end eight ns n b =
     else Some (LastSeparator eight (ns ++ n ∷ []), None))
     else (if b == 113 then Some (NoCommand, Some (Start eight (record { items = ns ++ n ∷ [] }))) else None)
 
--- how a byte goes on with what is open, and the event that is whole with it
+-- how a byte continues what is open, and the event that it completes
 abbrev pub within : Form → ℕ → Option (Form × Option Event)
 within NothingYet b =
     if is_filler b then Some (NothingYet, None)
@@ -64,19 +64,19 @@ within (ColourFields ns n) b =
 within Terminating b = if b == 92 then Some (Ended, Some (Finish false)) else None
 within Ended b = if is_filler b then Some (Ended, None) else None
 
--- of what a byte does, where it makes nothing whole: the form that it leads to
+-- if the byte completes nothing: the form after it
 abbrev pub only_grown : Option (Form × Option Event) → Option Form
 only_grown None = None
 only_grown (Some (f, None)) = Some f
 only_grown (Some (f, Some event)) = None
 
--- of what a byte does, where it makes an event whole: the form that it leads to, and that event
+-- if the byte completes an event: the form after it, and the event
 abbrev pub only_whole : Option (Form × Option Event) → Option (Form × Event)
 only_whole None = None
 only_whole (Some (f, None)) = None
 only_whole (Some (f, Some event)) = Some (f, event)
 
--- the event that what is open is, where the next byte ends it
+-- the open command, if it has all its fields, so that the next byte may end it
 abbrev pub settled : Form → Option Event
 settled (RasterFields [] a) = Some (Step (Raster a 0 0 0))
 settled (RasterFields (a ∷ []) b) = Some (Step (Raster a b 0 0))
@@ -91,12 +91,12 @@ abbrev pub ends_repeat : Form → ℕ → Bool
 ends_repeat (RepeatNumber n) b = is_data b
 ends_repeat _ b = false
 
--- whether the byte is a sixel by itself, or ends a repeat
+-- whether the byte is a single sixel, or ends a repeat
 abbrev pub makes_columns : Form → ℕ → Bool
 makes_columns NoCommand b = is_data b
 makes_columns f b = ends_repeat f b
 
--- the event that the byte ends, what is open after it, and the event that is whole with it
+-- the command that the byte ends, what is open after it, and the event that it completes
 abbrev pub chosen : Option (Form × Option Event) → Option Event → Option (Form × Option Event)
     → Option (Option Event × Form × Option Event)
 chosen (Some x) ended y = Some (None, x.0, x.1)

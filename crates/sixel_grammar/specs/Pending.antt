@@ -1,5 +1,5 @@
--- What a reader's fields say is open, and what a byte makes whole.
--- Contracts of private functions alone cite these, and `StandsAfter`.
+-- What a reader's fields say is open, and what a byte completes.
+-- Only `StandsAfter` and contracts of private functions cite these.
 use Rattle.std.specs.Prelude.{◌≡◌, ℕ, Bool, true, false, List, Option, Some, None, if◌then◌else◌}
 use Rattle.std.specs.Option.{option_map}
 use Rattle.sixel_grammar.specs.declared.command.Event.{Event}
@@ -29,7 +29,7 @@ form_by kind.Ended eight ps ns n = Ended
 abbrev pub form_of : Pending → Form
 form_of p = form_by p.form p.eight p.parameters.items p.fields.items p.number
 
--- a number is open
+-- whether a number is open
 abbrev pub takes_digits : Open → Bool
 takes_digits kind.Parameters = true
 takes_digits kind.RepeatNumber = true
@@ -37,17 +37,17 @@ takes_digits kind.RasterFields = true
 takes_digits kind.ColourFields = true
 takes_digits _ = false
 
--- the event that is whole; a start has the parameters that were read
+-- the completed event; a start has the parameters that were read
 abbrev pub event_of : WholeEvent → Pending → Event
 event_of Start p = event.Start p.eight p.parameters
 event_of (Step command) p = event.Step command
 event_of (Finish eight) p = event.Finish eight
 
--- whether a byte that does this makes nothing whole, and what is open then
+-- `result` says whether a byte that does this completes nothing; if so, `new` is what is open after it
 abbrev pub Grows : Bool → Pending → Option (Form × Option Event) → Type 0
 Grows result new does = (if result then Some (form_of new) else None) ≡ only_grown does
 
--- the event that a byte that does this makes whole, and what is open then
+-- `result` is the event that a byte that does this completes, if any; then `new` is what is open after it
 abbrev pub MakesWhole : Option WholeEvent → Pending → Option (Form × Option Event) → Type 0
 MakesWhole result new does =
     option_map (λ (whole : WholeEvent). (form_of new, event_of whole new)) result ≡ only_whole does

@@ -1,4 +1,4 @@
--- What was completed where no more than a command was.
+-- A `Plain` as a `Completed`.
 use Rattle.std.specs.Prelude.{Some, None}
 use Rattle.sixel_grammar.specs.declared.command.Completed.{Completed}
 use Rattle.sixel_grammar.specs.declared.command.Event.TheVariants.{Step}

@@ -9,14 +9,14 @@ use Rattle.sixel_grammar.specs.declared.command.Event.TheVariants.{Start, Step, 
 use Rattle.sixel_grammar.specs.Bytes.{separator, repeat_sign, raster_sign, colour_sign, introducer, terminator}
 use Rattle.sixel_grammar.specs.Number.{NumberText, Fields}
 
--- bits are at most 63, and a start has a parameter; an event of a program that is so is spelled by some bytes
+-- sixel bits are at most 63, and a start has a parameter; some bytes spell such an event if its numbers are in range
 abbrev pub IsSpellable : Event → Type 0
 IsSpellable (Start eight parameters) = 0 < length parameters.items
 IsSpellable (Step (Sixel bits)) = bits ≤ 63
 IsSpellable (Step (Repeat count bits)) = bits ≤ 63
 IsSpellable _ = Unit {0}
 
--- the first four, with 0 for what is missing
+-- the first four numbers, with 0 for each missing one
 abbrev pub four_of : List ℕ → List ℕ
 four_of ns = take 4 (ns ++ 0 ∷ 0 ∷ 0 ∷ 0 ∷ [])
 
@@ -33,12 +33,14 @@ SpellsCommand (Select register) bytes =
     (fields : List ℕ) × Fields (register ∷ []) fields × (bytes ≡ colour_sign ∷ fields)
 SpellsCommand (Define register system x y z) bytes =
     (fields : List ℕ) × Fields (register ∷ system ∷ x ∷ y ∷ z ∷ []) fields × (bytes ≡ colour_sign ∷ fields)
+-- Graphics Carriage Return, `$`
 SpellsCommand CarriageReturn bytes = bytes ≡ 36 ∷ []
+-- Graphics New Line, `-`
 SpellsCommand NextLine bytes = bytes ≡ 45 ∷ []
 
 -- these bytes spell the event
 abbrev pub Spells : Event → List ℕ → Type 0
--- one to three parameters; after three of them one more `;` may stand
+-- one to three parameters; one more `;` may follow the third
 Spells (Start eight parameters) bytes =
     (fields last : List ℕ) × Fields parameters.items fields × (length parameters.items ≤ 3)
     × ((last ≡ 113 ∷ []) ⊎ ((last ≡ separator ∷ 113 ∷ []) × (length parameters.items ≡ 3)))
@@ -46,7 +48,7 @@ Spells (Start eight parameters) bytes =
 Spells (Step command) bytes = SpellsCommand command bytes
 Spells (Finish eight) bytes = bytes ≡ terminator eight
 
--- a later byte may still lengthen its spelling
+-- whether a later byte may still lengthen the spelling
 abbrev pub is_open_ended : Event → Bool
 is_open_ended (Step (Raster pan pad width height)) = true
 is_open_ended (Step (Select register)) = true
@@ -74,7 +76,7 @@ fixed_spelling (Start eight parameters) = introducer eight ++ fixed_fields param
 fixed_spelling (Step command) = fixed_command command
 fixed_spelling (Finish eight) = terminator eight
 
--- numbers as a program's events have them: at most 65,535, and bytes at most 255
+-- the numbers fit in 16 bits, as those of a program's events do
 abbrev pub AreNumbers : List ℕ → Type 0
 AreNumbers ns = AllByRecursion (λ n. n ≤ 65535) ns
 
@@ -87,7 +89,7 @@ IsCommand (Define register system x y z) = AreNumbers (register ∷ system ∷ x
 IsCommand CarriageReturn = Unit {0}
 IsCommand NextLine = Unit {0}
 
--- an event as a program has it
+-- an event as a program has it: its numbers fit their types
 abbrev pub IsEvent : Event → Type 0
 IsEvent (Start eight parameters) = (length parameters.items ≤ 3) × AreNumbers parameters.items
 IsEvent (Step command) = IsCommand command

@@ -1,4 +1,5 @@
--- What a reader has read. Other crates take `StandsAfter` as it is, and never look into it or into a reader's fields.
+-- What a reader has read. Other crates use `StandsAfter` as a whole: they look neither into it nor at a reader's
+-- fields.
 use Rattle.std.specs.Prelude.{◌≡◌, ℕ, ◌+◌, List, [], ◌∷◌, ◌++◌, length, Option, Some, None, Bool, true, false}
 use Rattle.std.specs.Prelude.{if◌then◌else◌}
 use Rattle.std.specs.Option.{option_to_list}
@@ -17,24 +18,24 @@ use Rattle.sixel_grammar.specs.Pending.{form_of}
 abbrev pub completions : Completed → List Placed
 completions c = option_to_list c.first ++ option_to_list c.second
 
--- how many bytes more may come
+-- how many more bytes may come
 abbrev pub left_of : Reader → ℕ
 left_of reader = reader.left
 
 abbrev pub fault_of : Reader → Option Fault
 fault_of reader = reader.fault
 
--- where what is open began, after n bytes; what is not open yet would begin there
+-- where what is open began, after n bytes; n if nothing is open
 abbrev pub opened_after : ℕ → Reader → ℕ
 opened_after n reader = if is_idle (form_of reader.pending) then n else reader.opened
 
--- the reader has no fault, and stands after these bytes, in which these events are complete
+-- the reader has no fault, and has read these bytes, in which these events are complete
 pub record StandsAfter (reader : Reader) (events : List Placed) (bytes : List ℕ) : Type 0 where
   pub no_fault : reader.fault ≡ None
   pub left : left_of reader + length bytes ≡ most_bytes
   pub ends : EndsIn (form_of reader.pending) events (opened_after (length bytes) reader) bytes
 
--- wherever the reader stood, it stands after one byte more, with which these events are complete
+-- whatever the reader had read, it has read one more byte, and the byte completes these events
 abbrev pub Takes : Reader → Reader → ℕ → List Placed → Type 0
 Takes old new byte done =
     (events : List Placed) (bytes : List ℕ) → StandsAfter old events bytes →
@@ -45,20 +46,20 @@ is_columns (Step (Sixel bits)) = true
 is_columns (Step (Repeat count bits)) = true
 is_columns _ = false
 
--- nothing, or a sixel or a repeat alone
+-- no event, or only a sixel or a repeat
 abbrev pub are_plain : List Placed → Bool
 are_plain [] = true
 are_plain (p ∷ []) = is_columns p.event
 are_plain _ = false
 
--- wherever the reader stood, no reader stands after one byte more that completes nothing, or a sixel or a repeat alone
+-- whatever the reader had read, no reader can take the byte and complete nothing, or only a sixel or a repeat
 abbrev pub IsNotPlain : Reader → ℕ → Type 0
 IsNotPlain old byte =
     (after : Reader) (events done : List Placed) (bytes : List ℕ) → StandsAfter old events bytes →
     are_plain done ≡ true → StandsAfter after (events ++ done) (bytes ++ byte ∷ []) → ⊥
 
--- wherever the reader stood, this is the fault of the bytes with that byte
--- it stands at that byte, and the reader has it
+-- whatever the reader had read, this is the fault of those bytes with the next one.
+-- Its offset is that of the next byte, and the reader keeps it
 abbrev pub Refuses : Reader → Reader → ℕ → Fault → Type 0
 Refuses old new byte fault =
     (events : List Placed) (bytes : List ℕ) → StandsAfter old events bytes →

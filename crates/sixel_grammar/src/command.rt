@@ -1,4 +1,4 @@
-//! What a document says, as events (DEC EK-VT3XX-GP, volume 2, the chapter on sixel graphics).
+//! What a document says, as events. Titles in parentheses are sections of DEC EK-VT3XX-GP-002.
 
 ghost use Rattle.std.specs.Prelude.{◌≡◌, ◌↔◌, IsTrue, Some, None};
 ghost use Rattle.sixel_grammar.specs.Spelling.{IsSpellable};
@@ -9,25 +9,25 @@ use arrayvec::ArrayVec;
 /// One command of the picture data.
 #[derive(Clone, Copy, Debug, PartialEq, Eq)]
 pub enum Command {
-    /// One column of six pixels: bit 0 is the topmost, and a set bit paints. Bits above 63 can't be spelled.
+    /// One column of six pixels. Bit 0 is the top one, and a set bit paints. Values above 63 can't be spelled.
     Sixel(u8),
-    /// The same column, `count` times to the right.
+    /// `!`: the same column, `count` times side by side (Graphics Repeat Introducer).
     Repeat {
         count: u16,
         bits: u8,
     },
-    /// Raster attributes: the pixel aspect ratio `pan` to `pad`, and the picture's size in pixels. What is missing
-    /// is 0.
+    /// The pixel aspect ratio `pan` to `pad`, and the picture's width and height in pixels (Raster Attributes). Missing
+    /// fields are 0.
     Raster {
         pan: u16,
         pad: u16,
         width: u16,
         height: u16,
     },
-    /// Selects a colour register.
+    /// `#` with one field: selects a colour register (Graphics Color Introducer).
     Select(u16),
-    /// Gives a register a colour. System 1 is HLS (hue in degrees, then lightness and saturation in percent), system 2
-    /// is RGB (each in percent).
+    /// `#` with five fields: defines the colour of a register. System 1 is HLS: hue in degrees, then lightness and
+    /// saturation in percent. System 2 is RGB, each in percent.
     Define {
         register: u16,
         system: u16,
@@ -35,55 +35,55 @@ pub enum Command {
         y: u16,
         z: u16,
     },
-    /// Back to the left margin of the same band of six rows.
+    /// `$`: back to the left margin of the same band of six rows (Graphics Carriage Return).
     CarriageReturn,
-    /// To the left margin of the next band.
+    /// `-`: to the left margin of the next band (Graphics New Line).
     NextLine,
 }
 
-/// What a document says, in order: a start, commands, a finish.
+/// One event of a document: a document is a start, then commands, then a finish.
 #[derive(Clone, Debug, PartialEq, Eq, Drop)]
 pub enum Event {
-    /// The introducer, of 8 bits (90) or 7 (ESC P), and its parameters. One of no parameter can't be spelled.
+    /// The introducer, 8-bit (90) or 7-bit (ESC P), and its parameters. A start without parameters can't be spelled.
     Start {
         eight: bool,
         parameters: ArrayVec<u16, 3>,
     },
     Step(Command),
-    /// The terminator, of 8 bits (9C) or 7 (ESC \).
+    /// The terminator, 8-bit (9C) or 7-bit (ESC \).
     Finish {
         eight: bool,
     },
 }
 
-/// An event, and the offset of its first byte, from 0.
+/// An event, and the offset of its first byte, in bytes from 0.
 #[derive(Clone, Debug, PartialEq, Eq, Drop)]
 pub struct Placed {
     pub place: u64,
     pub event: Event,
 }
 
-/// The events that one byte completed, in order: the command that it ended, and what is whole with it.
+/// The events that one byte completed, in order. Two are a command that the byte ended, and the byte's own event.
 #[derive(Clone, Debug, PartialEq, Eq, Drop)]
 pub struct Completed {
     pub first: Option<Placed>,
     pub second: Option<Placed>,
 }
 
-/// What one byte completed that completed no more than a command.
+/// What one byte completed: nothing, or one command.
 #[derive(Clone, Copy, Debug, PartialEq, Eq)]
 pub enum Plain {
     Nothing,
-    /// A command, and the offset of its first byte, from 0.
+    /// A command, and the offset of its first byte, in bytes from 0.
     Command { place: u64, command: Command },
 }
 
-/// Data bytes after each other, each of which is a sixel by itself.
+/// A run of data bytes, each of which is a single sixel.
 #[derive(Clone, Copy, Debug, PartialEq, Eq)]
 pub struct Stretch {
-    /// The offset of the first of them, from 0.
+    /// The offset of the first one, in bytes from 0.
     pub place: u64,
-    /// How many they are.
+    /// How many there are.
     pub count: usize,
 }
 
@@ -136,7 +136,7 @@ impl Completed {
 }
 
 impl Event {
-    /// Whether some bytes spell it.
+    /// Whether some bytes spell it: sixel bits are at most 63, and a start has a parameter.
     pub fn is_spellable(&self) -> bool
         ensures { IsTrue result ↔ IsSpellable self.now }
     {

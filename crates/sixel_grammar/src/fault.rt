@@ -1,20 +1,20 @@
-//! Why bytes are no document.
+//! Why bytes aren't a document.
 
 use sixel_io::DeviceFault;
 use std::alloc::AllocError;
 
-/// What is wrong at the first byte with which no document goes on.
+/// What is wrong with the first invalid byte: no document continues with it.
 #[derive(Clone, Copy, Debug, PartialEq, Eq)]
 pub enum Reason {
-    /// The string doesn't begin, or its parameters don't end in `q`.
+    /// There is no introducer, or its parameters don't end in `q`.
     NotSixel = 1,
-    /// A byte that has no meaning where no command is open, or within the fields of one.
+    /// A byte that has no meaning between commands, or in the fields of one.
     BadByte = 2,
-    /// A digit with which a number is above 65,535.
+    /// A digit that makes a number larger than 65,535.
     NumberTooLarge = 3,
-    /// A field too many, or a colour command of two, three or four fields.
+    /// One field too many, or a colour command of two, three or four fields.
     FieldCount = 4,
-    /// A repeat's number isn't followed by a data byte.
+    /// The number of a repeat isn't followed by a data byte.
     BadRepeat = 5,
     /// ESC in the picture data isn't followed by `\`.
     BadTerminator = 6,
@@ -22,26 +22,26 @@ pub enum Reason {
     Truncated = 7,
     /// The document is longer than 268,435,456 bytes.
     TooLong = 8,
-    /// Something but filler follows the string.
+    /// Something other than filler follows the string.
     Trailing = 9,
 }
 
-/// Why bytes are no document, and where.
+/// Why bytes aren't a document, and where.
 #[derive(Clone, Copy, Debug, PartialEq, Eq)]
 pub struct Fault {
     pub reason: Reason,
-    /// The offset of the byte with which no document goes on, in bytes from 0; for `Truncated` the length of the input.
+    /// The offset of the first invalid byte, in bytes from 0; for `Truncated` the length of the input.
     pub place: u64,
 }
 
 /// Why no document was read.
 #[derive(Clone, Copy, Debug, PartialEq, Eq)]
 pub enum InputFault {
-    /// The bytes are no document.
+    /// The bytes aren't a document.
     Grammar(Fault),
-    /// No memory was left for the events, or in a check for the pixels.
+    /// An allocation failed: for the events, or in a check for the pixels.
     OutOfMemory,
-    /// The source failed.
+    /// A call of the source failed.
     Read,
 }
 
@@ -67,7 +67,7 @@ impl From<AllocError> for InputFault {
     }
 }
 
-/// A device that gives an input is read.
+/// A fault of the input's device is a failed read.
 impl From<DeviceFault> for InputFault {
     ghost use Rattle.std.specs.Prelude.{◌≡◌};
     ghost use Rattle.sixel_grammar.specs.declared.fault.InputFault.TheVariants.{Read};

@@ -14,7 +14,7 @@ ghost use Rattle.sixel_grammar.specs.Prefixes.{CompleteIn, IsViable};
 ghost use Rattle.sixel_grammar.specs.Spelling.{IsEvent, IsSpellable, Spells, fixed_spelling};
 ghost use Rattle.sixel_grammar.specs.Standing.{StandsAfter};
 
-/// Bytes are a document of one list of events at most.
+/// Bytes are a document of at most one list of events.
 pub fn one_document()
     ensures { (bytes : List ℕ) (first second : List PlacedEvent) → Document first bytes → Document second bytes →
         first ≡ second }
@@ -30,12 +30,12 @@ pub fn documents_are_whole()
     ensures { (events : List PlacedEvent) (bytes : List ℕ) → Document events bytes → AreWhole (events_of events) }
 {}
 
-/// The events complete in a viable list are none, or a start and commands, or a whole document's.
+/// The events complete in a viable list are none, a start and commands, or those of a whole document.
 pub fn complete_events_come_first()
     ensures { (events : List PlacedEvent) (bytes : List ℕ) → CompleteIn events bytes → ArePrefix (events_of events) }
 {}
 
-/// Each prefix of a document, its limit aside, is viable.
+/// Each prefix of a document is viable. The length limit doesn't matter here.
 pub fn prefixes_of_documents_are_viable()
     ensures { (prefix rest : List ℕ) (pieces : List Piece) → Parses pieces (prefix ++ rest) → IsViable prefix }
 {}
@@ -45,13 +45,13 @@ pub fn prefixes_are_viable()
     ensures { (prefix rest : List ℕ) → IsViable (prefix ++ rest) → IsViable prefix }
 {}
 
-/// The events complete in a viable list are one list, whatever tail makes it a document.
+/// The events complete in a viable list don't depend on the tail that makes it a document.
 pub fn one_list_is_complete()
     ensures { (prefix : List ℕ) (first second : List PlacedEvent) → CompleteIn first prefix → CompleteIn second prefix →
         first ≡ second }
 {}
 
-/// The events complete in a viable list stay complete, and first, in a longer one.
+/// The events complete in a viable list are the first ones of those complete in a longer one.
 pub fn complete_events_stay()
     ensures { (prefix rest : List ℕ) (first second : List PlacedEvent) →
         CompleteIn first prefix → CompleteIn second (prefix ++ rest) →
@@ -63,7 +63,7 @@ pub fn documents_are_complete()
     ensures { (events : List PlacedEvent) (bytes : List ℕ) → Document events bytes → CompleteIn events bytes }
 {}
 
-/// The events handed out by a reader are those that are complete in the bytes that it stands after.
+/// The events that a reader has returned are those complete in the bytes that it has read.
 pub fn what_a_reader_read()
     ensures { (reader : AReader) (events : List PlacedEvent) (bytes : List ℕ) → StandsAfter reader events bytes →
         CompleteIn events bytes }
@@ -84,7 +84,8 @@ pub fn fixed_spelling_is_short()
     ensures { (event : AnEvent) → IsEvent event → length (fixed_spelling event) ≤ most_length event }
 {}
 
-/// The fixed spellings of a start, commands and a finish, joined, are a document of just these events.
+/// The fixed spellings of a start, commands and a finish, joined, are a document of exactly these events, if they keep
+/// to the length limit.
 pub fn fixed_spellings_join()
     ensures { (events : List AnEvent) → AllByRecursion CanWrite events → AreWhole events →
         length (fixed_text events) ≤ most_bytes → Document (fixed_places 0 events) (fixed_text events) }
@@ -96,12 +97,12 @@ pub fn faults_stay()
         IsFaultOf (bytes ++ more) fault }
 {}
 
-/// Bytes with a fault are no document.
+/// Bytes with a fault aren't a document.
 pub fn faults_are_no_documents()
     ensures { (bytes : List ℕ) (fault : AFault) → IsFaultOf bytes fault → IsDocument bytes → ⊥ }
 {}
 
-/// Bytes have one fault at most.
+/// Bytes have at most one fault.
 pub fn one_fault()
     ensures { (bytes : List ℕ) (first second : AFault) → IsFaultOf bytes first → IsFaultOf bytes second →
         first ≡ second }

@@ -1,5 +1,7 @@
-//! The grammar of sixel pictures (DEC EK-VT3XX-GP, volume 2, the chapter on sixel graphics): what a document says, read
-//! byte by byte from any source and written to any sink.
+//! The grammar of sixel pictures: what a document says, read byte by byte from any source and written to any sink.
+//!
+//! The standard is DEC EK-VT3XX-GP-002 (VT330/VT340 Programmer Reference Manual, Volume 2: Graphics Programming), the
+//! chapter on sixel graphics.
 #![tactic(auto)]
 
 mod command;

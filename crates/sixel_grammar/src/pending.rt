@@ -1,4 +1,4 @@
-//! What is open after the bytes of a document so far, and how one byte goes on with it.
+//! What is open after the bytes read so far, and how the next byte changes that.
 
 ghost use Rattle.std.specs.Prelude.{◌≡◌, ◌<◌, ◌+◌, ◌-◌, IsTrue, true, false, if◌then◌else◌, length, List, [], ◌∷◌};
 ghost use Rattle.std.specs.Prelude.{◌++◌, IsNone, IsSome, IfSome, OnSome, Some, None, nat_le, ◌↔◌};
@@ -20,7 +20,7 @@ use arrayvec::ArrayVec;
 
 const ESCAPE: u8 = 0x1b;
 
-/// What is open.
+/// The reader's state: what is open, if anything.
 #[derive(Clone, Copy, Debug, PartialEq, Eq)]
 pub(crate) enum Open {
     NothingYet,
@@ -35,7 +35,7 @@ pub(crate) enum Open {
     Ended,
 }
 
-/// What is open, with its numbers.
+/// The state, with the numbers read so far.
 #[derive(Debug, Drop)]
 pub(crate) struct Pending {
     form: Open,
@@ -45,7 +45,7 @@ pub(crate) struct Pending {
     fields: ArrayVec<u16, 4>,
 }
 
-/// An event that is whole with a byte.
+/// An event that a byte completes.
 #[derive(Clone, Copy, Debug, PartialEq, Eq)]
 pub(crate) enum WholeEvent {
     Start,
@@ -53,7 +53,7 @@ pub(crate) enum WholeEvent {
     Finish { eight: bool },
 }
 
-/// The command that a byte ends, and the event that it makes whole itself.
+/// A command that a byte ends, and the event that the byte itself completes.
 #[derive(Clone, Copy, Debug, PartialEq, Eq)]
 pub(crate) struct Both {
     pub ended: Command,
@@ -74,7 +74,7 @@ fn is_data(byte: u8) -> bool
     b'?' <= byte && byte <= b'~'
 }
 
-/// Whether it may stand where no command is open.
+/// Whether the byte is allowed when no command is open.
 fn is_body(byte: u8) -> bool
     ensures { result ≡ body_test byte }
 {
@@ -133,7 +133,7 @@ impl Pending {
         }
     }
 
-    /// Whether no command is open, in the picture data.
+    /// Whether we are in the picture data and no command is open.
     #[inline]
     pub(crate) fn is_between_commands(&self) -> bool
         ensures { IsTrue result ↔ (form_of self.now ≡ NoCommandForm) }
@@ -144,7 +144,7 @@ impl Pending {
         }
     }
 
-    /// The command that is open, where the next byte ends it.
+    /// The open command, if it has all its fields, so that the next byte may end it.
     fn settled(&self) -> Option<Command>
         ensures { option_map step_of result ≡ settled_of (form_of self.now) }
     {
@@ -155,7 +155,7 @@ impl Pending {
         }
     }
 
-    /// The command that the byte ends, where it begins another or is filler, and makes nothing whole itself.
+    /// The command that the byte ends, if the byte is filler, ESC or another command's introducer.
     pub(crate) fn end_command(&mut self, byte: u8) -> Option<Command>
         requires { only_grown (within_of (form_of self.old) byte) ≡ None }
         ensures ended { IfSome result (λ command.
@@ -169,7 +169,7 @@ impl Pending {
         }
     }
 
-    /// The command that the byte ends, and the event that it makes whole itself.
+    /// The command that the byte ends, and the event that the byte itself completes.
     pub(crate) fn end_and_make_whole(&mut self, byte: u8) -> Option<Both>
         requires { only_grown (within_of (form_of self.old) byte) ≡ None }
         ensures ended { IfSome result (λ both. next_of (form_of self.old) byte ≡
@@ -186,7 +186,7 @@ impl Pending {
         }
     }
 
-    /// Goes on from where no command is open, with filler or the first byte of a command; whether it did.
+    /// Takes filler, ESC or a command's introducer when no command is open. Returns whether it did.
     fn try_begin(&mut self, byte: u8) -> bool
         ensures grown { Grows result self.new (begin_of byte) }
         ensures refused { result ≡ false → self.new ≡ self.old }
@@ -202,7 +202,7 @@ impl Pending {
         true
     }
 
-    /// The event that a byte is by itself, where no command is open.
+    /// The event that the byte alone is when no command is open: a sixel, `$`, `-` or the terminator 9C.
     fn begin_whole(&mut self, byte: u8) -> Option<WholeEvent>
         ensures whole { MakesWhole result self.new (begin_of byte) }
         ensures refused { IsNone result → self.new ≡ self.old }
@@ -228,7 +228,7 @@ impl Pending {
         }
     }
 
-    /// Goes on with what is open, where the byte makes nothing whole; whether it did.
+    /// Takes a byte that continues what is open and completes nothing. Returns whether it did.
     pub(crate) fn try_grow(&mut self, byte: u8) -> bool
         ensures grown { Grows result self.new (within_of (form_of self.old) byte) }
         ensures refused { result ≡ false → self.new ≡ self.old }
@@ -335,7 +335,7 @@ impl Pending {
         }
     }
 
-    /// The event that is whole with the byte, where what is open goes on with it.
+    /// Takes a byte that continues what is open and completes an event. Returns the event.
     pub(crate) fn make_whole(&mut self, byte: u8) -> Option<WholeEvent>
         ensures whole { MakesWhole result self.new (within_of (form_of self.old) byte) }
         ensures refused { IsNone result → self.new ≡ self.old }
@@ -390,7 +390,7 @@ impl Pending {
         }
     }
 
-    /// Changes what is open, and keeps the numbers.
+    /// Changes the state, and keeps the numbers.
     fn set(&mut self, form: Open)
         ensures { self.new ≡ record self.old { form = form } }
     {
@@ -404,7 +404,7 @@ impl Pending {
         self.number = 0;
     }
 
-    /// Begins a command of fields, with none yet.
+    /// Opens a command with fields, none of them read yet.
     fn begin_fields(&mut self, form: Open)
         ensures { self.new ≡ record self.old { form = form; fields = record { items = [] }; number = 0 } }
     {
@@ -413,7 +413,7 @@ impl Pending {
         self.number = 0;
     }
 
-    /// Begins the parameters.
+    /// Opens the parameters of the introducer.
     fn introduce(&mut self, eight: bool)
         ensures { self.new ≡ record self.old {
           form = Open.Parameters;
@@ -450,7 +450,7 @@ impl Pending {
         self.number = 0;
     }
 
-    /// Adds the digit to the number that is open, where it isn't too large then; whether it did.
+    /// Appends the digit to the open number, if it stays at most 65,535. Returns whether it did.
     #[inline]
     fn try_add_digit(&mut self, byte: u8) -> bool
         requires { IsTrue (digit_test byte) }
@@ -478,7 +478,7 @@ impl Pending {
         )
     }
 
-    /// Goes on with the number that is open, where there is one and it isn't too large then; whether it did.
+    /// Appends the digit to the open number, if there is one and it stays at most 65,535. Returns whether it did.
     #[inline]
     pub(crate) fn try_take_digit(&mut self, byte: u8) -> bool
         requires { IsTrue (digit_test byte) }
@@ -490,7 +490,7 @@ impl Pending {
         self.has_number() && self.try_add_digit(byte)
     }
 
-    /// Opens the next field, where a colour command is open and may have one more; whether it did.
+    /// Opens the next field, if a colour command is open and may have another. Returns whether it did.
     #[inline]
     pub(crate) fn try_take_separator(&mut self) -> bool
         ensures taken { result ≡ true → within_of (form_of self.old) 59 ≡ Some (form_of self.new, None) }
@@ -507,7 +507,7 @@ impl Pending {
         }
     }
 
-    /// Begins a repeat, where no command is open; whether it did.
+    /// Opens a repeat, if no command is open. Returns whether it did.
     #[inline]
     pub(crate) fn try_begin_repeat(&mut self) -> bool
         ensures taken { result ≡ true → within_of (form_of self.old) 33 ≡ Some (form_of self.new, None) }
@@ -523,7 +523,7 @@ impl Pending {
         }
     }
 
-    /// The repeat that is open, where the byte ends it.
+    /// The open repeat, if the byte ends it.
     #[inline]
     pub(crate) fn end_repeat(&mut self, byte: u8) -> Option<Command>
         ensures ended { IfSome result (λ command.
@@ -549,7 +549,7 @@ impl Pending {
         }
     }
 
-    /// The event that is whole; a start has the parameters that were read.
+    /// The completed event; a start has the parameters that were read.
     #[inline]
     pub(crate) fn event_of(&self, whole: WholeEvent) -> Event
         ensures { result ≡ event_of whole self.now }
@@ -601,7 +601,7 @@ impl Pending {
         }
     }
 
-    /// Why the byte can't follow, where it can't.
+    /// The fault's reason, if the byte can't follow.
     pub(crate) fn reason_for(&self, byte: u8) -> Reason
         ensures { result ≡ refusal (form_of self.now) byte }
     {

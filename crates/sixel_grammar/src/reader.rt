@@ -21,17 +21,17 @@ use crate::stretch::data_bytes_in;
 /// The greatest length of a document.
 const MOST_BYTES: u64 = 268_435_456;
 
-/// Reads a document byte by byte, and hands out each event as it is complete.
+/// Reads a document byte by byte, and returns each event as soon as it is complete.
 ///
-/// It keeps nothing of the bytes but what is open, and takes no memory.
+/// It stores no bytes, only what is open, and allocates nothing.
 #[derive(Debug, Drop)]
 pub struct Reader {
-    /// How many bytes more may come before the limit; none after a fault.
+    /// How many more bytes may come before the limit; 0 after a fault.
     left: u64,
-    /// Where what is open began.
+    /// The offset where what is open began.
     opened: u64,
-    /// How many byte values, from `?` on, are a sixel by themselves now: 64 between commands, none where none
-    /// may come.
+    /// How many byte values from `?` on are single sixels now: 64 if no command is open and a byte may come, otherwise
+    /// 0.
     sixels: u8,
     pending: Pending,
     fault: Option<Fault>,
@@ -59,7 +59,8 @@ impl Reader {
         }
     }
 
-    /// Reads one byte. After an `Err` the reader answers that fault ever after.
+    /// Reads one byte, and returns the events that it completes. After an `Err`, each further call returns the same
+    /// fault.
     #[inline(always)]
     pub fn feed(&mut self, byte: u8) -> Result<Completed, Fault>
         ensures kept { IfSome (fault_of self.old) (λ fault. (result ≡ Err fault) × (self.new ≡ self.old)) }
@@ -76,10 +77,10 @@ impl Reader {
         self.complete_or_refuse(byte)
     }
 
-    /// Reads one byte as `feed` does, where it completes nothing, is a sixel by itself, or ends a repeat.
+    /// Reads one byte as `feed` does, if the byte completes nothing, or only a sixel or a repeat.
     ///
-    /// `None`: it is none of these or refused, it was not read, and nothing has changed. This way is the quicker one,
-    /// and `feed` takes every byte.
+    /// `None` means that it completes something else, or is invalid. Then it wasn't read, and nothing has changed: give
+    /// it to `feed`, which takes every byte. This method is faster.
     #[inline(always)]
     pub fn feed_plain(&mut self, byte: u8) -> Option<Plain>
         ensures accepted { IfSome result (λ p. Takes self.old self.new byte (completions (plain_of p))) }
@@ -97,8 +98,8 @@ impl Reader {
         Some(Plain::Nothing)
     }
 
-    /// The ways of nearly all bytes: a sixel by itself, a digit, a separator of colour fields, a repeat from its
-    /// introducer to the data byte that ends it.
+    /// The fast paths, which take nearly all bytes: a single sixel, a digit, a separator of colour fields, a repeat
+    /// from its introducer to its data byte.
     #[inline(always)]
     fn feed_quickly(&mut self, byte: u8) -> Option<Plain>
         ensures accepted { IfSome result (λ p. Takes self.old self.new byte (completions (plain_of p))) }
@@ -120,10 +121,10 @@ impl Reader {
         }
     }
 
-    /// Reads the longest prefix of a piece in which each byte is a sixel by itself.
+    /// Reads the longest prefix of the piece whose bytes are all single sixels.
     ///
-    /// It reads none where a command is open or no byte may come, and then nothing has changed. The byte after those
-    /// that it read is one for `feed`.
+    /// It reads nothing if a command is open or no byte may come, and then nothing has changed. Give the byte after the
+    /// prefix to `feed`.
     #[inline(always)]
     pub fn feed_stretch(&mut self, piece: &[u8]) -> Stretch
         ensures within { result.count ≤ length piece.now }
@@ -149,7 +150,7 @@ impl Reader {
         Stretch { place, count }
     }
 
-    /// Goes on with the number that is open.
+    /// Appends the digit to the open number.
     #[inline(always)]
     fn take_digit(&mut self, byte: u8) -> Option<Plain>
         requires { IsTrue (digit_test byte) }
@@ -166,7 +167,7 @@ impl Reader {
         }
     }
 
-    /// Goes on with the next field of a colour.
+    /// Opens the next field of a colour command.
     #[inline(always)]
     fn take_separator(&mut self) -> Option<Plain>
         ensures accepted { IfSome result (λ p. Takes self.old self.new 59 (completions (plain_of p))) }
@@ -182,7 +183,7 @@ impl Reader {
         }
     }
 
-    /// Opens a repeat, where no command is open.
+    /// Opens a repeat, if no command is open.
     #[inline(always)]
     fn begin_repeat(&mut self) -> Option<Plain>
         ensures accepted { IfSome result (λ p. Takes self.old self.new 33 (completions (plain_of p))) }
@@ -200,7 +201,7 @@ impl Reader {
         }
     }
 
-    /// Hands out the repeat that is open, where the byte ends it.
+    /// Returns the open repeat, if the byte ends it.
     #[inline(always)]
     fn end_repeat(&mut self, byte: u8) -> Option<Plain>
         ensures accepted { IfSome result (λ p. Takes self.old self.new byte (completions (plain_of p))) }
@@ -219,7 +220,7 @@ impl Reader {
         Some(Plain::Command { place, command })
     }
 
-    /// Whether the byte is a sixel by itself.
+    /// Whether the byte is a single sixel.
     #[inline]
     fn is_sixel(&self, byte: u8) -> bool
         ensures { IsTrue result
@@ -246,7 +247,7 @@ impl Reader {
         Plain::Command { place, command }
     }
 
-    /// Goes on with what is open, where the byte completes nothing; whether it did.
+    /// Takes a byte that continues what is open and completes nothing. Returns whether it did.
     #[inline(never)]
     fn try_grow(&mut self, byte: u8) -> bool
         ensures accepted { result ≡ true → Takes self.old self.new byte [] }
@@ -268,7 +269,7 @@ impl Reader {
         true
     }
 
-    /// The command that the byte ends, where it completes nothing else.
+    /// The command that the byte ends, if it completes nothing else.
     #[inline(never)]
     fn end_command(&mut self, byte: u8) -> Option<Plain>
         requires { 0 < self.old.left → only_grown (within_of (form_of self.old.pending) byte) ≡ None }
@@ -289,7 +290,8 @@ impl Reader {
         Some(Plain::Command { place, command })
     }
 
-    /// Any other byte. Its answers have places of their own here, so that the ways above touch no memory for them.
+    /// Any other byte. Its results have locals of their own here, so that the fast paths above write no memory for
+    /// them.
     #[inline(always)]
     fn complete_or_refuse(&mut self, byte: u8) -> Result<Completed, Fault>
         requires { 0 < self.old.left → only_grown (within_of (form_of self.old.pending) byte) ≡ None }
@@ -344,7 +346,7 @@ impl Reader {
         }
     }
 
-    /// Where what is open began; what is not open yet would begin here.
+    /// The offset where what is open began. If nothing is open, the next thing begins at `place`.
     #[inline]
     fn opened_at(&self, place: u64) -> u64
         ensures { result ≡ opened_after place self.now }
@@ -367,7 +369,7 @@ impl Reader {
         fault
     }
 
-    /// Whether the bytes so far are a document; else their fault.
+    /// Checks whether the bytes so far are a document, and returns their fault if not.
     ///
     /// It changes nothing, so feeding may go on after a `Truncated`.
     pub fn finish(&self) -> Result<(), Fault>
@@ -390,7 +392,7 @@ impl Reader {
     }
 }
 
-/// How many byte values, from `?` on, are a sixel by themselves, where so many bytes may come.
+/// How many byte values from `?` on are single sixels, if `left` more bytes may come.
 #[inline]
 fn ready_for(left: u64, pending: &Pending) -> u8
     ensures ready { 0 < result → (result ≡ 64) × (0 < left) × (form_of pending.now ≡ NoCommandForm) }

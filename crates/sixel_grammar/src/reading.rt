@@ -15,7 +15,8 @@ use crate::reader::Reader;
 use sixel_io::{PIECE, Source};
 use std::alloc::{AllocError, Global};
 
-/// The events of the whole document that the source gives, each with its place.
+/// Reads the source to its end, and returns the events of its document, each with its offset. `Read` means that the
+/// source failed before any invalid byte was seen.
 pub fn read_all<S: Source>(alloc: Global, input: &mut S) -> Result<Vec<Placed>, InputFault>
     ensures document { IfOk result (λ v. IfSome (S.state input.old).remaining (Document v.items)) }
     ensures refused { IfErr result (λ fault. IfSome (S.state input.old).remaining (Explains fault)) }
@@ -36,7 +37,7 @@ pub fn read_all<S: Source>(alloc: Global, input: &mut S) -> Result<Vec<Placed>, 
     }
 }
 
-/// Reads the bytes of a piece.
+/// Feeds the bytes of a piece to the reader, and keeps the events that they complete.
 fn read_piece(reader: &mut Reader, events: &mut Vec<Placed>, piece: &[u8]) -> Result<(), InputFault>
     ensures read { OnOk result ((prefix : List ℕ) → StandsAfter reader.old events.old.items prefix →
         StandsAfter reader.new events.new.items (prefix ++ piece.now)) }
@@ -49,7 +50,7 @@ fn read_piece(reader: &mut Reader, events: &mut Vec<Placed>, piece: &[u8]) -> Re
     Ok(())
 }
 
-/// Reads one byte, and keeps the events that it completes.
+/// Feeds one byte to the reader, and keeps the events that it completes.
 fn read_byte(reader: &mut Reader, events: &mut Vec<Placed>, byte: u8) -> Result<(), InputFault>
     ensures read { OnOk result ((prefix : List ℕ) → StandsAfter reader.old events.old.items prefix →
         StandsAfter reader.new events.new.items (prefix ++ byte ∷ [])) }

@@ -1,19 +1,19 @@
-//! How many data bytes stand after each other.
+//! Counts the data bytes at the beginning of a piece.
 
 ghost use Rattle.std.specs.Prelude.{◌≡◌, ◌<◌, ◌≤◌, ◌+◌, ◌-◌, length};
 ghost use Rattle.sixel_grammar.specs.Stretches.{CountsDataBytes};
 
 use std::simd::prelude::*;
 
-/// How many bytes are looked at at once.
+/// How many bytes are tested at once.
 const LANES: usize = 16;
 
-/// How many bytes of a piece, from its first on, are data bytes.
+/// How many data bytes the piece begins with.
 #[inline(always)]
 pub(crate) fn data_bytes_in(piece: &[u8]) -> usize
     ensures { CountsDataBytes piece.now 0 (length piece.now) result }
 {
-    // Any command begins below the data bytes, and needs no lanes.
+    // Every command but a sixel begins below `?`, so a piece that begins there needs no lanes.
     if piece.is_empty() || piece[0] < b'?' {
         return 0;
     }
@@ -27,7 +27,7 @@ pub(crate) fn data_bytes_in(piece: &[u8]) -> usize
     groups * LANES + data_bytes_in_rest(piece, groups * LANES)
 }
 
-/// How many bytes of a group, from its first on, are data bytes.
+/// How many data bytes the group begins with.
 #[inline(always)]
 fn data_bytes_in_group(piece: &[u8], from: usize) -> usize
     requires { from + LANES ≤ length piece.now }
@@ -42,7 +42,7 @@ fn data_bytes_in_group(piece: &[u8], from: usize) -> usize
     }
 }
 
-/// How many bytes are data bytes of those that are no whole group.
+/// How many data bytes the rest of the piece begins with, after the whole groups.
 #[inline(never)]
 fn data_bytes_in_rest(piece: &[u8], from: usize) -> usize
     requires { from ≤ length piece.now }

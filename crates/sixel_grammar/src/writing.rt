@@ -11,7 +11,8 @@ use arrayvec::ArrayVec;
 use itoa::Buffer;
 use sixel_io::{Block, DeviceFault, Sink, put_all};
 
-/// Hands the sink the fixed spelling of an event, or on an `Err` a prefix of it; it doesn't flush.
+/// Writes the fixed spelling of an event to the sink. On an `Err` the sink has failed and took a prefix of it. It
+/// doesn't flush.
 pub fn write_event<K: Sink>(event: &Event, out: &mut K) -> Result<(), DeviceFault>
     requires { IsSpellable event.now }
     ensures written { Writes result (K.state out.old) (K.state out.new) (fixed_spelling event.now) }
@@ -21,8 +22,8 @@ pub fn write_event<K: Sink>(event: &Event, out: &mut K) -> Result<(), DeviceFaul
     put_all(out, text.as_slice())
 }
 
-/// Puts the fixed spelling of an event into a block, or where the sink fails none of it. No spelling is longer than 30
-/// bytes.
+/// Puts the fixed spelling of an event, at most 30 bytes, into a block. On an `Err` the sink has failed, and none of
+/// the spelling was put.
 #[inline]
 pub fn put_event<const ROOM: usize, K: Sink>(
     text: &mut Block<ROOM>,

@@ -1,4 +1,4 @@
--- Bytes that were appended one piece after another.
+-- Appending bytes one piece after another.
 use Rattle.std.proofs.Common.{◌≡◌, ◌∙◌, ℕ, ◌+◌, List, [], ◌++◌, take, drop, Option, Some, None, refl, sym, ap}
 use Rattle.std.proofs.Common.{append_assoc}
 use Rattle.std.proofs.lemmas.List.{append-nil, drop-drop}
@@ -13,7 +13,7 @@ Appends-then (Some a) None c xs ys zs p q e = absurd p
 Appends-then (Some a) (Some b) None xs ys zs p q e = absurd q
 Appends-then (Some a) (Some b) (Some c) xs ys zs p q e = rw (q, p, e) (append_assoc a xs ys)
 
--- a sink took k more of the bytes that wait, of which it had taken n
+-- a sink that took the first n waiting bytes takes k more of them
 pub takes-further : (a b c : Option (List ℕ)) (waited waits left : List ℕ) (k : ℕ)
     → (n : ℕ) × Appends a b (take n waited) × (waits ≡ drop n waited) → Appends b c (take k waits)
     → left ≡ drop k waits

@@ -1,4 +1,4 @@
--- On what was put into a block, and on what the sink behind it took.
+-- What is put into a block, and what the sink behind it takes.
 use Rattle.std.proofs.Common.{◌≡◌, ℕ, zero, suc, ◌+◌, ◌-◌, ◌<◌, ◌≤◌, Option, Some, None, Result, Ok, Err, List, [], ◌∷◌}
 use Rattle.std.proofs.Common.{◌++◌, length, take, drop, get_or, refl, sym, ap, subst, ◌∙◌, append_assoc, arith}
 use Rattle.std.specs.Prelude.{Bool, true, false, OnOk}
@@ -11,9 +11,9 @@ use Rattle.sixel_io.specs.Blocks.{Drains, PutsAllOrNone, PutsWhole, TakesMore, W
 use Rattle.sixel_io.specs.Devices.{NeverFlushes, Puts, SinkState, Writes, one_more}
 use Rattle.sixel_io.proofs.DeviceLemmas.{Appends-then, TakesMore-refl, TakesMore-then, prefix-more}
 
--- ---- what the items of a list give, put one after another
+-- ---- the texts of a list's items, put one after another
 
--- what a prefix of a list gives is a prefix of what the list gives
+-- the text of a prefix of a list is a prefix of the list's text
 prefix_given : {X : Type 0} (f : List X → List ℕ) (xs : List X) (i : ℕ)
     → ((ys zs : List X) → f (ys ++ zs) ≡ f ys ++ f zs) → take (length (f (take i xs))) (f xs) ≡ f (take i xs)
 prefix_given f xs i joins =
@@ -21,7 +21,7 @@ prefix_given f xs i joins =
     ap f (sym (take-append-drop i xs)) ∙ joins (take i xs) (drop i xs) in
     ap (take (length (f (take i xs)))) whole ∙ take_at (f (take i xs)) (f (drop i xs)) _ refl
 
--- what a prefix of the items gives was put, and then nothing: a prefix of it all was put
+-- if the text of a prefix was put, and then nothing, a prefix of the whole text was put
 pub put_prefix : {X : Type 0} (f : List X → List ℕ) (xs : List X) (i : ℕ)
     → ((ys zs : List X) → f (ys ++ zs) ≡ f ys ++ f zs)
     → (a b c : Option (List ℕ)) → Appends a b (f (take i xs)) → Keeps b c → (n : ℕ) × Appends a c (take n (f xs))
@@ -31,7 +31,7 @@ put_prefix f xs i joins (Some a) (Some b) None put kept = absurd kept
 put_prefix f xs i joins (Some a) (Some b) (Some c) put kept =
     (length (f (take i xs)), rw (prefix_given f xs i joins) (kept ∙ put))
 
--- what a prefix of the items gives was put, and then what one more gives
+-- the text of i items was put, and then that of the next one
 pub put_more : {X : Type 0} (f : List X → List ℕ) (xs : List X) (i : ℕ) (x d : X)
     → ((ys zs : List X) → f (ys ++ zs) ≡ f ys ++ f zs)
     → (a b c : Option (List ℕ)) → i < length xs → x ≡ get_or xs i d → Appends a b (f (take i xs))
@@ -41,7 +41,7 @@ put_more f xs i x d joins a b c lt is put more =
     ap f (take_more xs i d lt ∙ ap (λ y. take i xs ++ y ∷ []) (sym is)) ∙ joins (take i xs) (x ∷ []) in
     subst (λ (t : List ℕ). Appends a c t) (sym longer) (Appends-trans a b c _ _ put more)
 
--- ---- what the sink took of what was put
+-- ---- what the sink took of the bytes that were put
 
 cancelled : (x y bs waiting prefix : List ℕ) → y ≡ x ++ bs → y ++ waiting ≡ x ++ prefix → bs ++ waiting ≡ prefix
 cancelled x y bs waiting prefix taken put =
@@ -51,7 +51,7 @@ cancelled x y bs waiting prefix taken put =
 take-take_min : (m n : ℕ) (xs : List ℕ) → m ≤ length (take n xs) → take m (take n xs) ≡ take m xs
 take-take_min m n xs short = take-take m n xs (omega (arith, length-take n xs))
 
--- the sink took a prefix of what it and the block behind it took
+-- if the sink and its block together hold a prefix of the text, the sink took a prefix of it
 pub sink_prefix : (a b : Option (List ℕ)) (waiting text : List ℕ) (n : ℕ)
     → Appends a (append_known b waiting) (take n text) → TakesMore a b → (m : ℕ) × Appends a b (take m text)
 sink_prefix None b waiting text n put more = (0, tt)
@@ -64,7 +64,7 @@ sink_prefix (Some x) (Some y) waiting text n put more =
     let short : length bs ≤ length (take n text) = omega (arith, ap length joined, length-append bs waiting) in
     (length bs, more.1 ∙ ap (λ (t : List ℕ). x ++ t) (sym prefix ∙ take-take_min (length bs) n text short))
 
--- the block was empty before
+-- puts from an empty block
 pub put_from_empty : (a b : Option (List ℕ)) (none xs : List ℕ) → none ≡ []
     → Appends (in_all a none) b xs → Appends a b xs
 put_from_empty None b none xs e put = tt
@@ -72,7 +72,7 @@ put_from_empty (Some x) None none xs e put = absurd put
 put_from_empty (Some x) (Some y) none xs e put =
     put ∙ ap (λ (t : List ℕ). t ++ xs) (ap (λ (t : List ℕ). x ++ t) e ∙ append-nil x)
 
--- the block is empty now
+-- puts that leave the block empty
 put_to_empty : (a b : Option (List ℕ)) (none xs : List ℕ) → none ≡ [] → Appends a (in_all b none) xs → Appends a b xs
 put_to_empty None b none xs e put = tt
 put_to_empty (Some x) None none xs e put = absurd put
@@ -83,7 +83,7 @@ nothing_put None b kept = tt
 nothing_put (Some x) None kept = absurd kept
 nothing_put (Some x) (Some y) kept = kept ∙ sym (append-nil x)
 
--- all was put, and the sink took what waits, or on an `Err` a prefix of it
+-- all was put, and then the block was drained, or on an `Err` a prefix of it
 pub drained : {A E : Type 0} (result : Result A E) (a b : Option (List ℕ)) (waiting text : List ℕ)
     → OnOk result (waiting ≡ []) → Appends a (in_all b waiting) text → TakesMore a b → Puts result a b text
 drained (Ok x) a b waiting text empty put extends = put_to_empty a b waiting text empty put
@@ -92,13 +92,13 @@ drained (Err f) a b waiting text empty put extends =
     (subst (λ (t : List ℕ). Appends a (in_all b waiting) t) (sym (take_all (length text) text (omega arith))) put)
     extends
 
--- ---- bytes that are put one piece after another
+-- ---- bytes put one piece after another
 
 pub Appends-none : (a : Option (List ℕ)) → Appends a a []
 Appends-none None = tt
 Appends-none (Some x) = sym (append-nil x)
 
--- bytes that were appended stay where more is kept
+-- appended bytes stay appended if nothing more is
 pub Appends-keeps : (a b c : Option (List ℕ)) (xs : List ℕ) → Appends a b xs → Keeps b c → Appends a c xs
 Appends-keeps None b c xs p q = tt
 Appends-keeps (Some a) None c xs p q = absurd p
@@ -111,12 +111,12 @@ take-longer zero xs ys = (0, refl)
 take-longer (suc n) [] ys = (0, refl)
 take-longer (suc n) (x ∷ xs) ys = let r = take-longer n xs ys in (suc r.0, ap (λ (t : List ℕ). x ∷ t) r.1)
 
--- where putting some bytes failed, so did putting more
+-- if a prefix of some bytes was put, a prefix of longer bytes was
 pub puts-longer : (a b : Option (List ℕ)) (xs ys : List ℕ) → ((n : ℕ) × Appends a b (take n xs)) → (n : ℕ)
     × Appends a b (take n (xs ++ ys))
 puts-longer a b xs ys p = let r = take-longer p.0 xs ys in (r.0, rw r.1 p.1)
 
--- some bytes were put, and then others
+-- some bytes were put, and then others, or on an `Err` a prefix of them
 pub puts-then : {A E : Type 0} (result : Result A E) (a b c : Option (List ℕ)) (xs ys : List ℕ) → Appends a b xs
     → Puts result b c ys → Puts result a c (xs ++ ys)
 puts-then (Ok x) a b c xs ys p q = Appends-then a b c xs ys (xs ++ ys) p q refl
@@ -126,14 +126,14 @@ puts-then (Err e) a b c xs ys p q = (
       (take-append-add xs ys q.0),
 )
 
--- all or none of the bytes were put
+-- putting all or none is putting all or a prefix
 pub puts-whole : {A E : Type 0} (result : Result A E) (a b : Option (List ℕ)) (xs : List ℕ)
     → PutsAllOrNone result a b xs
     → Puts result a b xs
 puts-whole (Ok x) a b xs p = p
 puts-whole (Err e) a b xs p = (0, nothing_put a b p)
 
--- some bytes were put, and then a prefix of others, all of which lie at the beginning of a whole
+-- some bytes were put, and then a prefix of others; both together are a prefix of the whole
 pub puts-stopped : (a b c : Option (List ℕ)) (xs ys rest whole : List ℕ) → Appends a b xs
     → ((n : ℕ) × Appends b c (take n ys)) → whole ≡ (xs ++ ys) ++ rest → (n : ℕ) × Appends a c (take n whole)
 puts-stopped a b c xs ys rest whole p q e =
@@ -143,9 +143,9 @@ puts-stopped a b c xs ys rest whole p q e =
     ) in
     rw e (puts-longer a c (xs ++ ys) rest cut)
 
--- ---- a text that is put step by step
+-- ---- a text put step by step
 
--- what is put stays at the beginning
+-- the text after i steps is a prefix of the text after more
 text-grows : (f s : ℕ → List ℕ) → ((i : ℕ) → f (i + 1) ≡ f i ++ s i) → (k i : ℕ)
     → (rest : List ℕ) × (f (i + k) ≡ f i ++ rest)
 text-grows f s more zero i =
@@ -172,7 +172,7 @@ pub steps-put : (f s : ℕ → List ℕ) → ((i : ℕ) → f (i + 1) ≡ f i ++
     → (a b c : Option (List ℕ)) → Appends a b (f i) → Appends b c (s i) → Appends a c (f (i + 1))
 steps-put f s more i a b c p q = Appends-then a b c (f i) (s i) (f (i + 1)) p q (more i)
 
--- ---- a text of two parts
+-- ---- a text in two parts
 
 pub put-as : (a b : Option (List ℕ)) (xs ys : List ℕ) → xs ≡ ys → Appends a b xs → Appends a b ys
 put-as a b xs ys e p = subst (λ (t : List ℕ). Appends a b t) e p
@@ -194,7 +194,7 @@ puts-nothing a b zs kept = (0, nothing_put a b kept)
 
 -- ---- calls on a sink, one after another
 
--- these bytes were written by calls that all succeeded
+-- these bytes were written by successful calls
 abbrev pub Written : SinkState → SinkState → List ℕ → Type 0
 Written old new bytes = Writes {A = Unit {0}} {E = Unit {0}} (Ok tt) old new bytes
 
@@ -232,14 +232,14 @@ writes-then {B = B} {F = F} (Err f) {a} {b} {c} {xs} {ys} {zs} e p q = record {
   held = tt;
 }
 
--- the same of a call that succeeded too
+-- the same if the second call succeeded too
 pub writes-next : {A E B F : Type 0} {x : A} {y : B} {a b c : SinkState} {xs ys : List ℕ}
     → Writes {A = A} {E = E} (Ok x) a b xs → Writes {A = B} {E = F} (Ok y) b c ys → Written a c (xs ++ ys)
 writes-next {A} {E} {B} {F} {x} {y} {a} {b} {c} {xs} {ys} p q =
     let both : Writes {A = B} {E = F} (Ok y) a c (xs ++ ys) = writes-then (Ok y) refl p q in
     record { taken = both.taken; failures = both.failures; unflushed = both.unflushed; held = both.held }
 
--- a prefix of the bytes, with which more begins, was written
+-- a failed write of a prefix is a failed write of the whole
 pub writes-cut : {A E B F : Type 0} {e : E} {f : F} {a b : SinkState} {xs zs : List ℕ} (ys : List ℕ) → zs ≡ xs ++ ys
     → Writes {A = A} {E = E} (Err e) a b xs → Writes {A = B} {E = F} (Err f) a b zs
 writes-cut {a = a} {b = b} {xs = xs} {zs = zs} ys e p = record {
@@ -257,7 +257,7 @@ pub writes-as : {A E : Type 0} {result : Result A E} {a b : SinkState} {xs ys : 
     → Writes result a b xs → Writes result a b ys
 writes-as {result = result} {a = a} {b = b} e p = subst (λ (t : List ℕ). Writes result a b t) e p
 
--- the bytes of calls that all succeeded, by another name
+-- a successful write of equal bytes, with other result types
 pub writes-done : {A E B F : Type 0} {x : A} {y : B} {a b : SinkState} {xs ys : List ℕ} → xs ≡ ys
     → Writes {A = A} {E = E} (Ok x) a b xs → Writes {A = B} {E = F} (Ok y) a b ys
 writes-done e p = record {
@@ -267,7 +267,7 @@ writes-done e p = record {
   held = λ some. p.held (rw e some);
 }
 
--- some bytes were written, and then a prefix of others, all of which lie at the beginning of a whole
+-- some bytes were written, and then a prefix of others; both together are a prefix of the whole
 pub writes-stopped : {A E B F C G : Type 0} {x : A} {e : F} {f : G} {a b c : SinkState} {xs ys whole : List ℕ}
     (rest : List ℕ) → whole ≡ (xs ++ ys) ++ rest → Writes {A = A} {E = E} (Ok x) a b xs
     → Writes {A = B} {E = F} (Err e) b c ys → Writes {A = C} {E = G} (Err f) a c whole
@@ -275,7 +275,7 @@ writes-stopped {e = e} rest is p q = writes-cut rest is (writes-then (Err e) ref
 
 -- ---- calls that put bytes through a block, one after another
 
--- these bytes were put by calls that all succeeded
+-- these bytes were put by successful calls
 abbrev pub PutThrough : SinkState → SinkState → List ℕ → List ℕ → List ℕ → Type 0
 PutThrough old new waited waits bytes =
     WritesThrough {A = Unit {0}} {E = Unit {0}} (Ok tt) old new waited waits bytes
@@ -294,7 +294,7 @@ pub through-as : {A E : Type 0} {result : Result A E} {a b : SinkState} {u v xs 
 through-as {result = result} {a = a} {b = b} {u = u} {v = v} e p =
     subst (λ (t : List ℕ). WritesThrough result a b u v t) e p
 
--- all or none of the bytes were put
+-- putting all or none is putting all or a prefix
 pub through-whole : {A E : Type 0} (result : Result A E) {a b : SinkState} {u v xs : List ℕ}
     → PutsWhole result a b u v xs → WritesThrough result a b u v xs
 through-whole result {a} {b} {u} {v} {xs} p = record {
@@ -304,7 +304,7 @@ through-whole result {a} {b} {u} {v} {xs} p = record {
   unflushed = p.unflushed;
 }
 
--- some bytes were put, and then others, or a prefix of them
+-- some bytes were put, and then others, or on an `Err` a prefix of them
 pub through-then : {A E B F : Type 0} {x : A} (result : Result B F) {a b c : SinkState} {u v w xs ys zs : List ℕ}
     → zs ≡ xs ++ ys → WritesThrough {A = A} {E = E} (Ok x) a b u v xs → WritesThrough result b c v w ys
     → WritesThrough result a c u w zs
@@ -323,7 +323,7 @@ through-then {B = B} {F = F} (Err f) {a} {b} {c} {u} {v} {w} {xs} {ys} {zs} e p 
   unflushed = λ t. p.unflushed (q.unflushed t);
 }
 
--- the same of a call that succeeded too
+-- the same if the second call succeeded too
 pub through-next : {A E B F C G : Type 0} {x : A} {y : B} {z : C} {a b c : SinkState} {u v w xs ys zs : List ℕ}
     → zs ≡ xs ++ ys → WritesThrough {A = A} {E = E} (Ok x) a b u v xs
     → WritesThrough {A = B} {E = F} (Ok y) b c v w ys → WritesThrough {A = C} {E = G} (Ok z) a c u w zs
@@ -331,7 +331,7 @@ through-next {A} {E} {B} {F} {C} {G} {x} {y} {z} {a} {b} {c} {u} {v} {w} {xs} {y
     let both : WritesThrough {A = B} {E = F} (Ok y) a c u w zs = through-then (Ok y) e p q in
     record { put = both.put; more = both.more; failures = both.failures; unflushed = both.unflushed }
 
--- the bytes of calls that all succeeded, by another name
+-- a successful put of equal bytes, with other result types
 pub through-done : {A E B F : Type 0} {x : A} {y : B} {a b : SinkState} {u v xs ys : List ℕ} → xs ≡ ys
     → WritesThrough {A = A} {E = E} (Ok x) a b u v xs → WritesThrough {A = B} {E = F} (Ok y) a b u v ys
 through-done {a = a} {b = b} {u = u} {v = v} e p = record {
@@ -341,7 +341,7 @@ through-done {a = a} {b = b} {u = u} {v = v} e p = record {
   unflushed = p.unflushed;
 }
 
--- a prefix of the bytes, with which more begins, was put
+-- a failed put of a prefix is a failed put of the whole
 pub through-cut : {A E B F : Type 0} {e : E} {f : F} {a b : SinkState} {u v xs zs : List ℕ} (ys : List ℕ)
     → zs ≡ xs ++ ys → WritesThrough {A = A} {E = E} (Err e) a b u v xs
     → WritesThrough {A = B} {E = F} (Err f) a b u v zs
@@ -352,7 +352,7 @@ through-cut {a = a} {b = b} {u = u} {v = v} {xs = xs} {zs = zs} ys e p = record 
   unflushed = p.unflushed;
 }
 
--- some bytes were put, and then a prefix of others, all of which lie at the beginning of a whole
+-- some bytes were put, and then a prefix of others; both together are a prefix of the whole
 pub through-stopped : {A E B F C G : Type 0} {x : A} {e : F} {f : G} {a b c : SinkState} {u v w xs ys whole : List ℕ}
     (rest : List ℕ) → whole ≡ (xs ++ ys) ++ rest
     → WritesThrough {A = A} {E = E} (Ok x) a b u v xs → WritesThrough {A = B} {E = F} (Err e) b c v w ys
@@ -369,7 +369,7 @@ through-steps text step more i n less p q =
     let end : i + 1 + (n - (i + 1)) ≡ n = omega arith in
     through-stopped whole.0 (ap text (sym end) ∙ whole.1 ∙ ap (λ (t : List ℕ). t ++ whole.0) (more i)) p q
 
--- all was put, of which nothing waited before, and then what waits was handed on, or on an `Err` a prefix of it
+-- from an empty block all of the text was put, and then the block was drained, or on an `Err` a prefix of it
 pub through-drained : {A E B F : Type 0} {x : A} (result : Result B F) {a b c : SinkState} {none v w text : List ℕ}
     → none ≡ [] → 0 < length v → WritesThrough {A = A} {E = E} (Ok x) a b none v text → Drains result b c v w
     → Writes result a c text
@@ -396,7 +396,7 @@ through-drained {B = B} {F = F} (Err f) {a} {b} {c} {none} {v} {w} {text} empty 
       held = tt;
     }
 
--- a prefix of the text was put, of which nothing waited before: the sink took a prefix of it
+-- from an empty block a prefix of the text was put: the sink took a prefix of it
 pub through-failed : {A E B F : Type 0} {e : E} {f : F} {a b : SinkState} {none v text : List ℕ} → none ≡ []
     → WritesThrough {A = A} {E = E} (Err e) a b none v text → Writes {A = B} {E = F} (Err f) a b text
 through-failed {a = a} {b = b} {none = none} {v = v} {text = text} empty p = record {

@@ -1,26 +1,26 @@
-//! What gives bytes and what takes them.
+//! Sources, which give bytes, and sinks, which take them.
 //!
-//! A device tells its bytes, so that a contract can name them, or it doesn't: a file or a terminal never does. One that
-//! tells goes on telling, after a failure too. Counts of failures, and whether a sink is flushed, are always known. A
-//! count of failures stays at the greatest `u64`.
+//! Contracts know the contents of some devices. Those of a file or a terminal are never known. Known contents stay
+//! known, after a failure too. The count of failures, and whether a sink is flushed, are always known. A count of
+//! failures saturates at `u64::MAX`.
 
 ghost use Rattle.std.specs.Prelude.{◌≡◌, ◌<◌, ◌≤◌, true, false, length, IfOk, is_ok, if◌then◌else◌};
 ghost use Rattle.std.specs.Io.KnownBytes.{Keeps, ReadConsumes, WriteAppends};
 ghost use Rattle.sixel_io.specs.Devices.{CountsFailure, SinkState, SourceState, Writes};
 
-/// How many bytes a call of these crates asks of a source at once.
+/// How many bytes the readers of these crates ask for in one call.
 pub const PIECE: usize = 65_536;
 
-/// A device failed, and counted the failure.
+/// A call on a device failed. The device has counted the failure.
 #[derive(Clone, Copy, Debug, PartialEq, Eq)]
 pub struct DeviceFault;
 
-/// Gives bytes, piece by piece, as `std::io::Read` does.
+/// Gives bytes piece by piece, as `std::io::Read` does.
 pub trait Source {
-    /// The bytes to come, where the source tells them, and how many calls failed.
+    /// The bytes still to come, if they are known, and how many calls failed.
     ghost state: { Self → SourceState };
 
-    /// Writes the next bytes to the beginning of the piece and says how many; 0 only at the end.
+    /// Copies the next bytes to the beginning of `piece` and returns how many. 0 means the end.
     fn fill(&mut self, piece: &mut [u8]) -> Result<usize, DeviceFault>
         requires { 0 < length piece.old }
         ensures bound { IfOk result (λ n. n ≤ length piece.new) }
@@ -32,12 +32,12 @@ pub trait Source {
         ensures { result ≡ (state self.now).failures };
 }
 
-/// Takes bytes, piece by piece, as `std::io::Write` does.
+/// Takes bytes piece by piece, as `std::io::Write` does.
 pub trait Sink {
-    /// The bytes that were taken, where the sink tells them, how many calls failed, and whether it is flushed.
+    /// The bytes taken so far, if they are known, how many calls failed, and whether the sink is flushed.
     ghost state: { Self → SinkState };
 
-    /// Takes the first bytes of the piece, at least one, and says how many.
+    /// Takes a prefix of `piece`, at least one byte, and returns its length.
     fn take(&mut self, piece: &[u8]) -> Result<usize, DeviceFault>
         requires { 0 < length piece.now }
         ensures bound { IfOk result (λ n. (0 < n) × (n ≤ length piece.now)) }
@@ -45,7 +45,7 @@ pub trait Sink {
         ensures failures { CountsFailure result (state self.old).failures (state self.new).failures }
         ensures flushed { (state self.new).is_flushed ≡ (if is_ok result then false else (state self.old).is_flushed) };
 
-    /// Hands on what the sink holds back, if it holds any.
+    /// Passes on the bytes that the sink has buffered, if any.
     fn flush(&mut self) -> Result<(), DeviceFault>
         ensures bytes { Keeps (state self.old).taken (state self.new).taken }
         ensures failures { CountsFailure result (state self.old).failures (state self.new).failures }
@@ -56,7 +56,7 @@ pub trait Sink {
         ensures { result ≡ (state self.now).failures };
 }
 
-/// Hands the sink all the bytes, or on an `Err` a prefix of them; it doesn't flush.
+/// Sends all the bytes to the sink. On an `Err` the sink has taken a prefix of them. It doesn't flush.
 pub fn put_all<K: Sink>(out: &mut K, bytes: &[u8]) -> Result<(), DeviceFault>
     ensures { Writes result (K.state out.old) (K.state out.new) bytes.now }
 {

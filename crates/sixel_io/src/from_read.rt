@@ -1,13 +1,14 @@
-//! Any std reader, as a source.
+//! Any std reader as a source.
 
 ghost use Rattle.std.specs.Prelude.{◌≡◌};
 
 use crate::device::{DeviceFault, Source};
 use std::io::Read;
 
-/// Any reader, as a source: each `fill` is one `read`. An error of any kind counts as a failure, an interruption too.
+/// Any reader as a source: each `fill` is one `read`. Any error counts as a failure, `Interrupted` too.
 ///
-/// No contract says when a read succeeds, so none says that a failed `fill` is a failed read: tests show it.
+/// The contract of `Read` doesn't say when a read succeeds. So no contract says that `fill` fails only after a failed
+/// read; tests show it.
 #[derive(Debug, Drop)]
 pub struct FromRead<R> {
     reader: R,
@@ -15,7 +16,7 @@ pub struct FromRead<R> {
 }
 
 impl<R: Read> FromRead<R> {
-    /// A source over the reader, which has not failed yet.
+    /// A source over the reader, with no failures yet.
     pub fn new(reader: R) -> FromRead<R>
         ensures { ⟦<FromRead<R> as Source>⟧.state result ≡ record { remaining = R.remaining reader; failures = 0 } }
     {

@@ -1,4 +1,4 @@
-//! What gives bytes and what takes them, piece by piece, and blocks of bytes on the way.
+//! Sources and sinks of bytes, and blocks that buffer bytes in front of a sink.
 #![tactic(auto)]
 
 mod block;

@@ -1,4 +1,4 @@
-//! A slice as a sink, for tests: it takes few bytes a call, and fails at a call of one's choice.
+//! A slice as a sink, for tests: it takes a few bytes a call, and can be told which call fails.
 
 ghost use Rattle.std.specs.Prelude.{◌≡◌, ◌<◌, ◌≤◌, Some, true, false, length, min, not, ◌||◌, ◌==◌, ◌-◌, IfOk, is_ok};
 ghost use Rattle.std.specs.Prelude.{[], if◌then◌else◌};
@@ -10,7 +10,7 @@ use crate::device::{DeviceFault, Sink};
 use crate::slice_source::is_failing;
 use std::marker::Model;
 
-/// Takes bytes into a slice, at most `piece` of them a call.
+/// Copies bytes into a slice, at most `piece` of them a call.
 #[derive(Drop)]
 pub struct SliceSink<'a> {
     room: &'a mut [u8],
@@ -42,8 +42,8 @@ impl<'a> Model for SliceSink<'a> {
 }
 
 impl<'a> SliceSink<'a> {
-    /// A sink into the slice. Call number `fail_at`, from 0, fails, and each take that finds the slice full; no other
-    /// does. Takes and flushes count together.
+    /// A sink into the slice. Call number `fail_at` fails: takes and flushes are counted together, from 0. A take also
+    /// fails if the slice is full. No other call fails.
     pub fn new(room: &'a mut [u8], piece: usize, fail_at: Option<u64>) -> SliceSink<'a>
         requires { 0 < piece }
         ensures { result ≡ record {
@@ -67,7 +67,7 @@ impl<'a> SliceSink<'a> {
         }
     }
 
-    /// The bytes that were taken.
+    /// The bytes taken so far.
     pub fn written(&self) -> &[u8]
         ensures { result.now ≡ self.now.written }
     {
@@ -78,7 +78,8 @@ impl<'a> SliceSink<'a> {
 impl<'a> Sink for SliceSink<'a> {
     ghost state = { λ s. record { taken = Some s.written; failures = s.failures; is_flushed = s.flushed } };
 
-    /// Takes all bytes that piece, slice and room have, unless the room is full or the call is the one that fails.
+    /// Copies as many bytes as `self.piece`, the argument and the free room allow. Fails if the slice is full, or if
+    /// this call is chosen to fail.
     fn take(&mut self, piece: &[u8]) -> Result<usize, DeviceFault>
         requires { 0 < length piece.now }
         ensures bound { IfOk result (λ n. (0 < n) × (n ≤ length piece.now)) }
@@ -109,7 +110,7 @@ impl<'a> Sink for SliceSink<'a> {
         Ok(count)
     }
 
-    /// Flushes, unless the call is the one that fails.
+    /// Marks the sink as flushed. Fails only if this call is chosen to fail.
     fn flush(&mut self) -> Result<(), DeviceFault>
         ensures bytes { Keeps (Some self.old.written) (Some self.new.written) }
         ensures failures { CountsFailure result self.old.failures self.new.failures }

@@ -1,4 +1,4 @@
-//! A slice as a source, for tests: it gives few bytes a call, and fails at a call of one's choice.
+//! A slice as a source, for tests: it gives a few bytes a call, and can be told which call fails.
 
 ghost use Rattle.std.specs.Prelude.{◌≡◌, ◌<◌, ◌≤◌, Some, length, min, not, IfOk, is_ok};
 ghost use Rattle.std.specs.Io.KnownBytes.{ReadConsumes};
@@ -8,7 +8,7 @@ ghost use Rattle.sixel_io.specs.SliceDevices.{fails_at};
 use crate::device::{DeviceFault, Source};
 use std::marker::Model;
 
-/// Whether this call is the one that is to fail.
+/// Whether the call with this number is chosen to fail. The count stops at `u64::MAX`, which never fails.
 pub(crate) fn is_failing(fail_at: Option<u64>, call: u64) -> bool
     ensures { result ≡ fails_at fail_at call }
 {
@@ -46,7 +46,7 @@ impl<'a> Model for SliceSource<'a> {
 }
 
 impl<'a> SliceSource<'a> {
-    /// A source over the bytes. Call number `fail_at`, from 0, fails, and no other.
+    /// A source over the bytes. Only call number `fail_at` fails, counted from 0.
     pub fn new(bytes: &'a [u8], piece: usize, fail_at: Option<u64>) -> SliceSource<'a>
         requires { 0 < piece }
         ensures { result ≡ record { rest = bytes.now; piece = piece; fail_at = fail_at; calls = 0; failures = 0 } }
@@ -64,7 +64,8 @@ impl<'a> SliceSource<'a> {
 impl<'a> Source for SliceSource<'a> {
     ghost state = { λ s. record { remaining = Some s.rest; failures = s.failures } };
 
-    /// Gives all bytes that piece, slice and rest have room for, unless the call is the one that fails.
+    /// Copies as many bytes as `self.piece`, the argument and the rest allow. Fails only if this call is chosen to
+    /// fail.
     fn fill(&mut self, piece: &mut [u8]) -> Result<usize, DeviceFault>
         ensures bound { IfOk result (λ n. n ≤ length piece.new) }
         ensures bytes { ReadConsumes (Some self.old.rest) (Some self.new.rest) result piece.new }

@@ -1,15 +1,15 @@
-//! Any std writer, as a sink.
+//! Any std writer as a sink.
 
 ghost use Rattle.std.specs.Prelude.{◌≡◌, false};
 
 use crate::device::{DeviceFault, Sink};
 use std::io::Write;
 
-/// Any writer, as a sink: each `take` is one `write`. An error of any kind counts as a failure, an interruption too,
-/// and so does a write that takes no byte.
+/// Any writer as a sink: each `take` is one `write`. Any error counts as a failure, `Interrupted` too, and so does a
+/// write of no bytes.
 ///
-/// No contract says when a write succeeds, nor what a writer's flush does, so none says that a failed call is one of
-/// the writer, or that `flush` flushes it: tests show it.
+/// The contract of `Write` doesn't say when a write succeeds, nor what a flush does. So no contract says that a call
+/// fails only if the writer did, or that `flush` flushes the writer; tests show it.
 #[derive(Debug, Drop)]
 pub struct ToWrite<W> {
     writer: W,
@@ -18,7 +18,7 @@ pub struct ToWrite<W> {
 }
 
 impl<W: Write> ToWrite<W> {
-    /// A sink over the writer, which has not failed yet and isn't flushed.
+    /// A sink over the writer, with no failures yet and not flushed.
     pub fn new(writer: W) -> ToWrite<W>
         ensures { ⟦<ToWrite<W> as Sink>⟧.state result ≡ record {
           taken = W.contents writer;

@@ -1,4 +1,4 @@
--- the words on positions over a list in two parts
+-- Searches by position in a list of two parts.
 use Rattle.std.proofs.Common.{◌≡◌, ℕ, zero, suc, ◌+◌, Option, List, [], ◌∷◌, ◌++◌, length, sym, ap, ◌∙◌, arith}
 use Rattle.std.specs.Option.{option_or}
 use Rattle.sixel_model.specs.Positions.{last_below, at_position, last_at, HoldsAtPosition}
@@ -30,7 +30,7 @@ last_at_append f (x ∷ xs) ys =
     (f [] x)
     ∙ ap (option_or (last_at (λ before e. f (x ∷ (xs ++ before)) e) ys)) (sym (last_at_cons f x xs))
 
--- the item at a position of two lists joined stands in the first or in the second
+-- a position after the first of two joined lists is one of the second
 pub holds_in_second : {X : Type 0} (P : List X → X → Type 0) (xs ys : List X) (i j : ℕ) → j ≡ length xs + i
     → HoldsAtPosition P (xs ++ ys) j → HoldsAtPosition (λ before e. P (xs ++ before) e) ys i
 holds_in_second P [] ys i j e h = let same : j ≡ i = omega arith in rw same at h

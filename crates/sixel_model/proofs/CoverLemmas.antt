@@ -1,4 +1,4 @@
--- On the points that a run of columns covers, where a bit has one row, and on events that paint none.
+-- Which points a run covers if a bit has one row, and events that paint none.
 use Rattle.std.proofs.Common.{◌≡◌, ◌==◌, ℕ, zero, suc, ◌+◌, ◌*◌, ◌/◌, ◌%◌, ◌^◌, ◌<◌, ◌≤◌, Bool, true, false, ◌&&◌, ◌||◌}
 use Rattle.std.proofs.Common.{nat_le, nat_lt, inl, inr, List, [], ◌∷◌, ◌++◌, refl, sym, ap, ◌∙◌, arith}
 use Rattle.std.specs.Int.{bit_at}
@@ -43,7 +43,7 @@ unfolding any_below
 any_below_at zero k p lt h = absurd (omega arith)
 any_below_at (suc n) k p lt h = any_step n k p lt h (λ low. any_below_at n k p low h)
 
--- the point lies in the columns of a run, in the row of a set bit
+-- the point is in the columns of a run, in the row of a set bit
 pub record LiesUnder (left count line bits x y : ℕ) : Type 0 where
   pub bit : ℕ
   pub below : bit < 6
@@ -94,7 +94,7 @@ no_columns_cover left line bits x y =
     let to : x < left + 0 = u.to in
     absurd (omega arith))
 
--- nor does one without a set bit of the six
+-- a run without a set bit of the six covers no point
 pub no_bits_cover : (left count line bits x y : ℕ) → bits % 64 ≡ 0 → covers left count line 1 bits x y ≡ false
 no_bits_cover left count line bits x y clear =
     false_from_ne_true _ (λ h.

@@ -1,4 +1,4 @@
--- On the first item that gives something.
+-- The first item that has a result.
 use Rattle.std.proofs.Common.{◌≡◌, ◌≤◌, ℕ, zero, suc, Option, Some, None, List, [], ◌∷◌, take, refl, arith}
 use Rattle.std.specs.Prelude.{IsSome, slice_get}
 use Rattle.std.specs.Option.{option_or}
@@ -8,7 +8,7 @@ later_step : {A : Type 0} (o p q : Option A) → (IsSome p → IsSome q) → IsS
 later_step None p q ih h = ih h
 later_step (Some a) p q ih h = refl
 
--- where an item before i gives something, one before a later j does
+-- if an item before i has a result, one before a later j has
 pub earliest_later : {X A : Type 0} (f : X → Option A) (i j : ℕ) (xs : List X) → i ≤ j
     → IsSome (earliest f (take i xs)) → IsSome (earliest f (take j xs))
 unfolding earliest
@@ -23,7 +23,7 @@ all_step : {A : Type 0} (o p q : Option A) (a : A) → (p ≡ Some a → q ≡ S
 all_step None p q a ih h = ih h
 all_step (Some b) p q a ih h = h
 
--- the first of those before a position is the first of all
+-- the first result before a position is the first of all
 pub earliest_all : {X A : Type 0} (f : X → Option A) (i : ℕ) (xs : List X) (a : A)
     → earliest f (take i xs) ≡ Some a → earliest f xs ≡ Some a
 unfolding earliest
@@ -37,7 +37,7 @@ there_step : {A : Type 0} (o p q : Option A) (a : A) → (p ≡ None → q ≡ S
 there_step None p q a ih h = ih h
 there_step (Some b) p q a ih h = cc
 
--- the first, where none stands before position i and one stands there
+-- position i has the first result, if it has one and none before it has
 pub earliest_there : {X A : Type 0} (f : X → Option A) (i : ℕ) (xs : List X) (x : X) (a : A)
     → slice_get xs i ≡ Some x → earliest f (take i xs) ≡ None → f x ≡ Some a → earliest f xs ≡ Some a
 unfolding earliest

@@ -1,4 +1,4 @@
--- On lists of pixels, row by row.
+-- Lists of pixels, row by row.
 use Rattle.std.proofs.Common.{◌≡◌, ℕ, ◌+◌, ◌*◌, ◌/◌, ◌%◌, ◌<◌, Some, None, List, length, get_or, refl, ap, ◌∙◌, arith}
 use Rattle.std.specs.Prelude.{slice_get, if◌then◌else◌}
 use Rattle.std.specs.Option.{option_flatten}
@@ -34,7 +34,7 @@ at_rows w h f x y p q =
     let long : y * w + x < length (row_by_row w h f) = rw (length_rows w h f) (mul-add-lt y w x h q p) in
     slice_get-get_or (row_by_row w h f) (y * w + x) (f x y) long ∙ ap Some (get_rows w h f x y (f x y) p q)
 
--- a list with these pixels is the one made row by row
+-- a list with these pixels is the list made row by row
 pub rows_from_index : {A : Type 0} (w h : ℕ) (f : ℕ → ℕ → A) (xs : List A) (d : A) → length xs ≡ w * h
     → ((i : ℕ) → i < w * h → get_or xs i d ≡ f (i % w) (i / w)) → xs ≡ row_by_row w h f
 unfolding row_by_row

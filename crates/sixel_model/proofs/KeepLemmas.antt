@@ -1,4 +1,4 @@
--- Lists whose every event keeps the rules, given the events before it.
+-- Lists in which each event keeps the rules, given the events before it.
 use Rattle.std.proofs.Common.{◌≡◌, ℕ, zero, suc, List, [], ◌∷◌, ◌++◌, take, sym, append_assoc, append-nil, subst}
 use Rattle.std.specs.Prelude.{Some, IsFalse}
 use Rattle.sixel_grammar.specs.declared.command.Event.{Event}
@@ -8,7 +8,7 @@ use Rattle.sixel_model.specs.Rules.{Breaks, BreaksNone}
 use Rattle.sixel_model.proofs.RuleLemmas.{Keeps, keeps_none}
 use Rattle.sixel_model.specs.RuleNumbers.{last_rule}
 
--- each event of the list keeps the rules, where these events stand before all, and isn't of 8 bits
+-- each event keeps the rules and isn't 8-bit; `before` are the events before the list
 unfoldable pub KeepEach : ℕ → List Event → List Event → Type 0
 KeepEach registers before [] = Unit {0}
 KeepEach registers before (e ∷ es) =
@@ -43,7 +43,7 @@ none_after registers n (suc i) before (x ∷ xs) h k =
     none_after registers n i (before ++ x ∷ []) xs h.2
     (record { item = k.item; here = k.here; holds = rw (append_assoc before (x ∷ []) (take i xs)) k.holds })
 
--- where each keeps them, none is broken
+-- if each event keeps the rules, none is broken
 pub keep_none : (registers : ℕ) (events : List Event) → KeepEach registers [] events
     → BreaksNone registers last_rule events
 unfolding BreaksNone

@@ -1,4 +1,4 @@
--- on what is known before an event
+-- What is known before an event.
 use Rattle.std.proofs.Common.{◌≡◌, ℕ, zero, suc, ◌+◌, Bool, true, false, cond, Option, Some, None, List, [], ◌∷◌, take}
 use Rattle.std.proofs.Common.{refl, ap, ◌∙◌, subst}
 use Rattle.std.specs.List.{fold}
@@ -12,7 +12,7 @@ use Rattle.sixel_model.specs.Positions.{latest, earliest, since}
 use Rattle.sixel_model.specs.Events.{select_of, named_by}
 use Rattle.sixel_model.specs.Rules.{known, is_that}
 
--- the register is known: it is the last that was selected, and the last that was named
+-- the register is known: it was selected last, and it was named last
 pub record Known (before : List Event) (r : ℕ) : Type 0 where
   pub selected : latest select_of before ≡ Some r
   pub named : latest named_by before ≡ Some r
@@ -50,7 +50,7 @@ earliest_step : {A : Type 0} (o p q : Option A) → (IsSome q → IsSome p) → 
 earliest_step None p q ih h = or_some_left p None (ih h)
 earliest_step (Some a) p q ih h = or_some p (Some a) refl
 
--- where there is a first there is a last
+-- if there is a first result, there is a last one
 pub earliest_is_some : {X A : Type 0} (f : X → Option A) (xs : List X) → IsSome (earliest f xs) → IsSome (latest f xs)
 unfolding latest earliest
 earliest_is_some f [] h = h
@@ -60,7 +60,7 @@ or_each : {A : Type 0} (P : A → Type 0) (o p : Option A) → IfSome o P → If
 or_each P None p h k = k
 or_each P (Some x) p h k = h
 
--- what holds of whatever f gives holds of the last
+-- what holds for each result of f holds for the last one
 pub latest_each : {X A : Type 0} (f : X → Option A) (P : A → Type 0) (xs : List X)
     → AllByRecursion (λ x. IfSome (f x) P) xs → IfSome (latest f xs) P
 unfolding latest
@@ -82,7 +82,7 @@ since_split f g s xs x true b h k l = h
 since_split f g s xs x false true h k l = k
 since_split f g s xs x false false h k l = l
 
--- sums of widths that agree, since the last that passes
+-- sums of equal widths since the last item that passes are equal
 pub sum_since_same : {X : Type 0} (p : X → Bool) (f g : X → ℕ) (xs : List X) → AllByRecursion (λ x. f x ≡ g x) xs
     → sum_by f (since p xs) ≡ sum_by g (since p xs)
 unfolding since
@@ -91,7 +91,7 @@ sum_since_same p f g (x ∷ xs) h =
     since_split f g (since p xs) xs x (list_any p xs) (p x) (sum_since_same p f g xs h.1) (sum_same f g xs h.1)
     (sum_same f g (x ∷ xs) h)
 
--- what holds of each holds of those before a position, and of the one there
+-- what holds for each item holds for those before a position, and for the one there
 pub each_before : {X : Type 0} (P : X → Type 0) (i : ℕ) (xs : List X) → AllByRecursion P xs
     → AllByRecursion P (take i xs)
 each_before P zero xs h = tt

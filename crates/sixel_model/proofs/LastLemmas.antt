@@ -1,4 +1,4 @@
--- On the last position that gives something, as a fact.
+-- The last position that has a result.
 use Rattle.std.proofs.Common.{◌≡◌, ◌<◌, ℕ, zero, suc, Bool, true, false, ◌||◌, inl, inr, Option, Some, None, List, []}
 use Rattle.std.proofs.Common.{◌∷◌, length, take, refl, ◌∙◌, arith}
 use Rattle.std.specs.Prelude.{IsSome, slice_get}
@@ -6,7 +6,7 @@ use Rattle.std.specs.Option.{option_or}
 use Rattle.std.proofs.lemmas.Bool.{cases_lt}
 use Rattle.sixel_model.specs.Positions.{any_below, at_position, last_below, passes_at}
 
--- f gives a at a number below n, and nothing at a later one
+-- a is the result of f for a number below n, and no later number has one
 pub record IsLast {A : Type 0} (f : ℕ → Option A) (n : ℕ) (a : A) : Type 0 where
   pub at : ℕ
   pub below : at < n
@@ -32,13 +32,13 @@ last_step f n a None e ih h =
       | inr above ↦ (let same : j ≡ n = omega arith in rw same e)
     ]
 
--- where a last one is found, it is there
+-- if the search finds a last result, it is the last one
 pub last_is : {A : Type 0} (n : ℕ) (f : ℕ → Option A) (a : A) → last_below n f ≡ Some a → IsLast f n a
 unfolding last_below
 last_is zero f a h = cc
 last_is (suc n) f a h = last_step f n a (f n) refl (last_is n f a) h
 
--- and the one that is there is found
+-- if there is a last result, the search finds it
 pub is_last : {A : Type 0} (n : ℕ) (f : ℕ → Option A) (a : A) → IsLast f n a → last_below n f ≡ Some a
 unfolding last_below
 is_last zero f a l = let b : l.at < 0 = l.below in absurd (omega arith)
@@ -61,7 +61,7 @@ some_step (Some a) q b c h k t = refl
 some_step {A = A} None q true c h k t = let no : IsSome {T = A} None = h refl in cc
 some_step None q false c h k t = k t
 
--- where a number below n passes, and f gives something of each that passes, f gives something last
+-- if a number below n passes, and each number that passes has a result, the search finds one
 pub some_last : {A : Type 0} (n : ℕ) (p : ℕ → Bool) (f : ℕ → Option A)
     → ((i : ℕ) → i < n → p i ≡ true → IsSome (f i)) → any_below n p ≡ true → IsSome (last_below n f)
 unfolding any_below last_below
@@ -70,13 +70,13 @@ some_last (suc n) p f h t =
     some_step (f n) (last_below n f) (p n) (any_below n p) (h n (omega arith))
     (some_last n p f (λ i lt. h i (omega arith))) t
 
--- an item stands at each position of a list
+-- each position of a list has an item
 pub item_there : {X : Type 0} (xs : List X) (i : ℕ) → i < length xs → (x : X) × (slice_get xs i ≡ Some x)
 item_there [] i h = absurd (omega arith)
 item_there (x ∷ xs) zero h = (x, refl)
 item_there (x ∷ xs) (suc i) h = item_there xs i (omega arith)
 
--- what is found at the position of an item
+-- the result of f at the position of an item
 pub at_there : {X A : Type 0} (f : List X → X → Option A) (xs : List X) (i : ℕ) (x : X) → slice_get xs i ≡ Some x
     → at_position f xs i ≡ f (take i xs) x
 unfolding at_position

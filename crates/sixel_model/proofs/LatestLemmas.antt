@@ -1,4 +1,4 @@
--- on the latest item of a kind
+-- The latest item that has a result.
 use Rattle.std.proofs.Common.{◌≡◌, ℕ, zero, suc, Option, Some, None, List, [], ◌∷◌, ◌++◌, take, refl, ap, ◌∙◌}
 use Rattle.std.specs.Prelude.{slice_get, IsSome, IfSome}
 use Rattle.std.specs.Option.{option_or, option_and_then}
@@ -6,7 +6,7 @@ use Rattle.std.specs.List.{AllByRecursion}
 use Rattle.sixel_model.specs.Positions.{latest}
 use Rattle.sixel_model.proofs.KnownLemmas.{latest_each}
 
--- where the latest gives something, a position gives it
+-- the latest result is that of an item at some position
 pub record Gives {X A : Type 0} (f : X → Option A) (xs : List X) (a : A) : Type 0 where
   pub at : ℕ
   pub item : X
@@ -35,7 +35,7 @@ then_step g (Some a) o h = some_or (g a) (option_and_then g o) h
     some_or None r h = cc
     some_or (Some b) r h = refl
 
--- where g gives something of whatever f gives, the latest of both is g of the latest
+-- if g has a result for each result of f, the latest of both is g of the latest of f
 pub latest_then : {X A B : Type 0} (f : X → Option A) (g : A → Option B) (xs : List X)
     → AllByRecursion (λ x. IfSome (f x) (λ a. IsSome (g a))) xs →
     latest (λ x. option_and_then g (f x)) xs ≡ option_and_then g (latest f xs)
@@ -45,7 +45,7 @@ latest_then f g (x ∷ xs) h =
     ap (λ o. option_or o (option_and_then g (f x))) (latest_then f g xs h.1)
     ∙ then_step g (latest f xs) (f x) (latest_each f (λ a. IsSome (g a)) xs h.1)
 
--- functions that agree on each item have the same latest
+-- functions that agree on each item have the same latest result
 pub latest_same : {X A : Type 0} (f g : X → Option A) (xs : List X) → AllByRecursion (λ x. f x ≡ g x) xs
     → latest f xs ≡ latest g xs
 unfolding latest
@@ -55,14 +55,14 @@ latest_same f g (x ∷ xs) h =
     let here : f x ≡ g x = h.0 in
     cc
 
--- what holds at each position holds of each item
+-- what holds for the item at each position holds for each item
 pub each_from_positions : {X : Type 0} (P : X → Type 0) (xs : List X) →
     ((j : ℕ) (x : X) → slice_get xs j ≡ Some x → P x)
     → AllByRecursion P xs
 each_from_positions P [] h = tt
 each_from_positions P (x ∷ xs) h = (h 0 x refl, each_from_positions P xs (λ j y e. h (suc j) y e))
 
--- one more item before a position
+-- the items before the next position are those before this one, and the item here
 pub take_one_more : {X : Type 0} (xs : List X) (i : ℕ) (x : X) → slice_get xs i ≡ Some x
     → take (suc i) xs ≡ take i xs ++ x ∷ []
 take_one_more [] i x h = cc

@@ -1,4 +1,4 @@
--- On the palette that is left.
+-- The palette that is left.
 use Rattle.std.proofs.Common.{◌≡◌, ℕ, ◌<◌, ◌==◌, Bool, true, false, Option, Some, None, List, [], ◌∷◌, ◌++◌, length}
 use Rattle.std.proofs.Common.{get_or, replicate, set, refl, sym, ap, ◌∙◌, arith}
 use Rattle.std.specs.Option.{option_and_then, option_flatten, option_or}
@@ -48,7 +48,7 @@ pub colour_push : (before : List Event) (e : Event) (r : ℕ) → colour_of (bef
 unfolding colour_of
 colour_push before e r = ap (option_and_then colour_by) (definition_push before e r)
 
--- an event that defines no register leaves the palette
+-- an event that defines no register leaves the palette as it is
 pub left_idle : (n : ℕ) (before : List Event) (e : Event) → ((r : ℕ) → definition_where (λ q. q == r) e ≡ None)
     → palette_left n before ≡ palette_left n (before ++ e ∷ [])
 unfolding colour_of
@@ -74,7 +74,7 @@ set_at n q r c before x y z s false e p lt h =
     ∙ get_left n r before lt
     ∙ sym (colour_push before (Step (Define q s x y z)) r ∙ rw e refl)
 
--- a definition of a colour sets its register
+-- a definition sets the colour of its register
 pub left_define : (n q s x y z : ℕ) (c : Parts) (before : List Event) → q < n → colour_in s x y z ≡ Some c
     → set (palette_left n before) q (Some c) ≡ palette_left n (before ++ Step (Define q s x y z) ∷ [])
 left_define n q s x y z c before lt h =

@@ -1,15 +1,15 @@
--- On painting a sixel bit by bit: the pixels of a list, each in a column and a row of its own.
+-- Painting a sixel bit by bit, over a list of pixels; `inside` and `row` place each pixel in columns and rows.
 use Rattle.std.proofs.Common.{◌≡◌, ◌==◌, ℕ, ◌+◌, ◌*◌, ◌<◌, Bool, true, false, ◌&&◌, ◌||◌, cond, List, length, get_or}
 use Rattle.std.proofs.Common.{nat_le, nat_lt, refl, sym, ap, ◌∙◌, arith, add-one}
 use Rattle.std.specs.Int.{bit_at}
 use Rattle.std.proofs.Math.Bool.{and-false}
 use Rattle.sixel_model.specs.Positions.{any_below}
 
--- the row lies in those of bit k, where each bit has so many
+-- the row is one of those of bit k, if each bit has `rows` rows
 abbrev pub bit_rows : ℕ → ℕ → ℕ → ℕ → Bool
 bit_rows line rows y k = nat_le ((6 * line + k) * rows) y && nat_lt y ((6 * line + k) * rows + rows)
 
--- bit k is set, and the row lies in its rows
+-- bit k is set, and the row is one of its rows
 abbrev pub bit_covers : ℕ → ℕ → ℕ → ℕ → ℕ → Bool
 bit_covers line rows bits y k =
     (bit_at bits k == 1) && nat_le ((6 * line + k) * rows) y && nat_lt y ((6 * line + k) * rows + rows)
@@ -21,7 +21,7 @@ set_covers line rows bits y k set = rw set refl
 clear_covers : (line rows bits y k : ℕ) → (bit_at bits k == 1) ≡ false → bit_covers line rows bits y k ≡ false
 clear_covers line rows bits y k clear = rw clear refl
 
--- the pixels after the rows of the bits below n, in the columns that are inside
+-- the pixels after painting the bits below n, in the columns that are inside
 pub record IsPaintedBelow {A : Type 0} (n line rows bits : ℕ) (inside : ℕ → Bool) (row : ℕ → ℕ) (ink blank : A)
     (old new : List A) : Type 0 where
   pub long : length new ≡ length old
@@ -36,7 +36,7 @@ painted_none line rows bits inside row ink blank xs = record {
   pixels = λ i lt. ap (λ t. cond t ink (get_or xs i blank)) (sym (and-false (inside i)));
 }
 
--- a row on top of those before
+-- one row painted over those before
 pub on_top : {A : Type 0} (a t b : Bool) (r o : A) → cond (a && t) r (cond (a && b) r o) ≡ cond (a && (t || b)) r o
 on_top true true b r o = refl
 on_top true false b r o = refl
@@ -61,7 +61,7 @@ painted_more k line rows bits inside row ink blank old mid new set before long w
       rw (add-one, set_covers line rows bits (row i) k set) joined;
 }
 
--- one more bit, which isn't
+-- one more bit, which isn't set
 pub painted_same : {A : Type 0} (k line rows bits : ℕ) (inside : ℕ → Bool) (row : ℕ → ℕ) (ink blank : A)
     (old mid new : List A) → (bit_at bits k == 1) ≡ false
     → IsPaintedBelow k line rows bits inside row ink blank old mid → length new ≡ length mid

@@ -1,4 +1,4 @@
--- On the registers of a picture.
+-- The registers of a picture.
 use Rattle.std.proofs.Common.{◌<◌, ◌≡◌, ◌≤◌, arith, Bool, true, ℕ, Option, None, List, [], ◌∷◌, All, IfSome, replicate}
 use Rattle.std.specs.List.{list_all}
 use Rattle.std.proofs.lemmas.Bool.{and_from, and_parts}
@@ -11,7 +11,7 @@ use Rattle.sixel_model.specs.declared.colour.Parts.{Parts}
 use Rattle.sixel_model.specs.declared.profile.Profile.{Profile}
 use Rattle.sixel_model.specs.declared.profile.Profile.TheVariants.{Registers16, Registers256}
 
--- what each element passes, it passes where one test follows from the other
+-- if p implies q, and all elements pass p, all pass q
 pub all_weaker : (p q : ℕ → Bool) (xs : List ℕ) → ((x : ℕ) → p x ≡ true → q x ≡ true) → list_all p xs ≡ true
     → list_all q xs ≡ true
 all_weaker p q [] follows all = all
@@ -22,7 +22,7 @@ all_weaker p q (x ∷ xs) follows all =
 none_in_range : (n : ℕ) → All (λ (o : Option Parts). IfSome o IsColour) (replicate n None)
 none_in_range n = All-replicate (λ (o : Option Parts). IfSome o IsColour) n None tt
 
--- no register has a colour
+-- a palette without colours is one
 pub blank_palette : (profile : Profile) → IsAnyPalette (replicate (count_of profile) None)
 blank_palette profile = record {
   profile = profile;
@@ -32,7 +32,7 @@ blank_palette profile = record {
   };
 }
 
--- no profile has more than 256 registers
+-- each profile has a register
 pub some_registers : (profile : Profile) → 0 < count_of profile
 some_registers Registers16 = omega arith
 some_registers Registers256 = omega arith

@@ -1,4 +1,4 @@
--- What one more item at the end of a list does to the words on positions.
+-- Searches by position in a list with one more item at the end.
 use Rattle.std.proofs.Common.{◌≡◌, ℕ, zero, suc, ◌<◌, ◌≤◌, Bool, true, false, ◌&&◌, ◌||◌, cond, Option, Some, None}
 use Rattle.std.proofs.Common.{List, [], ◌∷◌, ◌++◌, length, take, ◌⊎◌, inl, inr, refl, sym, ap, subst, ◌∙◌, arith}
 use Rattle.std.specs.Prelude.{slice_get}
@@ -21,14 +21,14 @@ pub option_or_assoc : {A : Type 0} (o p q : Option A) → option_or (option_or o
 option_or_assoc None p q = refl
 option_or_assoc (Some x) p q = refl
 
--- the latest of a list with one more item
+-- the latest result with one more item at the end
 pub latest_push : {X A : Type 0} (f : X → Option A) (xs : List X) (x : X)
     → latest f (xs ++ x ∷ []) ≡ option_or (f x) (latest f xs)
 unfolding latest
 latest_push f [] x = sym (option_or_none (f x))
 latest_push f (y ∷ ys) x = ap (λ o. option_or o (f y)) (latest_push f ys x) ∙ option_or_assoc (f x) (latest f ys) (f y)
 
--- the earliest of a list with one more item
+-- the earliest result with one more item at the end
 pub earliest_push : {X A : Type 0} (f : X → Option A) (xs : List X) (x : X)
     → earliest f (xs ++ x ∷ []) ≡ option_or (earliest f xs) (f x)
 unfolding earliest
@@ -51,7 +51,7 @@ since_step x y ys s t false false false h = refl
 any_push : {X : Type 0} (p : X → Bool) (ys : List X) (x : X) → list_any p (ys ++ x ∷ []) ≡ (list_any p ys || p x)
 any_push p ys x = list_any-append p ys (x ∷ []) ∙ ap (λ b. list_any p ys || b) (or-false (p x))
 
--- the items since the last that passes, with one more item
+-- the items since the last one that passes, with one more item at the end
 pub since_push : {X : Type 0} (p : X → Bool) (xs : List X) (x : X)
     → since p (xs ++ x ∷ []) ≡ cond (p x) [] (since p xs ++ x ∷ [])
 unfolding since
@@ -78,13 +78,13 @@ last_below_same (suc n) f g h =
     let rest : last_below n f ≡ last_below n g = last_below_same n f g (λ i lt. h i (omega arith)) in
     cc
 
--- an item before the end stands where it stood
+-- an item keeps its position if more items follow
 pub get_before : {X : Type 0} (xs ys : List X) (i : ℕ) → i < length xs → slice_get (xs ++ ys) i ≡ slice_get xs i
 get_before [] ys i h = absurd (omega arith)
 get_before (x ∷ xs) ys zero h = refl
 get_before (x ∷ xs) ys (suc i) h = get_before xs ys i (omega arith)
 
--- and the new one at the end
+-- the new item is at the end
 pub get_end : {X : Type 0} (xs : List X) (x : X) → slice_get (xs ++ x ∷ []) (length xs) ≡ Some x
 get_end [] x = refl
 get_end (y ∷ ys) x = get_end ys x
@@ -103,7 +103,7 @@ at_end : {X A : Type 0} (f : List X → X → Option A) (xs : List X) (x : X)
 unfolding at_position
 at_end f xs x = rw (get_end xs x, take-append_seam xs (x ∷ []))
 
--- the last position of a list with one more item
+-- the last result by position, with one more item at the end
 pub last_at_push : {X A : Type 0} (f : List X → X → Option A) (xs : List X) (x : X)
     → last_at f (xs ++ x ∷ []) ≡ option_or (f xs x) (last_at f xs)
 unfolding last_at last_below
@@ -123,7 +123,7 @@ passes_end : {X : Type 0} (p : List X → X → Bool) (xs : List X) (x : X)
 unfolding passes_at
 passes_end p xs x = rw (get_end xs x, take-append_seam xs (x ∷ []))
 
--- whether some item passes, with one more item
+-- whether some item passes, with one more item at the end
 pub any_at_push : {X : Type 0} (p : List X → X → Bool) (xs : List X) (x : X)
     → any_at p (xs ++ x ∷ []) ≡ (p xs x || any_at p xs)
 unfolding any_at any_below
@@ -132,7 +132,7 @@ any_at_push p xs x =
     (ap (λ o. o || any_below (length xs) (passes_at p (xs ++ x ∷ []))) (passes_end p xs x)
     ∙ ap (λ o. p xs x || o) (any_below_same (length xs) _ _ (passes_before p xs x)))
 
--- what holds at an earlier position holds there with one more item at the end
+-- what holds at an earlier position still holds there with one more item at the end
 pub holds_before : {X : Type 0} (P : List X → X → Type 0) (xs : List X) (x : X) (i : ℕ) → i < length xs
     → HoldsAtPosition P xs i → HoldsAtPosition P (xs ++ x ∷ []) i
 holds_before P xs x i lt h =
@@ -143,7 +143,7 @@ holds_before P xs x i lt h =
       holds = subst (λ (t : List _). P t h.item) (sym (take-append-le i xs (x ∷ []) le)) h.holds;
     }
 
--- what holds of the new item holds at the end
+-- what holds for the new item holds at the end
 pub holds_end : {X : Type 0} (P : List X → X → Type 0) (xs : List X) (x : X) → P xs x
     → HoldsAtPosition P (xs ++ x ∷ []) (length xs)
 holds_end P xs x h = record {
@@ -152,7 +152,7 @@ holds_end P xs x h = record {
   holds = subst (λ (t : List _). P t x) (sym (take-append_seam xs (x ∷ []))) h;
 }
 
--- what holds at a position holds below the end
+-- a position at which something holds is below the length
 pub holds_within : {X : Type 0} (P : List X → X → Type 0) (xs : List X) (i : ℕ) → HoldsAtPosition P xs i → i < length xs
 holds_within P xs i h = slice_get_within xs i h.item h.here
 
@@ -177,7 +177,7 @@ holds_there P xs x i e h =
     some_same : {A : Type 0} (a b : A) → Some a ≡ Some b → a ≡ b
     some_same a b h = cc
 
--- what holds with one more item holds at an earlier position already, or of the new one
+-- what holds in the longer list holds at an earlier position, or for the new item
 pub holds_push : {X : Type 0} (P : List X → X → Type 0) (xs : List X) (x : X) (i : ℕ)
     → HoldsAtPosition P (xs ++ x ∷ []) i → ((i < length xs) × HoldsAtPosition P xs i) ⊎ ((i ≡ length xs) × P xs x)
 holds_push P xs x i h =

@@ -1,4 +1,4 @@
--- On the rules by their numbers, and on the first that is broken.
+-- The rules by number, and the first broken one.
 use Rattle.std.proofs.Common.{◌≡◌, ◌<◌, ◌≤◌, inl, inr, lit≤, ℕ, Bool, true, false, Some, List, [], ◌∷◌, ◌++◌, length}
 use Rattle.std.proofs.Common.{take, refl, arith}
 use Rattle.std.proofs.lemmas.Bool.{eqb-true, leb-true, leb-false}
@@ -17,7 +17,7 @@ use Rattle.sixel_model.specs.RuleNumbers.{register_rule, colour_value_rule, repe
 use Rattle.sixel_model.specs.RuleNumbers.{undefined_rule, redefined_rule, outside_rule, uncovered_rule}
 use Rattle.sixel_model.specs.RuleNumbers.{eight_bit_rule, last_rule}
 
--- the event breaks none of the rules on what is drawn: all but the last
+-- the event breaks none of the rules on what is drawn, which are all but the last
 pub record Keeps (registers : ℕ) (before : List Event) (e : Event) : Type 0 where
   pub raster_first : IsFalse (breaks_raster_first before e)
   pub raster_twice : IsFalse (breaks_raster_twice before e)
@@ -44,7 +44,7 @@ pub is_false : (b : Bool) → ¬ IsTrue b → IsFalse b
 is_false true h = absurd (h refl)
 is_false false h = refl
 
--- an event that keeps each of them, and isn't of 8 bits, breaks none by number
+-- an event that keeps these rules and isn't 8-bit breaks no rule
 pub keeps_none : (registers n : ℕ) (before : List Event) (e : Event) → Keeps registers before e
     → IsFalse (is_eight_bit e) → ¬ Breaks registers n before e
 unfolding Breaks breaks_eight_bit
@@ -63,7 +63,7 @@ keeps_none registers n before e k bits =
     (neither (n == uncovered_rule) k.uncovered
     (neither (n == eight_bit_rule) (not_true _ bits) (λ h. h)))))))))))))
 
--- and an event that breaks none of them keeps each
+-- an event that breaks none of these rules by number keeps them
 pub none_keeps : (registers : ℕ) (before : List Event) (e : Event)
     → ((n : ℕ) → n ≤ uncovered_rule → ¬ Breaks registers n before e)
     → Keeps registers before e
@@ -83,34 +83,34 @@ none_keeps registers before e h = record {
   uncovered = h uncovered_rule (lit≤ tt);
 }
 
--- in a list in which none of them is broken each event keeps each
+-- in a list in which none of these rules is broken, each event keeps them
 pub keeps_at : (registers : ℕ) (events : List Event) → BreaksNone registers uncovered_rule events → (i : ℕ) (e : Event)
     → slice_get events i ≡ Some e → Keeps registers (take i events) e
 unfolding BreaksNone
 keeps_at registers events none i e here =
     none_keeps registers (take i events) e (λ n le b. none n le i (record { item = e; here = here; holds = b }))
 
--- in a list in which no rule is broken no event is of 8 bits
+-- in a list in which no rule is broken, no event is 8-bit
 pub seven_bits_at : (registers : ℕ) (events : List Event) → BreaksNone registers last_rule events → (i : ℕ) (e : Event)
     → slice_get events i ≡ Some e → IsFalse (is_eight_bit e)
 unfolding BreaksNone Breaks breaks_eight_bit
 seven_bits_at registers events none i e here =
     is_false _ (λ b. none eight_bit_rule (lit≤ tt) i (record { item = e; here = here; holds = b }))
 
--- where no rule is broken, none of those on what is drawn is
+-- if no rule is broken, none of those on what is drawn is
 pub none_drawn : (registers : ℕ) (events : List Event) → BreaksNone registers last_rule events
     → BreaksNone registers uncovered_rule events
 unfolding BreaksNone
 none_drawn registers events none n le = none n (omega (arith, le))
 
--- ---- one event more
+-- ---- one more event
 
--- no event of none breaks a rule
+-- the empty list breaks no rule
 pub none_of_none : (registers last : ℕ) → BreaksNone registers last []
 unfolding BreaksNone
 none_of_none registers last n le i h = cc h.here
 
--- no rule is broken with one more event that keeps each, and isn't of 8 bits
+-- if no rule was broken, and the next event keeps them and isn't 8-bit, none is
 pub none_push : (registers last : ℕ) (before : List Event) (e : Event) → BreaksNone registers last before
     → Keeps registers before e → IsFalse (is_eight_bit e) → BreaksNone registers last (before ++ e ∷ [])
 unfolding BreaksNone
@@ -120,7 +120,7 @@ none_push registers last before e none k bits n le i h =
       | inr b ↦ keeps_none registers n before e k bits b.1
     ]
 
--- and none was broken without the last event
+-- if no rule is broken, none was before the last event
 pub none_before : (registers last : ℕ) (before : List Event) (e : Event) → BreaksNone registers last (before ++ e ∷ [])
     → BreaksNone registers last before
 unfolding BreaksNone
@@ -139,7 +139,7 @@ unfoldable pub by_number : (M : Type 0 → Type 0) (P Q : Type 0) (n k : ℕ) �
     → M (MatchBool (n == k) P Q)
 by_number M P Q n k low here other = by_test M P Q (n == k) (λ e. here (same_low n k low e)) other
 
--- what holds of each statement that a rule is, and of none, holds of the rule of a number
+-- what holds for each statement of a rule, and for ⊥, holds for the rule with number n
 unfoldable pub each_rule : (M : Type 0 → Type 0) (registers n : ℕ) (before : List Event) (e : Event)
     → (n ≤ last_rule → (b : Bool) → M (IsTrue b)) → (n ≤ last_rule → M (BreaksOutside before e))
     → (n ≤ last_rule → M (BreaksUncovered before e)) → M ⊥ → M (Breaks registers n before e)
@@ -159,13 +159,13 @@ each_rule M registers n before e test outside uncovered none =
     (by_number M _ _ n uncovered_rule (lit≤ tt) uncovered
     (by_number M _ _ n eight_bit_rule (lit≤ tt) (λ le. test le _) none))))))))))))
 
--- no rule has a number above the last
+-- no rule has a number above `last_rule`
 pub no_more_rules : (registers n : ℕ) (before : List Event) (e : Event) → last_rule < n → ¬ Breaks registers n before e
 no_more_rules registers n before e lt =
     each_rule (λ P. ¬ P) registers n before e (λ le. absurd (omega arith)) (λ le. absurd (omega arith))
     (λ le. absurd (omega arith)) (λ none. none)
 
--- an event that breaks none up to the last breaks none
+-- if no rule up to `last_rule` is broken, none with any number is
 pub nowhere : (registers m i : ℕ) (events : List Event) → BreaksNone registers last_rule events
     → ¬ HoldsAtPosition (Breaks registers m) events i
 unfolding BreaksNone
@@ -176,7 +176,7 @@ nowhere registers m i events none h =
     split true e = none m (leb-true m last_rule e) i h
     split false e = no_more_rules registers m (take i events) h.item (leb-false m last_rule e) h.holds
 
--- the first broken rule stays the first
+-- the first broken rule stays the first with one more event
 pub first_push : (registers n i : ℕ) (before : List Event) (e : Event) → IsFirstBroken registers before n i
     → IsFirstBroken registers (before ++ e ∷ []) n i
 first_push registers n i before e f =
@@ -193,7 +193,7 @@ first_push registers n i before e f =
       ];
     }
 
--- where no rule was broken, the least rule that the event breaks is the first
+-- if no rule was broken before the event, the least rule that it breaks is the first
 pub first_there : (registers n : ℕ) (before : List Event) (e : Event) → BreaksNone registers last_rule before
     → Breaks registers n before e → ((m : ℕ) → m < n → ¬ Breaks registers m before e)
     → IsFirstBroken registers (before ++ e ∷ []) n (length before)

@@ -1,4 +1,4 @@
--- On painting a run row by row, in a list of one item a pixel.
+-- Painting a run row by row, over a list of one item for each pixel.
 use Rattle.std.proofs.Common.{◌≡◌, ◌==◌, ℕ, ◌+◌, ◌-◌, ◌*◌, ◌/◌, ◌%◌, ◌<◌, ◌≤◌, Bool, true, false, ◌&&◌, cond, List}
 use Rattle.std.proofs.Common.{length, get_or, nat_le, nat_lt, refl, sym, ap, ◌∙◌, arith}
 use Rattle.std.specs.Int.{bit_at}
@@ -7,7 +7,7 @@ use Rattle.std.proofs.lemmas.Nat.{div-add-mod', mod_below, same_from_place}
 use Rattle.sixel_model.specs.Geometry.{covers}
 use Rattle.sixel_model.proofs.PaintLemmas.{IsPaintedBelow, painted_more}
 
--- the items after the rows of the bits below n of a run
+-- the items after painting the bits of a run below n
 abbrev pub IsRunBelow : {A : Type 0} → ℕ → ℕ → ℕ → ℕ → ℕ → ℕ → A → A → List A → List A → Type 0
 IsRunBelow n w left count band bits value default old new =
     IsPaintedBelow n band 1 bits (λ i. nat_le left (i % w) && nat_lt (i % w) (left + count)) (λ i. i / w) value default
@@ -18,7 +18,7 @@ same_test true b f g = sym (f refl)
 same_test false true f g = g refl
 same_test false false f g = refl
 
--- a place between two places of a row is in that row
+-- an index between two indices of a row is in that row
 same_row : (w row p q left count : ℕ) → q < w → left + count ≤ w
     → row * w + left ≤ p * w + q → p * w + q < row * w + left + count → p ≡ row
 same_row w row p q left count in_width fits from to =
@@ -52,7 +52,7 @@ in_row_at w row p q left count in_width fits =
     and_from _ _ (le-leb (row * w + left) (p * w + q) (omega arith))
     (lt-ltb (p * w + q) (row * w + left + count) (omega arith)))
 
--- the places of a run in a row
+-- the indices of a run in one row
 pub in_row : (w row left count i : ℕ) → 0 < w → left + count ≤ w
     → (nat_le (row * w + left) i && nat_lt i (row * w + left + count))
     ≡ ((nat_le left (i % w) && nat_lt (i % w) (left + count)) && (nat_le row (i / w) && nat_lt (i / w) (row + 1)))
@@ -74,7 +74,7 @@ run_more k w left count band bits start value default old mid new some fits at s
     ∙ ap (λ (v : Bool). cond v value (get_or mid i default))
     (rw (at, one) (in_row w (6 * band + k) left count i some fits)))
 
--- after all six bits the pixels that the run covers have the value
+-- after all six bits, the pixels that the run covers have the value
 pub covered_rows : {A : Type 0} (w left count band bits : ℕ) (value default : A) (old new : List A)
     → IsRunBelow 6 w left count band bits value default old new → (i : ℕ) → i < length old
     → get_or new i default ≡ cond (covers left count band 1 bits (i % w) (i / w)) value (get_or old i default)

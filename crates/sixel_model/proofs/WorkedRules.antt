@@ -1,4 +1,4 @@
--- Worked strings, as facts on the definitions. `E` is the byte 27.
+-- Worked examples of the rules, as facts about the definitions. `E` is the byte ESC.
 use Rattle.std.proofs.Common.{◌≡◌, true, false, Some, None, List, [], ◌∷◌, refl}
 use Rattle.std.specs.Prelude.{replicate}
 use Rattle.sixel_grammar.specs.declared.command.Event.{Event}
@@ -45,7 +45,7 @@ unselected_there : HoldsAtPosition (Rules.Breaks 16 unselected_rule) unselected 
 unfolding Rules.Breaks Rules.breaks_unselected Rules.known latest
 unselected_there = record { item = Step (Sixel 1); here = refl; holds = refl }
 
--- EPq"1;1;1;1#1;2;100;0;0#1#0;2;0;0;0@E\ : nor does it leave the selection alone
+-- EPq"1;1;1;1#1;2;100;0;0#1#0;2;0;0;0@E\ : after a definition of another register none is known
 abbrev named : List Event
 named =
     start ∷ Step (Raster 1 1 1 1) ∷ Step (Define 1 2 100 0 0) ∷ Step (Select 1) ∷ Step (Define 0 2 0 0 0)
@@ -56,7 +56,7 @@ named_there : HoldsAtPosition (Rules.Breaks 16 unselected_rule) named 5
 unfolding Rules.Breaks Rules.breaks_unselected Rules.known latest
 named_there = record { item = Step (Sixel 1); here = refl; holds = refl }
 
--- EPq"1;1;1;1#1#0;2;0;0;0#1;2;100;0;0@E\ : the register that was selected is defined last
+-- EPq"1;1;1;1#1#0;2;0;0;0#1;2;100;0;0@E\ : the selected register is known if it is also defined last
 abbrev selected : List Event
 selected =
     start ∷ Step (Raster 1 1 1 1) ∷ Step (Select 1) ∷ Step (Define 0 2 0 0 0) ∷ Step (Define 1 2 100 0 0)
@@ -87,7 +87,7 @@ undefined_there : HoldsAtPosition (Rules.Breaks 16 undefined_rule) undefined 3
 unfolding Rules.Breaks Rules.breaks_undefined Rules.definition_of Rules.known latest
 undefined_there = record { item = Step (Sixel 1); here = refl; holds = refl }
 
--- EPq"1;1;2;1#0;2;0;0;0#1;2;100;0;0#0@#1@#0;2;1;0;0E\ : the register isn't the selected one
+-- EPq"1;1;2;1#0;2;0;0;0#1;2;100;0;0#0@#1@#0;2;1;0;0E\ : the redefined register isn't the selected one
 abbrev redefined : List Event
 redefined =
     start ∷ Step (Raster 1 1 2 1) ∷ Step (Define 0 2 0 0 0) ∷ Step (Define 1 2 100 0 0) ∷ Step (Select 0)
@@ -99,7 +99,7 @@ unfolding Rules.Breaks Rules.breaks_redefined Rules.is_painted_in any_at any_bel
     Rules.definition_of
 redefined_there = record { item = Step (Define 0 2 1 0 0); here = refl; holds = refl }
 
--- the same colour again is no other
+-- a definition of the same colour again is allowed
 defined_again : Rules.breaks_redefined (start ∷ Step (Define 0 2 0 0 0) ∷ Step (Select 0) ∷ Step (Sixel 1) ∷ [])
     (Step (Define 0 2 0 0 0)) ≡ false
 unfolding Rules.breaks_redefined Rules.is_painted_in any_at any_below passes_at Rules.known latest Rules.definition_of

@@ -6,7 +6,7 @@ use Rattle.sixel_grammar.specs.declared.command.Command.TheVariants.{CarriageRet
 use Rattle.sixel_grammar.specs.declared.command.Event.{Event}
 use Rattle.sixel_grammar.specs.declared.command.Event.TheVariants.{Start, Step, Finish}
 
--- what a definition of a register says: a colour system and three coordinates
+-- a definition of a register: a colour system and three coordinates (Graphics Color Introducer)
 pub record Definition : Type 0 where
   pub system : ℕ
   pub x : ℕ
@@ -17,14 +17,14 @@ pub record Definition : Type 0 where
 abbrev pub is_same_definition : Definition → Definition → Bool
 is_same_definition d e = (d.system == e.system) && (d.x == e.x) && (d.y == e.y) && (d.z == e.z)
 
--- what raster attributes say: the aspect ratio pan to pad, and the size of the declared box
+-- Raster Attributes: the pixel aspect ratio pan to pad, and the size of the declared box in pixels
 pub record Attributes : Type 0 where
   pub pan : ℕ
   pub pad : ℕ
   pub width : ℕ
   pub height : ℕ
 
--- both numbers of the ratio are 1 (2 and 2, the same ratio, aren't)
+-- the ratio is given as 1 to 1; 2 to 2, which is the same ratio, doesn't count
 abbrev pub is_square : Attributes → Bool
 is_square a = (a.pan == 1) && (a.pad == 1)
 
@@ -46,19 +46,19 @@ abbrev pub is_finish : Event → Bool
 is_finish (Finish eight) = true
 is_finish _ = false
 
--- a start or a finish that is a control of 8 bits: the introducer 90, or the terminator 9C
+-- a start or a finish in its 8-bit form: the introducer 90, or the terminator 9C
 abbrev pub is_eight_bit : Event → Bool
 is_eight_bit (Start eight parameters) = eight
 is_eight_bit (Step command) = false
 is_eight_bit (Finish eight) = eight
 
--- the bits of a data command; any other event has none set
+-- the bits of a data command; 0 for any other event
 abbrev pub bits_of : Event → ℕ
 bits_of (Step (Sixel bits)) = bits
 bits_of (Step (Repeat count bits)) = bits
 bits_of _ = 0
 
--- a data command with a set bit of the six; bits above them, which no text spells, paint nothing
+-- a data command with one of the six bits set; higher bits, which no text spells, paint nothing
 abbrev pub is_painting : Event → Bool
 is_painting e = not (bits_of e % 64 == 0)
 
@@ -67,7 +67,7 @@ abbrev pub is_repeat_of_zero : Event → Bool
 is_repeat_of_zero (Step (Repeat count bits)) = count == 0
 is_repeat_of_zero _ = false
 
--- the columns of a data command, where a repeat of 0 has so many; any other event has none
+-- the width of a data command in columns, if a repeat of 0 has `zero_columns`; 0 for any other event
 abbrev pub columns_of : ℕ → Event → ℕ
 columns_of zero_columns (Step (Sixel bits)) = 1
 columns_of zero_columns (Step (Repeat count bits)) = if count == 0 then zero_columns else count
@@ -77,7 +77,7 @@ abbrev pub is_next_line : Event → Bool
 is_next_line (Step NextLine) = true
 is_next_line _ = false
 
--- to the left margin, of the same line of six or the next
+-- a Graphics Carriage Return or a Graphics New Line: both go to the left margin
 abbrev pub is_return : Event → Bool
 is_return (Step CarriageReturn) = true
 is_return (Step NextLine) = true
@@ -99,7 +99,7 @@ named_by (Step (Select register)) = Some register
 named_by (Step (Define register system x y z)) = Some register
 named_by _ = None
 
--- what a definition says, if its register passes
+-- what the event says, if it defines a register that passes the test
 abbrev pub definition_where : (ℕ → Bool) → Event → Option Definition
 definition_where p (Step (Define register system x y z)) =
     if p register then Some (record { system = system; x = x; y = y; z = z }) else None

@@ -1,24 +1,24 @@
--- Where a data command paints. Points are counted in pixels from the top left of the picture.
+-- Where a data command paints. Points are in pixels, from the top left of the picture.
 use Rattle.std.specs.Prelude.{◌==◌, ℕ, ◌+◌, ◌*◌, Bool, ◌&&◌, nat_le, nat_lt, List, sum_by, count_by}
 use Rattle.std.specs.Int.{bit_at}
 use Rattle.sixel_grammar.specs.declared.command.Event.{Event}
 use Rattle.sixel_model.specs.Events.{bits_of, columns_of, is_next_line, is_return}
 use Rattle.sixel_model.specs.Positions.{any_below, since}
 
--- how many rows a band has: a sixel is a column of so many pixels, and each of its bits is one of them
+-- the rows of a band: a sixel is one column of a band, and each of its bits is one row
 abbrev pub band_rows : ℕ
 band_rows = 6
 
--- the band, a line of sixels: the number of next lines before
+-- the band of the next sixel: the number of new lines before it
 unfoldable pub band : List Event → ℕ
 band before = count_by is_next_line before
 
--- the column: the sum of the widths since the last return, where a repeat of 0 has so many columns
+-- the column of the next sixel: the widths since the last return, added up, if a repeat of 0 has `zero_columns`
 unfoldable pub column : ℕ → List Event → ℕ
 column zero_columns before = sum_by (columns_of zero_columns) (since is_return before)
 
--- the point lies in one of count columns from left on, in the rows of a set bit of a line of sixels; a bit has so
--- many rows, and bit 0 is the uppermost; bits above the six, which no text spells, paint nothing
+-- whether a sixel of `count` columns from `left` on, in the band `line`, paints the point: it is in one of the columns,
+-- and in the rows of a set bit. A bit has `rows` rows, and bit 0 is the top one; bits above the six paint nothing
 unfoldable pub covers : ℕ → ℕ → ℕ → ℕ → ℕ → ℕ → ℕ → Bool
 covers left count line rows bits x y =
     nat_le left x && nat_lt x (left + count)
@@ -26,11 +26,11 @@ covers left count line rows bits x y =
     (bit_at bits k == 1) && nat_le ((band_rows * line + k) * rows) y
     && nat_lt y ((band_rows * line + k) * rows + rows))
 
--- the event is a data command that paints the point, where a repeat of 0 has so many columns and a bit so many rows
+-- the event is a data command that paints the point; a repeat of 0 has `zero_columns` columns, and a bit `rows` rows
 unfoldable pub touches : ℕ → ℕ → List Event → Event → ℕ → ℕ → Bool
 touches zero_columns rows before e x y =
     covers (column zero_columns before) (columns_of zero_columns e) (band before) rows (bits_of e) x y
 
--- the event is a data command that paints the point, where a repeat of 0 has no columns and a bit has one row
+-- the same, where a repeat of 0 has no columns and a bit has one row
 unfoldable pub falls : List Event → Event → ℕ → ℕ → Bool
 falls before e x y = touches 0 1 before e x y

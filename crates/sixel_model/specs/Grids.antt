@@ -5,11 +5,11 @@ use Rattle.std.specs.Option.{MatchOption, option_flatten, option_map}
 use Rattle.std.specs.List.{range_with_len, position_from}
 use Rattle.sixel_model.specs.Geometry.{covers}
 
--- f of each pixel, row by row
+-- the results of f for the column and row of each pixel, row by row
 unfoldable pub row_by_row : {A : Type 0} → ℕ → ℕ → (ℕ → ℕ → A) → List A
 row_by_row width height f = map (λ i. f (i % width) (i / width)) (range_with_len 0 (width * height))
 
--- a size, and an optional register for each pixel, row by row
+-- a size in pixels, and an optional register for each pixel, row by row
 pub record Grid : Type 0 where
   pub width : ℕ
   pub height : ℕ
@@ -22,7 +22,7 @@ blank_grid width height = record { width = width; height = height; cells = row_b
 unfoldable pub cell : Grid → ℕ → ℕ → Option ℕ
 cell s x y = option_flatten (slice_get s.cells (y * s.width + x))
 
--- the grid after a run: the pixels of its set bits have the register, and the others are as before
+-- the grid after a run: the pixels of its set bits have the register, and all others are as before
 unfoldable pub painted_grid : Grid → ℕ → ℕ → ℕ → ℕ → ℕ → Grid
 painted_grid s left band count bits register = record {
   width = s.width;
@@ -43,12 +43,12 @@ abbrev pub painted_cell : ℕ → List ℕ → (ℕ → ℕ → Bool) → ℕ �
 painted_cell width registers is_painted x y =
     if is_painted x y then Some (slice_index registers (y * width + x)) else None
 
--- the grid of a register for each pixel, row by row, and of which of the pixels are painted
+-- the grid that has a register for each pixel, row by row; only the painted pixels count
 abbrev pub grid_of_painted : ℕ → ℕ → List ℕ → (ℕ → ℕ → Bool) → Grid
 grid_of_painted width height registers is_painted =
     record { width = width; height = height; cells = row_by_row width height (painted_cell width registers is_painted) }
 
--- all pixels of the rows before are painted
+-- all pixels of the rows above this one are painted
 abbrev pub RowsArePainted : ℕ → (ℕ → ℕ → Bool) → ℕ → Type 0
 RowsArePainted width is_painted row = (x y : ℕ) → x < width → y < row → is_painted x y ≡ true
 

@@ -7,7 +7,7 @@ use Rattle.sixel_model.specs.Grids.{Grid, blank_grid, cell, painted_grid}
 abbrev pub BlankGridsAreBlank : Type 0
 BlankGridsAreBlank = (width height x y : ℕ) → x < width → y < height → cell (blank_grid width height) x y ≡ None
 
--- after a run its pixels have the register, and each other is as it was
+-- after a run its pixels have the register, and all others are as before
 abbrev pub RunsPaintTheirPixels : Type 0
 RunsPaintTheirPixels =
     (s : Grid) (left band count bits register x y : ℕ) → x < s.width → y < s.height

@@ -1,4 +1,4 @@
--- How the entries of a palette stand for its colours.
+-- The entries of a palette, as a list of optional colours.
 use Rattle.std.specs.Prelude.{◌≡◌, ◌==◌, ℕ, List, Option, length, if◌then◌else◌}
 use Rattle.sixel_model.specs.Pictures.{IsAnyPalette}
 use Rattle.sixel_model.specs.Profiles.{count_of}
@@ -12,7 +12,7 @@ abbrev pub colours_of_entries : Entries → List (Option Parts)
 colours_of_entries (Registers16 entries) = entries
 colours_of_entries (Registers256 entries) = entries
 
--- the entries for these colours
+-- the entries that have these colours
 abbrev pub entries_of : List (Option Parts) → Entries
 entries_of colours =
     if length colours == count_of Profile.Registers16 then Registers16 colours else Registers256 colours
@@ -22,7 +22,7 @@ abbrev pub registers_for : Entries → ℕ
 registers_for (Registers16 entries) = count_of Profile.Registers16
 registers_for (Registers256 entries) = count_of Profile.Registers256
 
--- there is an entry for each of them, and each colour is in range
+-- there is an entry for each register, and each colour is in range
 pub record AreEntries (entries : Entries) : Type 0 where
   pub whole : length (colours_of_entries entries) ≡ registers_for entries
   pub palette : IsAnyPalette (colours_of_entries entries)

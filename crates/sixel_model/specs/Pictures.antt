@@ -9,7 +9,7 @@ use Rattle.sixel_model.specs.declared.picture.PictureReason.{PictureReason}
 use Rattle.sixel_model.specs.declared.picture.PictureReason.TheVariants.{Size, Count, Register, NoColour}
 use Rattle.sixel_model.specs.declared.profile.Profile.{Profile}
 
--- the size, an optional colour for each register, and a register for each pixel, row by row
+-- the size in pixels, an optional colour for each register, and a register for each pixel, row by row
 pub record PictureValue : Type 0 where
   pub width : ℕ
   pub height : ℕ
@@ -20,7 +20,7 @@ abbrev pub picture_of_parts : ℕ → ℕ → List (Option Parts) → List ℕ �
 picture_of_parts width height palette registers =
     record { width = width; height = height; palette = palette; registers = registers }
 
--- the register of a pixel inside
+-- the register of a pixel inside the picture
 abbrev pub register_of : PictureValue → ℕ → ℕ → ℕ
 register_of p x y = slice_index p.registers (y * p.width + x)
 
@@ -28,11 +28,11 @@ register_of p x y = slice_index p.registers (y * p.width + x)
 abbrev pub most_side : ℕ
 most_side = 2048
 
--- a side of a picture
+-- whether n is a side of a picture
 abbrev pub is_side : ℕ → Bool
 is_side n = nat_le 1 n && nat_le n most_side
 
--- the first reason why the parts make no picture of a palette of so many registers
+-- the first reason why the parts don't make a picture with `count` registers
 abbrev pub picture_fault : ℕ → ℕ → ℕ → List (Option Parts) → List ℕ → Option PictureReason
 picture_fault count width height palette registers =
     if not (is_side width && is_side height) then Some Size
@@ -41,12 +41,12 @@ picture_fault count width height palette registers =
     else if not (list_all (λ r. is_some (palette_at palette r)) registers) then Some NoColour
     else None
 
--- a palette of so many registers: one entry for each, and each colour is in range
+-- a palette of `count` registers: one entry for each, and each colour is in range
 pub record IsPalette (count : ℕ) (palette : List (Option Parts)) : Type 0 where
   pub entries : length palette ≡ count
   pub in_range : All (λ o. IfSome o IsColour) palette
 
--- a picture of so many registers: its parts make one
+-- a picture with `count` registers: its parts make one
 pub record IsPicture (count : ℕ) (p : PictureValue) : Type 0 where
   pub accepted : picture_fault count p.width p.height p.palette p.registers ≡ None
   pub palette : IsPalette count p.palette
@@ -56,7 +56,7 @@ pub record IsAnyPalette (palette : List (Option Parts)) : Type 0 where
   pub profile : Profile
   pub entries : IsPalette (count_of profile) palette
 
--- a picture of its palette's profile
+-- a picture with the registers of a profile
 pub record IsAnyPicture (p : PictureValue) : Type 0 where
   pub profile : Profile
   pub parts : IsPicture (count_of profile) p

@@ -1,20 +1,20 @@
--- What is found at a position of a list, given the items before it; and the last position that gives something.
+-- Searches in lists. At a position, a search sees the item there and the items before it.
 use Rattle.std.specs.Prelude.{◌≡◌, ℕ, zero, suc, Bool, false, ◌||◌, Option, Some, None, List, [], ◌∷◌, length, take}
 use Rattle.std.specs.Prelude.{slice_get, if◌then◌else◌}
 use Rattle.std.specs.Option.{option_or, option_and_then, option_map_or}
 use Rattle.std.specs.List.{list_any}
 
--- what f gives of the last item of which it gives something
+-- the result of f for the last item that has one
 unfoldable pub latest : {X A : Type 0} → (X → Option A) → List X → Option A
 latest f [] = None
 latest f (x ∷ xs) = option_or (latest f xs) (f x)
 
--- what f gives of the first item of which it gives something
+-- the result of f for the first item that has one
 unfoldable pub earliest : {X A : Type 0} → (X → Option A) → List X → Option A
 earliest f [] = None
 earliest f (x ∷ xs) = option_or (f x) (earliest f xs)
 
--- the items after the last one that passes, or all where none passes
+-- the items after the last one that passes, or all if none passes
 unfoldable pub since : {X : Type 0} → (X → Bool) → List X → List X
 since p [] = []
 since p (x ∷ xs) = if list_any p xs then since p xs else if p x then xs else x ∷ xs
@@ -24,20 +24,20 @@ unfoldable pub any_below : ℕ → (ℕ → Bool) → Bool
 any_below zero p = false
 any_below (suc n) p = p n || any_below n p
 
--- what f gives of the last number below n of which it gives something
+-- the result of f for the last number below n that has one
 unfoldable pub last_below : {A : Type 0} → ℕ → (ℕ → Option A) → Option A
 last_below zero f = None
 last_below (suc n) f = option_or (f n) (last_below n f)
 
--- what f gives of the items before position i and of the item there
+-- the result of f for the items before position i and the item there
 unfoldable pub at_position : {X A : Type 0} → (List X → X → Option A) → List X → ℕ → Option A
 at_position f xs i = option_and_then (λ x. f (take i xs) x) (slice_get xs i)
 
--- what f gives at the last position at which it gives something
+-- the result of f at the last position that has one
 unfoldable pub last_at : {X A : Type 0} → (List X → X → Option A) → List X → Option A
 last_at f xs = last_below (length xs) (at_position f xs)
 
--- P holds of the items before position i and of the item there
+-- P holds for the items before position i and the item there
 pub record HoldsAtPosition {X : Type 0} (P : List X → X → Type 0) (xs : List X) (i : ℕ) : Type 0 where
   pub item : X
   pub here : slice_get xs i ≡ Some item

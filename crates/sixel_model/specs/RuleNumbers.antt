@@ -1,5 +1,5 @@
--- The number of each rule of a portable picture, by its name: of the rules that one event breaks, the one of the least
--- number is named.
+-- The number of each rule of a portable picture, by its name. If an event breaks several rules, the one with the least
+-- number is reported.
 use Rattle.std.specs.Prelude.{ℕ}
 
 abbrev pub raster_first_rule : ℕ
@@ -41,6 +41,6 @@ uncovered_rule = 12
 abbrev pub eight_bit_rule : ℕ
 eight_bit_rule = 13
 
--- the greatest of them
+-- the greatest number
 abbrev pub last_rule : ℕ
 last_rule = eight_bit_rule

@@ -1,6 +1,6 @@
--- The rules of a portable picture, the first that is broken, and the picture that is left where none is.
+-- The rules of a portable picture, the first broken rule, and the picture that is left if no rule is broken.
 --
--- Each word takes the events before an event, and that event. The box is that of the first raster attributes before it.
+-- Each rule sees an event and the events before it. The box is that of the first raster attributes before the event.
 use Rattle.std.specs.Prelude.{◌==◌, ◌<◌, ◌≤◌, ◌&&◌, ◌||◌, ℕ, Bool, true, false, not, nat_le, nat_lt, is_none, is_some}
 use Rattle.std.specs.Prelude.{Option, Some, None, IsTrue, IsFalse, IsSomeAnd, List, map, unwrap_or, if◌then◌else◌}
 use Rattle.std.specs.Bool.{MatchBool, then_some}
@@ -23,18 +23,18 @@ use Rattle.sixel_model.specs.RuleNumbers.{register_rule, colour_value_rule, repe
 use Rattle.sixel_model.specs.RuleNumbers.{undefined_rule, redefined_rule, outside_rule, uncovered_rule}
 use Rattle.sixel_model.specs.RuleNumbers.{eight_bit_rule}
 
--- ---- what stands before an event
+-- ---- what holds before an event
 
--- there is a number, and it is this one
+-- the optional number is n
 abbrev pub is_that : ℕ → Option ℕ → Bool
 is_that n None = false
 is_that n (Some m) = m == n
 
--- the register that was selected last, if it was named last too
+-- the register that was selected last, if it is also the one that was named last
 abbrev pub known_by : Option ℕ → Option ℕ → Option ℕ
 known_by selected named = option_and_then (λ r. then_some (is_that r named) r) selected
 
--- the known register: the last select is of it, and the last select or definition is of it too
+-- the known register: the last select names it, and so does the last select or definition
 unfoldable pub known : List Event → Option ℕ
 known before = known_by (latest select_of before) (latest named_by before)
 
@@ -46,7 +46,7 @@ definition_of before register = latest (definition_where (λ r. r == register)) 
 abbrev pub colour_by : Definition → Option Parts
 colour_by d = colour_in d.system d.x d.y d.z
 
--- the definition gives a colour in range
+-- whether the definition gives a colour in range
 abbrev pub gives_colour : Definition → Bool
 gives_colour d = option_map_or is_colour (colour_by d) false
 
@@ -54,42 +54,42 @@ gives_colour d = option_map_or is_colour (colour_by d) false
 unfoldable pub colour_of : List Event → ℕ → Option Parts
 colour_of before register = option_and_then colour_by (definition_of before register)
 
--- some command painted while the register was known
+-- whether some command painted while the register was known
 unfoldable pub is_painted_in : List Event → ℕ → Bool
 is_painted_in before register = any_at (λ earlier e. is_painting e && is_that register (known earlier)) before
 
--- the first raster attributes
+-- the first raster attributes, which declare the box
 unfoldable pub raster_before : List Event → Option Attributes
 raster_before before = earliest raster_of before
 
--- some event paints the point
+-- whether some event paints the point
 unfoldable pub is_covered : List Event → ℕ → ℕ → Bool
 is_covered before x y = any_at (λ earlier e. falls earlier e x y) before
 
--- the register that was known at the last event that paints the point
+-- the register that was known when the point was painted last
 unfoldable pub register_at : List Event → ℕ → ℕ → Option ℕ
 register_at before x y =
     option_flatten (last_at (λ earlier e. if falls earlier e x y then Some (known earlier) else None) before)
 
--- ---- the rules; each word says that the event breaks one
+-- ---- the rules; each definition says that the event breaks one
 
--- a data command, a return or the end, and no raster attributes stand before it
+-- a data command, a return or the end, with no raster attributes before it
 unfoldable pub breaks_raster_first : List Event → Event → Bool
 breaks_raster_first before e = is_none (raster_before before) && (is_data_command e || is_return e || is_finish e)
 
--- raster attributes after raster attributes
+-- raster attributes that aren't the first
 unfoldable pub breaks_raster_twice : List Event → Event → Bool
 breaks_raster_twice before e = is_some (raster_before before) && is_some (raster_of e)
 
--- raster attributes of which not both numbers of the ratio are 1
+-- raster attributes whose ratio isn't given as 1 to 1
 unfoldable pub breaks_ratio : Event → Bool
 breaks_ratio e = option_map_or (λ a. not (is_square a)) (raster_of e) false
 
--- raster attributes of a box with a side outside 1 to 2,048
+-- raster attributes with a side outside 1 to 2,048 pixels
 unfoldable pub breaks_box_size : Event → Bool
 breaks_box_size e = option_map_or (λ a. not (has_sides a)) (raster_of e) false
 
--- a select or a definition of a register that is not below the count
+-- a select or a definition of a register that isn't below `count`
 unfoldable pub breaks_register : ℕ → Event → Bool
 breaks_register count e = option_map_or (λ r. nat_le count r) (named_by e) false
 
@@ -101,7 +101,7 @@ breaks_colour_value e = option_map_or (λ d. not (gives_colour d)) (definition_w
 unfoldable pub breaks_repeat_zero : Event → Bool
 breaks_repeat_zero e = is_repeat_of_zero e
 
--- a painting command where no register is known
+-- a painting command when no register is known
 unfoldable pub breaks_unselected : List Event → Event → Bool
 breaks_unselected before e = is_painting e && is_none (known before)
 
@@ -109,7 +109,7 @@ breaks_unselected before e = is_painting e && is_none (known before)
 unfoldable pub breaks_undefined : List Event → Event → Bool
 breaks_undefined before e = is_painting e && option_map_or (λ r. is_none (definition_of before r)) (known before) false
 
--- a definition of a register in which was painted, other than the register's last one
+-- a definition of a register that was painted in, unless it repeats the register's last definition
 unfoldable pub breaks_redefined : List Event → Event → Bool
 breaks_redefined before (Step (Define register system x y z)) =
     is_painted_in before register
@@ -117,7 +117,7 @@ breaks_redefined before (Step (Define register system x y z)) =
     (definition_of before register) false
 breaks_redefined before _ = false
 
--- the event paints the point, and it lies outside the box
+-- the event paints the point, which is outside the box
 pub record FallsOutside (before : List Event) (e : Event) (a : Attributes) (x y : ℕ) : Type 0 where
   pub painted : IsTrue (falls before e x y)
   pub outside : IsFalse (is_in_box a x y)
@@ -126,21 +126,21 @@ pub record FallsOutside (before : List Event) (e : Event) (a : Attributes) (x y 
 unfoldable pub BreaksOutside : List Event → Event → Type 0
 BreaksOutside before e = IsSomeAnd (raster_before before) (λ a. (x : ℕ) × (y : ℕ) × FallsOutside before e a x y)
 
--- the point lies in the box, and no event paints it
+-- the point is in the box, and no event paints it
 pub record StaysBlank (before : List Event) (a : Attributes) (x y : ℕ) : Type 0 where
   pub inside : IsTrue (is_in_box a x y)
   pub blank : IsFalse (is_covered before x y)
 
--- the end, where some pixel of the box stays blank; no event follows an end, so those before it are all
+-- the end, if some pixel of the box is still blank; no event follows an end, so those before it are all
 unfoldable pub BreaksUncovered : List Event → Event → Type 0
 BreaksUncovered before e =
     IsTrue (is_finish e) × IsSomeAnd (raster_before before) (λ a. (x : ℕ) × (y : ℕ) × StaysBlank before a x y)
 
--- a start or a finish of 8 bits
+-- an 8-bit start or finish
 unfoldable pub breaks_eight_bit : Event → Bool
 breaks_eight_bit e = is_eight_bit e
 
--- the event breaks the rule of this number, where there are so many registers
+-- the event breaks the rule with number n, if there are `registers` registers
 unfoldable pub Breaks : ℕ → ℕ → List Event → Event → Type 0
 Breaks registers n before e =
     MatchBool (n == raster_first_rule) (IsTrue (breaks_raster_first before e))
@@ -159,11 +159,11 @@ Breaks registers n before e =
 
 -- ---- the first broken rule
 
--- no event breaks a rule whose number is at most the last
+-- no event breaks a rule whose number is at most `last`
 unfoldable pub BreaksNone : ℕ → ℕ → List Event → Type 0
 BreaksNone registers last events = (n : ℕ) → n ≤ last → HoldsNowhere (Breaks registers n) events
 
--- rule n is broken at position i, no rule is broken at an earlier position, and none of a smaller number there
+-- rule n is broken at position i; no rule is broken earlier, and no rule with a smaller number is broken there
 pub record IsFirstBroken (registers : ℕ) (events : List Event) (n i : ℕ) : Type 0 where
   pub broken : HoldsAtPosition (Breaks registers n) events i
   pub none_earlier : (m j : ℕ) → j < i → ¬ HoldsAtPosition (Breaks registers m) events j
@@ -173,19 +173,19 @@ pub record IsFirstBroken (registers : ℕ) (events : List Event) (n i : ℕ) : T
 abbrev pub is_before : ℕ → ℕ → ℕ → ℕ → Bool
 is_before u v x y = nat_lt v y || ((v == y) && nat_lt u x)
 
--- the first point, in row order, of which P holds
+-- the first point, in row order, for which P holds
 pub record IsFirstPoint (P : ℕ → ℕ → Type 0) (x y : ℕ) : Type 0 where
   pub holds : P x y
   pub none_before : (u v : ℕ) → IsTrue (is_before u v x y) → ¬ P u v
 
 -- ---- the picture that is left
 
--- for each register the colour of its last definition, if it has one
+-- for each register, the colour of its last definition, if it has one
 unfoldable pub palette_left : ℕ → List Event → List (Option Parts)
 palette_left registers events = map (colour_of events) (range_with_len 0 registers)
 
--- the picture of the box, and over each pixel the register in which it was painted last; where no rule is broken
--- there is a box, and each pixel was painted in a known register
+-- the picture of the box, in which each pixel has the register that it was painted in last. If no rule is broken, there
+-- is a box, and each pixel was painted in a known register
 unfoldable pub picture_left : ℕ → List Event → PictureValue
 picture_left registers events =
     let a : Attributes = unwrap_or (raster_before events) (record { pan = 1; pad = 1; width = 0; height = 0 }) in

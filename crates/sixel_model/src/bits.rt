@@ -3,10 +3,10 @@
 ghost use Rattle.std.specs.Prelude.{◌≡◌, ◌==◌, ◌<◌};
 ghost use Rattle.std.specs.Int.{bit_at};
 
-/// How many rows of pixels a band has: a sixel is a column of them, and each of its bits is a row.
+/// How many rows of pixels a band has. A sixel is one column of a band, and each of its bits is one row.
 pub const BAND_ROWS: u32 = 6;
 
-/// Whether a data command of these bits paints the row of a bit. Bit 0 is the uppermost row of the band.
+/// Whether a sixel with these bits paints the row of `bit`. Bit 0 is the top row of the band.
 #[inline]
 pub fn is_set(bits: u8, bit: u32) -> bool
     requires { bit < BAND_ROWS }

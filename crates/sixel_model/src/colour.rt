@@ -5,8 +5,8 @@ ghost use Rattle.sixel_model.specs.Colours.{IsColour, is_same};
 
 use std::marker::Model;
 
-/// The coordinates of a colour: red, green and blue in percent; or hue in degrees, and lightness and
-/// saturation in percent.
+/// The coordinates of a colour. `Rgb` is red, green and blue in percent. `Hls` is the hue in degrees, then lightness
+/// and saturation in percent.
 #[derive(Clone, Copy, Debug, PartialEq, Eq)]
 pub enum Parts {
     Rgb(u8, u8, u8),
@@ -15,9 +15,8 @@ pub enum Parts {
 
 /// A colour whose coordinates are in range: a hue is at most 360, any other coordinate at most 100.
 ///
-/// The two colour systems are those of DEC EK-VT3XX-GP, volume 2, the chapter on sixel graphics. A
-/// colour is kept in the system in which it was given: one of hue, lightness and saturation never
-/// equals one of red, green and blue.
+/// The two colour systems are those of DEC EK-VT3XX-GP-002, Graphics Color Introducer. A colour stays in the system in
+/// which it was given: an HLS colour never equals an RGB colour.
 #[derive(Clone, Copy, Debug, PartialEq, Eq)]
 pub struct Colour {
     parts: Parts,
@@ -38,7 +37,7 @@ impl Model for Colour {
 }
 
 impl Colour {
-    /// The colour of these percentages, or `None` where one is above 100.
+    /// The RGB colour with these percentages, or `None` if one is above 100.
     pub fn rgb(red: u8, green: u8, blue: u8) -> Option<Colour>
         ensures some { IsSome result ↔ IsColour (Parts.Rgb red green blue) }
         ensures value { IfSome result (λ c. c ≡ Parts.Rgb red green blue) }
@@ -52,7 +51,7 @@ impl Colour {
         }
     }
 
-    /// The colour of this hue, lightness and saturation, or `None` where one is out of range.
+    /// The HLS colour with this hue in degrees, and lightness and saturation in percent. `None` if one is out of range.
     pub fn hls(hue: u16, lightness: u8, saturation: u8) -> Option<Colour>
         ensures some { IsSome result ↔ IsColour (Parts.Hls hue lightness saturation) }
         ensures value { IfSome result (λ c. c ≡ Parts.Hls hue lightness saturation) }
@@ -74,7 +73,7 @@ impl Colour {
         self.parts
     }
 
-    /// The colour of percentages that are in range.
+    /// The RGB colour with these percentages, which must be in range.
     pub fn of_percentages(red: u8, green: u8, blue: u8) -> Colour
         requires { IsColour (Parts.Rgb red green blue) }
         ensures { result ≡ Parts.Rgb red green blue }
@@ -84,7 +83,7 @@ impl Colour {
         }
     }
 
-    /// Whether two colours are one: they have one system and the same coordinates.
+    /// Whether two colours are the same: the same system and the same coordinates.
     pub(crate) fn is_same(self, other: Colour) -> bool
         ensures { result ≡ is_same self other }
     {

@@ -14,7 +14,7 @@ use std::marker::Model;
 /// The greatest side of a picture, in pixels.
 pub const MOST_SIDE: u32 = 2048;
 
-/// A picture of 1 to 2,048 by 1 to 2,048 pixels, each in a register that has a colour.
+/// A picture of 1 to 2,048 by 1 to 2,048 pixels. The register of each pixel has a colour.
 ///
 /// Contracts see its width, its height, its palette, and the registers of its pixels row by row from
 /// the top left.
@@ -36,20 +36,20 @@ impl Model for Picture {
     ghost invariant = { λ p. IsAnyPicture (picture_of_parts p.width p.height p.palette p.registers.items) };
 }
 
-/// Why parts make no picture. Where several reasons apply, the first of them in this order is answered.
+/// Why parts don't make a picture. If several reasons apply, the first one in this order is reported.
 #[derive(Clone, Copy, Debug, PartialEq, Eq)]
 pub enum PictureReason {
-    /// The width or the height is not from 1 to 2,048.
+    /// The width or the height isn't from 1 to 2,048 pixels.
     Size = 1,
-    /// There are not as many registers as the width times the height.
+    /// The number of registers isn't the width times the height.
     Count = 2,
-    /// A register is above those of the palette's profile.
+    /// A register isn't one of the palette's profile.
     Register = 3,
-    /// A pixel is in a register that has no colour.
+    /// The register of a pixel has no colour.
     NoColour = 4,
 }
 
-/// The reason, and the parts handed back as they were.
+/// The reason, and the parts, returned unchanged.
 #[derive(Debug, Drop)]
 pub struct PictureFault {
     pub reason: PictureReason,
@@ -57,7 +57,7 @@ pub struct PictureFault {
     pub registers: Vec<u8>,
 }
 
-/// The first reason why these registers are none of a picture's. One look finds the greatest of them.
+/// The first reason why these registers don't fit the palette. One pass finds the greatest of them.
 fn reason_of_registers(palette: &Palette, registers: &[u8]) -> Option<PictureReason>
     ensures { result
         ≡ (if not (list_all (λ r. nat_lt r (length palette.now)) registers.now) then Some PictureReason.Register
@@ -74,7 +74,7 @@ fn reason_of_registers(palette: &Palette, registers: &[u8]) -> Option<PictureRea
     }
 }
 
-/// The first reason why these parts make no picture.
+/// The first reason why these parts don't make a picture.
 fn reason_of(width: u32, height: u32, palette: &Palette, registers: &[u8]) -> Option<PictureReason>
     ensures { result ≡ picture_fault (length palette.now) width height palette.now registers.now }
 {
@@ -88,7 +88,8 @@ fn reason_of(width: u32, height: u32, palette: &Palette, registers: &[u8]) -> Op
 }
 
 impl Picture {
-    /// The picture of these parts, or the first reason why they make none. Takes no memory.
+    /// Makes a picture of a size in pixels, a palette, and a register for each pixel, row by row from the top left. On
+    /// an `Err` these don't make one; it has the first reason, and the parts. Allocates nothing.
     pub fn new(
         width: u32,
         height: u32,
@@ -117,12 +118,12 @@ impl Picture {
         })
     }
 
-    /// The picture of parts that make one, which aren't looked at again.
+    /// The picture of parts that are known to make one. They aren't checked again.
     pub fn of_parts(width: u32, height: u32, palette: Palette, registers: Vec<u8>) -> Picture
         requires { picture_fault (length palette) width height palette registers.items ≡ None }
         ensures { result ≡ picture_of_parts width height palette registers.items }
     {
-        // A call that does nothing: its contract says that the colours are in range.
+        // Called only for its contract, which says that the colours are in range.
         let _ = palette.get(0);
         Picture {
             width,
@@ -174,7 +175,7 @@ impl Picture {
         self.registers[y as usize * self.width as usize + x as usize]
     }
 
-    /// The registers of a row, from the left.
+    /// The registers of row `y`, counted from 0 at the top, from left to right.
     pub fn row(&self, y: u32) -> &[u8]
         requires inside { y < self.now.height }
         ensures width { length result.now ≡ self.now.width }
@@ -186,7 +187,7 @@ impl Picture {
         &self.registers[start..start + width]
     }
 
-    /// The registers of the pixels, row by row.
+    /// The registers of all pixels, row by row from the top left.
     pub fn registers(&self) -> &[u8]
         ensures same { result.now ≡ self.now.registers }
         ensures picture { IsAnyPicture self.now }

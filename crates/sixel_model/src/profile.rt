@@ -9,10 +9,10 @@ pub const LEAST_REGISTERS: usize = 16;
 /// How many registers the greater profile has.
 pub const MOST_REGISTERS: usize = 256;
 
-/// The colour registers that a picture may use, and that each terminal of the class of the profile has.
+/// The colour registers that a picture may use. Each terminal of the profile's class has them.
 ///
-/// A VT340 has 16 (DEC EK-VT3XX-GP, volume 2, the chapter on sixel graphics). Many of the terminals in use today
-/// have 256 or more.
+/// A VT340 has 16 (DEC EK-VT3XX-GP-002, the chapter on sixel graphics). Many of the terminals in use today have 256 or
+/// more.
 #[derive(Clone, Copy, Debug, PartialEq, Eq)]
 pub enum Profile {
     /// The registers 0 to 15.

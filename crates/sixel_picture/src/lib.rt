@@ -1,4 +1,4 @@
-//! Colours, palettes, pictures, planes of pixels, and pictures as PPM files: one name for three crates.
+//! One crate that re-exports three: colours, palettes, pictures, planes of pixels, and PPM files.
 #![tactic(auto)]
 
 pub use sixel_model::{

@@ -1,4 +1,4 @@
--- On registers and a byte of painted rows for each column and band, that stand for a grid.
+-- Planes with a register for each pixel, and a coverage byte for each column of each band.
 use Rattle.std.proofs.Common.{◌≡◌, ◌==◌, ◌≢◌, ℕ, zero, suc, ◌+◌, ◌*◌, ◌/◌, ◌%◌, ◌<◌, ◌≤◌, Bool, true, false, ◌&&◌, ◌||◌}
 use Rattle.std.proofs.Common.{cond, List, length, get_or, replicate, nat_le, nat_lt, if◌then◌else◌, inl, inr, refl, sym}
 use Rattle.std.proofs.Common.{ap, ◌∙◌, arith, max, mul_comm, take}
@@ -19,13 +19,13 @@ use Rattle.sixel_plane.proofs.PaintedLemmas.{blank_unpainted, grid_after_run}
 use Rattle.sixel_model.proofs.PaintLemmas.{painted_same}
 use Rattle.sixel_model.proofs.RunLemmas.{IsRunBelow, in_row_at, run_more, same_test}
 
--- ---- places
+-- ---- indices
 
 -- a row's band is one of the bands of a plane
 pub band_below : (h y : ℕ) → y < h → y / 6 < div_ceil h 6
 band_below h y lt = omega arith
 
--- the byte of a column and band is there
+-- each column of each band has a coverage byte
 pub band_fits : (w h x y : ℕ) → x < w → y < h → y / 6 * w + x < w * div_ceil h 6
 band_fits w h x y inside_x inside_y = mul-add-lt (y / 6) w x (div_ceil h 6) (band_below h y inside_y) inside_x
 
@@ -43,7 +43,7 @@ blank_bands w h registers coverage some blank =
 
 -- ---- painting
 
--- a run covers the pixels of its columns, in the rows of its band whose bits are set
+-- a run covers the pixels of its columns, in the rows of its band with set bits
 pub covered_band : (left count band bits x y : ℕ) → covers left count band 1 bits x y
     ≡ (((nat_le left x && nat_lt x (left + count)) && (nat_le band (y / 6) && nat_lt (y / 6) (band + 1)))
     && (bit_at bits (y % 6) == 1))
@@ -96,7 +96,7 @@ same_either : (t : Bool) (x : ℕ) → cond t x x ≡ x
 same_either true x = refl
 same_either false x = refl
 
--- a pixel that is written to, whether it is painted or not
+-- a pixel of the run's column, which is written only if its bit is set
 pub painted_put : (t : Bool) (k w left band bits register start : ℕ) (old mid new : List ℕ) → 0 < w → left + 1 ≤ w
     → start ≡ (6 * band + k) * w + left → t ≡ (bit_at bits k == 1)
     → IsRunBelow k w left 1 band bits register 0 old mid
@@ -108,13 +108,13 @@ painted_put false k w left band bits register start old mid new some fits at cle
     painted_same k band 1 bits _ _ register 0 old mid new (sym clear) before c.long
     (λ i lt. c.changed i lt ∙ same_either (nat_le start i && nat_lt i (start + 1)) (get_or mid i 0))
 
--- a bit of a byte to which bits may have been added
+-- a bit of a byte to which bits were added, or not
 pub or_bit : (t : Bool) (old bits k : ℕ)
     → (bit_at (cond t (bit_or old bits) old) k == 1) ≡ ((t && (bit_at bits k == 1)) || (bit_at old k == 1))
 or_bit true old bits k = or_bit_of old bits k
 or_bit false old bits k = refl
 
--- the bytes after a run say which pixels are painted
+-- which pixels the coverage bytes mark after a run
 painted_bit : (w left count band bits : ℕ) (old new : List ℕ) (x y : ℕ) → x < w → left + count ≤ w
     → y / 6 * w + x < length old
     → AreChanged (band * w + left) (band * w + left + count) (λ b. bit_or b bits) old new
@@ -148,7 +148,7 @@ unchanged : (t : Bool) (bits o : ℕ) → bits ≡ 0 → o ≡ cond t (bit_or o 
 unchanged true bits o none = sym (ap (bit_or o) none ∙ or_zero_r o)
 unchanged false bits o none = refl
 
--- a run without bits changes no byte
+-- a run without set bits changes no coverage
 pub nothing_changed : (from to bits : ℕ) (bytes : List ℕ) → bits ≡ 0
     → AreChanged from to (λ b. bit_or b bits) bytes bytes
 nothing_changed from to bits bytes none = record {
@@ -171,11 +171,11 @@ some_bit_of bits small some true found = passes_below 6 (λ n. bit_at bits n == 
 some_bit_of bits small some false none =
     absurd (some (same_from_bits_below 6 bits 0 (omega arith) (omega arith) (λ k few. no_bit_of bits k few none)))
 
--- a sixel other than 0 has a bit
+-- a sixel other than 0 has a set bit
 some_bit : (bits : ℕ) → bits ≤ 63 → bits ≢ 0 → PassesBelow 6 (λ n. bit_at bits n == 1)
 some_bit bits small some = some_bit_of bits small some _ refl
 
--- a run with bits lies in one of the bands
+-- a run with a set bit is inside one of the bands
 pub run_fits : (w h left count band bits : ℕ) → bits ≤ 63 → left + count ≤ w
     → ((k : ℕ) → k < 6 → bit_at bits k ≡ 1 → 6 * band + k < h) → bits ≢ 0
     → band * w + left + count ≤ w * div_ceil h 6
@@ -190,7 +190,7 @@ run_fits w h left count band bits small fits rows some =
 
 -- ---- whole bands
 
--- each bit of a sixel with all six
+-- 63 has all six bits
 all_set : (k : ℕ) → k < 6 → bit_at 63 k ≡ 1
 all_set zero lt = refl
 all_set (suc zero) lt = refl
@@ -200,11 +200,11 @@ all_set (suc (suc (suc (suc zero)))) lt = refl
 all_set (suc (suc (suc (suc (suc zero))))) lt = refl
 all_set (suc (suc (suc (suc (suc (suc k)))))) lt = absurd (omega arith)
 
--- the bytes of the whole bands are among them
+-- the coverage bytes of the whole bands are a prefix
 pub bands_fit : (w h : ℕ) → h / 6 * w ≤ w * div_ceil h 6
 bands_fit w h = omega (arith, mul-le (h / 6) w (div_ceil h 6) w (omega arith) (omega arith), mul_comm w (div_ceil h 6))
 
--- where each byte of the whole bands has each bit of the six
+-- if each coverage byte of the whole bands has all six bits, their rows are painted
 pub whole_painted : (w h common : ℕ) (coverage : List ℕ) → common ≡ 63 → h / 6 * w ≤ length coverage
     → ((i k : ℕ) → i < length (take (h / 6 * w) coverage) → bit_at common k ≡ 1
     → bit_at (get_or (take (h / 6 * w) coverage) i 0) k ≡ 1)

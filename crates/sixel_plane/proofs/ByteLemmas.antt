@@ -1,4 +1,4 @@
--- On a register and a mark for each pixel, that stand for a grid.
+-- Planes with a register and a mark for each pixel.
 use Rattle.std.proofs.Common.{◌≡◌, ℕ, ◌+◌, ◌*◌, ◌/◌, ◌%◌, ◌<◌, Bool, true, false, ◌||◌, cond, not, Option, Some, None}
 use Rattle.std.proofs.Common.{List, length, get_or, replicate, position, refl, sym, ap, ap₂, ◌∙◌, arith, mul_comm}
 use Rattle.std.specs.Option.{option_map}
@@ -39,7 +39,7 @@ unmarked_at w h marks i some whole found =
       columns_before = λ x before. marked (i / w * w + x) (omega arith);
     }
 
--- the first pixel without a mark isn't painted, and all before it are
+-- the pixel of the first unset mark is the first unpainted one
 pub first_unmarked : (w h : ℕ) (marks : List Bool) (found : Option ℕ) → 0 < w → length marks ≡ w * h
     → found ≡ position not marks → FirstUnpainted w h (is_marked w marks) (option_map (λ i. (i % w, i / w)) found)
 first_unmarked w h marks (Some i) some whole found = unmarked_at w h marks i some whole (sym found)

@@ -1,4 +1,4 @@
--- On bytes in a row, and on groups of them taken at once.
+-- Runs of bytes, and groups of them handled at once.
 use Rattle.std.proofs.Common.{◌≡◌, ◌==◌, ℕ, ◌+◌, ◌*◌, ◌%◌, ◌^◌, ◌<◌, ◌≤◌, Bool, not, cond, List}
 use Rattle.std.proofs.Common.{length, get_or, map, replicate, w8, inl, inr, ◌≢◌, sym, ap, ap₂, ◌∙◌, arith, ◌-◌}
 use Rattle.std.specs.Prelude.{◌&&◌, nat_le, nat_lt}
@@ -18,7 +18,7 @@ use lib.Count.{count_trailing_zeros}
 use lib.Lanes.{chunk, put_chunk, mask_l, top, zip2}
 use Rattle.sixel_plane.specs.Lanes.{AreChanged, NonePasses, IsFirstAt}
 
--- a group of bytes that is stored: each stands where it was put, and the others are as before
+-- storing a group changes its bytes and no others
 pub stored_group : (at n : ℕ) (g : ℕ → ℕ) (old group : List ℕ) → length group ≡ n → at + n ≤ length old
     → ((j : ℕ) → j < n → get_or group j 0 ≡ g (at + j)) → (i : ℕ)
     → get_or (put_chunk at old group) i 0 ≡ cond (nat_le at i && nat_lt i (at + n)) (g i) (get_or old i 0)
@@ -53,14 +53,14 @@ changed_group at n f old group long room each = record {
   changed = λ i lt. stored_group at n (λ k. f (get_or old k 0)) old group long room each i;
 }
 
--- a group that is filled
+-- filling a group
 pub filled_group : (at value : ℕ) (old : List ℕ) → at + 32 ≤ length old
     → AreChanged at (at + 32) (λ b. value) old (put_chunk at old (replicate 32 value))
 filled_group at value old room =
     changed_group at 32 (λ b. value) old (replicate 32 value) (length-replicate 32 value) room
     (λ j lt. get_or-replicate 32 j value 0 lt)
 
--- a group in which bits are set
+-- setting bits in a group
 pub or_group : (at bits : ℕ) (old : List ℕ) → at + 32 ≤ length old
     → AreChanged at (at + 32) (λ b. bit_or b bits) old
     (put_chunk at old (zip2 bit_or (chunk at 32 old) (replicate 32 bits)))
@@ -73,9 +73,9 @@ or_group at bits old room =
     (λ j lt. get_or-zip2 bit_or (chunk at 32 old) (replicate 32 bits) j 0 0 0 (omega arith) (omega arith)
     ∙ ap₂ bit_or (get_or-chunk at 32 old j 0 lt) (get_or-replicate 32 j bits 0 lt))
 
--- ---- the first byte without a bit
+-- ---- the first byte without the bit
 
--- a byte has no bit where its part under the bit is 0
+-- a byte lacks a bit exactly if masking the bit gives 0
 pub no_bit : (bit b : ℕ) → bit < 8 → (bit_and b (1 * 2 ^ bit % 256) == 0) ≡ (bit_at b bit == 0)
 no_bit bit b small =
     let alone : 1 * 2 ^ bit % 256 ≡ 2 ^ bit = one_shl bit 8 small in
@@ -91,7 +91,7 @@ no_bit bit b small =
           ne_eqb (bit_at b bit * 2 ^ bit) 0 product ∙ sym (ne_eqb (bit_at b bit) 0 some)
     ]
 
--- the lanes of a group in which a bit is looked for
+-- the mask of the lanes that lack the bit
 pub lanes_without : (bit : ℕ) (v : List ℕ) → bit < 8 → length v ≡ 32
     → mask_l (map (top 7) (zip2 (λ a b. cond (a == b) 255 0)
     (zip2 bit_and v (replicate 32 (1 * 2 ^ bit % 256))) (replicate 32 0))) % 2 ^ 64
@@ -111,19 +111,19 @@ pub none_in_lanes : (test : ℕ → Bool) (v : List ℕ) (m : ℕ) → length v 
     → 32 ≡ prefix_len (λ b. not (test b)) v
 none_in_lanes test v m long same none = sym (leading_from_mask_l test v (sym same ∙ none) ∙ long)
 
--- the first lane that passes it
+-- the first lane that passes the test
 pub first_in_lanes : (test : ℕ → Bool) (v : List ℕ) (m : ℕ) → length v ≡ 32 → m ≡ mask_l (map test v) → m ≢ 0
     → count_trailing_zeros 64 m ≡ prefix_len (λ b. not (test b)) v
 first_in_lanes test v m long same some =
     ap (count_trailing_zeros 64) same ∙ trailing_mask_l test 64 v (omega arith) (omega arith)
 
--- a group whose lanes all have the bit
+-- a group in which no byte passes
 pub none_in_group : (test : ℕ → Bool) (at run : ℕ) (bytes : List ℕ) → at + 32 ≤ length bytes
     → run ≡ prefix_len (λ b. not (test b)) (chunk at 32 bytes) → 32 ≤ run → NonePasses test at (at + 32) bytes
 none_in_group test at run bytes room counted whole k low high =
     run_in_chunk_fails test bytes at 32 run 0 room counted k low (omega arith)
 
--- a group in which one doesn't
+-- a group in which one does
 pub first_in_group : (test : ℕ → Bool) (at run : ℕ) (bytes : List ℕ) → at + 32 ≤ length bytes
     → run ≡ prefix_len (λ b. not (test b)) (chunk at 32 bytes) → run < 32
     → IsFirstAt test at (at + 32) bytes (at + run)
@@ -134,9 +134,9 @@ first_in_group test at run bytes room counted short = record {
   before = run_in_chunk_fails test bytes at 32 run 0 room counted;
 }
 
--- ---- the bits that each byte has
+-- ---- the bits set in every byte
 
--- those of the bytes before and of one more
+-- the bits common to n bytes and to one more
 pub both_bits : (common : ℕ) (bytes : List ℕ) (n i k : ℕ)
     → ((j m : ℕ) → j < n → bit_at common m ≡ 1 → bit_at (get_or bytes j 0) m ≡ 1) → i < n + 1
     → bit_at (bit_and common (get_or bytes n 0)) k ≡ 1 → bit_at (get_or bytes i 0) k ≡ 1

@@ -1,4 +1,4 @@
--- On grids of a register for each pixel and of which pixels are painted.
+-- Grids made of a register for each pixel, and of which pixels are painted.
 use Rattle.std.proofs.Common.{◌≡◌, ℕ, zero, suc, ◌+◌, ◌*◌, ◌/◌, ◌%◌, ◌<◌, Bool, true, false, ◌||◌, cond, Option, Some}
 use Rattle.std.proofs.Common.{None, List, [], ◌∷◌, length, get_or, map, nat_lt, inl, inr, refl, sym, ap, ap₂, ◌∙◌}
 use Rattle.std.proofs.Common.{arith, mul_comm}
@@ -15,7 +15,7 @@ use Rattle.sixel_model.specs.Grids.{IsFirstUnpainted, IsFull, FirstUnpainted, Ro
 use Rattle.sixel_model.specs.Grids.{first_blank, painted_cell, painted_grid, row_by_row, grid_of_painted}
 use Rattle.sixel_model.proofs.GridLemmas.{length_rows, get_index, at_rows, rows_from_index}
 
--- ---- places
+-- ---- indices
 
 pub row_below : (i w h : ℕ) → 0 < w → i < w * h → i / w < h
 row_below i w h some lt = div_below i w h some (omega (arith, mul_comm w h))
@@ -38,7 +38,7 @@ unfolding cell
 cell_of_painted w h registers is_painted x y inside_x inside_y =
     ap option_flatten (at_rows w h (painted_cell w registers is_painted) x y inside_x inside_y)
 
--- where no pixel is painted the grid is blank
+-- if no pixel is painted, the grid is blank
 pub blank_unpainted : (w h : ℕ) (registers : List ℕ) (is_painted : ℕ → ℕ → Bool) → 0 < w
     → ((x y : ℕ) → x < w → y < h → is_painted x y ≡ false)
     → grid_of_painted w h registers is_painted ≡ blank_grid w h
@@ -49,13 +49,13 @@ blank_unpainted w h registers is_painted some none =
     (λ x y inside_x inside_y.
     ap (λ t. cond t (Some (get_or registers (y * w + x) 0)) None) (none x y inside_x inside_y)))
 
--- a painted pixel over what was there before
+-- a newly painted pixel over an old one
 over : (t b : Bool) (r o : ℕ)
     → cond (t || b) (Some (cond t r o)) None ≡ cond t (Some r) (cond b (Some o) None)
 over true b r o = refl
 over false b r o = refl
 
--- the pixels after those that are covered were painted in the register
+-- painting sets the covered pixels to the register, and keeps the others
 pub pixels_after : (w h register : ℕ) (old new : List ℕ) (is_over was_painted is_painted : ℕ → ℕ → Bool)
     → 0 < w → ((x y : ℕ) → x < w → y < h → is_painted x y ≡ (is_over x y || was_painted x y))
     → ((x y : ℕ) → x < w → y < h
@@ -74,7 +74,7 @@ pixels_after w h register old new is_over was_painted is_painted some painted wr
     ∙ ap (λ (o : Option ℕ). cond t (Some register) o)
     (sym (cell_of_painted w h old was_painted x y inside_x inside_y)))
 
--- the grid after a run, which paints the pixels that it covers and gives them the register
+-- the grid after a run, which marks the pixels that it covers and sets their register
 pub grid_after_run : (w h left count band bits register : ℕ) (old new : List ℕ) (was_painted is_painted : ℕ → ℕ → Bool)
     → 0 < w → length old ≡ w * h
     → ((x y : ℕ) → x < w → y < h → is_painted x y ≡ (covers left count band 1 bits x y || was_painted x y))
@@ -119,7 +119,7 @@ none_step p n x xs d true e none more k lt = cc
 none_step p n x xs d false e none more zero lt = e
 none_step p n x xs d false e none more (suc k) lt = more none k (omega arith)
 
--- and then each item fails
+-- if the search finds none, no item passes
 pub none_passes : {A : Type 0} (p : A → Bool) (n : ℕ) (xs : List A) (d : A) → position_from p n xs ≡ None
     → (k : ℕ) → k < length xs → p (get_or xs k d) ≡ false
 none_passes p n [] d none k lt = absurd (omega arith)
@@ -132,7 +132,7 @@ none_from_map f (Some x) e = cc
 
 -- ---- the first blank pixel, and grids without one
 
--- the places before a pixel are those of the rows before, and of the columns before
+-- the pixels before a pixel are those of the rows above, and those on its left
 before_pixel : (w h : ℕ) (is_painted : ℕ → ℕ → Bool) (x y k : ℕ) → 0 < w → IsFirstUnpainted w h is_painted (x, y)
     → k < y * w + x → is_painted (k % w) (k / w) ≡ true
 before_pixel w h is_painted x y k some first lt =
@@ -182,7 +182,7 @@ pixel_found w h x y registers is_painted some first =
     ap₂ (λ a b. Some (a, b)) (sym column) (sym row)
     ∙ sym (ap (option_map (λ i. (i % w, i / w))) found)
 
--- the first pixel that isn't painted is the first blank one
+-- the first unpainted pixel is the first blank one
 pub first_blank_unpainted : (w h : ℕ) (registers : List ℕ) (is_painted : ℕ → ℕ → Bool) (found : Option (ℕ × ℕ)) → 0 < w
     → FirstUnpainted w h is_painted found → found ≡ first_blank (grid_of_painted w h registers is_painted)
 first_blank_unpainted w h registers is_painted None some painted = none_found w h registers is_painted some painted
@@ -193,7 +193,7 @@ some_painted : (t : Bool) (r : ℕ) → is_none (cond t (Some r) None) ≡ false
 some_painted true r e = refl
 some_painted false r e = cc
 
--- where no pixel is blank, the registers are the pixels
+-- if no pixel is blank, the registers are all of the grid's cells
 pub full_registers : (w h : ℕ) (registers : List ℕ) (is_painted : ℕ → ℕ → Bool) → length registers ≡ w * h
     → IsFull (grid_of_painted w h registers is_painted)
     → map (λ r. Some r) registers ≡ row_by_row w h (painted_cell w registers is_painted)

@@ -1,4 +1,4 @@
--- On the grid after a stretch.
+-- The grid after painting the columns of data bytes.
 use Rattle.std.proofs.Common.{◌≡◌, ◌==◌, ℕ, ◌+◌, ◌-◌, ◌*◌, ◌/◌, ◌%◌, ◌<◌, ◌≤◌, Bool, true, false, ◌&&◌, ◌||◌, cond}
 use Rattle.std.proofs.Common.{Option, Some, None, List, length, get_or, nat_le, nat_lt, inl, inr, refl, sym, ap, ap₂}
 use Rattle.std.proofs.Common.{◌∙◌, arith, subst}
@@ -44,7 +44,7 @@ in_band band line =
     let same : line ≡ band = eqb-true line band t in
     and_from _ _ (le-leb band line (omega arith)) (lt-ltb line (band + 1) (omega arith)))
 
--- a run covers the pixels of its columns in its band, in the rows whose bits are set
+-- a run covers the pixels of its columns in its band, in the rows of set bits
 covered_there : (left count band bits x y : ℕ) → covers left count band 1 bits x y
     ≡ (((nat_le left x && nat_lt x (left + count)) && (y / 6 == band)) && (bit_at bits (y % 6) == 1))
 covered_there left count band bits x y =
@@ -93,7 +93,7 @@ either : {A : Type 0} (a b : Bool) (x o : A) → cond (a || b) x o ≡ cond a x 
 either true b x o = refl
 either false b x o = refl
 
--- a stretch of no column paints none
+-- no columns paint nothing
 pub stretched_none : (s : Grid) (left band : ℕ) (f : ℕ → ℕ) (r x y : ℕ) → x < s.width → y < s.height
     → cell (stretched_grid s left band 0 f r) x y ≡ cell s x y
 stretched_none s left band f r x y inside_x inside_y =
@@ -101,7 +101,7 @@ stretched_none s left band f r x y inside_x inside_y =
     ∙ ap (λ (t : Bool). cond t (Some r) (cell s x y))
     (no_column left x (y % 6) (y / 6 == band) f)
 
--- and one whose last column has no bit is the stretch before it
+-- a last column without bits changes nothing
 pub stretched_blank : (s : Grid) (left band n : ℕ) (f : ℕ → ℕ) (r x y : ℕ) → f n ≡ 0 → x < s.width → y < s.height
     → cell (stretched_grid s left band (n + 1) f r) x y ≡ cell (stretched_grid s left band n f r) x y
 stretched_blank s left band n f r x y none inside_x inside_y =
@@ -110,7 +110,7 @@ stretched_blank s left band n f r x y none inside_x inside_y =
     ∙ ap (λ (t : Bool). cond t (Some r) (cell s x y)) (blank_column left n x (y % 6) b f none)
     ∙ sym (cell-stretched s left band n f r x y inside_x inside_y)
 
--- a stretch of one column more paints that column after the others
+-- one more column is painted after the others
 pub stretched_more : (s : Grid) (left band n : ℕ) (f : ℕ → ℕ) (r : ℕ) → 0 < s.width
     → painted_grid (stretched_grid s left band n f r) (left + n) band 1 (f n) r
     ≡ stretched_grid s left band (n + 1) f r
@@ -199,7 +199,7 @@ module _ (w left band count n start : ℕ) (f : ℕ → ℕ) (fits : left + coun
   rows_test : any_below 6 (in_row w start n f (y * w + x)) ≡ in_stretch left band count f x y
   rows_test = same_test _ _ to_stretch from_stretch
 
--- the byte of a column and band, where the columns after the stretch have no bit
+-- a column's coverage byte, if the columns after the data bytes have no bits
 byte_after : (covered count n i old new : ℕ) (f : ℕ → ℕ) → count ≤ n → ((j : ℕ) → count ≤ j → f j ≡ 0)
     → new ≡ cond (nat_le covered i && nat_lt i (covered + n)) (bit_or old (f (i - covered))) old
     → new ≡ cond (nat_le covered i && nat_lt i (covered + count)) (bit_or old (f (i - covered))) old
@@ -248,7 +248,7 @@ covered_column w left band count n covered f old new x y inside fits more none a
         && (bit_at (f j) (y % 6) == 1)) lane
     lane_there false t = rw t refl
 
--- the grid after a stretch
+-- the grid after all columns are painted
 pub stretched_bands : (w h left band count n start covered : ℕ) (f : ℕ → ℕ) (r : ℕ)
     (registers coverage registers_after coverage_after : List ℕ)
     → 0 < w → left + count ≤ w → length registers ≡ w * h → length coverage ≡ w * div_ceil h 6
@@ -286,11 +286,11 @@ pub stretched_height : (s : Grid) (left band n : ℕ) (f : ℕ → ℕ) (r : ℕ
 unfolding stretched_grid
 stretched_height s left band n f r = refl
 
--- no sixel stands after a stretch
+-- after the data bytes all sixels are 0
 pub none_past : (bytes : List ℕ) (count j : ℕ) → count ≤ j → sixel_of bytes count j ≡ 0
 none_past bytes count j past = cond-false _ _ _ (le-ltb j count past)
 
--- ---- a run of few columns
+-- ---- a short run
 
 run_column : (left count x k bits : ℕ) (b : Bool)
     → (((nat_le left x && nat_lt x (left + count)) && b) && (bit_at (run_sixel bits count (x - left)) k == 1))
@@ -305,7 +305,7 @@ run_column left count x k bits b = elim (cases_lt x (left + count)) [
   | inr past ↦ grind (arith, nat_tests)
 ]
 
--- a stretch of equal sixels is a run
+-- columns with equal sixels are a run
 pub stretched_run : (s : Grid) (left band count bits r : ℕ) → 0 < s.width
     → stretched_grid s left band count (run_sixel bits count) r ≡ painted_grid s left band count bits r
 unfolding painted_grid stretched_grid
@@ -319,6 +319,6 @@ stretched_run s left band count bits r some =
     (run_column left count x (y % 6) bits (y / 6 == band)
     ∙ sym (covered_there left count band bits x y))))
 
--- no sixel stands after a run
+-- after the run all sixels are 0
 pub no_run_past : (bits count j : ℕ) → count ≤ j → run_sixel bits count j ≡ 0
 no_run_past bits count j past = cond-false _ _ _ (le-ltb j count past)

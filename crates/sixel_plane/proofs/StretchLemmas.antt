@@ -1,4 +1,4 @@
--- On the columns of a stretch, and on groups of them taken at once.
+-- The columns of data bytes, and groups of them painted at once.
 use Rattle.std.proofs.Common.{◌≡◌, ◌==◌, ℕ, zero, suc, ◌+◌, ◌*◌, ◌-◌, ◌%◌, ◌^◌, ◌<◌, ◌≤◌, Bool, true, false, ◌&&◌, ◌||◌}
 use Rattle.std.proofs.Common.{cond, add-one, List, length, get_or, map, replicate, w8, inl, inr, refl, sym, ap, ap₂}
 use Rattle.std.proofs.Common.{◌∙◌, arith, subst}
@@ -51,7 +51,7 @@ chosen b bit old register =
     let two = bit_at-lt b bit in
     grind (arith, nat_tests)
 
--- the lanes without a bit
+-- which lanes lack the bit
 abbrev without : ℕ → List ℕ → List Bool
 without bit sixels = zip2 (λ a b. a == b) (zip2 bit_and sixels (replicate 16 (1 * 2 ^ bit % 256))) (replicate 16 0)
 
@@ -131,7 +131,7 @@ sixel_or_none byte count j are = elim (cases_lt j count) [
   | inr past ↦ grind (arith, nat_tests)
 ]
 
--- so many lanes at the beginning as they are, and zeros after them
+-- the first `count` lanes, and 0 in the lanes after them
 abbrev prefix_lanes : ℕ → List ℕ → List ℕ
 prefix_lanes count lanes =
     sel_l (map (top 7) (zip2 (λ a b. cond (nat_lt a b) 255 0) (range_with_len 0 16) (replicate 16 count))) lanes
@@ -182,7 +182,7 @@ sixels_of at count bytes room are =
           ∙ sixel_or_none (get_or bytes (at + j) 0) count j (are j);
     }
 
--- lanes of one sixel
+-- lanes with one sixel
 pub equal_of : (bits count : ℕ) → AreEqual bits count (sel_l
     (map (top 7) (zip2 (λ a b. cond (nat_lt a b) 255 0) (range_with_len 0 16) (replicate 16 count)))
     (replicate 16 bits) (replicate 16 0))
@@ -193,7 +193,7 @@ equal_of bits count =
       each = λ j lt. prefix.1 j lt ∙ ap (λ (n : ℕ). cond (nat_lt j count) n 0) (get_or-replicate 16 j bits 0 lt);
     }
 
--- ---- rows and groups after each other
+-- ---- rows and groups one after another
 
 row_over : (r b a : Bool) (x o : ℕ) → cond r (cond b x (cond a x o)) (cond a x o) ≡ cond ((r && b) || a) x o
 row_over true true a x o = refl
@@ -241,7 +241,7 @@ any_below_or (suc n) p q =
     turned false true false d = refl
     turned false false c d = refl
 
--- a group after the columns before it, in one row
+-- one row: a group after the columns before it
 row_joined : (s n i k : ℕ) (f g : ℕ → ℕ) → ((j : ℕ) → j < 16 → g j ≡ f (n + j))
     → ((nat_le s i && nat_lt i (s + (n + 16))) && (bit_at (f (i - s)) k == 1))
     ≡ (((nat_le (s + n) i && nat_lt i (s + n + 16)) && (bit_at (g (i - (s + n))) k == 1))
@@ -336,7 +336,7 @@ columns_more from n f sixels old mid new same before group = record {
 
 -- ---- a group of a stretch
 
--- the lane is one of the columns that are left
+-- the lane has one of the columns that are left
 left_of : (count n few j : ℕ) → few ≤ count - n → (few < 16 → few ≡ count - n) → j < 16
     → nat_lt j few ≡ nat_lt (n + j) count
 left_of count n few j most all lt = elim (cases_lt j few) [
@@ -346,14 +346,14 @@ left_of count n few j most all lt = elim (cases_lt j few) [
       le-ltb j few high ∙ sym (le-ltb (n + j) count (omega arith))
 ]
 
--- the lanes of a group hold the sixels of its columns
+-- the lanes of a group have the sixels of its columns
 pub lanes_of : (bytes lanes : List ℕ) (count n few : ℕ) → few ≤ count - n → (few < 16 → few ≡ count - n)
     → AreSixelLanes bytes n few lanes → (j : ℕ) → j < 16 → get_or lanes j 0 ≡ sixel_of bytes count (n + j)
 lanes_of bytes lanes count n few most all are j lt =
     let same = left_of count n few j most all lt in
     are.each j lt ∙ ap (λ (t : Bool). cond t (get_or bytes (n + j) 0 - 63) 0) same
 
--- one more group, whose lanes hold the sixels of its columns
+-- one more group, whose lanes have the sixels of its columns
 group_then : (w start covered n next register : ℕ) (f : ℕ → ℕ) (lanes ro rm rn co cm cn : List ℕ) → next ≡ n + 16
     → ((j : ℕ) → j < 16 → get_or lanes j 0 ≡ f (n + j))
     → ArePainted 6 w start n f register ro rm × AreMapped covered n (λ j b. bit_or b (f j)) co cm

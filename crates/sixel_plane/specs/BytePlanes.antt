@@ -1,4 +1,4 @@
--- How a register and a mark for each pixel stand for a grid.
+-- A register and a mark for each pixel, as a grid.
 use Rattle.std.specs.Prelude.{◌≡◌, ℕ, ◌+◌, ◌*◌, Bool, false, IsTrue, List, length, slice_index_or}
 use Rattle.sixel_model.specs.Pictures.{is_side}
 use Rattle.sixel_model.specs.Grids.{Grid, grid_of_painted}
@@ -10,7 +10,7 @@ is_marked width marks x y = slice_index_or marks (y * width + x) false
 abbrev pub grid_of_marks : ℕ → ℕ → List ℕ → List Bool → Grid
 grid_of_marks width height registers marks = grid_of_painted width height registers (is_marked width marks)
 
--- the registers and the marks of the rows of a plane
+-- a register and a mark for each pixel
 pub record AreMarked (width height : ℕ) (registers : List ℕ) (marks : List Bool) : Type 0 where
   pub width_in_range : IsTrue (is_side width)
   pub height_in_range : IsTrue (is_side height)

@@ -1,4 +1,5 @@
-//! A plane of one byte a pixel, and of one byte for each column and band that says which rows are painted.
+//! A plane with one byte for each pixel's register, and one byte for each column of each band, which says which rows
+//! are painted.
 
 ghost use Rattle.std.specs.Prelude.{◌≡◌, ◌==◌, ◌<◌, ◌≤◌, ◌+◌, ◌*◌, ◌⊎◌, ℕ, EachIndex, bit_or, length, slice_index};
 ghost use Rattle.std.specs.Prelude.{false, true, if◌then◌else◌, ◌%◌, ◌/◌, ◌-◌, IsTrue};
@@ -17,16 +18,16 @@ use sixel_model::{BAND_ROWS, is_set};
 use std::alloc::{AllocError, Global};
 use std::marker::Model;
 
-/// How many columns a run has at most that is painted by groups of lanes: a longer one is quicker row by row.
+/// The longest run, in columns, that is painted by groups of lanes. A longer one is faster row by row.
 const MOST_SHORT: u32 = 64;
 
 /// The bits of all rows of a band.
 const ALL_ROWS: u8 = 63;
 
-/// A plane that tells by one byte for each column and band which of the six rows are painted.
+/// A plane with one coverage byte for each column of each band: its bits say which of the six rows are painted.
 ///
-/// Runs are painted, and a blank pixel is looked for, many columns at a time. What the byte of a blank
-/// pixel's register is doesn't matter.
+/// It paints runs, and looks for a blank pixel, many columns at a time. The register byte of a blank pixel has no
+/// meaning.
 #[derive(Debug, Drop)]
 pub struct BandPlane {
     width: u32,
@@ -147,7 +148,7 @@ impl Plane for BandPlane {
 }
 
 impl BandPlane {
-    /// Paints a run of few columns at once, where its band has six rows and lanes have room; whether it did.
+    /// Paints a short run by lanes, if its band has all six rows and the lanes fit. Returns whether it did.
     #[inline(always)]
     fn try_paint_short_run(
         &mut self,
@@ -187,7 +188,7 @@ impl BandPlane {
     }
 }
 
-/// Says of so many columns from `start` on that the rows of the bits are painted.
+/// Marks the rows of the bits as painted, in `count` columns from `start` on.
 fn cover(coverage: &mut [u8], start: usize, count: usize, bits: u8)
     requires { (bits ≡ 0) ⊎ (start + count ≤ length coverage.old) }
     ensures { AreChanged start (start + count) (λ b. bit_or b bits) coverage.old coverage.new }
@@ -202,7 +203,7 @@ fn cover(coverage: &mut [u8], start: usize, count: usize, bits: u8)
     }
 }
 
-/// Gives the pixels of a run a register, in the way that is the quicker one for it.
+/// Sets the register of the pixels of a run, with the method that is faster for its width.
 fn fill_run(
     registers: &mut [u8],
     width: usize,
@@ -228,7 +229,7 @@ fn fill_run(
     }
 }
 
-/// Gives the pixels of a run a register.
+/// Sets the register of the pixels of a run, row by row.
 #[inline(never)]
 fn fill_rows(
     registers: &mut [u8],
@@ -255,7 +256,7 @@ fn fill_rows(
     }
 }
 
-/// As `fill_rows` for one column, where the plane has all six rows of the band.
+/// As `fill_rows` for a single column, in a band that has all six rows.
 fn fill_column(registers: &mut [u8], width: usize, column: u32, band: u32, bits: u8, register: u8)
     requires some { 0 < width }
     requires columns { column + 1 ≤ width }
@@ -269,7 +270,7 @@ fn fill_column(registers: &mut [u8], width: usize, column: u32, band: u32, bits:
     }
 }
 
-/// Gives a pixel a register, if it is painted.
+/// Sets the register of a pixel, if it is painted.
 fn put(registers: &mut [u8], index: usize, is_painted: bool, register: u8)
     requires { index < length registers.old }
     ensures { AreChanged index (index + 1) (λ r. if is_painted then register else r) registers.old registers.new }
@@ -279,7 +280,7 @@ fn put(registers: &mut [u8], index: usize, is_painted: bool, register: u8)
     }
 }
 
-/// How many of the uppermost rows are painted, where those of all whole bands are; else none.
+/// How many rows from the top are known to be painted: those of the whole bands if all are, otherwise 0.
 fn painted_rows(coverage: &[u8], width: u32, height: u32) -> u32
     requires { length coverage.now ≡ width * div_ceil height BAND_ROWS }
     ensures within { result ≤ height }
@@ -293,7 +294,7 @@ fn painted_rows(coverage: &[u8], width: u32, height: u32) -> u32
     }
 }
 
-/// The column and the row of the first pixel that isn't painted, in row order.
+/// The column and the row of the first unpainted pixel in row order, if any.
 fn first_unpainted(coverage: &[u8], width: u32, height: u32) -> Option<(u32, u32)>
     requires { length coverage.now ≡ width * div_ceil height BAND_ROWS }
     ensures { FirstUnpainted width height (has_coverage_bit width coverage.now) result }

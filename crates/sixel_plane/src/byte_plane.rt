@@ -1,4 +1,4 @@
-//! A plane of a register and a mark for each pixel.
+//! A plane with a register and a mark for each pixel.
 
 ghost use Rattle.std.specs.Prelude.{◌≡◌, ◌<◌, ◌≤◌, ◌+◌, ◌&&◌, nat_le, nat_lt, not, EachIndex, IfSome, length, position};
 ghost use Rattle.std.specs.Prelude.{slice_index_or, if◌then◌else◌};
@@ -8,9 +8,9 @@ use sixel_model::{BAND_ROWS, is_set};
 use std::alloc::{AllocError, Global};
 use std::marker::Model;
 
-/// A plane that keeps a register a pixel, which it hands out as they lie, and a mark where a pixel is painted.
+/// A plane with a register for each pixel, and a mark that says whether the pixel is painted.
 ///
-/// What the register of a blank pixel is doesn't matter.
+/// The register of a blank pixel has no meaning.
 #[derive(Debug, Drop)]
 pub struct BytePlane {
     width: u32,
@@ -95,7 +95,7 @@ fn blank_index(marks: &[bool]) -> Option<usize>
     marks.iter().position(|is_painted| !*is_painted)
 }
 
-/// Gives so many items from `start` on a value.
+/// Sets `count` items from `start` on to a value.
 fn fill_row<T: Copy>(items: &mut [T], start: usize, count: usize, value: T)
     requires { start + count ≤ length items.old }
     ensures { (d : T) → EachIndex items.old (λ i. slice_index_or items.new i d

@@ -1,4 +1,4 @@
-//! Work on bytes in a row, 32 lanes at a time.
+//! Work on runs of bytes, 32 lanes at a time.
 
 ghost use Rattle.std.specs.Prelude.{◌≡◌, ◌==◌, ◌+◌, ◌<◌, ◌≤◌, ℕ, IfOk, length, bit_or, drop, not, replicate};
 ghost use Rattle.std.specs.Prelude.{slice_index, take};
@@ -9,13 +9,13 @@ ghost use Rattle.sixel_plane.specs.Lanes.{AreChanged, IsFirst};
 use std::alloc::{AllocError, Global};
 use std::simd::prelude::*;
 
-/// How many bytes are taken at once.
+/// How many bytes are handled at once.
 const LANES: usize = 32;
 
-/// How many zeros are written at once: as many as `memset` writes by lanes, and not by one instruction a byte.
+/// How many zeros are written at once: a size for which `memset` uses lanes instead of one instruction a byte.
 const ZEROS: usize = 2_048;
 
-/// So many zeros. They take one growth.
+/// A list of `count` zeros, made with one allocation.
 pub(crate) fn zeros(alloc: Global, count: usize) -> Result<Vec<u8>, AllocError>
     ensures { IfOk result (λ bytes. bytes.items ≡ replicate count 0) }
 {
@@ -27,7 +27,7 @@ pub(crate) fn zeros(alloc: Global, count: usize) -> Result<Vec<u8>, AllocError>
     Ok(bytes)
 }
 
-/// Gives the bytes from `from` up to `to` a value.
+/// Sets the bytes from `from` up to `to` to a value.
 pub(crate) fn fill(bytes: &mut [u8], from: usize, to: usize, value: u8)
     requires ordered { from ≤ to }
     requires within { to ≤ length bytes.old }
@@ -39,7 +39,7 @@ pub(crate) fn fill(bytes: &mut [u8], from: usize, to: usize, value: u8)
     }
 }
 
-/// Gives as many bytes from `from` on a value as whole groups hold, and tells where the rest begins.
+/// Fills the whole groups of the bytes from `from` up to `to`, and returns where the rest begins.
 fn fill_groups(bytes: &mut [u8], from: usize, to: usize, value: u8) -> usize
     requires ordered { from ≤ to }
     requires within { to ≤ length bytes.old }
@@ -75,7 +75,7 @@ pub(crate) fn or_into(bytes: &mut [u8], from: usize, to: usize, bits: u8)
     }
 }
 
-/// Sets bits in as many bytes from `from` on as whole groups hold, and tells where the rest begins.
+/// Sets bits in the whole groups of the bytes from `from` up to `to`, and returns where the rest begins.
 fn or_into_groups(bytes: &mut [u8], from: usize, to: usize, bits: u8) -> usize
     requires ordered { from ≤ to }
     requires within { to ≤ length bytes.old }
@@ -99,7 +99,7 @@ fn or_into_group(bytes: &mut [u8], at: usize, bits: u8)
     lanes.copy_to_slice(&mut bytes[at..]);
 }
 
-/// The index of the first byte without a bit, of those from `from` up to `to`.
+/// The index of the first byte without the bit, among those from `from` up to `to`.
 pub(crate) fn first_without(bytes: &[u8], from: usize, to: usize, bit: u32) -> Option<usize>
     requires bit { bit < 8 }
     requires ordered { from ≤ to }
@@ -124,7 +124,7 @@ fn first_in_group(bytes: &[u8], at: usize, bit: u32) -> Option<usize>
     if run < LANES { Some(at + run) } else { None }
 }
 
-/// How many bytes of the group from `at` on come before the first without a bit.
+/// How many bytes of the group at `at` come before the first one without the bit.
 fn run_with(bytes: &[u8], at: usize, bit: u32) -> usize
     requires bit { bit < 8 }
     requires within { at + LANES ≤ length bytes.now }
@@ -153,7 +153,7 @@ fn first_in_rest(bytes: &[u8], from: usize, to: usize, bit: u32) -> Option<usize
     None
 }
 
-/// The bits that each byte has. All are looked at, so the compiler takes many at once.
+/// The bits that are set in every byte. It looks at all bytes, so the compiler can use vector instructions.
 pub(crate) fn common_bits(bytes: &[u8]) -> u8
     ensures { (i k : ℕ) → i < length bytes.now → bit_at result k ≡ 1 → bit_at (slice_index bytes.now i) k ≡ 1 }
 {

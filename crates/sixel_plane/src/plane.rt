@@ -11,16 +11,15 @@ ghost use Rattle.sixel_grammar.specs.Bytes.{is_data};
 
 use std::alloc::{AllocError, Global};
 
-/// The pixels that a picture covers so far.
+/// The pixels of a picture that are painted so far.
 ///
-/// However an implementation keeps them, contracts see its grid: a width and a height in pixels, and
-/// for each pixel, row by row from the top left, its register or none. `blank` makes all its growths
-/// before it answers; no other call takes memory.
+/// Contracts see any implementation as a grid: a width and a height in pixels, and for each pixel, row by row from the
+/// top left, its register or none. `blank` makes all allocations; no other call allocates.
 pub trait Plane: Drop {
     /// The width, the height, and an optional register for each pixel, row by row.
     ghost grid: { Self → Grid };
 
-    /// A plane whose pixels are all blank. Each side is from 1 to 2,048 pixels.
+    /// A plane whose pixels are all blank. Each side is from 1 to 2,048 pixels. `AllocError`: an allocation failed.
     fn blank(alloc: Global, width: u32, height: u32) -> Result<Self, AllocError>
         requires width { IsTrue (is_side width) }
         requires height { IsTrue (is_side height) }
@@ -34,20 +33,19 @@ pub trait Plane: Drop {
     fn height(&self) -> u32
         ensures { result ≡ (grid self.now).height };
 
-    /// Paints so many columns from `column` on in a register, any of the 256 that a byte names, in those
-    /// rows of the band whose bits are set. A band is six rows, band 0 at the top, and bit 0 is its
-    /// uppermost row.
+    /// Paints `count` columns from `column` on, in the rows of the band whose bits are set. Any register from 0 to 255
+    /// is allowed. A band is six rows; band 0 is at the top, and bit 0 is the top row of the band.
     fn paint_run(&mut self, column: u32, band: u32, count: u32, bits: u8, register: u8)
         requires bits { bits ≤ 63 }
         requires columns { column + count ≤ (grid self.old).width }
         requires rows { (k : ℕ) → k < band_rows → bit_at bits k ≡ 1 → band_rows * band + k < (grid self.old).height }
         ensures { grid self.new ≡ painted_grid (grid self.old) column band count bits register };
 
-    /// Paints a stretch in a register, many columns at a time, where the plane can: the columns from `column` on, one
-    /// for each of so many data bytes at the beginning of `bytes`, in those of the six rows of the band whose bits are
-    /// set in its byte. Whether it did; else nothing has changed, and `paint_run` paints each of the columns.
+    /// Paints `count` columns from `column` on, many at a time, if the plane can. Each of the first `count` bytes is a
+    /// data byte, and paints the rows of the band whose bits are set in it. Returns whether it painted; if not, nothing
+    /// has changed, and `paint_run` can paint each column.
     ///
-    /// A data byte holds six bits above `?`. Bytes after the stretch aren't painted, but lanes want 16 of them.
+    /// A data byte is `?` plus six bits. Lanes need 16 more bytes after these, which aren't painted.
     fn try_paint_stretch(
         &mut self,
         column: u32,
@@ -67,18 +65,17 @@ pub trait Plane: Drop {
         false
     }
 
-    /// The register of the pixel in column `x` and row `y`, both from 0 at the top left, or `None` where
-    /// it is blank.
+    /// The register of the pixel in column `x` and row `y`, both from 0 at the top left, or `None` if it is blank.
     fn register_at(&self, x: u32, y: u32) -> Option<u8>
         requires inside_x { x < (grid self.now).width }
         requires inside_y { y < (grid self.now).height }
         ensures { result ≡ cell (grid self.now) x y };
 
-    /// The column and the row of the first blank pixel in row order.
+    /// The column and the row of the first blank pixel in row order, or `None` if no pixel is blank.
     fn first_blank(&self) -> Option<(u32, u32)>
         ensures { result ≡ first_blank (grid self.now) };
 
-    /// The registers of a plane without a blank pixel, row by row.
+    /// The registers of all pixels, row by row. No pixel may be blank.
     fn into_registers(self) -> Vec<u8>
         requires { IsFull (grid self) }
         ensures { map Some result.items ≡ (grid self).cells };

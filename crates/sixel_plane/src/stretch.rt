@@ -1,4 +1,4 @@
-//! Stretches of data bytes, 16 columns at a time.
+//! Paints runs of data bytes, 16 columns at a time.
 
 ghost use Rattle.std.specs.Prelude.{◌≡◌, ◌<◌, ◌≤◌, ◌+◌, ◌*◌, ℕ, IsTrue, bit_or, length, slice_index};
 ghost use Rattle.sixel_grammar.specs.Bytes.{is_data};
@@ -8,13 +8,13 @@ ghost use Rattle.sixel_plane.specs.Stretches.{run_sixel, sixel_of};
 use sixel_model::BAND_ROWS;
 use std::simd::prelude::*;
 
-/// How many columns are taken at once.
+/// How many columns are painted at once.
 pub(crate) const LANES: usize = 16;
 
 /// The number of each lane.
 const NUMBERS: [u8; 16] = [0, 1, 2, 3, 4, 5, 6, 7, 8, 9, 10, 11, 12, 13, 14, 15];
 
-/// The sixels of so many data bytes from `at` on, and none in the lanes after them.
+/// The sixels of `count` data bytes from `at` on, and 0 in the lanes after them.
 #[inline(always)]
 fn sixels_at(bytes: &[u8], at: usize, count: usize) -> u8x16
     requires few { count ≤ LANES }
@@ -27,7 +27,7 @@ fn sixels_at(bytes: &[u8], at: usize, count: usize) -> u8x16
     taken.select(sixels, u8x16::splat(0))
 }
 
-/// The sixels of a run of so many columns, and none in the lanes after them.
+/// The sixel of a run in `count` lanes, and 0 in the lanes after them.
 #[inline(always)]
 fn sixels_of_run(bits: u8, count: usize) -> u8x16
     requires { count ≤ LANES }
@@ -37,7 +37,7 @@ fn sixels_of_run(bits: u8, count: usize) -> u8x16
     taken.select(u8x16::splat(bits), u8x16::splat(0))
 }
 
-/// Paints the pixels of a row whose columns have the row's bit.
+/// Paints the pixels of one row in the columns whose sixels have the row's bit.
 #[inline(always)]
 fn paint_row(row: &mut [u8], at: usize, sixels: u8x16, bit: u32, register: u8)
     requires bit { bit < 6 }
@@ -51,7 +51,7 @@ fn paint_row(row: &mut [u8], at: usize, sixels: u8x16, bit: u32, register: u8)
         .copy_to_slice(&mut row[at..]);
 }
 
-/// Says of the columns that the rows of their bits are painted.
+/// Marks the rows of the columns' bits as painted.
 #[inline(always)]
 fn cover_columns(coverage: &mut [u8], at: usize, sixels: u8x16)
     requires room { at + LANES ≤ length coverage.old }
@@ -72,8 +72,8 @@ fn paint_rows(registers: &mut [u8], at: usize, width: usize, sixels: u8x16, regi
     }
 }
 
-/// Paints the columns of a stretch, which is so many data bytes at the beginning of `bytes`. Its uppermost row begins
-/// at `start`, and its bytes of coverage at `covered`.
+/// Paints a column for each of the first `count` data bytes of `bytes`. The top row begins at `start` of `registers`,
+/// and the columns' coverage at `covered` of `coverage`.
 pub(crate) fn paint_groups(
     registers: &mut [u8],
     coverage: &mut [u8],
@@ -101,7 +101,7 @@ pub(crate) fn paint_groups(
     }
 }
 
-/// Paints a run of so many columns, whose uppermost row begins at `start`, and its bytes of coverage at `covered`.
+/// Paints a run of `count` columns. Its top row begins at `start` of `registers`, its coverage at `covered`.
 pub(crate) fn paint_short_run(
     registers: &mut [u8],
     coverage: &mut [u8],

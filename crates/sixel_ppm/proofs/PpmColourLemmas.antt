@@ -1,4 +1,4 @@
--- On colours that are numbered as they are first seen.
+-- Colours numbered in the order in which they first appear.
 use Rattle.std.proofs.Common.{◌≡◌, ◌+◌, ◌<◌, ◌≤◌, ℕ, zero, suc, Bool, true, false, ◌||◌, Option, Some, None, List, []}
 use Rattle.std.proofs.Common.{◌∷◌, ◌++◌, length, cond, refl, sym, ap, ap₂, ◌∙◌, arith, zero-add, length-append, inl}
 use Rattle.std.proofs.Common.{inr, length-set}
@@ -18,7 +18,7 @@ use Rattle.sixel_model.specs.declared.colour.Parts.{Parts}
 use Rattle.sixel_model.specs.declared.colour.Parts.TheVariants.{Rgb, Hls}
 use Rattle.sixel_ppm.specs.declared.ppm.colours.Colours.{Colours}
 
--- ---- the first place at which a test passes
+-- ---- the first index at which a test passes
 
 pub position_then_any : {X : Type 0} (p : X → Bool) (xs : List X) (k i : ℕ) → position_from p k xs ≡ Some i
     → list_any p xs ≡ true
@@ -34,7 +34,7 @@ none_then_any p (x ∷ xs) k e =
     elim (p x) as (λ t. cond t (Some k) (position_from p (k + 1) xs) ≡ None → (t || list_any p xs) ≡ false)
     [ true ↦ (λ h. cc) | false ↦ (λ h. none_then_any p xs (k + 1) h) ] e
 
--- the first one at the end
+-- a new last item that passes, if no other does
 pub position_at_end : {X : Type 0} (p : X → Bool) (xs : List X) (y : X) (k : ℕ) → list_any p xs ≡ false → p y ≡ true
     → position_from p k (xs ++ y ∷ []) ≡ Some (k + length xs)
 position_at_end p [] y k none here = rw here (ap (λ (n : ℕ). Some n) (omega arith))
@@ -45,7 +45,7 @@ position_at_end p (x ∷ xs) y k none here =
       | false ↦ (λ h. position_at_end p xs y (k + 1) h here ∙ ap (λ (n : ℕ). Some n) (omega arith))
     ] none
 
--- one that is there stays where it is
+-- an index found before is found again in a longer list
 pub position_stays : {X : Type 0} (p : X → Bool) (xs ys : List X) (k : ℕ) → list_any p xs ≡ true
     → position_from p k (xs ++ ys) ≡ position_from p k xs
 position_stays p [] ys k some = cc
@@ -54,7 +54,7 @@ position_stays p (x ∷ xs) ys k some =
     → cond t (Some k) (position_from p (k + 1) (xs ++ ys)) ≡ cond t (Some k) (position_from p (k + 1) xs))
     [ true ↦ (λ h. refl) | false ↦ (λ h. position_stays p xs ys (k + 1) h) ] some
 
--- one that is there has a place below the length
+-- a found index is below the length
 pub position_within : {X : Type 0} (p : X → Bool) (xs : List X) (k i : ℕ) → position_from p k xs ≡ Some i
     → (k ≤ i) × (i < k + length xs)
 position_within p [] k i e = cc
@@ -77,7 +77,7 @@ no_entry : (c : Parts) (n k : ℕ) → position_from (is_entry c) k (palette_of 
 no_entry c zero k = refl
 no_entry c (suc n) k = no_entry c n (k + 1)
 
--- a colour has in the palette the place that it has among the colours
+-- a colour has the same index in the palette as among the colours
 pub entry_of : (c : Parts) (n : ℕ) (seen : List Parts) (k : ℕ) → length seen ≤ n
     → position_from (is_entry c) k (palette_of n seen) ≡ position_from (is_same c) k seen
 entry_of c n [] k few = no_entry c n k
@@ -106,7 +106,7 @@ index_among c seen colour o fills found =
     ∙ ap (position_from (is_entry colour) 0) (sym fills.palette)
     ∙ sym (position_from-zero (is_entry colour) c.palette) ∙ sym found
 
--- a colour that was seen
+-- a colour that was seen before
 pub numbered_before : (c : Colours) (seen : List Parts) (colour : Parts) (o : Option ℕ) (i : ℕ) → o ≡ Some i
     → o ≡ position (is_entry colour) c.palette → Fills c seen
     → (i ≡ register_among (with_colour seen colour) colour) × Fills c (with_colour seen colour)
@@ -115,7 +115,7 @@ numbered_before c seen colour o i is found fills =
     let any : list_any (is_same colour) seen ≡ true = position_then_any (is_same colour) seen 0 i at in
     rw any (sym (ap (λ (o : Option ℕ). unwrap_or o 0) at), fills)
 
--- one that wasn't
+-- a colour that is new
 new_colour : (c : Colours) (seen : List Parts) (colour : Parts) (o : Option ℕ) → o ≡ None
     → o ≡ position (is_entry colour) c.palette → Fills c seen → list_any (is_same colour) seen ≡ false
 new_colour c seen colour o is found fills =
@@ -169,7 +169,7 @@ register_by seen c found =
     let is : register_among seen c ≡ found.0 = ap (λ (o : Option ℕ). unwrap_or o 0) found.1 in
     omega (arith, within.1, is)
 
--- a colour that is seen has a register below their count
+-- a colour that was seen has a register below the count of colours
 pub register_within : (seen : List Parts) (c : Parts) → list_any (is_same c) seen ≡ true
     → register_among seen c < length seen
 register_within seen c any = register_by seen c (any_then_position (is_same c) seen 0 any)
@@ -193,7 +193,7 @@ none_passes p xs k none lt = elim (cases_lt (position_or_len p xs) (length xs)) 
   | inr above ↦ fails_before_first p xs k None (omega (arith, lt, above))
 ]
 
--- the next register is the first of its colour
+-- the next register becomes the first of its colour
 pub first_next : (palette : List (Option Parts)) (count : ℕ) (colour : Parts)
     → None ≡ position (is_entry colour) palette → count < length palette
     → position (is_entry colour) (slice_set palette count (Some colour)) ≡ Some count
@@ -218,7 +218,7 @@ used_before palette count i c unused some = elim (cases_lt i count) [
   | inr past ↦ let none : is_entry c (get_or palette i None) ≡ false = ap (is_entry c) (unused i past) in cc
 ]
 
--- a colour that has a register keeps it where the next one is given
+-- a colour keeps its register when the next register gets a colour
 pub registers_kept : (palette : List (Option Parts)) (count : ℕ) (colour : Parts) → IsUnusedFrom palette count
     → KeepsRegisters palette (slice_set palette count (Some colour))
 registers_kept palette count colour unused = λ c i at.

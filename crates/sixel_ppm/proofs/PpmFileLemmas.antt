@@ -38,14 +38,14 @@ wanted_read test at b rest lt passed =
     let within : nat_lt at most_header ≡ true = below_limit at 65536 lt in
     rw (within, passed) refl
 
--- a digit begins no filler
+-- a digit isn't whitespace
 pub digit_no_space : (b : ℕ) → is_digit b ≡ true → is_space b ≡ false
 digit_no_space b d = grind (arith, nat_tests)
 
 pub digit_no_comment : (b : ℕ) → is_digit b ≡ true → (b == 35) ≡ false
 digit_no_comment b d = grind (arith, nat_tests)
 
--- and what begins filler is no digit
+-- a byte that begins filler isn't a digit
 pub filler_no_digit : (b : ℕ) → begins_filler b ≡ true → is_digit b ≡ false
 filler_no_digit b f = grind (arith, nat_tests)
 
@@ -103,7 +103,7 @@ filler_passed (p ∷ ps) at end rest all e le =
     ∙ piece_passed p at (at + length p) (concat ps ++ rest) all.0 refl (omega (arith, e, long))
     ∙ filler_passed ps (at + length p) end rest all.1 (omega (arith, e, long)) le
 
--- a digit ends it
+-- a digit ends the filler
 filler_stops : (at d : ℕ) (rest : List ℕ) → at < 65536 → is_digit d ≡ true
     → after_filler false at (d ∷ rest) ≡ (at, d ∷ rest)
 filler_stops at d rest lt digit =
@@ -112,7 +112,7 @@ filler_stops at d rest lt digit =
     let h = digit_no_comment d digit in
     rw (within, s, h) refl
 
--- what filler begins with
+-- bytes that begin with a byte of filler
 abbrev Begins : List ℕ → Type 0
 Begins bytes = (b : ℕ) × (tail : List ℕ) × (bytes ≡ b ∷ tail) × (begins_filler b ≡ true)
 
@@ -188,7 +188,7 @@ number_read ends why most n at place b (d ∷ text) rest is range ended other e 
     ∙ ap (judged ends why most at) read
     ∙ judged_read ends why most at n place b rest range lt ended
 
--- filler, a number, and what follows them, which begins with a byte that ends the number
+-- filler, a number, and the byte that ends the number
 filled_before : (ends : ℕ → Bool) (why : PpmReason) (most n at place b : ℕ) (filler text rest : List ℕ)
     → IsFiller filler → IsNumberText n text → IsInRange 1 most n → ends b ≡ true → is_digit b ≡ false
     → place ≡ at + length filler + length text → place < 65536
@@ -222,7 +222,7 @@ filled_read ends why most n at place b filler text after rest is f number range 
 
 -- ---- the header
 
--- the place after filler and a number
+-- the offset after filler and a number
 abbrev past : ℕ → List ℕ → List ℕ → ℕ
 past at filler text = at + length filler + length text
 
@@ -261,12 +261,12 @@ width_read width at place b filler text after rest is begins f number range e lt
     (filler_no_digit b begins) e lt in
     rw read refl
 
--- the parts of a header, grouped to the right
+-- the parts of a header and the rest, grouped to the right
 pub grouped : (a b c d e f g rest : List ℕ)
     → (a ++ b ++ c ++ d ++ e ++ f ++ g) ++ rest ≡ a ++ (b ++ (c ++ (d ++ (e ++ (f ++ (g ++ rest))))))
 grouped a b c d e f g rest = simp append_assoc
 
--- what a header says of itself and of the samples after it
+-- what a header says, with the samples after it
 abbrev head_after : {width height maxval : ℕ} {header : List ℕ} → IsHeader width height maxval header → List ℕ → Head
 head_after {width} {height} {maxval} h samples = record {
   width = width;
@@ -326,7 +326,7 @@ grows seen [] = omega arith
 grows seen (c ∷ more) =
     le_trans (grows_by seen c (list_any (is_same c) seen) refl) (grows (with_colour seen c) more)
 
--- a prefix has no more different colours
+-- a prefix of the colours has no more different ones
 distinct_grows : (colours more : List Parts) → length (distinct colours) ≤ length (distinct (colours ++ more))
 distinct_grows colours more =
     subst (λ (seen : List Parts). length (distinct colours) ≤ length seen)

@@ -1,4 +1,4 @@
--- What is read is a picture file.
+-- Bytes that are read as a picture are a picture file.
 use Rattle.std.proofs.Common.{◌≡◌, ◌==◌, ◌+◌, ◌*◌, ◌≤◌, ℕ, zero, suc, true, false, nat_le, Result, Ok, List, [], ◌∷◌}
 use Rattle.std.proofs.Common.{◌++◌, length, refl, sym, ap, subst, ◌∙◌, append_assoc, arith, length-append}
 use Rattle.std.specs.Prelude.{IfOk, if◌then◌else◌}
@@ -20,7 +20,7 @@ use Rattle.sixel_ppm.proofs.PpmPartLemmas.{FilledFound, Taken, filled_found, if_
 
 -- ---- the header
 
--- a header, and then the samples
+-- a header, then the samples
 record HeadFound (bytes : List ℕ) (h : Head) : Type 0 where
   header : List ℕ
   is : IsHeader h.width h.height h.maxval header
@@ -122,7 +122,7 @@ coloured_found registers at colours colour =
     → IfOk (if t then Ok more else at_fault TooManyColours at) (ColouredFound registers more))
     [ true ↦ (λ e. (refl, least (length (distinct more)) registers e)) | false ↦ (λ e. tt) ] refl
 
--- three samples for each pixel: the colours are those before, and theirs
+-- there are three samples for each pixel, and their colours are added
 record PixelsFound (registers maxval n : ℕ) (colours : List Parts) (rest : List ℕ) (all : List Parts) : Type 0 where
   whole : length rest ≡ 3 * n
   within : AllByRecursion (λ v. v ≤ maxval) rest

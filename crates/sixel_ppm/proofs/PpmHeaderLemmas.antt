@@ -34,14 +34,14 @@ short_in (Filler field) p = refl
 short_in (Comment field) p = refl
 short_in (Digits field) p = refl
 
--- the bytes end within the header
+-- the bytes end inside the header
 pub header_short : (p : Progress) → header_on p [] ≡ at_fault Short p.place
 header_short p = short_in p.part p
 
 abbrev InHeader : Progress → Type 0
 InHeader p = nat_lt p.place most_header ≡ true
 
--- a byte past the limit is at fault
+-- a byte past the limit is refused
 past_limit : (part : Part) (p : Progress) (b : ℕ) (rest : List ℕ) → nat_lt p.place most_header ≡ false
     → header_in part p (b ∷ rest) ≡ header_after (refused p) rest
 past_limit Letter p b rest i = rw i refl
@@ -62,7 +62,7 @@ version_read : (p : Progress) (b : ℕ) (rest : List ℕ) (v : Bool) → InHeade
 version_read p b rest true i e = rw (i, e) refl
 version_read p b rest false i e = rw (i, e) refl
 
--- where filler begins
+-- the first byte of filler
 begun_read : (p : Progress) (b : ℕ) (rest : List ℕ) (u v : Bool) → InHeader p → is_space b ≡ u → (b == 35) ≡ v
     → header_in AfterVersion p (b ∷ rest) ≡ header_after (in_filler p Width b) rest
 begun_read p b rest true v i s h = rw (i, s) refl
@@ -98,7 +98,7 @@ comment_read Width p b rest false i e = rw (i, e) refl
 comment_read Height p b rest false i e = rw (i, e) refl
 comment_read Maxval p b rest false i e = rw (i, e) refl
 
--- the filler before the height begins, and that before the maximum
+-- the filler before the height, and before the maximum
 height_begun : (p : Progress) (b : ℕ) (rest : List ℕ) (u v : Bool) → InHeader p → is_space b ≡ u → (b == 35) ≡ v
     → height_on p.width p.place (b ∷ rest) ≡ header_after (in_filler p Height b) rest
 height_begun p b rest true v i s h = simp (i, s)
@@ -130,7 +130,7 @@ judged_alike : (field : Field) (p : Progress) (x : Result (ℕ × List ℕ) PpmF
 judged_alike field p (Ok end) n m e f = rw (e, f) refl
 judged_alike field p (Err fault) n m e f = refl
 
--- two values above all limits are judged alike, whatever digits follow them
+-- two values above all limits give the same result, whatever digits follow
 large_alike : (field : Field) (p : Progress) (v w at : ℕ) (rest : List ℕ) → most_side < v → most_side < w
     → digits_on field p (after_digits v at rest) ≡ digits_on field p (after_digits w at rest)
 large_alike field p v w at [] a b =
@@ -147,7 +147,7 @@ large_alike field p v w at (d ∷ rest) a b =
           (above w (most_of field) (omega (arith, most_is_small field)))
     ]
 
--- a value and the one that the header keeps of it are judged alike
+-- a value and the one stored for it give the same result
 grown_alike : (field : Field) (p : Progress) (v b at : ℕ) (rest : List ℕ) (t : Bool) → nat_lt most_side v ≡ t
     → digits_on field p (after_digits (10 * v + (b - 48)) at rest)
     ≡ digits_on field p (after_digits (grown v b) at rest)
@@ -165,7 +165,7 @@ digit_read Height p b rest i d = simp (i, d)
 digit_read Maxval p b rest i d = simp (i, d)
     (grown_alike Maxval p p.value b (p.place + 1) rest (nat_lt most_side p.value) refl)
 
--- a byte that may not follow the last digit
+-- a byte that isn't allowed after the last digit
 unended_read : (field : Field) (p : Progress) (b : ℕ) (rest : List ℕ) → InHeader p → is_digit b ≡ false
     → ends field b ≡ false
     → Reads (Digits field) p b rest
@@ -218,13 +218,13 @@ read_by : (p : Progress) (b : ℕ) (rest : List ℕ) (u : Bool) → nat_lt p.pla
 read_by p b rest true i = simp i (read_in p.part p b rest i)
 read_by p b rest false i = simp i (past_limit p.part p b rest i)
 
--- what a header says of a byte and the bytes after it is what the step says of these
+-- reading a byte and the rest is a step and then reading the rest
 pub header_read : (p : Progress) (b : ℕ) (rest : List ℕ) → header_on p (b ∷ rest) ≡ header_after (step p b) rest
 header_read p b rest = read_by p b rest (nat_lt p.place most_header) refl
 
--- ---- the places of a header
+-- ---- the offsets of a header
 
--- a step that wants more stands one byte further
+-- a step that continues the header moves by one byte
 abbrev pub MovesByOne : Progress → Next → Type 0
 MovesByOne p (More q) = q.place ≡ p.place + 1
 MovesByOne p (Whole header) = Unit {0}
@@ -252,7 +252,7 @@ moves_in (Filler field) p b = one_of p (is_digit b) _ _ refl (filler_moves p fie
 moves_in (Comment field) p b = one_of p (b == 10) _ _ refl refl
 moves_in (Digits field) p b = one_of p (is_digit b) _ _ refl (one_of p (ends field b) _ _ (ended_moves p field b) tt)
 
--- a step that wants more stands one byte further, and within the header's limit
+-- a step that continues the header moves by one byte, within the limit
 abbrev pub MovesWithin : Progress → Next → Type 0
 MovesWithin p (More q) = (q.place ≡ p.place + 1) × (q.place ≤ 65536)
 MovesWithin p (Whole header) = Unit {0}
@@ -313,7 +313,7 @@ filled_within ends reason most at rest =
     (λ digit k. judged_within ends reason most (after_filler false at rest).0
     (after_digits 0 (after_filler false at rest).0 (after_filler false at rest).1)))
 
--- a header's numbers are in range, and it ends within its limit
+-- the header's numbers are in range, and it ends within its limit
 pub record IsInRange (h : Head) : Type 0 where
   pub wide : is_side h.width ≡ true
   pub high : is_side h.height ≡ true

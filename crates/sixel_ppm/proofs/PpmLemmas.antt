@@ -1,4 +1,4 @@
--- On the colours of a picture, and on the text of its file.
+-- The colours of a picture, and the text of its file.
 use Rattle.std.proofs.Common.{◌≡◌, ℕ, Bool, true, false, ◌&&◌, Option, Some, None, List, [], ◌∷◌, length, refl, ap}
 use Rattle.std.specs.Prelude.{◌==◌, ◌*◌, is_some, map, nat_lt, not, if◌then◌else◌}
 use Rattle.std.specs.Option.{option_map_or}
@@ -11,7 +11,7 @@ use Rattle.sixel_model.specs.declared.colour.Parts.{Parts}
 use Rattle.sixel_model.specs.declared.picture.PictureReason.{PictureReason}
 use Rattle.sixel_model.specs.declared.picture.PictureReason.TheVariants.{Size, Count, Register, NoColour}
 
--- ---- which colours are red, green and blue
+-- ---- which colours are RGB
 
 list_all_step : (o : Option Parts) (cs : List Parts) (b : Bool) → list_all is_rgb cs ≡ b
     → list_all is_rgb (cons_option o cs) ≡ (option_map_or is_rgb o true && b)
@@ -28,7 +28,7 @@ pub are_rgb_of : (p : PictureValue)
     → are_rgb (colours_of p) ≡ list_all (λ r. option_map_or is_rgb (palette_at p.palette r) true) p.registers
 are_rgb_of p = list_all_of (palette_at p.palette) p.registers
 
--- ---- a picture leaves no pixel out
+-- ---- every pixel of a picture is written
 
 all_given_step : {X : Type 0} (f : ℕ → Option X) (x : ℕ) (xs : List ℕ) (o : Option X)
     → (is_some o && list_all (λ y. is_some (f y)) xs) ≡ true
@@ -37,13 +37,13 @@ all_given_step : {X : Type 0} (f : ℕ → Option X) (x : ℕ) (xs : List ℕ) (
 all_given_step f x xs None all more = cc
 all_given_step f x xs (Some c) all more = ap (λ (os : List _). Some c ∷ os) (more all)
 
--- where each item gives something, none is left out
+-- if each item has a result, none is left out
 all_given : {X : Type 0} (f : ℕ → Option X) (xs : List ℕ)
     → list_all (λ y. is_some (f y)) xs ≡ true → map (λ c. Some c) (filter_map f xs) ≡ map f xs
 all_given f [] all = refl
 all_given f (x ∷ xs) all = all_given_step f x xs (f x) all (all_given f xs)
 
--- the last of four tests, where none failed
+-- if none of four tests failed, the last one passed
 pub last_test : (t u v w : Bool) (a b c d : PictureReason)
     → (if not t then Some a else if not u then Some b else if not v then Some c else if not w then Some d else None)
     ≡ None → w ≡ true
@@ -64,6 +64,6 @@ pixels_have_colours registers p is =
 
 -- ---- the text
 
--- the samples of the pixels in these registers
+-- the samples of the pixels with these registers
 abbrev pub samples_by : List (Option Parts) → List ℕ → List ℕ
 samples_by palette registers = flat_map samples_of (filter_map (palette_at palette) registers)

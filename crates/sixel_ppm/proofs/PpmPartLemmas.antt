@@ -1,4 +1,4 @@
--- The parts of a header that were read are those of a picture file.
+-- The parts of a header, once read, are those of a picture file.
 use Rattle.std.proofs.Common.{◌≡◌, ◌≢◌, ◌==◌, ◌+◌, ◌-◌, ◌*◌, ◌<◌, ℕ, Bool, true, false, ◌&&◌, not, nat_le, nat_lt}
 use Rattle.std.proofs.Common.{Result, Ok, Err, List, [], ◌∷◌, ◌++◌, length, refl, sym, ap, subst, ◌∙◌, append_assoc}
 use Rattle.std.proofs.Common.{arith, inl, inr, eq-eqb, length-append}
@@ -38,7 +38,7 @@ same_byte b c e = grind (arith, nat_tests)
 other_byte : (b c : ℕ) → (b == c) ≡ false → b ≢ c
 other_byte b c e same = let is : (b == c) ≡ true = eq-eqb b c same in grind (arith, nat_tests)
 
--- the byte that was wanted
+-- the byte that was read
 pub record Taken (test : ℕ → Bool) (at : ℕ) (rest : List ℕ) (r : ℕ × List ℕ) : Type 0 where
   pub byte : ℕ
   pub rest_is : rest ≡ byte ∷ r.1
@@ -61,11 +61,11 @@ wanted_found test at (b ∷ rest) =
 
 -- ---- filler
 
--- the reading stands before a byte that a header may still have
+-- the reading is before a byte that a header may still have
 abbrev Stops : ℕ × List ℕ → Type 0
 Stops r = (r.0 < 65536) × (0 < length r.1)
 
--- pieces of filler, and then what is left
+-- pieces of filler, then the rest
 record Pieces (at : ℕ) (bytes : List ℕ) (r : ℕ × List ℕ) : Type 0 where
   pieces : List (List ℕ)
   each : AllByRecursion IsFillerPiece pieces
@@ -75,7 +75,7 @@ record Pieces (at : ℕ) (bytes : List ℕ) (r : ℕ × List ℕ) : Type 0 where
 abbrev SomePieces : ℕ → List ℕ → ℕ × List ℕ → Type 0
 SomePieces at bytes r = (q : Pieces at bytes r) × (0 < length q.pieces)
 
--- the rest of a comment, pieces of filler, and then what is left
+-- the remainder of a comment, pieces of filler, then the rest
 record InComment (at : ℕ) (bytes : List ℕ) (r : ℕ × List ℕ) : Type 0 where
   text : List ℕ
   is_text : AllByRecursion (λ b. b ≢ 10) text
@@ -119,7 +119,7 @@ one_more_comment at b bytes r h c =
     (omega (arith, length-append c.text (10 ∷ [])))
     c.pieces_after
 
--- a byte outside comments, and one within
+-- a byte outside comments, and one inside
 outside : (t : Bool) (at b : ℕ) (bytes : List ℕ) (u v : Bool) → is_space b ≡ u → (b == 35) ≡ v
     → (Stops (after_filler false (at + 1) bytes) → Pieces (at + 1) bytes (after_filler false (at + 1) bytes))
     → (Stops (after_filler true (at + 1) bytes) → InComment (at + 1) bytes (after_filler true (at + 1) bytes))
@@ -169,7 +169,7 @@ filler_found true at (b ∷ bytes) stops =
     inside (nat_lt at most_header) at b bytes (b == 10) refl refl
     (λ s. filler_found (not (b == 10)) (at + 1) bytes s) stops
 
--- where the first byte begins filler there is a piece
+-- if the first byte begins filler, there is a piece
 some_by : (t : Bool) (at b : ℕ) (bytes : List ℕ) (u v : Bool) → t ≡ true → is_space b ≡ u → (b == 35) ≡ v
     → begins_filler b ≡ true
     → Stops (if t && u then after_filler false (at + 1) bytes
@@ -190,7 +190,7 @@ some_found at b bytes i f stops =
 
 -- ---- numbers
 
--- digits, and then what is left
+-- digits, then the rest
 record Digits (before at : ℕ) (bytes : List ℕ) (r : ℕ × ℕ × List ℕ) : Type 0 where
   text : List ℕ
   digits : AllDigits 10 text
@@ -257,7 +257,7 @@ judged_found ends why most first n P f =
     → IfOk (if t then Ok n else at_fault why first) P)
     [ true ↦ (λ e. f (in_range most n.0 e)) | false ↦ (λ e. tt) ] refl)
 
--- a number in range, and then what is left
+-- a number in range, then the rest
 record NumberFound (most at : ℕ) (rest : List ℕ) (n : ℕ × ℕ × List ℕ) : Type 0 where
   text : List ℕ
   is : IsNumberText n.0 text
@@ -289,7 +289,7 @@ number_found ends why most at rest =
     (subst (λ (t : List ℕ). SomeDigits 0 at t (after_digits 0 at t)) (sym taken.rest_is)
     (some_digits 0 at taken.byte digit.1 taken.within taken.passed))))
 
--- filler, a number in range, and then what is left
+-- filler, a number in range, then the rest
 pub record FilledFound (most at : ℕ) (rest : List ℕ) (n : ℕ × ℕ × List ℕ) : Type 0 where
   pub filler : List ℕ
   pub text : List ℕ

@@ -1,4 +1,4 @@
--- On pixels whose registers a cache has by their samples.
+-- The cache of registers by samples.
 use Rattle.std.proofs.Common.{◌≡◌, ℕ, ◌+◌, ◌*◌, ◌<◌, ◌≤◌, true, Option, Some, List, [], Bool, Result, Ok, drop, false}
 use Rattle.std.proofs.Common.{length-append, suc, zero, add-one, ◌==◌, ◌/◌, ◌%◌, ◌^◌, ◌-◌, cond, map, not, w8, ◌∷◌}
 use Rattle.std.proofs.Common.{◌++◌, length, take, get_or, replicate, refl, sym, ap, ap₂, subst, ◌∙◌, arith, append-nil}
@@ -31,7 +31,7 @@ use Rattle.sixel_ppm.proofs.PpmSampleLemmas.{budget_whole, holds_more, leads_non
 
 -- ---- samples as one number
 
--- two pixels with one number have the same samples
+-- two pixels with the same key have the same samples
 same_red : (red green blue r g b : ℕ) → red < 256 → green < 256 → blue < 256 → r < 256 → g < 256 → b < 256
     → key_of red green blue ≡ key_of r g b → red ≡ r
 same_red red green blue r g b r₁ g₁ b₁ r₂ g₂ b₂ e = omega (arith, e)
@@ -44,9 +44,9 @@ same_blue : (red green blue r g b : ℕ) → red < 256 → green < 256 → blue 
     → key_of red green blue ≡ key_of r g b → blue ≡ b
 same_blue red green blue r g b r₁ g₁ b₁ r₂ g₂ b₂ e = omega (arith, e)
 
--- ---- what is kept
+-- ---- what the cache holds
 
--- a number above all others is that of no pixel
+-- an empty cache: its keys are above that of any pixel
 pub none_cached : (cache : PixelCache) (maxval : ℕ) (palette : List (Option Parts))
     → cache.keys ≡ replicate 4096 4294967295 → cache.registers ≡ replicate 4096 0 → Knows cache maxval palette
 none_cached cache maxval palette keys registers = record {
@@ -62,7 +62,7 @@ hit_as : (maxval : ℕ) (palette : List (Option Parts)) (red green blue register
     → blue ≡ b → register ≡ x → IsHit maxval palette red green blue register → IsHit maxval palette r g b x
 hit_as maxval palette red green blue register r g b x e₁ e₂ e₃ e₄ hit = rw (sym e₁, sym e₂, sym e₃, sym e₄) hit
 
--- one more pixel is kept
+-- the cache with one more pixel
 pub keeps : (cache next : PixelCache) (maxval : ℕ) (palette : List (Option Parts))
     (place key red green blue register : ℕ)
     → next.keys ≡ slice_set cache.keys place key → next.registers ≡ slice_set cache.registers place register
@@ -104,7 +104,7 @@ hits_more maxval palette (r ∷ g ∷ b ∷ samples) [] red green blue register 
 hits_more maxval palette (r ∷ g ∷ b ∷ samples) (x ∷ xs) red green blue register hits hit =
     (hits.0, hits_more maxval palette samples xs red green blue register hits.1 hit)
 
--- the samples of one pixel more
+-- the samples of one more pixel
 three_more : (bytes : List ℕ) (at : ℕ) → at + 3 ≤ length bytes
     → take (at + 3) bytes ≡ take at bytes ++ get_or bytes at 0 ∷ get_or bytes (at + 1) 0 ∷ get_or bytes (at + 2) 0 ∷ []
 three_more bytes at room =
@@ -153,7 +153,7 @@ no_bit_set : (t : Bool) (n : ℕ) → n ≡ 0 → cond t 1 0 ≡ n → t ≡ fal
 no_bit_set true n none e = absurd (omega (arith, none, e))
 no_bit_set false n none e = refl
 
--- lanes of which none differs
+-- no lane differs
 pub lanes_same : (from at : ℕ) (bytes : List ℕ) → from + 16 ≤ length bytes → at + 16 ≤ length bytes
     → (mask_l (map (top 7) (zip2 (λ a b. cond (not (a == b)) 255 0) (chunk at 16 bytes) (chunk from 16 bytes)))
     % 2 ^ 64 == 0) ≡ true
@@ -181,7 +181,7 @@ lanes_same from at bytes room₁ room₂ e = λ i lt.
 moved : (bytes : List ℕ) (m n : ℕ) → m ≡ n → get_or bytes m 0 ≡ get_or bytes n 0
 moved bytes m n e = ap (λ k. get_or bytes k 0) e
 
--- three vectors one after another
+-- three groups of 16 bytes, one after another
 pub three_same : (bytes : List ℕ) (from at : ℕ) → at ≡ from + 3 → AreSame 16 from (from + 3) bytes
     → AreSame 16 (from + 16) (from + 19) bytes → AreSame 16 (from + 32) (from + 35) bytes → AreSame 48 from at bytes
 three_same bytes from at place first second third = λ i lt. elim (cases_lt i 16) [
@@ -197,7 +197,7 @@ three_same bytes from at place first second third = λ i lt. elim (cases_lt i 16
   ]
 ]
 
--- the hit at a place
+-- the hit at an index
 hits_at : (maxval : ℕ) (palette : List (Option Parts)) (samples xs : List ℕ) (j : ℕ) → AreHits maxval palette samples xs
     → j < length xs
     → IsHit maxval palette (get_or samples (3 * j) 0) (get_or samples (3 * j + 1) 0) (get_or samples (3 * j + 2) 0)
@@ -219,7 +219,7 @@ hits_at maxval palette (r ∷ g ∷ b ∷ samples) (x ∷ xs) (suc j) hits lt =
     refl
     (hits_at maxval palette samples xs j hits.1 (omega (arith, lt)))
 
--- a pixel and those after it that repeat it
+-- a pixel, and those after it that repeat it
 repeated_hit : (maxval : ℕ) (palette : List (Option Parts)) (bytes : List ℕ) (d x k : ℕ) → k ≤ 16
     → AreSame 48 (3 * d) (3 * (d + 1)) bytes
     → IsHit maxval palette (get_or bytes (3 * d) 0) (get_or bytes (3 * d + 1) 0) (get_or bytes (3 * d + 2) 0) x
@@ -264,7 +264,7 @@ repeats_put maxval palette bytes first before d x (suc k) le room same hit put =
     (get_or bytes (3 * n + 2) 0) x)
     place one) longer less)
 
--- a group that repeats the last pixel was put
+-- a group that repeats the last pixel was added
 pub group_repeated : (maxval : ℕ) (palette : List (Option Parts)) (bytes first before new : List ℕ) (count end : ℕ)
     → 0 < count → end ≡ count + 16 → 3 * end ≤ length bytes → AreSame 48 (3 * (count - 1)) (3 * count) bytes
     → new ≡ before ++ replicate 16 (get_or before (length before - 1) 0)
@@ -303,7 +303,7 @@ group_repeated maxval palette bytes first before new count end some stop room sa
     (subst (λ n. PutsHits maxval palette (take (3 * n) bytes) first (before
     ++ replicate 16 (get_or before (length before - 1) 0))) (omega (arith, next, stop)) all)
 
--- what is kept stays true where no colour loses its register
+-- the cache stays correct if no colour loses its register
 pub still_cached : (cache : PixelCache) (maxval : ℕ) (old new : List (Option Parts)) → KeepsRegisters old new
     → Knows cache maxval old → Knows cache maxval new
 still_cached cache maxval old new kept knows = record {
@@ -319,9 +319,9 @@ still_cached cache maxval old new kept knows = record {
       };
 }
 
--- ---- pixels that are in the cache, as they are read
+-- ---- reading pixels that are in the cache
 
--- what the bytes to come make of the pixels that have these colours
+-- what the bytes to come make of the reading, after the pixels of these colours
 abbrev OnFrom : Colours → ℕ → ℕ → ℕ → ℕ → List Parts → ℕ → List ℕ → Result PictureValue PpmFault
 OnFrom kept maxval width height left colours place bytes =
     pixels (length kept.palette) maxval left colours place bytes >>= (λ all. Ok
@@ -379,7 +379,7 @@ hits_lead kept last maxval width height (r ∷ g ∷ b ∷ samples) (x ∷ xs) r
           colours (samples ++ rest) mid refl hit.good_red hit.good_green hit.good_blue numbered.1.few ∙ more.2 rest,
     )
 
--- pixels that were put
+-- pixels that were added
 pub pixels_lead : (old new : Samples) (bytes : List ℕ) (count : ℕ) → 3 * count ≤ length bytes
     → PutsPixels old new bytes count → Leads old new (take (3 * count) bytes)
 pixels_lead old new bytes count within put = λ colours holds.

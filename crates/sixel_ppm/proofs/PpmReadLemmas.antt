@@ -1,4 +1,4 @@
--- A picture file in the pieces in which a source gives it.
+-- Reading a picture file in the pieces that a source gives.
 use Rattle.std.proofs.Common.{◌≡◌, ◌+◌, ◌-◌, ◌<◌, ◌≤◌, ℕ, Bool, true, ◌&&◌, Option, Some, None, Result, Ok, Err, List}
 use Rattle.std.proofs.Common.{[], ◌∷◌, ◌++◌, length, take, drop, get_or, refl, sym, ap, ap₂, subst, ◌∙◌, append_assoc}
 use Rattle.std.proofs.Common.{arith, length-take-le}
@@ -29,7 +29,7 @@ use Rattle.sixel_ppm.proofs.PpmSampleLemmas.{fails_then, leads_none, leads_then}
 
 -- ---- the header in a piece
 
--- the first bytes of a piece, the next one, and what follows it
+-- the first k bytes of a piece, the next one, and the rest
 pub split_at : (xs : List ℕ) (k : ℕ) (rest : List ℕ) → k < length xs
     → xs ++ rest ≡ take k xs ++ get_or xs k 0 ∷ (drop (k + 1) xs ++ rest)
 split_at xs k rest lt =
@@ -38,7 +38,7 @@ split_at xs k rest lt =
     ∙ ap (λ (t : List ℕ). t ++ (drop (k + 1) xs ++ rest)) (take_more xs k 0 lt)
     ∙ append_assoc (take k xs) (get_or xs k 0 ∷ []) (drop (k + 1) xs ++ rest)
 
--- what the bytes of a piece before place k have made of a header
+-- the first k bytes of a piece were fed to a header
 pub record HasFed (old now : Progress) (piece : List ℕ) (k : ℕ) : Type 0 where
   pub reads : (rest : List ℕ) → header_on old (take k piece ++ rest) ≡ header_on now rest
   pub place : now.place ≡ old.place + k
@@ -51,7 +51,7 @@ fed_none p piece = record {
   within = λ h. h;
 }
 
--- the step at place k
+-- the step at index k
 stepped : (old now : Progress) (piece : List ℕ) (k : ℕ) (rest : List ℕ) → HasFed old now piece k → k < length piece
     → header_on old (piece ++ rest) ≡ header_after (step now (get_or piece k 0)) (drop (k + 1) piece ++ rest)
 stepped old now piece k rest fed lt =
@@ -98,7 +98,7 @@ fed_all old now piece k fed e = record {
 
 -- ---- a piece
 
--- a call that is refused under another name has answered what is told where it isn't
+-- a result that renames the error of `told` is `Ok` if `told` is
 pub answered : {E F : Type 0} (r : Result ℕ E) (told : Result ℕ F) (count : ℕ) (R : E → F → Type 0) → told ≡ Ok count
     → MatchResult r (λ n. told ≡ Ok n) (λ e. IsErrAnd told (R e)) → r ≡ Ok count
 answered (Ok n) told count R is same = cc (is, same)
@@ -164,7 +164,7 @@ refuses_rest : (fault : PpmFault) (result : Result PictureValue PpmFault) → Re
 refuses_rest Read result h = tt
 refuses_rest _ result h = h
 
--- what holds of the bytes that were consumed and of those that are left holds of all
+-- what holds for the consumed bytes with any rest holds for all of the source's bytes
 all_of : (a b : Option (List ℕ)) (xs : List ℕ) (P : List ℕ → Type 0) → Consumes a b xs → ((rest : List ℕ)
     → P (xs ++ rest)) → IfSome a P
 all_of None b xs P c h = tt
@@ -214,7 +214,7 @@ samples_finished old new s t result i end w f = λ colours holds.
     (subst (λ (r : Result PictureValue PpmFault). ReadsRest result r)
     (sym (ap (samples_on s colours) (sym (append-nil i.prefix)) ∙ p.2 [])) (finished_rest t result p.0 p.1 w f))
 
--- no byte more was read
+-- no more bytes were read
 pub in_samples_still : (old mid new : Option (List ℕ)) (s t : Samples) (taken : List ℕ) → taken ≡ []
     → IsInSamples old mid s t
     → Consumes mid new taken → IsInSamples old new s t
@@ -248,7 +248,7 @@ begins_reads : (count : ℕ) (f : Header) (s : Samples) (xs : List ℕ) → Begi
     → picture_after count (head_with f xs) ≡ samples_on s [] xs
 begins_reads count f s xs b = rw (b.registers, b.maxval, b.left, b.place, b.partial, b.width, b.height) refl
 
--- what all the bytes say, by the samples
+-- reading all bytes, by reading the samples
 said : (count : ℕ) (old new : Option (List ℕ)) (piece : List ℕ) (s : Started) (t : Samples) (rest : List ℕ)
     → (h : HasStarted old new piece s)
     → Begins count s.header t
@@ -283,7 +283,7 @@ ppm_refused count old new piece s t fault samples e h b f =
     (whole_header (h.prefix ++ rest) _ (h.whole rest))
     (refuses_rest fault (samples_on t [] (samples ++ rest)) (f [] b.holds rest)))
 
--- what the source has left reads on
+-- what holds for the bytes that the source has left gives what holds for all
 left_reads : (old new : Option (List ℕ)) (xs : List ℕ) (P Q : List ℕ → Type 0) → Consumes old new xs → IfSome new Q
     → ((rest : List ℕ) → Q rest → P (xs ++ rest)) → IfSome old P
 left_reads None new xs P Q c q f = tt

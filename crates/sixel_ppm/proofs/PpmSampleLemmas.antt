@@ -1,4 +1,4 @@
--- On the samples of a picture file.
+-- The samples of a picture file.
 use Rattle.std.proofs.Common.{◌≡◌, ◌==◌, ◌+◌, ◌*◌, ◌<◌, ◌≤◌, ℕ, zero, suc, Bool, true, false, ◌&&◌, nat_le, nat_lt}
 use Rattle.std.proofs.Common.{Option, None, Result, Ok, Err, List, [], ◌∷◌, ◌++◌, length, map, refl, sym, ap, ap₂}
 use Rattle.std.proofs.Common.{subst, ◌∙◌, append_assoc, arith, eq-eqb, length-append}
@@ -30,7 +30,7 @@ use Rattle.sixel_ppm.specs.declared.ppm.samples.Pixel.{Pixel}
 use Rattle.sixel_ppm.specs.declared.ppm.samples.Samples.{Samples}
 use Rattle.sixel_ppm.proofs.PpmColourLemmas.{entry_there, position_stays, register_within, same_as_itself}
 
--- ---- colours that are seen
+-- ---- colours that were seen
 
 seen_by : (seen : List Parts) (c : Parts) (t : Bool) → list_any (is_same c) seen ≡ t
     → list_any (is_same c) (with_colour seen c) ≡ true
@@ -39,18 +39,18 @@ seen_by seen c false e =
     let itself : is_same c c ≡ true = same_as_itself c in
     rw e (list_any-append (is_same c) seen (c ∷ []) ∙ rw (e, itself) refl)
 
--- a colour is seen from then on
+-- an added colour was seen
 pub seen_with : (seen : List Parts) (c : Parts) → list_any (is_same c) (with_colour seen c) ≡ true
 seen_with seen c = seen_by seen c (list_any (is_same c) seen) refl
 
--- what is seen stays seen
+-- a colour that was seen stays seen
 stays_seen : (seen : List Parts) (c x : Parts) (t : Bool) → list_any (is_same c) seen ≡ t
     → list_any (is_same x) seen ≡ true
     → list_any (is_same x) (with_colour seen c) ≡ true
 stays_seen seen c x true e s = rw e s
 stays_seen seen c x false e s = rw e (list_any-append (is_same x) seen (c ∷ []) ∙ rw s refl)
 
--- and keeps its register
+-- and it keeps its register
 stays_numbered : (seen : List Parts) (c x : Parts) (t : Bool) → list_any (is_same c) seen ≡ t
     → list_any (is_same x) seen ≡ true
     → register_among (with_colour seen c) x ≡ register_among seen x
@@ -75,9 +75,9 @@ numbered_more seen c (x ∷ colours) all =
 pub distinct-snoc : (colours : List Parts) (c : Parts) → distinct (colours ++ c ∷ []) ≡ with_colour (distinct colours) c
 distinct-snoc colours c = fold-append with_colour [] colours (c ∷ [])
 
--- ---- one pixel more
+-- ---- one more pixel
 
--- what is kept after one pixel more
+-- the state after one more pixel
 pub holds_more : (kept more : Colours) (last next : Option Pixel) (maxval : ℕ) (registers : List ℕ) (left total : ℕ)
     (colours : List Parts)
     (c : Parts) (register fewer : ℕ) → fewer + 1 ≡ left → HoldsPixels kept last maxval registers left total colours
@@ -106,7 +106,7 @@ fails v most lt = grind (arith, nat_tests)
 pub below_limit : (v most : ℕ) → v < most → nat_lt v most ≡ true
 below_limit v most lt = grind (arith, nat_tests)
 
--- a pixel with a colour for which there is a register
+-- a pixel whose colour has a register
 pub pixel_read : (count maxval n at r g b : ℕ) (colours : List Parts) (rest : List ℕ) → r ≤ maxval → g ≤ maxval
     → b ≤ maxval
     → length (with_colour (distinct colours) (colour_of maxval r g b)) ≤ count
@@ -134,7 +134,7 @@ pixel_too_many count maxval n at r g b colours rest red green blue many =
     many) in
     simp (e₁, e₂, e₃, e₄)
 
--- ---- a pixel that is refused
+-- ---- a refused pixel
 
 abbrev Refused : ℕ → ℕ → ℕ → List Parts → ℕ → ℕ → ℕ → List ℕ → PpmReason → ℕ → Type 0
 Refused count maxval n colours at width height samples reason place =
@@ -149,7 +149,7 @@ colour_refused count maxval zero at r g b width height colours rest some red gre
 colour_refused count maxval (suc n) at r g b width height colours rest some red green blue many =
     rw (pixel_too_many count maxval n at r g b colours rest red green blue many) refl
 
--- a pixel that is read
+-- a pixel that was read
 pub pixel_led : (count maxval n m at next r g b width height : ℕ) (colours : List Parts) (rest : List ℕ) → m + 1 ≡ n
     → next ≡ at + 3
     → r ≤ maxval → g ≤ maxval → b ≤ maxval → length (with_colour (distinct colours) (colour_of maxval r g b)) ≤ count
@@ -164,7 +164,7 @@ pixel_led count maxval (suc n) m at next r g b width height colours rest less e 
     ∙ ap₂ (λ (k : ℕ) (place : ℕ). pixels count maxval k (colours ++ colour_of maxval r g b ∷ []) place rest) same
     (sym e))
 
--- ---- by the states
+-- ---- the same for the states
 
 pub on_err : {A E : Type 0} (r : Result A E) (P Q : E → Type 0) → ((e : E) → P e → Q e) → IfErr r P → IfErr r Q
 on_err (Ok x) P Q f h = tt
@@ -178,7 +178,7 @@ too_many_fails s r g b fault some red green blue many = λ colours holds rest.
     (colour_refused (registers_in s) s.maxval s.left s.place r g b s.width s.height colours rest some red green blue
     (many.1 colours holds))
 
--- a pixel that has its register and was put
+-- a pixel that has its register and was added
 pub pixel_leads : (old mid new : Samples) (r g b register : ℕ) → Registers old mid r g b register → KeepsPixels old mid
     → PutsPixel mid new register → Leads old new (r ∷ g ∷ b ∷ [])
 pixel_leads old mid new r g b register registers kept put = λ colours holds.
@@ -222,7 +222,7 @@ all_there count seen (c ∷ colours) few all =
     ap₂ (λ (a b : Bool). a && b) (entry_there count seen (register_among seen c) (register_within seen c all.0) few)
     (all_there count seen colours few all.1)
 
--- what is kept of all pixels makes a picture
+-- the state after all pixels makes a picture
 pub picture_accepted : (kept : Colours) (last : Option Pixel) (maxval : ℕ) (registers : List ℕ)
     (left width height : ℕ) (colours : List Parts)
     → HoldsPixels kept last maxval registers left (width * height) colours → left ≡ 0
@@ -243,7 +243,7 @@ picture_accepted kept last maxval registers left width height colours holds none
     ∙ all_there (length kept.palette) seen colours holds.fills.few holds.all_seen in
     rw (sides, count, below, there) refl
 
--- the picture is the one that is read
+-- the picture is the result of reading
 pub picture_is : (kept : Colours) (last : Option Pixel) (maxval : ℕ) (registers : List ℕ) (left width height : ℕ)
     (colours : List Parts)
     → HoldsPixels kept last maxval registers left (width * height) colours
@@ -251,7 +251,7 @@ pub picture_is : (kept : Colours) (last : Option Pixel) (maxval : ℕ) (register
 picture_is kept last maxval registers left width height colours holds =
     ap₂ (picture_of_parts width height) holds.fills.palette holds.numbered
 
--- ---- bytes one after the other
+-- ---- bytes one after another
 
 pub leads_none : (s : Samples) → LeadsOn s s []
 leads_none s = λ colours holds. (colours, holds, λ rest. refl)
@@ -292,7 +292,7 @@ has_read_all a b bytes rest p e =
     sym (p.joined ∙ ap (λ (t : List ℕ). p.prefix ++ t) (no_rest rest e) ∙ append-nil p.prefix) in
     (subst (LeadsOn a b) same p.leads, omega (arith, p.fewer, ap length same))
 
--- a fault behind the bytes that were read
+-- a fault after the bytes that were read
 pub has_read_fails : (a b : Samples) (bytes rest : List ℕ) (fault : PpmFault) → HasRead a b bytes rest
     → FailsOn b fault rest → FailsOn a fault bytes
 has_read_fails a b bytes rest fault p fails = λ colours holds more.
@@ -321,7 +321,7 @@ pub one_prefix : (xs : List ℕ) → 1 ≤ length xs → xs ≡ (slice_index xs 
 one_prefix [] le = absurd (omega arith)
 one_prefix (x ∷ xs) le = ap (λ (t : List ℕ). x ∷ t) (sym (take_past (length (x ∷ xs) - 1) xs (omega arith)))
 
--- ---- samples that are wanting
+-- ---- missing samples
 
 short_pixel : (count maxval n at : ℕ) (colours : List Parts) (partial : PartialPixel) → 0 < n
     → is_good partial maxval n ≡ true

@@ -1,4 +1,4 @@
--- On the samples of pixels by a table of their registers.
+-- Samples from a table of the registers' colours.
 use Rattle.std.proofs.Common.{◌≡◌, ℕ, ◌+◌, ◌*◌, ◌<◌, ◌≤◌, Bool, true, ◌&&◌, nat_lt, Option, Some, None, List, []}
 use Rattle.std.proofs.Common.{◌∷◌, ◌++◌, length, drop, take, get_or, is_some, refl, sym, ap, ap₂, ◌∙◌, arith}
 use Rattle.std.proofs.Common.{append-nil, inl, inr}
@@ -25,7 +25,7 @@ use Rattle.sixel_model.specs.declared.profile.Profile.{Profile}
 use Rattle.sixel_model.specs.declared.profile.Profile.TheVariants.{Registers16, Registers256}
 use Rattle.sixel_ppm.proofs.PpmLemmas.{are_rgb_of, last_test, samples_by}
 
--- the samples of one more pixel
+-- the samples with those of one more pixel
 samples_more : (table : List (List ℕ)) (registers : List ℕ) (i : ℕ) → i < length registers
     → samples_from table (take (i + 1) registers)
     ≡ samples_from table (take i registers) ++ take 3 (get_or table (get_or registers i 0) [])
@@ -35,7 +35,7 @@ samples_more table registers i lt =
     ∙ ap (λ (t : List ℕ). samples_from table (take i registers) ++ t)
     (append-nil (take 3 (get_or table (get_or registers i 0) [])))
 
--- four bytes are stored, of which the last is left to the next pixel
+-- storing four bytes, the last of which the next pixel overwrites
 stored_three : (at : ℕ) (xs entry : List ℕ) → length entry ≡ 4 → at + 4 ≤ length xs
     → take (at + 3) (put_chunk at xs entry) ≡ take at xs ++ take 3 entry
 stored_three at xs entry long room =
@@ -47,7 +47,7 @@ stored_three at xs entry long room =
     ∙ ap (λ n. take (n + 3) (take at xs ++ entry)) (sym prefix)
     ∙ take-append-add (take at xs) entry 3
 
--- one more pixel's samples are put behind those of the ones before
+-- the samples of one more pixel are written after the others
 pub pixel_put : (table : List (List ℕ)) (registers head text : List ℕ) (i at : ℕ) (entry : List ℕ)
     → i < length registers → at + 4 ≤ length text
     → entry ≡ get_or table (get_or registers i 0) [] → length entry ≡ 4
@@ -59,7 +59,7 @@ pixel_put table registers head text i at entry lt room is long before =
     ∙ append_assoc head (samples_from table (take i registers)) (take 3 (get_or table (get_or registers i 0) []))
     ∙ ap (λ (t : List ℕ). head ++ t) (sym (samples_more table registers i lt))
 
--- one more register has its entry's bytes
+-- the table with one more register's entry
 pub entry_more : (palette : List (Option Parts)) (table : List (List ℕ)) (n : ℕ) (entry : List ℕ)
     → n < length table → entry ≡ bytes_of (palette_at palette n)
     → ((r : ℕ) → r < n → get_or table r [] ≡ bytes_of (palette_at palette r))
@@ -70,7 +70,7 @@ entry_more palette table n entry room is before r lt = elim (cases_eq r n) [
   | inr other ↦ get_or-set_other table n r entry [] other ∙ before r (omega arith)
 ]
 
--- a table's entries have four bytes
+-- the entries of a table have four bytes
 four : (o : Option Parts) → length (bytes_of o) ≡ 4
 four None = refl
 four (Some (Rgb red green blue)) = refl
@@ -85,7 +85,7 @@ pub parted : {X : Type 0} (rest group more : List X) (n : ℕ) → group ≡ tak
     → rest ≡ group ++ more
 parted rest group more n prefix back = rw (prefix, back) (sym (take-append-drop n rest))
 
--- what was put before, what goes out with a group, and what is left after it
+-- what was written before, what a group adds, and what is left
 pub group_of : {X : Type 0} (f : List X → List ℕ) → ((ys zs : List X) → f (ys ++ zs) ≡ f ys ++ f zs)
     → (rest group more : List X) (whole done head piece : List ℕ) → rest ≡ group ++ more
     → whole ≡ done ++ (head ++ f rest) → piece ≡ head ++ f group → whole ≡ (done ++ piece) ++ f more
@@ -112,7 +112,7 @@ samples_join table = flat_map-append (λ r. take 3 (get_or table r []))
 pub made_join : (xs ys : List Parts) → samples_made (xs ++ ys) ≡ samples_made xs ++ samples_made ys
 made_join = flat_map-append (λ c. take 3 (bytes_of (Some c)))
 
--- ---- colours that are no registers'
+-- ---- colours without registers
 
 pub made_are : (colours : List Parts) → are_rgb colours ≡ true → samples_made colours ≡ flat_map samples_of colours
 made_are [] rgb = refl
@@ -127,7 +127,7 @@ made_more colours i colour lt its =
     ∙ made_join (take i colours) (colour ∷ [])
     ∙ ap (λ (t : List ℕ). samples_made (take i colours) ++ t) (append-nil (take 3 (bytes_of (Some colour))))
 
--- one more colour's samples are put behind those of the ones before
+-- the samples of one more colour are written after the others
 pub colour_put : (colours : List Parts) (head text : List ℕ) (i at : ℕ) (colour : Parts) (bytes : List ℕ)
     → i < length colours → at + 4 ≤ length text → colour ≡ get_or colours i colour
     → bytes ≡ bytes_of (Some colour) → take at text ≡ head ++ samples_made (take i colours)
@@ -154,7 +154,7 @@ all_true : (p : ℕ → Bool) (xs : List ℕ) → ((x : ℕ) → p x ≡ true) �
 all_true p [] each = refl
 all_true p (x ∷ xs) each = rw (each x) (all_true p xs each)
 
--- a picture all of whose registers' colours are red, green and blue
+-- a picture whose palette has only RGB colours
 pub rgb_by_palette : (p : PictureValue) → IsAnyPicture p
     → ((r : ℕ) → r < 256 → option_map_or is_rgb (palette_at p.palette r) true ≡ true)
     → are_rgb (colours_of p) ≡ true
@@ -164,7 +164,7 @@ rgb_by_palette p is each = are_rgb_of p ∙ all_true _ p.registers (λ r. elim (
       (no_entry_past p.palette r (omega (arith, short_palette p is)))
 ])
 
--- the samples of a colour of red, green and blue are the first three bytes of its entry
+-- the samples of an RGB colour are the first three bytes of its entry
 prefix_of : (o : Option Parts) (cs : List Parts) (t : List ℕ) → is_some o ≡ true → option_map_or is_rgb o true ≡ true
     → t ≡ flat_map samples_of cs → take 3 (bytes_of o) ++ t ≡ flat_map samples_of (cons_option o cs)
 prefix_of None cs t some rgb e = cc
@@ -190,7 +190,7 @@ samples_are palette table (r ∷ registers) short is some rgb =
     ∙ prefix_of (palette_at palette r) (filter_map (palette_at palette) registers) (samples_from table registers)
     have.0 are.0 (samples_are palette table registers short is have.1 are.1)
 
--- the samples of a picture's pixels by the table of its palette
+-- the samples of a picture's pixels, by its palette's table
 pub samples_of_picture : (p : PictureValue) (table : List (List ℕ)) → IsAnyPicture p → IsTable p.palette table
     → are_rgb (colours_of p) ≡ true → samples_from table p.registers ≡ flat_map samples_of (colours_of p)
 samples_of_picture p table is entries rgb =
@@ -201,7 +201,7 @@ samples_of_picture p table is entries rgb =
     Size Count Register NoColour is.parts.accepted in
     samples_are p.palette table p.registers (short_palette p is) entries some (sym (are_rgb_of p) ∙ rgb)
 
--- the text of a picture file is its header and then the samples
+-- the text of a picture file is its header, then the samples
 pub header_then_samples : (width height : ℕ) (colours : List Parts) (samples : List ℕ)
     → samples ≡ flat_map samples_of colours
     → ppm_text width height colours ≡ ppm_header width height ++ samples

@@ -1,4 +1,4 @@
--- Worked strings of the reading of picture files.
+-- Worked examples of reading picture files.
 use Rattle.std.proofs.Common.{◌≡◌, ◌+◌, ◌≤◌, ◌∙◌, ℕ, zero, suc, true, false, nat_lt, List, [], ◌∷◌, ◌++◌, Result, Ok}
 use Rattle.std.proofs.Common.{refl, ap, arith}
 use Rattle.std.specs.Prelude.{Some, None, codes, replicate}
@@ -45,7 +45,7 @@ scaled : ppm_read 16 (codes "P6\n# x\n1 1\n255\n" ++ 128 ∷ 255 ∷ 2 ∷ [])
     ≡ Ok (picture_of_parts 1 1 (Some (Rgb 50 100 1) ∷ replicate 15 None) (0 ∷ []))
 scaled = refl
 
--- registers are numbered in the order in which their colours are first seen, after scaling
+-- registers are numbered in the order in which their colours first appear, after scaling
 numbered : ppm_read 4 (codes "P6 2 2 200\n" ++ 9 ∷ 9 ∷ 9 ∷ 200 ∷ 0 ∷ 0 ∷ 10 ∷ 10 ∷ 9 ∷ 200 ∷ 0 ∷ 0 ∷ [])
     ≡ Ok (picture_of_parts 2 2 (Some (Rgb 5 5 5) ∷ Some (Rgb 100 0 0) ∷ None ∷ None ∷ []) (0 ∷ 1 ∷ 0 ∷ 1 ∷ []))
 numbered = refl
@@ -54,7 +54,7 @@ five_pixels : ppm_read 16 (codes "P6 5 1 100\n" ++ flat_map (λ i. 100 ∷ 0 ∷
     ≡ Ok (picture_of 16 5 1 (Rgb 100 0 0 ∷ Rgb 100 0 0 ∷ Rgb 100 0 0 ∷ Rgb 100 0 0 ∷ Rgb 100 0 0 ∷ []))
 five_pixels = refl
 
--- a number is judged at the byte after it
+-- a number is judged only at the byte after it
 open_number : ppm_read 16 (codes "P6 0") ≡ at_fault Short 4
 open_number = refl
 
@@ -62,7 +62,7 @@ open_number = refl
 bad_end_of_bad_number : ppm_read 16 (codes "P6 0x") ≡ at_fault Header 4
 bad_end_of_bad_number = refl
 
--- a comment directly after the maximum is refused, also where the maximum is bad
+-- a comment directly after the maximum is refused, even if the maximum is bad
 comment_after_maxval : ppm_read 16 (codes "P6 1 1 256#\n") ≡ at_fault Header 10
 comment_after_maxval = refl
 
@@ -88,7 +88,7 @@ spaces_pass (suc n) at rest le =
     let within : nat_lt at most_header ≡ true = below_limit at 65536 (omega arith) in
     rw within (spaces_pass n (at + 1) rest (omega arith) ∙ ap (λ (k : ℕ). after_filler false k rest) (omega arith))
 
--- what the number after `P6` and n + 1 spaces says, where it begins within the limit
+-- what follows `P6` and n + 1 spaces, from offset `at` on
 abbrev numbered_after : ℕ → List ℕ → Result Head PpmFault
 numbered_after at rest = do
   n ← number begins_filler Size most_side (after_filler false at rest).0 (after_filler false at rest).1
@@ -103,11 +103,11 @@ longest_header : head_of (80 ∷ 54 ∷ replicate (suc 65525) 32 ++ codes "1 1 1
     ≡ Ok (record { width = 1; height = 1; maxval = 100; place = 65536; samples = 7 ∷ 8 ∷ 9 ∷ [] })
 longest_header = after_spaces 65525 (codes "1 1 100\n" ++ 7 ∷ 8 ∷ 9 ∷ []) (omega arith)
 
--- one more: it is one byte too late
+-- one more space: the header is one byte too long
 header_too_long : head_of (80 ∷ 54 ∷ replicate (suc 65526) 32 ++ codes "1 1 100\n" ++ 7 ∷ 8 ∷ 9 ∷ [])
     ≡ at_fault Header 65536
 header_too_long = after_spaces 65526 (codes "1 1 100\n" ++ 7 ∷ 8 ∷ 9 ∷ []) (omega arith)
 
--- 65,536 bytes of a header that isn't whole, and then the end
+-- 65,536 bytes of an incomplete header, then the end
 unfinished_header : head_of (80 ∷ 54 ∷ replicate (suc 65533) 32 ++ []) ≡ at_fault Short 65536
 unfinished_header = after_spaces 65533 [] (omega arith)

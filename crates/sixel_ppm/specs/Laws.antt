@@ -12,7 +12,7 @@ PixelsHaveColours count =
     (p : PictureValue) → IsPicture count p
     → map (λ c. Some c) (colours_of p) ≡ map (palette_at p.palette) p.registers
 
--- each file of a picture is read as that picture, and what is read as a picture is a file of it
+-- each file of a picture is read as that picture, and bytes that are read as a picture are a file of it
 abbrev pub PictureFilesAreRead : ℕ → Type 0
 PictureFilesAreRead registers =
     (bytes : List ℕ) (picture : PictureValue)

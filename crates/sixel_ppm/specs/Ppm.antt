@@ -1,4 +1,4 @@
--- The text of a picture file, and what writing it does to a sink.
+-- The text of a picture file, and how writing it changes a sink.
 use Rattle.std.specs.Prelude.{ℕ, ◌≡◌, ◌&&◌, Bool, true, false, IsTrue, IsFalse, Result, Ok, Err, List, [], ◌∷◌}
 use Rattle.std.specs.Prelude.{◌++◌, codes, decimal, nat_le}
 use Rattle.std.specs.List.{filter_map, flat_map, list_all}
@@ -17,7 +17,7 @@ is_rgb (Hls hue lightness saturation) = false
 abbrev pub are_rgb : List Parts → Bool
 are_rgb colours = list_all is_rgb colours
 
--- the three bytes of a pixel; a colour in the other system has none
+-- the three bytes of a pixel; an HLS colour has none
 abbrev pub samples_of : Parts → List ℕ
 samples_of (Rgb red green blue) = red ∷ green ∷ blue ∷ []
 samples_of (Hls hue lightness saturation) = []
@@ -26,7 +26,7 @@ samples_of (Hls hue lightness saturation) = []
 unfoldable pub ppm_header : ℕ → ℕ → List ℕ
 ppm_header width height = codes "P6" ++ 10 ∷ decimal width ++ 32 ∷ decimal height ++ 10 ∷ codes "100" ++ 10 ∷ []
 
--- the header, and then the samples of each pixel
+-- the header, then the samples of each pixel
 unfoldable pub ppm_text : ℕ → ℕ → List Parts → List ℕ
 ppm_text width height colours = ppm_header width height ++ flat_map samples_of colours
 
@@ -42,8 +42,8 @@ most_file_side = 4096
 abbrev pub is_file_side : ℕ → Bool
 is_file_side n = nat_le 1 n && nat_le n most_file_side
 
--- all colours are red, green and blue, and the text was written, or on `Write` a prefix of it; or one isn't, and
--- nothing was done. Writing answers no other fault
+-- all colours are RGB, and the text was written, or on `Write` a prefix of it; or some colour isn't RGB, and nothing
+-- was done. Writing has no other fault
 abbrev pub WritesPpm : {A : Type 0} → Result A PpmFault → SinkState → SinkState → ℕ → ℕ → List Parts → Type 0
 WritesPpm {A = A} (Ok x) old new width height colours =
     IsTrue (are_rgb colours) × Writes {A = A} {E = PpmFault} (Ok x) old new (ppm_text width height colours)

@@ -1,17 +1,17 @@
--- Colours that are numbered as they are first seen. Contracts of private functions alone cite these.
+-- Colours numbered in the order in which they first appear. Only contracts of private functions cite these.
 use Rattle.std.specs.Prelude.{◌≡◌, ◌<◌, ◌≤◌, ℕ, List, Option, None, Some, MatchOption, get_or, length, position}
 use Rattle.sixel_model.specs.Colours.{is_entry}
 use Rattle.sixel_ppm.specs.PpmReading.{palette_of, register_among}
 use Rattle.sixel_model.specs.declared.colour.Parts.{Parts}
 use Rattle.sixel_ppm.specs.declared.ppm.colours.Colours.{Colours}
 
--- the palette has these colours and no other, and their count is kept
+-- the palette has exactly these colours, and stores how many
 pub record Fills (c : Colours) (seen : List Parts) : Type 0 where
   pub palette : c.palette ≡ palette_of (length c.palette) seen
   pub count : c.count ≡ length seen
   pub few : length seen ≤ length c.palette
 
--- the register of a colour among those that are seen with it, or there are too many
+-- the register of a colour that was seen; none if there are too many colours
 abbrev pub Numbers : Option ℕ → Colours → List Parts → Parts → Type 0
 Numbers result new seen colour =
     MatchOption result (length new.palette < length seen)

@@ -1,7 +1,7 @@
--- What a picture file is.
+-- What a picture file is: Netpbm's raw PPM, ppm(5), within limits.
 --
--- The functions of PpmReading say what the bytes of a file make of it, one after the other. This is the grammar that
--- they follow, as a relation: that the two agree is a law.
+-- PpmReading defines the reading of a file as a function of its bytes. Here is the grammar, as a relation. A law says
+-- that the two agree.
 use Rattle.std.specs.Prelude.{◌≡◌, ◌≢◌, ◌⊎◌, ℕ, ◌*◌, ◌<◌, ◌≤◌, IsTrue, List, [], ◌∷◌, ◌++◌, length}
 use Rattle.std.specs.Int.{IsInRange}
 use Rattle.std.specs.List.{AllByRecursion, concat}
@@ -16,21 +16,21 @@ use Rattle.sixel_model.specs.declared.colour.Parts.{Parts}
 abbrev pub IsWhitespace : List ℕ → Type 0
 IsWhitespace bytes = (b : ℕ) × (bytes ≡ b ∷ []) × IsTrue (is_space b)
 
--- `#`, bytes that are no line feed, and a line feed
+-- `#`, any bytes but a line feed, and a line feed
 abbrev pub IsComment : List ℕ → Type 0
 IsComment bytes = (text : List ℕ) × (bytes ≡ 35 ∷ text ++ 10 ∷ []) × AllByRecursion (λ b. b ≢ 10) text
 
 abbrev pub IsFillerPiece : List ℕ → Type 0
 IsFillerPiece bytes = IsWhitespace bytes ⊎ IsComment bytes
 
--- one piece or more, joined
+-- one or more pieces, joined
 pub record IsFiller (bytes : List ℕ) : Type 0 where
   pub pieces : List (List ℕ)
   pub some : 0 < length pieces
   pub each : AllByRecursion IsFillerPiece pieces
   pub bytes_are : bytes ≡ concat pieces
 
--- one decimal digit or more, whose value is n; zeros may come first
+-- one or more decimal digits with the value n; leading zeros are allowed
 pub record IsNumberText (n : ℕ) (text : List ℕ) : Type 0 where
   pub digits : IsNumeral 10 text
   pub value : digits_value 10 text ≡ n
@@ -60,7 +60,7 @@ pub record IsHeader (width height maxval : ℕ) (bytes : List ℕ) : Type 0 wher
 
 -- ---- the samples
 
--- the colours of the samples, taken by three
+-- the colours of the samples, three samples for each colour
 abbrev pub colours_of_samples : ℕ → List ℕ → List Parts
 colours_of_samples maxval [] = []
 colours_of_samples maxval (red ∷ []) = []
@@ -70,8 +70,8 @@ colours_of_samples maxval (red ∷ green ∷ blue ∷ rest) =
 
 -- ---- the whole
 
--- a header, and three samples for each pixel, of no more different colours than there are registers: the bytes are a
--- file of the picture of these colours
+-- the bytes are a header, and three samples for each pixel, with at most as many different colours as registers; the
+-- picture is the one of these colours
 pub record IsPictureFile (registers : ℕ) (picture : PictureValue) (bytes : List ℕ) : Type 0 where
   pub width : ℕ
   pub height : ℕ

@@ -1,4 +1,4 @@
--- What a byte makes of a header that isn't whole yet. Contracts of private functions alone cite these.
+-- How a byte continues an incomplete header. Only contracts of private functions cite these.
 use Rattle.std.specs.Prelude.{ℕ, ◌+◌, ◌-◌, ◌*◌, ◌==◌, Bool, true, false, ◌&&◌, nat_le, nat_lt, if◌then◌else◌, List}
 use Rattle.std.specs.Prelude.{Result, Ok}
 use Rattle.sixel_grammar.specs.Bytes.{is_digit}
@@ -83,7 +83,7 @@ step_in (Digits field) p b = in_digits p field b
 abbrev pub step : Progress → ℕ → Next
 step p b = if nat_lt p.place most_header then step_in p.part p b else refused p
 
--- ---- what the bytes to come make of a header that isn't whole yet
+-- ---- what the bytes to come make of an incomplete header
 
 abbrev pub fault_of : Field → PpmReason
 fault_of Width = reason.Size
@@ -95,7 +95,7 @@ most_of Width = most_side
 most_of Height = most_side
 most_of Maxval = 255
 
--- after a number
+-- the rest of the header after a number
 abbrev pub after_field : Field → Progress → ℕ × ℕ × List ℕ → Result Head PpmFault
 after_field Width p n = height_on n.0 n.1 n.2
 after_field Height p n = maxval_on p.width n.0 n.1 n.2
@@ -103,7 +103,7 @@ after_field Maxval p n = do
   end ← wanted is_space n.1 n.2
   Ok (record { width = p.width; height = p.height; maxval = n.0; place = end.0; samples = end.1 })
 
--- from the digits of a number on
+-- the rest of the header from the digits of a number on
 abbrev pub number_on : Field → Progress → ℕ × List ℕ → Result Head PpmFault
 number_on field p spot = do
   n ← number (ends field) (fault_of field) (most_of field) spot.0 spot.1
@@ -132,7 +132,7 @@ header_in (Digits field) p rest = digits_on field p (after_digits p.value p.plac
 abbrev pub header_on : Progress → List ℕ → Result Head PpmFault
 header_on p rest = header_in p.part p rest
 
--- what a step and the bytes after it make
+-- the result of a step and of the bytes after it
 abbrev pub header_after : Next → List ℕ → Result Head PpmFault
 header_after (More p) rest = header_on p rest
 header_after (Whole f) rest =

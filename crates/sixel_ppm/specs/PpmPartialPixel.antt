@@ -1,4 +1,4 @@
--- The samples of a pixel that isn't whole. Contracts of private functions alone cite these.
+-- The samples of an incomplete pixel. Only contracts of private functions cite these.
 use Rattle.std.specs.Prelude.{ℕ, ◌&&◌, Bool, true, List, [], ◌∷◌, nat_le, nat_lt}
 use Rattle.sixel_ppm.specs.declared.ppm.samples.PartialPixel.{PartialPixel}
 use Rattle.sixel_ppm.specs.declared.ppm.samples.PartialPixel.TheVariants.{Nothing, Red, RedGreen}
@@ -8,7 +8,7 @@ partial_samples Nothing = []
 partial_samples (Red red) = red ∷ []
 partial_samples (RedGreen red green) = red ∷ green ∷ []
 
--- none is above the maximum, and a pixel is left that they begin
+-- the samples are at most the maximum, and a pixel is left for them
 abbrev pub is_good : PartialPixel → ℕ → ℕ → Bool
 is_good Nothing maxval left = true
 is_good (Red red) maxval left = nat_lt 0 left && nat_le red maxval

@@ -1,8 +1,7 @@
--- What the bytes of a picture file say, or why they say nothing.
+-- Reading a picture file, as a function of its bytes: the result is a picture or a fault.
 --
--- Each part of a reading is told where it stands: `at` is the offset of the next byte, and `rest` are the bytes from
--- there on. It says what is wanted there, and gives where the reading stands after it. The first part that doesn't get
--- what it wants is at fault: so the bytes are judged one after the other.
+-- Each part takes `at`, the offset of the next byte, and `rest`, the bytes from there on. It returns where the next
+-- part begins, or a fault. The first fault is the result, so the bytes are judged in order.
 use Rattle.std.specs.Prelude.{◌≡◌, ℕ, zero, suc, ◌+◌, ◌-◌, ◌*◌, ◌/◌, ◌==◌, Bool, true, false, ◌&&◌, ◌||◌, not, nat_le}
 use Rattle.std.specs.Prelude.{nat_lt, if◌then◌else◌, List, [], ◌∷◌, ◌++◌, length, map, fold, Option, Some, None}
 use Rattle.std.specs.Prelude.{unwrap_or, Result, Ok, Err, IsOk}
@@ -30,7 +29,7 @@ abbrev pub ◌>>=◌ : {A B : Type 0} → Result A PpmFault → (A → Result B 
 
 -- ---- the header
 
--- how many bytes a header has at most
+-- the greatest length of a header, in bytes
 abbrev pub most_header : ℕ
 most_header = 65536
 
@@ -42,13 +41,12 @@ is_space b = (b == 32) || (b == 9) || (b == 13) || (b == 10)
 abbrev pub begins_filler : ℕ → Bool
 begins_filler b = is_space b || (b == 35)
 
--- a byte of the header that passes is wanted: where the reading stands after it
+-- reads a byte of the header that must pass the test, and returns where the next part begins
 abbrev pub wanted : (ℕ → Bool) → ℕ → List ℕ → Result (ℕ × List ℕ) PpmFault
 wanted passes at [] = at_fault Short at
 wanted passes at (b ∷ rest) = if nat_lt at most_header && passes b then Ok (at + 1, rest) else at_fault Header at
 
--- what follows the whitespace and the comments at the beginning, from inside a comment or not; a comment goes through
--- the next line feed
+-- skips whitespace and comments, from inside a comment or not; a comment includes the line feed that ends it
 abbrev pub after_filler : Bool → ℕ → List ℕ → ℕ × List ℕ
 after_filler comment at [] = (at, [])
 after_filler false at (b ∷ rest) =
@@ -58,26 +56,26 @@ after_filler false at (b ∷ rest) =
 after_filler true at (b ∷ rest) =
     if nat_lt at most_header then after_filler (not (b == 10)) (at + 1) rest else (at, b ∷ rest)
 
--- the number that the digits at the beginning write after those of `value`, and what follows them
+-- the number whose digits follow those of `value`, and what follows it
 abbrev pub after_digits : ℕ → ℕ → List ℕ → ℕ × ℕ × List ℕ
 after_digits value at [] = (value, at, [])
 after_digits value at (b ∷ rest) =
     if nat_lt at most_header && is_digit b then after_digits (10 * value + (b - 48)) (at + 1) rest
     else (value, at, b ∷ rest)
 
--- after the digits of a number a byte that may end it is wanted; then the number is judged, which is from 1 to `most`
+-- a byte that may end the number must follow the digits; then the number must be from 1 to `most`
 abbrev pub judged : (ℕ → Bool) → PpmReason → ℕ → ℕ → ℕ × ℕ × List ℕ → Result (ℕ × ℕ × List ℕ) PpmFault
 judged ends reason most first n = do
   end ← wanted ends n.1 n.2
   if nat_le 1 n.0 && nat_le n.0 most then Ok n else at_fault reason first
 
--- a number is wanted: its value, and what follows it
+-- reads a number, and returns its value and what follows it
 abbrev pub number : (ℕ → Bool) → PpmReason → ℕ → ℕ → List ℕ → Result (ℕ × ℕ × List ℕ) PpmFault
 number ends reason most at rest = do
   digit ← wanted is_digit at rest
   judged ends reason most at (after_digits 0 at rest)
 
--- filler and a number are wanted
+-- reads filler and a number
 abbrev pub filled_number : (ℕ → Bool) → PpmReason → ℕ → ℕ → List ℕ → Result (ℕ × ℕ × List ℕ) PpmFault
 filled_number ends reason most at rest = do
   begun ← wanted begins_filler at rest
@@ -116,7 +114,7 @@ head_of bytes = do
 
 -- ---- the colours
 
--- the percentage of a sample, to the nearest whole number
+-- the percentage of a sample, rounded to the nearest whole number
 abbrev pub percent : ℕ → ℕ → ℕ
 percent maxval v = (200 * v + maxval) / (2 * maxval)
 
@@ -124,25 +122,25 @@ percent maxval v = (200 * v + maxval) / (2 * maxval)
 abbrev pub colour_of : ℕ → ℕ → ℕ → ℕ → Parts
 colour_of maxval red green blue = Rgb (percent maxval red) (percent maxval green) (percent maxval blue)
 
--- the colours and one more, if it isn't there
+-- the colours, and this one if it is new
 abbrev pub with_colour : List Parts → Parts → List Parts
 with_colour seen colour = if list_any (is_same colour) seen then seen else seen ++ colour ∷ []
 
--- the colours, each once, in the order in which they are first seen
+-- the different colours, in the order in which they first appear
 abbrev pub distinct : List Parts → List Parts
 distinct colours = fold with_colour [] colours
 
--- a palette of so many registers: the colours from register 0 on, and then none
+-- a palette of n registers: the colours from register 0 on, then none
 abbrev pub palette_of : ℕ → List Parts → List (Option Parts)
 palette_of zero colours = []
 palette_of (suc n) [] = None ∷ palette_of n []
 palette_of (suc n) (c ∷ colours) = Some c ∷ palette_of n colours
 
--- the place of a colour among the colours that are seen
+-- the index of a colour among the colours that were seen
 abbrev pub register_among : List Parts → Parts → ℕ
 register_among seen colour = unwrap_or (position_from (is_same colour) 0 seen) 0
 
--- the picture of these colours: they have registers from 0 on in the order in which they are first seen
+-- the picture of these colours: they get registers from 0 on, in the order in which they first appear
 abbrev pub picture_of : ℕ → ℕ → ℕ → List Parts → PictureValue
 picture_of registers width height colours =
     picture_of_parts width height (palette_of registers (distinct colours))
@@ -150,18 +148,18 @@ picture_of registers width height colours =
 
 -- ---- the samples
 
--- a sample of at most `maxval` is wanted: its value, and what follows it
+-- reads a sample, which must be at most `maxval`, and returns its value and what follows it
 abbrev pub sample : ℕ → ℕ → List ℕ → Result (ℕ × List ℕ) PpmFault
 sample maxval at [] = at_fault Short at
 sample maxval at (v ∷ rest) = if nat_le v maxval then Ok (v, rest) else at_fault Sample at
 
--- the colours with that of one more pixel, which has begun at `at`; no more may differ than there are registers
+-- adds the colour of a pixel that begins at `at`; there must not be more different colours than registers
 abbrev pub coloured : ℕ → ℕ → List Parts → Parts → Result (List Parts) PpmFault
 coloured registers at colours colour =
     if nat_le (length (distinct (colours ++ colour ∷ []))) registers then Ok (colours ++ colour ∷ [])
     else at_fault TooManyColours at
 
--- so many pixels are wanted, and then the end: the colours with theirs
+-- reads n pixels and then the end; returns the colours with theirs
 abbrev pub pixels : ℕ → ℕ → ℕ → List Parts → ℕ → List ℕ → Result (List Parts) PpmFault
 pixels registers maxval zero colours at [] = Ok colours
 pixels registers maxval zero colours at (b ∷ rest) = at_fault Trailing at
@@ -180,18 +178,18 @@ picture_after registers h = do
   colours ← pixels registers h.maxval (h.width * h.height) [] h.place h.samples
   Ok (picture_of registers h.width h.height colours)
 
--- the picture of so many registers that the bytes are, or their fault
+-- the picture with `registers` registers that the bytes are, or their fault
 abbrev pub ppm_read : ℕ → List ℕ → Result PictureValue PpmFault
 ppm_read registers bytes = do
   h ← head_of bytes
   picture_after registers h
 
--- the header is whole and without a fault
+-- the header is complete and without a fault
 abbrev pub HasWholeHeader : List ℕ → Type 0
 HasWholeHeader bytes = IsOk (head_of bytes)
 
--- an answer is what the bytes say, with so many registers; memory is wanting only after a whole header without a fault,
--- and the answer of a device that failed says nothing of the bytes
+-- the result of a call is correct: a picture or a format fault is what the bytes say. `OutOfMemory` comes only after a
+-- header without a fault, and `Read` says nothing about the bytes
 abbrev pub ReadsPpm : ℕ → Result PictureValue PpmFault → List ℕ → Type 0
 ReadsPpm registers (Ok picture) bytes = ppm_read registers bytes ≡ Ok picture
 ReadsPpm registers (Err (Format reason place)) bytes = ppm_read registers bytes ≡ at_fault reason place
@@ -200,7 +198,7 @@ ReadsPpm registers (Err Read) bytes = Unit {0}
 ReadsPpm registers (Err NotRgb) bytes = ⊥
 ReadsPpm registers (Err Write) bytes = ⊥
 
--- a call counts as a failure of the source exactly where it answers `Read`; reading answers no fault of writing
+-- a call counts a failure of the source exactly if it returns `Read`; reading has no fault of writing
 abbrev pub CountsReadFault : {A : Type 0} → Result A PpmFault → ℕ → ℕ → Type 0
 CountsReadFault (Ok _) old new = new ≡ old
 CountsReadFault (Err (Format reason place)) old new = new ≡ old

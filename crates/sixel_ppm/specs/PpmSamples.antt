@@ -1,4 +1,4 @@
--- What the samples so far make of a picture file. Contracts of private functions alone cite these.
+-- The state of a reading within the samples. Only contracts of private functions cite these.
 use Rattle.std.specs.Prelude.{◌≡◌, ◌≤◌, ◌<◌, ℕ, ◌+◌, ◌-◌, ◌*◌, true, Option, Some, None, List, [], ◌∷◌, ◌++◌, length}
 use Rattle.std.specs.Prelude.{map, Result, Ok, take}
 use Rattle.std.specs.List.{list_any}
@@ -20,7 +20,7 @@ use Rattle.sixel_ppm.specs.declared.ppm.samples.PartialPixel.TheVariants.{Nothin
 use Rattle.sixel_ppm.specs.declared.ppm.samples.Pixel.{Pixel}
 use Rattle.sixel_ppm.specs.declared.ppm.samples.Samples.{Samples}
 
--- a pixel whose samples are good, and whose register is that of its colour among those that are seen
+-- the pixel's samples are at most the maximum, its colour was seen, and its register is that of the colour
 pub record IsKnown (maxval : ℕ) (seen : List Parts) (p : Pixel) : Type 0 where
   pub red : p.red ≤ maxval
   pub green : p.green ≤ maxval
@@ -32,12 +32,12 @@ abbrev pub KnowsLast : Option Pixel → ℕ → List Parts → Type 0
 KnowsLast None maxval seen = Unit {0}
 KnowsLast (Some p) maxval seen = IsKnown maxval seen p
 
--- each of the colours is among those that are seen
+-- each of the colours was seen
 abbrev pub AllSeen : List Parts → List Parts → Type 0
 AllSeen seen [] = Unit {0}
 AllSeen seen (c ∷ colours) = (list_any (is_same c) seen ≡ true) × AllSeen seen colours
 
--- what is kept of the pixels that have these colours, of a picture of `total` pixels
+-- what the state holds after the pixels of these colours, in a picture of `total` pixels
 pub record HoldsPixels (kept : Colours) (last : Option Pixel) (maxval : ℕ) (registers : List ℕ) (left total : ℕ)
     (colours : List Parts) : Type 0 where
   pub fills : Fills kept (distinct colours)
@@ -58,7 +58,7 @@ abbrev pub IsLast : Option Pixel → ℕ → ℕ → ℕ → ℕ → Type 0
 IsLast last red green blue register = last
     ≡ Some (record { red = red; green = green; blue = blue; register = register })
 
--- only the colours and the last pixel have changed
+-- only the colours, the cache and the last pixel may have changed
 pub record KeepsPixels (old new : Samples) : Type 0 where
   pub width : new.width ≡ old.width
   pub height : new.height ≡ old.height
@@ -68,7 +68,7 @@ pub record KeepsPixels (old new : Samples) : Type 0 where
   pub partial : new.partial ≡ old.partial
   pub registers : new.registers.items ≡ old.registers.items
 
--- a pixel with this register was put: the colours and the last pixel are as before
+-- a pixel with this register was added; the colours and the last pixel are as before
 pub record PutsPixel (old new : Samples) (register : ℕ) : Type 0 where
   pub width : new.width ≡ old.width
   pub height : new.height ≡ old.height
@@ -80,7 +80,7 @@ pub record PutsPixel (old new : Samples) (register : ℕ) : Type 0 where
   pub colours : new.colours ≡ old.colours
   pub registers : new.registers.items ≡ old.registers.items ++ register ∷ []
 
--- so many pixels with the samples at the beginning of the bytes were put: the colours and the last pixel are as before
+-- `count` pixels with the samples at the beginning of `bytes` were added; the colours and the last pixel are as before
 pub record PutsPixels (old new : Samples) (bytes : List ℕ) (count : ℕ) : Type 0 where
   pub width : new.width ≡ old.width
   pub height : new.height ≡ old.height
@@ -93,7 +93,7 @@ pub record PutsPixels (old new : Samples) (bytes : List ℕ) (count : ℕ) : Typ
   pub registers : PutsHits old.maxval old.colours.palette (take (3 * count) bytes) old.registers.items
       new.registers.items
 
--- a pixel whose register is that of its colour: it is the last one now
+-- the pixel's register is that of its colour, among the colours seen, this one included
 pub record IsRegistered (old new : Samples) (seen : List Parts) (red green blue register : ℕ) : Type 0 where
   pub same_registers : registers_in new ≡ registers_in old
   pub fills : Fills new.colours seen
@@ -113,48 +113,48 @@ TooMany old red green blue fault =
     × ((colours : List Parts) → Holds old colours
     → registers_in old < length (with_colour (distinct colours) (colour_of old.maxval red green blue)))
 
--- what the bytes to come make of the pixels that have these colours
+-- what the bytes to come make of the reading, after the pixels of these colours
 abbrev pub pixels_on : Samples → List Parts → List ℕ → Result PictureValue PpmFault
 pixels_on s colours rest = do
   all ← pixels (registers_in s) s.maxval s.left colours s.place rest
   Ok (picture_of (registers_in s) s.width s.height all)
 
--- the same, with the samples that are held
+-- the same, with the samples that are held back
 abbrev pub samples_on : Samples → List Parts → List ℕ → Result PictureValue PpmFault
 samples_on s colours rest = pixels_on s colours (partial_samples s.partial ++ rest)
 
--- a fault is that of a reading; memory was taken before the samples, and no device is met
+-- the fault is that of the reading; here it is neither `OutOfMemory` nor one of a device
 abbrev pub Refuses : PpmFault → Result PictureValue PpmFault → Type 0
 Refuses (Format reason place) result = result ≡ at_fault reason place
 Refuses fault result = ⊥
 
--- the samples of whole pixels were read
+-- reading these samples of whole pixels leads from `old` to `new`
 abbrev pub Leads : Samples → Samples → List ℕ → Type 0
 Leads old new samples =
     (colours : List Parts) → Holds old colours
     → (more : List Parts) × Holds new more × ((rest : List ℕ)
     → pixels_on old colours (samples ++ rest) ≡ pixels_on new more rest)
 
--- one of these samples is at fault, or the byte that follows the last one
+-- with these samples the reading ends in this fault, whatever follows
 abbrev pub Fails : Samples → PpmFault → List ℕ → Type 0
 Fails old fault samples =
     (colours : List Parts) → Holds old colours → (rest : List ℕ)
     → Refuses fault (pixels_on old colours (samples ++ rest))
 
--- these bytes were read
+-- reading these bytes leads from `old` to `new`
 abbrev pub LeadsOn : Samples → Samples → List ℕ → Type 0
 LeadsOn old new bytes =
     (colours : List Parts) → Holds old colours
     → (more : List Parts) × Holds new more × ((rest : List ℕ)
     → samples_on old colours (bytes ++ rest) ≡ samples_on new more rest)
 
--- one of these bytes is at fault
+-- with these bytes the reading ends in this fault, whatever follows
 abbrev pub FailsOn : Samples → PpmFault → List ℕ → Type 0
 FailsOn old fault bytes =
     (colours : List Parts) → Holds old colours → (rest : List ℕ)
     → Refuses fault (samples_on old colours (bytes ++ rest))
 
--- what is held with one sample more, which isn't the last one of a pixel
+-- the samples held back, with one more that doesn't complete the pixel
 abbrev pub IsNextPartial : PartialPixel → ℕ → PartialPixel → Type 0
 IsNextPartial Nothing sample partial = partial ≡ Red sample
 IsNextPartial (Red red) sample partial = partial ≡ RedGreen red sample
@@ -164,14 +164,14 @@ IsNextPartial (RedGreen red green) sample partial = ⊥
 abbrev pub budget : Samples → ℕ
 budget s = 3 * s.left - length (partial_samples s.partial)
 
--- the bytes up to the rest were read
+-- the bytes before `rest` were read
 pub record HasRead (old new : Samples) (bytes rest : List ℕ) : Type 0 where
   pub prefix : List ℕ
   pub joined : bytes ≡ prefix ++ rest
   pub fewer : budget new + length prefix ≡ budget old
   pub leads : LeadsOn old new prefix
 
--- no sample has come after the header, and there are so many registers
+-- no sample was read after the header, and there are `count` registers
 pub record Begins (count : ℕ) (header : Header) (s : Samples) : Type 0 where
   pub width : s.width ≡ header.width
   pub height : s.height ≡ header.height

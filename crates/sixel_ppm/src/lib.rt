@@ -1,4 +1,4 @@
-//! Pictures as PPM files.
+//! Pictures as PPM files (Netpbm, ppm(5)).
 #![tactic(auto)]
 
 pub mod laws;

@@ -1,4 +1,4 @@
-//! Pictures as files of Netpbm's PPM.
+//! Pictures as Netpbm PPM files.
 
 mod colours;
 mod header;
@@ -12,45 +12,45 @@ pub use read::read_ppm;
 use std::alloc::AllocError;
 pub use write::{write_ppm, write_ppm_colours};
 
-/// What is wrong at the first byte that no picture file of this profile goes on with.
+/// What is wrong at the first invalid byte of a picture file.
 ///
-/// The profile is Netpbm's raw PPM (`P6`) with one picture of 1 to 2,048 by 1 to 2,048 pixels, a
-/// maximum of 1 to 255, and a header of at most 65,536 bytes.
+/// The format is Netpbm's raw PPM (`P6`) with one picture of 1 to 2,048 by 1 to 2,048 pixels, a maximum of 1 to 255,
+/// and a header of at most 65,536 bytes.
 #[derive(Clone, Copy, Debug, PartialEq, Eq)]
 pub enum PpmReason {
-    /// A byte that may not stand there in the header, or the header has more than 65,536 bytes.
+    /// A byte that isn't allowed at its offset in the header, or a header of more than 65,536 bytes.
     Header = 1,
-    /// The width or the height is not from 1 to 2,048. The place is that of its first digit.
+    /// The width or the height isn't from 1 to 2,048 pixels. The offset is that of its first digit.
     Size = 2,
-    /// The maximum is not from 1 to 255. The place is that of its first digit.
+    /// The maximum isn't from 1 to 255. The offset is that of its first digit.
     Maxval = 3,
     /// A sample is above the maximum.
     Sample = 4,
-    /// The input ends before the last sample. The place is its length.
+    /// The input ends before the last sample. The offset is its length.
     Short = 5,
     /// A byte follows the last sample.
     Trailing = 6,
-    /// There are more colours than the profile has registers. The place is the first sample of the first pixel in the
-    /// 17th, or the 257th.
+    /// There are more colours than the profile has registers. The offset is that of the first sample of the first pixel
+    /// with the 17th colour, or the 257th.
     TooManyColours = 7,
 }
 
-/// Why a picture file was not written, or not read.
+/// Why a picture file wasn't written or read.
 #[derive(Clone, Copy, Debug, PartialEq, Eq)]
 pub enum PpmFault {
-    /// The bytes are no picture file.
+    /// The bytes aren't a picture file.
     Format {
         reason: PpmReason,
         /// The offset of the byte that the reason names, in bytes from 0.
         place: u64,
     },
-    /// A pixel's colour is one of hue, lightness and saturation, which a PPM has no place for.
+    /// The colour of a pixel is HLS, and a PPM has only RGB colours.
     NotRgb,
-    /// No memory was left for the pixels.
+    /// The allocation for the pixels failed.
     OutOfMemory,
-    /// The source failed.
+    /// A call of the source failed.
     Read,
-    /// The sink failed.
+    /// A call of the sink failed.
     Write,
 }
 

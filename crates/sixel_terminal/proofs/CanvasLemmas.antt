@@ -1,4 +1,4 @@
--- On the pixels of a screen while it is drawn on.
+-- The pixels of a screen during drawing.
 use Rattle.std.proofs.Common.{◌≡◌, ℕ, ◌+◌, ◌-◌, ◌*◌, ◌/◌, ◌%◌, ◌<◌, ◌≤◌, Bool, false, ◌&&◌, ◌||◌, cond, List, length}
 use Rattle.std.proofs.Common.{get_or, nat_le, nat_lt, refl, sym, ap, ◌∙◌, arith}
 use Rattle.std.proofs.Math.Bool.{and-false}
@@ -9,18 +9,18 @@ use Rattle.sixel_terminal.specs.declared.canvas.Ink.{Ink}
 use Rattle.sixel_terminal.specs.declared.canvas.Span.{Span}
 use Rattle.sixel_terminal.specs.Canvases.{black, is_in_span}
 
--- the rows of the span below n are filled
+-- the rows of the span that are below n are filled
 pub record IsFilledBelow (n w : ℕ) (columns rows : Span) (ink : Ink) (old new : List Ink) : Type 0 where
   pub long : length new ≡ length old
   pub pixels : (i : ℕ) → i < length old
       → get_or new i black
       ≡ cond (is_in_span columns (i % w) && (nat_le rows.start (i / w) && nat_lt (i / w) n)) ink (get_or old i black)
 
--- no number is from n on and below n
+-- no number is at least n and below n
 none_between : (n y : ℕ) → (nat_le n y && nat_lt y n) ≡ false
 none_between n y = grind (arith, nat_tests)
 
--- one row more
+-- one more row
 one_row_more : (s n y : ℕ) → s ≤ n
     → (nat_le s y && nat_lt y (n + 1)) ≡ ((nat_le n y && nat_lt y (n + 1)) || (nat_le s y && nat_lt y n))
 one_row_more s n y h = grind (arith, nat_tests)

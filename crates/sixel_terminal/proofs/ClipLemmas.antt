@@ -1,4 +1,4 @@
--- On what a terminal paints at a point that is counted from its origin, and on one that clips.
+-- What a terminal paints at a point from its origin, and terminals that clip.
 use Rattle.std.proofs.Common.{◌≡◌, ◌≤◌, ◌+◌, ◌-◌, ℕ, ◌∙◌, Some, List, refl, arith}
 use Rattle.std.specs.Prelude.{true, false}
 use Rattle.std.proofs.Math.Bool.{and-false}
@@ -10,7 +10,7 @@ use Rattle.sixel_terminal.specs.Displays.{Display}
 use Rattle.sixel_terminal.specs.Drawing.{is_kept_on, paint_at, paints_on, touches_on}
 use Rattle.sixel_terminal.specs.Laws.{ClippedIsUnpainted}
 
--- a point counted from the origin
+-- painting at a point from the origin
 pub at_origin : (t : Display) (before : List Event) (e : Event) (x y : ℕ)
     → paints_on t before e (t.choices.origin_x + x) (t.choices.origin_y + y) ≡ paint_at t before e x y
 unfolding paints_on

@@ -1,4 +1,4 @@
--- What stands before any event, and after one that is no command.
+-- The state before any event, and after an event that isn't a command.
 use Rattle.std.proofs.Common.{◌≡◌, ℕ, zero, suc, ◌+◌, ◌%◌, ◌<◌, ◌≤◌, Bool, true, false, Option, Some, None, List, []}
 use Rattle.std.proofs.Common.{◌∷◌, ◌++◌, length, take, get_or, map, refl, sym, ap, ◌∙◌, add-one, arith}
 use Rattle.std.specs.Prelude.{if◌then◌else◌}
@@ -62,7 +62,7 @@ none_chosen : (b : Bool) (e : Event) (n d : ℕ) → named_by e ≡ None → sel
 none_chosen true e n d h g = rw h refl
 none_chosen false e n d h g = rw g refl
 
--- an event that says nothing changes nothing
+-- an event without effect leaves the state as it is
 stands_same : (t : Display) (before : List Event) (p : Pen) (e : Event) (colours : List Parts) (inks : List Ink)
     → Runs t → StandsAfter t before p colours inks → is_return e ≡ false → is_next_line e ≡ false
     → columns_of t.choices.zero e ≡ 0 → raster_of e ≡ None → named_by e ≡ None → select_of e ≡ None
@@ -94,12 +94,12 @@ push_at [] i p lt e = absurd (omega arith)
 push_at (x ∷ xs) zero p lt e = ap (λ (q : Placed). q.event ∷ []) (sym e)
 push_at (x ∷ xs) (suc i) p lt e = ap (λ (es : List Event). x.event ∷ es) (push_at xs i p (omega arith) e)
 
--- the events before a position and the one there
+-- the events up to and including a position
 pub events_push : (events : List Placed) (i : ℕ) (p : Placed) → i < length events → p ≡ get_or events i p
     → events_of (take (i + 1) events) ≡ events_of (take i events) ++ p.event ∷ []
 events_push events i p lt e = rw add-one (push_at events i p lt e)
 
--- the whole list, where the position is past its end
+-- all of a list is taken if the count isn't below its length
 pub all_taken : {A : Type 0} (n : ℕ) (xs : List A) → length xs ≤ n → take n xs ≡ xs
 all_taken zero [] h = refl
 all_taken zero (x ∷ xs) h = absurd (omega arith)

@@ -1,4 +1,4 @@
--- On the ink of the pixels, and on the colours that it shows.
+-- The inks of the pixels, and the colours that they show.
 use Rattle.std.proofs.Common.{◌≡◌, ℕ, ◌-◌, ◌/◌, ◌%◌, ◌<◌, Bool, true, false, ◌&&◌, Option, Some, None, List, [], ◌∷◌}
 use Rattle.std.proofs.Common.{◌++◌, length, get_or, refl, sym, ap, ◌∙◌, arith}
 use Rattle.std.specs.Prelude.{unwrap_or, if◌then◌else◌}
@@ -24,7 +24,7 @@ use Rattle.sixel_terminal.proofs.PixelLemmas.{pen_paints}
 use Rattle.sixel_terminal.proofs.RunLemmas.{Runs}
 use Rattle.sixel_terminal.proofs.StandLemmas.{colour_push, ink_push, modulo_below, pen_push}
 
--- ---- the register that is painted is one of the terminal's
+-- ---- the painted register is one of the terminal's
 
 box_below : (n register x y r : ℕ) (o : Option Attributes) → register < n
     → option_and_then (λ a. then_some (is_in_box a x y) register) o ≡ Some r → r < n
@@ -59,7 +59,7 @@ paints_below t before e x y r runs h =
     (selected_on t before) t.choices.ground e _ _ r (selected_below t before runs.in_class.selected)
     runs.in_class.ground h
 
--- ---- one event more
+-- ---- one more event
 
 pub map_same : {A B : Type 0} (f g : A → B) (o : Option A)
     → ((a : A) → o ≡ Some a → f a ≡ g a) → option_map f o ≡ option_map g o
@@ -83,7 +83,7 @@ ink_step t before p colours inks e x y runs s wx wy lx ly =
     (λ r h. same_ink t before p colours inks r s (paints_below t before e x y r runs h)))
     ∙ sym (ink_push t before e x y)
 
--- what stands after one event more
+-- the state after one more event
 pub stands_push : (t : Display) (before : List Event) (p q : Pen) (e : Event) (colours colours' : List Parts)
     (inks inks' : List Ink)
     → Runs t → StandsAfter t before p colours inks

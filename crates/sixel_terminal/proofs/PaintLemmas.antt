@@ -1,4 +1,4 @@
--- On painting the pixels of a screen.
+-- Painting the pixels of a screen.
 use Rattle.std.proofs.Common.{◌≡◌, ◌==◌, ℕ, ◌+◌, ◌-◌, ◌*◌, ◌/◌, ◌%◌, ◌<◌, Bool, true, false, ◌&&◌, cond, List, length}
 use Rattle.std.proofs.Common.{get_or, min, nat_le, nat_lt, refl, sym, ap, ap₂, ◌∙◌, arith}
 use Rattle.std.specs.Int.{bit_at}
@@ -29,13 +29,13 @@ use Rattle.sixel_terminal.specs.Displays.{Display}
 use Rattle.sixel_terminal.specs.Steps.{bottom_edge, ink_after_event, ink_by_colours, is_before_edges, is_from_origin}
 use Rattle.sixel_terminal.specs.Steps.{pen_covers, right_edge}
 
--- the pixels of a span before an edge, counted from the origin
+-- the pixels of a span before an edge, from the origin
 span_from : (o l c edge x : ℕ)
     → is_in_span (span_of (o + l) c edge) x
     ≡ ((nat_le o x && nat_lt x edge) && (nat_le l (x - o) && nat_lt (x - o) (l + c)))
 span_from o l c edge x = grind (arith, nat_tests)
 
--- the same of a span that begins at the origin
+-- the same for a span that begins at the origin
 span_at : (o c w x : ℕ) → x < w → is_in_span (span_of o c w) x ≡ (nat_le o x && nat_lt (x - o) c)
 span_at o c w x lt = grind (arith, nat_tests)
 
@@ -45,7 +45,7 @@ and_cross true false true q = refl
 and_cross true false false q = refl
 and_cross false b p q = refl
 
--- the test that stands between two moves to the end
+-- moves a middle test to the end
 and_last : (f e c r : Bool) → ((f && e) && (c && r)) ≡ (f && ((c && r) && e))
 and_last true true true r = bool_cases r
   where
@@ -71,7 +71,7 @@ box_pixel t width height x y p q =
     ∙ and_cross (nat_le t.choices.origin_x x) (nat_le t.choices.origin_y y)
     (nat_lt (x - t.choices.origin_x) width) (nat_lt (y - t.choices.origin_y) height)
 
--- the pixels of a box that begins at the origin
+-- the pixels of a box at the origin
 pub box_pixels : (t : Display) (width height : ℕ) (columns rows : Span) (ink : Ink) (old new : List Ink)
     → length old ≡ t.choices.screen_width * t.choices.screen_height → 0 < t.choices.screen_width
     → columns ≡ span_of t.choices.origin_x width t.choices.screen_width
@@ -93,7 +93,7 @@ box_pixels t width height columns rows ink old new whole some across down filled
     (rw (across, down)
     (box_pixel t width height (i % t.choices.screen_width) (i / t.choices.screen_width) in_width in_height))
 
--- the pixels of the screen after the rows of the bits below n
+-- the pixels of the screen after painting the bits below n
 abbrev pub IsInkedBelow : ℕ → Display → Pen → ℕ → ℕ → Ink → List Ink → List Ink → Type 0
 IsInkedBelow n t p count bits ink old new =
     IsPaintedBelow n p.band p.height bits
@@ -158,7 +158,7 @@ empty_across : (o l c edge x : ℕ) → min (o + l) edge ≡ min (o + l + c) edg
     → ((nat_le o x && nat_lt x edge) && (nat_le l (x - o) && nat_lt (x - o) (l + c))) ≡ false
 empty_across o l c edge x empty = grind (arith, nat_tests)
 
--- what fails of the origin and the edge across, with the columns, fails with the rest too
+-- if the columns, the origin or the edge across exclude a pixel, all tests together do
 and_first : (a b e f c d : Bool) → ((a && e) && c) ≡ false → ((a && b) && ((c && d) && (e && f))) ≡ false
 and_first true true true f true d h = cc
 and_first true true true f false d h = refl
@@ -168,7 +168,7 @@ and_first true true false f false d h = refl
 and_first true false e f c d h = refl
 and_first false b e f c d h = refl
 
--- a pen that has no column before the edge paints nothing
+-- a pen with no column before the edge paints nothing
 pub off_screen : (t : Display) (p : Pen) (count bits : ℕ) (columns : Span) (ink : Ink) (xs : List Ink)
     → columns ≡ span_of (t.choices.origin_x + p.column) count (right_edge t p.declared)
     → columns.start ≡ columns.end

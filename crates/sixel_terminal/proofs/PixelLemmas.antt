@@ -1,4 +1,4 @@
--- A pen paints the pixels of the screen that the definitions name.
+-- A pen paints the pixels that the definitions say.
 use Rattle.std.proofs.Common.{◌≡◌, ◌==◌, ℕ, ◌+◌, ◌-◌, ◌*◌, ◌<◌, ◌≤◌, Bool, true, false, ◌&&◌, ◌||◌, cond, min, not}
 use Rattle.std.proofs.Common.{Option, Some, None, List, nat_le, nat_lt, refl, ap₂, arith}
 use Rattle.std.specs.Prelude.{if◌then◌else◌}
@@ -20,12 +20,12 @@ use Rattle.sixel_terminal.specs.Drawing.{height_of, is_kept_on, paint_at, paints
 use Rattle.sixel_terminal.specs.Standing.{IsPenAfter}
 use Rattle.sixel_terminal.specs.Steps.{is_before_edges, is_from_origin, most, painted_by, sides_of}
 
--- a stopped column is right of each pixel of a screen
+-- a stopped column is right of every pixel of a screen
 stopped_across : (l c x : ℕ) → x < most
     → (nat_le (min l most) x && nat_lt x (min l most + c)) ≡ (nat_le l x && nat_lt x (l + c))
 stopped_across l c x lt = grind (arith, nat_tests)
 
--- rows from high on, and from another row that is high too, hold no pixel of a screen
+-- two spans of rows that both begin below a pixel don't have it
 both_high : (p q h y : ℕ) → y < p → y < q
     → (nat_le p y && nat_lt y (p + h)) ≡ (nat_le q y && nat_lt y (q + h))
 both_high p q h y a b = grind (arith, nat_tests)
@@ -47,7 +47,7 @@ high_rows b k h y high some lt =
     both_high ((6 * min b most + k) * h) ((6 * b + k) * h) h y (omega (arith, stopped, high, lt))
     (omega (arith, whole, high, lt))
 
--- the rows of a stopped band hold the same pixels of a screen
+-- the rows of a stopped band have the same pixels of a screen
 stopped_rows : (b k h y : ℕ) → 1 ≤ h → y < most
     → (nat_le ((6 * min b most + k) * h) y && nat_lt y ((6 * min b most + k) * h + h))
     ≡ (nat_le ((6 * b + k) * h) y && nat_lt y ((6 * b + k) * h + h))
@@ -93,11 +93,11 @@ pen_covers t before p e x y s tall lx ly =
 both_below : (x w y h : ℕ) → x < w → y < h → (nat_lt x w && nat_lt y h) ≡ true
 both_below x w y h p q = grind (arith, nat_tests)
 
--- before the end of a screen, the end of a box that begins at an origin is that of the box
+-- inside a screen, the end of a box that begins at the origin is the box's own end
 below_end : (o side w x : ℕ) → x < w → o ≤ x → nat_lt x (min w (o + side)) ≡ nat_lt (x - o) side
 below_end o side w x p q = grind (arith, nat_tests)
 
--- before the edges is inside the box of raster attributes, where the terminal clips to one
+-- a pixel of the screen is before the edges exactly if the terminal doesn't clip, or it is in the box, if there is one
 edges_keep : (clips : Bool) (ox oy w h x y : ℕ) (o : Option Attributes) → x < w → y < h → ox ≤ x → oy ≤ y
     → (nat_lt x (if clips then option_map_or (λ (s : Sides). min w (ox + s.width)) (option_map sides_of o) w else w)
     && nat_lt y (if clips then option_map_or (λ (s : Sides). min h (oy + s.height)) (option_map sides_of o) h else h))
@@ -107,7 +107,7 @@ edges_keep true ox oy w h x y None p q f g = both_below x w y h p q
 edges_keep true ox oy w h x y (Some a) p q f g =
     ap₂ (λ u v. u && v) (below_end ox a.width w x p f) (below_end oy a.height h y q g)
 
--- a pixel of the screen from the origin on is before the edges exactly where a data command may paint it
+-- a pixel of the screen from the origin on is before the edges exactly if data commands may paint it
 pen_keeps : (t : Display) (before : List Event) (p : Pen) (x y : ℕ) → IsPenAfter t before p
     → x < t.choices.screen_width → y < t.choices.screen_height → is_from_origin t x y ≡ true
     → is_before_edges t p.declared x y ≡ is_kept_on t before (x - t.choices.origin_x) (y - t.choices.origin_y)

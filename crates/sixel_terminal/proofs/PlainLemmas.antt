@@ -1,4 +1,4 @@
--- On lists without a repeat of 0, in which both numbers of each ratio are 1.
+-- Lists with no repeat of 0 in which each ratio is given as 1 to 1.
 use Rattle.std.proofs.Common.{◌≡◌, ℕ, Bool, true, false, cond, Option, Some, None, List, [], ◌∷◌, take, refl}
 use Rattle.std.specs.Prelude.{◌==◌, if◌then◌else◌, IfSome, IsFalse, IsSome, IsTrue}
 use Rattle.std.specs.List.{AllByRecursion}
@@ -19,7 +19,7 @@ no_zero : (z count : ℕ) (b : Bool) → b ≡ false → cond b z count ≡ cond
 no_zero z count true h = cc
 no_zero z count false h = refl
 
--- an event that is no repeat of 0 has the same columns on each terminal
+-- an event other than a repeat of 0 has the same columns on each terminal
 columns_same : (z : ℕ) (e : Event) → IsFalse (is_repeat_of_zero e) → columns_of z e ≡ columns_of 0 e
 columns_same z (Step (Repeat count bits)) h = no_zero z count (count == 0) h
 columns_same z _ h = refl
@@ -39,7 +39,7 @@ height_square : (tall : ℕ) (o : Option Attributes) → IsSome o → IfSome o (
 height_square tall (Some a) s h = rw h refl
 height_square tall None s h = cc
 
--- a sixel pixel has the height 1 after raster attributes, where all of them are square
+-- after raster attributes, all of them square, the height of a sixel pixel is 1
 height_one : (t : Display) (before : List Event)
     → AllByRecursion (λ e. IfSome (raster_of e) (λ a. IsTrue (is_square a))) before
     → IsSome (raster_before before) → height_of t before ≡ 1

@@ -8,7 +8,7 @@ use Rattle.sixel_terminal.specs.Displays.{Display}
 use Rattle.sixel_terminal.specs.Limits.{display_of}
 use Rattle.sixel_terminal.specs.Laws.{SomeTerminalHasRoom}
 
--- one pixel wider and higher than the box, which begins at its top left, so that an empty box has an origin too
+-- a screen one pixel wider and higher than the box at its top left, so that even an empty box has an origin
 abbrev roomy_choices : ℕ → ℕ → Choices
 roomy_choices width height = record {
   binds_at_showing = false;

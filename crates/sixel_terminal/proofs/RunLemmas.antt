@@ -1,4 +1,4 @@
--- What is known of a terminal that runs.
+-- What holds for every `Terminal`.
 use Rattle.std.proofs.Common.{◌≡◌, ◌==◌, ℕ, zero, suc, ◌*◌, ◌≤◌, Bool, true, false, ◌&&◌, not, nat_le, nat_lt, Option}
 use Rattle.std.proofs.Common.{Some, None, List, length, refl, subst, arith}
 use Rattle.std.specs.Prelude.{if◌then◌else◌}
@@ -10,7 +10,7 @@ use Rattle.sixel_terminal.specs.declared.choices.Ground.TheVariants.{Kept, Fille
 use Rattle.sixel_terminal.specs.Displays.{Display, IsGroundBelow, IsInClass, registers_of}
 use Rattle.sixel_terminal.specs.Limits.{display_of, is_ground_below, is_screen_side, terminal_fault, most_screen_side}
 
--- it is in the class, and its screen is no larger than a terminal that runs may have
+-- the terminal is in the class, and its screen isn't larger than a `Terminal` may have
 pub record Runs (t : Display) : Type 0 where
   pub in_class : IsInClass 16 t
   pub width : t.choices.screen_width ≤ most_screen_side
@@ -67,12 +67,12 @@ runs choices colours screen h =
       height = leb-true _ _ down.1;
     }
 
--- what contracts see of a terminal runs
+-- the view of a `Terminal` satisfies `Runs`
 pub runs_seen : (t : Display) (choices : Choices) (colours screen : List Parts) → display_of choices colours screen ≡ t
     → terminal_fault choices colours screen ≡ None → Runs t
 runs_seen t choices colours screen same h = subst (λ (d : Display). Runs d) same (runs choices colours screen h)
 
--- a terminal of the class for pictures of some count of registers is one for each count up to its own
+-- a terminal of the class for n registers is in it for any count up to its own
 pub in_class_up_to : (registers n : ℕ) (t : Display) → IsInClass n t → registers ≤ registers_of t
     → IsInClass registers t
 in_class_up_to registers n t known few = record {

@@ -1,4 +1,4 @@
--- What is kept after all events is what is shown.
+-- The terminal shows what it stores after all events.
 use Rattle.std.proofs.Common.{◌≡◌, ℕ, zero, suc, ◌+◌, ◌*◌, ◌/◌, ◌%◌, ◌<◌, Bool, true, false, ◌||◌, Option, Some, None}
 use Rattle.std.proofs.Common.{List, [], ◌∷◌, length, take, get_or, map, refl, sym, ap, ◌∙◌, arith}
 use Rattle.std.specs.Prelude.{slice_get, unwrap_or, IsSome, if◌then◌else◌}
@@ -45,7 +45,7 @@ map_then : {X A B : Type 0} (f : A → B) (g : X → Option A) (o : Option X)
 map_then f g None = refl
 map_then f g (Some x) = refl
 
--- f of what the last position gives, where f of each is h
+-- f of the last result of g is the last result of h, if h is f after g
 map_last : {X A B : Type 0} (f : A → B) (g : List X → X → Option A) (h : List X → X → Option B) (xs : List X)
     → ((before : List X) (x : X) → option_map f (g before x) ≡ h before x)
     → option_map f (last_at g xs) ≡ last_at h xs
@@ -99,7 +99,7 @@ pixel_shows t events colours x y runs seen s =
     (map_last (shown_in colours) (inked_by t x y) (inked_on t events x y) events
     (λ before e. painting_shows t events colours x y before e runs seen s))
 
--- the colours of all pixels, where the terminal sees the string
+-- the colours of all pixels, if the terminal sees the string
 pub all_shown : (t : Display) (events : List Event) (p : Pen) (colours : List Parts) (inks : List Ink) → Runs t
     → is_seen_on t events ≡ true → StandsAfter t events p colours inks
     → map (shown_in colours) inks ≡ screen_on t events
@@ -130,7 +130,7 @@ none_then : {X A : Type 0} (f : X → Option A) (o : Option X) → ((x : X) → 
 none_then f None h = refl
 none_then f (Some x) h = h x
 
--- where nothing is given at any position, none is the last
+-- if no position has a result, there is no last one
 none_at : {X A : Type 0} (f : List X → X → Option A) (xs : List X) → ((before : List X) (x : X) → f before x ≡ None)
     → last_at f xs ≡ None
 unfolding last_at at_position
@@ -143,7 +143,7 @@ unseen_pixel t events x y unseen =
     ap (λ o. unwrap_or o (get_or t.screen (y * t.choices.screen_width + x) (Rgb 0 0 0)))
     (none_at (inked_on t events x y) events (λ before e. rw unseen refl))
 
--- a terminal that doesn't see the string shows what stood on its screen
+-- a terminal that doesn't see the string shows what was on its screen before
 pub unseen_screen : (t : Display) (events : List Event) → Runs t → is_seen_on t events ≡ false
     → t.screen ≡ screen_on t events
 unfolding screen_on
@@ -160,7 +160,7 @@ none_of : {A B : Type 0} (f : A → B) (o : Option A) → (IsSome o → ⊥) →
 none_of f None h = refl
 none_of f (Some a) h = absurd (h refl)
 
--- a pixel that no event paints shows what stood there
+-- a pixel that no event paints shows what was there before
 pub unpainted : (t : Display) (events : List Event) (x y : ℕ) → ¬ IsPainted t events x y
     → shown_on t events x y ≡ stood_on t x y
 unfolding shown_on IsPainted last_at at_position

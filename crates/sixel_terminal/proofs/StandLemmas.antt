@@ -1,4 +1,4 @@
--- What a terminal that draws keeps after one event more.
+-- What a terminal stores after one more event.
 use Rattle.std.proofs.Common.{◌≡◌, ℕ, ◌+◌, ◌*◌, ◌%◌, ◌<◌, Bool, true, false, cond, min, Option, Some, None, List, []}
 use Rattle.std.proofs.Common.{◌∷◌, ◌++◌, get_or, refl, sym, ap, ◌∙◌, arith}
 use Rattle.std.specs.Prelude.{unwrap_or, if◌then◌else◌}
@@ -26,7 +26,7 @@ pub map_or : {A B : Type 0} (f : A → B) (o p : Option A)
 map_or f None p = refl
 map_or f (Some a) p = refl
 
--- the value of the first that has one, and a default
+-- a result of the first option that has one, or a default
 map_or_or : {A B : Type 0} (f : A → B) (o p : Option A) (d : B)
     → option_map_or f (option_or o p) d ≡ option_map_or f o (option_map_or f p d)
 map_or_or f None p d = refl
@@ -36,7 +36,7 @@ pub unwrap_or_or : {A : Type 0} (o p : Option A) (d : A) → unwrap_or (option_o
 unwrap_or_or None p d = refl
 unwrap_or_or (Some x) p d = refl
 
--- a column that stops at the greatest
+-- a column that stops at the greatest one
 stopped : (b : Bool) (c w : ℕ) → cond b 0 (min (min c most + w) most) ≡ min (cond b 0 (c + w)) most
 stopped true c w = omega arith
 stopped false c w = omega arith
@@ -48,7 +48,7 @@ pub modulo_below : (n d : ℕ) (o : Option ℕ) → d < n → option_map_or (λ 
 modulo_below n d None h = h
 modulo_below n d (Some r) h = mod_below r n (omega arith)
 
--- the pen after one event more
+-- the pen after one more event
 pub pen_push : (t : Display) (before : List Event) (p q : Pen) (e : Event) → IsPenAfter t before p
     → q.column ≡ next_column t p e → q.band ≡ next_band p e → q.height ≡ next_height t p e
     → q.declared ≡ next_declared p e → q.selected ≡ next_selected t p e → IsPenAfter t (before ++ e ∷ []) q
@@ -81,7 +81,7 @@ pen_push t before p q e s c b h d sel = record {
       rw sel (modulo_below (registers_of t) p.selected (f e) s.selected_below);
 }
 
--- the colours after one event more
+-- the colours after one more event
 pub colour_push : (t : Display) (before : List Event) (e : Event) (r : ℕ)
     → map_on t (before ++ e ∷ []) r ≡ unwrap_or (defined_on t r e) (map_on t before r)
 unfolding map_on
@@ -89,7 +89,7 @@ colour_push t before e r =
     ap (λ o. unwrap_or o (get_or t.colours r (Rgb 0 0 0))) (latest_push (defined_on t r) before e)
     ∙ unwrap_or_or (defined_on t r e) (latest (defined_on t r) before) (get_or t.colours r (Rgb 0 0 0))
 
--- the ink of a pixel after one event more
+-- the ink of a pixel after one more event
 pub ink_push : (t : Display) (before : List Event) (e : Event) (x y : ℕ)
     → ink_at_point t (before ++ e ∷ []) x y ≡ unwrap_or (inked_by t x y before e) (ink_at_point t before x y)
 unfolding ink_at_point

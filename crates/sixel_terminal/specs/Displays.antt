@@ -15,29 +15,29 @@ pub record Display : Type 0 where
 abbrev pub registers_of : Display → ℕ
 registers_of t = length t.colours
 
--- these choices, but of a terminal that clips (true) or doesn't (false)
+-- the same choices, but the terminal clips (true) or doesn't (false)
 abbrev pub with_clips : Bool → Choices → Choices
 with_clips clips c = record c { clips = clips }
 
--- these choices, but with 8-bit controls (true) or without (false)
+-- the same choices, but with 8-bit controls (true) or without (false)
 abbrev pub with_eight_bit : Bool → Choices → Choices
 with_eight_bit eight_bit c = record c { eight_bit = eight_bit }
 
--- this terminal, but with 8-bit controls (true) or without (false)
+-- the same terminal, but with 8-bit controls (true) or without (false)
 abbrev pub with_controls : Bool → Display → Display
 with_controls eight_bit t = record t { choices = with_eight_bit eight_bit t.choices }
 
--- this terminal, but clipping (true) or not (false)
+-- the same terminal, but clipping (true) or not (false)
 abbrev pub clipping : Bool → Display → Display
 clipping clips t = record t { choices = with_clips clips t.choices }
 
--- the register of a filled ground is one of so many
+-- the register of a filled ground is below `registers`
 abbrev pub IsGroundBelow : ℕ → Ground → Type 0
 IsGroundBelow registers Kept = Unit {0}
 IsGroundBelow registers (Filled register) = register < registers
 
--- the terminal belongs to the class for pictures of so many registers
--- it may have more of them, a screen of any size, and any colours, even such as are out of range
+-- the terminal belongs to the class for pictures with `registers` registers.
+-- It may have more of them, a screen of any size, and any colours, even some out of range
 pub record IsInClass (registers : ℕ) (t : Display) : Type 0 where
   pub enough : registers ≤ registers_of t
   pub selected : t.choices.selected < registers_of t
@@ -48,7 +48,7 @@ pub record IsInClass (registers : ℕ) (t : Display) : Type 0 where
   pub origin_x : t.choices.origin_x < t.choices.screen_width
   pub origin_y : t.choices.origin_y < t.choices.screen_height
 
--- a box of this size, which begins at the origin, lies on the screen
+-- a box of this size, which begins at the origin, fits on the screen
 pub record HasRoom (t : Display) (width height : ℕ) : Type 0 where
   pub across : t.choices.origin_x + width ≤ t.choices.screen_width
   pub down : t.choices.origin_y + height ≤ t.choices.screen_height

@@ -1,5 +1,5 @@
--- What a terminal shows after a list of events. Columns and rows are counted in pixels of the screen from its top left,
--- points from the origin of the picture.
+-- What a terminal shows after a list of events. Columns and rows are in pixels of the screen, from its top left. Points
+-- are in the same pixels, from the origin of the picture.
 use Rattle.std.specs.Prelude.{◌==◌, ◌&&◌, ◌||◌, ℕ, ◌+◌, ◌-◌, ◌*◌, ◌%◌, Bool, true, not, nat_le, Option, Some, None}
 use Rattle.std.specs.Prelude.{IsSome, List, slice_index_or, unwrap_or, if◌then◌else◌}
 use Rattle.std.specs.Bool.{then_some}
@@ -19,35 +19,35 @@ use Rattle.sixel_terminal.specs.declared.choices.Ground.{Ground}
 use Rattle.sixel_terminal.specs.declared.choices.Ground.TheVariants.{Kept, Filled}
 use Rattle.sixel_terminal.specs.Displays.{Display, registers_of}
 
--- the height of one sixel pixel: 1 where both numbers of the ratio in the last raster attributes before are 1, else the
+-- the height of a sixel pixel: 1 if the last raster attributes before give the ratio as 1 to 1, otherwise the
 -- terminal's own
 unfoldable pub height_of : Display → List Event → ℕ
 height_of t before =
     option_map_or (λ (a : Attributes). if is_square a then 1 else t.choices.tall) (latest raster_of before)
     t.choices.tall
 
--- the event is a data command that touches the point
+-- the event is a data command that covers the point
 unfoldable pub touches_on : Display → List Event → Event → ℕ → ℕ → Bool
 touches_on t before e x y = touches t.choices.zero (height_of t before) before e x y
 
--- the point isn't cut off: on a terminal that clips, data commands paint the points of the box of the first raster
--- attributes before alone, if there are any
+-- the point isn't clipped: on a terminal that clips, data commands paint only in the box of the first raster attributes
+-- before them, if there are any
 unfoldable pub is_kept_on : Display → List Event → ℕ → ℕ → Bool
 is_kept_on t before x y =
     not t.choices.clips || option_map_or (λ a. is_in_box a x y) (raster_before before) true
 
--- the terminal sees the string: it has 8-bit controls, or no start and no finish of the string is such a control
+-- the terminal sees the string: it has 8-bit controls, or the string has no 8-bit start or finish
 unfoldable pub is_seen_on : Display → List Event → Bool
 is_seen_on t events = t.choices.eight_bit || not (list_any is_eight_bit events)
 
--- the selected register: that of the last select before, or of the last select or definition where a definition selects
--- too, modulo the count of registers; where there is none, the register selected at the start
+-- the selected register: that of the last select, or of the last select or definition if definitions select too, modulo
+-- the count of registers; without one, the register selected at the start
 unfoldable pub selected_on : Display → List Event → ℕ
 selected_on t before =
     option_map_or (λ r. r % registers_of t) (latest (if t.choices.selects then named_by else select_of) before)
     t.choices.selected
 
--- a colour as the terminal takes it: one out of range is clamped, or it is none
+-- a colour as the terminal takes it: out of range, it is clamped or gives none
 abbrev pub taken_on : Display → Parts → Option Parts
 taken_on t c = if is_colour c then Some c else if t.choices.clamps then Some (clamped c) else None
 
@@ -55,17 +55,17 @@ taken_on t c = if is_colour c then Some c else if t.choices.clamps then Some (cl
 abbrev pub given_on : Display → Definition → Option Parts
 given_on t d = option_and_then (taken_on t) (colour_in d.system d.x d.y d.z)
 
--- the colour that the event gives the register, if it defines it, its number taken modulo the count of registers
+-- the colour that the event gives the register, if it defines it; the number is taken modulo the count of registers
 abbrev pub defined_on : Display → ℕ → Event → Option Parts
 defined_on t register e =
     option_and_then (given_on t) (definition_where (λ r. (r % registers_of t) == register) e)
 
--- the colour of a register: that of its last definition before that gives one, or the one it starts with
+-- the colour of a register: from its last definition that gives one, otherwise the starting colour
 unfoldable pub map_on : Display → List Event → ℕ → Parts
 map_on t before register =
     unwrap_or (latest (defined_on t register) before) (slice_index_or t.colours register (Rgb 0 0 0))
 
--- the register in which the event fills the point: that of a filled ground, in the box of raster attributes
+-- the register in which the event fills the point: raster attributes fill their box on a filled ground
 abbrev pub filled_on : Ground → Event → ℕ → ℕ → Option ℕ
 filled_on Kept e x y = None
 filled_on (Filled register) e x y = option_and_then (λ a. then_some (is_in_box a x y) register) (raster_of e)
@@ -77,14 +77,14 @@ paint_at t before e x y =
     then Some (selected_on t before)
     else filled_on t.choices.ground e x y
 
--- the register in which the event paints the pixel, which need not lie on the screen, if the terminal sees the string
+-- the register in which the event paints the pixel, on the screen or off it, if the terminal sees the string
 unfoldable pub paints_on : Display → List Event → Event → ℕ → ℕ → Option ℕ
 paints_on t before e x y =
     if nat_le t.choices.origin_x x && nat_le t.choices.origin_y y
     then paint_at t before e (x - t.choices.origin_x) (y - t.choices.origin_y)
     else None
 
--- the register in which an event of the list paints the pixel: none paints what the terminal doesn't see
+-- the same for an event of the list `events`: nothing is painted if the terminal doesn't see the list
 abbrev pub paints_in : Display → List Event → List Event → Event → ℕ → ℕ → Option ℕ
 paints_in t events before e x y = if is_seen_on t events then paints_on t before e x y else None
 
@@ -93,17 +93,17 @@ unfoldable pub IsPainted : Display → List Event → ℕ → ℕ → Type 0
 IsPainted t events x y =
     (i : ℕ) × HoldsAtPosition (λ before e. IsSome (paints_in t events before e x y)) events i
 
--- the colour of the register in which the event paints the pixel, if it does: the colour at its painting, or at the end
+-- the colour in which the event paints the pixel, if it does: the colour of its register at that moment, or at the end
 -- of the events
 abbrev pub inked_on : Display → List Event → ℕ → ℕ → List Event → Event → Option Parts
 inked_on t events x y before e =
     option_map (map_on t (if t.choices.binds_at_showing then events else before)) (paints_in t events before e x y)
 
--- the colour that stood at a pixel of the screen before the events
+-- the colour of a pixel of the screen before the events
 abbrev pub stood_on : Display → ℕ → ℕ → Parts
 stood_on t x y = slice_index_or t.screen (y * t.choices.screen_width + x) (Rgb 0 0 0)
 
--- the colour shown at a pixel of the screen: that of the last painting, or the one that stood there
+-- the colour that a pixel of the screen shows: that of the last painting, or the one before the events
 unfoldable pub shown_on : Display → List Event → ℕ → ℕ → Parts
 shown_on t events x y = unwrap_or (last_at (inked_on t events x y) events) (stood_on t x y)
 

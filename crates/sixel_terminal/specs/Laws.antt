@@ -13,17 +13,17 @@ use Rattle.sixel_terminal.specs.Displays.{Display, HasRoom, IsInClass, registers
 use Rattle.sixel_terminal.specs.Drawing.{IsPainted, paints_on, selected_on, shown_on, stood_on, touches_on}
 use Rattle.sixel_terminal.specs.Limits.{display_of, terminal_fault}
 
--- for pictures of any count of registers and any size, some terminal of the class has room
+-- for any count of registers and any size of a picture, some terminal of the class has room
 abbrev pub SomeTerminalHasRoom : Type 0
 SomeTerminalHasRoom = (registers width height : ℕ) → (t : Display) × IsInClass registers t × HasRoom t width height
 
--- parts in which there is no fault make a terminal of the class, for pictures of any count of registers up to its own
+-- parts without a fault make a terminal of the class, for pictures with at most as many registers as it has
 abbrev pub TerminalsAreInClass : Type 0
 TerminalsAreInClass =
     (registers : ℕ) (choices : Choices) (colours screen : List Parts) → terminal_fault choices colours screen ≡ None
     → registers ≤ length colours → IsInClass registers (display_of choices colours screen)
 
--- there is no repeat of 0, and both numbers of each ratio are 1
+-- there is no repeat of 0, and each ratio is given as 1 to 1
 pub record IsPlain (events : List Event) : Type 0 where
   pub no_repeat_of_zero : AllByRecursion (λ e. IsFalse (is_repeat_of_zero e)) events
   pub square : AllByRecursion (λ e. IfSome (raster_of e) (λ a. IsTrue (is_square a))) events
@@ -39,12 +39,12 @@ abbrev pub KnownIsSelected : Type 0
 KnownIsSelected =
     (t : Display) (before : List Event) (r : ℕ) → known before ≡ Some r → r < registers_of t → selected_on t before ≡ r
 
--- a pixel that no event paints shows what stood there
+-- a pixel that no event paints shows what was there before
 abbrev pub UnpaintedStays : Type 0
 UnpaintedStays =
     (t : Display) (events : List Event) (x y : ℕ) → ¬ IsPainted t events x y → shown_on t events x y ≡ stood_on t x y
 
--- a terminal without 8-bit controls paints nothing of a list in which a start or a finish is one
+-- a terminal without 8-bit controls paints nothing of a list with an 8-bit start or finish
 abbrev pub UnseenIsUnpainted : Type 0
 UnseenIsUnpainted =
     (t : Display) (events : List Event) (x y : ℕ) → t.choices.eight_bit ≡ false

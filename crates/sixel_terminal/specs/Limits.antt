@@ -1,4 +1,4 @@
--- What a terminal that runs is made of. Its limits on the screen and on the registers are no limits of the class.
+-- The parts of a `Terminal`. Its limits on the screen and on the registers aren't limits of the class.
 use Rattle.std.specs.Prelude.{◌==◌, ◌&&◌, ℕ, ◌*◌, Bool, true, not, nat_le, nat_lt, Option, Some, None, List, length}
 use Rattle.std.specs.Prelude.{if◌then◌else◌}
 use Rattle.sixel_model.specs.declared.colour.Parts.{Parts}
@@ -14,12 +14,12 @@ use Rattle.sixel_terminal.specs.Displays.{Display}
 abbrev pub display_of : Choices → List Parts → List Parts → Display
 display_of choices colours screen = record { choices = choices; colours = colours; screen = screen }
 
--- the register of a filled ground is one of so many
+-- the register of a filled ground is below `registers`
 abbrev pub is_ground_below : ℕ → Ground → Bool
 is_ground_below registers Kept = true
 is_ground_below registers (Filled register) = nat_lt register registers
 
--- the greatest side of a screen, in pixels: a screen can be written as a file
+-- the greatest side of a screen, in pixels: a screen can be written as a PPM
 abbrev pub most_screen_side : ℕ
 most_screen_side = 4096
 
@@ -32,7 +32,7 @@ is_screen choices screen =
     is_screen_side choices.screen_width && is_screen_side choices.screen_height
     && (length screen == choices.screen_width * choices.screen_height)
 
--- the first reason why the parts make no terminal
+-- the first reason why the parts don't make a terminal
 abbrev pub terminal_fault : Choices → List Parts → List Parts → Option TerminalReason
 terminal_fault choices colours screen =
     if not (nat_le 16 (length colours) && nat_le (length colours) 256) then Some Registers

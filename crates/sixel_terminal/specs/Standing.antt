@@ -1,5 +1,5 @@
--- What a terminal that draws keeps after a list of events. Private contracts alone cite these words: what a terminal
--- shows is said in Drawing.
+-- What a terminal stores after a list of events. Only contracts of private functions cite these. Drawing defines what a
+-- terminal shows.
 use Rattle.std.specs.Prelude.{◌≡◌, ◌<◌, ℕ, ◌+◌, ◌*◌, ◌/◌, ◌%◌, List, Option, length, min, slice_index_or, unwrap_or}
 use Rattle.std.specs.Prelude.{if◌then◌else◌}
 use Rattle.std.specs.Option.{option_map}
@@ -17,11 +17,11 @@ use Rattle.sixel_terminal.specs.Displays.{Display, registers_of}
 use Rattle.sixel_terminal.specs.Drawing.{height_of, map_on, paints_on, selected_on}
 use Rattle.sixel_terminal.specs.Steps.{most, sides_of}
 
--- what is painted in a register
+-- the ink for painting in a register
 abbrev pub ink_in_register : Display → List Event → ℕ → Ink
 ink_in_register t before r = if t.choices.binds_at_showing then Bound r else Fixed (map_on t before r)
 
--- the ink of a pixel that an event paints, where the terminal sees the string
+-- the ink in which an event paints the pixel, if the terminal sees the string
 abbrev pub inked_by : Display → ℕ → ℕ → List Event → Event → Option Ink
 inked_by t x y before e = option_map (ink_in_register t before) (paints_on t before e x y)
 
@@ -39,7 +39,7 @@ pub record IsPenAfter (t : Display) (before : List Event) (p : Pen) : Type 0 whe
   pub selected_is : p.selected ≡ selected_on t before
   pub selected_below : p.selected < registers_of t
 
--- the pen, the colour of each register and the ink of each pixel after the events
+-- the pen, the colour of each register, and the ink of each pixel are those after the events
 pub record StandsAfter (t : Display) (before : List Event) (p : Pen) (colours : List Parts)
     (inks : List Ink) : Type 0 where
   pub pen : IsPenAfter t before p
@@ -49,7 +49,7 @@ pub record StandsAfter (t : Display) (before : List Event) (p : Pen) (colours : 
   pub inks_are : (i : ℕ) → i < t.choices.screen_width * t.choices.screen_height
       → slice_index_or inks i black ≡ ink_at_point t before (i % t.choices.screen_width) (i / t.choices.screen_width)
 
--- the colour that an ink shows, where the registers have these colours
+-- the colour that an ink shows if the registers have these colours
 abbrev pub shown_in : List Parts → Ink → Parts
 shown_in colours (Fixed c) = c
 shown_in colours (Bound r) = slice_index_or colours (r % length colours) (Rgb 0 0 0)

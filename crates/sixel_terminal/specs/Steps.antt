@@ -1,5 +1,5 @@
--- What one event does to what is drawn. Private contracts alone cite these words: what a terminal shows is said in
--- Drawing, and none of its words is by steps.
+-- What one event does to what a terminal stores. Only contracts of private functions cite these. Drawing defines what a
+-- terminal shows, without steps.
 use Rattle.std.specs.Prelude.{◌&&◌, ℕ, ◌+◌, ◌-◌, ◌%◌, ◌^◌, Bool, List, Option, Some, None, min, nat_le, nat_lt}
 use Rattle.std.specs.Prelude.{slice_index_or, unwrap_or, if◌then◌else◌}
 use Rattle.std.specs.Option.{option_map, option_map_or, option_or}
@@ -16,7 +16,7 @@ use Rattle.sixel_terminal.specs.declared.pen.Sides.{Sides}
 use Rattle.sixel_terminal.specs.Displays.{Display, registers_of}
 use Rattle.sixel_terminal.specs.Drawing.{filled_on}
 
--- the greatest column or band of a pen, which is off the screen of each terminal that runs
+-- the greatest column or band of a pen, which is off the screen of every `Terminal`
 abbrev pub most : ℕ
 most = 2 ^ 32 - 1
 
@@ -41,8 +41,8 @@ sides_of a = record { width = a.width; height = a.height }
 abbrev pub next_declared : Pen → Event → Option Sides
 next_declared p e = option_or p.declared (option_map sides_of (raster_of e))
 
--- the column and the row from which on a data command paints nothing: the end of the screen, or where the terminal
--- clips that of the declared box, if it comes first
+-- the column and the row where data commands stop painting: the end of the screen, or the end of the declared box if
+-- the terminal clips and the box ends first
 abbrev pub right_edge : Display → Option Sides → ℕ
 right_edge t declared =
     if t.choices.clips
@@ -57,7 +57,7 @@ bottom_edge t declared =
     t.choices.screen_height
     else t.choices.screen_height
 
--- the pixel lies before both edges
+-- the pixel is before both edges
 abbrev pub is_before_edges : Display → Option Sides → ℕ → ℕ → Bool
 is_before_edges t declared x y = nat_lt x (right_edge t declared) && nat_lt y (bottom_edge t declared)
 
@@ -65,14 +65,14 @@ is_before_edges t declared x y = nat_lt x (right_edge t declared) && nat_lt y (b
 abbrev pub is_from_origin : Display → ℕ → ℕ → Bool
 is_from_origin t x y = nat_le t.choices.origin_x x && nat_le t.choices.origin_y y
 
--- a pen paints the pixel with these bits in so many columns
+-- a data command of `count` columns with these bits paints the pixel
 abbrev pub pen_covers : Display → Pen → ℕ → ℕ → ℕ → ℕ → Bool
 pen_covers t p count bits x y =
     is_from_origin t x y
     && (covers p.column count p.band p.height bits (x - t.choices.origin_x) (y - t.choices.origin_y)
     && is_before_edges t p.declared x y)
 
--- the pixel lies in a box of this size that begins at the origin
+-- the pixel is in a box of this size at the origin
 abbrev pub box_covers : Display → ℕ → ℕ → ℕ → ℕ → Bool
 box_covers t width height x y =
     is_from_origin t x y && (nat_lt (x - t.choices.origin_x) width && nat_lt (y - t.choices.origin_y) height)
@@ -88,7 +88,7 @@ painted_by t p e x y =
     else filled_on t.choices.ground e (x - t.choices.origin_x) (y - t.choices.origin_y)
     else None
 
--- what is painted in a register that has one of these colours
+-- the ink for painting in a register, if the registers have these colours
 abbrev pub ink_by_colours : Display → List Parts → ℕ → Ink
 ink_by_colours t colours r = if t.choices.binds_at_showing then Bound r else Fixed
     (slice_index_or colours r (Rgb 0 0 0))

@@ -1,4 +1,4 @@
-//! The pixels of a screen while it is drawn on.
+//! The pixels of a screen during drawing.
 
 ghost use Rattle.std.specs.Prelude.{◌≡◌, ◌≤◌, ◌<◌, ◌+◌, ◌*◌, ◌/◌, ◌%◌, ◌&&◌, ◌^◌, nat_le, nat_lt, EachIndex, length};
 ghost use Rattle.std.specs.Prelude.{slice_index_or, if◌then◌else◌};
@@ -15,7 +15,7 @@ pub(crate) enum Ink {
     Bound(u16),
 }
 
-/// Some columns or rows of the screen that stand side by side: from `start` on, before `end`.
+/// Adjacent columns or rows of the screen, from `start` up to `end`.
 #[derive(Clone, Copy, Debug)]
 pub(crate) struct Span {
     pub start: usize,
@@ -23,7 +23,7 @@ pub(crate) struct Span {
 }
 
 impl Span {
-    /// So many from `start` on, of those below `limit`.
+    /// `count` columns or rows from `start` on, as far as they are below `limit`.
     pub(crate) fn new(start: u64, count: u64, limit: u32) -> Span
         requires { start + count < 2 ^ 64 }
         ensures { result ≡ span_of start count limit }
@@ -35,7 +35,7 @@ impl Span {
     }
 }
 
-/// Gives the pixels in these columns of these rows the ink.
+/// Sets the pixels in these columns of these rows to the ink.
 pub(crate) fn fill(inks: &mut [Ink], width: usize, columns: Span, rows: Span, ink: &Ink)
     requires some { 0 < width }
     requires columns_are { (columns.start ≤ columns.end) × (columns.end ≤ width) }
@@ -50,7 +50,7 @@ pub(crate) fn fill(inks: &mut [Ink], width: usize, columns: Span, rows: Span, in
     }
 }
 
-/// Gives so many pixels from `start` on the ink.
+/// Sets `count` pixels from `start` on to the ink.
 fn fill_row(inks: &mut [Ink], start: usize, count: usize, ink: &Ink)
     requires { start + count ≤ length inks.old }
     ensures { EachIndex inks.old (λ i. slice_index_or inks.new i black

@@ -1,4 +1,4 @@
-//! Where the next data command paints, and in what.
+//! Where the next data command paints, and in which register.
 
 ghost use Rattle.std.specs.Prelude.{◌≡◌, ◌+◌, Some, min};
 ghost use Rattle.std.specs.Option.{option_or};
@@ -11,11 +11,11 @@ pub(crate) struct Sides {
     pub height: u16,
 }
 
-/// What stands before a command. Column and band stop at `u32::MAX`, which is off each screen of a `Terminal`.
+/// The state before a command. Column and band stop at `u32::MAX`, which is off the screen of every `Terminal`.
 #[derive(Clone, Copy, Debug)]
 pub(crate) struct Pen {
     pub column: u32,
-    /// The line of six sixel pixels.
+    /// The band: a line of six sixel pixels.
     pub band: u32,
     /// The height of a sixel pixel, in pixels of the screen.
     pub height: u16,
@@ -26,7 +26,7 @@ pub(crate) struct Pen {
 }
 
 impl Pen {
-    /// So many columns to the right.
+    /// Moves to the right by `columns` columns.
     pub(crate) fn moved(self, columns: u16) -> Pen
         ensures { result ≡ record self { column = min (self.column + columns) most } }
     {
@@ -36,7 +36,7 @@ impl Pen {
         }
     }
 
-    /// At the left margin of a band.
+    /// Moves to the left margin of a band.
     pub(crate) fn at_margin(self, band: u32) -> Pen
         ensures { result ≡ record self { column = 0; band = band } }
     {
@@ -47,7 +47,7 @@ impl Pen {
         }
     }
 
-    /// After raster attributes: with this height of a sixel pixel, and with this box if it is the first.
+    /// Applies raster attributes: this height of a sixel pixel, and this box if it is the first.
     pub(crate) fn in_box(self, height: u16, sides: Sides) -> Pen
         ensures { result ≡ record self {
           height = height;

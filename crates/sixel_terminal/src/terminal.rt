@@ -15,18 +15,18 @@ use std::marker::Model;
 /// The greatest side of a screen, in pixels.
 const MOST_SCREEN_SIDE: u32 = 4096;
 
-/// Why parts make no terminal, in the order of checking.
+/// Why parts don't make a terminal. If several reasons apply, the first one in this order is reported.
 #[derive(Clone, Copy, Debug, PartialEq, Eq)]
 pub enum TerminalReason {
     /// There are fewer than 16 colours or more than 256.
     Registers = 1,
-    /// The register selected at the start isn't below their count.
+    /// The register selected at the start isn't below the number of colours.
     Selected = 2,
-    /// The register of a filled ground isn't below their count.
+    /// The register of a filled ground isn't below the number of colours.
     Ground = 3,
-    /// A repeat of 0 has more than 1 column.
+    /// A repeat of 0 has more than one column.
     Zero = 4,
-    /// A sixel pixel has the height 0.
+    /// The height of a sixel pixel is 0.
     Tall = 5,
     /// A side of the screen is outside 1 to 4,096 pixels, or there isn't one colour for each pixel.
     Screen = 6,
@@ -34,7 +34,7 @@ pub enum TerminalReason {
     Origin = 7,
 }
 
-/// The reason, and the lists handed back.
+/// The reason, and the lists, returned unchanged.
 #[derive(Debug, Drop)]
 pub struct TerminalFault {
     pub reason: TerminalReason,
@@ -63,7 +63,7 @@ impl Model for Terminal {
     ghost invariant = { λ t. terminal_fault t.choices t.colours.items t.screen.items ≡ None };
 }
 
-/// Whether the register of a filled ground is one of so many.
+/// Whether the register of a filled ground is below `registers`.
 fn is_below(ground: Ground, registers: usize) -> bool
     ensures { result ≡ is_ground_below registers ground }
 {
@@ -73,7 +73,7 @@ fn is_below(ground: Ground, registers: usize) -> bool
     }
 }
 
-/// The first reason why the parts make no terminal.
+/// The first reason why the parts don't make a terminal.
 fn fault_of(choices: Choices, colours: &[Colour], screen: &[Colour]) -> Option<TerminalReason>
     ensures { result ≡ terminal_fault choices colours.now screen.now }
 {
@@ -107,8 +107,8 @@ fn fault_of(choices: Choices, colours: &[Colour], screen: &[Colour]) -> Option<T
 }
 
 impl Terminal {
-    /// The terminal of these choices, of one starting colour for each register and of the colours on the
-    /// screen, row by row; or the first reason why they make none.
+    /// Makes a terminal of these choices, one starting colour for each register, and the colours on the screen, row by
+    /// row. On an `Err` they don't make one; it has the first reason.
     pub fn new(
         choices: Choices,
         colours: Vec<Colour>,
@@ -134,7 +134,7 @@ impl Terminal {
         })
     }
 
-    /// Whether a box of this width and height in pixels, which begins at the origin, lies on the screen.
+    /// Whether a box of this width and height in pixels, which begins at the origin, fits on the screen.
     pub fn has_room(&self, width: u32, height: u32) -> bool
         ensures room { IsTrue result ↔ HasRoom self.now width height }
         ensures in_class { IsInClass 16 self.now }

@@ -1,4 +1,4 @@
-//! The colours of a picture file, numbered as they are first seen.
+//! The colours of a picture file, numbered in the order in which they first appear.
 
 ghost use Rattle.std.specs.Prelude.{◌≡◌, List, [], IfSome, Some, length, position};
 ghost use Rattle.sixel_model.specs.Colours.{is_entry};
@@ -9,7 +9,7 @@ ghost use Rattle.sixel_model.specs.Profiles.{count_of};
 
 use sixel_model::{Colour, Palette, Profile};
 
-/// The colours seen so far: they have the registers from 0 on.
+/// The colours seen so far. They have the registers from 0 on.
 #[derive(Debug, Drop)]
 pub(crate) struct Colours {
     pub(crate) palette: Palette,
@@ -17,7 +17,7 @@ pub(crate) struct Colours {
 }
 
 impl Colours {
-    /// No colour was seen.
+    /// No colour was seen yet.
     pub(crate) fn new(profile: Profile) -> Colours
         ensures none { Fills result [] }
         ensures profile { length result.palette ≡ count_of profile }
@@ -29,7 +29,7 @@ impl Colours {
         }
     }
 
-    /// The register of a colour, which gets the next one if it is new; `None` where none is left.
+    /// The register of a colour. A new colour gets the next register; `None` if no register is left.
     pub(crate) fn register_of(&mut self, colour: Colour) -> Option<u8>
         ensures numbers { (seen : List Parts) → Fills self.old seen → Numbers result self.new (with_colour seen colour)
             colour }

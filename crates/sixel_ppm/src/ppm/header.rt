@@ -1,4 +1,4 @@
-//! The header of a picture file, byte by byte.
+//! The header of a picture file, read byte by byte.
 
 ghost use Rattle.std.specs.Prelude.{◌≡◌, ◌<◌, IsTrue};
 ghost use Rattle.sixel_grammar.specs.Bytes.{is_digit};
@@ -9,7 +9,7 @@ ghost use Rattle.sixel_ppm.specs.PpmHeader.{in_filler, is_within, refused, step,
 use crate::ppm::PpmReason;
 use sixel_model::MOST_SIDE;
 
-/// How many bytes a header has at most.
+/// The greatest length of a header, in bytes.
 const MOST_BYTES: u64 = 65_536;
 
 /// A number of the header.
@@ -25,7 +25,7 @@ pub(crate) enum Field {
 pub(crate) enum Part {
     Letter,
     Version,
-    /// Filler begins here.
+    /// Filler must begin here.
     AfterVersion,
     /// The filler before a number, or its first digit.
     Filler(Field),
@@ -33,7 +33,7 @@ pub(crate) enum Part {
     Digits(Field),
 }
 
-/// A header that isn't whole yet.
+/// A header that isn't complete yet.
 #[derive(Clone, Copy, Debug, PartialEq, Eq)]
 pub(crate) struct Progress {
     pub(crate) part: Part,
@@ -43,7 +43,7 @@ pub(crate) struct Progress {
     pub(crate) width: u32,
     /// The height, once it was read.
     pub(crate) height: u32,
-    /// The digits so far of the number that is read; a value above all limits stays as it is.
+    /// The number that is being read, from its digits so far. A value above all limits no longer grows.
     pub(crate) value: u32,
     /// The offset of its first digit.
     pub(crate) first: u64,
@@ -58,7 +58,7 @@ pub(crate) struct Header {
     pub(crate) place: u64,
 }
 
-/// What a byte makes of a header.
+/// The result of reading one byte of a header.
 #[derive(Clone, Copy, Debug, PartialEq, Eq)]
 pub(crate) enum Next {
     More(Progress),
@@ -67,7 +67,7 @@ pub(crate) enum Next {
 }
 
 impl Progress {
-    /// A header of which no byte has come.
+    /// A header before its first byte.
     pub(crate) fn new() -> Progress
         ensures { result ≡ begun }
     {
@@ -81,7 +81,7 @@ impl Progress {
         }
     }
 
-    /// What the next byte makes of the header.
+    /// Reads the next byte of the header.
     pub(crate) fn step(self, byte: u8) -> Next
         ensures { result ≡ step self byte }
     {
@@ -98,7 +98,7 @@ impl Progress {
         }
     }
 
-    /// The next byte may not stand where it does.
+    /// Refuses the next byte.
     fn refused(self) -> Next
         ensures { result ≡ refused self }
     {
@@ -154,7 +154,7 @@ impl Progress {
         }
     }
 
-    /// Filler, or the first digit of the number after it.
+    /// Takes filler, or the first digit of the number after it.
     fn filled(self, field: Field, byte: u8) -> Next
         requires { self.place < MOST_BYTES }
         ensures { result ≡ filled self field byte }
@@ -172,7 +172,7 @@ impl Progress {
         }
     }
 
-    /// A digit, or the byte after the last one.
+    /// Takes a digit, or the byte after the last one.
     fn in_digits(self, field: Field, byte: u8) -> Next
         requires { self.place < MOST_BYTES }
         ensures { result ≡ in_digits self field byte }
@@ -191,7 +191,7 @@ impl Progress {
         }
     }
 
-    /// The number is whole, and the byte after it is good.
+    /// Checks a number whose digits are read. The byte after it is allowed there.
     fn ended(self, field: Field, byte: u8) -> Next
         requires { self.place < MOST_BYTES }
         ensures { result ≡ ended self field byte }
@@ -238,7 +238,7 @@ fn is_digit(byte: u8) -> bool
     byte >= b'0' && byte <= b'9'
 }
 
-/// One digit more. A value above all limits stays, so that none wraps.
+/// Appends a digit. A value above all limits stays the same, so nothing overflows.
 fn grown(value: u32, digit: u8) -> u32
     requires { IsTrue (is_digit digit) }
     ensures { result ≡ grown value digit }
@@ -250,7 +250,7 @@ fn grown(value: u32, digit: u8) -> u32
     }
 }
 
-/// Whether a byte may follow the last digit: a comment may not follow that of the maximum.
+/// Whether the byte may follow the last digit. A comment may not follow the maximum.
 fn ends(field: Field, byte: u8) -> bool
     ensures { result ≡ ends field byte }
 {

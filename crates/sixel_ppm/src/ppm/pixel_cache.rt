@@ -1,4 +1,4 @@
-//! The registers of pixels that came before, by their samples.
+//! A cache of the registers of earlier pixels, by their samples.
 
 ghost use Rattle.std.specs.Prelude.{◌≡◌, ◌≤◌, ◌<◌, ◌+◌, ◌-◌, ◌*◌, ◌++◌, ℕ, IfSome, List, Option, true, length};
 ghost use Rattle.std.specs.Prelude.{replicate, slice_index, take, vec_capacity, vec_len};
@@ -7,17 +7,17 @@ ghost use Rattle.sixel_model.specs.declared.colour.Parts.{Parts};
 
 use std::simd::prelude::*;
 
-/// How many pixels are kept at most.
+/// How many pixels the cache has room for.
 const PLACES: usize = 4096;
 
 /// A key that no pixel has.
 const NO_KEY: u32 = u32::MAX;
 
-/// How many pixels are compared with the one before them at once.
+/// How many pixels are compared at once, each with the one before it.
 const GROUP: usize = 16;
 
-/// The registers of some of the pixels that came before, each at a place that its samples tell: one look there
-/// finds it, and a pixel with other samples may have taken it.
+/// The registers of some earlier pixels. A multiplicative hash of the samples gives the slot of a pixel; a pixel with
+/// other samples may have overwritten it.
 #[derive(Debug, Drop)]
 pub(crate) struct PixelCache {
     keys: [u32; PLACES],
@@ -32,14 +32,14 @@ fn key_of(red: u8, green: u8, blue: u8) -> u32
     red as u32 + 256 * green as u32 + 65_536 * blue as u32
 }
 
-/// The place of a key. A product spreads keys that are near each other.
+/// The slot of a key. The multiplication spreads keys that are near each other.
 fn place_of(key: u32) -> usize
     ensures { result < PLACES }
 {
     (key.wrapping_mul(0x9E37_79B1) >> 20) as usize
 }
 
-/// Whether the 16 bytes from one place on are those from another place on.
+/// Whether the 16 bytes at `at` are the same as those at `from`.
 fn are_same(bytes: &[u8], from: usize, at: usize) -> bool
     requires from { from + 16 ≤ length bytes.now }
     requires at { at + 16 ≤ length bytes.now }
@@ -49,7 +49,7 @@ fn are_same(bytes: &[u8], from: usize, at: usize) -> bool
     u8x16::from_slice(&bytes[at..]).simd_ne(before).to_bitmask() == 0
 }
 
-/// Whether the group of pixels after so many repeats the last one of these.
+/// Whether the group of pixels after the first `count` repeats the last one of these.
 fn is_repeated(bytes: &[u8], count: usize) -> bool
     requires some { 0 < count }
     requires within { 3 * (count + GROUP) ≤ length bytes.now }
@@ -61,7 +61,7 @@ fn is_repeated(bytes: &[u8], count: usize) -> bool
         && are_same(bytes, from + 32, from + 35)
 }
 
-/// Puts the last register once more for each pixel of a group.
+/// Adds the last register once more for each pixel of a group.
 fn repeat_last(registers: &mut Vec<u8>)
     requires some { 0 < vec_len registers.old }
     requires room { vec_len registers.old + GROUP ≤ vec_capacity registers.old }
@@ -75,7 +75,7 @@ fn repeat_last(registers: &mut Vec<u8>)
 }
 
 impl PixelCache {
-    /// No pixel is kept.
+    /// An empty cache.
     pub(crate) fn new() -> PixelCache
         ensures { (maxval : ℕ) (palette : List (Option Parts)) → Knows result maxval palette }
     {
@@ -85,7 +85,7 @@ impl PixelCache {
         }
     }
 
-    /// The register of a pixel, if it is kept.
+    /// The register of a pixel, if the cache has it.
     fn register_of(&self, red: u8, green: u8, blue: u8) -> Option<u8>
         ensures { (maxval : ℕ) (palette : List (Option Parts)) → Knows self.now maxval palette →
             IfSome result (IsHit maxval palette red green blue) }
@@ -99,7 +99,7 @@ impl PixelCache {
         }
     }
 
-    /// Keeps the register of a pixel, in place of another one's.
+    /// Stores the register of a pixel, and overwrites what its slot held.
     pub(crate) fn keep(&mut self, red: u8, green: u8, blue: u8, register: u8)
         ensures { (maxval : ℕ) (palette : List (Option Parts)) → Knows self.old maxval palette →
             IsHit maxval palette red green blue register → Knows self.new maxval palette }
@@ -110,8 +110,8 @@ impl PixelCache {
         self.registers[place] = register;
     }
 
-    /// Puts the registers of the pixels from `count` up to `end`, up to the first one that isn't kept, and tells how
-    /// many pixels there are then.
+    /// Adds the registers of the pixels from `count` up to `end`, and stops at the first one that isn't cached. Returns
+    /// how many pixels are done then.
     fn put_each(&self, bytes: &[u8], count: usize, end: usize, registers: &mut Vec<u8>) -> usize
         requires ordered { count ≤ end }
         requires within { 3 * end ≤ length bytes.now }
@@ -132,7 +132,7 @@ impl PixelCache {
         end
     }
 
-    /// The same, where a whole group that repeats the pixel before it takes one look.
+    /// The same, but handles a whole group at once if it repeats the pixel before it.
     fn put_group(&self, bytes: &[u8], count: usize, end: usize, registers: &mut Vec<u8>) -> usize
         requires ordered { count ≤ end }
         requires within { 3 * end ≤ length bytes.now }
@@ -151,8 +151,8 @@ impl PixelCache {
         self.put_each(bytes, count, end, registers)
     }
 
-    /// Puts the registers of at most so many pixels from the beginning of the bytes, up to the first one that isn't
-    /// kept, and tells how many they are.
+    /// Adds the registers of at most `most` pixels at the beginning of the bytes, and stops at the first one that isn't
+    /// cached. Returns how many it added.
     pub(crate) fn put_all(&self, bytes: &[u8], most: usize, registers: &mut Vec<u8>) -> usize
         requires within { 3 * most ≤ length bytes.now }
         requires room { vec_len registers.old + most ≤ vec_capacity registers.old }

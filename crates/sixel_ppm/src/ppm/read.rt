@@ -14,16 +14,16 @@ use sixel_io::{PIECE, Source};
 use sixel_model::{Picture, Profile};
 use std::alloc::Global;
 
-/// What a piece makes of a header.
+/// The result of feeding a piece to a header.
 #[derive(Clone, Copy, Debug, PartialEq, Eq)]
 pub(crate) enum Fed {
     More(Progress),
-    /// The header is whole, and so many bytes of the piece belong to it.
+    /// The header is complete, and this many bytes of the piece belong to it.
     Whole(Header, usize),
     Refused(PpmFault),
 }
 
-/// A whole header, and where in the piece the samples after it stand.
+/// A complete header, and the range of the piece that has the samples after it.
 #[derive(Clone, Copy, Debug, PartialEq, Eq)]
 pub(crate) struct Started {
     pub(crate) header: Header,
@@ -31,12 +31,12 @@ pub(crate) struct Started {
     pub(crate) end: usize,
 }
 
-/// Reads a picture from a PPM of Netpbm: `P6`, a width and a height of 1 to 2,048 pixels, a maximum of
-/// 1 to 255, and three samples a pixel, which become percentages of red, green and blue. Registers are
-/// numbered from 0 in the order in which their colours are first seen, and the palette, which is of the
-/// profile, holds no other. A colour for which the profile has no register is `TooManyColours`.
+/// Reads a picture from a Netpbm PPM: `P6`, a width and a height of 1 to 2,048 pixels, a maximum of 1 to 255, and three
+/// samples a pixel, which become percentages of red, green and blue. Registers are numbered from 0 in the order in
+/// which their colours first appear. The palette has the profile's registers and no other colours. A colour for which
+/// no register is left is `TooManyColours`.
 ///
-/// The source is read to its end. Memory is taken once, for the registers, after the header.
+/// The source is read to its end. There is one allocation, for the registers, after the header.
 pub fn read_ppm<S: Source>(
     alloc: Global,
     profile: Profile,
@@ -52,7 +52,7 @@ pub fn read_ppm<S: Source>(
     read_samples(samples, input, &mut piece)
 }
 
-/// What a piece makes of the header.
+/// Feeds a piece to the header.
 fn feed_header(begun: Progress, piece: &[u8]) -> Fed
     ensures { FeedsHeader begun piece.now result }
 {
@@ -69,7 +69,7 @@ fn feed_header(begun: Progress, piece: &[u8]) -> Fed
     Fed::More(progress)
 }
 
-/// Reads up to the end of the header, piece by piece.
+/// Reads the header, piece by piece.
 fn read_header<S: Source>(input: &mut S, piece: &mut [u8; PIECE]) -> Result<Started, PpmFault>
     ensures started { IfOk result (λ s.
         HasStarted (S.state input.old).remaining (S.state input.new).remaining piece.new s) }

@@ -25,7 +25,7 @@ pub(crate) struct Pixel {
     pub(crate) register: u8,
 }
 
-/// The samples of a pixel that isn't whole.
+/// The samples of an incomplete pixel.
 #[derive(Clone, Copy, Debug, PartialEq, Eq)]
 pub(crate) enum PartialPixel {
     Nothing,
@@ -33,20 +33,20 @@ pub(crate) enum PartialPixel {
     RedGreen(u8, u8),
 }
 
-/// The pixels of which the samples came.
+/// The pixels whose samples have been read.
 #[derive(Debug, Drop)]
 pub(crate) struct Samples {
     pub(crate) width: u32,
     pub(crate) height: u32,
     pub(crate) maxval: u8,
-    /// How many pixels aren't whole yet.
+    /// How many pixels aren't complete yet.
     pub(crate) left: u32,
-    /// The offset of the first sample of the next one of them.
+    /// The offset of the first sample of the next pixel.
     pub(crate) place: u64,
     pub(crate) partial: PartialPixel,
-    /// The last pixel: one that repeats it needs no look at the palette.
+    /// The last pixel looked up in the palette. One that repeats it needs no new lookup.
     pub(crate) last: Option<Pixel>,
-    /// Pixels that came before: one of them needs no look at the palette, either.
+    /// Earlier pixels. One that repeats any of them needs no new lookup, either.
     pub(crate) cache: PixelCache,
     pub(crate) colours: Colours,
     pub(crate) registers: Vec<u8>,
@@ -59,7 +59,7 @@ pub(crate) struct Samples {
     ghost room: { vec_len registers + left ≤ vec_capacity registers },
 }
 
-/// The percentage of a sample, to the nearest whole number.
+/// The percentage of a sample, rounded to the nearest whole number.
 fn percent(sample: u8, maxval: u8) -> u8
     requires scaled { 0 < maxval }
     requires good { sample ≤ maxval }
@@ -71,7 +71,7 @@ fn percent(sample: u8, maxval: u8) -> u8
     share as u8
 }
 
-/// The colour of samples that are at most the maximum.
+/// The colour of three samples, which must be at most the maximum.
 fn colour_of(maxval: u8, red: u8, green: u8, blue: u8) -> Colour
     requires scaled { 0 < maxval }
     requires red { red ≤ maxval }
@@ -98,7 +98,7 @@ impl Samples {
     ghost use Rattle.sixel_ppm.specs.PpmSamples.{TooMany, budget, samples_on, Holds};
     ghost use Rattle.sixel_model.specs.declared.colour.Parts.{Parts};
 
-    /// No sample has come. This is the one growth of a reading.
+    /// No sample was read yet. Makes the only allocation of a reading.
     pub(crate) fn new(
         alloc: Global,
         profile: Profile,
@@ -125,7 +125,7 @@ impl Samples {
         })
     }
 
-    /// The fault of the first of a pixel's samples that is above the maximum.
+    /// The fault of the first of a pixel's samples that is above the maximum, if any.
     fn unfit(&self, red: u8, green: u8, blue: u8) -> Option<PpmFault>
         requires { 0 < self.now.left }
         ensures fit { IfNone result ((red ≤ self.now.maxval) × (green ≤ self.now.maxval) × (blue ≤ self.now.maxval)) }
@@ -142,7 +142,7 @@ impl Samples {
         }
     }
 
-    /// The register of the last pixel, where this one repeats it.
+    /// The register of the last pixel looked up, if this one repeats it.
     fn repeated(&self, red: u8, green: u8, blue: u8) -> Option<u8>
         ensures { IfSome result (IsLast self.now.last red green blue) }
     {
@@ -154,7 +154,7 @@ impl Samples {
         }
     }
 
-    /// The register of a pixel whose samples are good, by its colour.
+    /// The register of a pixel by its colour, or `TooManyColours`. The samples must be at most the maximum.
     fn number(&mut self, red: u8, green: u8, blue: u8) -> Result<u8, PpmFault>
         requires red { red ≤ self.old.maxval }
         requires green { green ≤ self.old.maxval }
@@ -179,7 +179,7 @@ impl Samples {
         }
     }
 
-    /// The register of a pixel, or the fault of the first of its samples that may not stand there.
+    /// The register of a pixel, or the fault of its samples or its colour.
     fn register_of(&mut self, red: u8, green: u8, blue: u8) -> Result<u8, PpmFault>
         requires { 0 < self.old.left }
         ensures registered { IfOk result (λ register. Registers self.old self.new red green blue register) }
@@ -195,7 +195,7 @@ impl Samples {
         self.number(red, green, blue)
     }
 
-    /// Puts a pixel into the list of those that are whole, where `new` has left room for it.
+    /// Adds a complete pixel, for which `new` has reserved room.
     fn put(&mut self, register: u8)
         requires some { 0 < self.old.left }
         requires whole { self.old.partial ≡ PartialPixel.Nothing }
@@ -222,7 +222,7 @@ impl Samples {
         Ok(())
     }
 
-    /// Keeps the first or the second sample of a pixel.
+    /// Holds back the first or the second sample of a pixel.
     fn hold(&mut self, sample: u8, place: u64, partial: PartialPixel) -> Result<(), PpmFault>
         requires good { IsTrue (is_good self.old.partial self.old.maxval self.old.left) }
         requires next { IsNextPartial self.old.partial sample partial }
@@ -261,7 +261,7 @@ impl Samples {
         }
     }
 
-    /// Reads a whole pixel from the beginning of the bytes, or else one sample, and gives what follows.
+    /// Reads a whole pixel at the beginning of the bytes if it can, otherwise one sample. Returns the remaining bytes.
     fn read_first<'a>(&mut self, bytes: &'a [u8]) -> Result<&'a [u8], PpmFault>
         requires { 0 < length bytes.now }
         ensures read { IfOk result (λ rest. HasRead self.old self.new bytes.now rest.now) }
@@ -281,8 +281,8 @@ impl Samples {
         }
     }
 
-    /// Puts at most so many pixels from the beginning of the bytes into the list of those that are whole, up to the
-    /// first one that isn't in the cache, and tells how many they are.
+    /// Adds at most `most` pixels at the beginning of the bytes, and stops at the first one that isn't cached. Returns
+    /// how many it added.
     fn put_cached(&mut self, bytes: &[u8], most: usize) -> usize
         requires left { most ≤ self.old.left }
         requires within { 3 * most ≤ length bytes.now }
@@ -296,7 +296,7 @@ impl Samples {
         count
     }
 
-    /// Reads the whole pixels at the beginning that are in the cache, and gives what follows.
+    /// Reads the whole pixels at the beginning that are cached. Returns the remaining bytes.
     fn read_cached<'a>(&mut self, bytes: &'a [u8]) -> &'a [u8]
         ensures read { HasRead self.old self.new bytes.now result.now }
         ensures shorter { length result.now ≤ length bytes.now }
@@ -323,7 +323,7 @@ impl Samples {
         Ok(())
     }
 
-    /// The picture, or the fault where samples are wanting.
+    /// The picture, or the fault `Short` if samples are missing.
     pub(crate) fn finish(self) -> Result<Picture, PpmFault>
         requires { (colours : List Parts) × Holds self colours }
         ensures whole { IfOk result (λ p. (colours : List Parts) → Holds self colours →
@@ -348,7 +348,7 @@ impl Samples {
     }
 }
 
-/// How many samples are held.
+/// How many samples are held back.
 fn count(partial: PartialPixel) -> u64
     ensures count { result ≡ length (partial_samples partial) }
     ensures few { result ≤ 2 }

@@ -1,4 +1,4 @@
-//! The samples of pixels, many at a time, by a table of their registers.
+//! The samples of pixels, many at a time, from a table of the registers' colours.
 
 ghost use Rattle.std.specs.Prelude.{◌≡◌, ◌+◌, ◌++◌, ◌*◌, ◌<◌, length, take};
 ghost use Rattle.sixel_ppm.specs.PpmTables.{HasFourBytes, IsTable, bytes_of, samples_from, samples_made};
@@ -6,16 +6,16 @@ ghost use Rattle.sixel_ppm.specs.PpmTables.{HasFourBytes, IsTable, bytes_of, sam
 use sixel_model::{Colour, MOST_REGISTERS, Palette, Parts};
 use std::simd::prelude::*;
 
-/// How many pixels' samples go out at once.
+/// How many pixels' samples are sent at once.
 pub(crate) const PIXELS: usize = 21_840;
 
-/// Room for a header, for their samples, and for the byte that goes after the last ones.
+/// Room for a header, for these samples, and for one byte after the last sample.
 pub(crate) const ROOM: usize = 29 + 3 * PIXELS + 1;
 
-/// Four bytes for each register: they go out in one store, and the next pixel's go over the fourth.
+/// Four bytes for each register, written by one store. The next pixel overwrites the fourth.
 pub(crate) type Table = [[u8; 4]; MOST_REGISTERS];
 
-/// The samples of a register's colour, if it has one of red, green and blue, and a byte more.
+/// The three samples of a register's RGB colour and a byte 0, or zeros if it has none.
 fn bytes_of(entry: Option<Colour>) -> [u8; 4]
     ensures { result ≡ bytes_of entry }
 {
@@ -28,7 +28,7 @@ fn bytes_of(entry: Option<Colour>) -> [u8; 4]
     }
 }
 
-/// The table of a palette.
+/// The table for a palette.
 pub(crate) fn table_of(palette: &Palette) -> Table
     ensures { IsTable palette.now result }
 {
@@ -39,7 +39,7 @@ pub(crate) fn table_of(palette: &Palette) -> Table
     table
 }
 
-/// Puts the samples of the pixels in these registers behind the first bytes of a buffer.
+/// Writes the samples of the pixels with these registers into the buffer, from `start` on.
 pub(crate) fn put_samples(text: &mut [u8], start: usize, table: &Table, registers: &[u8])
     requires entries { HasFourBytes table.now }
     requires room { start + 3 * length registers.now < length text.old }
@@ -53,7 +53,7 @@ pub(crate) fn put_samples(text: &mut [u8], start: usize, table: &Table, register
     }
 }
 
-/// Puts the samples of these colours behind the first bytes of a buffer.
+/// Writes the samples of these colours into the buffer, from `start` on.
 pub(crate) fn put_colour_samples(text: &mut [u8], start: usize, colours: &[Colour])
     requires { start + 3 * length colours.now < length text.old }
     ensures { take (start + 3 * length colours.now) text.new ≡ take start text.old ++ samples_made colours.now }

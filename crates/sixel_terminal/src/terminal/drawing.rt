@@ -1,4 +1,4 @@
-//! Drawing a list of events in one pass.
+//! Draws a list of events in one pass.
 
 ghost use Rattle.std.specs.Prelude.{◌≡◌, ◌<◌, ◌++◌, ◌∷◌, [], List, IfOk, length, map};
 ghost use Rattle.sixel_grammar.specs.declared.command.Event.{Event};
@@ -16,7 +16,7 @@ use sixel_grammar::{Event, Placed};
 use sixel_model::Colour;
 use std::alloc::{AllocError, Global};
 
-/// Ink of these colours.
+/// The inks of a screen with these colours.
 fn inks_of(alloc: Global, screen: &[Colour]) -> Result<Vec<Ink>, AllocError>
     ensures { IfOk result (λ inks. inks.items ≡ map (λ c. Fixed c) screen.now) }
 {
@@ -27,7 +27,7 @@ fn inks_of(alloc: Global, screen: &[Colour]) -> Result<Vec<Ink>, AllocError>
     Ok(inks)
 }
 
-/// The colour that the ink shows, where the registers have these colours.
+/// The colour that the ink shows if the registers have these colours.
 fn colour_of(colours: &[Colour], ink: Ink) -> Colour
     requires { 0 < length colours.now }
     ensures { result ≡ shown_in colours.now ink }
@@ -38,7 +38,7 @@ fn colour_of(colours: &[Colour], ink: Ink) -> Colour
     }
 }
 
-/// The colours that the inks show, where the registers have these colours.
+/// The colours that the inks show if the registers have these colours.
 fn colours_of(alloc: Global, colours: &[Colour], inks: &[Ink]) -> Result<Vec<Colour>, AllocError>
     requires { 0 < length colours.now }
     ensures { IfOk result (λ shown. shown.items ≡ map (shown_in colours.now) inks.now) }
@@ -50,7 +50,7 @@ fn colours_of(alloc: Global, colours: &[Colour], inks: &[Ink]) -> Result<Vec<Col
     Ok(shown)
 }
 
-/// Whether the event is a control of 8 bits.
+/// Whether the event is an 8-bit start or finish.
 fn is_eight_bit(event: &Event) -> bool
     ensures { result ≡ is_eight_bit event.now }
 {
@@ -61,7 +61,7 @@ fn is_eight_bit(event: &Event) -> bool
     }
 }
 
-/// Whether one of the events is a control of 8 bits.
+/// Whether one of the events is an 8-bit start or finish.
 fn has_eight_bit(events: &[Placed]) -> bool
     ensures { result ≡ list_any (λ p. is_eight_bit p.event) events.now }
 {
@@ -69,7 +69,7 @@ fn has_eight_bit(events: &[Placed]) -> bool
 }
 
 impl Terminal {
-    /// What stands before any event.
+    /// The state before any event.
     fn first_pen(&self) -> Pen
         ensures { IsPenAfter self.now [] result }
     {
@@ -82,7 +82,7 @@ impl Terminal {
         }
     }
 
-    /// Draws one event more.
+    /// Draws one more event.
     fn draw(&self, pen: Pen, colours: &mut [Colour], inks: &mut [Ink], event: &Event) -> Pen
         requires { (before : List Event) × StandsAfter self.now before pen colours.old inks.old }
         ensures { (before : List Event) → StandsAfter self.now before pen colours.old inks.old
@@ -99,7 +99,7 @@ impl Terminal {
         }
     }
 
-    /// Whether the terminal sees the string of these events: it has 8-bit controls, or none of them is one.
+    /// Whether the terminal sees the string of these events: it has 8-bit controls, or no start or finish is 8-bit.
     #[tactic(auto, unfolding(crate::specs::Drawing::is_seen_on))]
     fn sees(&self, events: &[Placed]) -> bool
         ensures { result ≡ is_seen_on self.now (events_of events.now) }
@@ -109,11 +109,11 @@ impl Terminal {
 
     /// The colours of the whole screen after the events, row by row.
     ///
-    /// It takes any list of events, also one that no text spells: bits above the six of a sixel paint nothing. Nor do
-    /// a start and a finish. What lies off the screen is left out. A terminal without 8-bit controls shows nothing of a
-    /// list in which a start or a finish is one, wherever it stands.
+    /// Any list of events is allowed, even one that no text spells. Bits above the six of a sixel paint nothing, and
+    /// neither do a start and a finish. Pixels off the screen are dropped. A terminal without 8-bit controls shows
+    /// nothing of a list with an 8-bit start or finish, wherever it is.
     ///
-    /// `AllocError` is answered only where a growth was refused.
+    /// `AllocError`: an allocation failed.
     pub fn show(&self, alloc: Global, events: &[Placed]) -> Result<Vec<Colour>, AllocError>
         ensures { IfOk result (λ shown. shown.items ≡ screen_on self.now (events_of events.now)) }
     {

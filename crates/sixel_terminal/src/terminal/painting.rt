@@ -1,4 +1,4 @@
-//! Painting on a screen.
+//! Painting on the screen.
 
 ghost use Rattle.std.specs.Prelude.{◌≡◌, ◌<◌, ◌≤◌, ◌+◌, ◌*◌, ◌/◌, ◌%◌, EachIndex, length, slice_index_or};
 ghost use Rattle.std.specs.Prelude.{if◌then◌else◌};
@@ -12,7 +12,7 @@ use crate::terminal::Terminal;
 use sixel_model::{BAND_ROWS, is_set};
 
 impl Terminal {
-    /// The column from which on a data command paints nothing.
+    /// The column of the screen where data commands stop painting.
     fn right_edge(&self, pen: Pen) -> u32
         ensures value { result ≡ right_edge self.now pen.declared }
         ensures most { result ≤ self.now.choices.screen_width }
@@ -26,7 +26,7 @@ impl Terminal {
         }
     }
 
-    /// The row from which on a data command paints nothing.
+    /// The row of the screen where data commands stop painting.
     fn bottom_edge(&self, pen: Pen) -> u32
         ensures value { result ≡ bottom_edge self.now pen.declared }
         ensures most { result ≤ self.now.choices.screen_height }
@@ -40,7 +40,7 @@ impl Terminal {
         }
     }
 
-    /// The rows of the screen in which a bit of the pen's band lies.
+    /// The rows of the screen that a bit of the pen's band covers.
     fn rows_of(&self, pen: Pen, bit: u32) -> Span
         requires { bit < band_rows }
         ensures span { result ≡ span_of (self.now.choices.origin_y + (band_rows * pen.band + bit) * pen.height)
@@ -52,7 +52,7 @@ impl Terminal {
         Span::new(start, pen.height as u64, self.bottom_edge(pen))
     }
 
-    /// Gives the pixels of the set bits of so many columns from the pen on the ink.
+    /// Paints the set bits of `count` columns, from the pen on, with the ink.
     pub(crate) fn paint_columns(&self, pen: Pen, count: u16, bits: u8, ink: &Ink, inks: &mut [Ink])
         requires { length inks.old ≡ self.now.choices.screen_width * self.now.choices.screen_height }
         ensures { EachIndex inks.old (λ i. slice_index_or inks.new i black
@@ -61,7 +61,7 @@ impl Terminal {
     {
         let left = self.choices.origin_x as u64 + pen.column as u64;
         let columns = Span::new(left, count as u64, self.right_edge(pen));
-        // No column of it is before the edge, so none of its rows needs a look.
+        // No column is before the edge, so no row needs a look.
         if columns.start == columns.end {
             return;
         }
@@ -73,7 +73,7 @@ impl Terminal {
         }
     }
 
-    /// Gives the pixels of a box that begins at the origin the ink.
+    /// Paints a box at the origin with the ink.
     pub(crate) fn paint_box(&self, width: u16, height: u16, ink: &Ink, inks: &mut [Ink])
         requires { length inks.old ≡ self.now.choices.screen_width * self.now.choices.screen_height }
         ensures { EachIndex inks.old (λ i. slice_index_or inks.new i black

@@ -21,7 +21,7 @@ use sixel_grammar::Command;
 use sixel_model::Colour;
 
 impl Terminal {
-    /// A number of a register is taken modulo their count.
+    /// The register with this number, taken modulo the count of registers.
     fn register_of(&self, number: u16) -> u16
         ensures value { result ≡ number % registers_of self.now }
         ensures below { result < registers_of self.now }
@@ -29,7 +29,7 @@ impl Terminal {
         (number as usize % self.colours.len()) as u16
     }
 
-    /// A repeat of 0 paints as many columns as the terminal chose.
+    /// The columns of a repeat: a repeat of 0 has as many as the terminal chose.
     fn columns_of(&self, count: u16) -> u16
         ensures { result ≡ (if count == 0 then self.now.choices.zero else count) }
     {
@@ -40,7 +40,7 @@ impl Terminal {
         }
     }
 
-    /// A colour of hue, lightness and saturation as the terminal takes it.
+    /// An HLS colour as the terminal takes it: out of range, it is clamped or gives none.
     fn hls(&self, hue: u16, lightness: u16, saturation: u16) -> Option<Colour>
         ensures { result ≡ taken_on self.now (Hls hue lightness saturation) }
     {
@@ -56,7 +56,7 @@ impl Terminal {
         }
     }
 
-    /// A colour of red, green and blue as the terminal takes it.
+    /// An RGB colour as the terminal takes it: out of range, it is clamped or gives none.
     fn rgb(&self, red: u16, green: u16, blue: u16) -> Option<Colour>
         ensures { result ≡ taken_on self.now (Rgb red green blue) }
     {
@@ -105,7 +105,7 @@ impl Terminal {
         }
     }
 
-    /// Where the next data command paints after the command.
+    /// Where the next data command paints after this command.
     fn next_place(&self, pen: Pen, command: Command) -> Pen
         ensures column { result.column ≡ next_column self.now pen (Step command) }
         ensures band { result.band ≡ next_band pen (Step command) }
@@ -127,7 +127,7 @@ impl Terminal {
         }
     }
 
-    /// What stands after the command.
+    /// The pen after the command.
     pub(crate) fn next_pen(&self, pen: Pen, command: Command) -> Pen
         ensures column { result.column ≡ next_column self.now pen (Step command) }
         ensures band { result.band ≡ next_band pen (Step command) }
@@ -139,7 +139,7 @@ impl Terminal {
         self.next_place(pen, command).with_selected(selected)
     }
 
-    /// Gives the register of a definition the colour that it gives, if it gives one.
+    /// Sets the colour of a definition's register, if the definition gives a colour.
     pub(crate) fn define(&self, colours: &mut [Colour], command: Command)
         requires { length colours.old ≡ registers_of self.now }
         ensures { EachIndex colours.old (λ r. slice_index_or colours.new r (Rgb 0 0 0)
@@ -158,7 +158,7 @@ impl Terminal {
         }
     }
 
-    /// What is painted in this register.
+    /// The ink for painting in this register.
     fn ink(&self, colours: &[Colour], register: u16) -> Ink
         requires { register < length colours.now }
         ensures { result ≡ ink_by_colours self.now colours.now register }
@@ -170,7 +170,7 @@ impl Terminal {
         }
     }
 
-    /// Paints what the command paints, with the pen and the colours that stand before it.
+    /// Paints what the command paints, with the pen and the colours before the command.
     pub(crate) fn paint(&self, pen: Pen, colours: &[Colour], inks: &mut [Ink], command: Command)
         requires selected { pen.selected < length colours.now }
         requires colours_are { length colours.now ≡ registers_of self.now }
@@ -197,7 +197,7 @@ impl Terminal {
     }
 }
 
-/// The register that the command selects, where a definition selects or doesn't.
+/// The register that the command selects. `selects` says whether a definition selects.
 fn selected_by(selects: bool, command: Command) -> Option<u16>
     ensures { result ≡ (if selects then named_by else select_of) (Step command) }
 {

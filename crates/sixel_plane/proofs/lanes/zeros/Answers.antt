@@ -3,7 +3,7 @@ use Rattle.std.proofs.lemmas.List.{length-replicate, replicate-append-replicate,
 use Rattle.sixel_plane.specs.declared.lanes.TheConstants.{ZEROS}
 use Rattle.sixel_plane.proofs.lanes.zeros.Goals as goal
 
--- a list of zeros that grows has zeros alone
+-- growing a list of zeros with zeros gives a list of zeros
 grown : (xs : List ℕ) (len a n : ℕ) → xs ≡ replicate a 0 → len ≡ a → a ≤ n
     → take n xs ++ replicate (n - len) 0 ≡ replicate n 0
 grown xs len a n zeros counted grows =

@@ -7,7 +7,7 @@ use Rattle.sixel_plane.proofs.ByteLemmas.{first_unmarked}
 use Rattle.sixel_plane.proofs.PaintedLemmas.{first_blank_unpainted}
 use Rattle.sixel_plane.proofs.byte_plane.BytePlanePlane.first_blank.Goals as goal
 
--- the answer for the index of the first pixel without a mark
+-- the result for the index of the first unset mark
 answered : (w h : ℕ) (registers : List ℕ) (marks : List Bool) (s : Grid) (found : Option ℕ) → 0 < w
     → length marks ≡ w * h → grid_of_marks w h registers marks ≡ s → found ≡ position not marks
     → option_map (λ i. (i % w, i / w)) found ≡ first_blank s

@@ -31,7 +31,7 @@ invariant_of-self c =
       each_mark = rw (kept.same_width, kept.same_height) (kept.marked.long ∙ c.self.invariant.each_mark);
     }
 
--- a run's columns of a row lie in the list of the pixels
+-- the columns of a run in one row are inside the list of pixels
 row_fits : (w h wide high band k column count : ℕ) → w ≡ wide → h ≡ high → column + count ≤ wide → 6 * band + k < high
     → (6 * band + k) * w + column + count ≤ w * h
 row_fits w h wide high band k column count same_width same_height columns row =
