@@ -1,8 +1,8 @@
 -- What it means that a finding is no false alarm. A point x y is counted from the origin of each terminal.
 --
--- Each clause is on one terminal, whatever the others do; that two of them show other colours is said in Differences.
--- Nothing is promised of the other ten rules, nor that `EightBit` at an introducer makes a difference: a string may
--- break one of these and look the same everywhere.
+-- Each clause is about single terminals. That two of them show different colours is stated in Differences. Nothing is
+-- promised for the other ten rules, nor that `EightBit` at an introducer makes a difference: a string may break one of
+-- the ten, or have an 8-bit introducer, and look the same everywhere.
 use Rattle.std.specs.Prelude.{◌≡◌, ◌+◌, ◌<◌, ℕ, true, false, Option, IsSome, IsSomeAnd, IsTrue, List}
 use Rattle.sixel_grammar.specs.declared.command.Event.{Event}
 use Rattle.sixel_grammar.specs.declared.command.Placed.{Placed}
@@ -25,7 +25,7 @@ pub record HasRoomFor (registers : ℕ) (t : Display) (events : List Event) : Ty
   pub in_class : IsInClass registers t
   pub room : IsSomeAnd (raster_before events) (λ (a : Attributes). HasRoom t a.width a.height)
 
--- each terminal with room that keeps its ground shows at the point what stood there
+-- each terminal with room that keeps its ground shows at the point what was there before
 abbrev pub StaysOnEach : ℕ → List Event → ℕ → ℕ → Type 0
 StaysOnEach registers events x y =
     (t : Display) → HasRoomFor registers t events → t.choices.ground ≡ Kept
@@ -41,8 +41,8 @@ pub record IsPaintedUnlessClipped (registers : ℕ) (events : List Event) (i x y
   pub cut_off : (t : Display) → IsInClass registers t → t.choices.clips ≡ true → t.choices.ground ≡ Kept
       → ¬ IsPainted t events (t.choices.origin_x + x) (t.choices.origin_y + y)
 
--- a terminal without 8-bit controls paints no pixel, on its screen or off it; and where position i is that of the end,
--- each that has them and room shows the picture that is left in the box
+-- a terminal without 8-bit controls paints no pixel, on its screen or off it; and if position i is that of a finish, each
+-- terminal with them and with room shows the picture that is left in the box
 pub record IsUnseenWithoutEightBits (registers : ℕ) (events : List Event) (i : ℕ) : Type 0 where
   pub unpainted : (t : Display) (column row : ℕ) → IsInClass registers t → t.choices.eight_bit ≡ false
       → ¬ IsPainted t events column row
@@ -51,7 +51,7 @@ pub record IsUnseenWithoutEightBits (registers : ℕ) (events : List Event) (i :
       → x < (picture_left registers events).width → y < (picture_left registers events).height
       → ShowsAt t events (picture_left registers events) x y
 
--- what is promised of a finding of this rule with this pixel at position i
+-- what is promised of a finding of this rule with this pixel at position i; for ten of the rules nothing
 abbrev pub IsTrueAlarm : ℕ → List Event → Rule → Option (ℕ × ℕ) → ℕ → Type 0
 IsTrueAlarm registers events Uncovered pixel i = IsSomeAnd pixel (λ p. StaysOnEach registers events p.0 p.1)
 IsTrueAlarm registers events Outside pixel i =
@@ -59,7 +59,7 @@ IsTrueAlarm registers events Outside pixel i =
 IsTrueAlarm registers events EightBit pixel i = IsUnseenWithoutEightBits registers events i
 IsTrueAlarm registers events _ pixel i = Unit {0}
 
--- a finding that is answered is no false alarm: it is that of the events at some position, and true there
+-- for `Broken` the finding is the first broken rule, at some position, and what `IsTrueAlarm` says of it holds there
 abbrev pub IsNoFalseAlarm : ℕ → List Placed → Verdict → Type 0
 IsNoFalseAlarm registers placed (Portable picture) = Unit {0}
 IsNoFalseAlarm registers placed (Broken f) =

@@ -19,6 +19,7 @@ use Rattle.sixel_check.specs.declared.verdict.Finding.{Finding}
 use Rattle.sixel_check.specs.declared.verdict.Verdict.{Verdict}
 use Rattle.sixel_check.specs.declared.verdict.Verdict.TheVariants.{Portable, Broken}
 
+-- the number of each rule
 abbrev pub number_of : Rule → ℕ
 number_of RasterFirst = raster_first_rule
 number_of RasterTwice = raster_twice_rule
@@ -38,15 +39,16 @@ number_of EightBit = eight_bit_rule
 abbrev pub greatest : ℕ
 greatest = 2 ^ 64 - 1
 
--- the number, or the greatest
+-- n, or `greatest` if n is above it
 abbrev pub capped : ℕ → ℕ
 capped n = min n greatest
 
--- the first point, in row order, of which P holds; the pixel is it, each coordinate capped
+-- the pixel is the first point, in row order, for which P holds, with each coordinate capped
 abbrev pub IsFirstPixel : (ℕ → ℕ → Type 0) → Option (ℕ × ℕ) → Type 0
 IsFirstPixel P pixel = (x : ℕ) × (y : ℕ) × IsFirstPoint P x y × (pixel ≡ Some (capped x, capped y))
 
--- the pixel of a finding at this event: the first outside the box, the first that stays blank, or none
+-- the pixel of a finding at this event: for `Outside` the first point outside the box that the event covers, for
+-- `Uncovered` the first point of the box that no event covers, for the other rules none
 abbrev pub IsPixel : Rule → Option (ℕ × ℕ) → List Event → Event → Type 0
 IsPixel Outside pixel before e =
     IsFirstPixel (λ x y. IsSomeAnd (raster_before before) (λ a. FallsOutside before e a x y)) pixel

@@ -7,6 +7,7 @@ use Rattle.sixel_grammar.specs.declared.command.Placed.{Placed}
 use Rattle.sixel_grammar.specs.Bytes.{is_filler}
 use Rattle.sixel_grammar.specs.Spelling.{Spells}
 
+-- each byte is filler
 abbrev pub AreFiller : List ℕ → Type 0
 AreFiller bytes = AllByRecursion (λ b. IsTrue (is_filler b)) bytes
 
@@ -16,10 +17,12 @@ pub record Piece : Type 0 where
   pub text : List ℕ
   pub event : Event
 
+-- the text spells the event, after filler
 pub record IsPiece (p : Piece) : Type 0 where
   pub filler_is : AreFiller p.filler
   pub spells : Spells p.event p.text
 
+-- the bytes of a piece
 abbrev pub bytes_of : Piece → List ℕ
 bytes_of p = p.filler ++ p.text
 
@@ -72,6 +75,7 @@ pub record Document (events : List Placed) (bytes : List ℕ) : Type 0 where
   pub events_are : events ≡ placed_from 0 pieces
   pub short : length bytes ≤ most_bytes
 
+-- the bytes are a document of some events
 abbrev pub IsDocument : List ℕ → Type 0
 IsDocument bytes = (events : List Placed) × Document events bytes
 

@@ -26,7 +26,7 @@ pub data Form : Type 0 where
   Introducing : Form
   -- an introducer, 8-bit or not, and parameters with at most two `;`
   Parameters : Bool → List ℕ → ℕ → Form
-  -- an introducer, and parameters after the third `;`
+  -- an introducer, three parameters, and a `;` after them
   LastSeparator : Bool → List ℕ → Form
   -- no command
   NoCommand : Form
@@ -135,13 +135,14 @@ pub record IsLongest (place : ℕ) (bytes : List ℕ) : Type 0 where
   pub viable : IsViable (take place bytes)
   pub longest : (n : ℕ) → n ≤ length bytes → IsViable (take n bytes) → n ≤ place
 
--- why this byte, or the end of the input, can't follow the prefix
+-- the reason why this byte can't follow the prefix; at the end of the input it is `Truncated`, if the prefix is no
+-- document
 abbrev pub Stops : List ℕ → Option ℕ → Reason → Type 0
 Stops prefix None reason = (IsDocument prefix → ⊥) × (reason ≡ Truncated)
 Stops prefix (Some b) reason =
     (form : Form) × (events : List Placed) × (opened : ℕ) × EndsIn form events opened prefix × (reason ≡ refusal form b)
 
--- the bytes are longer than the limit, and viable up to it
+-- the bytes are longer than the limit, and the first `most_bytes` of them are viable
 pub record IsTooLong (bytes : List ℕ) (fault : Fault) : Type 0 where
   pub long : most_bytes < length bytes
   pub viable : IsViable (take most_bytes bytes)

@@ -42,6 +42,7 @@ is_data_command (Step (Sixel bits)) = true
 is_data_command (Step (Repeat count bits)) = true
 is_data_command _ = false
 
+-- the end of a string
 abbrev pub is_finish : Event → Bool
 is_finish (Finish eight) = true
 is_finish _ = false
@@ -73,6 +74,7 @@ columns_of zero_columns (Step (Sixel bits)) = 1
 columns_of zero_columns (Step (Repeat count bits)) = if count == 0 then zero_columns else count
 columns_of zero_columns _ = 0
 
+-- a Graphics New Line
 abbrev pub is_next_line : Event → Bool
 is_next_line (Step NextLine) = true
 is_next_line _ = false
@@ -83,6 +85,7 @@ is_return (Step CarriageReturn) = true
 is_return (Step NextLine) = true
 is_return _ = false
 
+-- what the event says, if it is Raster Attributes
 abbrev pub raster_of : Event → Option Attributes
 raster_of (Step (Raster pan pad width height)) =
     Some (record { pan = pan; pad = pad; width = width; height = height })

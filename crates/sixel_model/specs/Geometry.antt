@@ -5,7 +5,7 @@ use Rattle.sixel_grammar.specs.declared.command.Event.{Event}
 use Rattle.sixel_model.specs.Events.{bits_of, columns_of, is_next_line, is_return}
 use Rattle.sixel_model.specs.Positions.{any_below, since}
 
--- the rows of a band: a sixel is one column of a band, and each of its bits is one row
+-- a sixel has six bits; a band is a line of sixels
 abbrev pub band_rows : ℕ
 band_rows = 6
 
@@ -13,11 +13,12 @@ band_rows = 6
 unfoldable pub band : List Event → ℕ
 band before = count_by is_next_line before
 
--- the column of the next sixel: the widths since the last return, added up, if a repeat of 0 has `zero_columns`
+-- the column of the next sixel: the columns of the events since the last return, added up, if a repeat of 0 has
+-- `zero_columns`
 unfoldable pub column : ℕ → List Event → ℕ
 column zero_columns before = sum_by (columns_of zero_columns) (since is_return before)
 
--- whether a sixel of `count` columns from `left` on, in the band `line`, paints the point: it is in one of the columns,
+-- whether a sixel of `count` columns from `left` on, in the band `line`, covers the point: it is in one of the columns,
 -- and in the rows of a set bit. A bit has `rows` rows, and bit 0 is the top one; bits above the six paint nothing
 unfoldable pub covers : ℕ → ℕ → ℕ → ℕ → ℕ → ℕ → ℕ → Bool
 covers left count line rows bits x y =
@@ -26,7 +27,7 @@ covers left count line rows bits x y =
     (bit_at bits k == 1) && nat_le ((band_rows * line + k) * rows) y
     && nat_lt y ((band_rows * line + k) * rows + rows))
 
--- the event is a data command that paints the point; a repeat of 0 has `zero_columns` columns, and a bit `rows` rows
+-- whether the event is a data command that covers the point; a repeat of 0 has `zero_columns` columns, and a bit `rows` rows
 unfoldable pub touches : ℕ → ℕ → List Event → Event → ℕ → ℕ → Bool
 touches zero_columns rows before e x y =
     covers (column zero_columns before) (columns_of zero_columns e) (band before) rows (bits_of e) x y

@@ -1,11 +1,11 @@
--- A plane, as contracts see it.
+-- What contracts see of a plane: its size, and the register of each pixel that is painted.
 use Rattle.std.specs.Prelude.{◌≡◌, ℕ, ◌+◌, ◌*◌, ◌/◌, ◌%◌, ◌<◌, Bool, true, false, Option, Some, None, List, is_none}
 use Rattle.std.specs.Prelude.{map, slice_get, slice_index, if◌then◌else◌}
 use Rattle.std.specs.Option.{MatchOption, option_flatten, option_map}
 use Rattle.std.specs.List.{range_with_len, position_from}
 use Rattle.sixel_model.specs.Geometry.{covers}
 
--- the results of f for the column and row of each pixel, row by row
+-- f x y for each pixel, row by row
 unfoldable pub row_by_row : {A : Type 0} → ℕ → ℕ → (ℕ → ℕ → A) → List A
 row_by_row width height f = map (λ i. f (i % width) (i / width)) (range_with_len 0 (width * height))
 

@@ -16,11 +16,12 @@ pub record PictureValue : Type 0 where
   pub palette : List (Option Parts)
   pub registers : List ℕ
 
+-- a picture of these parts
 abbrev pub picture_of_parts : ℕ → ℕ → List (Option Parts) → List ℕ → PictureValue
 picture_of_parts width height palette registers =
     record { width = width; height = height; palette = palette; registers = registers }
 
--- the register of a pixel inside the picture
+-- the register of the pixel in column x, row y, which must be inside the picture
 abbrev pub register_of : PictureValue → ℕ → ℕ → ℕ
 register_of p x y = slice_index p.registers (y * p.width + x)
 
@@ -28,7 +29,7 @@ register_of p x y = slice_index p.registers (y * p.width + x)
 abbrev pub most_side : ℕ
 most_side = 2048
 
--- whether n is a side of a picture
+-- whether a picture may have a side of n pixels: from 1 to `most_side`
 abbrev pub is_side : ℕ → Bool
 is_side n = nat_le 1 n && nat_le n most_side
 

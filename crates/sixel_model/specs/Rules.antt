@@ -62,11 +62,11 @@ is_painted_in before register = any_at (λ earlier e. is_painting e && is_that r
 unfoldable pub raster_before : List Event → Option Attributes
 raster_before before = earliest raster_of before
 
--- whether some event paints the point
+-- whether some event covers the point
 unfoldable pub is_covered : List Event → ℕ → ℕ → Bool
 is_covered before x y = any_at (λ earlier e. falls earlier e x y) before
 
--- the register that was known when the point was painted last
+-- the register that was known when the point was last covered
 unfoldable pub register_at : List Event → ℕ → ℕ → Option ℕ
 register_at before x y =
     option_flatten (last_at (λ earlier e. if falls earlier e x y then Some (known earlier) else None) before)
@@ -117,21 +117,21 @@ breaks_redefined before (Step (Define register system x y z)) =
     (definition_of before register) false
 breaks_redefined before _ = false
 
--- the event paints the point, which is outside the box
+-- the event covers the point, which is outside the box
 pub record FallsOutside (before : List Event) (e : Event) (a : Attributes) (x y : ℕ) : Type 0 where
   pub painted : IsTrue (falls before e x y)
   pub outside : IsFalse (is_in_box a x y)
 
--- a command that paints a point outside the box
+-- a command that covers a point outside the box
 unfoldable pub BreaksOutside : List Event → Event → Type 0
 BreaksOutside before e = IsSomeAnd (raster_before before) (λ a. (x : ℕ) × (y : ℕ) × FallsOutside before e a x y)
 
--- the point is in the box, and no event paints it
+-- the point is in the box, and no event covers it
 pub record StaysBlank (before : List Event) (a : Attributes) (x y : ℕ) : Type 0 where
   pub inside : IsTrue (is_in_box a x y)
   pub blank : IsFalse (is_covered before x y)
 
--- the end, if some pixel of the box is still blank; no event follows an end, so those before it are all
+-- a finish, if some point of the box is covered by no event before it; in a whole list those are all the others
 unfoldable pub BreaksUncovered : List Event → Event → Type 0
 BreaksUncovered before e =
     IsTrue (is_finish e) × IsSomeAnd (raster_before before) (λ a. (x : ℕ) × (y : ℕ) × StaysBlank before a x y)
@@ -184,8 +184,8 @@ pub record IsFirstPoint (P : ℕ → ℕ → Type 0) (x y : ℕ) : Type 0 where
 unfoldable pub palette_left : ℕ → List Event → List (Option Parts)
 palette_left registers events = map (colour_of events) (range_with_len 0 registers)
 
--- the picture of the box, in which each pixel has the register that it was painted in last. If no rule is broken, there
--- is a box, and each pixel was painted in a known register
+-- the picture of the box: each pixel has the register that was known when it was last covered. Without such a register it
+-- is 0, and without raster attributes the box is 0 by 0; if no rule is broken, neither happens
 unfoldable pub picture_left : ℕ → List Event → PictureValue
 picture_left registers events =
     let a : Attributes = unwrap_or (raster_before events) (record { pan = 1; pad = 1; width = 0; height = 0 }) in

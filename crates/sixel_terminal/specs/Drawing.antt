@@ -36,7 +36,8 @@ unfoldable pub is_kept_on : Display → List Event → ℕ → ℕ → Bool
 is_kept_on t before x y =
     not t.choices.clips || option_map_or (λ a. is_in_box a x y) (raster_before before) true
 
--- the terminal sees the string: it has 8-bit controls, or the string has no 8-bit start or finish
+-- whether the terminal sees the string: it has 8-bit controls, or no start or finish of the string is one. That a
+-- terminal without them draws nothing of a string which only ends in one is an assumption of this model
 unfoldable pub is_seen_on : Display → List Event → Bool
 is_seen_on t events = t.choices.eight_bit || not (list_any is_eight_bit events)
 
@@ -47,7 +48,7 @@ selected_on t before =
     option_map_or (λ r. r % registers_of t) (latest (if t.choices.selects then named_by else select_of) before)
     t.choices.selected
 
--- a colour as the terminal takes it: out of range, it is clamped or gives none
+-- a colour as the terminal takes it: one out of range is clamped if `clamps`, otherwise ignored
 abbrev pub taken_on : Display → Parts → Option Parts
 taken_on t c = if is_colour c then Some c else if t.choices.clamps then Some (clamped c) else None
 
@@ -65,26 +66,29 @@ unfoldable pub map_on : Display → List Event → ℕ → Parts
 map_on t before register =
     unwrap_or (latest (defined_on t register) before) (slice_index_or t.colours register (Rgb 0 0 0))
 
--- the register in which the event fills the point: raster attributes fill their box on a filled ground
+-- the register in which raster attributes fill the point: the ground's, if the terminal fills and the point is in their
+-- box
 abbrev pub filled_on : Ground → Event → ℕ → ℕ → Option ℕ
 filled_on Kept e x y = None
 filled_on (Filled register) e x y = option_and_then (λ a. then_some (is_in_box a x y) register) (raster_of e)
 
--- the register in which the event paints the point
+-- the register in which the event paints the point: the selected one, if the event covers the point and it isn't cut
+-- off; otherwise as `filled_on`
 abbrev pub paint_at : Display → List Event → Event → ℕ → ℕ → Option ℕ
 paint_at t before e x y =
     if touches_on t before e x y && is_kept_on t before x y
     then Some (selected_on t before)
     else filled_on t.choices.ground e x y
 
--- the register in which the event paints the pixel, on the screen or off it, if the terminal sees the string
+-- the register in which the event paints the pixel, on the screen or off it; the point is counted from the origin.
+-- `paints_in` asks whether the terminal sees the string
 unfoldable pub paints_on : Display → List Event → Event → ℕ → ℕ → Option ℕ
 paints_on t before e x y =
     if nat_le t.choices.origin_x x && nat_le t.choices.origin_y y
     then paint_at t before e (x - t.choices.origin_x) (y - t.choices.origin_y)
     else None
 
--- the same for an event of the list `events`: nothing is painted if the terminal doesn't see the list
+-- None if the terminal doesn't see the string, whose events are `events`; otherwise as `paints_on`
 abbrev pub paints_in : Display → List Event → List Event → Event → ℕ → ℕ → Option ℕ
 paints_in t events before e x y = if is_seen_on t events then paints_on t before e x y else None
 
