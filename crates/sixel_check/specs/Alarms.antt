@@ -41,8 +41,8 @@ pub record IsPaintedUnlessClipped (registers : ℕ) (events : List Event) (i x y
   pub cut_off : (t : Display) → IsInClass registers t → t.choices.clips ≡ true → t.choices.ground ≡ Kept
       → ¬ IsPainted t events (t.choices.origin_x + x) (t.choices.origin_y + y)
 
--- a terminal without 8-bit controls paints no pixel, on its screen or off it; and if position i is that of a finish, each
--- terminal with them and with room shows the picture that is left in the box
+-- a terminal without 8-bit controls paints no pixel, on its screen or off it; and if position i is that of a finish,
+-- each terminal with them and with room shows the picture that is left in the box
 pub record IsUnseenWithoutEightBits (registers : ℕ) (events : List Event) (i : ℕ) : Type 0 where
   pub unpainted : (t : Display) (column row : ℕ) → IsInClass registers t → t.choices.eight_bit ≡ false
       → ¬ IsPainted t events column row

@@ -27,7 +27,8 @@ covers left count line rows bits x y =
     (bit_at bits k == 1) && nat_le ((band_rows * line + k) * rows) y
     && nat_lt y ((band_rows * line + k) * rows + rows))
 
--- whether the event is a data command that covers the point; a repeat of 0 has `zero_columns` columns, and a bit `rows` rows
+-- whether the event is a data command that covers the point; a repeat of 0 has `zero_columns` columns, and a bit `rows`
+-- rows
 unfoldable pub touches : ℕ → ℕ → List Event → Event → ℕ → ℕ → Bool
 touches zero_columns rows before e x y =
     covers (column zero_columns before) (columns_of zero_columns e) (band before) rows (bits_of e) x y

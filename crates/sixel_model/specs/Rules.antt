@@ -184,8 +184,8 @@ pub record IsFirstPoint (P : ℕ → ℕ → Type 0) (x y : ℕ) : Type 0 where
 unfoldable pub palette_left : ℕ → List Event → List (Option Parts)
 palette_left registers events = map (colour_of events) (range_with_len 0 registers)
 
--- the picture of the box: each pixel has the register that was known when it was last covered. Without such a register it
--- is 0, and without raster attributes the box is 0 by 0; if no rule is broken, neither happens
+-- the picture of the box: each pixel has the register that was known when it was last covered. Without such a register
+-- it is 0, and without raster attributes the box is 0 by 0; if no rule is broken, neither happens
 unfoldable pub picture_left : ℕ → List Event → PictureValue
 picture_left registers events =
     let a : Attributes = unwrap_or (raster_before events) (record { pan = 1; pad = 1; width = 0; height = 0 }) in

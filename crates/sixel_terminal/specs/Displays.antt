@@ -36,9 +36,10 @@ abbrev pub IsGroundBelow : ℕ → Ground → Type 0
 IsGroundBelow registers Kept = Unit {0}
 IsGroundBelow registers (Filled register) = register < registers
 
--- the terminal belongs to the class for pictures with `registers` registers: it has so many or more; the register that is
--- selected at the start, and that of a filled ground, are among its own; a repeat of 0 has at most one column, and a bit
--- at least one row; the screen has a colour for each pixel, and the origin is on it. The colours may be out of range
+-- the terminal belongs to the class for pictures with `registers` registers: it has so many or more; the register
+-- that is selected at the start, and that of a filled ground, are among its own; a repeat of 0 has at most one column,
+-- and a bit at least one row; the screen has a colour for each pixel, and the origin is on it. Colours may be out of
+-- range
 pub record IsInClass (registers : ℕ) (t : Display) : Type 0 where
   pub enough : registers ≤ registers_of t
   pub selected : t.choices.selected < registers_of t
