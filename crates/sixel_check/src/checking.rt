@@ -266,7 +266,7 @@ pub fn check<S: Source>(
     ensures failures { (S.state input.new).failures ≡ failures_after result (S.state input.old).failures }
     ensures unread { result ≡ Err ReadFault →
         IfSome (S.state input.old).remaining (NoFaultBefore (S.state input.new).remaining) }
-    ensures left { ReadsToEnd result (S.state input.old) (S.state input.new) }
+    ensures left { ReadsToEnd result (S.state input.old).remaining (S.state input.new).remaining }
     ensures memory { IfSome (S.state input.old).remaining (λ bytes. result ≡ Err InputFault.OutOfMemory
         → MayGrowIn (count_of profile) bytes) }
 {

@@ -36,10 +36,10 @@ one_more n = min (n + 1) (2 ^ 64 - 1)
 abbrev pub CountsFailure : {A E : Type 0} → Result A E → ℕ → ℕ → Type 0
 CountsFailure result old new = new ≡ (if is_ok result then old else one_more old)
 
--- some bytes were read, and what is left is what followed them; after an `Ok` nothing is left
-pub record ReadsToEnd {A E : Type 0} (result : Result A E) (old new : SourceState) : Type 0 where
-  pub read : (bytes : List ℕ) × Consumes old.remaining new.remaining bytes
-  pub ended : OnOk result (IsAtEnd new.remaining)
+-- of the bytes of a source some were read, and what is left is what followed them; after an `Ok` nothing is left
+pub record ReadsToEnd {A E : Type 0} (result : Result A E) (old new : Option (List ℕ)) : Type 0 where
+  pub read : (bytes : List ℕ) × Consumes old new bytes
+  pub ended : OnOk result (IsAtEnd new)
 
 -- on success all of the bytes were appended, on an `Err` a prefix of them
 abbrev pub Puts : {A E : Type 0} → Result A E → Option (List ℕ) → Option (List ℕ) → List ℕ → Type 0

@@ -1,14 +1,15 @@
 -- What a run of `check` owes.
-use Rattle.std.proofs.Common.{◌≡◌, ◌∙◌, ℕ, List, [], take, drop, Option, Some, None, refl, sym, ap, subst, inl, inr}
+use Rattle.std.proofs.Common.{◌≡◌, ◌∙◌, ◌<◌, ◌∷◌, ℕ, List, [], arith, length, take, drop, Option, Some, None, refl, sym, ap, subst, inl, inr}
 use Rattle.std.specs.Prelude.{Result, Ok, Err, IfSome}
 use Rattle.std.specs.Io.KnownBytes.{Appends}
-use Rattle.std.proofs.lemmas.List.{take-append-drop}
+use Rattle.std.proofs.lemmas.List.{length-append, take-append-drop}
 use Rattle.sixel_grammar.specs.declared.command.Placed.{Placed}
 use Rattle.sixel_grammar.specs.declared.fault.Fault.{Fault}
 use Rattle.sixel_grammar.specs.declared.fault.InputFault.{InputFault}
 use Rattle.sixel_grammar.specs.declared.fault.InputFault.TheVariants as input
-use Rattle.sixel_grammar.specs.Document.{Document}
+use Rattle.sixel_grammar.specs.Document.{Document, Parses, Piece, bytes_of, joined}
 use Rattle.sixel_grammar.proofs.TotalLemmas.{judged}
+use Rattle.sixel_grammar.proofs.ViableLemmas.{spells-some}
 use Rattle.sixel_grammar.proofs.UniqueLemmas.{document_once, fault_no_document, fault_once}
 use Rattle.sixel_check.specs.declared.verdict.Verdict.{Verdict}
 use Rattle.sixel_check.specs.Growth.{MayGrowIn}
@@ -22,6 +23,28 @@ use Rattle.sixel_run.specs.declared.task.Status.{Status}
 use Rattle.sixel_run.specs.Conversions.{of_input}
 use Rattle.sixel_run.specs.Outputs.{CheckGives, WroteBy, WroteNothing, status_of}
 use Rattle.sixel_run.specs.Texts.{Text, verdict_line}
+
+-- a document isn't empty
+some_bytes : (events : List Placed) (bytes : List ℕ) → Document events bytes → 0 < length bytes
+some_bytes events bytes d = split d.pieces d.parses
+  where
+    split : (pieces : List Piece) → Parses pieces bytes → 0 < length bytes
+    split [] q = absurd q.whole
+    split (p ∷ more) q =
+        omega (
+          arith,
+          ap length q.bytes_are,
+          length-append (joined (p ∷ more)) q.after,
+          length-append (bytes_of p) (joined more),
+          length-append p.filler p.text,
+          spells-some p.event p.text q.each.0.spells,
+        )
+
+-- so a check has no verdict on no bytes
+pub nothing_unjudged : (registers : ℕ) (text : Text) (status : Status) → CheckGives registers [] text (Ok status) → ⊥
+nothing_unjudged registers text status given =
+    let some : 0 < 0 = some_bytes given.0 [] given.1 in
+    absurd (omega (arith, some))
 
 -- two verdicts on one document are the same
 pub same_verdict : (registers : ℕ) (bytes : List ℕ) (d e : List Placed) (v w : Verdict)

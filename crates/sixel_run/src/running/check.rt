@@ -47,7 +47,7 @@ pub fn judge<S: Source>(alloc: Global, profile: Profile, input: &mut S) -> Resul
     ensures memory { answer_of result ≡ Err RunFault.OutOfMemory →
         IfSome (S.state input.old).remaining (MayGrowIn (count_of profile)) }
     ensures reads { (S.state input.new).failures ≡ failures_by Read (answer_of result) (S.state input.old).failures }
-    ensures left { ReadsToEnd result (S.state input.old) (S.state input.new) }
+    ensures left { ReadsToEnd (answer_of result) (S.state input.old).remaining (S.state input.new).remaining }
     ensures unwritten { answer_of result ≢ Err RunFault.Write }
 {
     Ok(sixel_check::check(alloc, profile, input)?)
