@@ -2,12 +2,12 @@
 use Rattle.std.proofs.Common.{◌≡◌, ◌+◌, ◌<◌, ◌≤◌, ℕ, zero, suc, Bool, true, false, ◌||◌, Option, Some, None, List, []}
 use Rattle.std.proofs.Common.{◌∷◌, ◌++◌, length, cond, refl, sym, ap, ap₂, ◌∙◌, arith, zero-add, length-append, inl}
 use Rattle.std.proofs.Common.{inr, length-set}
-use Rattle.std.specs.Prelude.{get_or, is_some, nat_lt, replicate, slice_set, position, unwrap_or}
+use Rattle.std.specs.Prelude.{get_or, is_some, nat_lt, slice_set, position, unwrap_or}
 use Rattle.std.specs.List.{list_any, position_from, position_or_len}
 use Rattle.std.proofs.lemmas.Bool.Decides.{nat_tests}
 use Rattle.std.proofs.lemmas.Bool.{cases_lt, lt-ltb}
 use Rattle.std.proofs.lemmas.Grind.{get_or-set_at}
-use Rattle.std.proofs.lemmas.List.{get_or_past, get_or-replicate, get_or-set_other, length-replicate}
+use Rattle.std.proofs.lemmas.List.{get_or-set_other}
 use Rattle.std.proofs.lemmas.List.Quantifiers.{position-Some}
 use Rattle.std.proofs.lemmas.List.Sums.{fails_before_first, position_or_len_is}
 use Rattle.std.proofs.lemmas.Iterator.Adapters.{position_from-zero}
@@ -231,11 +231,3 @@ registers_kept palette count colour unused = λ c i at.
     (λ k lt.
     ap (is_entry c) (get_or-set_other palette count k (Some colour) None (λ e. absurd (omega (arith, e, lt, before))))
     ∙ was.2 k lt)
-
-pub blank_is_unused : (n : ℕ) (palette : List (Option Parts)) (count : ℕ) → palette ≡ replicate n None
-    → IsUnusedFrom palette count
-blank_is_unused n palette count is = λ r past. elim (cases_lt r n) [
-  | inl below ↦ ap (λ (ps : List (Option Parts)). get_or ps r None) is ∙ get_or-replicate n r None None below
-  | inr above ↦ ap (λ (ps : List (Option Parts)). get_or ps r None) is ∙ get_or_past (replicate n None) r None
-      (omega (arith, length-replicate {A = Option Parts} n None, above))
-]

@@ -8,7 +8,7 @@ use Rattle.sixel_model.specs.Pictures.{is_side, most_side}
 use Rattle.sixel_ppm.specs.PpmReading.{◌>>=◌, Head, after_digits, after_filler, at_fault, begins_filler}
 use Rattle.sixel_ppm.specs.PpmReading.{filled_number, head_of, height_on, is_space, judged, maxval_on, most_header}
 use Rattle.sixel_ppm.specs.PpmReading.{wanted}
-use Rattle.sixel_ppm.specs.PpmHeader.{after_field, begun, digits_on, ended, ends, fault_of, grown, header_after}
+use Rattle.sixel_ppm.specs.PpmHeader.{after_field, digits_on, ended, ends, fault_of, grown, header_after}
 use Rattle.sixel_ppm.specs.PpmHeader.{header_in, header_on, in_filler, is_within, most_of, refused, step, step_in}
 use Rattle.sixel_ppm.specs.declared.ppm.PpmFault.{PpmFault}
 use Rattle.sixel_ppm.specs.declared.ppm.PpmReason.{PpmReason}
@@ -22,21 +22,6 @@ use Rattle.sixel_ppm.specs.declared.ppm.header.Part.TheVariants.{Digits}
 use Rattle.sixel_ppm.specs.declared.ppm.header.Next.{Next}
 use Rattle.sixel_ppm.specs.declared.ppm.header.Next.TheVariants.{More, Whole, Refused}
 use Rattle.sixel_ppm.specs.declared.ppm.header.Progress.{Progress}
-
-pub header_begins : (bytes : List ℕ) → head_of bytes ≡ header_on begun bytes
-header_begins bytes = refl
-
-short_in : (part : Part) (p : Progress) → header_in part p [] ≡ at_fault Short p.place
-short_in Letter p = refl
-short_in Version p = refl
-short_in AfterVersion p = refl
-short_in (Filler field) p = refl
-short_in (Comment field) p = refl
-short_in (Digits field) p = refl
-
--- the bytes end inside the header
-pub header_short : (p : Progress) → header_on p [] ≡ at_fault Short p.place
-header_short p = short_in p.part p
 
 abbrev InHeader : Progress → Type 0
 InHeader p = nat_lt p.place most_header ≡ true

@@ -6,7 +6,7 @@ use Rattle.std.specs.Prelude.{IfErr, IfOk, IfSome, IsErrAnd, IsOk, MatchResult}
 use Rattle.std.proofs.lemmas.Bool.Decides.{nat_tests}
 use Rattle.std.specs.Io.KnownBytes.{Consumes, IsAtEnd}
 use Rattle.std.proofs.lemmas.List.{append-nil, drop-take, take_more, take-append-drop}
-use Rattle.sixel_grammar.proofs.SourceLemmas.{all_read, consumes-then, take_none, take_past}
+use Rattle.sixel_grammar.proofs.SourceLemmas.{all_read, consumes-then}
 use Rattle.sixel_model.specs.Pictures.{PictureValue, is_side}
 use Rattle.sixel_ppm.specs.PpmFeeding.{Completes, HasStarted, IsInHeader, IsInSamples, MovesOn, ReadsRest}
 use Rattle.sixel_ppm.specs.PpmFeeding.{RefusesHeader, head_with}
@@ -44,14 +44,7 @@ pub record HasFed (old now : Progress) (piece : List ℕ) (k : ℕ) : Type 0 whe
   pub place : now.place ≡ old.place + k
   pub within : old.place ≤ 65536 → now.place ≤ 65536
 
-pub fed_none : (p : Progress) (piece : List ℕ) → HasFed p p piece 0
-fed_none p piece = record {
-  reads = λ rest. ap (λ (t : List ℕ). header_on p (t ++ rest)) (take_none 0 piece refl);
-  place = omega arith;
-  within = λ h. h;
-}
-
--- the step at index k
+-- the step at place k
 stepped : (old now : Progress) (piece : List ℕ) (k : ℕ) (rest : List ℕ) → HasFed old now piece k → k < length piece
     → header_on old (piece ++ rest) ≡ header_after (step now (get_or piece k 0)) (drop (k + 1) piece ++ rest)
 stepped old now piece k rest fed lt =
@@ -86,15 +79,6 @@ pub fed_refused : (old now : Progress) (reason : PpmReason) (place : ℕ) (piece
     → (rest : List ℕ) → header_on old (piece ++ rest) ≡ at_fault reason place
 fed_refused old now reason place piece k is fed lt rest =
     stepped old now piece k rest fed lt ∙ ap (λ (x : Next). header_after x (drop (k + 1) piece ++ rest)) is
-
-pub fed_all : (old now : Progress) (piece : List ℕ) (k : ℕ) → HasFed old now piece k → k ≡ length piece
-    → MovesOn old now piece
-fed_all old now piece k fed e = record {
-  reads = λ rest. ap (λ (t : List ℕ). header_on old (t ++ rest)) (sym (take_past k piece (omega arith)))
-      ∙ fed.reads rest;
-  place = omega (arith, fed.place);
-  within = fed.within;
-}
 
 -- ---- a piece
 

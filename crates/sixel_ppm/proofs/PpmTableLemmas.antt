@@ -1,4 +1,4 @@
--- Samples from a table of the registers' colours.
+-- On the samples of pixels, and on the table of a palette.
 use Rattle.std.proofs.Common.{◌≡◌, ℕ, ◌+◌, ◌*◌, ◌<◌, ◌≤◌, Bool, true, ◌&&◌, nat_lt, Option, Some, None, List, []}
 use Rattle.std.proofs.Common.{◌∷◌, ◌++◌, length, drop, take, get_or, is_some, refl, sym, ap, ap₂, ◌∙◌, arith}
 use Rattle.std.proofs.Common.{append-nil, inl, inr}
@@ -16,7 +16,7 @@ use lib.Lanes.{put_chunk}
 use Rattle.sixel_model.specs.Colours.{palette_at}
 use Rattle.sixel_model.specs.Pictures.{IsAnyPicture, PictureValue, is_side}
 use Rattle.sixel_ppm.specs.Ppm.{are_rgb, colours_of, is_rgb, ppm_header, ppm_text, samples_of}
-use Rattle.sixel_ppm.specs.PpmTables.{HasFourBytes, IsTable, bytes_of, samples_from, samples_made}
+use Rattle.sixel_ppm.specs.PpmTables.{IsTable, rgbx_of, samples_from}
 use Rattle.sixel_model.specs.Profiles.{count_of}
 use Rattle.sixel_model.specs.declared.colour.Parts.{Parts}
 use Rattle.sixel_model.specs.declared.colour.Parts.TheVariants.{Rgb, Hls}
@@ -25,15 +25,18 @@ use Rattle.sixel_model.specs.declared.profile.Profile.{Profile}
 use Rattle.sixel_model.specs.declared.profile.Profile.TheVariants.{Registers16, Registers256}
 use Rattle.sixel_ppm.proofs.PpmLemmas.{are_rgb_of, last_test, samples_by}
 
--- the samples with those of one more pixel
-samples_more : (table : List (List ℕ)) (registers : List ℕ) (i : ℕ) → i < length registers
-    → samples_from table (take (i + 1) registers)
-    ≡ samples_from table (take i registers) ++ take 3 (get_or table (get_or registers i 0) [])
-samples_more table registers i lt =
-    ap (samples_from table) (take_more registers i 0 lt)
-    ∙ flat_map-append (λ r. take 3 (get_or table r [])) (take i registers) (get_or registers i 0 ∷ [])
-    ∙ ap (λ (t : List ℕ). samples_from table (take i registers) ++ t)
-    (append-nil (take 3 (get_or table (get_or registers i 0) [])))
+pub samples_join : {P : Type 0} (rgbx : P → List ℕ) (xs ys : List P)
+    → samples_from rgbx (xs ++ ys) ≡ samples_from rgbx xs ++ samples_from rgbx ys
+samples_join rgbx = flat_map-append (λ p. take 3 (rgbx p))
+
+-- the samples of one more pixel
+samples_more : {P : Type 0} (rgbx : P → List ℕ) (pixels : List P) (i : ℕ) (pixel : P) → i < length pixels
+    → pixel ≡ get_or pixels i pixel
+    → samples_from rgbx (take (i + 1) pixels) ≡ samples_from rgbx (take i pixels) ++ take 3 (rgbx pixel)
+samples_more rgbx pixels i pixel lt its =
+    ap (samples_from rgbx) (take_more pixels i pixel lt ∙ ap (λ p. take i pixels ++ p ∷ []) (sym its))
+    ∙ samples_join rgbx (take i pixels) (pixel ∷ [])
+    ∙ ap (λ (t : List ℕ). samples_from rgbx (take i pixels) ++ t) (append-nil (take 3 (rgbx pixel)))
 
 -- storing four bytes, the last of which the next pixel overwrites
 stored_three : (at : ℕ) (xs entry : List ℕ) → length entry ≡ 4 → at + 4 ≤ length xs
@@ -47,96 +50,61 @@ stored_three at xs entry long room =
     ∙ ap (λ n. take (n + 3) (take at xs ++ entry)) (sym prefix)
     ∙ take-append-add (take at xs) entry 3
 
--- the samples of one more pixel are written after the others
-pub pixel_put : (table : List (List ℕ)) (registers head text : List ℕ) (i at : ℕ) (entry : List ℕ)
-    → i < length registers → at + 4 ≤ length text
-    → entry ≡ get_or table (get_or registers i 0) [] → length entry ≡ 4
-    → take at text ≡ head ++ samples_from table (take i registers)
-    → take (at + 3) (put_chunk at text entry) ≡ head ++ samples_from table (take (i + 1) registers)
-pixel_put table registers head text i at entry lt room is long before =
-    stored_three at text entry long room
+-- one more pixel's samples are put behind those of the ones before
+pub pixel_put : {P : Type 0} (rgbx : P → List ℕ) (pixels : List P) (head text : List ℕ) (i at : ℕ) (pixel : P)
+    (bytes : List ℕ) → i < length pixels → at + 4 ≤ length text → pixel ≡ get_or pixels i pixel
+    → bytes ≡ rgbx pixel → length bytes ≡ 4 → take at text ≡ head ++ samples_from rgbx (take i pixels)
+    → take (at + 3) (put_chunk at text bytes) ≡ head ++ samples_from rgbx (take (i + 1) pixels)
+pixel_put rgbx pixels head text i at pixel bytes lt room its is long before =
+    stored_three at text bytes long room
     ∙ ap₂ (λ (xs ys : List ℕ). xs ++ take 3 ys) before is
-    ∙ append_assoc head (samples_from table (take i registers)) (take 3 (get_or table (get_or registers i 0) []))
-    ∙ ap (λ (t : List ℕ). head ++ t) (sym (samples_more table registers i lt))
+    ∙ append_assoc head (samples_from rgbx (take i pixels)) (take 3 (rgbx pixel))
+    ∙ ap (λ (t : List ℕ). head ++ t) (sym (samples_more rgbx pixels i pixel lt its))
 
 -- the table with one more register's entry
 pub entry_more : (palette : List (Option Parts)) (table : List (List ℕ)) (n : ℕ) (entry : List ℕ)
-    → n < length table → entry ≡ bytes_of (palette_at palette n)
-    → ((r : ℕ) → r < n → get_or table r [] ≡ bytes_of (palette_at palette r))
-    → (r : ℕ) → r < n + 1 → get_or (slice_set table n entry) r [] ≡ bytes_of (palette_at palette r)
+    → n < length table → entry ≡ rgbx_of (palette_at palette n)
+    → ((r : ℕ) → r < n → get_or table r [] ≡ rgbx_of (palette_at palette r))
+    → (r : ℕ) → r < n + 1 → get_or (slice_set table n entry) r [] ≡ rgbx_of (palette_at palette r)
 entry_more palette table n entry room is before r lt = elim (cases_eq r n) [
   | inl same ↦ get_or-set_at table n r entry [] same room
-      ∙ is ∙ ap (λ k. bytes_of (palette_at palette k)) (sym same)
+      ∙ is ∙ ap (λ k. rgbx_of (palette_at palette k)) (sym same)
   | inr other ↦ get_or-set_other table n r entry [] other ∙ before r (omega arith)
 ]
 
--- the entries of a table have four bytes
-four : (o : Option Parts) → length (bytes_of o) ≡ 4
-four None = refl
-four (Some (Rgb red green blue)) = refl
-four (Some (Hls hue lightness saturation)) = refl
-
-pub four_bytes : (palette : List (Option Parts)) (table : List (List ℕ)) → IsTable palette table → HasFourBytes table
-four_bytes palette table is = λ r lt. ap length (is r lt) ∙ four (palette_at palette r)
-
 -- ---- a group of pixels
 
-pub parted : {X : Type 0} (rest group more : List X) (n : ℕ) → group ≡ take n rest → more ≡ drop n rest
-    → rest ≡ group ++ more
-parted rest group more n prefix back = rw (prefix, back) (sym (take-append-drop n rest))
-
--- what was written before, what a group adds, and what is left
-pub group_of : {X : Type 0} (f : List X → List ℕ) → ((ys zs : List X) → f (ys ++ zs) ≡ f ys ++ f zs)
-    → (rest group more : List X) (whole done head piece : List ℕ) → rest ≡ group ++ more
-    → whole ≡ done ++ (head ++ f rest) → piece ≡ head ++ f group → whole ≡ (done ++ piece) ++ f more
-group_of f joins rest group more whole done head piece cut was is =
+-- what was put before, what goes out with a group, and what is left after it
+pub group_put : {P : Type 0} (rgbx : P → List ℕ) (rest group more : List P) (n : ℕ) (whole done head piece : List ℕ)
+    → group ≡ take n rest → more ≡ drop n rest → whole ≡ done ++ (head ++ samples_from rgbx rest)
+    → piece ≡ head ++ samples_from rgbx group → whole ≡ (done ++ piece) ++ samples_from rgbx more
+group_put rgbx rest group more n whole done head piece front back was is =
+    let cut : rest ≡ group ++ more = rw (front, back) (sym (take-append-drop n rest)) in
     was
-    ∙ ap (λ (t : List ℕ). done ++ t) (ap (λ (t : List ℕ). head ++ t) (ap f cut ∙ joins group more)
-    ∙ sym (append_assoc head (f group) (f more)) ∙ ap (λ (t : List ℕ). t ++ f more) (sym is))
-    ∙ sym (append_assoc done piece (f more))
+    ∙ ap (λ (t : List ℕ). done ++ t)
+    (ap (λ (t : List ℕ). head ++ t) (ap (samples_from rgbx) cut ∙ samples_join rgbx group more)
+    ∙ sym (append_assoc head (samples_from rgbx group) (samples_from rgbx more))
+    ∙ ap (λ (t : List ℕ). t ++ samples_from rgbx more) (sym is))
+    ∙ sym (append_assoc done piece (samples_from rgbx more))
 
 -- nothing is left after the last group
-pub all_put : {X : Type 0} (f : List X → List ℕ) → f [] ≡ [] → (more : List X) (whole put : List ℕ)
-    → (length more == 0) ≡ true → whole ≡ put ++ f more → put ≡ whole
-all_put f none [] whole put e is = sym (is ∙ ap (λ (t : List ℕ). put ++ t) none ∙ append-nil put)
-all_put f none (x ∷ more) whole put e is = absurd (omega (arith, eqb-true (length (x ∷ more)) 0 e))
+pub all_put : {P : Type 0} (rgbx : P → List ℕ) (more : List P) (whole put : List ℕ) → (length more == 0) ≡ true
+    → whole ≡ put ++ samples_from rgbx more → put ≡ whole
+all_put rgbx [] whole put e is = sym (is ∙ append-nil put)
+all_put rgbx (x ∷ more) whole put e is = absurd (omega (arith, eqb-true (length (x ∷ more)) 0 e))
 
 pub copied_prefix : (header copied tail : List ℕ) → copied ≡ header → take (length header) (copied ++ tail) ≡ header
 copied_prefix header copied tail is =
     ap (λ (t : List ℕ). take (length header) (t ++ tail)) is ∙ take_at header tail (length header) refl
 
-pub samples_join : (table : List (List ℕ)) (xs ys : List ℕ)
-    → samples_from table (xs ++ ys) ≡ samples_from table xs ++ samples_from table ys
-samples_join table = flat_map-append (λ r. take 3 (get_or table r []))
+-- ---- colours that are no registers'
 
-pub made_join : (xs ys : List Parts) → samples_made (xs ++ ys) ≡ samples_made xs ++ samples_made ys
-made_join = flat_map-append (λ c. take 3 (bytes_of (Some c)))
-
--- ---- colours without registers
-
-pub made_are : (colours : List Parts) → are_rgb colours ≡ true → samples_made colours ≡ flat_map samples_of colours
-made_are [] rgb = refl
-made_are (Rgb red green blue ∷ colours) rgb =
-    ap (λ (t : List ℕ). red ∷ green ∷ blue ∷ t) (made_are colours (and_parts (is_rgb (Rgb red green blue)) _ rgb).1)
-made_are (Hls hue lightness saturation ∷ colours) rgb = cc
-
-made_more : (colours : List Parts) (i : ℕ) (colour : Parts) → i < length colours → colour ≡ get_or colours i colour
-    → samples_made (take (i + 1) colours) ≡ samples_made (take i colours) ++ take 3 (bytes_of (Some colour))
-made_more colours i colour lt its =
-    ap samples_made (take_more colours i colour lt ∙ ap (λ c. take i colours ++ c ∷ []) (sym its))
-    ∙ made_join (take i colours) (colour ∷ [])
-    ∙ ap (λ (t : List ℕ). samples_made (take i colours) ++ t) (append-nil (take 3 (bytes_of (Some colour))))
-
--- the samples of one more colour are written after the others
-pub colour_put : (colours : List Parts) (head text : List ℕ) (i at : ℕ) (colour : Parts) (bytes : List ℕ)
-    → i < length colours → at + 4 ≤ length text → colour ≡ get_or colours i colour
-    → bytes ≡ bytes_of (Some colour) → take at text ≡ head ++ samples_made (take i colours)
-    → take (at + 3) (put_chunk at text bytes) ≡ head ++ samples_made (take (i + 1) colours)
-colour_put colours head text i at colour bytes lt room its is before =
-    stored_three at text bytes (ap (λ (t : List ℕ). length t) is ∙ four (Some colour)) room
-    ∙ ap₂ (λ (xs ys : List ℕ). xs ++ take 3 ys) before is
-    ∙ append_assoc head (samples_made (take i colours)) (take 3 (bytes_of (Some colour)))
-    ∙ ap (λ (t : List ℕ). head ++ t) (sym (made_more colours i colour lt its))
+pub direct_are : (colours : List Parts) → are_rgb colours ≡ true
+    → samples_from (λ c. rgbx_of (Some c)) colours ≡ flat_map samples_of colours
+direct_are [] rgb = refl
+direct_are (Rgb red green blue ∷ colours) rgb =
+    ap (λ (t : List ℕ). red ∷ green ∷ blue ∷ t) (direct_are colours (and_parts (is_rgb (Rgb red green blue)) _ rgb).1)
+direct_are (Hls hue lightness saturation ∷ colours) rgb = cc
 
 -- ---- the table of a picture's palette
 
@@ -166,7 +134,7 @@ rgb_by_palette p is each = are_rgb_of p ∙ all_true _ p.registers (λ r. elim (
 
 -- the samples of an RGB colour are the first three bytes of its entry
 prefix_of : (o : Option Parts) (cs : List Parts) (t : List ℕ) → is_some o ≡ true → option_map_or is_rgb o true ≡ true
-    → t ≡ flat_map samples_of cs → take 3 (bytes_of o) ++ t ≡ flat_map samples_of (cons_option o cs)
+    → t ≡ flat_map samples_of cs → take 3 (rgbx_of o) ++ t ≡ flat_map samples_of (cons_option o cs)
 prefix_of None cs t some rgb e = cc
 prefix_of (Some (Rgb red green blue)) cs t some rgb e = ap (λ (u : List ℕ). red ∷ green ∷ blue ∷ u) e
 prefix_of (Some (Hls hue lightness saturation)) cs t some rgb e = cc
@@ -180,19 +148,21 @@ within_palette palette r some = elim (cases_lt r (length palette)) [
 samples_are : (palette : List (Option Parts)) (table : List (List ℕ)) (registers : List ℕ) → length palette ≤ 256
     → IsTable palette table → list_all (λ r. is_some (palette_at palette r)) registers ≡ true
     → list_all (λ r. option_map_or is_rgb (palette_at palette r) true) registers ≡ true
-    → samples_from table registers ≡ samples_by palette registers
+    → samples_from (λ r. get_or table r []) registers ≡ samples_by palette registers
 samples_are palette table [] short is some rgb = refl
 samples_are palette table (r ∷ registers) short is some rgb =
     let have = and_parts (is_some (palette_at palette r)) _ some in
     let are = and_parts (option_map_or is_rgb (palette_at palette r) true) _ rgb in
     let below : r < 256 = omega (arith, within_palette palette r have.0) in
-    ap (λ (bs : List ℕ). take 3 bs ++ samples_from table registers) (is r below)
-    ∙ prefix_of (palette_at palette r) (filter_map (palette_at palette) registers) (samples_from table registers)
+    let rest = samples_from (λ s. get_or table s []) registers in
+    ap (λ (bs : List ℕ). take 3 bs ++ rest) (is r below)
+    ∙ prefix_of (palette_at palette r) (filter_map (palette_at palette) registers) rest
     have.0 are.0 (samples_are palette table registers short is have.1 are.1)
 
 -- the samples of a picture's pixels, by its palette's table
 pub samples_of_picture : (p : PictureValue) (table : List (List ℕ)) → IsAnyPicture p → IsTable p.palette table
-    → are_rgb (colours_of p) ≡ true → samples_from table p.registers ≡ flat_map samples_of (colours_of p)
+    → are_rgb (colours_of p) ≡ true
+    → samples_from (λ r. get_or table r []) p.registers ≡ flat_map samples_of (colours_of p)
 samples_of_picture p table is entries rgb =
     let count = count_of is.profile in
     let some : list_all (λ r. is_some (palette_at p.palette r)) p.registers ≡ true =

@@ -1,7 +1,7 @@
-//! The samples of pixels, many at a time, from a table of the registers' colours.
+//! The samples of pixels, many at a time: of registers by a table, of colours as they are.
 
-ghost use Rattle.std.specs.Prelude.{◌≡◌, ◌+◌, ◌++◌, ◌*◌, ◌<◌, length, take};
-ghost use Rattle.sixel_ppm.specs.PpmTables.{HasFourBytes, IsTable, bytes_of, samples_from, samples_made};
+ghost use Rattle.std.specs.Prelude.{◌≡◌, ◌+◌, ◌++◌, ◌*◌, ◌<◌, ℕ, List, Some, [], get_or, length, take};
+ghost use Rattle.sixel_ppm.specs.PpmTables.{IsTable, rgbx_of, samples_from};
 
 use sixel_model::{Colour, MOST_REGISTERS, Palette, Parts};
 use std::simd::prelude::*;
@@ -12,12 +12,41 @@ pub(crate) const PIXELS: usize = 21_840;
 /// Room for a header, for these samples, and for one byte after the last sample.
 pub(crate) const ROOM: usize = 29 + 3 * PIXELS + 1;
 
-/// Four bytes for each register, written by one store. The next pixel overwrites the fourth.
+/// Turns a pixel into red, green, blue and a byte more. The four go out in one store, and the next pixel's go over the
+/// last.
+pub(crate) trait ToRgbx<P> {
+    /// The four bytes of a pixel.
+    ghost rgbx: { Self → P → List ℕ };
+
+    fn to_rgbx(&self, pixel: P) -> [u8; 4]
+        ensures { result ≡ rgbx self.now pixel };
+}
+
+/// The four bytes of each register, for pixels that are registers.
 pub(crate) type Table = [[u8; 4]; MOST_REGISTERS];
 
-/// The three samples of a register's RGB colour and a byte 0, or zeros if it has none.
-fn bytes_of(entry: Option<Colour>) -> [u8; 4]
-    ensures { result ≡ bytes_of entry }
+impl ToRgbx<u8> for Table {
+    ghost rgbx = { λ table register. get_or table register [] };
+
+    fn to_rgbx(&self, register: u8) -> [u8; 4] {
+        self[register as usize]
+    }
+}
+
+/// For pixels that are colours, which need no table.
+pub(crate) struct DirectColour;
+
+impl ToRgbx<Colour> for DirectColour {
+    ghost rgbx = { λ _ colour. rgbx_of (Some colour) };
+
+    fn to_rgbx(&self, colour: Colour) -> [u8; 4] {
+        rgbx_of(Some(colour))
+    }
+}
+
+/// The samples of a register's colour, if it has one of red, green and blue, and a byte more.
+fn rgbx_of(entry: Option<Colour>) -> [u8; 4]
+    ensures { result ≡ rgbx_of entry }
 {
     match entry {
         None => [0; 4],
@@ -34,33 +63,25 @@ pub(crate) fn table_of(palette: &Palette) -> Table
 {
     let mut table = [[0; 4]; MOST_REGISTERS];
     for register in 0..MOST_REGISTERS {
-        table[register] = bytes_of(palette.get(register as u8));
+        table[register] = rgbx_of(palette.get(register as u8));
     }
     table
 }
 
-/// Writes the samples of the pixels with these registers into the buffer, from `start` on.
-pub(crate) fn put_samples(text: &mut [u8], start: usize, table: &Table, registers: &[u8])
-    requires entries { HasFourBytes table.now }
-    requires room { start + 3 * length registers.now < length text.old }
-    ensures { take (start + 3 * length registers.now) text.new
-        ≡ take start text.old ++ samples_from table.now registers.now }
+/// Puts the samples of these pixels behind the first bytes of a buffer.
+pub(crate) fn put_samples<P: Copy, C: ToRgbx<P>>(
+    text: &mut [u8],
+    start: usize,
+    colours: &C,
+    pixels: &[P],
+)
+    requires { start + 3 * length pixels.now < length text.old }
+    ensures { take (start + 3 * length pixels.now) text.new
+        ≡ take start text.old ++ samples_from (C.rgbx colours.now) pixels.now }
 {
     let mut at = start;
-    for register in registers {
-        u8x4::from_array(table[*register as usize]).copy_to_slice(&mut text[at..]);
-        at += 3;
-    }
-}
-
-/// Writes the samples of these colours into the buffer, from `start` on.
-pub(crate) fn put_colour_samples(text: &mut [u8], start: usize, colours: &[Colour])
-    requires { start + 3 * length colours.now < length text.old }
-    ensures { take (start + 3 * length colours.now) text.new ≡ take start text.old ++ samples_made colours.now }
-{
-    let mut at = start;
-    for colour in colours {
-        u8x4::from_array(bytes_of(Some(*colour))).copy_to_slice(&mut text[at..]);
+    for pixel in pixels {
+        u8x4::from_array(colours.to_rgbx(*pixel)).copy_to_slice(&mut text[at..]);
         at += 3;
     }
 }
