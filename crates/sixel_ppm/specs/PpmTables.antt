@@ -1,11 +1,11 @@
--- The samples of pixels, by a table where they are registers. Contracts of private functions alone cite these.
+-- The samples of pixels, and a table of them by register. Only contracts of private functions cite these.
 use Rattle.std.specs.Prelude.{◌≡◌, ◌<◌, ℕ, Option, Some, None, List, [], ◌∷◌, get_or, take}
 use Rattle.std.specs.List.{flat_map}
 use Rattle.sixel_model.specs.Colours.{palette_at}
 use Rattle.sixel_model.specs.declared.colour.Parts.{Parts}
 use Rattle.sixel_model.specs.declared.colour.Parts.TheVariants.{Rgb, Hls}
 
--- the samples of an entry, and a byte more; an entry that has none has zeros
+-- the samples of an RGB colour, otherwise zeros, and one more byte
 abbrev pub rgbx_of : Option Parts → List ℕ
 rgbx_of None = 0 ∷ 0 ∷ 0 ∷ 0 ∷ []
 rgbx_of (Some (Rgb red green blue)) = red ∷ green ∷ blue ∷ 0 ∷ []

@@ -1,4 +1,4 @@
-//! The samples of pixels, many at a time: of registers by a table, of colours as they are.
+//! The samples of many pixels at a time; a table gives those of registers.
 
 ghost use Rattle.std.specs.Prelude.{◌≡◌, ◌+◌, ◌++◌, ◌*◌, ◌<◌, ℕ, List, Some, [], get_or, length, take};
 ghost use Rattle.sixel_ppm.specs.PpmTables.{IsTable, rgbx_of, samples_from};
@@ -12,8 +12,8 @@ pub(crate) const PIXELS: usize = 21_840;
 /// Room for a header, for these samples, and for one byte after the last sample.
 pub(crate) const ROOM: usize = 29 + 3 * PIXELS + 1;
 
-/// Turns a pixel into red, green, blue and a byte more. The four go out in one store, and the next pixel's go over the
-/// last.
+/// Turns a pixel into red, green, blue and one more byte. One store writes the four, and the next pixel's overwrite the
+/// fourth.
 pub(crate) trait ToRgbx<P> {
     /// The four bytes of a pixel.
     ghost rgbx: { Self → P → List ℕ };
@@ -22,7 +22,7 @@ pub(crate) trait ToRgbx<P> {
         ensures { result ≡ rgbx self.now pixel };
 }
 
-/// The four bytes of each register, for pixels that are registers.
+/// The four bytes of each register.
 pub(crate) type Table = [[u8; 4]; MOST_REGISTERS];
 
 impl ToRgbx<u8> for Table {
@@ -33,7 +33,7 @@ impl ToRgbx<u8> for Table {
     }
 }
 
-/// For pixels that are colours, which need no table.
+/// For pixels that are colours and need no table.
 pub(crate) struct DirectColour;
 
 impl ToRgbx<Colour> for DirectColour {
@@ -44,7 +44,7 @@ impl ToRgbx<Colour> for DirectColour {
     }
 }
 
-/// The samples of a register's colour, if it has one of red, green and blue, and a byte more.
+/// The samples of an RGB colour, otherwise zeros, and one more byte.
 fn rgbx_of(entry: Option<Colour>) -> [u8; 4]
     ensures { result ≡ rgbx_of entry }
 {
