@@ -1,8 +1,7 @@
 -- What the end of a run says of its bytes.
-use Rattle.std.proofs.Common.{◌≡◌, ℕ, List, Option, Some, None, subst, sym}
+use Rattle.std.proofs.Common.{◌≡◌, ℕ, List, Option, Some, None, subst}
 use Rattle.std.specs.Prelude.{Result, Ok, Err, IfSome}
-use Rattle.std.specs.Fmt.{option_append}
-use Rattle.std.specs.Io.KnownBytes.{Consumes}
+use Rattle.std.specs.Io.KnownBytes.{Keeps}
 use Rattle.sixel_check.specs.declared.verdict.Finding.{Finding}
 use Rattle.sixel_program.specs.declared.exit.Exit.TheVariants as exit
 use Rattle.sixel_run.specs.declared.fault.RunFault.{RunFault}
@@ -30,9 +29,8 @@ broken_gives t (Some bytes) left (Ok status.Done) had has wrote is = let no : ex
 broken_gives t (Some bytes) left (Ok (status.Broken finding)) had has wrote is = (wrote.0, finding, wrote.1)
 broken_gives t (Some bytes) left (Err fault) had has wrote is = let no : exit.Refused ≡ exit.Broken = is in cc
 
--- what is said of the bytes of a reader of which some were read holds of those bytes and its rest
-pub chained : (P : List ℕ → Type 0) (told rest : Option (List ℕ)) (prefix : List ℕ) → Consumes told rest prefix
-    → IfSome (option_append (Some prefix) rest) P → IfSome told P
-chained P None rest prefix consumed h = tt
-chained P (Some bytes) None prefix consumed h = absurd consumed
-chained P (Some bytes) (Some rest) prefix consumed h = subst P (sym consumed) h
+-- what is said of the bytes of a source that has the bytes that were told is said of those
+pub kept : (P : List ℕ → Type 0) (told has : Option (List ℕ)) → Keeps told has → IfSome has P → IfSome told P
+kept P None has same h = tt
+kept P (Some bytes) None same h = absurd same
+kept P (Some bytes) (Some more) same h = subst P same h

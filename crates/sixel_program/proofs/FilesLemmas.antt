@@ -35,14 +35,16 @@ use Rattle.sixel_program.specs.Files.{text_of_end, told_of, worse}
 use Rattle.sixel_program.specs.Names.{named_fault_line}
 use Rattle.sixel_run.specs.Outputs.{TakesMemory, Wrote}
 use Rattle.sixel_run.specs.Texts.{Text, fault_line, fault_parts}
-use Rattle.sixel_program.proofs.EndLemmas.{chained}
+use Rattle.sixel_program.proofs.EndLemmas.{kept}
 
 -- ---- what is said of one file
 
--- a check that isn't refused says nothing
-pub unsaid : (profile : Profile) (status : Status) → complaint (Check profile) None (Ok status) ≡ []
-unsaid profile status.Done = refl
-unsaid profile (status.Broken finding) = refl
+-- what is said of a check of an input without a name is put as of a run
+pub said_quietly : (profile : Profile) (answer : Result Status RunFault) (a b : SinkState)
+    → SaysOfCheck None answer (change a b) → IsPut (complaint (Check profile) None answer) (change a b)
+said_quietly profile (Ok status.Done) a b same = rw same (inl (Appends-none a.taken, refl))
+said_quietly profile (Ok (status.Broken finding)) a b same = rw same (inl (Appends-none a.taken, refl))
+said_quietly profile (Err fault) a b put = put
 
 -- ---- what is put
 
@@ -56,7 +58,7 @@ one_put text a b put = (b, put, refl)
 
 -- what is said of a check was put
 pub said_put : (name : Text) (answer : Result Status RunFault) (a b : SinkState)
-    → SaysOfCheck name answer (change a b) → ArePut (said_of_check name answer) (change a b)
+    → SaysOfCheck (Some name) answer (change a b) → ArePut (said_of_check name answer) (change a b)
 unfolding ArePut
 said_put name (Ok status) a b says = says
 said_put name (Err fault) a b says = one_put (named_fault_line name fault) a b says
@@ -192,46 +194,33 @@ module _ (profile : Profile) (q : Bool) (contents : Text → Option (List ℕ)) 
 
 -- ---- one file
 
--- the bytes that were read are a prefix
-pub prefix_consumed : (told rest : Option (List ℕ)) (prefix : List ℕ) → Consumes told rest prefix → IsPrefix told prefix
-prefix_consumed None rest prefix consumed = tt
-prefix_consumed (Some bytes) None prefix consumed = absurd consumed
-prefix_consumed (Some bytes) (Some rest) prefix consumed = (rest, consumed)
-
 pub no_prefix : (told : Option (List ℕ)) → IsPrefix told []
 no_prefix None = tt
 no_prefix (Some bytes) = (bytes, refl)
 
-memory_chained : (t : Task) (told rest : Option (List ℕ)) (prefix : List ℕ) → Consumes told rest prefix
-    → TakesMemory t (option_append (Some prefix) rest) → TakesMemory t told
-memory_chained task.List told rest prefix consumed takes = absurd takes
-memory_chained (task.Check profile) told rest prefix consumed takes = chained _ told rest prefix consumed takes
-memory_chained (task.Render profile) told rest prefix consumed takes = chained _ told rest prefix consumed takes
-memory_chained (task.Encode profile) told rest prefix consumed takes = chained _ told rest prefix consumed takes
-memory_chained (task.Show profile showing fill selects width height) told rest prefix consumed takes = tt
-memory_chained (task.ShowBox profile showing fill selects) told rest prefix consumed takes = tt
+memory_kept : (t : Task) (told has : Option (List ℕ)) → Keeps told has → TakesMemory t has → TakesMemory t told
+memory_kept task.List told has same takes = absurd takes
+memory_kept (task.Check profile) told has same takes = kept _ told has same takes
+memory_kept (task.Render profile) told has same takes = kept _ told has same takes
+memory_kept (task.Encode profile) told has same takes = kept _ told has same takes
+memory_kept (task.Show profile showing fill selects width height) told has same takes = tt
+memory_kept (task.ShowBox profile showing fill selects) told has same takes = tt
 
--- a run over the bytes that were read and the rest is one over all of them
-pub run_chained : (t : Task) (name : Option Text) (prefix : List ℕ) (x : Exit) (told rest : Option (List ℕ)) (n : ℕ)
-    (i : SourceState) (o e : Change SinkState) → Consumes told rest prefix
-    → RunEnds t name prefix x (change (record { remaining = option_append (Some prefix) rest; failures = n }) i) o e
-    → RunEnds t name prefix x (change (record { remaining = told; failures = n }) i) o e
-run_chained t name prefix x told rest n i o e consumed ended = record {
+-- a run over a source that has the bytes that were told is one over those
+pub run_kept : (t : Task) (name : Option Text) (prefix : List ℕ) (x : Exit) (told : Option (List ℕ))
+    (i : Change SourceState) (o e : Change SinkState) → Keeps told i.old.remaining → RunEnds t name prefix x i o e
+    → RunEnds t name prefix x (change (record { remaining = told; failures = i.old.failures }) i.new) o e
+run_kept t name prefix x told i o e same ended = record {
   answer = ended.answer;
-  wrote = chained (λ (bytes : List ℕ). Wrote t bytes i.remaining ended.answer o.old.taken o.new.taken) told rest prefix
-      consumed ended.wrote;
-  memory = λ is. memory_chained t told rest prefix consumed (ended.memory is);
+  wrote = kept (λ (bytes : List ℕ). Wrote t bytes i.new.remaining ended.answer o.old.taken o.new.taken) told
+      i.old.remaining same ended.wrote;
+  memory = λ is. memory_kept t told i.old.remaining same (ended.memory is);
   read = ended.read;
   written = ended.written;
   flushed = ended.flushed;
   ends = ended.ends;
   said = ended.said;
 }
-
--- nothing before what is told
-pub none_before : (told : Option (List ℕ)) → option_append (Some []) told ≡ told
-none_before None = refl
-none_before (Some bytes) = refl
 
 -- a file that couldn't be opened
 pub unopened : (profile : Profile) (name : Text) (told : Option (List ℕ)) → IsFileEnd profile (record {
@@ -307,20 +296,18 @@ module _ (t : Task) (contents : Text → Option (List ℕ)) (name : Text) (given
     ended = inl ended;
   }
 
-  pub file_ends : (x : Exit) (i after : SourceState) (rest : Option (List ℕ)) (n : ℕ) (prefix : List ℕ)
-      → is_dash name ≡ false → Consumes (contents name) rest prefix
-      → RunEnds t (Some name) prefix x (change (record { remaining = option_append (Some prefix) rest; failures = n }) after)
-      o e
-      → FileEnds t contents name given x (change i i) o e
-  file_ends x i after rest n prefix file consumed ended = record {
+  pub file_ends : (x : Exit) (i : SourceState) (file : Change SourceState) (prefix : List ℕ) → is_dash name ≡ false
+      → Keeps (contents name) file.old.remaining → IsPrefix (contents name) prefix
+      → RunEnds t (Some name) prefix x file o e → FileEnds t contents name given x (change i i) o e
+  file_ends x i file prefix other same begins ended = record {
     prefix = prefix;
-    file = change (record { remaining = contents name; failures = n }) after;
-    given_prefix = λ is. let no : true ≡ false = sym is ∙ file in cc;
-    own_prefix = λ is. prefix_consumed (contents name) rest prefix consumed;
-    told = rw file refl;
-    is_input = λ is. let no : true ≡ false = sym is ∙ file in cc;
+    file = change (record { remaining = contents name; failures = file.old.failures }) file.new;
+    given_prefix = λ is. let no : true ≡ false = sym is ∙ other in cc;
+    own_prefix = λ is. begins;
+    told = rw other refl;
+    is_input = λ is. let no : true ≡ false = sym is ∙ other in cc;
     stays = λ is. refl;
-    ended = inl (run_chained t (Some name) prefix x (contents name) rest n after o e consumed ended);
+    ended = inl (run_kept t (Some name) prefix x (contents name) file o e same ended);
   }
 
 pub unopened_ends : (t : Task) (contents : Text → Option (List ℕ)) (name : Text) (given : List ℕ) (i : SourceState)

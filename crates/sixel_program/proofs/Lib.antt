@@ -1,3 +1,4 @@
+pub mod PeekedLemmas
 pub mod PutLemmas
 pub mod EndLemmas
 pub mod FilesLemmas

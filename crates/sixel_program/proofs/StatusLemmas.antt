@@ -2,8 +2,7 @@
 use Rattle.std.proofs.Common.{◌≡◌, ◌∙◌, ◌≤◌, ◌∷◌, ℕ, Bool, true, false, List, [], Option, Some, None, arith, inl, inr}
 use Rattle.std.proofs.Common.{length, map, refl, subst, suc, sym, zero}
 use Rattle.std.specs.Prelude.{All, Contains, Err, IfSome, Ok, Result, cond, if◌then◌else◌, slice_index_or}
-use Rattle.std.specs.Fmt.{option_append}
-use Rattle.std.specs.Io.KnownBytes.{Consumes}
+use Rattle.std.specs.Io.KnownBytes.{Keeps}
 use Rattle.std.specs.List.{filter}
 use Rattle.std.proofs.lemmas.List.Elements.{All-cons, All-head, All-nil, All-tail, All-weaker}
 use Rattle.sixel_io.specs.Devices.{Change, SinkState, SourceState}
@@ -22,7 +21,7 @@ use Rattle.sixel_program.specs.Files.{NamesInputOnce, RequestEnds, Tells, exit_o
 use Rattle.sixel_program.specs.Files.{left_after, names_of, names_read}
 use Rattle.sixel_program.specs.Files.{told_of}
 use Rattle.sixel_run.specs.Texts.{Text}
-use Rattle.sixel_program.proofs.EndLemmas.{broken_gives, chained, done_gives}
+use Rattle.sixel_program.proofs.EndLemmas.{broken_gives, done_gives, kept}
 use Rattle.sixel_program.proofs.FilesLemmas.{request_read}
 use Rattle.sixel_program.proofs.SeveralLemmas.{contains_later, greatest_of, reached}
 
@@ -212,15 +211,12 @@ module _ (t : Task) (q : Bool) (names : List Text) (contents : Text → Option (
         (rw checked.2 at once))
   ]
 
--- what is said of the bytes that were read and the rest of standard input is said of all that it had
-pub told_chained : (P : List ℕ → Type 0) (contents : Text → Option (List ℕ)) (told rest : Option (List ℕ))
-    (prefix : List ℕ) (name : Text) → Consumes told rest prefix
-    → IfSome (told_of contents (option_append (Some prefix) rest) name) P → IfSome (told_of contents told name) P
-told_chained P contents told rest prefix name consumed =
-    either P (is_dash name) told rest prefix (contents name) consumed
+-- what is said of the bytes of a source that has those of standard input is said of those
+pub told_kept : (P : List ℕ → Type 0) (contents : Text → Option (List ℕ)) (told has : Option (List ℕ)) (name : Text)
+    → Keeps told has → IfSome (told_of contents has name) P → IfSome (told_of contents told name) P
+told_kept P contents told has name same = either P (is_dash name) told has (contents name) same
   where
-    either : (P : List ℕ → Type 0) (b : Bool) (told rest : Option (List ℕ)) (prefix : List ℕ)
-        (other : Option (List ℕ)) → Consumes told rest prefix
-        → IfSome (if b then option_append (Some prefix) rest else other) P → IfSome (if b then told else other) P
-    either P true told rest prefix other consumed h = chained P told rest prefix consumed h
-    either P false told rest prefix other consumed h = h
+    either : (P : List ℕ → Type 0) (b : Bool) (told has other : Option (List ℕ)) → Keeps told has
+        → IfSome (if b then has else other) P → IfSome (if b then told else other) P
+    either P true told has other same h = kept P told has same h
+    either P false told has other same h = h

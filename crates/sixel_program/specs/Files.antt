@@ -19,7 +19,7 @@ use Rattle.sixel_run.specs.declared.task.Status.{Status}
 use Rattle.sixel_run.specs.declared.task.Status.TheVariants as status
 use Rattle.sixel_run.specs.declared.task.Task.{Task}
 use Rattle.sixel_run.specs.declared.task.Task.TheVariants.{Check}
-use Rattle.sixel_program.specs.Exits.{IsPut, RunEnds, complaint, exit_code, exit_for_answer}
+use Rattle.sixel_program.specs.Exits.{IsPut, RunEnds, complaint, exit_code, exit_for_answer, fault_said}
 use Rattle.sixel_run.specs.Outputs.{CountsReads, CountsWrites, Gives, TakesMemory, WroteNothing, Wrote, failures_by}
 use Rattle.sixel_program.specs.Formats.{advice}
 use Rattle.sixel_program.specs.Names.{named, named_fault_line}
@@ -171,10 +171,10 @@ ArePut [] sink = sink.new ≡ sink.old
 ArePut (text ∷ rest) sink =
     (between : SinkState) × IsPut text (change sink.old between) × ArePut rest (change between sink.new)
 
--- the check of a file of this name had this answer, and what is said of it was put to a sink
-abbrev pub SaysOfCheck : Text → Result Status RunFault → Change SinkState → Type 0
+-- the check of an input, which has this name or none, had this answer, and what is said of it was put to a sink
+abbrev pub SaysOfCheck : Option Text → Result Status RunFault → Change SinkState → Type 0
 SaysOfCheck name (Ok status) errors = errors.new ≡ errors.old
-SaysOfCheck name (Err fault) errors = IsPut (named_fault_line name fault) errors
+SaysOfCheck name (Err fault) errors = IsPut (fault_said name fault) errors
 
 -- what a check of this name, which wrote this line and had this answer, did to the two sinks: what is written and
 -- what is said of it was put to them; or a prefix of the first was, and that sink failed
@@ -183,7 +183,7 @@ abbrev pub IsOutcome : {E : Type 0} → Bool → Text → Text → Result Status
 IsOutcome is_quiet name line answer (Ok exit) output errors =
     (exit ≡ exit_for_answer answer)
     × Appends output.old.taken output.new.taken (file_text is_quiet name line answer)
-    × (output.new.failures ≡ output.old.failures) × SaysOfCheck name answer errors
+    × (output.new.failures ≡ output.old.failures) × SaysOfCheck (Some name) answer errors
 IsOutcome is_quiet name line answer (Err fault) output errors =
     ((count : ℕ) × Appends output.old.taken output.new.taken (take count (file_text is_quiet name line answer)))
     × (is_quiet ≡ false) × (output.new.failures ≡ one_more output.old.failures)

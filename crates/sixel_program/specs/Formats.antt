@@ -42,8 +42,11 @@ advice_on Jpeg = codes "sixel: this is a JPEG; `jpegtopnm | ppmtoppm` makes a PP
 advice_on Gif = codes "sixel: this is a GIF; `giftopnm | ppmtoppm` makes a PPM (P6) of it" ++ 10 ∷ []
 advice_on Netpbm = codes "sixel: this is another format of Netpbm; `ppmtoppm` makes a PPM (P6) of it" ++ 10 ∷ []
 
--- what is said beside the fault, where a header is refused at the mark of another format
+-- what is said beside the fault of an input of this format, if its header is refused at the mark
+abbrev pub advice_for : Option Format → Result Status RunFault → Text
+advice_for format (Err (Ppm Header place)) = if nat_le place 1 then option_map_or advice_on format [] else []
+advice_for format _ = []
+
+-- what is said beside the fault of an input that begins with these bytes
 abbrev pub advice : List ℕ → Result Status RunFault → Text
-advice prefix (Err (Ppm Header place)) =
-    if nat_le place 1 then option_map_or advice_on (format_of prefix) [] else []
-advice prefix _ = []
+advice prefix answer = advice_for (format_of prefix) answer

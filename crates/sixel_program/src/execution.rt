@@ -8,7 +8,7 @@ ghost use Rattle.sixel_run.specs.Outputs.{HasSides};
 ghost use Rattle.sixel_run.specs.Texts.{Text};
 
 use crate::exit::Exit;
-use crate::files::{announce, answer, prefix_of};
+use crate::files::{announce, answer, peek_input};
 use crate::folder::Folder;
 use sixel_io::{FromRead, ToWrite};
 use sixel_words::Request;
@@ -38,19 +38,9 @@ pub fn execute<F: Folder, R: Read + Drop, W: Write + Drop, E: Write + Drop>(
         (names_read request.now.task (map string_bytes request.now.files.items)) }
     ensures no_usage { result ≢ Exit.Usage }
 {
-    let mut input = input;
-    let prefix = prefix_of(request, &mut input);
-    let mut input = FromRead::new(prefix.as_slice().chain(input));
+    let mut input = peek_input(request, FromRead::new(input));
     let mut output = ToWrite::new(output);
     let mut errors = ToWrite::new(errors);
     announce(request, is_terminal, &mut errors);
-    answer(
-        alloc,
-        request,
-        folder,
-        prefix.as_slice(),
-        &mut input,
-        &mut output,
-        &mut errors,
-    )
+    answer(alloc, request, folder, &mut input, &mut output, &mut errors)
 }

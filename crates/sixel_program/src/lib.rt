@@ -1,6 +1,7 @@
 //! Files, what is said of them, and how the program ends, over any streams and any folder.
 #![tactic(auto)]
 
+mod checks;
 mod execution;
 mod exit;
 mod files;
@@ -8,6 +9,7 @@ mod folder;
 mod formats;
 pub mod laws;
 mod names;
+mod peeked;
 mod saying;
 
 pub use execution::execute;

@@ -3,9 +3,9 @@
 ghost use Rattle.std.specs.Prelude.{◌≡◌, ◌≤◌, ◌++◌, length, option_copied};
 ghost use Rattle.sixel_io.specs.Devices.{Writes};
 ghost use Rattle.sixel_program.specs.Exits.{complaint, fault_said, labelled};
-ghost use Rattle.sixel_program.specs.Formats.{advice};
+ghost use Rattle.sixel_program.specs.Formats.{advice_for};
 
-use crate::formats::{advice_on, format_of};
+use crate::formats::{Format, advice_on};
 use crate::names::put_named;
 use sixel_io::{DeviceFault, Sink, put_all};
 use sixel_ppm::PpmReason;
@@ -14,10 +14,9 @@ use sixel_run::{RunFault, Status, Task, fault_line, finding_line, write_fault};
 /// How many bytes of the line of a fault stand before the name of an input: those of `sixel:`.
 const MARK: usize = 6;
 
-/// What makes a PPM of an input that begins with these bytes, where its header is refused at the mark of another
-/// format; else nothing.
-fn advice(prefix: &[u8], answer: &Result<Status, RunFault>) -> &'static str
-    ensures text { result.now ≡ advice prefix.now answer.now }
+/// What makes a PPM of an input of this format, if its header is refused within its mark; else nothing.
+fn advice(format: Option<Format>, answer: &Result<Status, RunFault>) -> &'static str
+    ensures text { result.now ≡ advice_for format answer.now }
     ensures short { length result.now ≤ 96 }
 {
     match answer {
@@ -26,7 +25,7 @@ fn advice(prefix: &[u8], answer: &Result<Status, RunFault>) -> &'static str
                 reason: PpmReason::Header,
                 place,
             },
-        ) if *place <= 1 => match format_of(prefix) {
+        ) if *place <= 1 => match format {
             Some(format) => advice_on(format),
             None => "",
         },
@@ -87,13 +86,13 @@ fn put_complaint<K: Sink>(
 pub fn put_said<K: Sink>(
     task: Task,
     name: Option<&str>,
-    prefix: &[u8],
+    format: Option<Format>,
     answer: &Result<Status, RunFault>,
     out: &mut K,
 ) -> Result<(), DeviceFault>
     ensures { Writes result (K.state out.old) (K.state out.new)
-        (complaint task (option_copied name.entry) answer.now ++ advice prefix.now answer.now) }
+        (complaint task (option_copied name.entry) answer.now ++ advice_for format answer.now) }
 {
     put_complaint(task, name, answer, out)?;
-    put_all(out, advice(prefix, answer).as_bytes())
+    put_all(out, advice(format, answer).as_bytes())
 }

@@ -1,7 +1,8 @@
-use Rattle.std.proofs.Common.{List, ℕ, map}
+use Rattle.std.proofs.Common.{List, ℕ, ap, map}
 use Rattle.std.specs.Prelude.{Ok}
 use Rattle.std.specs.String.{string_bytes}
 use Rattle.std.proofs.lemmas.List.Elements.{All-weaker}
+use Rattle.sixel_io.specs.Devices.{SourceState}
 use Rattle.sixel_check.specs.declared.verdict.Finding.{Finding}
 use Rattle.sixel_run.specs.declared.task.Status.TheVariants.{Broken, Done}
 use Rattle.sixel_run.specs.declared.task.Status.{Status}
@@ -9,7 +10,7 @@ use Rattle.sixel_program.specs.Files.{names_read}
 use Rattle.sixel_run.specs.Outputs.{Gives}
 use Rattle.sixel_run.specs.Texts.{Text}
 use Rattle.sixel_program.proofs.FilesLemmas.{request_no_usage}
-use Rattle.sixel_program.proofs.StatusLemmas.{all_read_done, all_read_judged, one_read_broken, told_chained}
+use Rattle.sixel_program.proofs.StatusLemmas.{all_read_done, all_read_judged, one_read_broken, told_kept}
 use Rattle.sixel_program.proofs.execution.execute.Goals as goal
 
 pub returns-clause-done : goal.returns-clause-done
@@ -17,22 +18,20 @@ returns-clause-done g c = λ is.
     let t = c.args.request.now.task in
     let contents = g.F.Folder.contents c.args.folder.now in
     All-weaker _ _
-    (λ name. told_chained (λ (bytes : List ℕ). (text : Text) × Gives t bytes text (Ok Done)) contents _ _ _ name
-    c.prefix_of-prefix.ensures.prefix)
+    (λ name. told_kept (λ (bytes : List ℕ). (text : Text) × Gives t bytes text (Ok Done)) contents _ _ name
+    (rw (ap (λ (s : SourceState). s.remaining) c.new.ensures) at c.peek_input-input.ensures.told))
     (names_read t (map string_bytes c.args.request.now.files.items))
-    (all_read_done _ _ _ _ _ _ _ _ _
-    (rw (c.new-input.ensures, c.chain.ensures.bytes, c.as_slice.ensures.value) at c.answer.ensures) is)
+    (all_read_done _ _ _ _ _ _ _ _ _ c.answer.ensures is)
 
 pub returns-clause-broken : goal.returns-clause-broken
 returns-clause-broken g c = λ is once.
     let t = c.args.request.now.task in
     let contents = g.F.Folder.contents c.args.folder.now in
-    let found = one_read_broken _ _ _ _ _ _ _ _ _
-    (rw (c.new-input.ensures, c.chain.ensures.bytes, c.as_slice.ensures.value) at c.answer.ensures) is once in (
+    let found = one_read_broken _ _ _ _ _ _ _ _ _ c.answer.ensures is once in (
       found.0,
       found.1,
-      told_chained (λ (bytes : List ℕ). (text : Text) × (finding : Finding) × Gives t bytes text (Ok (Broken finding)))
-          contents _ _ _ found.0 c.prefix_of-prefix.ensures.prefix found.2,
+      told_kept (λ (bytes : List ℕ). (text : Text) × (finding : Finding) × Gives t bytes text (Ok (Broken finding)))
+          contents _ _ found.0 (rw (ap (λ (s : SourceState). s.remaining) c.new.ensures) at c.peek_input-input.ensures.told) found.2,
     )
 
 pub returns-clause-judged : goal.returns-clause-judged
@@ -40,11 +39,10 @@ returns-clause-judged g c = λ is.
     let t = c.args.request.now.task in
     let contents = g.F.Folder.contents c.args.folder.now in
     All-weaker _ _
-    (λ name. told_chained (λ (bytes : List ℕ). (text : Text) × (status : Status) × Gives t bytes text (Ok status))
-    contents _ _ _ name c.prefix_of-prefix.ensures.prefix)
+    (λ name. told_kept (λ (bytes : List ℕ). (text : Text) × (status : Status) × Gives t bytes text (Ok status))
+    contents _ _ name (rw (ap (λ (s : SourceState). s.remaining) c.new.ensures) at c.peek_input-input.ensures.told))
     (names_read t (map string_bytes c.args.request.now.files.items))
-    (all_read_judged _ _ _ _ _ _ _ _ _
-    (rw (c.new-input.ensures, c.chain.ensures.bytes, c.as_slice.ensures.value) at c.answer.ensures) is)
+    (all_read_judged _ _ _ _ _ _ _ _ _ c.answer.ensures is)
 
 pub returns-clause-no_usage : goal.returns-clause-no_usage
 returns-clause-no_usage g c = request_no_usage _ _ _ _ _ _ _ _ _ c.answer.ensures

@@ -10,5 +10,6 @@ returns g c = record {
   written = c.run-answer.ensures.writes;
   flushed = c.run-answer.ensures.flushed;
   ends = c.exit_of.ensures;
-  said = is_put c.put_said.result _ _ _ c.put_said.ensures;
+  said = rw (c.format_of-format.ensures, c.as_slice.ensures.value)
+      at (is_put c.put_said.result _ _ _ c.put_said.ensures);
 }

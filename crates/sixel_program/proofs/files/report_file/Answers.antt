@@ -1,4 +1,5 @@
-use Rattle.std.proofs.Common.{◌∙◌, sym}
+use Rattle.std.proofs.Common.{◌∙◌, ap, sym}
+use Rattle.sixel_io.specs.Devices.{SourceState}
 use Rattle.sixel_program.proofs.FilesLemmas.{dash_ends, file_ends, unopened_ends}
 use Rattle.sixel_program.proofs.PutLemmas.{is_put}
 use Rattle.sixel_program.proofs.files.report_file.Goals as goal
@@ -8,10 +9,10 @@ returns-then-eq g c = dash_ends _ _ _ _ _ _ _ _ (sym c.eq.ensures ∙ c.if-eq.tr
 
 pub returns-in-Ok : goal.returns-in-Ok
 returns-in-Ok g c =
-    file_ends _ _ _ _ _ _ _ _ _ _ _ _ (sym c.eq.ensures ∙ c.if-eq.false)
-    (rw c.in-Ok.ensures.opened at c.first_bytes-prefix.ensures)
-    (rw (c.new-file.ensures, c.chain.ensures.bytes, c.as_slice.ensures.value, c.as_slice-in-Ok.ensures.value)
-    at c.report-in-Ok.ensures)
+    let told =
+    ap (λ (s : SourceState). s.remaining) c.new.ensures ∙ c.in-Ok.ensures.opened in
+    file_ends _ _ _ _ _ _ _ _ _ _ (sym c.eq.ensures ∙ c.if-eq.false) (rw told at c.peek-file.ensures.told)
+    (rw told at c.peek-file.ensures.prefix) c.report-in-Ok.ensures
 
 pub returns-in-Err : goal.returns-in-Err
 returns-in-Err g c =

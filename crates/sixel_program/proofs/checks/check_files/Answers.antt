@@ -1,7 +1,7 @@
 use Rattle.std.proofs.Common.{[], inr}
 use Rattle.std.proofs.lemmas.List.{take_all}
 use Rattle.sixel_program.proofs.FilesLemmas.{all_names, checked_more, cut_after, cut_at_flush, more_names, none_checked}
-use Rattle.sixel_program.proofs.files.check_files.Goals as goal
+use Rattle.sixel_program.proofs.checks.check_files.Goals as goal
 
 pub loop-name-init : goal.loop-name-init
 loop-name-init g c = ([], none_checked _ _ _ _ _ _)

@@ -1,5 +1,5 @@
 use Rattle.sixel_run.specs.Outputs.{answer_of, line_of}
-use Rattle.sixel_program.proofs.files.check_named.Goals as goal
+use Rattle.sixel_program.proofs.checks.check_named.Goals as goal
 
 pub returns : goal.returns
 returns g c = (

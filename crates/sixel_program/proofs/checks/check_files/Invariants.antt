@@ -2,7 +2,7 @@ use Rattle.std.proofs.Common.{List, map, take}
 use Rattle.std.specs.String.{string_bytes}
 use Rattle.sixel_io.specs.Devices.{change}
 use Rattle.sixel_program.specs.Files.{AreChecked, FileEnd}
-use Rattle.sixel_program.proofs.files.check_files.Given as goal
+use Rattle.sixel_program.proofs.checks.check_files.Given as goal
 
 abbrev pub invariant-loop-name : goal.invariant-loop-name
 invariant-loop-name g l = (ends : List FileEnd) × AreChecked l.profile l.is_quiet (g.F.Folder.contents l.folder) ends

@@ -3,8 +3,8 @@ use Rattle.std.specs.Prelude.{Err}
 use Rattle.sixel_io.specs.Devices.{SourceState}
 use Rattle.sixel_run.specs.declared.fault.RunFault.TheVariants.{Read}
 use Rattle.sixel_program.specs.Files.{is_dash}
-use Rattle.sixel_program.proofs.FilesLemmas.{none_before, unopened}
-use Rattle.sixel_program.proofs.files.check_file.Goals as goal
+use Rattle.sixel_program.proofs.FilesLemmas.{unopened}
+use Rattle.sixel_program.proofs.checks.check_file.Goals as goal
 
 pub returns-in-Err : goal.returns-in-Err
 returns-in-Err g c =
@@ -33,8 +33,8 @@ returns-in-Ok g c =
       e = record { name = c.args.name.now; told = _; left = _; line = checked.0; answer = checked.1 };
       name_is = refl;
       told = rw file
-          (ap (λ (s : SourceState). s.remaining) c.new-file.ensures ∙ c.chain.ensures.bytes ∙ none_before _ ∙
-          c.in-Ok.ensures.opened);
+          (ap (λ (s : SourceState). s.remaining) (c.unread-file.ensures.state ∙ c.new.ensures)
+          ∙ c.in-Ok.ensures.opened);
       left = rw file refl;
       is_end = checked.2;
       counted = rw file refl;

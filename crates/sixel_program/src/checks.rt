@@ -1,0 +1,186 @@
+//! Checks of files, and checks that write no verdict.
+
+ghost use Rattle.std.specs.Prelude.{◌≡◌, Result, map, option_copied};
+ghost use Rattle.std.specs.String.{string_bytes};
+ghost use Rattle.sixel_io.specs.Devices.{change};
+ghost use Rattle.sixel_program.specs.Exits.{IsPut, exit_for_answer};
+ghost use Rattle.sixel_program.specs.Files.{FilesEnd, IsChecked, IsFileEnd, IsOutcome, QuietEnds, SaysOfCheck, worse};
+ghost use Rattle.sixel_run.specs.Outputs.{answer_of, failures_by, line_of};
+ghost use Rattle.sixel_run.specs.Texts.{Text, fault_line};
+ghost use Rattle.sixel_run.specs.declared.fault.RunFault.{RunFault as AFault};
+ghost use Rattle.sixel_run.specs.declared.fault.RunFault.TheVariants.{Read as ReadFault};
+ghost use Rattle.sixel_run.specs.declared.task.Status.{Status as AStatus};
+
+use crate::exit::{Exit, code_of, exit_of};
+use crate::folder::Folder;
+use crate::names::put_named;
+use crate::peeked::Peeked;
+use crate::saying::put_fault;
+use sixel_check::Verdict;
+use sixel_io::{DeviceFault, FromRead, Sink, Source};
+use sixel_model::Profile;
+use sixel_run::{RunFault, judge, status_of, verdict_line, write_fault};
+use std::alloc::Global;
+
+/// Says why an input, which has this name or none, was refused, if it was. Answers the exit status.
+fn say_judged<E: Sink>(
+    name: Option<&str>,
+    judged: Result<Verdict, RunFault>,
+    errors: &mut E,
+) -> Exit
+    ensures exit { result ≡ exit_for_answer (answer_of judged) }
+    ensures said { SaysOfCheck (option_copied name.entry) (answer_of judged)
+        (change (E.state errors.old) (E.state errors.new)) }
+{
+    match judged {
+        Ok(verdict) => exit_of(Ok(status_of(&verdict))),
+        Err(fault) => {
+            let _ = put_fault(name, &fault, errors);
+            Exit::Refused
+        }
+    }
+}
+
+/// Checks standard input, and writes no verdict.
+pub fn check_quietly<S: Source, E: Sink>(
+    alloc: Global,
+    profile: Profile,
+    input: &mut S,
+    errors: &mut E,
+) -> Exit
+    ensures { QuietEnds profile result
+        (change (S.state input.old) (S.state input.new)) (change (E.state errors.old) (E.state errors.new)) }
+{
+    let judged = judge(alloc, profile, input);
+    say_judged(None, judged, errors)
+}
+
+/// Puts the verdict on the file of this name, if there is one and it is wanted, and says why the file was refused, if it
+/// was. On an `Err` the first sink failed.
+fn put_judged<K: Sink, E: Sink>(
+    is_quiet: bool,
+    name: &str,
+    judged: Result<Verdict, RunFault>,
+    output: &mut K,
+    errors: &mut E,
+) -> Result<Exit, DeviceFault>
+    ensures { IsOutcome is_quiet name.now (line_of judged) (answer_of judged) result
+        (change (K.state output.old) (K.state output.new)) (change (E.state errors.old) (E.state errors.new)) }
+{
+    if let Ok(verdict) = &judged {
+        if !is_quiet {
+            put_named(output, b"", name, b": ", verdict_line(verdict).as_slice())?;
+        }
+    }
+    Ok(say_judged(Some(name), judged, errors))
+}
+
+/// Checks a file that is open.
+fn check_named<S: Source, K: Sink, E: Sink>(
+    alloc: Global,
+    profile: Profile,
+    is_quiet: bool,
+    name: &str,
+    input: &mut S,
+    output: &mut K,
+    errors: &mut E,
+) -> Result<Exit, DeviceFault>
+    ensures { (line : Text) × (answer : Result AStatus AFault)
+        × IsFileEnd profile (record {
+          name = name.now;
+          told = (S.state input.old).remaining;
+          left = (S.state input.new).remaining;
+          line = line;
+          answer = answer;
+        })
+        × ((S.state input.new).failures ≡ failures_by ReadFault answer (S.state input.old).failures)
+        × IsOutcome is_quiet name.now line answer result
+        (change (K.state output.old) (K.state output.new)) (change (E.state errors.old) (E.state errors.new)) }
+{
+    let judged = judge(alloc, profile, input);
+    put_judged(is_quiet, name, judged, output, errors)
+}
+
+/// Checks the file of this name, or standard input where the name is `-`.
+fn check_file<F: Folder, S: Source, K: Sink, E: Sink>(
+    alloc: Global,
+    profile: Profile,
+    is_quiet: bool,
+    name: &str,
+    folder: &F,
+    input: &mut S,
+    output: &mut K,
+    errors: &mut E,
+) -> Result<Exit, DeviceFault>
+    ensures { IsChecked profile is_quiet (F.contents folder.now) name.now result
+        (change (S.state input.old) (S.state input.new)) (change (K.state output.old) (K.state output.new))
+        (change (E.state errors.old) (E.state errors.new)) }
+{
+    if name == "-" {
+        return check_named(alloc, profile, is_quiet, name, input, output, errors);
+    }
+    match folder.open(name) {
+        Ok(file) => {
+            let mut file = Peeked::unread(FromRead::new(file));
+            check_named(alloc, profile, is_quiet, name, &mut file, output, errors)
+        }
+        Err(_) => put_judged(is_quiet, name, Err(RunFault::Read), output, errors),
+    }
+}
+
+/// The exit status of the greater number.
+fn worse(a: Exit, b: Exit) -> Exit
+    ensures { result ≡ worse a b }
+{
+    if code_of(a) < code_of(b) { b } else { a }
+}
+
+/// Says that the output failed.
+fn unwritten<E: Sink>(errors: &mut E) -> Exit
+    ensures exit { result ≡ Exit.Refused }
+    ensures said { IsPut (fault_line RunFault.Write)
+        (change (E.state errors.old) (E.state errors.new)) }
+{
+    let _ = write_fault(&RunFault::Write, errors);
+    Exit::Refused
+}
+
+/// Checks the files of these names in turn, also after one that is refused. The exit status is the greatest of theirs.
+pub fn check_files<F: Folder, S: Source, K: Sink, E: Sink>(
+    alloc: Global,
+    profile: Profile,
+    is_quiet: bool,
+    names: &[String],
+    folder: &F,
+    input: &mut S,
+    output: &mut K,
+    errors: &mut E,
+) -> Exit
+    ensures { FilesEnd profile is_quiet (F.contents folder.now) (map string_bytes names.now) result
+        (change (S.state input.old) (S.state input.new)) (change (K.state output.old) (K.state output.new))
+        (change (E.state errors.old) (E.state errors.new)) }
+{
+    let mut exit = Exit::Done;
+    for name in names {
+        match check_file(
+            alloc,
+            profile,
+            is_quiet,
+            name.as_str(),
+            folder,
+            input,
+            output,
+            errors,
+        ) {
+            Ok(next) => exit = worse(exit, next),
+            Err(_) => return unwritten(errors),
+        }
+    }
+    if is_quiet {
+        return exit;
+    }
+    match output.flush() {
+        Ok(()) => exit,
+        Err(_) => unwritten(errors),
+    }
+}
