@@ -6,7 +6,7 @@ use Rattle.std.specs.Prelude.{◌≢◌, ◌⊎◌, Result, Ok, Err, IfSome, Str
 use Rattle.std.specs.Global.{Global}
 use Rattle.std.specs.Fmt.{option_append}
 use Rattle.std.specs.Io.KnownBytes.{Appends, Consumes, Keeps}
-use Rattle.std.proofs.KnownBytes.{Appends-trans}
+use Rattle.std.proofs.KnownBytes.{Consumes-nil, Appends-trans}
 use Rattle.std.proofs.Common.{get_or}
 use Rattle.std.proofs.lemmas.List.{append-nil, take-append-drop, take_more}
 use Rattle.std.proofs.lemmas.List.Elements.{All-cons, All-nil, All-push}
@@ -226,12 +226,21 @@ run_kept t name prefix x told i o e same ended = record {
 pub unopened : (profile : Profile) (name : Text) (told : Option (List ℕ)) → IsFileEnd profile (record {
   name = name;
   told = told;
-  left = None;
+  left = told;
   line = [];
   answer = Err run.Read;
 })
-unopened profile name None = record { wrote = tt; memory = λ is. cc; written = λ is. cc }
-unopened profile name (Some bytes) = record { wrote = refl; memory = λ is. cc; written = λ is. cc }
+unopened profile name told = record {
+  wrote = nothing told;
+  memory = λ is. cc;
+  written = λ is. cc;
+  reads = record { read = ([], Consumes-nil told); ended = tt };
+}
+  where
+    nothing : (told : Option (List ℕ))
+        → IfSome told (λ bytes. Wrote (task.Check profile) bytes told (Err run.Read) (Some []) (Some []))
+    nothing None = tt
+    nothing (Some bytes) = refl
 
 -- behind the name
 pub named_tail : (fault : RunFault)

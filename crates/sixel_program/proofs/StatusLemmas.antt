@@ -1,11 +1,10 @@
 -- What an exit status says of each file that was read.
 use Rattle.std.proofs.Common.{◌≡◌, ◌∙◌, ◌≤◌, ◌∷◌, ℕ, Bool, true, false, List, [], Option, Some, None, arith, inl, inr}
-use Rattle.std.proofs.Common.{length, map, refl, subst, suc, sym, zero}
-use Rattle.std.specs.Prelude.{All, Contains, Err, IfSome, Ok, Result, cond, if◌then◌else◌, slice_index_or}
+use Rattle.std.proofs.Common.{map, refl, subst, suc, sym, zero}
+use Rattle.std.specs.Prelude.{All, Contains, Err, IfSome, Ok, Result, if◌then◌else◌, slice_index_or}
 use Rattle.std.specs.Io.KnownBytes.{Keeps}
-use Rattle.std.specs.List.{filter}
 use Rattle.std.proofs.lemmas.List.Elements.{All-cons, All-head, All-nil, All-tail, All-weaker}
-use Rattle.sixel_io.specs.Devices.{Change, SinkState, SourceState}
+use Rattle.sixel_io.specs.Devices.{Change, ReadsToEnd, SinkState, SourceState}
 use Rattle.sixel_model.specs.declared.profile.Profile.{Profile}
 use Rattle.sixel_program.specs.declared.exit.Exit.{Exit}
 use Rattle.sixel_program.specs.declared.exit.Exit.TheVariants as exit
@@ -15,9 +14,11 @@ use Rattle.sixel_run.specs.declared.task.Status.TheVariants as status
 use Rattle.sixel_run.specs.declared.task.Task.{Task}
 use Rattle.sixel_run.specs.declared.task.Task.TheVariants.{Check}
 use Rattle.sixel_program.specs.Exits.{exit_code, exit_for_answer}
-use Rattle.sixel_run.specs.Outputs.{Wrote}
+use Rattle.sixel_run.specs.Outputs.{Gives, Wrote}
+use Rattle.sixel_run.proofs.CheckLemmas.{nothing_unjudged}
+use Rattle.sixel_model.specs.Profiles.{count_of}
 use Rattle.sixel_program.specs.Files.{FileEnd, FilesEnd, IsBrokenOver, IsDoneOver, IsFileEnd, IsJudgedOver}
-use Rattle.sixel_program.specs.Files.{NamesInputOnce, RequestEnds, Tells, exit_of_end, files_exit, is_dash}
+use Rattle.sixel_program.specs.Files.{RequestEnds, Tells, exit_of_end, files_exit, is_dash}
 use Rattle.sixel_program.specs.Files.{left_after, names_of, names_read}
 use Rattle.sixel_program.specs.Files.{told_of}
 use Rattle.sixel_run.specs.Texts.{Text}
@@ -73,60 +74,65 @@ module _ (profile : Profile) (ends : List FileEnd) (each : All (IsFileEnd profil
       (least (exit_of_end e)
       (subst (λ (x : Exit). exit_code (exit_of_end e) ≤ exit_code x) is (greatest_of ends k d short)))
 
+  each_below : files_exit ends ≡ exit.Broken → All (λ e. exit_code (exit_of_end e) ≤ exit_code exit.Broken) ends
+  each_below is = λ k d short.
+      subst (λ (x : Exit). exit_code (exit_of_end (slice_index_or ends k d)) ≤ exit_code x) is
+      (greatest_of ends k d short)
+
   each_judged : files_exit ends ≡ exit.Broken → All (λ e. IsJudgedOver (Check profile) e.told) ends
   each_judged is = λ k d short.
       let e = slice_index_or ends k d in
       judged_gives (Check profile) e.told e.left e.answer (Some []) (Some e.line) (each k d short).wrote
-      (subst (λ (x : Exit). exit_code (exit_of_end e) ≤ exit_code x) is (greatest_of ends k d short))
+      (each_below is k d short)
 
--- of names of which none is that of standard input, with one more
-none_more : (b : Bool) (name : Text) (dashes : List Text) → length (cond b (name ∷ dashes) dashes) ≤ 0
-    → (b ≡ false) × (length dashes ≤ 0)
-none_more true name dashes short = absurd (omega (arith, short))
-none_more false name dashes short = (refl, short)
+-- a check that gave a verdict has left nothing of its input, so there is no verdict on what it left
+rest_unbroken : (profile : Profile) (told left : Option (List ℕ)) (a : Result Status RunFault) → ReadsToEnd a told left
+    → exit_code (exit_for_answer a) ≤ exit_code exit.Broken
+    → IsBrokenOver (Check profile) left → IsBrokenOver (Check profile) told
+rest_unbroken profile None left a reads below broken = tt
+rest_unbroken profile (Some bytes) None a reads below broken = absurd reads.read.1
+rest_unbroken profile (Some bytes) (Some rest) (Err fault) reads below broken = absurd (omega (arith, below))
+rest_unbroken profile (Some bytes) (Some rest) (Ok s) reads below broken =
+    let none : rest ≡ [] = reads.ended in
+    absurd (nothing_unjudged (count_of profile) broken.0 (status.Broken broken.1)
+    (subst (λ (t : List ℕ). Gives (Check profile) t broken.0 (Ok (status.Broken broken.1))) none broken.2))
 
-no_dash : (names : List Text) (name : Text) → length (filter is_dash names) ≤ 0 → Contains names name
-    → is_dash name ≡ false
-no_dash [] name short (k, below, is) = absurd (omega (arith, below))
-no_dash (first ∷ names) name short (zero, below, is) =
-    subst (λ (n : Text). is_dash n ≡ false) is (none_more (is_dash first) first (filter is_dash names) short).0
-no_dash (first ∷ names) name short (suc k, below, is) =
-    no_dash names name (none_more (is_dash first) first (filter is_dash names) short).1 (k, omega (arith, below), is)
-
-once_more : (b : Bool) (name : Text) (dashes : List Text) → length (cond b (name ∷ dashes) dashes) ≤ 1
-    → (length dashes ≤ 1) × (b ≡ true → length dashes ≤ 0)
-once_more true name dashes short = (omega (arith, short), λ is. omega (arith, short))
-once_more false name dashes short = (short, λ is. let no : false ≡ true = is in cc)
-
--- what holds of a name when it is read after a file holds of it before, where it isn't a second time that of standard
--- input
-earlier_once : (P : Option (List ℕ) → Type 0) (a b : Bool) (had left later : Option (List ℕ))
-    → (a ≡ true → b ≡ false) → P (if b then (if a then left else had) else later) → P (if b then had else later)
-earlier_once P true true had left later once q = let no : true ≡ false = once refl in cc
-earlier_once P false true had left later once q = q
-earlier_once P a false had left later once q = q
+-- what holds of a name when it is read after a file holds of it before that, if what holds of the rest of standard input
+-- holds of all of it
+earlier_read : (P : Option (List ℕ) → Type 0) (a b : Bool) (had left later : Option (List ℕ))
+    → (a ≡ true → P left → P had) → P (if b then (if a then left else had) else later) → P (if b then had else later)
+earlier_read P true true had left later back q = back refl q
+earlier_read P false true had left later back q = q
+earlier_read P a false had left later back q = q
 
 module _ (profile : Profile) (contents : Text → Option (List ℕ)) where
   told_broken : (had has : Option (List ℕ)) (ends : List FileEnd) → Tells contents had ends has
-      → All (IsFileEnd profile) ends → NamesInputOnce (names_of ends) → Contains (map exit_of_end ends) exit.Broken
+      → All (IsFileEnd profile) ends → All (λ e. exit_code (exit_of_end e) ≤ exit_code exit.Broken) ends
+      → Contains (map exit_of_end ends) exit.Broken
       → (name : Text) × Contains (names_of ends) name × IsBrokenOver (Check profile) (told_of contents had name)
   unfolding Tells
-  told_broken had has [] tells each once (k, below, is) = absurd (omega (arith, below))
-  told_broken had has (e ∷ rest) tells each once (zero, below, is) =
+  told_broken had has [] tells each below (k, short, is) = absurd (omega (arith, short))
+  told_broken had has (e ∷ rest) tells each below (zero, short, is) =
       let end = All-head (IsFileEnd profile) e rest each in (
         e.name,
         (0, omega arith, refl),
         subst (IsBrokenOver (Check profile)) tells.0
             (broken_gives (Check profile) e.told e.left e.answer (Some []) (Some e.line) end.wrote is),
       )
-  told_broken had has (e ∷ rest) tells each once (suc k, below, is) =
-      let short = once_more (is_dash e.name) e.name (filter is_dash (names_of rest)) once in
+  told_broken had has (e ∷ rest) tells each below (suc k, short, is) =
+      let end = All-head (IsFileEnd profile) e rest each in
+      let low = All-head (λ e. exit_code (exit_of_end e) ≤ exit_code exit.Broken) e rest below in
+      let back : is_dash e.name ≡ true → IsBrokenOver (Check profile) e.left → IsBrokenOver (Check profile) had =
+      λ dash broken.
+      let same : e.told ≡ had = (rw dash at tells.0) in
+      subst (IsBrokenOver (Check profile)) same (rest_unbroken profile e.told e.left e.answer end.reads low broken) in
       let found = told_broken (left_after had e.name e.left) has rest tells.1
-      (All-tail (IsFileEnd profile) e rest each) short.0 (k, omega (arith, below), is) in (
+      (All-tail (IsFileEnd profile) e rest each)
+      (All-tail (λ e. exit_code (exit_of_end e) ≤ exit_code exit.Broken) e rest below) (k, omega (arith, short), is) in (
         found.0,
         contains_later e.name found.0 (names_of rest) found.1,
-        earlier_once (IsBrokenOver (Check profile)) (is_dash e.name) (is_dash found.0) had e.left (contents found.0)
-            (λ dash. no_dash (names_of rest) found.0 (short.1 dash) found.1) found.2,
+        earlier_read (IsBrokenOver (Check profile)) (is_dash e.name) (is_dash found.0) had e.left (contents found.0)
+            back found.2,
       )
 
 one_broken : (ends : List FileEnd) → files_exit ends ≡ exit.Broken → Contains (map exit_of_end ends) exit.Broken
@@ -153,15 +159,15 @@ module _ (profile : Profile) (q : Bool) (contents : Text → Option (List ℕ)) 
       (each_judged profile checked.0 are.each (sym are.exits ∙ is)))
   files_judged (inr cut) is = let no : exit.Refused ≡ exit.Broken = sym cut.exits ∙ is in cc
 
-  files_broken : FilesEnd profile q contents names x i o e → x ≡ exit.Broken → NamesInputOnce names
+  files_broken : FilesEnd profile q contents names x i o e → x ≡ exit.Broken
       → (name : Text) × Contains names name × IsBrokenOver (Check profile) (told_of contents i.old.remaining name)
-  files_broken (inl checked) is once =
+  files_broken (inl checked) is =
       let are = checked.1 in
       subst (λ (ns : List Text). (name : Text) × Contains ns name
       × IsBrokenOver (Check profile) (told_of contents i.old.remaining name)) (sym are.names_are)
       (told_broken profile contents i.old.remaining i.new.remaining checked.0 are.tells are.each
-      (subst NamesInputOnce are.names_are once) (one_broken checked.0 (sym are.exits ∙ is)))
-  files_broken (inr cut) is once = let no : exit.Refused ≡ exit.Broken = sym cut.exits ∙ is in cc
+      (each_below profile checked.0 are.each (sym are.exits ∙ is)) (one_broken checked.0 (sym are.exits ∙ is)))
+  files_broken (inr cut) is = let no : exit.Refused ≡ exit.Broken = sym cut.exits ∙ is in cc
 
 -- ---- what is asked for
 
@@ -197,9 +203,9 @@ module _ (t : Task) (q : Bool) (names : List Text) (contents : Text → Option (
         rw (checked.2, checked.1) (files_judged checked.0 q contents names x i o e checked.3 is)
   ]
 
-  pub one_read_broken : x ≡ exit.Broken → NamesInputOnce (names_read t names) → (name : Text)
+  pub one_read_broken : x ≡ exit.Broken → (name : Text)
       × Contains (names_read t names) name × IsBrokenOver t (told_of contents i.old.remaining name)
-  one_read_broken is once = elim (request_read contents prefix x i o e t q names ended) [
+  one_read_broken is = elim (request_read contents prefix x i o e t q names ended) [
     | inl one ↦
         let run = one.2.2 in (
           one.0,
@@ -207,8 +213,7 @@ module _ (t : Task) (q : Bool) (names : List Text) (contents : Text → Option (
           broken_gives t _ run.0 one.2.0 run.1 run.2 run.3 (sym one.2.1 ∙ is),
         )
     | inr checked ↦
-        rw (checked.2, checked.1) (files_broken checked.0 q contents names x i o e checked.3 is
-        (rw checked.2 at once))
+        rw (checked.2, checked.1) (files_broken checked.0 q contents names x i o e checked.3 is)
   ]
 
 -- what is said of the bytes of a source that has those of standard input is said of those

@@ -6,9 +6,9 @@ use Rattle.std.specs.Prelude.{Ok}
 use Rattle.std.specs.Prelude.{Err, if◌then◌else◌}
 use Rattle.std.specs.Prelude.{option_to_list}
 use Rattle.std.specs.Io.KnownBytes.{Appends}
-use Rattle.std.specs.List.{All, filter, list_any}
+use Rattle.std.specs.List.{All, list_any}
 use Rattle.std.specs.Str.{bytes_eq}
-use Rattle.sixel_io.specs.Devices.{Change, SinkState, SourceState, change, one_more}
+use Rattle.sixel_io.specs.Devices.{Change, ReadsToEnd, SinkState, SourceState, change, one_more}
 use Rattle.sixel_model.specs.declared.profile.Profile.{Profile}
 use Rattle.sixel_check.specs.declared.verdict.Finding.{Finding}
 use Rattle.sixel_program.specs.declared.exit.Exit.{Exit}
@@ -45,10 +45,6 @@ abbrev pub names_read : Task → List Text → List Text
 names_read t [] = codes "-" ∷ []
 names_read (Check profile) (name ∷ more) = name ∷ more
 names_read t (name ∷ more) = name ∷ []
-
--- standard input is named once at most
-abbrev pub NamesInputOnce : List Text → Type 0
-NamesInputOnce names = length (filter is_dash names) ≤ 1
 
 -- where these bytes are told, the task gives for them that it is done
 abbrev pub IsDoneOver : Task → Option (List ℕ) → Type 0
@@ -122,6 +118,7 @@ pub record IsFileEnd (profile : Profile) (e : FileEnd) : Type 0 where
   pub wrote : IfSome e.told (λ bytes. Wrote (Check profile) bytes e.left e.answer (Some []) (Some e.line))
   pub memory : e.answer ≡ Err run.OutOfMemory → TakesMemory (Check profile) e.told
   pub written : e.answer ≢ Err run.Write
+  pub reads : ReadsToEnd e.answer e.told e.left
 
 -- what is written of a file: its name and the line of the verdict; nothing where none is wanted, or there is none
 abbrev pub file_text : Bool → Text → Text → Result Status RunFault → Text

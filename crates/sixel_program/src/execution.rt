@@ -2,7 +2,7 @@
 
 ghost use Rattle.std.specs.Prelude.{◌≡◌, ◌≢◌, All, Contains, map};
 ghost use Rattle.std.specs.String.{string_bytes};
-ghost use Rattle.sixel_program.specs.Files.{IsBrokenOver, IsDoneOver, IsJudgedOver, NamesInputOnce, names_read};
+ghost use Rattle.sixel_program.specs.Files.{IsBrokenOver, IsDoneOver, IsJudgedOver, names_read};
 ghost use Rattle.sixel_program.specs.Files.{told_of};
 ghost use Rattle.sixel_run.specs.Outputs.{HasSides};
 ghost use Rattle.sixel_run.specs.Texts.{Text};
@@ -29,8 +29,7 @@ pub fn execute<F: Folder, R: Read + Drop, W: Write + Drop, E: Write + Drop>(
     ensures done { result ≡ Exit.Done → All (λ name.
         IsDoneOver request.now.task (told_of (F.contents folder.now) (R.remaining input) name))
         (names_read request.now.task (map string_bytes request.now.files.items)) }
-    ensures broken { result ≡ Exit.Broken →
-        NamesInputOnce (names_read request.now.task (map string_bytes request.now.files.items)) → (name : Text)
+    ensures broken { result ≡ Exit.Broken → (name : Text)
         × Contains (names_read request.now.task (map string_bytes request.now.files.items)) name
         × IsBrokenOver request.now.task (told_of (F.contents folder.now) (R.remaining input) name) }
     ensures judged { result ≡ Exit.Broken → All (λ name.

@@ -13,7 +13,7 @@ returns-in-Err g c =
       e = record {
         name = c.args.name.now;
         told = g.F.Folder.contents c.args.folder.now c.args.name.now;
-        left = None;
+        left = g.F.Folder.contents c.args.folder.now c.args.name.now;
         line = [];
         answer = Err Read;
       };

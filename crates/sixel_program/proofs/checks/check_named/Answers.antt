@@ -9,6 +9,7 @@ returns g c = (
     wrote = c.judge-judged.ensures.judged;
     memory = c.judge-judged.ensures.memory;
     written = c.judge-judged.ensures.unwritten;
+    reads = c.judge-judged.ensures.left;
   },
   c.judge-judged.ensures.reads,
   c.put_judged.ensures,

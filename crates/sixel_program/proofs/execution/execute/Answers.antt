@@ -24,10 +24,10 @@ returns-clause-done g c = λ is.
     (all_read_done _ _ _ _ _ _ _ _ _ c.answer.ensures is)
 
 pub returns-clause-broken : goal.returns-clause-broken
-returns-clause-broken g c = λ is once.
+returns-clause-broken g c = λ is.
     let t = c.args.request.now.task in
     let contents = g.F.Folder.contents c.args.folder.now in
-    let found = one_read_broken _ _ _ _ _ _ _ _ _ c.answer.ensures is once in (
+    let found = one_read_broken _ _ _ _ _ _ _ _ _ c.answer.ensures is in (
       found.0,
       found.1,
       told_kept (λ (bytes : List ℕ). (text : Text) × (finding : Finding) × Gives t bytes text (Ok (Broken finding)))
