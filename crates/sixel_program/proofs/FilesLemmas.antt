@@ -172,6 +172,7 @@ module _ (profile : Profile) (q : Bool) (contents : Text → Option (List ℕ)) 
         whole = ends;
         last = Some one.e;
         rest = rest;
+        at_the_end = λ is. cc;
         count = cut.0;
         wanted = one.outcome.1;
         names_are = is ∙ ap (λ (ns : List Text). ns ++ rest)
@@ -274,6 +275,7 @@ module _ (profile : Profile) (q : Bool) (contents : Text → Option (List ℕ)) 
         whole = ends;
         last = None;
         rest = [];
+        at_the_end = λ is. refl;
         count = 0;
         wanted = wanted;
         names_are = before.names_are ∙ sym (append-nil (names_of (ends ++ [])) ∙ ap names_of none);

@@ -239,6 +239,8 @@ pub record AreCut (profile : Profile) (is_quiet : Bool) (contents : Text → Opt
   pub count : ℕ
   pub wanted : is_quiet ≡ false
   pub names_are : names ≡ names_of (whole ++ option_to_list last) ++ rest
+  -- without a file at whose line it failed it failed when it was flushed, after all files
+  pub at_the_end : last ≡ None → rest ≡ []
   pub each : All (IsFileEnd profile) (whole ++ option_to_list last)
   pub tells : Tells contents input.old.remaining (whole ++ option_to_list last) input.new.remaining
   pub counted : input.new.failures ≡ fold failures_past input.old.failures (whole ++ option_to_list last)
