@@ -29,7 +29,7 @@ broken_gives t (Some bytes) left (Ok status.Done) had has wrote is = let no : ex
 broken_gives t (Some bytes) left (Ok (status.Broken finding)) had has wrote is = (wrote.0, finding, wrote.1)
 broken_gives t (Some bytes) left (Err fault) had has wrote is = let no : exit.Refused ≡ exit.Broken = is in cc
 
--- what is said of the bytes of a source that has the bytes that were told is said of those
+-- what holds of a source's bytes holds of the bytes that it was made from
 pub kept : (P : List ℕ → Type 0) (told has : Option (List ℕ)) → Keeps told has → IfSome has P → IfSome told P
 kept P None has same h = tt
 kept P (Some bytes) None same h = absurd same

@@ -4,8 +4,7 @@ use Rattle.std.proofs.Common.{codes, drop, Option, Some, None, refl, sym, ap, ap
 use Rattle.std.proofs.Common.{fold, map}
 use Rattle.std.specs.Prelude.{◌≢◌, ◌⊎◌, Result, Ok, Err, IfSome, String, string_bytes, if◌then◌else◌}
 use Rattle.std.specs.Global.{Global}
-use Rattle.std.specs.Fmt.{option_append}
-use Rattle.std.specs.Io.KnownBytes.{Appends, Consumes, Keeps}
+use Rattle.std.specs.Io.KnownBytes.{Appends, Keeps}
 use Rattle.std.proofs.KnownBytes.{Consumes-nil, Appends-trans}
 use Rattle.std.proofs.Common.{get_or}
 use Rattle.std.proofs.lemmas.List.{append-nil, take-append-drop, take_more}
@@ -39,7 +38,7 @@ use Rattle.sixel_program.proofs.EndLemmas.{kept}
 
 -- ---- what is said of one file
 
--- what is said of a check of an input without a name is put as of a run
+-- the message about a check of an input without a name is that about a run
 pub said_quietly : (profile : Profile) (answer : Result Status RunFault) (a b : SinkState)
     → SaysOfCheck None answer (change a b) → IsPut (complaint (Check profile) None answer) (change a b)
 said_quietly profile (Ok status.Done) a b same = rw same (inl (Appends-none a.taken, refl))
@@ -207,7 +206,7 @@ memory_kept (task.Encode profile) told has same takes = kept _ told has same tak
 memory_kept (task.Show profile showing fill selects width height) told has same takes = tt
 memory_kept (task.ShowBox profile showing fill selects) told has same takes = tt
 
--- a run over a source that has the bytes that were told is one over those
+-- a run over a source is one over the bytes that the source was made from
 pub run_kept : (t : Task) (name : Option Text) (prefix : List ℕ) (x : Exit) (told : Option (List ℕ))
     (i : Change SourceState) (o e : Change SinkState) → Keeps told i.old.remaining → RunEnds t name prefix x i o e
     → RunEnds t name prefix x (change (record { remaining = told; failures = i.old.failures }) i.new) o e
@@ -346,8 +345,8 @@ IsRunOver t x told = (answer : Result Status RunFault) × (x ≡ exit_for_answer
     × ((left : Option (List ℕ)) × (had : Option (List ℕ)) × (has : Option (List ℕ))
     × IfSome told (λ bytes. Wrote t bytes left answer had has))
 
-run_ends : (t : Task) (name : Option Text) (prefix : List ℕ) (x : Exit) (i : Change SourceState) (o e : Change SinkState)
-    → RunEnds t name prefix x i o e → IsRunOver t x i.old.remaining
+run_ends : (t : Task) (name : Option Text) (prefix : List ℕ) (x : Exit) (i : Change SourceState)
+    (o e : Change SinkState) → RunEnds t name prefix x i o e → IsRunOver t x i.old.remaining
 run_ends t name prefix x i o e ended =
     (ended.answer, ended.ends, (i.new.remaining, o.old.taken, o.new.taken, ended.wrote))
 

@@ -1,12 +1,12 @@
--- What an input has left that gives its first bytes again.
+-- What an input has left that gives its prefix again.
 use Rattle.std.proofs.Common.{◌≡◌, ◌∙◌, ◌≤◌, ◌<◌, ◌+◌, ◌++◌, ℕ, List, Option, Some, None, ap, append_assoc, arith, drop}
-use Rattle.std.proofs.Common.{[], ◌∷◌, Bool, false, length, min, subst, sym, take, true}
+use Rattle.std.proofs.Common.{[], ◌∷◌, false, length, min, subst, sym, take, true}
 use Rattle.std.specs.Prelude.{◌==◌}
 use Rattle.std.specs.Io.KnownBytes.{Consumes, IsAtEnd, prepend_known}
 use Rattle.std.proofs.Math.Seq.{drop-drop, take-append_seam}
 use Rattle.std.proofs.lemmas.List.{length-take-le, take-append-drop}
 
--- the first of the bytes that wait
+-- the first of the waiting bytes are given
 part_given : (waits : List ℕ) (rest : Option (List ℕ)) (n : ℕ)
     → Consumes (prepend_known waits rest) (prepend_known (drop n waits) rest) (take n waits)
 part_given waits None n = tt
@@ -14,13 +14,13 @@ part_given waits (Some more) n =
     ap (λ (bytes : List ℕ). bytes ++ more) (sym (take-append-drop n waits))
     ∙ append_assoc (take n waits) (drop n waits) more
 
--- a piece that begins with the first of those
+-- a piece into which these bytes were copied begins with them
 piece_begins : (waits behind : List ℕ) (n : ℕ) → n ≤ length waits → take n (take n waits ++ behind) ≡ take n waits
 piece_begins waits behind n short =
     subst (λ (k : ℕ). take k (take n waits ++ behind) ≡ take n waits) (length-take-le n waits short)
     (take-append_seam (take n waits) behind)
 
--- n bytes of the prefix were given
+-- `n` bytes of the prefix are given
 pub prefix_given : (prefix waits new piece : List ℕ) (rest : Option (List ℕ)) (given n : ℕ) → waits ≡ drop given prefix
     → 0 < length waits → 0 < length piece → n ≡ min (length waits) (length piece) → new ≡ take n waits
     → Consumes (prepend_known (drop given prefix) rest) (prepend_known (drop (given + n) prefix) rest)
@@ -34,7 +34,7 @@ prefix_given prefix waits new piece rest given n waiting some room count is =
       λ none. absurd (omega (arith, some, room, count, none)),
     )
 
--- bytes that are not none
+-- some bytes wait
 pub some_wait : (waits : List ℕ) → (length waits == 0) ≡ false → 0 < length waits
 some_wait [] is = let no : true ≡ false = is in cc
 some_wait (byte ∷ waits) is = omega arith

@@ -1,4 +1,4 @@
--- Texts that are put by themselves.
+-- From the contract of a call that writes a text to the words of `specs/Exits`.
 use Rattle.std.proofs.Common.{◌≡◌, ◌∙◌, ℕ, List, ◌++◌, Option, Some, None, sym, ap, inl, inr, length}
 use Rattle.std.proofs.Math.Seq.{take-length}
 use Rattle.std.specs.Prelude.{Result, Ok, Err}
@@ -7,13 +7,13 @@ use Rattle.sixel_io.specs.Devices.{Puts, SinkState, Writes, change}
 use Rattle.sixel_program.specs.Exits.{IsPut}
 use Rattle.sixel_run.specs.Texts.{Text}
 
--- what a call that writes a text states, as what is said of a run
+-- what such a call does (`Writes`) is what `IsPut` says
 pub is_put : {A E : Type 0} (r : Result A E) (text : Text) (old new : SinkState) → Writes r old new text
     → IsPut text (change old new)
 is_put (Ok x) text old new w = inl (w.taken, w.failures)
 is_put (Err x) text old new w = inr (w.taken.0, w.taken.1, w.failures)
 
--- a text that was put stays put at a flush
+-- a text that was appended is still there after a flush, whether that failed or not
 pub stays_put : {A E : Type 0} (r : Result A E) (had mid has : Option (List ℕ)) (text : Text) → Appends had mid text
     → Keeps mid has → Puts r had has text
 stays_put (Ok x) None mid has text put kept = tt

@@ -216,7 +216,7 @@ module _ (t : Task) (q : Bool) (names : List Text) (contents : Text → Option (
         rw (checked.2, checked.1) (files_broken checked.0 q contents names x i o e checked.3 is)
   ]
 
--- what is said of the bytes of a source that has those of standard input is said of those
+-- the same of the bytes that are read for a name
 pub told_kept : (P : List ℕ → Type 0) (contents : Text → Option (List ℕ)) (told has : Option (List ℕ)) (name : Text)
     → Keeps told has → IfSome (told_of contents has name) P → IfSome (told_of contents told name) P
 told_kept P contents told has name same = either P (is_dash name) told has (contents name) same

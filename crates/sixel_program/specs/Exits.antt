@@ -1,4 +1,4 @@
--- How the program ends.
+-- How a run ends: exit statuses and messages.
 use Rattle.std.specs.Prelude.{◌≡◌, ◌≢◌, ◌⊎◌, ◌++◌, ℕ, List, [], Bool, false, true, take, IfSome, Result, Ok}
 use Rattle.std.specs.Prelude.{Err, None, Option, Some, if◌then◌else◌}
 use Rattle.std.specs.Io.KnownBytes.{Appends}
@@ -19,14 +19,14 @@ use Rattle.sixel_program.specs.Names.{named, named_fault_line}
 use Rattle.sixel_run.specs.Outputs.{CountsReads, CountsWrites, TakesMemory, Wrote}
 use Rattle.sixel_run.specs.Texts.{Text, fault_line, finding_line}
 
--- the numbers
+-- the exit status as a number
 abbrev pub exit_code : Exit → ℕ
 exit_code Done = 0
 exit_code Broken = 1
 exit_code Refused = 2
 exit_code Usage = 3
 
--- after a run
+-- the exit status after a run with this answer
 abbrev pub exit_for_answer : Result Status RunFault → Exit
 exit_for_answer (Ok status.Done) = Done
 exit_for_answer (Ok (status.Broken finding)) = Broken
@@ -38,31 +38,31 @@ abbrev pub is_render : Task → Bool
 is_render (task.Render profile) = true
 is_render _ = false
 
--- a line of an input that has this name, or none
+-- a line about an input, after the input's name if it has one
 abbrev pub labelled : Option Text → Text → Text
 labelled None text = text
 labelled (Some name) text = named name text
 
--- the line of a fault in an input; that the output can't be written is the fault of no input
+-- the line of a fault, with the input's name if it has one; not for a failed write, which isn't the input's fault
 abbrev pub fault_said : Option Text → RunFault → Text
 fault_said None fault = fault_line fault
 fault_said (Some name) fault = named_fault_line name fault
 
--- the line of a refusal, or of the broken rule that kept a picture from being rendered; else none
+-- the message about a run: why it was refused, or which rule kept its picture from being rendered; otherwise none
 abbrev pub complaint : Task → Option Text → Result Status RunFault → Text
 complaint t name (Ok status.Done) = []
 complaint t name (Ok (status.Broken finding)) = if is_render t then labelled name (finding_line finding) else []
 complaint t name (Err fault) = fault_said name fault
 
--- the text was appended to what a sink had, or a prefix of it, and the sink failed
+-- the text was appended to the bytes of a sink; or a prefix of it was, and a call on the sink failed
 abbrev pub IsPut : Text → Change SinkState → Type 0
 IsPut text sink =
     (Appends sink.old.taken sink.new.taken text × (sink.new.failures ≡ sink.old.failures))
     ⊎ ((n : ℕ) × Appends sink.old.taken sink.new.taken (take n text) × (sink.new.failures ≡ one_more sink.old.failures))
 
--- a run of the task over an input, which has this name or none, had some answer. The input and the first sink are as
--- after such a run, the program ends as after it, and to the second sink were put the line that is said of it, and what
--- is said of an input of another format, by the bytes that are given as its first
+-- how a run of the task ended, over an input that has this name or none and that begins with `prefix` as far as that
+-- is known. The run had some answer. The input and the output are as after a run with this answer, the exit status is
+-- that of the answer, and the errors got the message about it and the advice on an input of another format
 pub record RunEnds (t : Task) (name : Option Text) (prefix : List ℕ) (exit : Exit) (input : Change SourceState)
     (output errors : Change SinkState) : Type 0 where
   pub answer : Result Status RunFault
@@ -75,18 +75,18 @@ pub record RunEnds (t : Task) (name : Option Text) (prefix : List ℕ) (exit : E
   pub ends : exit ≡ exit_for_answer answer
   pub said : IsPut (complaint t name answer ++ advice prefix answer) errors
 
--- ---- where the words give no task
+-- ---- if the arguments name no task
 
--- nothing was done to a sink
+-- a sink is unchanged
 abbrev pub IsLeft : Change SinkState → Type 0
 IsLeft sink = sink.new ≡ sink.old
 
--- some text was put, of which nothing is said here
+-- some text was put; it isn't specified here
 abbrev pub IsShown : Change SinkState → Type 0
 IsShown sink = (text : Text) × IsPut text sink
 
--- a text was put to the first sink, and that was flushed; or a prefix of it was, the first sink failed, and the line
--- that says so was put to the second
+-- the text was written to the output and flushed; or the output failed, a prefix of the text was written, and the
+-- errors got the line of a failed write
 abbrev pub ExplanationEnds : Text → Exit → Change SinkState → Change SinkState → Type 0
 ExplanationEnds text exit output errors =
     ((exit ≡ Done) × Appends output.old.taken output.new.taken text × (output.new.failures ≡ output.old.failures)
@@ -94,8 +94,8 @@ ExplanationEnds text exit output errors =
     ⊎ ((n : ℕ) × (exit ≡ Refused) × Appends output.old.taken output.new.taken (take n text)
     × (output.new.failures ≡ one_more output.old.failures) × IsPut (fault_line run.Write) errors)
 
--- how the program ends after these words, and what it has put to its two sinks: help and explanations to the first,
--- usage and faults to the second
+-- how the program ends after these arguments, and what it has written: help and explanations to the output, usage and
+-- faults to the errors
 abbrev pub WordsEnd : WordsFault → Exit → Change SinkState → Change SinkState → Type 0
 WordsEnd (fault.Help text) exit output errors = (exit ≡ Done) × IsShown output × IsLeft errors
 WordsEnd (fault.Explanation topic) exit output errors =

@@ -1,4 +1,4 @@
--- Files in place of standard input, and checks that write no verdict.
+-- How requests end: over standard input or files, quiet or not.
 use Rattle.std.specs.Prelude.{◌≡◌, ◌≢◌, ◌⊎◌, ◌-◌, ◌^◌, ◌<◌, ◌≤◌, ◌==◌, ◌&&◌, ◌||◌, ℕ, Bool, length, true, false, List}
 use Rattle.std.specs.Prelude.{[]}
 use Rattle.std.specs.Prelude.{◌∷◌, ◌++◌, codes, flat_map, fold, map, take, nat_lt, Option, Some, None, IfSome, Result}
@@ -20,51 +20,49 @@ use Rattle.sixel_run.specs.declared.task.Status.TheVariants as status
 use Rattle.sixel_run.specs.declared.task.Task.{Task}
 use Rattle.sixel_run.specs.declared.task.Task.TheVariants.{Check}
 use Rattle.sixel_program.specs.Exits.{IsPut, RunEnds, complaint, exit_code, exit_for_answer, fault_said}
-use Rattle.sixel_run.specs.Outputs.{CountsReads, CountsWrites, Gives, TakesMemory, WroteNothing, Wrote, failures_by}
-use Rattle.sixel_program.specs.Formats.{advice}
+use Rattle.sixel_run.specs.Outputs.{Gives, TakesMemory, Wrote, failures_by}
 use Rattle.sixel_program.specs.Names.{named, named_fault_line}
-use Rattle.sixel_run.specs.Texts.{BeginsWith, Text, fault_line, fault_parts, finding_line, line}
+use Rattle.sixel_run.specs.Texts.{BeginsWith, Text, fault_line, line}
 
 -- ---- names
 
--- this name is that of standard input
+-- whether this name is that of standard input
 abbrev pub is_dash : Text → Bool
 is_dash name = bytes_eq name (codes "-")
 
--- the bytes that are read for a name: those that standard input has left, or those of the file
+-- the bytes that are read for a name, if they are known: what standard input has left, or the file's
 abbrev pub told_of : (Text → Option (List ℕ)) → Option (List ℕ) → Text → Option (List ℕ)
 told_of contents input name = if is_dash name then input else contents name
 
--- standard input is read: no file is named, or one by the name of that
+-- whether standard input is read: no file is named, or one of the names is `-`
 abbrev pub reads_input : List Text → Bool
 reads_input names = length names == 0 || list_any is_dash names
 
--- the names of what a task reads: that of standard input where none is given, all of them for a check, and the first
--- for any other task
+-- the names of what a task reads: `-` if there are none; for a check all of them, and for any other task the first
 abbrev pub names_read : Task → List Text → List Text
 names_read t [] = codes "-" ∷ []
 names_read (Check profile) (name ∷ more) = name ∷ more
 names_read t (name ∷ more) = name ∷ []
 
--- where these bytes are told, the task gives for them that it is done
+-- for these bytes, if they are known, the task is done
 abbrev pub IsDoneOver : Task → Option (List ℕ) → Type 0
 IsDoneOver t told = IfSome told (λ bytes. (text : Text) × Gives t bytes text (Ok status.Done))
 
--- where these bytes are told, the task gives for them a broken rule
+-- for these bytes, if they are known, the task finds a broken rule
 abbrev pub IsBrokenOver : Task → Option (List ℕ) → Type 0
 IsBrokenOver t told =
     IfSome told (λ bytes. (text : Text) × (finding : Finding) × Gives t bytes text (Ok (status.Broken finding)))
 
--- where these bytes are told, the task gives a status for them, and so doesn't refuse them
+-- for these bytes, if they are known, the task has a status, so it doesn't refuse them
 abbrev pub IsJudgedOver : Task → Option (List ℕ) → Type 0
 IsJudgedOver t told = IfSome told (λ bytes. (text : Text) × (status : Status) × Gives t bytes text (Ok status))
 
--- a check reads standard input
+-- whether the task is a check that reads standard input
 abbrev pub awaits_text : Task → List Text → Bool
 awaits_text (Check profile) names = reads_input names
 awaits_text t names = false
 
--- what is said before a check that reads a terminal
+-- the notice before a task: a check that reads a terminal says that it waits
 abbrev pub notice : Bool → Task → List Text → Text
 notice is_terminal t names =
     if is_terminal && awaits_text t names
@@ -73,23 +71,24 @@ notice is_terminal t names =
 
 -- ---- one file
 
--- what standard input has left after a file
+-- what standard input has left after the file with this name, which left `left`
 abbrev pub left_after : Option (List ℕ) → Text → Option (List ℕ) → Option (List ℕ)
 left_after input name left = if is_dash name then left else input
 
--- the bytes begin so, if they are known
+-- the bytes begin with this prefix, if they are known
 abbrev pub IsPrefix : Option (List ℕ) → List ℕ → Type 0
 IsPrefix told prefix = IfSome told (λ bytes. BeginsWith bytes prefix)
 
--- the file of this name, which isn't that of standard input, couldn't be opened: nothing was done, but that to the
--- second sink was put the line that says so
+-- the file with this name, which isn't that of standard input, couldn't be opened: the output is unchanged, and the
+-- errors got the line of a failed read
 abbrev pub IsUnopened : Task → Option (List ℕ) → Text → Exit → Change SinkState → Change SinkState → Type 0
 IsUnopened t told name exit output errors =
     (is_dash name ≡ false) × (told ≡ None) × (exit ≡ Refused) × (output.new ≡ output.old)
     × IsPut (complaint t (Some name) (Err run.Read)) errors
 
--- a task over the file of this name ended so, over standard input, of which `given` are the first bytes: that is the
--- file by its name, and stays beside another file, which is run over or couldn't be opened
+-- how a task over the file with this name ended. If the name is that of standard input, the file is `input`, which
+-- begins with `given` as far as that is known. Otherwise `input` is unchanged, and the file was read or couldn't be
+-- opened
 pub record FileEnds (t : Task) (contents : Text → Option (List ℕ)) (name : Text) (given : List ℕ) (exit : Exit)
     (input : Change SourceState) (output errors : Change SinkState) : Type 0 where
   pub prefix : List ℕ
@@ -104,8 +103,8 @@ pub record FileEnds (t : Task) (contents : Text → Option (List ℕ)) (name : T
 
 -- ---- checks of several files
 
--- how the check of a file ended: the bytes that its source told before and after, the line that a run of the check
--- wrote, and its answer
+-- how the check of a file ended: the file's bytes and what it had left, if they are known, the verdict's line and the
+-- answer
 pub record FileEnd : Type 0 where
   pub name : Text
   pub told : Option (List ℕ)
@@ -113,14 +112,14 @@ pub record FileEnd : Type 0 where
   pub line : Text
   pub answer : Result Status RunFault
 
--- a run of the check over those bytes may end so
+-- a check of those bytes may end so
 pub record IsFileEnd (profile : Profile) (e : FileEnd) : Type 0 where
   pub wrote : IfSome e.told (λ bytes. Wrote (Check profile) bytes e.left e.answer (Some []) (Some e.line))
   pub memory : e.answer ≡ Err run.OutOfMemory → TakesMemory (Check profile) e.told
   pub written : e.answer ≢ Err run.Write
   pub reads : ReadsToEnd e.answer e.told e.left
 
--- what is written of a file: its name and the line of the verdict; nothing where none is wanted, or there is none
+-- the output for a file: its name and the verdict's line; nothing if the check is quiet or the file is refused
 abbrev pub file_text : Bool → Text → Text → Result Status RunFault → Text
 file_text is_quiet name line (Ok status) = if is_quiet then [] else named name line
 file_text is_quiet name line (Err fault) = []
@@ -128,11 +127,11 @@ file_text is_quiet name line (Err fault) = []
 abbrev pub text_of_end : Bool → FileEnd → Text
 text_of_end is_quiet e = file_text is_quiet e.name e.line e.answer
 
--- the lines of several files, one after another
+-- the output for several files
 abbrev pub files_text : Bool → List FileEnd → Text
 files_text is_quiet ends = flat_map (text_of_end is_quiet) ends
 
--- what is said of the check of a file of this name: a line where it is refused
+-- the messages about the check of the file with this name: one if it is refused
 abbrev pub said_of_check : Text → Result Status RunFault → List Text
 said_of_check name (Ok status) = []
 said_of_check name (Err fault) = named_fault_line name fault ∷ []
@@ -140,11 +139,11 @@ said_of_check name (Err fault) = named_fault_line name fault ∷ []
 abbrev pub said_of : FileEnd → List Text
 said_of e = said_of_check e.name e.answer
 
--- the lines that are said of several files
+-- the messages about several files
 abbrev pub complaints_of : List FileEnd → List Text
 complaints_of ends = flat_map said_of ends
 
--- the one of the greater number
+-- the greater of two exit statuses
 abbrev pub worse : Exit → Exit → Exit
 worse a b = if nat_lt (exit_code a) (exit_code b) then b else a
 
@@ -161,20 +160,21 @@ files_exit ends = worst (map exit_of_end ends)
 abbrev pub names_of : List FileEnd → List Text
 names_of ends = map (λ e. e.name) ends
 
--- the texts were put to a sink in turn, each whole, or a prefix of it where a call failed; after that the next one is
--- still put
+-- the texts were put to a sink in turn, each whole, or a prefix of it if a call failed. A failure doesn't stop the next
+-- text
 unfoldable pub ArePut : List Text → Change SinkState → Type 0
 ArePut [] sink = sink.new ≡ sink.old
 ArePut (text ∷ rest) sink =
     (between : SinkState) × IsPut text (change sink.old between) × ArePut rest (change between sink.new)
 
--- the check of an input, which has this name or none, had this answer, and what is said of it was put to a sink
+-- the message about the check of an input, which has this name or none, was put to a sink
 abbrev pub SaysOfCheck : Option Text → Result Status RunFault → Change SinkState → Type 0
 SaysOfCheck name (Ok status) errors = errors.new ≡ errors.old
 SaysOfCheck name (Err fault) errors = IsPut (fault_said name fault) errors
 
--- what a check of this name, which wrote this line and had this answer, did to the two sinks: what is written and
--- what is said of it was put to them; or a prefix of the first was, and that sink failed
+-- what the check of the file with this name did to the two sinks, given the verdict's line and the answer. `Ok`: the
+-- text for the file was appended to the output, and the message about it was put to the errors. `Err`: the output
+-- failed after a prefix of that text, and nothing was put to the errors. This can't happen if the check is quiet
 abbrev pub IsOutcome : {E : Type 0} → Bool → Text → Text → Result Status RunFault → Result Exit E
     → Change SinkState → Change SinkState → Type 0
 IsOutcome is_quiet name line answer (Ok exit) output errors =
@@ -186,17 +186,17 @@ IsOutcome is_quiet name line answer (Err fault) output errors =
     × (is_quiet ≡ false) × (output.new.failures ≡ one_more output.old.failures)
     × (said_of_check name answer ≡ []) × (errors.new ≡ errors.old)
 
--- the bytes that were told of each file in turn, from what standard input had to what it has
+-- the bytes of each file in turn, if they are known; standard input had `had` before them and has `has` after them
 unfoldable pub Tells : (Text → Option (List ℕ)) → Option (List ℕ) → List FileEnd → Option (List ℕ) → Type 0
 Tells contents had [] has = has ≡ had
 Tells contents had (e ∷ rest) has =
     (e.told ≡ told_of contents had e.name) × Tells contents (left_after had e.name e.left) rest has
 
--- the failures of standard input so far, after the check of a file: one more where that was its own, and a read failed
+-- how many calls on standard input have failed after the check of a file: one more if a read of it failed
 abbrev pub failures_past : ℕ → FileEnd → ℕ
 failures_past count e = if is_dash e.name then failures_by run.Read e.answer count else count
 
--- a check of a file ended so, over standard input, and did this to the two sinks
+-- how the check of the file with this name ended, beside standard input, and what it did to the two sinks
 pub record IsChecked {E : Type 0} (profile : Profile) (is_quiet : Bool) (contents : Text → Option (List ℕ))
     (name : Text) (result : Result Exit E) (input : Change SourceState) (output errors : Change SinkState)
     : Type 0 where
@@ -208,16 +208,16 @@ pub record IsChecked {E : Type 0} (profile : Profile) (is_quiet : Bool) (content
   pub counted : input.new.failures ≡ failures_past input.old.failures e
   pub outcome : IsOutcome is_quiet name e.line e.answer result output errors
 
--- a call on a sink failed: its count of failures rose, or stands at the greatest `u64`
+-- a call on a sink failed: its count of failures rose, or is the greatest `u64`
 abbrev pub HasFailed : Change SinkState → Type 0
 HasFailed sink = (sink.old.failures < sink.new.failures) ⊎ (sink.new.failures ≡ 2 ^ 64 - 1)
 
--- the text was appended to what a sink had, or a call on it failed
+-- the text was appended to the bytes of a sink, or a call on the sink failed
 abbrev pub IsSaid : Text → Change SinkState → Type 0
 IsSaid text sink =
     (Appends sink.old.taken sink.new.taken text × (sink.new.failures ≡ sink.old.failures)) ⊎ HasFailed sink
 
--- files of these names were checked in turn and ended so
+-- all files with these names were checked in turn and ended so
 pub record AreChecked (profile : Profile) (is_quiet : Bool) (contents : Text → Option (List ℕ)) (ends : List FileEnd)
     (names : List Text) (exit : Exit) (input : Change SourceState) (output errors : Change SinkState) : Type 0 where
   pub names_are : names ≡ names_of ends
@@ -229,8 +229,8 @@ pub record AreChecked (profile : Profile) (is_quiet : Bool) (contents : Text →
   pub unfailed : output.new.failures ≡ output.old.failures
   pub said : ArePut (complaints_of ends) errors
 
--- the output failed at one of the files, which is the last that was read, or when it was flushed: the lines of those
--- before were appended, and a prefix of its own
+-- the output failed at one of the files, the last that was read, or when it was flushed. The lines of the files before
+-- it were written, and a prefix of its own line
 pub record AreCut (profile : Profile) (is_quiet : Bool) (contents : Text → Option (List ℕ)) (names : List Text)
     (exit : Exit) (input : Change SourceState) (output errors : Change SinkState) : Type 0 where
   pub whole : List FileEnd
@@ -251,7 +251,7 @@ pub record AreCut (profile : Profile) (is_quiet : Bool) (contents : Text → Opt
   pub silent : All (λ e. said_of e ≡ []) (option_to_list last)
   pub said : ArePut (complaints_of whole ++ fault_line run.Write ∷ []) errors
 
--- each file was checked, and the first sink is flushed, unless no verdict is wanted; or the first sink failed
+-- all files were checked, and the output is flushed unless the check is quiet; or the output failed
 abbrev pub FilesEnd : Profile → Bool → (Text → Option (List ℕ)) → List Text → Exit → Change SourceState
     → Change SinkState → Change SinkState → Type 0
 FilesEnd profile is_quiet contents names exit input output errors =
@@ -261,7 +261,7 @@ FilesEnd profile is_quiet contents names exit input output errors =
 
 -- ---- requests
 
--- a check of standard input of which only the status is wanted ended so: `line` is the one that a run of it writes
+-- how a quiet check of standard input ended. `line` is the verdict's line, which isn't written
 pub record QuietEnds (profile : Profile) (exit : Exit) (input : Change SourceState) (errors : Change SinkState)
     : Type 0 where
   pub answer : Result Status RunFault
@@ -274,12 +274,12 @@ pub record QuietEnds (profile : Profile) (exit : Exit) (input : Change SourceSta
   pub ends : exit ≡ exit_for_answer answer
   pub said : IsPut (complaint (Check profile) None answer) errors
 
--- what is asked for ended so, over standard input, of which `prefix` are the first bytes: the task over that where no
--- file is named; a check of all files that are named, and any other task over the first of them
+-- how a request ended, over standard input that begins with `prefix` as far as that is known. Without names the task
+-- is over standard input. Otherwise a check is of all files that are named, and any other task is over the first
 abbrev pub RequestEnds : Task → Bool → List Text → (Text → Option (List ℕ)) → List ℕ → Exit → Change SourceState
     → Change SinkState → Change SinkState → Type 0
 RequestEnds (Check profile) true [] contents prefix exit input output errors =
-    QuietEnds profile exit input errors × (output.new ≡ output.old)  -- nothing went to the first sink
+    QuietEnds profile exit input errors × (output.new ≡ output.old)  -- nothing was written
 RequestEnds t is_quiet [] contents prefix exit input output errors = RunEnds t None prefix exit input output errors
 RequestEnds (Check profile) is_quiet (name ∷ more) contents prefix exit input output errors =
     FilesEnd profile is_quiet contents (name ∷ more) exit input output errors

@@ -1,4 +1,4 @@
--- Picture formats that `encode` doesn't read, and what is said of them.
+-- Picture formats that `encode` doesn't read, and the advice on them.
 use Rattle.std.specs.Prelude.{◌==◌, ◌&&◌, ◌||◌, ◌∷◌, ◌++◌, ℕ, Bool, false, List, [], Option, Some, None, Result, Err}
 use Rattle.std.specs.Prelude.{codes, nat_le, if◌then◌else◌}
 use Rattle.std.specs.Option.{option_map_or}
@@ -10,7 +10,7 @@ use Rattle.sixel_program.specs.declared.formats.Format.TheVariants.{Png, Jpeg, G
 use Rattle.sixel_run.specs.declared.task.Status.{Status}
 use Rattle.sixel_run.specs.Texts.{Text}
 
--- the marks at the beginning of files
+-- the magic numbers
 abbrev pub is_png : List ℕ → Bool
 is_png (a ∷ b ∷ c ∷ d ∷ more) = (a == 137) && (b == 80) && (c == 78) && (d == 71)
 is_png _ = false
@@ -42,11 +42,11 @@ advice_on Jpeg = codes "sixel: this is a JPEG; `jpegtopnm | ppmtoppm` makes a PP
 advice_on Gif = codes "sixel: this is a GIF; `giftopnm | ppmtoppm` makes a PPM (P6) of it" ++ 10 ∷ []
 advice_on Netpbm = codes "sixel: this is another format of Netpbm; `ppmtoppm` makes a PPM (P6) of it" ++ 10 ∷ []
 
--- what is said beside the fault of an input of this format, if its header is refused at the mark
+-- the advice on an input of this format, if its header is refused within the magic number
 abbrev pub advice_for : Option Format → Result Status RunFault → Text
 advice_for format (Err (Ppm Header place)) = if nat_le place 1 then option_map_or advice_on format [] else []
 advice_for format _ = []
 
--- what is said beside the fault of an input that begins with these bytes
+-- the advice on an input that begins with these bytes
 abbrev pub advice : List ℕ → Result Status RunFault → Text
 advice prefix answer = advice_for (format_of prefix) answer

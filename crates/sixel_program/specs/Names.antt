@@ -1,24 +1,24 @@
--- Names of files as they are printed, and lines with one.
+-- How file names are printed, and lines that contain one.
 use Rattle.std.specs.Prelude.{◌+◌, ◌-◌, ◌/◌, ◌%◌, ◌==◌, ◌||◌, ℕ, Bool, [], ◌∷◌, ◌++◌, codes, nat_lt, flat_map}
 use Rattle.std.specs.Prelude.{if◌then◌else◌}
 use Rattle.sixel_run.specs.declared.fault.RunFault.{RunFault}
 use Rattle.sixel_run.specs.declared.fault.RunFault.TheVariants as run
 use Rattle.sixel_run.specs.Texts.{Text, fault_line, fault_parts, line}
 
--- a number below 16 as a hexadecimal digit: 0 to 9, A to F
+-- the hexadecimal digit of a number below 16: 0 to 9, A to F
 abbrev pub hex_digit : ℕ → ℕ
 hex_digit n = if nat_lt n 10 then 48 + n else 65 + (n - 10)
 
--- the control characters: those below 20 and 7F, hexadecimal
+-- whether a byte is a control character: below 20, or 7F, both hexadecimal
 abbrev pub is_control : ℕ → Bool
 is_control byte = nat_lt byte 0x20 || byte == 0x7F
 
--- a byte of a name as it is printed: a control character by its number, so that a line feed is the four bytes \x0A
+-- how a byte of a name is printed: control characters are escaped, so a line feed becomes the four bytes \x0A
 abbrev pub printed_byte : ℕ → Text
 printed_byte byte =
     if is_control byte then 92 ∷ 120 ∷ hex_digit (byte / 16) ∷ hex_digit (byte % 16) ∷ [] else byte ∷ []
 
--- a name as it is printed
+-- how a name is printed
 abbrev pub printed : Text → Text
 printed name = flat_map printed_byte name
 
@@ -26,7 +26,7 @@ printed name = flat_map printed_byte name
 abbrev pub named : Text → Text → Text
 named name text = printed name ++ codes ": " ++ text
 
--- the line of a fault in a file of this name; that the output can't be written is the fault of no file
+-- the line of a fault in the file with this name; without the name for a failed write, which isn't the file's fault
 abbrev pub named_fault_line : Text → RunFault → Text
 named_fault_line name run.Write = fault_line run.Write
 named_fault_line name fault = line (codes "sixel: " ++ printed name ++ codes ":") (fault_parts fault)

@@ -1,4 +1,4 @@
-//! Checks of files, and checks that write no verdict.
+//! Checks of files, and quiet checks of standard input.
 
 ghost use Rattle.std.specs.Prelude.{◌≡◌, Result, map, option_copied};
 ghost use Rattle.std.specs.String.{string_bytes};
@@ -22,7 +22,7 @@ use sixel_model::Profile;
 use sixel_run::{RunFault, judge, status_of, verdict_line, write_fault};
 use std::alloc::Global;
 
-/// Says why an input, which has this name or none, was refused, if it was. Answers the exit status.
+/// Writes why a checked input was refused, if it was. The input has this name or none. Returns the exit status.
 fn say_judged<E: Sink>(
     name: Option<&str>,
     judged: Result<Verdict, RunFault>,
@@ -41,7 +41,7 @@ fn say_judged<E: Sink>(
     }
 }
 
-/// Checks standard input, and writes no verdict.
+/// Checks standard input without writing the verdict.
 pub fn check_quietly<S: Source, E: Sink>(
     alloc: Global,
     profile: Profile,
@@ -55,8 +55,8 @@ pub fn check_quietly<S: Source, E: Sink>(
     say_judged(None, judged, errors)
 }
 
-/// Puts the verdict on the file of this name, if there is one and it is wanted, and says why the file was refused, if it
-/// was. On an `Err` the first sink failed.
+/// Writes the verdict on a file, unless the check is quiet, or why the file was refused. An `Err` means that `output`
+/// failed.
 fn put_judged<K: Sink, E: Sink>(
     is_quiet: bool,
     name: &str,
@@ -75,7 +75,7 @@ fn put_judged<K: Sink, E: Sink>(
     Ok(say_judged(Some(name), judged, errors))
 }
 
-/// Checks a file that is open.
+/// Checks an open file, or standard input by its name. An `Err` means that `output` failed.
 fn check_named<S: Source, K: Sink, E: Sink>(
     alloc: Global,
     profile: Profile,
@@ -101,7 +101,7 @@ fn check_named<S: Source, K: Sink, E: Sink>(
     put_judged(is_quiet, name, judged, output, errors)
 }
 
-/// Checks the file of this name, or standard input where the name is `-`.
+/// Checks the file with this name, or standard input if the name is `-`. An `Err` means that `output` failed.
 fn check_file<F: Folder, S: Source, K: Sink, E: Sink>(
     alloc: Global,
     profile: Profile,
@@ -128,14 +128,14 @@ fn check_file<F: Folder, S: Source, K: Sink, E: Sink>(
     }
 }
 
-/// The exit status of the greater number.
+/// The greater of two exit statuses.
 fn worse(a: Exit, b: Exit) -> Exit
     ensures { result ≡ worse a b }
 {
     if code_of(a) < code_of(b) { b } else { a }
 }
 
-/// Says that the output failed.
+/// Says that the output couldn't be written.
 fn unwritten<E: Sink>(errors: &mut E) -> Exit
     ensures exit { result ≡ Exit.Refused }
     ensures said { IsPut (fault_line RunFault.Write)
@@ -145,7 +145,8 @@ fn unwritten<E: Sink>(errors: &mut E) -> Exit
     Exit::Refused
 }
 
-/// Checks the files of these names in turn, also after one that is refused. The exit status is the greatest of theirs.
+/// Checks the files with these names in turn. A refused file doesn't end this, but a failed write does. The exit status
+/// is the greatest of theirs.
 pub fn check_files<F: Folder, S: Source, K: Sink, E: Sink>(
     alloc: Global,
     profile: Profile,

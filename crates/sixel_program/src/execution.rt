@@ -1,4 +1,4 @@
-//! What is asked for, over streams and a folder.
+//! Carries out a request over streams and a folder.
 
 ghost use Rattle.std.specs.Prelude.{◌≡◌, ◌≢◌, All, Contains, map};
 ghost use Rattle.std.specs.String.{string_bytes};
@@ -15,7 +15,7 @@ use sixel_words::Request;
 use std::alloc::Global;
 use std::io::{Read, Write};
 
-/// Does what is asked for over streams, of which the third gets what `answer` says.
+/// Carries out a request. Messages, as the reason of a refusal, go to `errors`.
 pub fn execute<F: Folder, R: Read + Drop, W: Write + Drop, E: Write + Drop>(
     alloc: Global,
     request: &Request,

@@ -12,19 +12,19 @@ use sixel_run::{RunFault, Status, write_fault};
 use sixel_words::{Topic, WordsFault, explanation};
 use std::alloc::Global;
 
-/// How the program ends.
+/// The exit status.
 #[derive(Clone, Copy, Debug, PartialEq, Eq)]
 pub enum Exit {
     Done,
     /// A rule is broken.
     Broken,
-    /// The input is refused, or memory, reading or writing failed.
+    /// The input was refused, or an allocation, a read or a write failed.
     Refused,
-    /// The words of the command are wrong.
+    /// A usage error.
     Usage,
 }
 
-/// The exit status in numbers.
+/// The exit status as a number.
 pub fn code_of(exit: Exit) -> u8
     ensures { result ≡ exit_code exit }
 {
@@ -36,7 +36,7 @@ pub fn code_of(exit: Exit) -> u8
     }
 }
 
-/// How the program ends after a run.
+/// The exit status after a run.
 pub fn exit_of(answer: Result<Status, RunFault>) -> Exit
     ensures { result ≡ exit_for_answer answer }
 {
@@ -47,8 +47,8 @@ pub fn exit_of(answer: Result<Status, RunFault>) -> Exit
     }
 }
 
-/// Ends the program where the words give no task: shows the help or the explanation that was asked for, or says what
-/// is wrong. Where a text of help or usage can't be made or put, or the line of a fault, the program ends as it would.
+/// Ends the program if its arguments name no task: shows the help or the explanation that was asked for, or says what
+/// is wrong. If a help text, a usage text or a fault's line can't be made or written, the exit status stays the same.
 pub fn tell<K: Sink, E: Sink>(
     alloc: Global,
     fault: WordsFault,
@@ -81,7 +81,7 @@ pub fn tell<K: Sink, E: Sink>(
     }
 }
 
-/// Puts a text of usage or help, if it can be made.
+/// Writes a text of help or usage, if there is enough memory to make it.
 fn show<K: Sink>(alloc: Global, text: &Error, out: &mut K)
     ensures { IsShown (change (K.state out.old) (K.state out.new)) }
 {
@@ -90,7 +90,7 @@ fn show<K: Sink>(alloc: Global, text: &Error, out: &mut K)
     }
 }
 
-/// Puts an explanation, or on an `Err` a prefix of it, and flushes.
+/// Writes an explanation, or on an `Err` a prefix of it, and flushes.
 fn write_explanation<K: Sink>(topic: Option<Topic>, out: &mut K) -> Result<(), DeviceFault>
     ensures bytes { (text : Text) × IsExplanation topic text
         × Puts result (K.state out.old).taken (K.state out.new).taken text }

@@ -1,4 +1,4 @@
-//! Files in place of standard input.
+//! Requests over standard input or files.
 
 ghost use Rattle.std.specs.Prelude.{◌≡◌, false, map, option_copied};
 ghost use Rattle.std.specs.Io.KnownBytes.{Keeps};
@@ -20,16 +20,17 @@ use sixel_run::{RunFault, Task, run};
 use sixel_words::Request;
 use std::alloc::Global;
 
-/// What is said before a check that reads a terminal.
+/// The notice before a check that reads a terminal.
 const WAITING: &[u8] = b"sixel: waiting for sixel text on standard input\n";
 
-/// Whether standard input is read: no file is named, or one by the name of that.
+/// Whether standard input is read: no file is named, or one of the names is `-`.
 fn reads_input(names: &[String]) -> bool
     ensures { result ≡ reads_input (map string_bytes names.now) }
 {
     names.is_empty() || names_input(names)
 }
 
+/// Whether one of the names is `-`.
 fn names_input(names: &[String]) -> bool
     ensures { result ≡ list_any is_dash (map string_bytes names.now) }
 {
@@ -41,7 +42,7 @@ fn names_input(names: &[String]) -> bool
     false
 }
 
-/// Whether a check is asked for that reads standard input.
+/// Whether the request is a check that reads standard input.
 fn awaits_text(request: &Request) -> bool
     ensures { result ≡ awaits_text request.now.task (map string_bytes request.now.files.items) }
 {
@@ -51,7 +52,7 @@ fn awaits_text(request: &Request) -> bool
     }
 }
 
-/// What is said before a task is done: where a check reads a terminal, that it waits.
+/// The notice before a task: a check that reads a terminal says that it waits.
 fn notice(request: &Request, is_terminal: bool) -> &'static [u8]
     ensures { result.now ≡ notice is_terminal request.now.task (map string_bytes request.now.files.items) }
 {
@@ -62,7 +63,7 @@ fn notice(request: &Request, is_terminal: bool) -> &'static [u8]
     }
 }
 
-/// Says that sixel text is waited for, where a check reads standard input and that is a terminal.
+/// Says that the program waits for sixel text, if a check reads standard input and that is a terminal.
 pub fn announce<E: Sink>(request: &Request, is_terminal: bool, errors: &mut E)
     ensures { IsPut (notice is_terminal request.now.task (map string_bytes request.now.files.items))
         (change (E.state errors.old) (E.state errors.new)) }
@@ -70,7 +71,7 @@ pub fn announce<E: Sink>(request: &Request, is_terminal: bool, errors: &mut E)
     let _ = put_all(errors, notice(request, is_terminal));
 }
 
-/// Standard input, and what it begins with as far as that is known. If it isn't read, nothing is read here.
+/// Standard input as the request's input. If the request doesn't read it, nothing is read here either.
 pub fn peek_input<S: Source>(request: &Request, source: S) -> Peeked<S>
     ensures told { Keeps (S.state source).remaining (⟦<Peeked<S> as Source>⟧.state result).remaining }
     ensures prefix { IsPrefix (S.state source).remaining result.prefix.items }
@@ -83,9 +84,9 @@ pub fn peek_input<S: Source>(request: &Request, source: S) -> Peeked<S>
     }
 }
 
-/// Runs a task over an input, which has this name or none. Says to another sink why the input was refused, or which
-/// rule kept a picture from being rendered, and what makes a PPM of an input of another format. If that can't be put,
-/// the program ends as it would.
+/// Runs a task over an input, which has this name or none. Writes to `errors` why the input was refused, or which rule
+/// kept its picture from being rendered, and how to convert an input of another format. If that can't be written, the
+/// exit status stays the same.
 fn report<S: Source, K: Sink, E: Sink>(
     alloc: Global,
     task: Task,
@@ -105,7 +106,7 @@ fn report<S: Source, K: Sink, E: Sink>(
     exit_of(answer)
 }
 
-/// Runs a task over the file of this name, or over standard input if the name is `-`.
+/// Runs a task over the file with this name, or over standard input if the name is `-`.
 fn report_file<F: Folder, S: Source, K: Sink, E: Sink>(
     alloc: Global,
     task: Task,
@@ -135,7 +136,7 @@ fn report_file<F: Folder, S: Source, K: Sink, E: Sink>(
     }
 }
 
-/// Does what is asked for. A check reads all files that are named, and any other task the first of them.
+/// Carries out a request. A check reads all files that are named; any other task reads the first.
 pub fn answer<F: Folder, S: Source, K: Sink, E: Sink>(
     alloc: Global,
     request: &Request,

@@ -1,4 +1,4 @@
-//! Where files are found by their names.
+//! Files by their names.
 
 ghost use Rattle.std.specs.Prelude.{◌≡◌, IfErr, IfOk, ℕ, List, None, Option};
 
@@ -12,16 +12,16 @@ pub trait Folder {
     /// An open file.
     type Opened: Read + Drop;
 
-    /// The bytes of the file of a name, where the folder tells them.
+    /// The bytes of the file with this name, if the folder tells them.
     ghost contents: { Self → List ℕ → Option (List ℕ) };
 
-    /// The file of this name, from its start. One whose bytes are told can be opened.
+    /// Opens the file with this name, at its start. This succeeds if the folder tells the file's bytes.
     fn open(&self, name: &str) -> Result<Self::Opened, DeviceFault>
         ensures opened { IfOk result (λ file. Self.Opened.remaining file ≡ contents self.now name.now) }
         ensures unopened { IfErr result (λ fault. contents self.now name.now ≡ None) };
 }
 
-/// What a task reads: standard input, or a file. As one type, so that each task is compiled once.
+/// What a task reads: standard input or a file. They are one type, so that each task is compiled only once.
 #[derive(Drop)]
 pub enum Input {
     Standard(Stdin),
@@ -37,7 +37,7 @@ impl Read for Input {
     }
 }
 
-/// The folders of the system, which tell no bytes.
+/// The file system. It tells no file's bytes.
 #[derive(Clone, Copy)]
 pub struct System<'a> {
     rt: &'a HostRuntime,

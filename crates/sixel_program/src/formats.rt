@@ -1,11 +1,11 @@
-//! Picture formats that `encode` doesn't read, and how to bring them to the one that it reads.
+//! Picture formats that `encode` doesn't read, and how to convert them to the one that it reads.
 //!
-//! The marks are those of PNG (W3C), JPEG (ITU-T T.81), GIF (89a and 87a) and Netpbm's formats.
+//! The magic numbers are those of PNG (W3C), JPEG (ITU-T T.81), GIF (89a and 87a) and Netpbm's formats.
 
 ghost use Rattle.std.specs.Prelude.{◌≡◌, ◌≤◌, length};
 ghost use Rattle.sixel_program.specs.Formats.{advice_on, format_of};
 
-/// How many bytes at the beginning of a file tell its format.
+/// How many of a file's first bytes are needed to tell its format.
 pub const PREFIX_LENGTH: usize = 4;
 
 /// A picture format that `encode` doesn't read.
@@ -14,11 +14,11 @@ pub enum Format {
     Png,
     Jpeg,
     Gif,
-    /// A format of Netpbm other than the raw PPM.
+    /// A Netpbm format other than the raw PPM.
     Netpbm,
 }
 
-/// The format of a file that begins with these bytes, by its mark; none where they have no mark that is known.
+/// The format of a file that begins with these bytes, told by its magic number; `None` if that is unknown.
 pub fn format_of(prefix: &[u8]) -> Option<Format>
     ensures { result ≡ format_of prefix.now }
 {
@@ -31,7 +31,7 @@ pub fn format_of(prefix: &[u8]) -> Option<Format>
     }
 }
 
-/// The line that says what the input is and what makes a PPM of it, by tools of Netpbm.
+/// The line that names the format, and the Netpbm tools that convert it to PPM.
 pub fn advice_on(format: Format) -> &'static str
     ensures text { result.now ≡ advice_on format }
     ensures short { length result.now ≤ 96 }

@@ -16,11 +16,11 @@ ghost use Rattle.sixel_program.specs.Names.{is_control, printed};
 ghost use Rattle.sixel_run.specs.Outputs.{Gives};
 ghost use Rattle.sixel_run.specs.Texts.{Text};
 
-/// The output of a check of several files is the line of each, one after another, with its name before it, and each
-/// line is the one that a check of the file's bytes alone writes. Of a refused file there is none, and the grammar's
-/// fault is that of its bytes alone; where no verdict is wanted, there is none of any. The exit status is the greatest:
-/// no file has one of a greater number, and it is that of one of them. Texts that were put one after another stand
-/// joined behind what the sink had, unless a call on it failed.
+/// The output of a check of several files is their lines joined. Each line begins with the file's name, and the rest is
+/// the line that a check of only this file's bytes writes. A refused file has no line, and a grammar fault is the one
+/// that a check of only this file's bytes finds. A quiet check writes no lines. The exit status is the greatest: it is
+/// that of one of the files, and no file has a greater one. Texts that were put to a sink in turn are appended to it
+/// joined, unless a call on the sink failed.
 pub fn several_files_are_checked_one_by_one()
     ensures joined { (is_quiet : Bool) (prefix rest : List FileEnd) →
         files_text is_quiet (prefix ++ rest) ≡ files_text is_quiet prefix ++ files_text is_quiet rest }
@@ -40,8 +40,7 @@ pub fn several_files_are_checked_one_by_one()
     ensures said { (texts : List Text) (sink : Change SinkState) → ArePut texts sink → IsSaid (concat texts) sink }
 {}
 
-/// The name of a file is printed without control characters, so that it can't end a line; and one that has none is
-/// printed as it is.
+/// A file name is printed without control characters, so it can't end a line. A name that has none is printed as it is.
 pub fn names_are_printed_without_controls()
     ensures clean { (name : Text) → All (λ byte. byte < 256) name → All (λ byte. is_control byte ≡ false)
         (printed name) }

@@ -1,4 +1,4 @@
-//! Files, what is said of them, and how the program ends, over any streams and any folder.
+//! The program over any streams and any folder: files, messages and exit statuses.
 #![tactic(auto)]
 
 mod checks;

@@ -1,4 +1,4 @@
-//! Names of files as they are printed, and lines that begin with one.
+//! How file names are printed, and lines that contain one.
 
 ghost use Rattle.std.specs.Prelude.{◌≡◌, ◌<◌, ◌++◌, IfSome};
 ghost use Rattle.sixel_io.specs.Devices.{Writes};
@@ -7,8 +7,8 @@ ghost use Rattle.sixel_program.specs.Names.{hex_digit, printed, printed_byte};
 use arrayvec::ArrayVec;
 use sixel_io::{DeviceFault, Sink, put_all};
 
-/// Room for any line that begins with the name of a file: a name has at most 4,095 bytes, each printed as four at
-/// most, and what is printed around it has at most 260.
+/// Room for any line with a file name: a name has at most 4,095 bytes, each printed as at most four, and the text
+/// around it has at most 260.
 const ROOM: usize = 16_640;
 
 type NamedLine = ArrayVec<u8, ROOM>;
@@ -24,8 +24,8 @@ fn hex_digit(number: u8) -> u8
     }
 }
 
-/// A byte of a name as it is printed: a control character by its number, so that no name can end a line or send a
-/// terminal a command.
+/// How a byte of a name is printed. Control characters are escaped, as `\x0A`, so that no name can end a line or send
+/// a command to a terminal.
 fn printed_byte(byte: u8) -> ArrayVec<u8, 4>
     ensures { result.items ≡ printed_byte byte }
 {
@@ -41,14 +41,14 @@ fn printed_byte(byte: u8) -> ArrayVec<u8, 4>
     text
 }
 
-/// Appends the bytes, where there is room.
+/// Appends the bytes, if there is room.
 fn push_all(line: &mut NamedLine, text: &[u8]) -> Option<()>
     ensures { IfSome result (λ _. line.new.items ≡ line.old.items ++ text.now) }
 {
     line.try_extend_from_slice(text).ok()
 }
 
-/// Appends a name as it is printed, where there is room.
+/// Appends a name as it is printed, if there is room.
 fn push_name(line: &mut NamedLine, name: &[u8]) -> Option<()>
     ensures { IfSome result (λ _. line.new.items ≡ line.old.items ++ printed name.now) }
 {
@@ -58,7 +58,7 @@ fn push_name(line: &mut NamedLine, name: &[u8]) -> Option<()>
     Some(())
 }
 
-/// A name between what comes before and after it, where there is room.
+/// A line that contains a name, if there is room for it.
 fn joined(before: &[u8], name: &str, after: &[u8], rest: &[u8]) -> Option<NamedLine>
     ensures { IfSome result (λ line. line.items ≡ before.now ++ printed name.now ++ after.now ++ rest.now) }
 {
@@ -70,8 +70,8 @@ fn joined(before: &[u8], name: &str, after: &[u8], rest: &[u8]) -> Option<NamedL
     Some(line)
 }
 
-/// Puts a name between what comes before and after it, in one piece: the lines of programs that write to one pipe don't
-/// mix. No file has a name that is too long for that.
+/// Writes a line that contains a name, in one piece, so that the lines of programs that share a pipe don't mix. Only a
+/// name that is longer than any file's goes out in several pieces.
 pub fn put_named<K: Sink>(
     out: &mut K,
     before: &[u8],
@@ -88,7 +88,7 @@ pub fn put_named<K: Sink>(
     }
 }
 
-/// The same, in as many pieces as there are parts.
+/// Writes the same line in several pieces.
 fn put_parts<K: Sink>(
     out: &mut K,
     before: &[u8],
@@ -105,7 +105,7 @@ fn put_parts<K: Sink>(
     put_all(out, rest)
 }
 
-/// Puts a name as it is printed, byte by byte.
+/// Writes a name as it is printed, byte by byte.
 fn put_name<K: Sink>(out: &mut K, name: &[u8]) -> Result<(), DeviceFault>
     ensures { Writes result (K.state out.old) (K.state out.new) (printed name.now) }
 {

@@ -1,4 +1,4 @@
-//! Inputs whose first bytes are known before they are read.
+//! Inputs whose first bytes can be looked at before they are read.
 
 ghost use Rattle.std.specs.Prelude.{◌≡◌, ◌<◌, ◌≤◌, ◌+◌, ◌++◌, [], ◌⊎◌, ℕ, List, drop, false, length};
 ghost use Rattle.std.specs.Io.KnownBytes.{Consumes, Keeps, prepend_known};
@@ -9,19 +9,19 @@ use arrayvec::ArrayVec;
 use sixel_io::{DeviceFault, Source};
 use sixel_run::Task;
 
-/// An input, and the bytes that it begins with, as far as they are known. The source has given those already; the input
-/// gives them again, before the rest.
+/// An input and its first bytes, as far as they are known. They have been read from the source, and the input gives
+/// them again before the rest.
 #[derive(Drop)]
 pub struct Peeked<S> {
     pub prefix: ArrayVec<u8, PREFIX_LENGTH>,
-    /// How many bytes of the prefix this input has given.
+    /// How many bytes of the prefix the input has given again.
     given: usize,
-    /// What follows the prefix.
+    /// The source, which gives what follows the prefix.
     rest: S,
 }
 
 impl<S: Source> Peeked<S> {
-    /// An input of which no byte is known.
+    /// An input of which nothing has been read.
     pub fn unread(source: S) -> Peeked<S>
         ensures state { ⟦<Peeked<S> as Source>⟧.state result ≡ S.state source }
         ensures rest { result.rest ≡ source }
@@ -34,7 +34,7 @@ impl<S: Source> Peeked<S> {
         }
     }
 
-    /// The bytes of the prefix that this input has yet to give.
+    /// What the input has yet to give of the prefix.
     fn waiting(&self) -> &[u8]
         ensures bytes { result.now ≡ drop self.now.given self.now.prefix.items }
         ensures bound { 0 < length result.now → self.now.given + length result.now ≤ 4 }
@@ -68,7 +68,8 @@ impl<S: Source> Source for Peeked<S> {
     }
 }
 
-/// The input of a task. Only `encode` needs to know what its input begins with; for another task nothing is read here.
+/// The input of a task over this source. Only `encode` looks at its first bytes, to say what an input of another format
+/// is; for any other task nothing is read here.
 pub fn peek<S: Source>(task: Task, source: S) -> Peeked<S>
     ensures told { Keeps (S.state source).remaining (⟦<Peeked<S> as Source>⟧.state result).remaining }
     ensures prefix { IsPrefix (S.state source).remaining result.prefix.items }
@@ -87,8 +88,8 @@ pub fn peek<S: Source>(task: Task, source: S) -> Peeked<S>
     }
 }
 
-/// The first bytes of a source: it is read until there are enough, or a read gives none or fails. A failure that
-/// doesn't come again is passed over.
+/// The first bytes of a source: reads until there are enough, or a read gives none or fails. If the failure lasts, the
+/// next read meets it again; otherwise it is ignored.
 fn first_bytes<S: Source>(source: &mut S) -> ArrayVec<u8, PREFIX_LENGTH>
     ensures { Consumes (S.state source.old).remaining (S.state source.new).remaining result.items }
 {
@@ -101,7 +102,7 @@ fn first_bytes<S: Source>(source: &mut S) -> ArrayVec<u8, PREFIX_LENGTH>
     prefix
 }
 
-/// Reads once, as much as there is room for, and appends it to `prefix`. Says whether anything came.
+/// Reads once, as much as there is room for, and appends it to `prefix`. Whether anything was read.
 fn read_more<S: Source>(source: &mut S, prefix: &mut ArrayVec<u8, PREFIX_LENGTH>) -> bool
     ensures stops { result ≡ false → (length prefix.new.items ≡ 4) ⊎ (prefix.new.items ≡ prefix.old.items) }
     ensures kept { (more : List ℕ) × Consumes (S.state source.old).remaining (S.state source.new).remaining more

@@ -1,4 +1,4 @@
-//! What is said of a run: why an input was refused, and what makes a PPM of one of another format.
+//! Messages about a run: why the input was refused, and how to convert an input of another format.
 
 ghost use Rattle.std.specs.Prelude.{◌≡◌, ◌≤◌, ◌++◌, length, option_copied};
 ghost use Rattle.sixel_io.specs.Devices.{Writes};
@@ -11,10 +11,10 @@ use sixel_io::{DeviceFault, Sink, put_all};
 use sixel_ppm::PpmReason;
 use sixel_run::{RunFault, Status, Task, fault_line, finding_line, write_fault};
 
-/// How many bytes of the line of a fault stand before the name of an input: those of `sixel:`.
+/// The length of `sixel:`, after which the line of a fault has the input's name.
 const MARK: usize = 6;
 
-/// What makes a PPM of an input of this format, if its header is refused within its mark; else nothing.
+/// How to convert an input of this format, if its header was refused within the magic number; otherwise nothing.
 fn advice(format: Option<Format>, answer: &Result<Status, RunFault>) -> &'static str
     ensures text { result.now ≡ advice_for format answer.now }
     ensures short { length result.now ≤ 96 }
@@ -33,7 +33,7 @@ fn advice(format: Option<Format>, answer: &Result<Status, RunFault>) -> &'static
     }
 }
 
-/// Puts a line of an input, after its name if it has one.
+/// Writes a line about an input, after the input's name if it has one.
 fn put_labelled<K: Sink>(name: Option<&str>, line: &[u8], out: &mut K) -> Result<(), DeviceFault>
     ensures { Writes result (K.state out.old) (K.state out.new) (labelled (option_copied name.entry) line.now) }
 {
@@ -43,7 +43,8 @@ fn put_labelled<K: Sink>(name: Option<&str>, line: &[u8], out: &mut K) -> Result
     }
 }
 
-/// Puts the line of a fault in an input. That the output can't be written is the fault of no input.
+/// Writes the line of a fault, with the input's name if it has one. A failed write isn't the input's fault, so its
+/// line has no name.
 pub fn put_fault<K: Sink>(
     name: Option<&str>,
     fault: &RunFault,
@@ -64,7 +65,7 @@ pub fn put_fault<K: Sink>(
     }
 }
 
-/// Puts the line of why a run was refused, or of which rule kept its picture from being rendered.
+/// Writes why a run was refused, or which rule kept its picture from being rendered.
 fn put_complaint<K: Sink>(
     task: Task,
     name: Option<&str>,
@@ -82,7 +83,7 @@ fn put_complaint<K: Sink>(
     }
 }
 
-/// The same, and after it what makes a PPM of an input of another format, by its first bytes.
+/// Writes the same, and then how to convert an input of this format, which `encode` doesn't read.
 pub fn put_said<K: Sink>(
     task: Task,
     name: Option<&str>,

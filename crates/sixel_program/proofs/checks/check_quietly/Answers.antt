@@ -1,4 +1,3 @@
-use Rattle.std.specs.Prelude.{◌≡◌}
 use Rattle.sixel_run.specs.Outputs.{answer_of, line_of}
 use Rattle.sixel_program.proofs.FilesLemmas.{said_quietly}
 use Rattle.sixel_program.proofs.checks.check_quietly.Goals as goal

@@ -17,9 +17,9 @@ pub returns-clause-done : goal.returns-clause-done
 returns-clause-done g c = λ is.
     let t = c.args.request.now.task in
     let contents = g.F.Folder.contents c.args.folder.now in
+    let told = rw (ap (λ (s : SourceState). s.remaining) c.new.ensures) at c.peek_input-input.ensures.told in
     All-weaker _ _
-    (λ name. told_kept (λ (bytes : List ℕ). (text : Text) × Gives t bytes text (Ok Done)) contents _ _ name
-    (rw (ap (λ (s : SourceState). s.remaining) c.new.ensures) at c.peek_input-input.ensures.told))
+    (λ name. told_kept (λ (bytes : List ℕ). (text : Text) × Gives t bytes text (Ok Done)) contents _ _ name told)
     (names_read t (map string_bytes c.args.request.now.files.items))
     (all_read_done _ _ _ _ _ _ _ _ _ c.answer.ensures is)
 
@@ -27,20 +27,22 @@ pub returns-clause-broken : goal.returns-clause-broken
 returns-clause-broken g c = λ is.
     let t = c.args.request.now.task in
     let contents = g.F.Folder.contents c.args.folder.now in
+    let told = rw (ap (λ (s : SourceState). s.remaining) c.new.ensures) at c.peek_input-input.ensures.told in
     let found = one_read_broken _ _ _ _ _ _ _ _ _ c.answer.ensures is in (
       found.0,
       found.1,
       told_kept (λ (bytes : List ℕ). (text : Text) × (finding : Finding) × Gives t bytes text (Ok (Broken finding)))
-          contents _ _ found.0 (rw (ap (λ (s : SourceState). s.remaining) c.new.ensures) at c.peek_input-input.ensures.told) found.2,
+          contents _ _ found.0 told found.2,
     )
 
 pub returns-clause-judged : goal.returns-clause-judged
 returns-clause-judged g c = λ is.
     let t = c.args.request.now.task in
     let contents = g.F.Folder.contents c.args.folder.now in
+    let told = rw (ap (λ (s : SourceState). s.remaining) c.new.ensures) at c.peek_input-input.ensures.told in
     All-weaker _ _
     (λ name. told_kept (λ (bytes : List ℕ). (text : Text) × (status : Status) × Gives t bytes text (Ok status))
-    contents _ _ name (rw (ap (λ (s : SourceState). s.remaining) c.new.ensures) at c.peek_input-input.ensures.told))
+    contents _ _ name told)
     (names_read t (map string_bytes c.args.request.now.files.items))
     (all_read_judged _ _ _ _ _ _ _ _ _ c.answer.ensures is)
 
