@@ -8,6 +8,7 @@ use Rattle.sixel_model.specs.declared.profile.Profile.{Profile}
 use Rattle.sixel_model.specs.declared.profile.Profile.TheVariants.{Registers16, Registers256}
 use Rattle.sixel_terminal.specs.Limits.{most_screen_side}
 use Rattle.clap.specs.Simple.{App, new_app, new_rule, on_top, subcommand_of, with_rule, with_subcommand}
+use Rattle.clap.specs.Takes.{takes}
 use Rattle.clap.specs.Values.{kind_of}
 use Rattle.clap.specs.Walk.{Row, Rule, Text, all_of, first_of, one_of}
 use Rattle.clap.specs.declared.builder.action.ArgAction.TheVariants.{Append, SetTrue}
@@ -17,6 +18,7 @@ use Rattle.clap.specs.declared.parser.matches.ValueSource.{ValueSource}
 use Rattle.clap.specs.declared.parser.matches.ValueSource.TheVariants.{CommandLine}
 use Rattle.sixel_run.specs.declared.task.Task.{Task}
 use Rattle.sixel_run.specs.declared.task.Task.TheVariants as task
+use Rattle.sixel_words.specs.declared.explanations.Topic.{Topic}
 use Rattle.sixel_words.specs.declared.words.WordsFault.{WordsFault}
 use Rattle.sixel_words.specs.declared.words.WordsFault.TheVariants as fault
 use Rattle.sixel_words.specs.Explanations.{topic_name}
@@ -207,3 +209,17 @@ IsRefusal fault.OutOfMemory = ⊤
 abbrev pub IsNoHelp : WordsFault → Type 0
 IsNoHelp (fault.Help error) = ⊥
 IsNoHelp _ = ⊤
+
+-- ---- what words that give no task come to
+
+-- why the words give none
+pub record IsFaultFor (words : List Text) (f : WordsFault) : Type 0 where
+  pub sorted : IsSortedOut f
+  -- words that clap takes and that give a task are refused for want of memory only
+  pub accepted : takes sixel_app words ≡ true → (t : Task) → IsTaskOf words t → f ≡ fault.OutOfMemory
+  pub asked : IsAskedBy words f
+  -- words that clap takes and that ask for an explanation get it
+  pub explained : takes sixel_app words ≡ true → (topic : Option Topic)
+      → AsksFor words (option_map topic_name topic) → IsExplanationOf (option_map topic_name topic) f
+  -- words that clap takes get no help
+  pub unhelped : takes sixel_app words ≡ true → IsNoHelp f

@@ -8,10 +8,11 @@ use Rattle.clap.specs.Takes.{takes}
 use Rattle.clap.specs.Simple.{App, is_simple, subcommand_of, subcommand_rows_of}
 use Rattle.sixel_words.specs.Words.{sixel_app}
 use Rattle.sixel_words.specs.Explanations.{topic_name}
+use Rattle.sixel_words.proofs.FaultLemmas.{memory_is_wanted}
 use Rattle.sixel_words.proofs.ExplainLemmas.{asked_by, refused_unasked, refused_unhelped, same_wish, unasked}
 use Rattle.sixel_words.proofs.MatchLemmas.{both_parts, name_rows, none_of, request_is, same_task}
-use Rattle.sixel_words.proofs.words.parse_words.Goals as goal
-use Rattle.sixel_words.proofs.words.parse_words.Goals.{In-Some}
+use Rattle.sixel_words.proofs.words.parse_request.Goals as goal
+use Rattle.sixel_words.proofs.words.parse_request.Goals.{In-Some}
 
 -- the subcommand that was met is the one that the words name
 met : (c : In-Some) → subcommand_of sixel_app (map string_bytes c.args.words.now)
@@ -34,19 +35,21 @@ returns-in-Err-try_get_matches_from c =
       task = tt;
       request = tt;
       sides = tt;
-      fault = c.sorted_out.ensures.sorted;
-      accepted = λ taken t is. memory taken;
-      asked = unasked words c.sorted_out.result c.sorted_out.ensures.unexplained;
-      explained = λ taken topic asks. rw (memory taken) tt;
-      unhelped = λ taken. rw (memory taken) tt;
+      fault = record {
+        sorted = c.sorted_out.ensures.sorted;
+        accepted = λ taken t is. memory taken;
+        asked = unasked words c.sorted_out.result c.sorted_out.ensures.unexplained;
+        explained = λ taken topic asks. rw (memory taken) tt;
+        unhelped = λ taken. rw (memory taken) tt;
+      };
     }
 
 -- the options of a task are refused for want of memory alone
 pub returns-in-Some-task_of : goal.returns-in-Some-task_of
 returns-in-Some-task_of c =
+    let words = map string_bytes c.args.words.now in
     let result = c.request_of.result in
-    let memory = c.request_of.ensures.memory in
-    let request = request_is (subcommand_of sixel_app (map string_bytes c.args.words.now)) c.in-Some.name.now
+    let request = request_is (subcommand_of sixel_app words) c.in-Some.name.now
     (rows_of (found_of c.in-Some.found.now)) c.in-Some-task_of.task result
     (met (goal.at.returns-in-Some-task_of c).In-Some) c.in-Some-task_of.ensures.task
     c.request_of.ensures.task c.request_of.ensures.quiet c.request_of.ensures.files in
@@ -54,11 +57,7 @@ returns-in-Some-task_of c =
       task = IfOk-weaker result _ _ (λ asked is. (is.0, is.1, is.2, is.3)) request;
       request = request;
       sides = IfOk-weaker result _ _ (λ asked is. rw is c.in-Some-task_of.ensures.sides) c.request_of.ensures.task;
-      fault = IfErr-weaker result _ _ (λ fault is. rw is tt) memory;
-      accepted = IfErr-weaker result _ _ (λ fault is taken t given. is) memory;
-      asked = IfErr-weaker result _ _ (λ fault is. rw is tt) memory;
-      explained = IfErr-weaker result _ _ (λ fault is taken topic asks. rw is tt) memory;
-      unhelped = IfErr-weaker result _ _ (λ fault is taken. rw is tt) memory;
+      fault = IfErr-weaker result _ _ (λ fault is. rw is (memory_is_wanted words)) c.request_of.ensures.memory;
     }
 
 pub returns-in-Some : goal.returns-in-Some
@@ -71,14 +70,16 @@ returns-in-Some c =
       task = tt;
       request = tt;
       sides = tt;
-      fault = c.without_task.ensures.sorted;
-      accepted = λ taken t wanted. absurd (c.in-None-task_of.ensures.none refl t
-          (same_task (subcommand_of sixel_app words) wanted.0 name wanted.1 rows t wanted.2 is wanted.3));
-      asked = asked_by words name rows c.without_task.result is c.without_task.ensures.asked;
-      explained = λ taken topic asks.
-          let wish = same_wish words (option_map topic_name topic) name rows asks is in
-          c.without_task.ensures.explained wish.0 topic wish.1;
-      unhelped = λ taken. c.without_task.ensures.unhelped;
+      fault = record {
+        sorted = c.without_task.ensures.sorted;
+        accepted = λ taken t wanted. absurd (c.in-None-task_of.ensures.none refl t
+            (same_task (subcommand_of sixel_app words) wanted.0 name wanted.1 rows t wanted.2 is wanted.3));
+        asked = asked_by words name rows c.without_task.result is c.without_task.ensures.asked;
+        explained = λ taken topic asks.
+            let wish = same_wish words (option_map topic_name topic) name rows asks is in
+            c.without_task.ensures.explained wish.0 topic wish.1;
+        unhelped = λ taken. c.without_task.ensures.unhelped;
+      };
     }
 
 -- words that name no subcommand have no task
@@ -93,11 +94,13 @@ returns c =
       task = tt;
       request = tt;
       sides = tt;
-      fault = c.usage.ensures.sorted;
-      accepted = λ taken t is. (let bad : None ≡ Some (is.0, is.1) = sym unmet ∙ is.2 in cc);
-      asked = refused_unasked words c.usage.result c.usage.ensures.refusal;
-      explained = λ taken topic asks. (let bad : None ≡ Some (codes "explain", asks.0) = sym unmet ∙ asks.1 in cc);
-      unhelped = λ taken. refused_unhelped c.usage.result c.usage.ensures.refusal;
+      fault = record {
+        sorted = c.usage.ensures.sorted;
+        accepted = λ taken t is. (let bad : None ≡ Some (is.0, is.1) = sym unmet ∙ is.2 in cc);
+        asked = refused_unasked words c.usage.result c.usage.ensures.refusal;
+        explained = λ taken topic asks. (let bad : None ≡ Some (codes "explain", asks.0) = sym unmet ∙ asks.1 in cc);
+        unhelped = λ taken. refused_unhelped c.usage.result c.usage.ensures.refusal;
+      };
     }
 
 pub returns-in-Err : goal.returns-in-Err
@@ -105,9 +108,5 @@ returns-in-Err c = record {
   task = tt;
   request = tt;
   sides = tt;
-  fault = tt;
-  accepted = λ taken t is. refl;
-  asked = tt;
-  explained = λ taken topic asks. tt;
-  unhelped = λ taken. tt;
+  fault = memory_is_wanted (map string_bytes c.args.words.now);
 }
