@@ -1,10 +1,10 @@
 //! The words of the system, as a request.
 
-ghost use Rattle.std.specs.Prelude.{◌≡◌, IfErr, IfOk, false, is_ok, map};
+ghost use Rattle.std.specs.Prelude.{◌≡◌, IfErr, IfOk, [], false, is_ok, map};
 ghost use Rattle.std.specs.String.{string_bytes};
 ghost use Rattle.std.specs.Vec.Iter.{into_iter_items};
 ghost use Rattle.sixel_run.specs.Outputs.{HasSides};
-ghost use Rattle.sixel_words.specs.Words.{IsFaultFor, IsRefusal, IsRequestOf, IsSortedOut, IsTaskOf};
+ghost use Rattle.sixel_words.specs.Words.{IsFaultFor, IsRefusal, IsRequestOf, IsSortedOut, IsTaskOf, kinds_of};
 
 use crate::request::Request;
 use crate::words::{WordsFault, parse_request, usage};
@@ -21,6 +21,8 @@ pub fn task_in(alloc: Global, arguments: io::Result<Args>) -> Result<Request, Wo
         IsRequestOf (map string_bytes (into_iter_items words))
         asked.task asked.is_quiet (map string_bytes asked.files.items))) }
     ensures sides { IfOk result (λ asked. HasSides asked.task) }
+    ensures taken { IfOk result (λ asked. IfOk arguments (λ words.
+        kinds_of (map string_bytes (into_iter_items words)) ≡ [])) }
     ensures unread { IfErr arguments (λ error. is_ok result ≡ false) }
     ensures refused { IfErr arguments (λ error. IfErr result IsRefusal) }
     ensures sorted { IfErr result IsSortedOut }

@@ -18,6 +18,7 @@ returns-in-Ok-collect c =
       task = rw (c.in-Ok.is, ← same) said.task;
       request = rw (c.in-Ok.is, ← same) said.request;
       sides = said.sides;
+      taken = rw (c.in-Ok.is, ← same) said.taken;
       unread = rw c.in-Ok.is tt;
       refused = rw c.in-Ok.is tt;
       sorted = IfErr-weaker c.parse_request.result _ _ (λ fault is. is.sorted) said.fault;
