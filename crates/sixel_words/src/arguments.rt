@@ -1,6 +1,7 @@
 //! The words of the system, as a request.
 
-ghost use Rattle.std.specs.Prelude.{◌≡◌, IfErr, IfOk, [], false, is_ok, map};
+ghost use Rattle.std.specs.Prelude.{◌≡◌, IfErr, IfOk, IsErrOf, [], false, is_ok, map};
+ghost use Rattle.std.specs.IoError.{error_kind};
 ghost use Rattle.std.specs.String.{string_bytes};
 ghost use Rattle.std.specs.Vec.Iter.{into_iter_items};
 ghost use Rattle.sixel_run.specs.Outputs.{HasSides};
@@ -24,6 +25,8 @@ pub fn task_in(alloc: Global, arguments: io::Result<Args>) -> Result<Request, Wo
     ensures taken { IfOk result (λ asked. IfOk arguments (λ words.
         kinds_of (map string_bytes (into_iter_items words)) ≡ [])) }
     ensures unread { IfErr arguments (λ error. is_ok result ≡ false) }
+    ensures memory { IfErr arguments (λ error.
+        error_kind error ≡ ErrorKind.OutOfMemory → IsErrOf result WordsFault.OutOfMemory) }
     ensures refused { IfErr arguments (λ error. IfErr result IsRefusal) }
     ensures sorted { IfErr result IsSortedOut }
     ensures fault { IfErr result (λ fault. IfOk arguments (λ words.

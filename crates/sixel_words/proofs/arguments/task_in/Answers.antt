@@ -20,6 +20,7 @@ returns-in-Ok-collect c =
       sides = said.sides;
       taken = rw (c.in-Ok.is, ← same) said.taken;
       unread = rw c.in-Ok.is tt;
+      memory = rw c.in-Ok.is tt;
       refused = rw c.in-Ok.is tt;
       sorted = IfErr-weaker c.parse_request.result _ _ (λ fault is. is.sorted) said.fault;
       fault = rw (c.in-Ok.is, ← same) said.fault;
