@@ -1,5 +1,6 @@
 pub mod CommandLemmas
 pub mod MatchLemmas
 pub mod ExplainLemmas
+pub mod FaultLemmas
 pub mod NameLemmas
 pub mod WishLemmas

@@ -29,6 +29,9 @@ both_parts (Some p) x y h k = go h k
     go : Some p.0 ≡ Some x → Some p.1 ≡ Some y → Some p ≡ Some (x, y)
     go h k = let a : p.0 ≡ x = cc in let b : p.1 ≡ y = cc in ap₂ (λ u v. Some (u, v)) a b
 
+pub not_some : {X : Type 0} (o : Option X) (x : X) → o ≡ None → o ≡ Some x → ⊥
+not_some o x none is = let bad : None ≡ Some x = sym none ∙ is in cc
+
 pub none_of : {X Y : Type 0} (f : X → Y) (o : Option X) → None ≡ option_map f o → o ≡ None
 none_of f None e = refl
 none_of f (Some x) e = cc

@@ -1,22 +1,27 @@
 -- The command line: what the words say, over the matches that `clap` states.
 use Rattle.std.specs.Prelude.{◌≡◌, ◌≢◌, ◌⊎◌, ◌≤◌, ℕ, Bool, false, true, List, [], ◌∷◌, Option, Some, codes, pos, ⊤}
-use Rattle.std.specs.Prelude.{find, if◌then◌else◌, option_map, unwrap_or}
+use Rattle.std.specs.Prelude.{find, map, if◌then◌else◌, option_map, unwrap_or}
 use Rattle.std.specs.Option.{option_and_then, option_map_or}
 use Rattle.std.specs.Str.{bytes_eq}
 use Rattle.std.specs.Str.Parse.{IsNumeral, digits_value, without_leading_plus}
 use Rattle.sixel_model.specs.declared.profile.Profile.{Profile}
 use Rattle.sixel_model.specs.declared.profile.Profile.TheVariants.{Registers16, Registers256}
 use Rattle.sixel_terminal.specs.Limits.{most_screen_side}
+use Rattle.clap.specs.Faults.{fault_of}
+use Rattle.clap.specs.Kinds.{IsAmong, Kinds}
 use Rattle.clap.specs.Simple.{App, new_app, new_rule, on_top, subcommand_of, with_rule, with_subcommand}
+use Rattle.clap.specs.Takes.{takes}
 use Rattle.clap.specs.Values.{kind_of}
 use Rattle.clap.specs.Walk.{Row, Rule, Text, all_of, first_of, one_of}
 use Rattle.clap.specs.declared.builder.action.ArgAction.TheVariants.{Append, SetTrue}
 use Rattle.clap.specs.declared.builder.value_parser.ValueParser.TheVariants as parser
+use Rattle.clap.specs.declared.error.Error.{Error}
 use Rattle.clap.specs.declared.error.kind.ErrorKind.TheVariants as kind
 use Rattle.clap.specs.declared.parser.matches.ValueSource.{ValueSource}
 use Rattle.clap.specs.declared.parser.matches.ValueSource.TheVariants.{CommandLine}
 use Rattle.sixel_run.specs.declared.task.Task.{Task}
 use Rattle.sixel_run.specs.declared.task.Task.TheVariants as task
+use Rattle.sixel_words.specs.declared.explanations.Topic.{Topic}
 use Rattle.sixel_words.specs.declared.words.WordsFault.{WordsFault}
 use Rattle.sixel_words.specs.declared.words.WordsFault.TheVariants as fault
 use Rattle.sixel_words.specs.Explanations.{topic_name}
@@ -85,6 +90,10 @@ sixel_app =
     (on_top (λ s. record s { has_version = true; subcommand_required = true }) (new_app (codes "sixel")))
     (codes "list")) check_app.top) (codes "render")) (codes "encode"))
     show_app.top) explain_app.top
+
+-- the names of the subcommands
+abbrev pub subcommands : List Text
+subcommands = map (λ s. s.name) sixel_app.subs
 
 -- ---- the task
 
@@ -191,6 +200,12 @@ IsSortedOut (fault.Help error) = (kind_of error ≡ kind.DisplayHelp) ⊎ (kind_
 IsSortedOut (fault.Explanation topic) = ⊤
 IsSortedOut fault.OutOfMemory = ⊤
 
+-- an error that is shown is this one
+abbrev pub HoldsError : Error → WordsFault → Type 0
+HoldsError error (fault.Usage held) = held ≡ error
+HoldsError error (fault.Help held) = held ≡ error
+HoldsError error _ = ⊤
+
 -- it is no explanation
 abbrev pub IsUnexplained : WordsFault → Type 0
 IsUnexplained (fault.Explanation topic) = ⊥
@@ -207,3 +222,35 @@ IsRefusal fault.OutOfMemory = ⊤
 abbrev pub IsNoHelp : WordsFault → Type 0
 IsNoHelp (fault.Help error) = ⊥
 IsNoHelp _ = ⊤
+
+-- ---- what words that give no task come to
+
+-- the kinds of error by which clap may refuse the words, with help and the version among them; none where it takes them
+abbrev pub kinds_of : List Text → Kinds
+kinds_of words = fault_of sixel_app words
+
+-- clap takes the words, but they ask for nothing: for no task, and for no explanation that there is
+pub record AskForNothing (words : List Text) : Type 0 where
+  pub taken : kinds_of words ≡ []
+  pub task : (t : Task) → IsTaskOf words t → ⊥
+  pub explanation : (topic : Option Topic) → AsksFor words (option_map topic_name topic) → ⊥
+
+-- an error is of a kind that clap has for the words; where it takes them they ask for nothing, or for an explanation
+abbrev pub IsFoundIn : List Text → WordsFault → Type 0
+IsFoundIn words (fault.Usage error) = IsAmong (kind_of error) (kinds_of words) ⊎ AskForNothing words
+IsFoundIn words (fault.Help error) = IsAmong (kind_of error) (kinds_of words)
+IsFoundIn words (fault.Explanation topic) = kinds_of words ≡ []
+IsFoundIn words fault.OutOfMemory = ⊤
+
+-- why the words give none
+pub record IsFaultFor (words : List Text) (f : WordsFault) : Type 0 where
+  pub sorted : IsSortedOut f
+  pub found : IsFoundIn words f
+  -- words that clap takes and that give a task are refused for want of memory only
+  pub accepted : takes sixel_app words ≡ true → (t : Task) → IsTaskOf words t → f ≡ fault.OutOfMemory
+  pub asked : IsAskedBy words f
+  -- words that clap takes and that ask for an explanation get it
+  pub explained : takes sixel_app words ≡ true → (topic : Option Topic)
+      → AsksFor words (option_map topic_name topic) → IsExplanationOf (option_map topic_name topic) f
+  -- words that clap takes get no help
+  pub unhelped : takes sixel_app words ≡ true → IsNoHelp f

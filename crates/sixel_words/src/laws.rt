@@ -1,17 +1,19 @@
 //! Laws about the definitions. Each function's contract is the law.
 
 ghost use Rattle.std.specs.Prelude.{◌≡◌, ◌∷◌, [], Contains, None, Some};
-ghost use Rattle.std.specs.Prelude.{codes, false, true};
+ghost use Rattle.std.specs.Prelude.{codes, false, map, true};
 ghost use Rattle.sixel_model.specs.declared.profile.Profile.TheVariants.{Registers16};
 ghost use Rattle.sixel_check.specs.declared.rule.Rule.{Rule};
 ghost use Rattle.clap.specs.Takes.{takes};
+ghost use Rattle.clap.specs.declared.error.kind.ErrorKind.TheVariants.{DisplayHelp, DisplayVersion, MissingSubcommand};
+ghost use Rattle.clap.specs.declared.error.kind.ErrorKind.TheVariants.{UnknownArgument, ValueValidation};
 ghost use Rattle.sixel_words.specs.declared.explanations.Topic.{Topic};
 ghost use Rattle.sixel_run.specs.declared.fault.RunFault.{RunFault};
 ghost use Rattle.sixel_run.specs.declared.task.Task.{Task};
 ghost use Rattle.sixel_run.specs.declared.task.Task.TheVariants.{List as Listing, Show, ShowBox};
 ghost use Rattle.sixel_words.specs.Explanations.{listed_names, topic_name, topic_of};
 ghost use Rattle.sixel_run.specs.Texts.{Text, rule_name};
-ghost use Rattle.sixel_words.specs.Words.{AsksFor, IsTaskOf, sixel_app};
+ghost use Rattle.sixel_words.specs.Words.{AsksFor, IsTaskOf, kinds_of, sixel_app, subcommands};
 
 /// The one word `list` after the program's name is taken, and gives the list.
 pub fn the_word_list_gives_a_list()
@@ -36,6 +38,26 @@ pub fn the_words_show_box_give_a_box()
         IsTaskOf (program ∷ codes "show" ∷ codes "--box" ∷ codes "--width" ∷ codes "800" ∷ []) task → ⊥ }
     ensures no_height { (program : Text) (task : Task) →
         IsTaskOf (program ∷ codes "show" ∷ codes "--height" ∷ codes "480" ∷ codes "--box" ∷ []) task → ⊥ }
+{}
+
+/// In the words `--help` and `-h`, also behind the name of each subcommand, clap finds that help is asked for, and in
+/// `--version` and `-V` that the version is.
+pub fn the_word_help_asks_for_help()
+    ensures long { (program : Text) → kinds_of (program ∷ codes "--help" ∷ []) ≡ DisplayHelp ∷ [] }
+    ensures short { (program : Text) → kinds_of (program ∷ codes "-h" ∷ []) ≡ DisplayHelp ∷ [] }
+    ensures below { (program : Text) → map (λ name. kinds_of (program ∷ name ∷ codes "--help" ∷ [])) subcommands
+        ≡ map (λ name. DisplayHelp ∷ []) subcommands }
+    ensures version { (program : Text) → kinds_of (program ∷ codes "--version" ∷ []) ≡ DisplayVersion ∷ [] }
+    ensures short_version { (program : Text) → kinds_of (program ∷ codes "-V" ∷ []) ≡ DisplayVersion ∷ [] }
+{}
+
+/// In no words, an unknown option and a side of 0 clap finds a mistake, and no call for help.
+pub fn wrong_words_ask_for_no_help()
+    ensures none { (program : Text) → kinds_of (program ∷ []) ≡ MissingSubcommand ∷ [] }
+    ensures unknown { (program : Text) →
+        kinds_of (program ∷ codes "list" ∷ codes "--wide" ∷ []) ≡ UnknownArgument ∷ [] }
+    ensures side { (program : Text) →
+        kinds_of (program ∷ codes "show" ∷ codes "--width" ∷ codes "0" ∷ []) ≡ ValueValidation ∷ [] }
 {}
 
 /// The name of each rule, which a line of `check` can hold, and of each fault is one of those that `explain` lists.

@@ -10,4 +10,4 @@ mod words;
 pub use arguments::task_in;
 pub use explanations::{Topic, explanation};
 pub use request::Request;
-pub use words::{WordsFault, parse_words};
+pub use words::{WordsFault, parse_request, parse_words};

@@ -1,22 +1,21 @@
 //! The words of the command line.
 
-ghost use Rattle.std.specs.Prelude.{◌≡◌, ◌≤◌, ◌↔◌, ℕ, IfOk, IfErr, IfSome, IsNone, IsTrue, codes, false, map, true};
-ghost use Rattle.std.specs.Prelude.{Option, option_map};
+ghost use Rattle.std.specs.Prelude.{◌≡◌, ◌≤◌, ◌↔◌, ℕ, IfOk, IfErr, IfSome, IsNone, IsTrue, [], codes, false};
+ghost use Rattle.std.specs.Prelude.{Option, map, option_map, true};
 ghost use Rattle.clap.specs.Walk.{rows_of, rule_of};
 ghost use Rattle.clap.specs.Values.{kind_of};
 ghost use Rattle.clap.specs.Simple.{app_of};
 ghost use Rattle.clap.specs.declared.builder.command.Command.TheViews.{out-Command as fields_of};
 ghost use Rattle.clap.specs.Matches.{found_of};
-ghost use Rattle.clap.specs.Takes.{takes};
 ghost use Rattle.std.specs.String.{string_bytes};
 ghost use Rattle.sixel_terminal.specs.Limits.{most_screen_side};
 ghost use Rattle.sixel_run.specs.declared.task.Task.{Task as ATask};
 ghost use Rattle.sixel_run.specs.Outputs.{HasSides};
-ghost use Rattle.sixel_words.specs.Words.{AsksFor, IsExplanationOf, HasSide, IsAskedBy, IsAskedIn, IsRefusal};
+ghost use Rattle.sixel_words.specs.Words.{HoldsError, IsExplanationOf, HasSide, IsAskedIn, IsFaultFor, IsRefusal};
 ghost use Rattle.sixel_words.specs.Words.{IsRequestOf, IsNoHelp, IsSortedOut, IsTask, IsTaskOf, IsUnexplained};
 ghost use Rattle.sixel_words.specs.Words.{check_app, explain_app, file, files};
 ghost use Rattle.sixel_words.specs.Words.{files_of, flag, is_given, is_named, profile_of, quiet, show_app, side};
-ghost use Rattle.sixel_words.specs.Words.{sixel_app};
+ghost use Rattle.sixel_words.specs.Words.{kinds_of, sixel_app};
 ghost use Rattle.sixel_words.specs.Words.{with_file_only, with_profile};
 ghost use Rattle.sixel_words.specs.Explanations.{topic_name};
 ghost use Rattle.sixel_words.specs.declared.explanations.Topic.{Topic as ATopic};
@@ -48,21 +47,26 @@ pub enum WordsFault {
     OutOfMemory,
 }
 
-/// What the words ask for. The first of them is the program's name. `Usage` and `Help` hold the text of clap for these
-/// words.
-pub fn parse_words(alloc: Global, words: &[String]) -> Result<Request, WordsFault>
+/// The task that the words ask for. The first of them is the program's name. `Usage` and `Help` hold the text of clap
+/// for these words.
+pub fn parse_words(alloc: Global, words: &[String]) -> Result<Task, WordsFault>
+    ensures task { IfOk result (IsTaskOf (map string_bytes words.now)) }
+    ensures sides { IfOk result HasSides }
+    ensures taken { IfOk result (λ task. kinds_of (map string_bytes words.now) ≡ []) }
+    ensures fault { IfErr result (IsFaultFor (map string_bytes words.now)) }
+{
+    let request = parse_request(alloc, words)?;
+    Ok(request.task)
+}
+
+/// What the words ask for: the task of `parse_words`, and what it is done with.
+pub fn parse_request(alloc: Global, words: &[String]) -> Result<Request, WordsFault>
     ensures task { IfOk result (λ asked. IsTaskOf (map string_bytes words.now) asked.task) }
     ensures request { IfOk result (λ asked.
         IsRequestOf (map string_bytes words.now) asked.task asked.is_quiet (map string_bytes asked.files.items)) }
     ensures sides { IfOk result (λ asked. HasSides asked.task) }
-    ensures fault { IfErr result IsSortedOut }
-    ensures accepted { IfErr result (λ fault. takes sixel_app (map string_bytes words.now) ≡ true →
-        (t : ATask) → IsTaskOf (map string_bytes words.now) t → fault ≡ WordsFault.OutOfMemory) }
-    ensures asked { IfErr result (IsAskedBy (map string_bytes words.now)) }
-    ensures explained { IfErr result (λ fault. takes sixel_app (map string_bytes words.now) ≡ true →
-        (topic : Option ATopic) → AsksFor (map string_bytes words.now) (option_map topic_name topic) →
-        IsExplanationOf (option_map topic_name topic) fault) }
-    ensures unhelped { IfErr result (λ fault. takes sixel_app (map string_bytes words.now) ≡ true → IsNoHelp fault) }
+    ensures taken { IfOk result (λ asked. kinds_of (map string_bytes words.now) ≡ []) }
+    ensures fault { IfErr result (IsFaultFor (map string_bytes words.now)) }
 {
     let command = match sixel_command(alloc) {
         Ok(command) => command,
@@ -531,13 +535,12 @@ fn sorted_out(error: Error) -> WordsFault
     ensures sorted { IsSortedOut result }
     ensures memory { kind_of error ≡ ErrorKind.OutOfMemory → result ≡ WordsFault.OutOfMemory }
     ensures only { result ≡ WordsFault.OutOfMemory → kind_of error ≡ ErrorKind.OutOfMemory }
+    ensures kept { HoldsError error result }
     ensures unexplained { IsUnexplained result }
 {
-    if error.kind() == ErrorKind::OutOfMemory {
-        WordsFault::OutOfMemory
-    } else if error.use_stderr() {
-        WordsFault::Usage(error)
-    } else {
-        WordsFault::Help(error)
+    match error.kind() {
+        ErrorKind::OutOfMemory => WordsFault::OutOfMemory,
+        ErrorKind::DisplayHelp | ErrorKind::DisplayVersion => WordsFault::Help(error),
+        _ => WordsFault::Usage(error),
     }
 }

@@ -1,4 +1,4 @@
-use sixel_words::{WordsFault, parse_words};
+use sixel_words::{Request, WordsFault, parse_request, parse_words, task_in};
 use std::alloc::{AllocError, Global};
 use std::test::Fail;
 
@@ -20,21 +20,41 @@ fn told(alloc: Global, fault: WordsFault) -> Result<String, AllocError> {
     }
 }
 
-/// What the words, with spaces between them, come to.
-fn said(alloc: Global, line: &str) -> Result<String, AllocError> {
-    let words = words_of(alloc, line)?;
-    match parse_words(alloc, words.as_slice()) {
+fn answered(alloc: Global, answer: Result<Request, WordsFault>) -> Result<String, AllocError> {
+    match answer {
         Ok(request) => format!(in alloc; "{request:?}"),
         Err(fault) => told(alloc, fault),
     }
 }
 
-/// Whether the words come to this text.
-fn says(rt: &HostRuntime, line: &str, text: &str) -> Result<bool, Fail> {
-    Ok(said(rt.alloc(), line)?.as_str() == text)
+/// What the words, with spaces between them, come to.
+fn said(alloc: Global, line: &str) -> Result<String, AllocError> {
+    let words = words_of(alloc, line)?;
+    answered(alloc, parse_request(alloc, words.as_slice()))
 }
 
-/// Whether the words ask for this task, with a verdict or without, over these files.
+/// What they come to as the arguments of the process.
+fn said_in(alloc: Global, line: &str) -> Result<String, AllocError> {
+    let words = words_of(alloc, line)?;
+    answered(alloc, task_in(alloc, Ok(words.into_iter())))
+}
+
+/// What they come to where the task is all that is wanted.
+fn task_said(alloc: Global, line: &str) -> Result<String, AllocError> {
+    let words = words_of(alloc, line)?;
+    match parse_words(alloc, words.as_slice()) {
+        Ok(task) => format!(in alloc; "{task:?}"),
+        Err(fault) => told(alloc, fault),
+    }
+}
+
+/// Whether the words come to this text, as arguments too.
+fn says(rt: &HostRuntime, line: &str, text: &str) -> Result<bool, Fail> {
+    Ok(said(rt.alloc(), line)?.as_str() == text && said_in(rt.alloc(), line)?.as_str() == text)
+}
+
+/// Whether the words ask for this task, with a verdict or without, over these files. There is memory for it, so they
+/// get it.
 fn asks(
     rt: &HostRuntime,
     line: &str,
@@ -45,14 +65,14 @@ fn asks(
     let request = format!(in rt.alloc();
         "Request {{ task: {task}, is_quiet: {is_quiet}, files: {files} }}"
     )?;
-    says(rt, line, request.as_str())
+    Ok(says(rt, line, request.as_str())? && task_said(rt.alloc(), line)?.as_str() == task)
 }
 
 /// Whether the words are refused with this text and the sentence that follows each.
 fn refuses(rt: &HostRuntime, line: &str, text: &str) -> Result<bool, Fail> {
     let more = "\n\nFor more information, try '--help'.\n";
     let whole = format!(in rt.alloc(); "{text}{more}")?;
-    says(rt, line, whole.as_str())
+    Ok(says(rt, line, whole.as_str())? && task_said(rt.alloc(), line)? == whole)
 }
 
 #[test]

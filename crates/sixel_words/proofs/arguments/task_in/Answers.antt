@@ -1,7 +1,9 @@
 use Rattle.std.proofs.Common.{◌≡◌, ◌∙◌, Ok, refl}
 use Rattle.std.specs.Vec.Iter.{into_iter_items}
 use Rattle.std.proofs.lemmas.Iterator.{items_from_collect}
+use Rattle.std.proofs.lemmas.Result.{IfErr-weaker}
 use Rattle.std.proofs.lemmas.Iterator.Adapters.{YieldsList-from_vec}
+use Rattle.sixel_words.proofs.FaultLemmas.{memory_is_wanted}
 use Rattle.sixel_words.proofs.arguments.task_in.Goals as goal
 
 -- the words that were collected are those of the arguments
@@ -11,19 +13,18 @@ returns-in-Ok-collect c =
     let same : c.as_slice.result.now ≡ had = c.as_slice.ensures.value
     ∙ items_from_collect {E = Unit {0}} (Ok c.in-Ok-collect.words) c.in-Ok-collect.ensures.ran
     (YieldsList-from_vec had refl c.in-Ok.arguments.rest.ok.0) in
-    let said = c.parse_words.ensures in
+    let said = c.parse_request.ensures in
     record {
       task = rw (c.in-Ok.is, ← same) said.task;
       request = rw (c.in-Ok.is, ← same) said.request;
       sides = said.sides;
+      taken = rw (c.in-Ok.is, ← same) said.taken;
       unread = rw c.in-Ok.is tt;
+      memory = rw c.in-Ok.is tt;
       refused = rw c.in-Ok.is tt;
-      fault = said.fault;
-      accepted = rw (c.in-Ok.is, ← same) said.accepted;
-      asked = rw (c.in-Ok.is, ← same) said.asked;
-      explained = rw (c.in-Ok.is, ← same) said.explained;
-      unhelped = rw (c.in-Ok.is, ← same) said.unhelped;
+      sorted = IfErr-weaker c.parse_request.result _ _ (λ fault is. is.sorted) said.fault;
+      fault = rw (c.in-Ok.is, ← same) said.fault;
     }
 
-pub returns-in-Err-collect-clause-accepted : goal.returns-in-Err-collect-clause-accepted
-returns-in-Err-collect-clause-accepted c = rw c.in-Ok.is (λ taken t is. refl)
+pub returns-in-Err-collect-clause-fault : goal.returns-in-Err-collect-clause-fault
+returns-in-Err-collect-clause-fault c = rw c.in-Ok.is (memory_is_wanted _)

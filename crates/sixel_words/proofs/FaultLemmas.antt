@@ -1,0 +1,55 @@
+-- What words that give no task come to.
+use Rattle.std.proofs.Common.{◌≡◌, List, [], Option, inl, inr, refl, subst, sym}
+use Rattle.std.specs.Prelude.{option_map}
+use Rattle.clap.specs.Kinds.{HasKind, IsAmong}
+use Rattle.clap.specs.Values.{kind_of}
+use Rattle.clap.specs.declared.error.Error.{Error}
+use Rattle.clap.specs.declared.error.kind.ErrorKind.TheVariants as kind
+use Rattle.sixel_words.specs.declared.explanations.Topic.{Topic}
+use Rattle.sixel_words.specs.declared.words.WordsFault.{WordsFault}
+use Rattle.sixel_words.specs.declared.words.WordsFault.TheVariants as fault
+use Rattle.sixel_run.specs.declared.task.Task.{Task}
+use Rattle.sixel_run.specs.Texts.{Text}
+use Rattle.sixel_words.specs.Explanations.{topic_name}
+use Rattle.sixel_words.specs.Words.{AsksFor, HoldsError, IsExplanationOf, IsFaultFor, IsFoundIn, IsNoHelp, IsTaskOf}
+use Rattle.sixel_words.specs.Words.{IsUnexplained, kinds_of}
+
+-- memory may be wanted for any words
+pub memory_is_wanted : (words : List Text) → IsFaultFor words fault.OutOfMemory
+memory_is_wanted words = record {
+  sorted = tt;
+  found = tt;
+  accepted = λ taken t is. refl;
+  asked = tt;
+  explained = λ taken topic asks. tt;
+  unhelped = λ taken. tt;
+}
+
+-- an error of clap's that is shown is no want of memory, so its kind is one of the others that it may have
+shown_kind : (words : List Text) (error held : Error) (f : WordsFault) → held ≡ error
+    → (kind_of error ≡ kind.OutOfMemory → f ≡ fault.OutOfMemory) → (f ≡ fault.OutOfMemory → ⊥)
+    → HasKind (kinds_of words) error → IsAmong (kind_of held) (kinds_of words)
+shown_kind words error held f kept memory shown (inl wanted) = absurd (shown (memory wanted))
+shown_kind words error held f kept memory shown (inr among) =
+    subst (λ (e : Error). IsAmong (kind_of e) (kinds_of words)) (sym kept) among
+
+pub found_by_clap : (words : List Text) (error : Error) (f : WordsFault) → HasKind (kinds_of words) error
+    → HoldsError error f → IsUnexplained f → (kind_of error ≡ kind.OutOfMemory → f ≡ fault.OutOfMemory)
+    → IsFoundIn words f
+found_by_clap words error (fault.Usage held) has kept unexplained memory =
+    inl (shown_kind words error held (fault.Usage held) kept memory (λ is. cc) has)
+found_by_clap words error (fault.Help held) has kept unexplained memory =
+    shown_kind words error held (fault.Help held) kept memory (λ is. cc) has
+found_by_clap words error (fault.Explanation topic) has kept unexplained memory = absurd unexplained
+found_by_clap words error fault.OutOfMemory has kept unexplained memory = tt
+
+-- of words that clap takes and that give no task
+pub found_in_taken : (words : List Text) (f : WordsFault) → kinds_of words ≡ [] → IsNoHelp f
+    → ((t : Task) → IsTaskOf words t → ⊥)
+    → ((topic : Option Topic) → AsksFor words (option_map topic_name topic)
+    → IsExplanationOf (option_map topic_name topic) f) → IsFoundIn words f
+found_in_taken words (fault.Usage error) taken unhelped task explained =
+    inr (record { taken = taken; task = task; explanation = explained })
+found_in_taken words (fault.Help error) taken unhelped task explained = absurd unhelped
+found_in_taken words (fault.Explanation topic) taken unhelped task explained = taken
+found_in_taken words fault.OutOfMemory taken unhelped task explained = tt
