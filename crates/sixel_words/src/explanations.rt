@@ -1,4 +1,4 @@
-//! What `explain` says of the rules and of the refusals.
+//! What `explain` prints about rules and refusals.
 
 ghost use Rattle.std.specs.Prelude.{◌≡◌, IfSome, IsNone};
 ghost use Rattle.sixel_words.specs.Explanations.{IsExplanation, topic_name};
@@ -28,7 +28,7 @@ pub enum Topic {
     Write,
 }
 
-/// The topic of this name. `Trailing` is that of sixel text; a PPM's has the same explanation.
+/// The topic of this name. `Trailing` gives the one of sixel text; a PPM's has the same explanation.
 pub fn topic_named(name: &str) -> Option<Topic>
     ensures found { IfSome result (λ topic. topic_name topic ≡ name.now) }
     ensures none { IsNone result → (topic : ATopic) → topic_name topic ≡ name.now → ⊥ }
@@ -52,7 +52,7 @@ pub fn topic_named(name: &str) -> Option<Topic>
     }
 }
 
-/// The text to show of a topic, or the list of all names, a line each. It ends with a line feed.
+/// The explanation of a topic, or the list of all names, one per line. It ends with a line feed.
 pub fn explanation(topic: Option<Topic>) -> &'static str
     ensures { IsExplanation topic result.now }
 {

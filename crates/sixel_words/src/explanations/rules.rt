@@ -1,4 +1,4 @@
-//! What `explain` says of each rule. docs/RULES.md has the same words.
+//! The explanation of each rule. docs/RULES.md has the same text.
 
 ghost use Rattle.std.specs.Prelude.{◌≡◌, ◌++◌, IfSome, IsNone, codes};
 ghost use Rattle.std.specs.Io.{StartsWith};
@@ -30,7 +30,7 @@ pub fn rule_named(name: &str) -> Option<Rule>
     }
 }
 
-/// What the rule means, what differs between terminals, what breaks it, and how that is mended.
+/// What the rule means, what breaks it, how terminals differ, a string that breaks it, and how to fix it.
 pub fn of_rule(rule: Rule) -> &'static str
     ensures { StartsWith result.now (rule_name rule ++ codes ": ") }
 {
