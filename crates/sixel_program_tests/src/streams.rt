@@ -287,21 +287,21 @@ fn unread(alloc: Global, reason: ErrorKind) -> Result<WordsFault, Fail> {
     }
 }
 
-const HELP: &str = "Lists what the picture says, a line for each command
+const HELP: &str = "Lists the commands of the picture, one per line
 
 Usage: sixel list [FILE]
 
 Arguments:
-  [FILE]  The file to read in place of standard input; `-` is that
+  [FILE]  The file to read; without it, or for `-`, standard input
 
 Options:
   -h, --help  Print help
 
-Reads sixel text from FILE, or without one from standard input. Writes a line
-for the start, for each command and for the end to standard output: its place in
-bytes, what it is, its numbers. What comes before a fault is listed too.
+Reads sixel text from FILE or, without one, from standard input. Writes to
+standard output one line for the start, for each command and for the end: its
+byte offset, its name and its numbers. Everything before a fault is listed too.
 
-Exit status: 0 done, 2 refused, 3 wrong words.
+Exit status: 0 done, 2 refused, 3 usage error.
 
 Example: sixel list plot.six
 ";
@@ -313,7 +313,7 @@ Usage: sixel <COMMAND>
 For more information, try '--help'.
 ";
 
-const NOT_TEXT: &str = "error: the arguments are not text
+const NOT_TEXT: &str = "error: the arguments are not valid UTF-8
 
 Usage: sixel <COMMAND>
 
@@ -337,15 +337,15 @@ fn words_are_explained_as_far_as_there_is_room(rt: HostRuntime) -> Result<(), Fa
     Ok(())
 }
 
-const MAXVAL: &str = "Maxval: a maximum of a PPM outside 1 to 255
+const MAXVAL: &str = "Maxval: a PPM maxval outside 1 to 255
 
-Refused: a maximum of a PPM outside 1 to 255. The place is the number's first
-digit.
+Refused: a PPM maxval (maximum) outside 1 to 255. The offset is that of the
+number's first digit.
 
 String: P6 1 1 256 LF
-Answer of encode: sixel: Maxval at 7
+Output of encode: sixel: Maxval at 7
 
-Mend it: write samples of one byte, with the maximum 255.
+Fix: write samples of one byte, with the maxval 255.
 ";
 
 /// An explanation goes to standard output. Where it can't be written whole, the program ends as a task would.

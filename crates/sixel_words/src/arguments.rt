@@ -35,7 +35,7 @@ pub fn task_in(alloc: Global, arguments: io::Result<Args>) -> Result<Request, Wo
     let arguments = match arguments {
         Ok(arguments) => arguments,
         Err(error) if error.kind() == ErrorKind::OutOfMemory => return Err(WordsFault::OutOfMemory),
-        Err(_) => return Err(usage(alloc, "the arguments are not text")),
+        Err(_) => return Err(usage(alloc, "the arguments are not valid UTF-8")),
     };
     match arguments.collect::<Vec<String>>(alloc) {
         Ok(words) => parse_request(alloc, words.as_slice()),

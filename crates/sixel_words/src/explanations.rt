@@ -1,4 +1,4 @@
-//! What `explain` says of the rules and of the refusals.
+//! What `explain` prints about rules and refusals.
 
 ghost use Rattle.std.specs.Prelude.{◌≡◌, IfSome, IsNone};
 ghost use Rattle.sixel_words.specs.Explanations.{IsExplanation, topic_name};
@@ -28,7 +28,7 @@ pub enum Topic {
     Write,
 }
 
-/// The topic of this name. `Trailing` is that of sixel text; a PPM's has the same explanation.
+/// The topic of this name. `Trailing` gives the one of sixel text; a PPM's has the same explanation.
 pub fn topic_named(name: &str) -> Option<Topic>
     ensures found { IfSome result (λ topic. topic_name topic ≡ name.now) }
     ensures none { IsNone result → (topic : ATopic) → topic_name topic ≡ name.now → ⊥ }
@@ -52,7 +52,7 @@ pub fn topic_named(name: &str) -> Option<Topic>
     }
 }
 
-/// The text to show of a topic, or the list of all names, a line each. It ends with a line feed.
+/// The explanation of a topic, or the list of all names, one per line. It ends with a line feed.
 pub fn explanation(topic: Option<Topic>) -> &'static str
     ensures { IsExplanation topic result.now }
 {
@@ -70,36 +70,36 @@ pub fn explanation(topic: Option<Topic>) -> &'static str
 }
 
 const LIST: &str = "RasterFirst: data, return, new line or terminator before any raster attributes
-RasterTwice: raster attributes after raster attributes
-Ratio: a pixel aspect ratio not written 1;1
-BoxSize: a width or a height outside 1 to 2,048
-Register: a register above 15, or with --wide above 255
-ColourValue: a colour system other than 1 and 2, or a coordinate out of range
+RasterTwice: raster attributes more than once
+Ratio: a pixel aspect ratio not written as 1;1
+BoxSize: a width or height outside 1 to 2,048
+Register: a register above 15, or above 255 with --wide
+ColourValue: a colour system other than 1 or 2, or a coordinate out of range
 RepeatZero: a repeat of 0
-Unselected: painting where no register is known
-Undefined: painting in a register that was not defined
-Redefined: another colour for a register already painted in
+Unselected: painting while no register is known
+Undefined: painting in a register that is not defined yet
+Redefined: a different colour for a register already painted in
 Outside: a set bit outside the box
-Uncovered: a pixel of the box under no set bit, at the terminator
+Uncovered: a pixel of the box that no set bit covers, at the terminator
 EightBit: the byte 90 as the introducer, or 9C as the terminator
-NotSixel: an input that doesn't begin as a sixel string
-BadByte: a byte that may not stand there
+NotSixel: input that doesn't start like a sixel string
+BadByte: unexpected byte
 NumberTooLarge: a number above 65,535
-FieldCount: a command with too many numbers, or too few
+FieldCount: too many or too few numbers in a command
 BadRepeat: a repeat without a sixel after its count
-BadTerminator: an ESC that no \\ follows
-Truncated: an input that ends before the terminator has come
-TooLong: an input of more than 268,435,456 bytes
-Trailing: something after the terminator, or after the last sample of a PPM
-Header: a header that a PPM doesn't have
-Size: a width or a height of a PPM outside 1 to 2,048
-Maxval: a maximum of a PPM outside 1 to 255
-Sample: a sample of a PPM above its maximum
-TooManyColours: a PPM of more than 16 colours, or with --wide more than 256
+BadTerminator: an ESC that isn't followed by \\
+Truncated: input that ends before the terminator is complete
+TooLong: input of more than 268,435,456 bytes
+Trailing: data after the terminator, or after the last sample of a PPM
+Header: not a valid P6 header
+Size: a PPM width or height outside 1 to 2,048
+Maxval: a PPM maxval outside 1 to 255
+Sample: a PPM sample above the maxval
+TooManyColours: a PPM of more than 16 colours, or more than 256 with --wide
 Short: a PPM that ends before its last sample
-NotRgb: a colour of hue, lightness and saturation that would stand in a PPM
-NoBox: a text that declares no box that a screen can have
-OutOfMemory: memory was wanting
-Read: an input that couldn't be opened or read
-Write: the output couldn't be written
+NotRgb: a colour of hue, lightness and saturation that would appear in a PPM
+NoBox: a text that declares no box of a possible screen size
+OutOfMemory: an allocation failed
+Read: input that couldn't be opened or read
+Write: output that couldn't be written
 ";

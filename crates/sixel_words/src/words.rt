@@ -81,7 +81,7 @@ pub fn parse_request(alloc: Global, words: &[String]) -> Result<Request, WordsFa
             Some(task) => request_of(alloc, task, found),
             None => Err(without_task(alloc, name, found)),
         },
-        None => Err(usage(alloc, "a subcommand is wanted")),
+        None => Err(usage(alloc, "a subcommand is required")),
     }
 }
 
@@ -97,7 +97,7 @@ fn untasked(alloc: Global, matches: &ArgMatches<'_>) -> WordsFault
         }
         (true, false) => "the argument '--box' cannot be used with '--width <N>'",
         (false, true) => "the argument '--box' cannot be used with '--height <N>'",
-        (false, false) => "no task has this name",
+        (false, false) => "unknown subcommand",
     };
     match show_error(alloc, reason) {
         Ok(conflict) => WordsFault::Usage(conflict),
@@ -168,7 +168,7 @@ fn unexplained(alloc: Global) -> WordsFault
     ensures sorted { IsSortedOut result }
     ensures refusal { IsRefusal result }
 {
-    let reason = "no rule and no refusal has this name; 'sixel explain' lists them";
+    let reason = "no rule or refusal has this name; 'sixel explain' lists the names";
     match explain_error(alloc, reason) {
         Ok(unnamed) => WordsFault::Usage(unnamed),
         Err(_) => WordsFault::OutOfMemory,
@@ -194,7 +194,7 @@ fn sixel_command<'a>(alloc: Global) -> Result<Command<'a>, AllocError>
         alloc,
         command,
         "list",
-        "Lists what the picture says, a line for each command",
+        "Lists the commands of the picture, one per line",
         help::LIST,
     )?;
     command = command.subcommand(check_command(alloc)?)?;
@@ -202,14 +202,14 @@ fn sixel_command<'a>(alloc: Global) -> Result<Command<'a>, AllocError>
         alloc,
         command,
         "render",
-        "Writes a portable picture as a PPM",
+        "Converts a portable picture to a PPM",
         help::RENDER,
     )?;
     command = with_profile_command(
         alloc,
         command,
         "encode",
-        "Writes a PPM as a portable picture",
+        "Converts a PPM to portable sixel text",
         help::ENCODE,
     )?;
     command
@@ -223,11 +223,11 @@ fn explain_command<'a>(alloc: Global) -> Result<Command<'a>, AllocError>
     ensures local { IfOk result (λ c. (fields_of c).has_globals ≡ false) }
 {
     Command::new(alloc, "explain")
-        .about("Explains a rule that check names or a refusal, or lists their names")
+        .about("Explains a rule or a refusal by its name, or lists all names")
         .after_help(help::EXPLAIN)
         .arg(
             Arg::new(alloc, "name").value_name("NAME").help(
-                "The name in the line that was written, such as Uncovered or FieldCount",
+                "The name in the verdict or the error line, such as Uncovered or FieldCount",
             ),
         )
 }
@@ -238,7 +238,7 @@ fn check_command<'a>(alloc: Global) -> Result<Command<'a>, AllocError>
     ensures local { IfOk result (λ c. (fields_of c).has_globals ≡ false) }
 {
     Command::new(alloc, "check")
-        .about("Says whether the picture is portable, or which rule is broken first")
+        .about("Says whether the picture is portable, or which rule it breaks first")
         .after_help(help::CHECK)
         .arg(wide_arg(alloc))?
         .arg(quiet_arg(alloc))?
@@ -251,19 +251,19 @@ fn show_command<'a>(alloc: Global) -> Result<Command<'a>, AllocError>
     ensures local { IfOk result (λ c. (fields_of c).has_globals ≡ false) }
 {
     Command::new(alloc, "show")
-        .about("Draws the picture on one terminal, and writes its screen as a PPM")
+        .about("Draws the picture as one terminal would, and writes its screen as a PPM")
         .after_help(help::SHOW)
         .arg(wide_arg(alloc))?
         .arg(flag_arg(
             alloc,
             "showing",
-            "Give each pixel the last colour of its register",
+            "Show each pixel in the final colour of its register",
         ))?
         .arg(flag_arg(alloc, "fill", "Fill the declared box with register 0"))?
         .arg(flag_arg(
             alloc,
             "define-selects",
-            "Let a definition select its register",
+            "Let a colour definition also select its register",
         ))?
         .arg(side_arg(
             alloc,
@@ -347,11 +347,7 @@ fn wide_arg<'a>(alloc: Global) -> Arg<'a>
     ensures rule { rule_of result ≡ flag (codes "wide") }
     ensures local { result.global ≡ false }
 {
-    flag_arg(
-        alloc,
-        "wide",
-        "Let a picture use 256 colour registers, and not 16",
-    )
+    flag_arg(alloc, "wide", "Use 256 colour registers instead of 16")
 }
 
 /// `-q` or `--quiet`.
@@ -359,7 +355,7 @@ fn quiet_arg<'a>(alloc: Global) -> Arg<'a>
     ensures rule { rule_of result ≡ quiet }
     ensures local { result.global ≡ false }
 {
-    flag_arg(alloc, "quiet", "Write no verdict: the exit status tells it").short('q')
+    flag_arg(alloc, "quiet", "Print no verdict; use the exit status").short('q')
 }
 
 /// `FILE`, which may be left out.
@@ -367,7 +363,7 @@ fn file_arg<'a>(alloc: Global) -> Arg<'a>
     ensures rule { rule_of result ≡ file }
     ensures local { result.global ≡ false }
 {
-    Arg::new(alloc, "FILE").help("The file to read in place of standard input; `-` is that")
+    Arg::new(alloc, "FILE").help("The file to read; without it, or for `-`, standard input")
 }
 
 /// `FILE`, any number of times.
@@ -376,7 +372,7 @@ fn files_arg<'a>(alloc: Global) -> Arg<'a>
     ensures local { result.global ≡ false }
 {
     Arg::new(alloc, "FILE").action(ArgAction::Append).help(
-        "Files to read, in turn, in place of standard input; `-` is that",
+        "Files to read in turn; without any, or for `-`, standard input",
     )
 }
 

@@ -266,7 +266,7 @@ fn refuses_other_words(rt: HostRuntime) -> Result<(), Fail> {
         ),
         (
             "sixel explain ratio",
-            "usage error: no rule and no refusal has this name; 'sixel explain' lists them\n\nUsage: sixel explain [NAME]",
+            "usage error: no rule or refusal has this name; 'sixel explain' lists the names\n\nUsage: sixel explain [NAME]",
         ),
         (
             "sixel explain Ratio BoxSize",
@@ -327,12 +327,12 @@ fn shows_help(rt: HostRuntime) -> Result<(), Fail> {
 Usage: sixel <COMMAND>
 
 Commands:
-  list     Lists what the picture says, a line for each command
-  check    Says whether the picture is portable, or which rule is broken first
-  render   Writes a portable picture as a PPM
-  encode   Writes a PPM as a portable picture
-  show     Draws the picture on one terminal, and writes its screen as a PPM
-  explain  Explains a rule that check names or a refusal, or lists their names
+  list     Lists the commands of the picture, one per line
+  check    Says whether the picture is portable, or which rule it breaks first
+  render   Converts a portable picture to a PPM
+  encode   Converts a PPM to portable sixel text
+  show     Draws the picture as one terminal would, and writes its screen as a PPM
+  explain  Explains a rule or a refusal by its name, or lists all names
   help     Print this message or the help of the given subcommand(s)
 
 Options:
@@ -342,21 +342,21 @@ Options:
     for line in ["sixel --help", "sixel -h", "sixel help"] {
         assert!(rt; says(&rt, line, whole)?, "{line}");
     }
-    let list = "help Lists what the picture says, a line for each command
+    let list = "help Lists the commands of the picture, one per line
 
 Usage: sixel list [FILE]
 
 Arguments:
-  [FILE]  The file to read in place of standard input; `-` is that
+  [FILE]  The file to read; without it, or for `-`, standard input
 
 Options:
   -h, --help  Print help
 
-Reads sixel text from FILE, or without one from standard input. Writes a line
-for the start, for each command and for the end to standard output: its place in
-bytes, what it is, its numbers. What comes before a fault is listed too.
+Reads sixel text from FILE or, without one, from standard input. Writes to
+standard output one line for the start, for each command and for the end: its
+byte offset, its name and its numbers. Everything before a fault is listed too.
 
-Exit status: 0 done, 2 refused, 3 wrong words.
+Exit status: 0 done, 2 refused, 3 usage error.
 
 Example: sixel list plot.six
 ";
@@ -380,23 +380,23 @@ fn shows_the_exit_status(rt: HostRuntime) -> Result<(), Fail> {
     for (line, status) in [
         (
             "sixel list --help",
-            "Exit status: 0 done, 2 refused, 3 wrong words.\n",
+            "Exit status: 0 done, 2 refused, 3 usage error.\n",
         ),
         (
             "sixel check --help",
-            "Exit status: 0 portable, 1 broken, 2 refused, 3 wrong words; of several files\nthe greatest.\n",
+            "Exit status: 0 portable, 1 broken, 2 refused, 3 usage error; with several files\nthe greatest.\n",
         ),
         (
             "sixel render --help",
-            "Exit status: 0 done, 1 broken, 2 refused, 3 wrong words.\n",
+            "Exit status: 0 done, 1 broken, 2 refused, 3 usage error.\n",
         ),
         (
             "sixel encode --help",
-            "Exit status: 0 done, 2 refused, 3 wrong words.\n",
+            "Exit status: 0 done, 2 refused, 3 usage error.\n",
         ),
         (
             "sixel show --help",
-            "Exit status: 0 done, 2 refused, 3 wrong words.\n",
+            "Exit status: 0 done, 2 refused, 3 usage error.\n",
         ),
     ] {
         let help = said(rt.alloc(), line)?;
@@ -410,25 +410,25 @@ fn shows_the_exit_status(rt: HostRuntime) -> Result<(), Fail> {
 
 #[test]
 fn shows_the_options_of_check(rt: HostRuntime) -> Result<(), Fail> {
-    let check = "help Says whether the picture is portable, or which rule is broken first
+    let check = "help Says whether the picture is portable, or which rule it breaks first
 
 Usage: sixel check [OPTIONS] [FILE]...
 
 Arguments:
-  [FILE]...  Files to read, in turn, in place of standard input; `-` is that
+  [FILE]...  Files to read in turn; without any, or for `-`, standard input
 
 Options:
-      --wide   Let a picture use 256 colour registers, and not 16
-  -q, --quiet  Write no verdict: the exit status tells it
+      --wide   Use 256 colour registers instead of 16
+  -q, --quiet  Print no verdict; use the exit status
   -h, --help   Print help
 
-Reads sixel text from each FILE in turn, or without one from standard input.
-Writes a line for each to standard output: `portable` and the size, or `broken`,
-the rule, its place and for two rules a pixel. Where files are named, the line
-begins with `FILE: `. Why one is refused goes to standard error, and those after
-it are still checked.
+Reads sixel text from each FILE in turn or, without one, from standard input.
+Writes one line for each to standard output: `portable` and the size, or
+`broken`, the rule, the byte offset and, for two rules, a pixel. With files,
+each line starts with `FILE: `. If a file is refused, the reason goes to
+standard error, and the files after it are still checked.
 
-Exit status: 0 portable, 1 broken, 2 refused, 3 wrong words; of several files
+Exit status: 0 portable, 1 broken, 2 refused, 3 usage error; with several files
 the greatest.
 
 Example: sixel check plots/*.six
@@ -441,29 +441,29 @@ Example: sixel check plots/*.six
 
 #[test]
 fn shows_the_options_of_show(rt: HostRuntime) -> Result<(), Fail> {
-    let show = "help Draws the picture on one terminal, and writes its screen as a PPM
+    let show = "help Draws the picture as one terminal would, and writes its screen as a PPM
 
 Usage: sixel show [OPTIONS] [FILE]
 
 Arguments:
-  [FILE]  The file to read in place of standard input; `-` is that
+  [FILE]  The file to read; without it, or for `-`, standard input
 
 Options:
-      --wide            Let a picture use 256 colour registers, and not 16
-      --showing         Give each pixel the last colour of its register
+      --wide            Use 256 colour registers instead of 16
+      --showing         Show each pixel in the final colour of its register
       --fill            Fill the declared box with register 0
-      --define-selects  Let a definition select its register
+      --define-selects  Let a colour definition also select its register
       --width <N>       The screen's width in pixels, 1 to 4096 [default: 800]
       --height <N>      The screen's height in pixels, 1 to 4096 [default: 480]
       --box             Make the screen as large as the declared box
   -h, --help            Print help
 
-Reads sixel text from FILE, or without one from standard input. Writes the
+Reads sixel text from FILE or, without one, from standard input. Writes the
 screen of one terminal, which the options choose, to standard output as a PPM.
-What lies off the screen is left out. Without --wide register 16 is register 0,
-17 is 1 and so on. --box goes with neither --width nor --height.
+What is off the screen is left out. Without --wide, register 16 is register 0,
+17 is 1 and so on. --box can't be combined with --width or --height.
 
-Exit status: 0 done, 2 refused, 3 wrong words.
+Exit status: 0 done, 2 refused, 3 usage error.
 
 Example: sixel show --wide --box plot.six > plot.ppm
 ";
@@ -493,22 +493,22 @@ fn asks_for_an_explanation(rt: HostRuntime) -> Result<(), Fail> {
 
 #[test]
 fn shows_the_name_of_explain(rt: HostRuntime) -> Result<(), Fail> {
-    let explain = "help Explains a rule that check names or a refusal, or lists their names
+    let explain = "help Explains a rule or a refusal by its name, or lists all names
 
 Usage: sixel explain [NAME]
 
 Arguments:
-  [NAME]  The name in the line that was written, such as Uncovered or FieldCount
+  [NAME]  The name in the verdict or the error line, such as Uncovered or FieldCount
 
 Options:
   -h, --help  Print help
 
 Reads nothing. Writes to standard output what the rule or the refusal means,
-what breaks it and how that is mended; without NAME a line for each name. For
-`out of memory`, `read failed` and `write failed` the names are OutOfMemory, Read
-and Write.
+what breaks it and how to fix it; without NAME, one line for each name. For
+`out of memory`, `read failed` and `write failed` the names are OutOfMemory,
+Read and Write.
 
-Exit status: 0 done, 2 where the output fails, 3 wrong words, or no such name.
+Exit status: 0 done, 2 output failed, 3 usage error or unknown name.
 
 Example: sixel explain Uncovered
 ";

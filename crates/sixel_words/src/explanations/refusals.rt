@@ -1,4 +1,4 @@
-//! What `explain` says of each reason for which a run is refused. docs/REFUSALS.md has the same words.
+//! The explanation of each reason for refusing a run. docs/REFUSALS.md has the same text.
 
 ghost use Rattle.std.specs.Prelude.{◌≡◌, ◌++◌, IfSome, IsNone, codes};
 ghost use Rattle.std.specs.Io.{StartsWith};
@@ -9,7 +9,7 @@ ghost use Rattle.sixel_run.specs.Texts.{ppm_reason_name, reason_name};
 use sixel_grammar::Reason;
 use sixel_ppm::PpmReason;
 
-/// Why sixel text is refused, by its name.
+/// The reason of this name for refusing sixel text.
 pub fn reason_named(name: &str) -> Option<Reason>
     ensures found { IfSome result (λ reason. reason_name reason ≡ name.now) }
     ensures none { IsNone result → (reason : AReason) → reason_name reason ≡ name.now → ⊥ }
@@ -28,7 +28,7 @@ pub fn reason_named(name: &str) -> Option<Reason>
     }
 }
 
-/// Why a PPM is refused, by its name.
+/// The reason of this name for refusing a PPM.
 pub fn ppm_reason_named(name: &str) -> Option<PpmReason>
     ensures found { IfSome result (λ reason. ppm_reason_name reason ≡ name.now) }
     ensures none { IsNone result → (reason : APpmReason) → ppm_reason_name reason ≡ name.now → ⊥ }
@@ -45,7 +45,7 @@ pub fn ppm_reason_named(name: &str) -> Option<PpmReason>
     }
 }
 
-/// Why sixel text is refused so, a string that is, and how it is mended.
+/// Why sixel text is refused, a string that is, and how to fix it.
 pub fn of_reason(reason: Reason) -> &'static str
     ensures { StartsWith result.now (reason_name reason ++ codes ": ") }
 {
@@ -62,7 +62,7 @@ pub fn of_reason(reason: Reason) -> &'static str
     }
 }
 
-/// The same of a PPM. `Trailing` is explained of both at once.
+/// The same for a PPM. One explanation of `Trailing` covers both.
 pub fn of_ppm_reason(reason: PpmReason) -> &'static str
     ensures { StartsWith result.now (ppm_reason_name reason ++ codes ": ") }
 {
@@ -77,28 +77,28 @@ pub fn of_ppm_reason(reason: PpmReason) -> &'static str
     }
 }
 
-const NOT_SIXEL: &str = "NotSixel: an input that doesn't begin as a sixel string
+const NOT_SIXEL: &str = "NotSixel: input that doesn't start like a sixel string
 
-Refused: an input that doesn't begin, after TAB, LF, CR or SP, with ESC P (or
-the byte 90), at most three numbers and q.
+Refused: input that doesn't start with ESC P (or the byte 90), at most three
+numbers and q. TAB, LF, CR and SP may come first.
 
 String: ESC P p ESC \\
-Answer of check: sixel: NotSixel at 2
+Output of check: sixel: NotSixel at 2
 
-Mend it: take away what stands before the string. It begins with its ESC P, and
-after its numbers stands q.
+Fix: remove what comes before the string. It starts with its ESC P, and q
+follows its numbers.
 ";
 
-const BAD_BYTE: &str = "BadByte: a byte that may not stand there
+const BAD_BYTE: &str = "BadByte: unexpected byte
 
-Refused: a byte that may not stand there: between commands any but those of a
-command, a terminator, TAB, LF, CR or SP.
+Refused: an unexpected byte. Between commands, only those of a command, a
+terminator, TAB, LF, CR and SP are allowed.
 
 String: ESC P q = ESC \\
-Answer of check: sixel: BadByte at 3
+Output of check: sixel: BadByte at 3
 
-Mend it: take it out. A command begins with !, \", #, $, - or a sixel, which is a
-byte from ? to ~.
+Fix: remove it. A command starts with !, \", #, $, - or a sixel, which is a byte
+from ? to ~.
 ";
 
 const NUMBER_TOO_LARGE: &str = "NumberTooLarge: a number above 65,535
@@ -106,190 +106,189 @@ const NUMBER_TOO_LARGE: &str = "NumberTooLarge: a number above 65,535
 Refused: a number above 65,535.
 
 String: ESC P q !65536~ ESC \\
-Answer of check: sixel: NumberTooLarge at 8
+Output of check: sixel: NumberTooLarge at 8
 
-Mend it: write a long repeat as several.
+Fix: split a long repeat into several.
 ";
 
-const FIELD_COUNT: &str = "FieldCount: a command with too many numbers, or too few
+const FIELD_COUNT: &str = "FieldCount: too many or too few numbers in a command
 
-Refused: a fourth number in the introducer or a fifth in raster attributes; a
-colour command with neither one number nor five.
+Refused: a fourth number in the introducer, or a fifth in raster attributes; or
+a colour command with neither one nor five numbers.
 
 String: ESC P q #1;2~ ESC \\
-Answer of check: sixel: FieldCount at 7
+Output of check: sixel: FieldCount at 7
 
-Mend it: after # write the register alone to select it; or the register, the
-colour system and three coordinates to define it.
+Fix: after #, write only the register to select it; or the register, the colour
+system and three coordinates to define it.
 ";
 
 const BAD_REPEAT: &str = "BadRepeat: a repeat without a sixel after its count
 
-Refused: after ! and its count anything but a sixel.
+Refused: anything but a sixel after ! and its count.
 
 String: ESC P q !3$ ESC \\
-Answer of check: sixel: BadRepeat at 5
+Output of check: sixel: BadRepeat at 5
 
-Mend it: write the sixel right after the count. Nothing else can be repeated.
+Fix: write the sixel right after the count. Nothing else can be repeated.
 ";
 
-const BAD_TERMINATOR: &str = "BadTerminator: an ESC that no \\ follows
+const BAD_TERMINATOR: &str = "BadTerminator: an ESC that isn't followed by \\
 
-Refused: an ESC that no \\ follows.
+Refused: an ESC that isn't followed by \\.
 
 String: ESC P q $ ESC ]
-Answer of check: sixel: BadTerminator at 5
+Output of check: sixel: BadTerminator at 5
 
-Mend it: end the string with ESC \\, and write other sequences of ESC before or
-after it.
-";
-
-const TRUNCATED: &str = "Truncated: an input that ends before the terminator has come
-
-Refused: an input that ends before the terminator has come.
-
-String: ESC P q @
-Answer of check: sixel: Truncated at 4
-
-Mend it: write ESC \\ at the end. Where the input was cut off, get the rest of
+Fix: end the string with ESC \\, and write other escape sequences before or after
 it.
 ";
 
-const TOO_LONG: &str = "TooLong: an input of more than 268,435,456 bytes
+const TRUNCATED: &str = "Truncated: input that ends before the terminator is complete
 
-Refused: an input of more than 268,435,456 bytes.
+Refused: input that ends before the terminator is complete.
 
-Mend it: write equal sixels in a row as a repeat, or cut the picture into
-several strings.
+String: ESC P q @
+Output of check: sixel: Truncated at 4
+
+Fix: write ESC \\ at the end. If the input was cut off, get the rest of it.
 ";
 
-const TRAILING: &str = "Trailing: something after the terminator, or after the last sample of a PPM
+const TOO_LONG: &str = "TooLong: input of more than 268,435,456 bytes
 
-Refused: after the terminator anything but TAB, LF, CR or SP. Of a PPM, a byte
+Refused: input of more than 268,435,456 bytes.
+
+Fix: write equal sixels in a row as a repeat, or cut the picture into several
+strings.
+";
+
+const TRAILING: &str = "Trailing: data after the terminator, or after the last sample of a PPM
+
+Refused: anything but TAB, LF, CR or SP after the terminator; in a PPM, any byte
 after the last sample.
 
 String: ESC P q ESC \\ x
-Answer of check: sixel: Trailing at 5
+Output of check: sixel: Trailing at 5
 
-Mend it: hand over one string, or one PPM, at a time.
+Fix: pass one string, or one PPM, at a time.
 ";
 
-const HEADER: &str = "Header: a header that a PPM doesn't have
+const HEADER: &str = "Header: not a valid P6 header
 
-Refused: a byte that may not stand there in the header of a PPM, or a header of
-more than 65,536 bytes. The place is that of the byte. Where the input begins as
-a PNG, a JPEG, a GIF or another format of Netpbm, a second line says so and what
-makes a PPM of it.
+Refused: an unexpected byte in the header of a PPM, or a header of more than
+65,536 bytes. The offset is that of the byte. If the input starts like a PNG, a
+JPEG, a GIF or another format of Netpbm, a second line says so and names the
+programs that make a PPM of it.
 
 String: P6 1,1 255
-Answer of encode: sixel: Header at 4
+Output of encode: sixel: Header at 4
 
-Mend it: write P6, the width, the height and the maximum, with white space
-between them and one byte of it before the samples.
+Fix: write P6, the width, the height and the maxval, with white space between
+them and one byte of white space before the samples.
 ";
 
-const SIZE: &str = "Size: a width or a height of a PPM outside 1 to 2,048
+const SIZE: &str = "Size: a PPM width or height outside 1 to 2,048
 
-Refused: a width or a height of a PPM outside 1 to 2,048. The place is the
+Refused: a PPM width or height outside 1 to 2,048. The offset is that of the
 number's first digit.
 
 String: P6 0 1 255
-Answer of encode: sixel: Size at 3
+Output of encode: sixel: Size at 3
 
-Mend it: scale a larger picture down, or cut it into several.
+Fix: scale a larger picture down, or cut it into several.
 ";
 
-const MAXVAL: &str = "Maxval: a maximum of a PPM outside 1 to 255
+const MAXVAL: &str = "Maxval: a PPM maxval outside 1 to 255
 
-Refused: a maximum of a PPM outside 1 to 255. The place is the number's first
-digit.
+Refused: a PPM maxval (maximum) outside 1 to 255. The offset is that of the
+number's first digit.
 
 String: P6 1 1 256 LF
-Answer of encode: sixel: Maxval at 7
+Output of encode: sixel: Maxval at 7
 
-Mend it: write samples of one byte, with the maximum 255.
+Fix: write samples of one byte, with the maxval 255.
 ";
 
-const SAMPLE: &str = "Sample: a sample of a PPM above its maximum
+const SAMPLE: &str = "Sample: a PPM sample above the maxval
 
-Refused: a sample of a PPM above its maximum. The place is the sample's.
+Refused: a PPM sample above the maxval. The offset is that of the sample.
 
 String: P6 1 1 100 eee
-Answer of encode: sixel: Sample at 11
+Output of encode: sixel: Sample at 11
 
-Mend it: declare a maximum that no sample is above, at most 255.
+Fix: declare a maxval that no sample is above, at most 255.
 ";
 
 const TOO_MANY_COLOURS: &str =
-    "TooManyColours: a PPM of more than 16 colours, or with --wide more than 256
+    "TooManyColours: a PPM of more than 16 colours, or more than 256 with --wide
 
-Refused: more than 16 colours in a PPM, with --wide more than 256, counted as
-percentages. The place is the first sample of the first pixel in the 17th
-colour, or the 257th.
+Refused: a PPM of more than 16 colours, or more than 256 with --wide, counted as
+percentages. The offset is that of the first sample of the first pixel in the
+17th colour, or the 257th.
 
 String: P6 17 1 100 000111222333444555666777888999:::;;;<<<===>>>???@@@
-Answer of encode: sixel: TooManyColours at 60
+Output of encode: sixel: TooManyColours at 60
 
-Mend it: bring the picture to 16 colours first, as by pnmquant 16, or to 256 and
-take --wide.
+Fix: reduce the picture to 16 colours first, for example by pnmquant 16; or to
+256, and use --wide.
 ";
 
 const SHORT: &str = "Short: a PPM that ends before its last sample
 
-Refused: a PPM that ends before its last sample. The place is its length.
+Refused: a PPM that ends before its last sample. The offset is its length.
 
 String: P6 1 1 255 xx
-Answer of encode: sixel: Short at 13
+Output of encode: sixel: Short at 13
 
-Mend it: write three samples for each pixel of the width times the height.
+Fix: write three samples for each pixel of the width times the height.
 ";
 
 pub const NOT_RGB: &str =
-    "NotRgb: a colour of hue, lightness and saturation that would stand in a PPM
+    "NotRgb: a colour of hue, lightness and saturation that would appear in a PPM
 
-Refused: by render and show a colour of hue, lightness and saturation that would
-be seen, which a PPM has no place for. Nothing is written.
+Refused: render and show can't write a visible colour of hue, lightness and
+saturation, since a PPM can't hold it. Nothing is written.
 
 String: ESC P q \"1;1;1;1#0;1;0;0;0#0@ ESC \\
-Answer of render: sixel: NotRgb
+Output of render: sixel: NotRgb
 
-Mend it: define the colour in system 2, as red, green and blue.
+Fix: define the colour in system 2, as red, green and blue.
 ";
 
-pub const NO_BOX: &str = "NoBox: a text that declares no box that a screen can have
+pub const NO_BOX: &str = "NoBox: a text that declares no box of a possible screen size
 
-Refused: by show --box a text without raster attributes, or whose first ones
-have no width and height from 1 to 4,096. Nothing is written.
+Refused: show --box needs raster attributes, and the first ones must have a
+width and a height from 1 to 4,096. Nothing is written.
 
 String: ESC P q #0@ ESC \\
-Answer of show --box: sixel: NoBox
+Output of show --box: sixel: NoBox
 
-Mend it: leave --box out, and give the screen's sides by --width and --height;
-or write raster attributes with the true size.
+Fix: leave out --box, and give the screen's sides by --width and --height; or
+write raster attributes with the true size.
 ";
 
-pub const OUT_OF_MEMORY: &str = "OutOfMemory: memory was wanting
+pub const OUT_OF_MEMORY: &str = "OutOfMemory: an allocation failed
 
-Refused: with the line sixel: out of memory, where an allocation failed. That
-says nothing of the input.
+Refused: an allocation failed. The line is sixel: out of memory, and says
+nothing about the input.
 
-Mend it: try again when other programs have given memory back.
+Fix: try again when other programs have freed memory.
 ";
 
-pub const READ: &str = "Read: an input that couldn't be opened or read
+pub const READ: &str = "Read: input that couldn't be opened or read
 
-Refused: with the line sixel: read failed, where the input, or a file that is
-named, couldn't be opened or read. Of a file the name stands in the line.
+Refused: the input, or a named file, couldn't be opened or read. The line is
+sixel: read failed; with a file, it has the name too.
 
-Mend it: look whether the file is there under that name, may be read, and is no
-folder.
+Fix: check that the file exists under that name, that you may read it, and that
+it is no folder.
 ";
 
-pub const WRITE: &str = "Write: the output couldn't be written
+pub const WRITE: &str = "Write: output that couldn't be written
 
-Refused: with the line sixel: write failed, where the output couldn't be
-written. A prefix of it may be there.
+Refused: the output couldn't be written. The line is sixel: write failed. A
+prefix of the output may be there.
 
-Mend it: look at where the output goes: a disk may be full, or a program may
-have stopped reading.
+Fix: look at where the output goes: a disk may be full, or a program may have
+stopped reading.
 ";
