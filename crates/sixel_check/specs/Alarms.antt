@@ -1,8 +1,8 @@
--- What it means that a finding is no false alarm. A point x y is counted from the origin of each terminal.
+-- What makes a finding a true alarm. A point x y is relative to the origin of each terminal.
 --
--- Each clause is on one terminal, whatever the others do; that two of them show other colours is said in Differences.
--- Nothing is promised of the other ten rules, nor that `EightBit` at an introducer makes a difference: a string may
--- break one of these and look the same everywhere.
+-- Each clause is about one terminal at a time; that two of them show different colours is said in Differences. No
+-- difference is promised for the other ten rules, nor for `EightBit` at the introducer: a string may break one of these
+-- and look the same everywhere.
 use Rattle.std.specs.Prelude.{◌≡◌, ◌+◌, ◌<◌, ℕ, true, false, Option, IsSome, IsSomeAnd, IsTrue, List}
 use Rattle.sixel_grammar.specs.declared.command.Event.{Event}
 use Rattle.sixel_grammar.specs.declared.command.Placed.{Placed}
@@ -25,15 +25,15 @@ pub record HasRoomFor (registers : ℕ) (t : Display) (events : List Event) : Ty
   pub in_class : IsInClass registers t
   pub room : IsSomeAnd (raster_before events) (λ (a : Attributes). HasRoom t a.width a.height)
 
--- each terminal with room that keeps its ground shows at the point what stood there
+-- each terminal with room that keeps its ground still shows at the point the colour that was there before
 abbrev pub StaysOnEach : ℕ → List Event → ℕ → ℕ → Type 0
 StaysOnEach registers events x y =
     (t : Display) → HasRoomFor registers t events → t.choices.ground ≡ Kept
     → shown_on t events (t.choices.origin_x + x) (t.choices.origin_y + y)
     ≡ stood_on t (t.choices.origin_x + x) (t.choices.origin_y + y)
 
--- each terminal that doesn't clip and has 8-bit controls paints the point by the event at position i, and on each that
--- clips and keeps its ground no event paints it
+-- the event at position i paints the point on each terminal that doesn't clip and has 8-bit controls; no event paints
+-- it on a terminal that clips and keeps its ground
 pub record IsPaintedUnlessClipped (registers : ℕ) (events : List Event) (i x y : ℕ) : Type 0 where
   pub painted : (t : Display) → IsInClass registers t → t.choices.clips ≡ false → t.choices.eight_bit ≡ true
       → HoldsAtPosition (λ before e.
@@ -41,8 +41,8 @@ pub record IsPaintedUnlessClipped (registers : ℕ) (events : List Event) (i x y
   pub cut_off : (t : Display) → IsInClass registers t → t.choices.clips ≡ true → t.choices.ground ≡ Kept
       → ¬ IsPainted t events (t.choices.origin_x + x) (t.choices.origin_y + y)
 
--- a terminal without 8-bit controls paints no pixel, on its screen or off it; and where position i is that of the end,
--- each that has them and room shows the picture that is left in the box
+-- a terminal without 8-bit controls paints no pixel, on its screen or off it; and if the event at position i is the
+-- finish, each terminal with 8-bit controls and room shows in the box the picture that the events leave
 pub record IsUnseenWithoutEightBits (registers : ℕ) (events : List Event) (i : ℕ) : Type 0 where
   pub unpainted : (t : Display) (column row : ℕ) → IsInClass registers t → t.choices.eight_bit ≡ false
       → ¬ IsPainted t events column row
@@ -51,7 +51,7 @@ pub record IsUnseenWithoutEightBits (registers : ℕ) (events : List Event) (i :
       → x < (picture_left registers events).width → y < (picture_left registers events).height
       → ShowsAt t events (picture_left registers events) x y
 
--- what is promised of a finding of this rule with this pixel at position i
+-- what we promise for a finding of this rule with this pixel at position i
 abbrev pub IsTrueAlarm : ℕ → List Event → Rule → Option (ℕ × ℕ) → ℕ → Type 0
 IsTrueAlarm registers events Uncovered pixel i = IsSomeAnd pixel (λ p. StaysOnEach registers events p.0 p.1)
 IsTrueAlarm registers events Outside pixel i =
@@ -59,7 +59,7 @@ IsTrueAlarm registers events Outside pixel i =
 IsTrueAlarm registers events EightBit pixel i = IsUnseenWithoutEightBits registers events i
 IsTrueAlarm registers events _ pixel i = Unit {0}
 
--- a finding that is answered is no false alarm: it is that of the events at some position, and true there
+-- the verdict is no false alarm: a finding is that of the events at some position i, and true there
 abbrev pub IsNoFalseAlarm : ℕ → List Placed → Verdict → Type 0
 IsNoFalseAlarm registers placed (Portable picture) = Unit {0}
 IsNoFalseAlarm registers placed (Broken f) =
