@@ -1,4 +1,4 @@
-//! What `explain` says of the rules and of the refusals.
+//! What `explain` says of the rules and of the faults.
 
 ghost use Rattle.std.specs.Prelude.{◌≡◌, IfSome, IsNone};
 ghost use Rattle.sixel_words.specs.Explanations.{IsExplanation, topic_name};
@@ -13,13 +13,13 @@ use sixel_check::Rule;
 use sixel_grammar::Reason;
 use sixel_ppm::PpmReason;
 
-/// What can be explained: a rule, or why a run is refused.
+/// What can be explained: a rule, or why a run was refused.
 #[derive(Clone, Copy, Debug, PartialEq, Eq, Drop)]
 pub enum Topic {
     Rule(Rule),
-    /// Why bytes are no document.
+    /// Why bytes are no sixel document.
     Grammar(Reason),
-    /// Why bytes are no picture file.
+    /// Why bytes are no PPM.
     Ppm(PpmReason),
     NotRgb,
     NoBox,
@@ -28,7 +28,7 @@ pub enum Topic {
     Write,
 }
 
-/// The topic of this name. `Trailing` is that of sixel text; a PPM's has the same explanation.
+/// The topic with this name. `Trailing` is that of sixel text; the one of a PPM has the same explanation.
 pub fn topic_named(name: &str) -> Option<Topic>
     ensures found { IfSome result (λ topic. topic_name topic ≡ name.now) }
     ensures none { IsNone result → (topic : ATopic) → topic_name topic ≡ name.now → ⊥ }
@@ -52,7 +52,7 @@ pub fn topic_named(name: &str) -> Option<Topic>
     }
 }
 
-/// The text to show of a topic, or the list of all names, a line each. It ends with a line feed.
+/// The text that explains a topic, or without one the list of all names, a line each. It ends with a newline.
 pub fn explanation(topic: Option<Topic>) -> &'static str
     ensures { IsExplanation topic result.now }
 {

@@ -1,4 +1,4 @@
-//! What `explain` says of each reason for which a run is refused. docs/REFUSALS.md has the same words.
+//! What `explain` says of each reason why a run is refused. docs/REFUSALS.md has the same text.
 
 ghost use Rattle.std.specs.Prelude.{◌≡◌, ◌++◌, IfSome, IsNone, codes};
 ghost use Rattle.std.specs.Io.{StartsWith};
@@ -9,7 +9,7 @@ ghost use Rattle.sixel_run.specs.Texts.{ppm_reason_name, reason_name};
 use sixel_grammar::Reason;
 use sixel_ppm::PpmReason;
 
-/// Why sixel text is refused, by its name.
+/// The reason with this name why sixel text is refused.
 pub fn reason_named(name: &str) -> Option<Reason>
     ensures found { IfSome result (λ reason. reason_name reason ≡ name.now) }
     ensures none { IsNone result → (reason : AReason) → reason_name reason ≡ name.now → ⊥ }
@@ -28,7 +28,7 @@ pub fn reason_named(name: &str) -> Option<Reason>
     }
 }
 
-/// Why a PPM is refused, by its name.
+/// The reason with this name why a PPM is refused.
 pub fn ppm_reason_named(name: &str) -> Option<PpmReason>
     ensures found { IfSome result (λ reason. ppm_reason_name reason ≡ name.now) }
     ensures none { IsNone result → (reason : APpmReason) → ppm_reason_name reason ≡ name.now → ⊥ }
@@ -45,7 +45,7 @@ pub fn ppm_reason_named(name: &str) -> Option<PpmReason>
     }
 }
 
-/// Why sixel text is refused so, a string that is, and how it is mended.
+/// Why sixel text is refused for this reason, an example, and how to fix it.
 pub fn of_reason(reason: Reason) -> &'static str
     ensures { StartsWith result.now (reason_name reason ++ codes ": ") }
 {
@@ -62,7 +62,7 @@ pub fn of_reason(reason: Reason) -> &'static str
     }
 }
 
-/// The same of a PPM. `Trailing` is explained of both at once.
+/// The same for a PPM. `Trailing` has one explanation for both.
 pub fn of_ppm_reason(reason: PpmReason) -> &'static str
     ensures { StartsWith result.now (ppm_reason_name reason ++ codes ": ") }
 {

@@ -1,4 +1,4 @@
-//! What `explain` says of each rule. docs/RULES.md has the same words.
+//! What `explain` says of each rule. docs/RULES.md has the same text.
 
 ghost use Rattle.std.specs.Prelude.{◌≡◌, ◌++◌, IfSome, IsNone, codes};
 ghost use Rattle.std.specs.Io.{StartsWith};
@@ -7,7 +7,7 @@ ghost use Rattle.sixel_run.specs.Texts.{rule_name};
 
 use sixel_check::Rule;
 
-/// The rule of this name.
+/// The rule with this name.
 pub fn rule_named(name: &str) -> Option<Rule>
     ensures found { IfSome result (λ rule. rule_name rule ≡ name.now) }
     ensures none { IsNone result → (rule : ARule) → rule_name rule ≡ name.now → ⊥ }
@@ -30,7 +30,7 @@ pub fn rule_named(name: &str) -> Option<Rule>
     }
 }
 
-/// What the rule means, what differs between terminals, what breaks it, and how that is mended.
+/// What the rule says, how terminals differ, an example that breaks it, and how to fix it.
 pub fn of_rule(rule: Rule) -> &'static str
     ensures { StartsWith result.now (rule_name rule ++ codes ": ") }
 {

@@ -1,4 +1,4 @@
-//! What the help of each subcommand says behind its options. A line has at most 80 columns.
+//! The help of each subcommand, after its options. A line has at most 80 columns.
 
 pub const LIST: &str =
     "Reads sixel text from FILE, or without one from standard input. Writes a line

@@ -13,7 +13,7 @@ use Rattle.sixel_words.proofs.MatchLemmas.{both_parts, name_rows, none_of, reque
 use Rattle.sixel_words.proofs.words.parse_words.Goals as goal
 use Rattle.sixel_words.proofs.words.parse_words.Goals.{In-Some}
 
--- the subcommand that was met is the one that the words name
+-- the subcommand that clap matched is the one that the arguments name
 met : (c : In-Some) → subcommand_of sixel_app (map string_bytes c.args.words.now)
     ≡ Some (c.in-Some.name.now, rows_of (found_of c.in-Some.found.now))
 met c =
@@ -23,7 +23,7 @@ met c =
     (rows_of (found_of c.in-Some.found.now))
     (name_rows _ ∙ sym c.in-Some.ensures.name) (sym c.in-Some.ensures.rows)
 
--- words that are taken are refused for want of memory alone
+-- if clap accepts the arguments, matching them fails only with OutOfMemory
 pub returns-in-Err-try_get_matches_from : goal.returns-in-Err-try_get_matches_from
 returns-in-Err-try_get_matches_from c =
     let words = map string_bytes c.args.words.now in
@@ -41,7 +41,7 @@ returns-in-Err-try_get_matches_from c =
       unhelped = λ taken. rw (memory taken) tt;
     }
 
--- the options of a task are refused for want of memory alone
+-- once the task is known, the rest of the request fails only with OutOfMemory
 pub returns-in-Some-task_of : goal.returns-in-Some-task_of
 returns-in-Some-task_of c =
     let result = c.request_of.result in
@@ -81,7 +81,7 @@ returns-in-Some c =
       unhelped = λ taken. c.without_task.ensures.unhelped;
     }
 
--- words that name no subcommand have no task
+-- arguments without a subcommand ask for no task
 pub returns : goal.returns
 returns c =
     let words = map string_bytes c.args.words.now in
