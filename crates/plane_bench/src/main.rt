@@ -1,4 +1,4 @@
-//! Times a run over all columns, and the search for a blank pixel in a full plane, on both planes of pixels.
+//! Times a run over all columns, and a search for a blank pixel in a full plane, on both kinds of planes.
 #![tactic(auto)]
 
 ghost use Rattle.std.specs.Prelude.{◌<◌};
@@ -15,7 +15,7 @@ const WHOLE_BANDS: u32 = 341;
 /// How often each plane is painted, and searched.
 const ROUNDS: u32 = 100;
 
-/// Paints a whole band, where the plane has it.
+/// Paints a whole band, if the plane has it.
 fn paint_band<P: Plane>(plane: &mut P, band: u32, register: u8)
     requires band { band < WHOLE_BANDS }
     requires register { register < 16 }
@@ -25,7 +25,7 @@ fn paint_band<P: Plane>(plane: &mut P, band: u32, register: u8)
     }
 }
 
-/// Paints the two rows of the last band, where the plane has them.
+/// Paints the two rows of the last band, if the plane has them.
 fn paint_last_band<P: Plane>(plane: &mut P) {
     if plane.width() >= SIDE && plane.height() >= SIDE {
         plane.paint_run(0, WHOLE_BANDS, SIDE, 3, 5);
@@ -40,7 +40,7 @@ fn paint_bands<P: Plane>(plane: &mut P, register: u8)
     }
 }
 
-/// The nanoseconds of one run over a whole band. Each round has another register, so that no round can be left out.
+/// The time of one run over a whole band, in nanoseconds. Each round has another register, so no round can be skipped.
 fn time_runs<P: Plane, R: CpuClock>(rt: &R, plane: &mut P) -> Result<u128, anyhow::Error> {
     paint_bands(plane, 0);
     let start = rt.thread_cpu_time()?;
@@ -51,8 +51,8 @@ fn time_runs<P: Plane, R: CpuClock>(rt: &R, plane: &mut P) -> Result<u128, anyho
     Ok(spent / (ROUNDS * WHOLE_BANDS) as u128)
 }
 
-/// The nanoseconds of one search in a full plane, and how many found nothing. What is painted again between
-/// two searches keeps them from being one.
+/// The time of one search in a full plane, in nanoseconds, and how many searches found nothing. Painting between two
+/// searches keeps the compiler from merging them.
 fn time_searches<P: Plane, R: CpuClock>(
     rt: &R,
     plane: &mut P,

@@ -1,13 +1,13 @@
-//! Feeds standard input to a reader and prints how many events it completed: the inner loop of every command, alone.
+//! Feeds standard input to a reader and prints how many events it completed: only the inner loop of every subcommand.
 #![tactic(auto)]
 
 use sixel_grammar::Reader;
 use std::io::Read;
 
-/// The bytes of one read.
+/// How many bytes one read takes at most.
 const PIECE: usize = 65_536;
 
-/// How many events the bytes complete, up to a fault.
+/// How many events the bytes complete, before a fault if there is one.
 fn count(reader: &mut Reader, piece: &[u8]) -> u64 {
     let mut events: u64 = 0;
     for byte in piece {

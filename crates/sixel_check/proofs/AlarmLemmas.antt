@@ -1,4 +1,4 @@
--- On findings that are no false alarm.
+-- Lemmas for findings that are no false alarm.
 use Rattle.std.proofs.Common.{◌≡◌, ◌<◌, ◌≤◌, inl, inr, ℕ, zero, suc, true, false, Some, None, List, [], ◌∷◌, length}
 use Rattle.std.proofs.Common.{take, refl, sym, ap, subst, ◌∙◌, arith}
 use Rattle.std.specs.Prelude.{slice_get, IfSome, IsFalse, IsSome, IsTrue}
@@ -21,7 +21,7 @@ use Rattle.sixel_check.proofs.WithinLemmas.{square_if}
 
 -- ---- prefixes of a list
 
--- an item of a prefix is that of the list
+-- an item of a prefix is the list's item at the same position
 pub taken_there : {X : Type 0} (k j : ℕ) (xs : List X) (x : X) → slice_get (take k xs) j ≡ Some x
     → (j < k) × (slice_get xs j ≡ Some x)
 taken_there zero j xs x h = cc
@@ -42,7 +42,7 @@ taken_twice (suc j) zero xs le = absurd (omega arith)
 taken_twice (suc j) (suc k) [] le = refl
 taken_twice (suc j) (suc k) (y ∷ ys) le = ap (λ (l : List _). y ∷ l) (taken_twice j k ys (omega arith))
 
--- ---- what the first broken rule leaves unbroken
+-- ---- what is unbroken up to the first broken rule
 
 -- up to the first broken rule, no rule of a smaller number is broken
 pub below_first : {registers n i : ℕ} {events : List Event} → IsFirstBroken registers events n i → (m k : ℕ) → m < n
@@ -52,13 +52,13 @@ below_first {registers} {n} {i} {events} f m k lt le = elim (eq-or-lt_of_le le) 
   | inr less ↦ f.none_earlier m k less
 ]
 
--- a rule that is broken nowhere here is not broken by the event
+-- a rule that isn't broken at the position isn't broken by the event there
 pub not_there : (registers m k : ℕ) (events : List Event) (e : Event)
     → ¬ HoldsAtPosition (Breaks registers m) events k → slice_get events k ≡ Some e
     → ¬ Breaks registers m (take k events) e
 not_there registers m k events e none here broken = none (record { item = e; here = here; holds = broken })
 
--- the events up to the first broken rule are plain, where it isn't one of these two
+-- the events up to the first broken rule are plain, if its number is above that of RepeatZero
 pub plain_up_to : {registers n i : ℕ} {events : List Event} → IsFirstBroken registers events n i → repeat_zero_rule < n
     → IsPlain (take (suc i) events)
 unfolding Breaks breaks_ratio breaks_repeat_zero

@@ -1,4 +1,4 @@
--- On the verdict on a whole list: a picture is portable, and a finding no false alarm.
+-- On the verdict on a whole list: its picture is portable, and its finding no false alarm.
 use Rattle.std.proofs.Common.{ℕ, List, IsTrue}
 use Rattle.sixel_grammar.specs.declared.command.Placed.{Placed}
 use Rattle.sixel_grammar.specs.Document.{AreWhole, events_of}
@@ -17,13 +17,13 @@ use Rattle.sixel_check.proofs.VerdictLemmas.{verdict_once}
 pub verdict_is_left : (n : ℕ) → VerdictIsLeft n
 verdict_is_left n placed p none is = ((none, is), λ v k. verdict_once n placed v (Portable p) k (none, is))
 
--- a verdict on a whole list answers portable pictures only
+-- a picture in a verdict on a whole list is portable
 pub verdict_everywhere : (n : ℕ) (placed : List Placed) (v : Verdict) → AreWhole (events_of placed)
     → IsVerdict n placed v → IsShownEverywhere n (events_of placed) v
 verdict_everywhere n placed (Portable p) whole k = rw k.1 (left_is_portable n (events_of placed) whole k.0)
 verdict_everywhere n placed (Broken f) whole k = tt
 
--- and so is each verdict on the events after which a checker stands
+-- the same for each verdict on the events that a checker has seen
 pub stands_everywhere : (others registers : ℕ) (checker : CheckerValue) (first seen : List Placed) (v : Verdict)
     → StandsAfter others checker first
     → IsTrue (is_whole first) → StandsAfter registers checker seen → IsVerdict registers seen v
@@ -31,7 +31,7 @@ pub stands_everywhere : (others registers : ℕ) (checker : CheckerValue) (first
 stands_everywhere others registers checker first seen v f whole s k =
     verdict_everywhere registers seen v (stands_whole _ _ checker first seen f whole s) k
 
--- nor is one of these a false alarm
+-- no verdict on the events that a checker has seen is a false alarm
 pub stands_truly : (others registers : ℕ) (checker : CheckerValue) (first seen : List Placed) (v : Verdict)
     → StandsAfter others checker first
     → IsTrue (is_whole first) → StandsAfter registers checker seen → IsVerdict registers seen v

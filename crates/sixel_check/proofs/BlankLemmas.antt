@@ -1,4 +1,4 @@
--- The first blank pixel of a grid that follows the events, and the registers of one without a blank pixel.
+-- The first blank pixel of a grid that the events leave, and the registers of a grid without a blank pixel.
 use Rattle.std.proofs.Common.{◌≡◌, Bool, not, ◌==◌, ℕ, zero, suc, ◌+◌, ◌*◌, ◌/◌, ◌%◌, ◌<◌, ◌≤◌, true, false, ◌&&◌, cond}
 use Rattle.std.proofs.Common.{Option, Some, None, List, length, get_or, map, nat_le, nat_lt, inl, inr, refl, sym, ap}
 use Rattle.std.proofs.Common.{ap₂, ◌∙◌, arith, subst}
@@ -24,9 +24,9 @@ use Rattle.sixel_check.specs.Judging.{IsDrawn, box_of}
 use Rattle.sixel_check.specs.Outside.{IsFirstIfAny}
 use Rattle.sixel_check.specs.Verdicts.{capped}
 
--- ---- places
+-- ---- indices
 
--- the first item that passes is at the place that is found
+-- the first item that passes is at the index that is found
 first_place : {A : Type 0} (p : A → Bool) (xs : List A) (d : A) (i : ℕ) → position_from p 0 xs ≡ Some i
     → (i < length xs) × (p (get_or xs i d) ≡ true) × ((k : ℕ) → k < i → p (get_or xs k d) ≡ false)
 first_place p xs d i h = split (nat_lt (position_or_len p xs) (length xs)) refl (position_from-zero p xs ∙ h)
@@ -42,7 +42,7 @@ first_place p xs d i h = split (nat_lt (position_or_len p xs) (length xs)) refl 
         (lt, passes_at_first p xs d lt, λ k low. fails_before_first p xs k d low)
     split false e h = cc
 
--- the column and the row of a place
+-- the column and the row of an index
 some_width : (w h i : ℕ) → i < w * h → 0 < w
 some_width zero h i lt = absurd (omega arith)
 some_width (suc w) h i lt = omega arith
@@ -54,7 +54,7 @@ placed w h i lt =
 
 -- ---- the first blank pixel of the box
 
--- the place of a pixel of the box
+-- the index of a pixel of the box is below the number of pixels
 in_box_place : (a : Attributes) (x y : ℕ) → is_in_box a x y ≡ true
     → (x < a.width) × (y < a.height) × (y * a.width + x < a.width * a.height)
 in_box_place a x y h =
@@ -63,13 +63,13 @@ in_box_place a x y h =
     let in_y : y < a.height = ltb-true y a.height parts.1 in
     (in_x, in_y, mul-add-lt y a.width x a.height in_y in_x)
 
--- the pixel at a place of the grid
+-- the pixel at an index of the grid
 pub cell_at : (s : Grid) (x y : ℕ) → y * s.width + x < length s.cells
     → cell s x y ≡ get_or s.cells (y * s.width + x) None
 unfolding cell
 cell_at s x y lt = ap option_flatten (slice_get-get_or s.cells (y * s.width + x) None lt)
 
--- where the pixel at this place has a register, an event paints it
+-- the pixel at this index has a register exactly if an event paints it
 painted_there : (s : Grid) (before : List Event) (x y : ℕ) → IsDrawn s before → x < s.width → y < s.height
     → is_none (get_or s.cells (y * s.width + x) None) ≡ not (is_covered before x y)
 painted_there s before x y d p q =
@@ -86,7 +86,7 @@ not_blank : (s : Grid) (before : List Event) (x y : ℕ) → IsDrawn s before �
 not_blank s before x y d p q has bare =
     both_ways (is_covered before x y) bare (not-false _ (sym (painted_there s before x y d p q) ∙ has))
 
--- a pixel that comes before another in row order has a lower place
+-- a pixel that comes before another in row order has a lower index
 place_before : (w u v x y : ℕ) → u < w → is_before u v x y ≡ true → v * w + u < y * w + x
 place_before w u v x y in_row h = elim (or_cases (nat_lt v y) ((v == y) && nat_lt u x) h) [
   | inl above ↦
@@ -101,7 +101,7 @@ place_before w u v x y in_row h = elim (or_cases (nat_lt v y) ((v == y) && nat_l
       omega arith
 ]
 
--- where no place is blank, each pixel of the box is painted
+-- if no index is blank, each pixel of the box is painted
 no_blank_place : (s : Grid) (before : List Event) → IsDrawn s before → position_from is_none 0 s.cells ≡ None
     → (x y : ℕ) → StaysBlank before (box_of s) x y → ⊥
 no_blank_place s before d none x y blank =
@@ -109,7 +109,7 @@ no_blank_place s before d none x y blank =
     not_blank s before x y d at.0 at.1
     (none_passes is_none 0 s.cells None none (y * s.width + x) (omega (arith, at.2, d.pixels))) blank.blank
 
--- the first blank place is that of the first point of the box that no event paints
+-- the first blank index is that of the first point of the box that no event paints
 blank_place : (s : Grid) (before : List Event) (i : ℕ) → IsDrawn s before → position_from is_none 0 s.cells ≡ Some i
     → (i % s.width < s.width) × (i / s.width < s.height)
     × IsFirstPoint (StaysBlank before (box_of s)) (i % s.width) (i / s.width)
@@ -162,7 +162,7 @@ pub length_drawn : (s : Grid) (before : List Event) (xs : List ℕ) → IsDrawn 
     → length xs ≡ s.width * s.height
 length_drawn s before xs d e = sym (length-map xs (λ r. Some r)) ∙ ap length e ∙ d.pixels
 
--- each is the one in which its pixel was painted last
+-- each of these is the register that painted its pixel last
 pub register_there : (s : Grid) (before : List Event) (xs : List ℕ) (i : ℕ) → IsDrawn s before
     → map (λ r. Some r) xs ≡ s.cells → i < length xs
     → register_at before (i % s.width) (i / s.width) ≡ Some (get_or xs i 0)
@@ -183,7 +183,7 @@ registers_drawn s before xs d e =
     ap (λ (o : Option ℕ). unwrap_or o 0)
     (sym (register_there s before xs i d e (omega (arith, length_drawn s before xs d e)))))
 
--- the picture that is left has the size of the grid and these registers
+-- the picture that the events leave has the size of the grid and these registers
 pub picture_drawn : (registers : ℕ) (s : Grid) (before : List Event) (xs : List ℕ) → IsDrawn s before
     → map Some xs ≡ s.cells
     → picture_left registers before ≡ picture_of_parts s.width s.height (palette_left registers before) xs

@@ -1,4 +1,4 @@
--- On the answer of a check of a source.
+-- Lemmas for the result of a check of a source.
 use Rattle.std.proofs.Common.{◌≡◌, ◌≢◌, ◌++◌, ◌∙◌, ℕ, List, Option, Some, None, ap, sym, subst, take, refl}
 use Rattle.std.specs.Prelude.{Err, IfErr, IfSome, Ok, OnOk, Result}
 use Rattle.std.specs.Io.KnownBytes.{Consumes, IsAtEnd}
@@ -37,7 +37,7 @@ read_grows registers (Some bytes) r is = λ e. absurd (other (sym is ∙ e))
 
 -- ---- the end of the bytes
 
--- what holds of the bytes before a piece of none holds of all
+-- if the last piece is empty, what holds of the bytes before it holds of all bytes
 pub told_all : (a b c : Option (List ℕ)) (prefix piece : List ℕ) (n : ℕ) (P : List ℕ → Type 0) → Consumes a b prefix
     → Consumes b c (take n piece) → n ≡ 0 → IsAtEnd c → P prefix → IfSome a P
 told_all a b c prefix piece n P before none zero end p =

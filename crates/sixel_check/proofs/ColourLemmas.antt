@@ -1,4 +1,4 @@
--- On the colours that definitions give on terminals, where no rule is broken.
+-- On the colours that definitions give on terminals, if no rule is broken.
 use Rattle.std.proofs.Common.{◌≡◌, ◌<◌, ◌≤◌, ℕ, Bool, true, false, cond, Option, Some, None, List, [], ◌∷◌, take, refl}
 use Rattle.std.proofs.Common.{ap, arith}
 use Rattle.std.specs.Prelude.{◌==◌, is_some, nat_le, unwrap_or, IfSome, IsFalse, IsSome}
@@ -66,7 +66,7 @@ define_if : (t : Display) (d : Definition) (b : Bool) → gives_colour d ≡ tru
 define_if t d true h = given_same t d h
 define_if t d false h = refl
 
--- on a terminal with enough registers a sound event defines the register where it names it, and gives the same colour
+-- on a terminal with enough registers a sound event defines the register that it names, and gives the same colour
 define_same : (t : Display) (n r : ℕ) → n ≤ registers_of t → (e : Event) → IsSound n e
     → defined_on t r e ≡ option_and_then colour_by (definition_where (λ q. q == r) e)
 unfolding breaks_colour_value
@@ -102,7 +102,7 @@ then_some_of : {A B : Type 0} (g : A → Option B) (o : Option A) (d : A) → o 
 then_some_of g None d h k = cc
 then_some_of g (Some a) d h k = k
 
--- a defined register has on each terminal with enough registers the colour of its last definition
+-- on each terminal with enough registers a defined register has the colour of its last definition
 pub map_defined : (t : Display) (n r : ℕ) (before : List Event) (d : Definition) → n ≤ registers_of t
     → AllByRecursion (IsSound n) before → definition_of before r ≡ Some d
     → colour_of before r ≡ Some (map_on t before r)

@@ -1,4 +1,4 @@
--- On the box, where no rule is broken: it stands before all data, and is covered.
+-- On the box, if no rule is broken: it comes before all data, and is covered.
 use Rattle.std.proofs.Common.{◌≡◌, ◌≤◌, ℕ, Bool, true, false, ◌&&◌, Option, Some, None, List, [], ◌∷◌, ◌++◌, length}
 use Rattle.std.proofs.Common.{take, refl, sym, ap, ◌∙◌, arith}
 use Rattle.std.specs.Prelude.{is_none, is_some, IsSome}
@@ -20,7 +20,7 @@ use Rattle.sixel_model.specs.RuleNumbers.{uncovered_rule}
 use Rattle.sixel_check.specs.Laws.{AllCovered, FilledFirst}
 use Rattle.sixel_check.proofs.OptionLemmas.{some_from}
 
--- a data command has a box
+-- at a data command there is a box
 pub box_at_data : (n : ℕ) (before : List Event) (e : Event) → Keeps n before e → is_data_command e ≡ true
     → IsSome (raster_before before)
 unfolding breaks_raster_first
@@ -38,7 +38,7 @@ pub one_box : (n : ℕ) (before : List Event) (e : Event) → Keeps n before e �
 unfolding breaks_raster_twice
 one_box n before e k h = no_second (raster_before before) (raster_of e) k.raster_twice h
 
--- a box that stands before a position stands before a later one
+-- if there is a box before a position, there is one before each later position
 pub box_later : (i j : ℕ) (events : List Event) → i ≤ j → IsSome (raster_before (take i events))
     → IsSome (raster_before (take j events))
 unfolding raster_before
@@ -72,12 +72,12 @@ whole_ends : (events : List Event) → AreWhole events → EndsIn events
 whole_ends (Start eight parameters ∷ more) h = ends_longer (Start eight parameters) more (rest_ends more h)
 whole_ends _ h = absurd h
 
--- an end has no raster attributes
+-- a finish adds no raster attributes
 box_before : (before : List Event) (eight : Bool)
     → raster_before (before ++ Finish eight ∷ []) ≡ raster_before before
 box_before before eight = raster_push before (Finish eight) ∙ option_or_none (raster_before before)
 
--- the end of a list in which no rule is broken keeps each rule
+-- the finish of a list in which no rule is broken keeps each rule
 keeps_end : (n : ℕ) (before : List Event) (eight : Bool) → BreaksNone n uncovered_rule (before ++ Finish eight ∷ [])
     → Keeps n before (Finish eight)
 keeps_end n before eight none =

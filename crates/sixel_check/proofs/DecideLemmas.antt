@@ -1,4 +1,4 @@
--- A list has some verdict: a rule is broken, or none is.
+-- A list has a verdict: a rule is broken, or none is.
 use Rattle.std.proofs.Common.{◌≡◌, ◌==◌, ◌<◌, ◌≤◌, ◌+◌, ◌*◌, ◌⊎◌, ℕ, zero, suc, Bool, true, false, nat_lt, inl, inr}
 use Rattle.std.proofs.Common.{Option, Some, None, List, length, take, refl, sym, ap, subst, ◌∙◌, arith}
 use Rattle.std.specs.Prelude.{IsSomeAnd, slice_get}
@@ -29,7 +29,7 @@ use Rattle.sixel_check.proofs.VerdictLemmas.{numbered}
 
 -- ---- the two rules on points
 
--- what holds where one test passes and the other fails
+-- P is decided, if it holds exactly when one test passes and the other fails
 unfoldable pub decided_by : (P : Type 0) (b c : Bool) → (b ≡ true → c ≡ false → P) → (P → b ≡ true) → (P → c ≡ false)
     → Decided P
 decided_by P true false make passes fails = inl (make refl refl)
@@ -66,7 +66,7 @@ blank_searchable before a = record {
   above = λ x y f. ltb-true y a.height (and_parts (nat_lt x a.width) (nat_lt y a.height) f.inside).1;
 }
 
--- the first point, of those that there are where there is a box
+-- there is a box and a point of it with P, and a first such point
 abbrev FirstOf : (Attributes → ℕ → ℕ → Type 0) → Option Attributes → Type 0
 FirstOf P o =
     ((x : ℕ) × (y : ℕ) × IsFirstPoint (λ x y. IsSomeAnd o (λ a. P a x y)) x y)
@@ -107,7 +107,7 @@ unfoldable pub uncovered_decided : (before : List Event) (e : Event) → Decided
 unfolding BreaksUncovered
 uncovered_decided before e = both_decided _ _ (decide_true (is_finish e)) (blank_somewhere before)
 
--- ---- the least rule of an event
+-- ---- the lowest-numbered rule that an event breaks
 
 unfoldable pub rule_decided : (registers n : ℕ) (before : List Event) (e : Event)
     → Decided (Breaks registers n before e)
@@ -115,7 +115,7 @@ rule_decided registers n before e =
     each_rule Decided registers n before e (λ le b. decide_true b) (λ le. outside_decided before e)
     (λ le. uncovered_decided before e) (inr (λ none. none))
 
--- each number up to the last is a rule's
+-- each number from 1 to the last is that of a rule
 rule_of : (n : ℕ) → 1 ≤ n → n ≤ last_rule → (r : Rule) × (number_of r ≡ n)
 rule_of zero some most = absurd (omega arith)
 rule_of (suc n) some most = (
@@ -143,7 +143,7 @@ pixel_of registers _ before e h = (None, refl)
 
 -- ---- the first event that breaks a rule
 
--- the least rule that is broken at position i
+-- the lowest-numbered rule that is broken at position i
 abbrev LeastAt : ℕ → List Event → ℕ → Type 0
 LeastAt registers events i = LeastBelow (λ n. HoldsAtPosition (Breaks registers n) events i) (suc last_rule)
 
@@ -204,7 +204,7 @@ place_of : (placed : List Placed) (i : ℕ) → i < length placed
 place_of placed i lt =
     let p = item_there placed i lt in (p.0.place, ap (option_map (λ (p : Placed). p.place)) p.1)
 
--- the first event that breaks a rule, or none does
+-- there is a first event that breaks a rule, or no event does
 unfoldable pub broken_or_none : (registers : ℕ) (events : List Event)
     → LeastBelow (LeastAt registers events) (length events) ⊎ BreaksNone registers last_rule events
 unfolding BreaksNone

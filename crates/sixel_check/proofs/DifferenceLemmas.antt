@@ -1,4 +1,4 @@
--- What a finding of the rules on pixels and on 8-bit controls names is a difference between terminals.
+-- A finding of the rules on pixels and on 8-bit controls names a difference between terminals.
 use Rattle.std.proofs.Common.{◌≡◌, ◌<◌, ◌≤◌, ◌+◌, ◌⊎◌, inl, inr, lit≤, ℕ, zero, suc, Bool, true, false, ◌&&◌, ◌||◌, not}
 use Rattle.std.proofs.Common.{Option, Some, None, List, [], ◌∷◌, length, take, refl, sym, ◌∙◌, arith}
 use Rattle.std.specs.Prelude.{nat_le, nat_lt, slice_get, IfSome, IsSome, IsSomeAnd, if◌then◌else◌}
@@ -79,7 +79,7 @@ touch_of t events before e x y ground some =
 
 -- ---- a box before each data command
 
--- before the first broken rule a data command has a box
+-- up to the first broken rule, a data command has a box before it
 box_up_to : {registers n i : ℕ} {events : List Event} → IsFirstBroken registers events n i → (j : ℕ) (e : Event)
     → raster_first_rule < n → j ≤ i → slice_get events j ≡ Some e → is_data_command e ≡ true
     → IsSome (raster_before (take j events))
@@ -93,7 +93,7 @@ box_up_to {registers} {n} {i} {events} f j e lt le here is_data =
     only_box true given back ends is h = let no : true ≡ false = rw is at h in cc
     only_box false given back ends is h = refl
 
--- ---- a pixel that stays uncovered
+-- ---- a pixel that stays unpainted
 
 data_no_finish : (e : Event) → is_data_command e ≡ true → is_finish e ≡ true → ⊥
 data_no_finish (Finish eight) h f = cc
@@ -109,7 +109,7 @@ covered_by i j events e x y lt here fell =
     (slice_get_within (take i events) j e there)
     (passes_there (λ earlier d. falls earlier d x y) (take i events) j e there ∙ rw prefix fell)
 
--- no event paints a pixel that stays uncovered, on a terminal that keeps its ground
+-- on a terminal that keeps its ground, no event paints a pixel that stays unpainted
 none_painted : (registers i j x y : ℕ) (t : Display) (events : List Event) (e d : Event) (a : Attributes)
     → AreWhole events → IsFirstBroken registers events uncovered_rule i → slice_get events i ≡ Some e
     → is_finish e ≡ true → StaysBlank (take i events) a x y → slice_get events j ≡ Some d
@@ -193,7 +193,7 @@ box_anywhere {registers} {i} {events} j d a f box there is_data (inr le) = box_u
 box_anywhere {registers} {i} {events} j d a f box there is_data (inl lt) =
     box_later i j events (omega (arith, lt)) (rw box refl)
 
--- no event paints a point outside the box on a terminal that clips to it
+-- on a terminal that clips to the box, no event paints a point outside it
 none_outside : (registers i j x y : ℕ) (t : Display) (events : List Event) (d : Event) (a : Attributes)
     → IsFirstBroken registers events outside_rule i → raster_before (take i events) ≡ Some a
     → is_in_box a x y ≡ false → t.choices.clips ≡ true → slice_get events j ≡ Some d
@@ -223,7 +223,7 @@ cut_off_by_some registers i x y events e a f here box out = record {
       (touch_of t events (take painted.0 events) (painted.1).item x y ground (painted.1).holds);
 }
 
--- ---- a control of 8 bits
+-- ---- an 8-bit control
 
 any_there : (f : Event → Bool) (events : List Event) (i : ℕ) (e : Event) → slice_get events i ≡ Some e → f e ≡ true
     → list_any f events ≡ true
@@ -236,7 +236,7 @@ none_seen : (t : Display) (events : List Event) (i : ℕ) (e : Event) → slice_
 unfolding is_seen_on
 none_seen t events i e here eight bits = rw (bits, any_there is_eight_bit events i e here eight) refl
 
--- where the first broken rule is the last one, and is broken at the end, no other is broken
+-- if the first broken rule is EightBit, at the finish, then no other rule is broken
 pub unbroken_but_last : {registers i : ℕ} (events : List Event) (e : Event) → AreWhole events
     → IsFirstBroken registers events eight_bit_rule i → slice_get events i ≡ Some e → is_finish e ≡ true
     → BreaksNone registers uncovered_rule events
@@ -275,7 +275,7 @@ unseen_by_some registers i events e whole f here eight = record {
     no_value true o is h = cc
     no_value false o is h = cc
 
--- ---- the box of a list whose first broken rule is past that on its size
+-- ---- the size of the box, if the first broken rule comes after BoxSize
 
 earliest_each : {X A : Type 0} (f : X → Option A) (P : A → Type 0) (xs : List X)
     → AllByRecursion (λ x. IfSome (f x) P) xs → IfSome (earliest f xs) P
@@ -302,14 +302,14 @@ pub box_sides : {registers n i : ℕ} {events : List Event} (a : Attributes) →
     → box_size_rule < n → raster_before (take i events) ≡ Some a → has_sides a ≡ true
 box_sides {i = i} a f lt box = prefix_sides i a f lt (omega arith) box
 
--- the box of a list whose last event breaks the last rule
+-- the box of a list whose last event breaks EightBit, its first broken rule, has sides in range
 pub box_of_prefix : (registers i : ℕ) (events : List Event) (a : Attributes)
     → IsFirstBroken registers events eight_bit_rule i → length events ≡ suc i → raster_before events ≡ Some a
     → has_sides a ≡ true
 box_of_prefix registers i events a f last box =
     prefix_sides (suc i) a f (lit≤ tt) (omega arith) (rw (sym last) (rw (take-length events) box))
 
--- a coordinate inside a box of such sides is far below the greatest
+-- a coordinate inside a box of such sides is far below the cap
 small : (x w : ℕ) → nat_lt x w ≡ true → is_side w ≡ true → capped x ≡ x
 small x w lt side =
     let below : x < w = ltb-true x w lt in
@@ -323,7 +323,7 @@ small_point a x y inside sides =
     let each = and_parts (is_side a.width) (is_side a.height) sides in
     (small x a.width at.0 each.0, small y a.height at.1 each.1)
 
--- a coordinate that was stopped below the greatest was not stopped
+-- a capped coordinate below the cap is the coordinate itself
 not_stopped : (x : ℕ) → capped x < greatest → capped x ≡ x
 not_stopped x lt = omega (arith, lt)
 
@@ -377,7 +377,7 @@ difference_of registers i events EightBit pixel whole f at =
     unseen_by_some registers i events at.item whole f at.here (eight_there at.item f at.here)
 difference_of registers i events _ pixel whole f at = tt
 
--- what is found in a whole list is true
+-- a finding on a whole list is a true alarm
 pub found_truly : (registers : ℕ) (placed : List Placed) (f : Finding) (i : ℕ) → AreWhole (events_of placed)
     → IsFinding registers placed f i → IsTrueAlarm registers (events_of placed) f.rule f.pixel i
 found_truly registers placed f i whole found =

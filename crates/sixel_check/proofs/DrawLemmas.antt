@@ -1,4 +1,4 @@
--- On what is drawn of an event that breaks no rule.
+-- On the drawing of an event that breaks no rule.
 use Rattle.std.proofs.Common.{not, ◌≡◌, ◌≢◌, ◌==◌, ◌&&◌, ◌+◌, ◌%◌, ℕ, ◌<◌, ◌≤◌, Bool, true, false, Option, Some, None}
 use Rattle.std.proofs.Common.{IsTrue, IsFalse, List, [], ◌∷◌, ◌++◌, arith, sym, ◌∙◌, ap, refl, ◌||◌}
 use Rattle.std.specs.Prelude.{IfSome, IsSome, is_none, nat_le, unwrap_or, if◌then◌else◌}
@@ -44,14 +44,14 @@ few_bits (Step (Sixel bits)) h = h
 few_bits (Step (Repeat count bits)) h = h
 few_bits _ h = omega arith
 
--- nothing falls outside the box of a grid
+-- no point of the event's run lies outside the box of the grid
 inside_alone : (s : Grid) (before : List Event) (e : Event) → IsDrawn s before → ¬ BreaksOutside before e
     → (x y : ℕ) → PaintsOutside (column 0 before) (columns_of 0 e) (band before) (bits_of e) s.width s.height x y → ⊥
 unfolding BreaksOutside falls touches
 inside_alone s before e d none x y p =
     none (rw d.box (x, y, record { painted = p.painted; outside = p.outside }))
 
--- the plane takes the run
+-- the plane can paint the run
 pub run_fits_in : {registers : ℕ} (n : DrawingState) (s : Grid) (before : List Event) (e : Event)
     → IsStateAfter registers n before → IsDrawn s before → BreaksNoRule registers before e → IsSpellable e
     → is_painting e ≡ true → RunFits n.column n.band (columns_of 0 e) (bits_of e) s.width s.height
@@ -68,7 +68,7 @@ run_fits_in n s before e a d none spellable paints =
     let band_same : n.band ≡ band before = a.band_is ∙ omega arith in
     rw (column_same, band_same) real
 
--- the grid with the run of a painting command
+-- the grid after a painting command
 pub drawn_paint : {registers : ℕ} (n : DrawingState) (s : Grid) (before : List Event) (e : Event) (r : ℕ)
     → IsStateAfter registers n before → IsDrawn s before → BreaksNoRule registers before e → IsSpellable e
     → is_painting e ≡ true → known_in n ≡ Some r
@@ -77,12 +77,12 @@ drawn_paint n s before e r a d none spellable paints is =
     drawn_capped s before e r n.column n.band (sym (known_is n before a) ∙ is) a.column_is a.band_is
     (run_fits_in n s before e a d none spellable paints) d
 
--- and without one
+-- the grid after an event that doesn't paint
 pub drawn_still : (s : Grid) (before : List Event) (e : Event) → is_painting e ≡ false → IsDrawn s before
     → IsDrawn s (before ++ e ∷ [])
 drawn_still s before e still d = drawn_idle s before e (eqb-true _ _ (not-false _ still)) d
 
--- a painting command has a known register
+-- at a painting command a register is known
 pub knows : {registers : ℕ} (n : DrawingState) (before : List Event) (e : Event) → IsStateAfter registers n before
     → BreaksNoRule registers before e → is_painting e ≡ true → known_in n ≡ None → ⊥
 unfolding breaks_unselected
@@ -95,7 +95,7 @@ knows n before e a none paints is =
 
 -- ---- the box
 
--- no box, and an event that makes none
+-- there is no box, and the event declares none
 pub undrawn_still : (registers : ℕ) (before : List Event) (e : Event) → BreaksNoRule registers before e
     → raster_of e ≡ None → IsUndrawn before → IsUndrawn (before ++ e ∷ [])
 unfolding breaks_raster_first
@@ -144,13 +144,13 @@ pub drawn_box : (registers : ℕ) (before : List Event) (e : Event) (w h : ℕ) 
 drawn_box registers before e w h none is u =
     let good = good_raster _ before e w h none is in drawn_first before e w h good.0 good.1 good.2 u
 
--- ---- the registers that are painted in
+-- ---- the registers that a command painted in
 
 pub some_stays : (o p : Option Definition) → IsSome p → IsSome (option_or o p)
 some_stays None p h = h
 some_stays (Some d) p h = refl
 
--- what paints a point has a set bit
+-- an event that paints a point has a set bit
 pub falls_paints : (before : List Event) (e : Event) (x y : ℕ) → falls before e x y ≡ true → is_painting e ≡ true
 falls_paints before e x y h = not_from_false _ (false_from_ne_true (bits_of e % 64 == 0) (λ is.
     let no : true ≡ false = sym h ∙ idle_falls before e x y (eqb-true (bits_of e % 64) 0 is) in cc))
@@ -176,7 +176,7 @@ coloured_push n before e a none c x y r is =
           (some_stays (definition_where (λ q. q == r) e) (definition_of before r) there.1),
     )
 
--- a run that fits begins at small numbers
+-- a run that fits has a column and a band below 2^32
 pub narrow : (column band count bits width height : ℕ) → IsTrue (is_side width) → IsTrue (is_side height)
     → RunFits column band count bits width height → (column < 4294967296) × (band < 4294967296)
 narrow column band count bits width height w h fits =

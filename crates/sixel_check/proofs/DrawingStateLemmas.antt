@@ -1,4 +1,4 @@
--- The drawing state after one event more.
+-- The drawing state after one more event.
 use Rattle.std.proofs.Common.{◌≡◌, ℕ, ◌+◌, ◌<◌, ◌≤◌, ◌==◌, ◌&&◌, ◌||◌, Bool, true, false, cond, Option, Some, None}
 use Rattle.std.proofs.Common.{IsTrue, IsFalse, List, [], ◌∷◌, ◌++◌, length, get_or, set, refl, sym, ap, ◌∙◌, subst}
 use Rattle.std.proofs.Common.{arith, replicate}
@@ -31,18 +31,18 @@ use Rattle.sixel_check.specs.DrawingState.{IsBelow, known_in, next_band, next_co
 use Rattle.sixel_check.specs.DrawingState.{next_palette, next_selected}
 use Rattle.sixel_check.specs.Verdicts.{capped}
 
--- an event that breaks no rule keeps each of those on what is drawn
+-- an event that breaks no rule keeps each rule up to Uncovered
 pub keeps : {registers : ℕ} (before : List Event) (e : Event) → BreaksNoRule registers before e
     → Keeps registers before e
 keeps {registers} before e none = none_keeps registers before e (λ n le. none n (omega (arith, le)))
 
--- and isn't of 8 bits
+-- and isn't an 8-bit control
 pub seven_bits : (registers : ℕ) (before : List Event) (e : Event) → BreaksNoRule registers before e
     → IsFalse (is_eight_bit e)
 unfolding Breaks breaks_eight_bit
 seven_bits registers before e none = is_false (is_eight_bit e) (none eight_bit_rule (omega arith))
 
--- a column that stops at the greatest
+-- a column that is capped at each step is the capped column
 stopped : (b : Bool) (c w : ℕ) → cond b 0 (capped (capped c + w)) ≡ capped (cond b 0 (c + w))
 stopped true c w = omega arith
 stopped false c w = omega arith
@@ -77,7 +77,7 @@ defined_good registers _ r h k = tt
 
 -- ---- the palette
 
--- a colour in range is a colour
+-- an optional colour in range is a colour
 pub given : (o : Option Parts) → option_map_or is_colour o false ≡ true
     → (c : Parts) × (o ≡ Some c) × (is_colour c ≡ true)
 given None h = cc
@@ -98,7 +98,7 @@ palette_push registers n before (Step (Define register system x y z)) s h k =
     ∙ left_define registers register system x y z found.0 before lt found.1)
 palette_push registers n before e s h k = s ∙ left_idle registers before e (λ r. refl)
 
--- ---- the registers that were painted in
+-- ---- the registers that a command painted in
 
 length_painted : (b : Bool) (o : Option ℕ) (xs : List Bool)
     → length (if b then option_map_or (λ r. set xs r true) o xs else xs) ≡ length xs
@@ -128,7 +128,7 @@ known_below (Some r) n m h = keep (is_that r n)
     keep true = h
     keep false = tt
 
--- the registers of a byte
+-- registers below the count fit a byte
 pub in_bytes : {registers : ℕ} (o : Option ℕ) → registers ≤ 256 → IfSome o (λ r. r < registers)
     → IfSome o (λ r. r < 256)
 in_bytes None few h = tt
@@ -159,7 +159,7 @@ state_start {registers} palette few h = record {
   painted_is = λ r lt. get_or-replicate 256 r false false (omega (arith, lt, few));
 }
 
--- the drawing state after one event more, which breaks no rule
+-- the drawing state after one more event, which breaks no rule
 pub state_push : {registers : ℕ} (n : DrawingState) (before : List Event) (e : Event) → IsStateAfter registers n before
     → BreaksNoRule registers before e
     → IsStateAfter registers (record {

@@ -1,4 +1,4 @@
--- How a grid follows the events.
+-- How a grid changes with the events.
 use Rattle.std.proofs.Common.{◌≡◌, ℕ, ◌%◌, ◌<◌, Bool, true, false, ◌||◌, Option, Some, None, List, [], ◌∷◌, ◌++◌, refl}
 use Rattle.std.proofs.Common.{sym, ap, ap₂, ◌∙◌}
 use Rattle.std.specs.Prelude.{IsTrue, is_some, if◌then◌else◌}
@@ -42,7 +42,7 @@ undrawn_idle before e none idle u = record {
   no_register = λ x y. idle_register before e x y idle ∙ u.no_register x y;
 }
 
--- neither raster attributes nor a data command
+-- after an event that is neither raster attributes nor a data command
 pub undrawn_push : (before : List Event) (e : Event) → raster_of e ≡ None → is_data_command e ≡ false → IsUndrawn before
     → IsUndrawn (before ++ e ∷ [])
 undrawn_push before e none no_data u =
@@ -50,7 +50,7 @@ undrawn_push before e none no_data u =
 
 -- ---- from the box on
 
--- the first raster attributes
+-- after the first raster attributes
 pub drawn_first : (before : List Event) (e : Event) (w h : ℕ)
     → raster_of e ≡ Some (record { pan = 1; pad = 1; width = w; height = h }) → IsTrue (is_side w) → IsTrue (is_side h)
     → IsUndrawn before → IsDrawn (blank_grid w h) (before ++ e ∷ [])
@@ -67,12 +67,12 @@ drawn_first before e w h is width height u =
       covered = λ x y p q. ap is_some (bare x y p q) ∙ sym (idle_covered before e x y idle ∙ u.uncovered x y);
     }
 
--- the box stays
+-- the box stays the same
 box_stays : (before : List Event) (e : Event) (a : Attributes) → raster_before before ≡ Some a
     → raster_before (before ++ e ∷ []) ≡ Some a
 box_stays before e a is = raster_push before e ∙ ap (λ (o : Option Attributes). option_or o (raster_of e)) is
 
--- an event without a set bit of the six leaves the grid as it is
+-- an event without a set bit of the six leaves the grid unchanged
 pub drawn_idle : (s : Grid) (before : List Event) (e : Event) → bits_of e % 64 ≡ 0 → IsDrawn s before
     → IsDrawn s (before ++ e ∷ [])
 drawn_idle s before e idle d = record {
@@ -110,7 +110,7 @@ register_covered s before e r x y is d p q =
     rw (register_push before e x y, covered_push before e x y)
     (known_or (falls before e x y) (is_covered before x y) (register_at before x y) (known before) r is had)
 
--- a command that paints in the known register
+-- the grid after a command that paints in the known register
 pub drawn_run : (s : Grid) (before : List Event) (e : Event) (r : ℕ) → known before ≡ Some r → IsDrawn s before
     → IsDrawn (painted_grid s (column 0 before) (band before) (columns_of 0 e) (bits_of e) r) (before ++ e ∷ [])
 unfolding painted_grid

@@ -1,4 +1,4 @@
--- In a document the coordinates of a finding are those of its pixel, as none is so large that it would be stopped.
+-- In a document the coordinates of a finding are exact: none is large enough to be capped.
 use Rattle.std.proofs.Common.{◌≡◌, ◌<◌, ◌≤◌, ◌+◌, ◌*◌, ◌==◌, lit≤, ℕ, suc, Bool, true, false, cond, Option, Some, List}
 use Rattle.std.proofs.Common.{[], ◌∷◌, ◌++◌, length, take, refl, ap, subst, ◌∙◌, arith}
 use Rattle.std.specs.Prelude.{slice_get, sum_by}
@@ -26,7 +26,7 @@ use Rattle.sixel_check.specs.Verdicts.{IsPixel, capped, greatest}
 use Rattle.sixel_check.proofs.DecideLemmas.{falls_left}
 use Rattle.sixel_check.proofs.DifferenceLemmas.{and_some}
 
--- ---- the events of a document are no more than its bytes, and none has more columns than its number says
+-- ---- a document has no more events than bytes, and an event at most 65,535 columns
 
 cond_small : (b : Bool) (n : ℕ) → n ≤ 65535 → cond b 0 n ≤ 65535
 cond_small true n h = omega arith
@@ -117,7 +117,7 @@ document_few placed bytes d =
     let whole : length bytes ≡ length (joined d.pieces ++ d.parses.after) = ap length d.parses.bytes_are in
     rw same (omega (arith, few, whole, length-append (joined d.pieces) d.parses.after, d.short))
 
--- a point that an event of a document paints is near
+-- a point that an event of a document paints has coordinates far below the cap
 near : (events : List Event) (i : ℕ) (e : Event) (x y : ℕ) → AllByRecursion (λ e. columns_of 0 e ≤ 65535) events
     → length events ≤ most_bytes → slice_get events i ≡ Some e → falls (take i events) e x y ≡ true
     → (x < greatest) × (y < greatest)

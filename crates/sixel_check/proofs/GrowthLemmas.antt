@@ -1,4 +1,4 @@
--- On raster attributes at which memory may be taken.
+-- On the raster attributes at which a checker may allocate.
 use Rattle.std.proofs.Common.{◌≡◌, ℕ, Option, Some, None, List, [], ◌∷◌, ◌++◌, length, refl, sym, ◌∙◌, ap, subst}
 use Rattle.std.proofs.Common.{append_assoc}
 use Rattle.std.specs.Prelude.{Result, Ok, Err, IfErr, IfSome, IsSome, OnErr}
@@ -31,7 +31,7 @@ use Rattle.sixel_check.specs.Standing.{CheckerValue, StandsAfter}
 use Rattle.sixel_check.proofs.JudgeLemmas.{events_push}
 use Rattle.sixel_check.proofs.DrawingStateLemmas.{keeps, seven_bits}
 
--- what a refusal says
+-- what holds always holds on a refusal
 pub err_says : {A E : Type 0} (P : Type 0) (r : Result A E) → P → OnErr r P
 err_says P (Ok x) h = tt
 err_says P (Err e) h = h
@@ -42,7 +42,7 @@ no_box : (o : Option Grid) (before : List Event) → o ≡ None → IsGridAfter 
 no_box None before e h = h
 no_box (Some s) before e h = cc
 
--- raster attributes that break no rule, where there is no grid yet
+-- the judge may allocate at raster attributes that break no rule, if there is no grid yet
 pub judge_grows : {registers : ℕ} (state : DrawingState) (grid : Option Grid) (before : List Event) (e : Event)
     → grid ≡ None → IsSome (raster_of e) → StandsUnbroken registers state grid before
     → BreaksNoRule registers before e → MayGrow registers before e
@@ -52,7 +52,7 @@ judge_grows {registers} state grid before e is declares s none = record {
   unbroken = none_push registers last_rule before e s.unbroken (keeps before e none) (seven_bits _ before e none);
 }
 
--- where a map gives something, there is something
+-- if a mapped option has a value, so has the option
 pub some_of_map : {X A : Type 0} (f : X → A) (o : Option X) (a : A) → option_map f o ≡ Some a → IsSome o
 some_of_map f None a e = cc
 some_of_map f (Some x) a e = refl
@@ -74,7 +74,7 @@ grows_before {registers} seen p g =
           (holds_within (MayGrow registers) (events_of seen) i g.1) g.1),
     )
 
--- the events may go on
+-- it stays so with more events
 pub grows_among : {registers : ℕ} (seen more : List Placed) → MayGrowAmong registers seen
     → MayGrowAmong registers (seen ++ more)
 grows_among {registers} seen [] g = subst (MayGrowAmong registers) (sym (append-nil seen)) g
@@ -89,7 +89,7 @@ grows_longer {registers} seen (Some p) g = grows_before seen p g
 
 -- ---- bytes
 
--- an event that is complete in a prefix is so in a longer one
+-- it stays so in a longer prefix
 pub growth_stays : {registers : ℕ} (prefix rest : List ℕ) (first second : List Placed) → CompleteIn first prefix
     → CompleteIn second (prefix ++ rest) → MayGrowAmong registers first → MayGrowAmong registers second
 growth_stays {registers} prefix rest first second c d g =
@@ -118,14 +118,14 @@ grows_on bytes more all is g = record {
   grows = g.grows;
 }
 
--- the bytes may go on
+-- it stays so with more bytes
 pub grows_for_on : (registers : ℕ) (fault : InputFault) (bytes more all : List ℕ) → all ≡ bytes ++ more
     → GrowsFor registers fault bytes → GrowsFor registers fault all
 grows_for_on registers (Grammar f) bytes more all is g = tt
 grows_for_on registers OutOfMemory bytes more all is g = grows_on bytes more all is g
 grows_for_on registers Read bytes more all is g = tt
 
--- the byte that completes such raster attributes
+-- a failed allocation at the events that a byte completes
 pub grows_byte : {registers : ℕ} (old new : Reader) (checker : CheckerValue) (c : Completed) (byte : ℕ)
     (prefix : List ℕ)
     → grammar.Takes old new byte (grammar.completions c)
@@ -146,7 +146,7 @@ grows_if (Err (Grammar f)) bytes g e = cc
 grows_if (Err OutOfMemory) bytes g e = g
 grows_if (Err Read) bytes g e = cc
 
--- of the bytes that a source tells
+-- for the bytes that a source gave
 pub grows_told : (registers : ℕ) (a b : Option (List ℕ)) (fault : InputFault) (xs : List ℕ) → Consumes a b xs
     → GrowsFor registers fault xs
     → IfSome a (λ bytes. (let r : Result Verdict InputFault = Err fault in r) ≡ Err OutOfMemory

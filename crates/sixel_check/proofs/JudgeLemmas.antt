@@ -1,4 +1,4 @@
--- What stands after one event more.
+-- What a judge knows after one more event.
 use Rattle.std.proofs.Common.{◌≡◌, ℕ, ◌<◌, true, false, Option, Some, None, List, [], ◌∷◌, ◌++◌, length, sym, ◌∙◌, ap}
 use Rattle.std.proofs.Common.{subst}
 use Rattle.std.specs.Prelude.{is_some, slice_get}
@@ -38,7 +38,7 @@ judge_start {registers} state a = record {
   coloured = λ x y r h. cc;
 }
 
--- a finding stays the first
+-- the first finding stays
 pub judge_broken : {registers : ℕ} (seen : List Placed) (p : Placed) (f : Finding)
     → (i : ℕ) × IsFinding registers seen f i → (i : ℕ) × IsFinding registers (seen ++ p ∷ []) f i
 judge_broken {registers} seen p f found =
@@ -56,7 +56,7 @@ judge_broken {registers} seen p f found =
       },
     )
 
--- the first finding
+-- an event breaks the first rule
 pub judge_finds : {registers : ℕ} (state : DrawingState) (grid : Option Grid) (seen : List Placed) (p : Placed)
     (b : Violation)
     → StandsUnbroken registers state grid (events_of seen) → IsViolation registers (events_of seen) p.event b
@@ -74,7 +74,7 @@ judge_finds {registers} state grid seen p b s violation = (
   },
 )
 
--- no finding, and an event that breaks no rule
+-- an event breaks no rule, and there was no finding
 pub judge_goes_on : {registers : ℕ} (state next : DrawingState) (grid drawn : Option Grid) (seen : List Placed)
     (p : Placed)
     → StandsUnbroken registers state grid (events_of seen) → BreaksNoRule registers (events_of seen) p.event
@@ -92,7 +92,7 @@ judge_goes_on {registers} state next grid drawn seen p s none a d =
       coloured = coloured_push state (events_of seen) p.event s.state_is none s.coloured;
     })
 
--- where there is a finding
+-- if there is a finding
 pub finding_stays : (registers : ℕ) (o : Option Finding) (state : DrawingState) (grid : Option Grid)
     (seen : List Placed)
     (p : Placed) → is_some o ≡ true → JudgesAfter registers o state grid seen
@@ -100,7 +100,7 @@ pub finding_stays : (registers : ℕ) (o : Option Finding) (state : DrawingState
 finding_stays registers (Some f) state grid seen p e j = judge_broken seen p f j
 finding_stays registers None state grid seen p e j = cc
 
--- where there is none
+-- if there is none
 pub unbroken_of : {registers : ℕ} (o : Option Finding) (state : DrawingState) (grid : Option Grid) (seen : List Placed)
     → is_some o ≡ false → JudgesAfter registers o state grid seen
     → StandsUnbroken registers state grid (events_of seen)

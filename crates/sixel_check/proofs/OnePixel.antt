@@ -1,4 +1,4 @@
--- One pixel, as a list in which no rule is broken.
+-- A list that breaks no rule: one pixel.
 use Rattle.std.proofs.Common.{◌≡◌, ◌⊎◌, inl, inr, Bool, true, false, refl}
 use Rattle.sixel_model.specs.Rules.{Breaks, BreaksNone, BreaksOutside, BreaksUncovered, breaks_box_size}
 use Rattle.sixel_model.specs.Rules.{breaks_eight_bit, breaks_colour_value, breaks_ratio, breaks_raster_first}
@@ -28,7 +28,7 @@ second_of : {A B : Type 0} (s : A ⊎ B) → is_second s ≡ true → B
 second_of (inl a) h = cc
 second_of (inr b) h = b
 
--- each rule is looked for at each event, by computing
+-- by computation, each rule is tested at each event
 unbroken : (profile : Profile) → BreaksNone (count_of profile) last_rule one_pixel
 unfolding decided_by falls_searchable blank_searchable first_of outside_first blank_first outside_decided
     blank_somewhere both_decided uncovered_decided rule_decided held_decided position_decided broken_decided

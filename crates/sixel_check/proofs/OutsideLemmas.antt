@@ -18,7 +18,7 @@ pub record IsCapped (column band left line width height : ℕ) : Type 0 where
   pub narrow : width < 4294967296
   pub low : height < 4294967296
 
--- no column of the row lies outside
+-- all columns of the row lie inside
 pub record Fits (left count row width height : ℕ) : Type 0 where
   pub within : left + count ≤ width
   pub above : row < height
@@ -29,11 +29,11 @@ fits_row column band left line width height count k c above within =
     let row : min (6 * band + k) 18446744073709551615 < height = above in
     record { within = omega arith; above = omega arith }
 
--- the columns of a row that has one outside: the row lies below the box, or the columns reach over its right edge
+-- the first column outside: the row lies below the box, or the columns reach over its right edge
 pub record IsFirstColumn (left count row width height x : ℕ) : Type 0 where
   pub is : ((height ≤ row) × (x ≡ left)) ⊎ ((row < height) × (width < left + count) × (x ≡ max left width))
 
--- the columns of a row, by the first of them that lies outside
+-- the first column outside is x; None if all lie inside
 abbrev IsColumnOf : ℕ → ℕ → ℕ → ℕ → ℕ → Option ℕ → Type 0
 IsColumnOf left count row width height None = (row < height) × (left + count ≤ width)
 IsColumnOf left count row width height (Some x) = IsFirstColumn left count row width height x
@@ -49,7 +49,7 @@ column_is left count row width height =
     by_tests false e true f = record { is = inr (leb-false height row e, ltb-true width (left + count) f, refl) }
     by_tests false e false f = (leb-false height row e, ltb-false width (left + count) f)
 
--- each set bit below n paints inside the box alone
+-- each set bit below n paints only inside the box
 pub record AllFit (n left count line bits width height : ℕ) : Type 0 where
   pub fits : (j : ℕ) → j < n → bit_at bits j ≡ 1 → Fits left count (6 * line + j) width height
 
@@ -64,14 +64,14 @@ all_fit n column band left line width height count bits c h = record {
       fits_row column band left line width height count j c none.0 none.1;
 }
 
--- a run that lies in the box in all six rows of its band paints inside it alone
+-- a run that lies in the box in all six rows of its band paints only inside it
 pub inside_fits : (column band left line width height count bits : ℕ) → IsCapped column band left line width height
     → column + count ≤ width → 6 * band + 6 ≤ height → AllFit 6 left count line bits width height
 inside_fits column band left line width height count bits c across down = record {
   fits = λ j lt set. record { within = omega arith; above = omega arith };
 }
 
--- where no bit is set
+-- a run without a set bit paints only inside
 pub no_bits_fit : (left count line bits width height : ℕ) → bits ≡ 0 → AllFit 6 left count line bits width height
 no_bits_fit left count line bits width height none = record {
   fits = λ j lt set.
@@ -79,7 +79,7 @@ no_bits_fit left count line bits width height none = record {
       cc;
 }
 
--- a point that lies under a bit whose row fits isn't outside
+-- a point under a bit whose row fits isn't outside
 not_outside : (left count row width height x y : ℕ) → Fits left count row width height → x < left + count → y ≡ row
     → (nat_lt x width && nat_lt y height) ≡ false → ⊥
 not_outside left count row width height x y f to at out =
@@ -89,14 +89,14 @@ not_outside left count row width height x y f to at out =
     and_from _ _ (lt-ltb x width (omega arith)) (lt-ltb y height (omega arith)) in
     cc
 
--- where each set bit fits, no point is painted outside
+-- if each set bit fits, no point is painted outside
 pub none_outside : (left count line bits width height : ℕ) → AllFit 6 left count line bits width height
     → (x y : ℕ) → PaintsOutside left count line bits width height x y → ⊥
 none_outside left count line bits width height fit x y p =
     let u = lies_under left count line bits x y p.painted in
     not_outside left count (6 * line + u.bit) width height x y (fit.fits u.bit u.below u.set) u.to u.row p.outside
 
--- the column before it is capped
+-- a computed column is the exact one, capped
 pub record IsColumnBefore (left count row width height c : ℕ) : Type 0 where
   pub x : ℕ
   pub first : IsFirstColumn left count row width height x
@@ -126,7 +126,7 @@ same_row : (column band left line width height k : ℕ) → IsCapped column band
     → capped (6 * band + k) ≡ capped (6 * line + k)
 same_row column band left line width height k w = omega arith
 
--- the first column of a row outside lies in the columns, and outside
+-- the first column outside is one of the run's columns, and lies outside
 first_is_outside : (left count row width height x : ℕ) → IsFirstColumn left count row width height x → 0 < count
     → (left ≤ x) × (x < left + count) × ((nat_lt x width && nat_lt row height) ≡ false)
 first_is_outside left count row width height x f some = elim f.is [
@@ -140,7 +140,7 @@ first_is_outside left count row width height x f some = elim f.is [
       (omega arith, omega arith, and_left (nat_lt x width) (nat_lt row height) (le-ltb x width (omega arith)))
 ]
 
--- and no column of the run before it lies outside
+-- no column of the run before it lies outside
 none_left_of : (left count row width height x u : ℕ) → IsFirstColumn left count row width height x → left ≤ u → u < x
     → (nat_lt u width && nat_lt row height) ≡ false → ⊥
 none_left_of left count row width height x u f from before out = elim f.is [
@@ -153,7 +153,7 @@ none_left_of left count row width height x u f from before out = elim f.is [
       cc
 ]
 
--- where each set bit below k fits, and bit k has a column outside, this is the first point
+-- if each set bit below k fits, and bit k has a first column outside, that is the first point
 first_point : (left count line bits width height k x : ℕ) → AllFit k left count line bits width height → k < 6
     → bit_at bits k ≡ 1 → 0 < count → IsFirstColumn left count (6 * line + k) width height x
     → IsFirstPoint (PaintsOutside left count line bits width height) x (6 * line + k)

@@ -1,4 +1,4 @@
--- On two given terminals, which show in other colours what a finding names.
+-- On two given terminals that show different colours at what a finding names.
 use Rattle.std.proofs.Common.{◌<◌, ℕ, Bool, true, false, Option, Some, None, List, refl, sym, ap, subst, ◌∙◌}
 use Rattle.std.specs.Prelude.{IsSomeAnd}
 use Rattle.sixel_grammar.specs.declared.command.Event.{Event}
@@ -17,7 +17,7 @@ use Rattle.sixel_check.specs.Differences.{EightBitDiffers, IsFound, OutsideDiffe
 use Rattle.sixel_check.specs.Verdicts.{greatest}
 use Rattle.sixel_check.proofs.DifferenceLemmas.{found_truly}
 
--- what is promised of the finding
+-- what we promise for the finding
 pub promised : (registers : ℕ) (placed : List Placed) (rule : Rule) (i : ℕ) (f : Finding)
     → IsFound registers placed rule i f
     → IsTrueAlarm registers (events_of placed) rule f.pixel i
@@ -31,7 +31,7 @@ uncovered_differs registers placed f i x y t u is pixel room also ground kept ot
     (promised registers placed Uncovered i f is) in
     other (sym (stays t room ground) ∙ same ∙ stays u also kept)
 
--- a terminal that clips or doesn't is in the class of the other
+-- with clipping or without, the terminal stays in the class
 clipping_class : {registers : ℕ} (b : Bool) (t : Display) → IsInClass registers t → IsInClass registers (clipping b t)
 clipping_class b t c = record {
   enough = c.enough;

@@ -17,7 +17,7 @@ use Rattle.sixel_check.specs.Judging.{IsStateAfter, IsDrawn, IsGridAfter, box_of
 use Rattle.sixel_check.specs.Outside.{IsFirstIfAny}
 use Rattle.sixel_check.proofs.ViolationLemmas.{IsLeast, IsLeastOf, least_rule, none_more}
 
--- a violation of a rule that looks at no pixel
+-- a violation of a rule that doesn't look at pixels
 pub violation_without_pixel : {registers : ℕ} (before : List Event) (e : Event) (rule : Rule)
     → IsLeast registers before e rule
     → IsViolation registers before e (record { rule = rule; pixel = None })
@@ -59,14 +59,14 @@ unfolding Breaks BreaksUncovered
 none_uncovered registers before e s d none first = none_more _ before e uncovered_rule none
     (λ broken. let point = rw d.box at broken.1 in first point.0 point.1 point.2)
 
--- an event that isn't the end leaves nothing uncovered
+-- an event that isn't the finish doesn't break Uncovered
 pub none_before_end : (registers : ℕ) (before : List Event) (e : Event) → is_finish e ≡ false
     → NoneBelow registers uncovered_rule before e → NoneBelow registers eight_bit_rule before e
 unfolding Breaks BreaksUncovered
 none_before_end registers before e goes_on none = none_more _ before e uncovered_rule none
     (λ broken. both_ways (is_finish e) goes_on broken.0)
 
--- without a box no pixel is looked at
+-- without a box, no rule on pixels is broken
 pub none_without_box : (registers : ℕ) (before : List Event) (e : Event) → raster_before before ≡ None
     → NoneBelow registers outside_rule before e → NoneBelow registers eight_bit_rule before e
 unfolding Breaks BreaksOutside BreaksUncovered
@@ -86,7 +86,7 @@ unfolding Breaks breaks_eight_bit
 none_eight_bit registers before e seven none = none_more _ before e eight_bit_rule none
     (λ broken. both_ways (is_eight_bit e) seven broken)
 
--- there is a grid exactly where there is a box
+-- there is a grid exactly if there is a box
 pub box_there : (grid : Option Grid) (before : List Event) → IsGridAfter grid before
     → is_some grid ≡ is_some (raster_before before)
 box_there None before u = ap is_some (sym u.no_box)
@@ -96,7 +96,7 @@ pub has_grid : {P : Type 0} (f : P → Grid) (o : Option P) → is_some o ≡ is
 has_grid f None = refl
 has_grid f (Some p) = refl
 
--- the rule that was found is the least of those that look at no pixel
+-- the rule that was found is the lowest-numbered broken one of those that don't look at pixels
 pub least_by_state : {registers : ℕ} (n : DrawingState) (grid : Option Grid) (before : List Event) (e : Event)
     (has_box : Bool)
     (o : Option Rule)

@@ -71,7 +71,7 @@ begun_split (Start eight parameters) xs e ys h =
     elim h [ inl begun ↦ steps_split xs e ys begun | inr whole ↦ rest_split xs e ys whole ]
 begun_split _ xs e ys h = elim h [ inl begun ↦ absurd begun | inr whole ↦ absurd whole ]
 
--- what follows in a prefix is expected
+-- the event that follows in a prefix is expected
 expected_next : (seen : List Placed) (e : Event) (ys : List Event) → ArePrefix (events_of seen ++ e ∷ ys)
     → IsTrue (expects seen e)
 expected_next [] e ys h = starts e ys (some_prefix (e ∷ ys) (λ n. cc) h)
@@ -97,7 +97,7 @@ may_come seen p rest prefix can = (
   writable_there seen p rest can,
 )
 
--- the events that a byte completes may come, in order
+-- the events that a byte completes may come next, in order
 may_complete : (seen : List Placed) (first second : Option Placed)
     → ArePrefix (events_of (seen ++ (option_to_list first ++ option_to_list second)))
     → CanWriteAll (seen ++ (option_to_list first ++ option_to_list second))
@@ -113,7 +113,7 @@ may_complete seen (Some p) (Some q) prefix can = (
       (subst CanWriteAll (sym (append_assoc seen (p ∷ []) (q ∷ []))) can),
 )
 
--- what a reader completes may come
+-- so may those that the reader completes
 pub read_may : (reader : Reader) (seen : List Placed) (c : Completed) (bytes : List ℕ)
     → grammar.StandsAfter reader (seen ++ grammar.completions c) bytes → MayComplete seen c
 read_may reader seen c bytes s =
@@ -126,7 +126,7 @@ any_step : (seen : List Placed) (c : Command) → IsTrue (expects seen (Step c))
 any_step [] c h d = h
 any_step (q ∷ qs) c h d = h
 
--- what stands before a stretch of sixels that were read
+-- before a stretch of sixels that were read, any command may come next
 pub stretch_may : (reader : Reader) (seen : List Placed) (place : ℕ) (bytes stretch : List ℕ) → 0 < length stretch
     → grammar.StandsAfter reader (seen ++ sixels_from place stretch) bytes → MayStep seen
 stretch_may reader seen place bytes [] some s = absurd (omega arith)
@@ -148,7 +148,7 @@ rest_of k xs = take (length xs - k) (drop k xs)
 rest_is : (k : ℕ) (xs : List ℕ) → rest_of k xs ≡ drop k xs
 rest_is k xs = take_past (length xs - k) (drop k xs) (omega (arith, length-drop k xs))
 
--- parts of a piece
+-- a part of a piece, and then the next part
 pub part_then : (prefix xs : List ℕ) (k n : ℕ) → (prefix ++ take k xs) ++ take n (rest_of k xs) ≡ prefix
     ++ take (k + n) xs
 part_then prefix xs k n =
@@ -165,7 +165,7 @@ split_part prefix xs k n =
     ∙ ap (λ (t : List ℕ). (prefix ++ take k xs) ++ t) (sym (take-append-drop n (rest_of k xs)))
     ∙ sym (append_assoc (prefix ++ take k xs) (take n (rest_of k xs)) (drop n (rest_of k xs)))
 
--- both stand after one byte more
+-- the reader and the checker after one more byte
 pub after_byte : {registers : ℕ} (old new : Reader) (kept more : CheckerValue) (c : Completed) (prefix : List ℕ)
     (byte : ℕ) → grammar.Takes old new byte (grammar.completions c)
     → ((seen : List Placed) → StandsAfter registers kept seen
@@ -177,19 +177,19 @@ after_byte old new kept more c prefix byte takes keeps a = record {
   checked = keeps a.events a.checked;
 }
 
--- a fault of whatever the bytes begin is one of the bytes
+-- a fault of all bytes with this prefix is a fault of the prefix
 pub explains_now : (fault : InputFault) (bytes : List ℕ) → ExplainsAlways fault bytes → Explains fault bytes
 explains_now (Grammar f) bytes h = subst (λ (t : List ℕ). IsFaultOf t f) (append-nil bytes) (h [])
 explains_now OutOfMemory bytes h = tt
 explains_now Read bytes h = tt
 
--- where no source is read, none fails
+-- without a source, no Read
 pub never_read : (fault : InputFault) (bytes : List ℕ) → ExplainsAlways fault bytes → fault ≡ Read → ⊥
 never_read (Grammar f) bytes h e = cc
 never_read OutOfMemory bytes h e = cc
 never_read Read bytes h e = h
 
--- a fault of the bytes is none of the source
+-- such a fault doesn't change the source's count of failures
 pub not_failed : (A : Type 0) (fault : InputFault) (bytes : List ℕ) (n : ℕ) → ExplainsAlways fault bytes
     → n ≡ failures_after {A = A} (Err fault) n
 not_failed A (Grammar f) bytes n h = refl

@@ -1,4 +1,4 @@
--- What the first point outside tells of a command: whether it breaks a rule, and that its run may be painted.
+-- The first point outside the box of a command: it says whether a rule is broken, and else the run may be painted.
 use Rattle.std.proofs.Common.{◌≡◌, ◌≢◌, ◌==◌, ℕ, ◌+◌, ◌*◌, ◌-◌, ◌^◌, ◌<◌, ◌≤◌, ◌&&◌, not, Option, Some, None, List, []}
 use Rattle.std.proofs.Common.{◌∷◌, ◌++◌, nat_lt, refl, min, ◌∙◌, arith}
 use Rattle.std.specs.Int.{bit_at}
@@ -19,7 +19,7 @@ use Rattle.sixel_check.proofs.DrawnLemmas.{drawn_run}
 
 -- ---- the first point, of a run and of a command
 
--- two facts of the same points have the same first point
+-- two equivalent properties of points have the same first point
 pub first_same : (P Q : ℕ → ℕ → Type 0) → ((x y : ℕ) → P x y → Q x y) → ((x y : ℕ) → Q x y → P x y)
     → (o : Option (ℕ × ℕ)) → IsFirstIfAny P o → IsFirstIfAny Q o
 first_same P Q to from None h = λ x y q. h x y (from x y q)
@@ -31,7 +31,7 @@ first_same P Q to from (Some pixel) h =
     } in
     (h.0, h.1, first', h.3)
 
--- a command paints what its run does
+-- a command paints the points of its run
 pub falls_first : (before : List Event) (e : Event) (a : Attributes) (o : Option (ℕ × ℕ))
     → IsFirstIfAny (PaintsOutside (column 0 before) (columns_of 0 e) (band before) (bits_of e) a.width a.height) o
     → IsFirstIfAny (FallsOutside before e a) o
@@ -42,9 +42,9 @@ falls_first before e a o h =
     (λ x y p. record { painted = p.painted; outside = p.outside })
     (λ x y p. record { painted = p.painted; outside = p.outside }) o h
 
--- ---- a run that paints inside the box alone
+-- ---- a run that paints only inside the box
 
--- a plane of this size takes the run
+-- a plane of this size can paint the run
 pub record RunFits (column band count bits width height : ℕ) : Type 0 where
   pub columns : column + count ≤ width
   pub rows : (k : ℕ) → k < 6 → bit_at bits k ≡ 1 → 6 * band + k < height
@@ -66,7 +66,7 @@ run_inside column band count bits width height k x none six set from to =
     let parts = and_parts (nat_lt x width) (nat_lt (6 * band + k) height) inside in
     (ltb-true x width parts.0, ltb-true (6 * band + k) height parts.1)
 
--- a run with a set bit that paints no point outside
+-- a run with a set bit that paints no point outside fits
 pub run_fits : (column band count bits width height : ℕ)
     → ((u v : ℕ) → PaintsOutside column count band bits width height u v → ⊥)
     → 0 < count → bits ≤ 63 → bits ≢ 0 → RunFits column band count bits width height
@@ -85,14 +85,14 @@ run_fits column band count bits width height none some spellable painting =
       low = omega arith;
     }
 
--- a number that the cap leaves alone
+-- a number below the cap isn't capped
 pub uncapped : (n m : ℕ) → n ≡ capped m → n < 2 ^ 64 - 1 → n ≡ m
 uncapped n m is lt =
     let same : n ≡ min m 18446744073709551615 = is in
     let below : n < 18446744073709551615 = lt in
     omega arith
 
--- a command whose run is painted from a capped column on, in a capped band
+-- the grid after a command whose run is painted from a capped column on, in a capped band
 pub drawn_capped : (s : Grid) (before : List Event) (e : Event) (r left line : ℕ) → known before ≡ Some r
     → left ≡ capped (column 0 before) → line ≡ capped (band before)
     → RunFits left line (columns_of 0 e) (bits_of e) s.width s.height → IsDrawn s before

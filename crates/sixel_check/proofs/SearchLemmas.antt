@@ -1,11 +1,11 @@
--- The least number and the first point of which something holds, where they can be looked at one by one.
+-- The least number and the first point with a property, if each can be tested.
 use Rattle.std.proofs.Common.{◌≡◌, ◌==◌, ◌<◌, ◌⊎◌, ℕ, zero, suc, Bool, true, false, nat_lt, inl, inr, refl, subst}
 use Rattle.std.proofs.Common.{arith}
 use Rattle.std.specs.Prelude.{IsTrue}
 use Rattle.std.proofs.lemmas.Bool.{and_parts, eqb-false, eqb-true, ltb-true, or_cases}
 use Rattle.sixel_model.specs.Rules.{IsFirstPoint, is_before}
 
--- ---- the least of numbers that are looked at one by one
+-- ---- the least number
 
 -- P holds, or it doesn't
 abbrev pub Decided : Type 0 → Type 0
@@ -15,7 +15,7 @@ unfoldable pub decide_true : (b : Bool) → Decided (IsTrue b)
 decide_true true = inl refl
 decide_true false = inr (λ h. cc)
 
--- a number below k of which P holds, and of none below it
+-- the least number with P, below k
 pub record LeastBelow (P : ℕ → Type 0) (k : ℕ) : Type 0 where
   pub number : ℕ
   pub below : number < k
@@ -48,7 +48,7 @@ least_below P decide (suc k) = least_more P k (decide k) (least_below P decide k
 
 -- ---- the first point
 
--- points of which P holds can be looked for, one by one: in so many columns and rows
+-- the points with P lie in this many columns and rows, and each can be tested
 pub record Searchable (P : ℕ → ℕ → Type 0) : Type 0 where
   pub width : ℕ
   pub height : ℕ

@@ -1,4 +1,4 @@
--- On what terminals show, where no rule is broken: the picture that is left.
+-- What terminals show, if no rule is broken: the picture that the events leave.
 use Rattle.std.proofs.Common.{◌≡◌, ◌<◌, ◌≤◌, ◌+◌, ◌*◌, ℕ, suc, Bool, true, false, cond, Option, Some, None, List, []}
 use Rattle.std.proofs.Common.{◌∷◌, length, take, refl, sym, ap, ◌∙◌, arith}
 use Rattle.std.specs.Prelude.{if◌then◌else◌, slice_get, slice_index_or, unwrap_or, IsFalse, IsSome}
@@ -39,17 +39,17 @@ use Rattle.sixel_check.proofs.WithinLemmas.{data_kept, either_true, none_painted
 
 -- ---- the last painting of a pixel
 
--- a command that paints a point knows its register
+-- at a command that paints a point, a register is known
 falls_known : (n : ℕ) (before : List Event) (e : Event) (x y : ℕ) → Keeps n before e → falls before e x y ≡ true
     → IsSome (known before)
 unfolding breaks_unselected
 falls_known n before e x y k h = some_from (known before) (rw (falls_paints before e x y h) at k.unselected)
 
--- what is known where an event paints the point
+-- the known register, if the event paints the point
 abbrev known_where : ℕ → ℕ → List Event → Event → Option (Option ℕ)
 known_where x y before e = if falls before e x y then Some (known before) else None
 
--- the last event that paints the point, and what it knows
+-- the last event that paints the point, and the known register there
 record IsLastPainting (events : List Event) (x y : ℕ) (o : Option ℕ) : Type 0 where
   pub at : ℕ
   pub event : Event
@@ -124,7 +124,7 @@ falls_data : (before : List Event) (e : Event) (x y : ℕ) → falls before e x 
 unfolding falls
 falls_data before e x y h = touches_data 0 1 before e x y h
 
--- the box stands before what paints a point
+-- there is a box before the last event that paints the point
 box_at_painting : (n : ℕ) (events : List Event) (x y r : ℕ) → BreaksNone n uncovered_rule events
     → (p : IsLastPainting events x y (Some r))
     → IsSome (raster_before (take p.at events))
@@ -132,7 +132,7 @@ box_at_painting n events x y r none p =
     box_at_data n (take p.at events) p.event (keeps_at n events none p.at p.event p.here)
     (falls_data (take p.at events) p.event x y p.fell)
 
--- the last painting of a pixel is in its register
+-- on a terminal, the last painting of a pixel is in the known register
 paint_last : (n : ℕ) (t : Display) (events : List Event) (x y r : ℕ) → BreaksNone n uncovered_rule events
     → n ≤ registers_of t
     → (p : IsLastPainting events x y (Some r)) → paint_at t (take p.at events) p.event x y ≡ Some r
@@ -166,12 +166,12 @@ colour_either : (n : ℕ) (t : Display) (events : List Event) (i r : ℕ) (b : B
 colour_either n t events i r true h = h.at_showing
 colour_either n t events i r false h = h.at_painting
 
--- where the terminal sees the string, each event paints what it says
+-- if the terminal sees the string, each event paints what it says
 in_seen : (t : Display) (events before : List Event) (e : Event) (x y : ℕ) → is_seen_on t events ≡ true
     → paints_in t events before e x y ≡ paints_on t before e x y
 in_seen t events before e x y seen = rw seen refl
 
--- what is inked at the last painting, and after it
+-- the ink of the pixel at the last painting, and after it
 inked_at : (n : ℕ) (t : Display) (events : List Event) (x y r : ℕ) → BreaksNone n uncovered_rule events
     → is_seen_on t events ≡ true → n ≤ registers_of t
     → (p : IsLastPainting events x y (Some r))
@@ -194,7 +194,7 @@ inked_at n t events x y r none seen enough p =
           ∙ at_origin t (take j events) (e.0) x y ∙ paint_after n t events x y r none p j (e.0) lt (e.1));
     }
 
--- a terminal that sees the string shows the colour of the register that is left at the pixel
+-- a terminal that sees the string shows the colour of the register that painted the pixel last
 shown_is : (n : ℕ) (t : Display) (events : List Event) (x y r : ℕ) → BreaksNone n uncovered_rule events
     → is_seen_on t events ≡ true → n ≤ registers_of t
     → register_at events x y ≡ Some r
@@ -211,7 +211,7 @@ shown_is n t events x y r none seen enough found =
     ∙ sym (ap (λ (o : Option Parts). Some (unwrap_or o (slice_index_or t.screen
     ((t.choices.origin_y + y) * t.choices.screen_width + (t.choices.origin_x + x)) (Rgb 0 0 0)))) last)
 
--- ---- the picture that is left
+-- ---- the picture that the events leave
 
 register_left : (n : ℕ) (events : List Event) (a : Attributes) (x y r : ℕ) → raster_before events ≡ Some a → x < a.width
     → y < a.height → register_at events x y ≡ Some r → register_of (picture_left n events) x y ≡ r
@@ -242,7 +242,7 @@ none_of_each : (f : Event → Bool) (events : List Event)
 none_of_each f [] h = refl
 none_of_each f (e ∷ es) h = rw (h 0 e refl) (none_of_each f es (λ i d here. h (suc i) d here))
 
--- where no rule is broken each terminal sees the string
+-- if no rule is broken, each terminal sees the string
 seen_everywhere : (n : ℕ) (t : Display) (events : List Event) → BreaksNone n last_rule events
     → is_seen_on t events ≡ true
 unfolding is_seen_on

@@ -21,7 +21,7 @@ use Rattle.sixel_check.specs.Standing.{CheckerValue, StandsAfter, expects, expec
 use Rattle.sixel_check.specs.Standing.{is_whole_at, progress_of, progress_with}
 use Rattle.sixel_check.proofs.JudgeLemmas.{events_push}
 
--- ---- the shape of what was seen
+-- ---- the shape of the events
 
 pub steps_go_on : (events : List Event) → AreSteps events → list_any is_finish events ≡ false
 steps_go_on [] m = refl
@@ -37,12 +37,12 @@ rest_ends (Step command ∷ more) m = rest_ends more m
 rest_ends (Finish eight ∷ more) m = refl
 rest_ends _ m = absurd m
 
--- a whole list has its end
+-- a whole list has a finish
 pub whole_ended : (events : List Event) → AreWhole events → list_any is_finish events ≡ true
 whole_ended (Start eight parameters ∷ more) m = rest_ends more m
 whole_ended _ m = absurd m
 
--- a prefix in which the end came is whole
+-- a prefix with a finish is whole
 pub prefix_whole : (events : List Event) → ArePrefix events → list_any is_finish events ≡ true → AreWhole events
 prefix_whole events m h =
     elim m [
@@ -66,7 +66,7 @@ begun_push : (events : List Event) (e : Event) → AreBegun events → is_start 
 begun_push (Start eight parameters ∷ more) e m s = steps_push more e m s
 begun_push _ e m s = absurd m
 
--- an expected event goes on with the prefix
+-- a prefix with one more expected event is a prefix
 prefix_push : (events : List Event) (e : Event) → ArePrefix events → list_any is_finish events ≡ false
     → is_start e ≡ false → (events ≡ [] → ⊥) → ArePrefix (events ++ e ∷ [])
 prefix_push events e m h s some =
@@ -82,7 +82,7 @@ prefix_first : (e : Event) → is_start e ≡ true → ArePrefix (e ∷ [])
 prefix_first (Start eight parameters) h = inr (inl tt)
 prefix_first _ h = cc
 
--- ---- one event more
+-- ---- one more event
 
 pub whole_events : (seen : List Placed) → list_any is_finish (events_of seen) ≡ is_whole seen
 whole_events [] = refl
@@ -96,7 +96,7 @@ prefix_next (q ∷ qs) p prefix h =
     prefix_push (events_of (q ∷ qs)) p.event prefix (whole_events (q ∷ qs) ∙ not-true (is_whole (q ∷ qs)) parts.0)
     (not-true (is_start p.event) parts.1) (λ e. cc)
 
--- ---- how far the events have come
+-- ---- the progress
 
 expects_two : (b : Bool) (e : Event) → expects_from (if b then Whole else Begun) e ≡ (not b && not (is_start e))
 expects_two true e = refl
@@ -126,7 +126,7 @@ progress_push (q ∷ qs) p h =
     let parts = and_parts (not (is_whole (q ∷ qs))) (not (is_start p.event)) h in
     ap (λ (b : Bool). if b then Whole else Begun) (whole_push (q ∷ qs) p (not-true (is_whole (q ∷ qs)) parts.0))
 
--- ---- where a checker stands
+-- ---- what a checker has seen
 
 pub stands_none : (registers : ℕ) (checker : CheckerValue)
     → JudgesAfter registers checker.finding checker.state checker.grid [] → checker.progress ≡ Fresh
@@ -134,7 +134,7 @@ pub stands_none : (registers : ℕ) (checker : CheckerValue)
 unfolding StandsAfter
 stands_none registers checker judges fresh = (judges, fresh, inl refl, tt)
 
--- what its parts say
+-- its parts are those of a judge
 pub judges_inside : (registers : ℕ) (inside checker : CheckerValue) (seen : List Placed) → inside ≡ checker
     → StandsAfter registers checker seen → JudgesAfter registers inside.finding inside.state inside.grid seen
 unfolding StandsAfter
@@ -151,7 +151,7 @@ pub stands_whole_at : (registers : ℕ) (checker : CheckerValue) (seen : List Pl
 unfolding StandsAfter
 stands_whole_at registers checker seen s = ap is_whole_at s.1 ∙ whole_of seen
 
--- after one expected event more
+-- after one more expected event
 pub stands_push : (others registers : ℕ) (old new : CheckerValue) (first seen : List Placed) (p : Placed)
     → StandsAfter others old first → IsTrue (expects first p.event) → IsSpellable p.event
     → StandsAfter registers old seen → JudgesAfter registers new.finding new.state new.grid (seen ++ p ∷ [])
@@ -167,7 +167,7 @@ stands_push others registers old new first seen p f expected spellable s judges 
           (all-append IsSpellable (events_of seen) (p.event ∷ []) s.3 (spellable, tt)),
     )
 
--- where the end came, the events are whole
+-- if the finish has come, the events are whole
 pub stands_whole : (others registers : ℕ) (checker : CheckerValue) (first seen : List Placed)
     → StandsAfter others checker first
     → IsTrue (is_whole first) → StandsAfter registers checker seen → AreWhole (events_of seen)

@@ -1,4 +1,4 @@
--- On registers that were painted in: where no rule is broken, they keep their colours.
+-- On registers that a command painted in: if no rule is broken, they keep their colours.
 use Rattle.std.proofs.Common.{◌≡◌, ◌<◌, ◌≤◌, ◌+◌, ◌-◌, ℕ, zero, suc, Bool, true, false, ◌&&◌, cond, not, Some, None}
 use Rattle.std.proofs.Common.{List, [], ◌∷◌, ◌++◌, length, take, refl, ap, ◌∙◌, arith, add-zero, add-suc}
 use Rattle.std.specs.Prelude.{◌==◌, slice_get, IsFalse, IsSome}
@@ -26,7 +26,7 @@ use Rattle.sixel_check.specs.Laws.{PaintedColourIsLeft}
 use Rattle.sixel_check.proofs.ColourLemmas.{IsSound, each_sound, known_in_range, made, map_defined}
 use Rattle.sixel_check.proofs.OptionLemmas.{some_from, some_value}
 
--- ---- a definition of a register that was painted in
+-- ---- a definition of a register that a command painted in
 
 same_definition : (d e : Definition) → is_same_definition d e ≡ true → e ≡ d
 same_definition d e h =
@@ -56,7 +56,7 @@ redefine_step before q r s x y z d true same kept defined painted =
     let alike : not (is_same_definition d (made s x y z)) ≡ false = rw (painted_q, at_q) at kept in
     ap Some (same_definition d (made s x y z) (not-false _ alike))
 
--- one event more leaves the definition of a register that was painted in
+-- one more event doesn't change the definition of a register that a command painted in
 steady_step : (n r : ℕ) (before : List Event) (x : Event) (d : Definition) → Keeps n before x
     → definition_of before r ≡ Some d → is_painted_in before r ≡ true
     → option_or (definition_where (λ q. q == r) x) (definition_of before r) ≡ Some d
@@ -64,7 +64,7 @@ steady_step n r before (Step (Define q s x y z)) d k defined painted =
     redefine_step before q r s x y z d (q == r) (eqb-true q r) k.redefined defined painted
 steady_step n r before _ d k defined painted = defined
 
--- the last definition of the register, which was painted in
+-- a command painted in the register, and this is its last definition
 pub record IsSteady (r : ℕ) (d : Definition) (before : List Event) : Type 0 where
   pub defined : definition_of before r ≡ Some d
   pub painted : is_painted_in before r ≡ true
@@ -76,7 +76,7 @@ steady_push n r before x d k s = record {
   painted = painted_in_push before x r ∙ or_right (is_painting x && is_that r (known before)) _ s.painted;
 }
 
--- and so on, up to any later position
+-- the same up to any later position
 steady_on : (n r : ℕ) (events : List Event) (d : Definition) → BreaksNone n uncovered_rule events → (i k : ℕ)
     → i + k ≤ length events
     → IsSteady r d (take i events) → IsSteady r d (take (i + k) events)
@@ -91,7 +91,7 @@ steady_on n r events d none i (suc k) le s =
 
 -- ---- from a painting on
 
--- the register in which a command paints has a definition
+-- the register that a command paints in has a definition
 pub defined_there : (n r : ℕ) (before : List Event) (e : Event) → Keeps n before e → is_painting e ≡ true
     → known before ≡ Some r → IsSome (definition_of before r)
 unfolding breaks_undefined
@@ -110,7 +110,7 @@ steady_start r before e d p h defined = record {
   painted = painted_in_push before e r ∙ rw (p, h, eq-eqb r r refl) refl;
 }
 
--- what a command paints in stays as it is defined, to the end
+-- the definition of a register that a command paints in stays the same to the end
 pub steady_end : (n r i : ℕ) (events : List Event) (e : Event) (d : Definition) → BreaksNone n uncovered_rule events
     → slice_get events i ≡ Some e → is_painting e ≡ true → known (take i events) ≡ Some r
     → definition_of (take i events) r ≡ Some d → IsSteady r d events

@@ -51,7 +51,7 @@ use Rattle.sixel_check.proofs.PixelLemmas as pixels
 use Rattle.sixel_check.proofs.RunLemmas.{falls_first}
 use Rattle.sixel_check.proofs.StandLemmas.{prefix_next, progress_push, whole_push}
 
--- ---- one sixel of a register that was painted in, inside the box
+-- ---- one sixel inside the box, in a register that a command painted in before
 
 abbrev sixel : ℕ → Event
 sixel bits = Step (Sixel bits)
@@ -110,7 +110,7 @@ marks_stay n r true known =
     ap (λ (o : Option ℕ). option_map_or (λ q. set n.painted q true) o n.painted) known.known
     ∙ set_there n.painted r known.painted
 
--- the drawing state moves by a column
+-- the drawing state moves by one column
 sixel_by_state : {registers : ℕ} (n : DrawingState) (s : Grid) (before : List Event) (bits r : ℕ) → IsPaintedIn n r
     → Fits n 1 s
     → IsStateAfter registers n before → IsDrawn s before
@@ -126,7 +126,7 @@ sixel_by_state {registers} n s before bits r known fits a d =
     (before ++ e ∷ [])) marks
     (state_push n before e a (sixel_breaks_none n s before bits r known fits a d)))
 
--- grids of the same pixels are drawn by the same events
+-- grids with the same pixels are drawn by the same events
 drawn_same : (s t : Grid) (before : List Event) → t.width ≡ s.width → t.height ≡ s.height
     → length t.cells ≡ t.width * t.height
     → ((x y : ℕ) → x < s.width → y < s.height → cell t x y ≡ cell s x y) → IsDrawn s before → IsDrawn t before
@@ -143,7 +143,7 @@ drawn_same s t before wide high long same d = record {
       ∙ d.covered x y (rw wide at inside_x) (rw high at inside_y);
 }
 
--- the grid after a column more of a stretch
+-- the grid after one more column of a stretch
 sixel_drawn : {registers : ℕ} (n : DrawingState) (s : Grid) (before : List Event) (f : ℕ → ℕ) (left line k r : ℕ)
     → f k ≤ 63 → 0 < s.width → n.column ≡ left + k → n.band ≡ line → IsPaintedIn n r
     → Fits n 1 (stretched_grid s left line k f r)
@@ -173,7 +173,7 @@ sixel_drawn n s before f left line k r few some at_column at_band known fits a d
     stretched_blank s left line k f r x y none (rw wide at inside_x) (rw high at inside_y))
     (drawn_still t before e idle d)
 
--- ---- so many of them
+-- ---- k of them
 
 sixels_more : (place at k : ℕ) (bytes : List ℕ) → at ≡ place + k → k < length bytes
     → sixels_from place (take k bytes) ++ record { place = at; event = Step (Sixel (get_or bytes k 0 - 63)) } ∷ []
@@ -199,7 +199,7 @@ few_bits b is =
     let parts = and_parts (nat_le 63 b) (nat_le b 126) is in
     omega (arith, leb-true b 126 parts.1)
 
--- what stands after k of a stretch of sixels
+-- the state after k sixels of a stretch
 pub stretch_stands : {registers : ℕ} (n : DrawingState) (s : Grid) (seen : List Placed) (place count r : ℕ)
     (bytes : List ℕ)
     → count ≤ length bytes → ((k : ℕ) → k < count → is_data (get_or bytes k 0) ≡ true) → IsPaintedIn n r
@@ -254,7 +254,7 @@ stretch_stands {registers} n s seen place count r bytes long each known fits u (
     (subst (λ (j : ℕ). StandsUnbroken registers (moved_by 1 m) (Some (stretched_grid s n.column n.band j f r))
     (events_of (before ++ p ∷ []))) next after))
 
--- ---- sixels without a bit, wherever they lie
+-- ---- sixels without a set bit, wherever they lie
 
 -- one breaks no rule
 blank_breaks_none : {registers : ℕ} (n : DrawingState) (s : Grid) (before : List Event)
@@ -273,7 +273,7 @@ blank_breaks_none {registers} n s before a d =
 blank_bits : (b : ℕ) → b ≡ blank_byte → b - 63 ≡ 0
 blank_bits b is = omega arith
 
--- what stands after k of a stretch of them
+-- the state after k sixels of a stretch of them
 pub passed_stands : {registers : ℕ} (n : DrawingState) (s : Grid) (seen : List Placed) (place count : ℕ)
     (bytes : List ℕ)
     → count ≤ length bytes → AreBlank bytes count → StandsUnbroken registers n (Some s) (events_of seen)
@@ -305,7 +305,7 @@ passed_stands {registers} n s seen place count bytes long blank u (suc k) le =
     column
     after)
 
--- ---- where a rule was broken before
+-- ---- after a broken rule
 
 pub broken_stays : {registers : ℕ} (seen more : List Placed) (f : Finding) → (i : ℕ) × IsFinding registers seen f i
     → (i : ℕ) × IsFinding registers (seen ++ more) f i
@@ -315,9 +315,9 @@ broken_stays {registers} seen (p ∷ more) f found =
     subst (λ (l : List Placed). (i : ℕ) × IsFinding registers l f i) (append_assoc seen (p ∷ []) more)
     (broken_stays (seen ++ p ∷ []) more f (judge_broken seen p f found))
 
--- ---- the shape of what was seen
+-- ---- the shape of the events
 
--- commands were seen last or a start, and each event can be spelled
+-- the last event was a start or a command, and each event is spellable
 pub record IsBegun (progress : Progress) (seen : List Placed) : Type 0 where
   pub progress_is : progress ≡ progress_of seen
   pub prefix : ArePrefix (events_of seen)
@@ -363,7 +363,7 @@ begun_stretch progress seen place (x ∷ prefix) each b =
     (begun_stretch progress (seen ++ p ∷ []) (place + 1) prefix (λ k lt. each (suc k) (omega arith))
     (begun_on progress seen p (Sixel (x - 63)) refl (few_bits x (each 0 (omega arith))) b))
 
--- ---- where a checker stands
+-- ---- what a checker has seen
 
 pub begun_of : (registers : ℕ) (checker : CheckerValue) (seen : List Placed) → MayStep seen
     → StandsAfter registers checker seen → IsBegun checker.progress seen

@@ -1,4 +1,4 @@
--- A list has one verdict.
+-- A list has at most one verdict.
 use Rattle.std.proofs.Common.{◌≡◌, ◌==◌, ◌<◌, ◌⊎◌, ℕ, nat_lt, inl, inr, Option, Some, List, take, refl, sym, ap, subst}
 use Rattle.std.proofs.Common.{◌∙◌, ◌∷◌, [], ◌-◌, get_or, arith}
 use Rattle.std.specs.Prelude.{IsSomeAnd, IsTrue, slice_get}
@@ -21,7 +21,7 @@ use Rattle.sixel_check.proofs.OptionLemmas.{same_value}
 
 -- ---- one rule
 
--- the rule of a number
+-- the rule with this number
 abbrev pub numbered : ℕ → Rule
 numbered n =
     get_or (RasterFirst ∷ RasterTwice ∷ Ratio ∷ BoxSize ∷ Register ∷ ColourValue ∷ RepeatZero ∷ Unselected ∷ Undefined
@@ -36,7 +36,7 @@ same_rule r q e = sym (numbered_is r) ∙ ap numbered e ∙ numbered_is q
 
 -- ---- one pixel
 
--- earlier in row order
+-- from rows and columns: earlier in row order
 comes_before : (u v x y : ℕ) → (v < y) ⊎ ((v ≡ y) × (u < x)) → IsTrue (is_before u v x y)
 comes_before u v x y (inl above) = or_left (nat_lt v y) _ (lt-ltb v y above)
 comes_before u v x y (inr beside) =
@@ -67,7 +67,7 @@ pixel_once _ p q before e f g = f ∙ sym g
 
 -- ---- one finding
 
--- what holds of the rule and pixel of a finding at its event
+-- two findings of the same rule at the same event have the same pixel
 pixel_at : (r : Rule) (p q : Option (ℕ × ℕ)) (events : List Event) (i : ℕ) → HoldsAtPosition (IsPixel r p) events i
     → HoldsAtPosition (IsPixel r q) events i → p ≡ q
 pixel_at r p q events i f g =

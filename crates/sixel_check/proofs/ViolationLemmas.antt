@@ -1,4 +1,4 @@
--- On the rules that look at no pixel, and on the least that is broken.
+-- On the rules that don't look at pixels, and on the lowest-numbered broken one.
 use Rattle.std.proofs.Common.{◌≡◌, ◌≢◌, ℕ, zero, suc, ◌<◌, ◌≤◌, ◌==◌, ◌&&◌, Bool, true, false, Option, Some, None}
 use Rattle.std.proofs.Common.{IsTrue, List, length, get_or, refl, sym, ap, ◌∙◌, subst, arith}
 use Rattle.std.specs.Prelude.{IfSome, not, nat_lt, is_none, is_some, if◌then◌else◌}
@@ -30,9 +30,9 @@ use Rattle.sixel_check.specs.DrawingState.{known_in}
 use Rattle.sixel_check.specs.Verdicts.{IsPixel, number_of}
 use Rattle.sixel_check.proofs.DrawingStateLemmas.{given, known_below, known_is}
 
--- ---- the least rule
+-- ---- the lowest-numbered rule
 
--- the rule is the least that is broken, and has no pixel; or none of the first ten is broken
+-- the rule is the lowest-numbered broken one, and has no pixel; (IsLeastOf) or none of the first ten is broken
 pub record IsLeast (registers : ℕ) (before : List Event) (e : Event) (rule : Rule) : Type 0 where
   pub broken : Breaks registers (number_of rule) before e
   pub none_smaller : NoneBelow registers (number_of rule) before e
@@ -42,7 +42,7 @@ abbrev pub IsLeastOf : ℕ → List Event → Event → Option Rule → Type 0
 IsLeastOf registers before e None = NoneBelow registers outside_rule before e
 IsLeastOf registers before e (Some rule) = IsLeast registers before e rule
 
--- none below a number, and not that number
+-- if no rule below n is broken, and n isn't, then none below n + 1 is
 pub none_more : (registers : ℕ) (before : List Event) (e : Event) (n : ℕ) → NoneBelow registers n before e
     → ¬ Breaks registers n before e → NoneBelow registers (suc n) before e
 none_more registers before e n below none m lt h =

@@ -45,7 +45,7 @@ full_grid registers s events whole none d = split (first_blank s) (first_blank_d
 each_passes : (p : ℕ → Bool) (xs : List ℕ) → ((i : ℕ) → i < length xs → p (get_or xs i 0) ≡ true) → list_all p xs ≡ true
 each_passes p xs h = list_all-from_AllPass p xs (All-from_get_or (λ x. p x ≡ true) xs 0 h)
 
--- the register of each pixel is one of the palette, and has a colour
+-- the register of each pixel is one of the palette's, and has a colour
 register_good : {registers : ℕ} (s : Grid) (events : List Event) (xs : List ℕ) (i : ℕ) → IsDrawn s events
     → AreColoured registers events → map (λ r. Some r) xs ≡ s.cells → i < length xs
     → (get_or xs i 0 < registers) × IsSome (definition_of events (get_or xs i 0))
@@ -68,7 +68,7 @@ no_fault : (registers : ℕ) (w h : ℕ) (palette : List (Option Parts)) (xs : L
     → list_all (λ r. is_some (palette_at palette r)) xs ≡ true → picture_fault registers w h palette xs ≡ None
 no_fault registers w h palette xs sides long low coloured = rw (sides, long, low, coloured) refl
 
--- the parts of the picture that is left make a picture
+-- the parts of the picture that the events leave make a picture
 pub picture_fits : {registers : ℕ} (n : DrawingState) (s : Grid) (events : List Event) (xs : List ℕ)
     → IsStateAfter registers n events → IsDrawn s events → AreColoured registers events
     → map (λ r. Some r) xs ≡ s.cells

@@ -1,4 +1,4 @@
--- On what is painted, where no rule is broken: all of it lies in the box.
+-- Everything that is painted lies in the box, if no rule is broken.
 use Rattle.std.proofs.Common.{◌≡◌, ◌<◌, ◌≤◌, ◌+◌, ◌-◌, ℕ, Bool, true, false, ◌&&◌, ◌||◌, cond, not, Option, Some, None}
 use Rattle.std.proofs.Common.{List, take, refl, sym, ap, ◌∙◌, arith}
 use Rattle.std.specs.Prelude.{nat_le, nat_lt, slice_get, IfSome, IsFalse, IsSome, IsTrue, if◌then◌else◌}
@@ -34,7 +34,7 @@ covers_blank left count line rows x y h =
     let no : false ≡ true = parts.1 in
     cc
 
--- what paints a point with its bits is a data command
+-- an event that paints a point with its bits is a data command
 pub touches_data : (z rows : ℕ) (before : List Event) (e : Event) (x y : ℕ) → touches z rows before e x y ≡ true
     → is_data_command e ≡ true
 unfolding touches
@@ -60,13 +60,13 @@ plain n events none = record {
 
 -- ---- what each event paints
 
--- the box that stands before an event is the box
+-- the box before an event is the box of the list
 box_is : (i : ℕ) (events : List Event) (a b : Attributes) → raster_before (take i events) ≡ Some b
     → raster_before events ≡ Some a → b ≡ a
 unfolding raster_before
 box_is i events a b h box = same_value (raster_before events) b a (earliest_all raster_of i events b h) box
 
--- attributes with none before them are the box
+-- raster attributes with none before them declare the box of the list
 box_there_is : (i : ℕ) (events : List Event) (e : Event) (a b : Attributes) → slice_get events i ≡ Some e
     → raster_before (take i events) ≡ None → raster_of e ≡ Some b → raster_before events ≡ Some a → b ≡ a
 unfolding raster_before
@@ -79,7 +79,7 @@ unfolding BreaksOutside
 inside_box before e a x y k box fell =
     true_from_ne_false (is_in_box a x y) (λ out. k (rw box (x, y, record { painted = fell; outside = out })))
 
--- what a data command paints on a terminal lies in the box
+-- every point that a data command paints on a terminal lies in the box
 data_inside : (n : ℕ) (t : Display) (events : List Event) (a : Attributes) (i : ℕ) (e : Event) (x y : ℕ)
     → BreaksNone n uncovered_rule events → raster_before events ≡ Some a → slice_get events i ≡ Some e
     → touches_on t (take i events) e x y ≡ true → is_in_box a x y ≡ true
@@ -99,13 +99,13 @@ pub either_true : (b : Bool) → (b || true) ≡ true
 either_true true = refl
 either_true false = refl
 
--- a point of the box before is cut off on no terminal
+-- clipping cuts off no point of the box before
 kept_inside : (t : Display) (before : List Event) (a : Attributes) (x y : ℕ) → raster_before before ≡ Some a
     → is_in_box a x y ≡ true → is_kept_on t before x y ≡ true
 unfolding is_kept_on
 kept_inside t before a x y box inside = rw (box, inside) (either_true (not t.choices.clips))
 
--- what a data command touches on a terminal is cut off on none
+-- clipping cuts off no point that a data command touches
 pub data_kept : (n : ℕ) (t u : Display) (events : List Event) (i : ℕ) (e : Event) (x y : ℕ)
     → BreaksNone n uncovered_rule events → slice_get events i ≡ Some e → touches_on t (take i events) e x y ≡ true
     → is_kept_on u (take i events) x y ≡ true
@@ -123,7 +123,7 @@ inside_if : (r : ℕ) (b : Bool) → IsSome (then_some b r) → b ≡ true
 inside_if r true s = refl
 inside_if r false s = cc
 
--- what a ground fills lies in the box
+-- every point that a filled ground fills lies in the box
 filled_inside : (n : ℕ) (ground : Ground) (events : List Event) (a : Attributes) (i : ℕ) (e : Event) (x y : ℕ)
     → BreaksNone n uncovered_rule events → raster_before events ≡ Some a → slice_get events i ≡ Some e
     → IsSome (filled_on ground e x y) → is_in_box a x y ≡ true

@@ -67,14 +67,14 @@ index_below x y w h p q = grind arith
 from_zero : (x : ℕ) → 0 + x ≡ x
 from_zero x = omega arith
 
--- the colour of each pixel of the screen of a witness
+-- at the start, each pixel of a witness's screen has the screen's colour
 witness_stood : (n x y w h : ℕ) (c : Parts) → x < w → y < h → stood_at (witness_terminal n w h c) x y ≡ c
 witness_stood n x y w h c p q =
     rw (from_zero x, from_zero y) (get_or-replicate (w * h) (y * w + x) c black (index_below x y w h p q))
 
--- ---- a pixel that is named as uncovered
+-- ---- the pixel of a finding of Uncovered
 
--- it lies in the box, whose sides are in range
+-- the pixel lies in the box, whose sides are in range
 record IsInside (events : List Event) (x y : ℕ) : Type 0 where
   pub box : Attributes
   pub first : raster_before events ≡ Some box
@@ -150,7 +150,7 @@ some_uncovered_differ profile placed f i x y a is pixel box =
           ∙ witness_stood n x y a.width a.height white across down));
     }
 
--- ---- a pixel that is named as outside
+-- ---- the pixel of a finding of Outside
 
 not_other : (c : Parts) → other_than c ≢ c
 not_other (Rgb red green blue) e = split ((red == 0) && (green == 0) && (blue == 0)) refl e
@@ -186,7 +186,7 @@ map_some : {A B : Type 0} (f : A → B) (o : Option A) → IsSome o → IsSome (
 map_some f None h = cc
 map_some f (Some a) h = refl
 
--- what events paint doesn't hang on what stood on the screen
+-- the events paint the same whatever the screen showed before
 same_ink : (n w h : ℕ) (c d : Parts) (events : List Event) (x y : ℕ)
     → last_at (inked_on (witness_terminal n w h c) events x y) events
     ≡ last_at (inked_on (witness_terminal n w h d) events x y) events
@@ -232,7 +232,7 @@ some_outside_differ profile placed f i x y is pixel low high =
           (λ e. not_other k (sym stood ∙ e ∙ shows));
     }
 
--- ---- a control of 8 bits at the end
+-- ---- an 8-bit control at the finish
 
 no_other : (o : Option Parts) → o ≢ Some (other_than (unwrap_or o black))
 no_other None e = cc

@@ -1,4 +1,4 @@
--- What it means that a finding is no false alarm. A point x y is counted from the origin of each terminal.
+-- What makes a finding a true alarm. A point x y is relative to the origin of each terminal.
 --
 -- Each clause is about single terminals. That two of them show different colours is stated in Differences. Nothing is
 -- promised for the other ten rules, nor that `EightBit` at an introducer makes a difference: a string may break one of
@@ -32,8 +32,8 @@ StaysOnEach registers events x y =
     → shown_on t events (t.choices.origin_x + x) (t.choices.origin_y + y)
     ≡ stood_on t (t.choices.origin_x + x) (t.choices.origin_y + y)
 
--- each terminal that doesn't clip and has 8-bit controls paints the point by the event at position i, and on each that
--- clips and keeps its ground no event paints it
+-- the event at position i paints the point on each terminal that doesn't clip and has 8-bit controls; no event paints
+-- it on a terminal that clips and keeps its ground
 pub record IsPaintedUnlessClipped (registers : ℕ) (events : List Event) (i x y : ℕ) : Type 0 where
   pub painted : (t : Display) → IsInClass registers t → t.choices.clips ≡ false → t.choices.eight_bit ≡ true
       → HoldsAtPosition (λ before e.

@@ -1,4 +1,4 @@
--- What a check answers: what is claimed of `portable`, of a broken rule and of a refusal.
+-- What the result of a check claims: of a portable picture, of a broken rule and of a refusal.
 use Rattle.std.specs.Prelude.{ℕ, List, Result, Ok, Err}
 use Rattle.sixel_grammar.specs.Document.{Document, events_of}
 use Rattle.sixel_grammar.specs.Reading.{Explains}
@@ -9,8 +9,8 @@ use Rattle.sixel_check.specs.Portable.{IsShownEverywhere}
 use Rattle.sixel_check.specs.Verdicts.{IsVerdict}
 use Rattle.sixel_check.specs.declared.verdict.Verdict.{Verdict}
 
--- the bytes are a document, the verdict is that on its events, a picture that it answers is portable, and a finding is
--- no false alarm; or a fault of the grammar is that of the bytes
+-- Ok: the bytes are a document, the verdict is that on its events, a picture is portable, and a finding is no false
+-- alarm; Err: a grammar fault is the fault of these bytes
 abbrev pub Answers : ℕ → Result Verdict InputFault → List ℕ → Type 0
 Answers registers (Ok verdict) bytes =
     (events : List Placed) × Document events bytes × IsVerdict registers events verdict

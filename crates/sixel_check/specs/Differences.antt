@@ -1,4 +1,4 @@
--- Laws on two given terminals: what a finding names, they show in other colours.
+-- Laws on two given terminals: they show different colours at what a finding names.
 use Rattle.std.specs.Prelude.{◌≡◌, ◌≢◌, ◌==◌, ◌&&◌, ◌+◌, ◌*◌, ◌<◌, ℕ, true, false, Some, IsTrue, List, replicate}
 use Rattle.std.specs.Prelude.{unwrap_or, if◌then◌else◌}
 use Rattle.sixel_grammar.specs.declared.command.Placed.{Placed}
@@ -29,15 +29,15 @@ pub record IsFound (registers : ℕ) (placed : List Placed) (rule : Rule) (i : �
   pub found : IsFinding registers placed f i
   pub rule_is : f.rule ≡ rule
 
--- what the terminal shows at a point after the events, and what stood there; the point is counted from its origin
+-- the colour of the point on the terminal after the events, and (stood_at) before them; x y is relative to its origin
 abbrev pub shown_at : Display → List Placed → ℕ → ℕ → Parts
 shown_at t placed x y = shown_on t (events_of placed) (t.choices.origin_x + x) (t.choices.origin_y + y)
 
 abbrev pub stood_at : Display → ℕ → ℕ → Parts
 stood_at t x y = stood_on t (t.choices.origin_x + x) (t.choices.origin_y + y)
 
--- two terminals with room that keep their ground, and on whose screens other colours stood at a pixel that is named as
--- uncovered, differ there
+-- Uncovered: two terminals with room that keep their ground differ at the pixel of the finding, if their screens had
+-- different colours there before
 abbrev pub UncoveredDiffers : ℕ → Type 0
 UncoveredDiffers registers =
     (placed : List Placed) (f : Finding) (i x y : ℕ) (t u : Display) → IsFound registers placed Uncovered i f
@@ -45,8 +45,8 @@ UncoveredDiffers registers =
     → t.choices.ground ≡ Kept → u.choices.ground ≡ Kept → stood_at t x y ≢ stood_at u x y
     → shown_at t placed x y ≢ shown_at u placed x y
 
--- two terminals that differ in clipping alone, keep their ground and have 8-bit controls, and on whose screen at a
--- pixel that is named as outside another colour stood than the one that doesn't clip shows there, differ there
+-- Outside: two terminals that keep their ground, have 8-bit controls and differ only in clipping differ at the pixel of
+-- the finding, if the colour there before wasn't the one that the terminal without clipping shows
 abbrev pub OutsideDiffers : ℕ → Type 0
 OutsideDiffers registers =
     (placed : List Placed) (f : Finding) (i x y : ℕ) (t : Display) → IsFound registers placed Outside i f
@@ -54,8 +54,8 @@ OutsideDiffers registers =
     → t.choices.eight_bit ≡ true → stood_at t x y ≢ shown_at (clipping false t) placed x y
     → shown_at (clipping true t) placed x y ≢ shown_at (clipping false t) placed x y
 
--- two terminals with room that differ in 8-bit controls alone, and on whose screen at a pixel of the box another colour
--- stood than the picture that is left has there, differ there, where the end is a control of 8 bits
+-- EightBit at the finish: two terminals with room that differ only in 8-bit controls differ at a pixel of the box, if
+-- the colour there before wasn't that of the picture that the events leave
 abbrev pub EightBitDiffers : ℕ → Type 0
 EightBitDiffers registers =
     (placed : List Placed) (f : Finding) (i x y : ℕ) (t : Display) → IsFound registers placed EightBit i f
@@ -79,7 +79,7 @@ abbrev pub other_than : Parts → Parts
 other_than (Rgb red green blue) = if (red == 0) && (green == 0) && (blue == 0) then white else black
 other_than (Hls hue lightness saturation) = if lightness == 0 then white else black
 
--- it keeps its ground, doesn't clip, has 8-bit controls and a screen of this size, at whose top left the picture begins
+-- it keeps its ground, doesn't clip, has 8-bit controls, and draws from the top left of a screen of this size
 abbrev pub witness_choices : ℕ → ℕ → Choices
 witness_choices width height = let ground : Ground = Kept in record {
   binds_at_showing = false;
@@ -97,7 +97,7 @@ witness_choices width height = let ground : Ground = Kept in record {
   origin_y = 0;
 }
 
--- the terminal of these choices with so many registers, all black at the start, and a screen of one colour
+-- the terminal with these choices, this many registers, all black at the start, and a screen of one colour
 abbrev pub witness_terminal : ℕ → ℕ → ℕ → Parts → Display
 witness_terminal registers width height colour = record {
   choices = witness_choices width height;
@@ -105,13 +105,13 @@ witness_terminal registers width height colour = record {
   screen = replicate (width * height) colour;
 }
 
--- the two terminals have room, and show other colours at the point
+-- both terminals have room, and they show different colours at the point
 pub record AreApart (registers : ℕ) (placed : List Placed) (x y : ℕ) (t u : Display) : Type 0 where
   pub one : HasRoomFor registers t (events_of placed)
   pub other : HasRoomFor registers u (events_of placed)
   pub apart : shown_at t placed x y ≢ shown_at u placed x y
 
--- for each finding of `Uncovered` there are two such terminals: with a screen as large as the box, one black, one white
+-- Uncovered: two witnesses with screens of the size of the box, one black and one white, differ at each finding
 abbrev pub SomeUncoveredDiffer : Profile → Type 0
 SomeUncoveredDiffer profile =
     (placed : List Placed) (f : Finding) (i x y : ℕ) (a : Attributes)
@@ -120,38 +120,38 @@ SomeUncoveredDiffer profile =
     → AreApart (count_of profile) placed x y (witness_terminal (count_of profile) a.width a.height black)
     (witness_terminal (count_of profile) a.width a.height white)
 
--- the screen of the two for `Outside`: large enough for the pixel, and of another colour than is painted there
+-- Outside: a witness whose screen just holds the pixel, and has another colour than the one painted there
 abbrev pub outside_screen : Profile → List Placed → ℕ → ℕ → Display
 outside_screen profile placed x y =
     witness_terminal (count_of profile) (x + 1) (y + 1)
     (other_than (shown_at (witness_terminal (count_of profile) (x + 1) (y + 1) black) placed x y))
 
--- the terminal and the one that differs in clipping alone show other colours at the point
+-- the terminal is in the class, and shows different colours at the point with and without clipping
 pub record DifferByClipping (registers : ℕ) (placed : List Placed) (x y : ℕ) (t : Display) : Type 0 where
   pub in_class : IsInClass registers t
   pub apart : shown_at (clipping true t) placed x y ≢ shown_at (clipping false t) placed x y
 
--- for each finding of `Outside` there are two such terminals
+-- for each finding of Outside, this terminal with and without clipping shows different colours
 abbrev pub SomeOutsideDiffer : Profile → Type 0
 SomeOutsideDiffer profile =
     (placed : List Placed) (f : Finding) (i x y : ℕ) → IsFound (count_of profile) placed Outside i f
     → f.pixel ≡ Some (x, y) → x < greatest → y < greatest
     → DifferByClipping (count_of profile) placed x y (outside_screen profile placed x y)
 
--- the screen of the two for `EightBit`: as large as the box, and of another colour than the picture that is left has
--- first
+-- EightBit: a witness whose screen has the size of the box, and another colour than the first pixel of the picture that
+-- the events leave
 abbrev pub eight_bit_screen : Profile → List Placed → Display
 eight_bit_screen profile placed =
     let left : PictureValue = picture_left (count_of profile) (events_of placed) in
     witness_terminal (count_of profile) left.width left.height
     (other_than (unwrap_or (palette_at left.palette (register_of left 0 0)) black))
 
--- the terminal has room, and it and the one that differs in 8-bit controls alone show other colours at the first pixel
+-- the terminal has room, and shows different colours at the first pixel with and without 8-bit controls
 pub record DifferByControls (registers : ℕ) (placed : List Placed) (t : Display) : Type 0 where
   pub room : HasRoomFor registers t (events_of placed)
   pub apart : shown_at (with_controls true t) placed 0 0 ≢ shown_at (with_controls false t) placed 0 0
 
--- for each finding of `EightBit` at the end there are two such terminals
+-- for each finding of EightBit at the finish, this terminal with and without 8-bit controls shows different colours
 abbrev pub SomeEightBitDiffer : Profile → Type 0
 SomeEightBitDiffer profile =
     (placed : List Placed) (f : Finding) (i : ℕ) → IsFound (count_of profile) placed EightBit i f
@@ -160,7 +160,7 @@ SomeEightBitDiffer profile =
 
 -- ---- coordinates
 
--- in a document no coordinate of a pixel that is named as outside is so large that it is stopped
+-- in a document, a finding of Outside has coordinates below the cap, so they are exact
 abbrev pub CoordinatesAreExact : ℕ → Type 0
 CoordinatesAreExact registers =
     (bytes : List ℕ) (placed : List Placed) (f : Finding) (i x y : ℕ) → Document placed bytes

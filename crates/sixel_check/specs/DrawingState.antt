@@ -1,4 +1,4 @@
--- What one event that breaks no rule does to the drawing state.
+-- How an event that breaks no rule changes the drawing state.
 use Rattle.std.specs.Prelude.{◌+◌, ◌<◌, ◌≤◌, ℕ, Bool, true, Option, Some, None, List, IfSome, length, nat_lt, slice_set}
 use Rattle.std.specs.Prelude.{if◌then◌else◌}
 use Rattle.std.specs.Option.{option_and_then, option_map_or, option_or}
@@ -12,11 +12,11 @@ use Rattle.sixel_model.specs.Rules.{known_by}
 use Rattle.sixel_check.specs.declared.drawing_state.DrawingState.{DrawingState}
 use Rattle.sixel_check.specs.Verdicts.{capped}
 
--- the colour of a colour system and three coordinates, if it is in range
+-- the colour with these coordinates in this colour system, if it is in range
 abbrev pub colour_within : ℕ → ℕ → ℕ → ℕ → Option Parts
 colour_within system x y z = option_and_then (λ c. if is_colour c then Some c else None) (colour_in system x y z)
 
--- the selected register is one of the palette's, which are registers of a byte
+-- the selected register is one of the palette's, and the palette has at most 256 registers
 abbrev pub IsBelow : DrawingState → Type 0
 IsBelow n = IfSome n.selected (λ r. r < length n.palette) × (length n.palette ≤ 256)
 

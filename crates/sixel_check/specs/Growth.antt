@@ -1,4 +1,4 @@
--- Where a checker may take memory.
+-- Where a checker may allocate.
 use Rattle.std.specs.Prelude.{◌≡◌, ◌++◌, ◌∷◌, [], ℕ, None, IsSome, List}
 use Rattle.sixel_grammar.specs.declared.command.Event.{Event}
 use Rattle.sixel_grammar.specs.declared.command.Placed.{Placed}
@@ -17,11 +17,11 @@ pub record MayGrow (registers : ℕ) (before : List Event) (e : Event) : Type 0 
   pub first : raster_before before ≡ None
   pub unbroken : BreaksNone registers last_rule (before ++ e ∷ [])
 
--- such raster attributes are among the events
+-- a checker may allocate at one of the events
 abbrev pub MayGrowAmong : ℕ → List Placed → Type 0
 MayGrowAmong registers placed = (i : ℕ) × HoldsAtPosition (MayGrow registers) (events_of placed) i
 
--- such raster attributes are complete in a prefix of the bytes with which some document begins, its limit aside
+-- a checker may allocate at one of the events that are complete in some viable prefix of the bytes
 pub record MayGrowIn (registers : ℕ) (bytes : List ℕ) : Type 0 where
   pub prefix : List ℕ
   pub rest : List ℕ
@@ -30,7 +30,7 @@ pub record MayGrowIn (registers : ℕ) (bytes : List ℕ) : Type 0 where
   pub complete : CompleteIn events prefix
   pub grows : MayGrowAmong registers events
 
--- want of memory is answered for such bytes alone
+-- OutOfMemory means that a checker may allocate within the bytes
 abbrev pub GrowsFor : ℕ → InputFault → List ℕ → Type 0
 GrowsFor registers (Grammar fault) bytes = Unit {0}
 GrowsFor registers OutOfMemory bytes = MayGrowIn registers bytes

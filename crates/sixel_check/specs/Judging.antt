@@ -1,4 +1,4 @@
--- What a judge of events knows after those that it has seen, as long as no rule is broken.
+-- What a judge knows of the events that it has seen, while no rule is broken.
 use Rattle.std.specs.Prelude.{◌≡◌, ◌<◌, ◌≤◌, ◌*◌, ℕ, false, Option, Some, None, IsTrue, IfSome, IsSome, List, length}
 use Rattle.std.specs.Prelude.{is_some, slice_index_or}
 use Rattle.sixel_grammar.specs.declared.command.Event.{Event}
@@ -20,13 +20,13 @@ use Rattle.sixel_check.specs.Verdicts.{IsFinding, capped}
 abbrev pub box_of : Grid → Attributes
 box_of s = record { pan = 1; pad = 1; width = s.width; height = s.height }
 
--- no raster attributes, and no point was painted
+-- no raster attributes yet, and no point is painted
 pub record IsUndrawn (events : List Event) : Type 0 where
   pub no_box : raster_before events ≡ None
   pub uncovered : (x y : ℕ) → is_covered events x y ≡ false
   pub no_register : (x y : ℕ) → register_at events x y ≡ None
 
--- the grid has the size of the box, and each pixel the register in which it was painted last
+-- the grid has the size of the box, and each pixel has the register that painted it last, if any
 pub record IsDrawn (s : Grid) (events : List Event) : Type 0 where
   pub box : raster_before events ≡ Some (box_of s)
   pub width : IsTrue (is_side s.width)
@@ -35,16 +35,16 @@ pub record IsDrawn (s : Grid) (events : List Event) : Type 0 where
   pub registers : (x y : ℕ) → x < s.width → y < s.height → cell s x y ≡ register_at events x y
   pub covered : (x y : ℕ) → x < s.width → y < s.height → is_some (cell s x y) ≡ is_covered events x y
 
--- the grid, if there is a box
+-- the grid that the events leave: none before the first raster attributes
 abbrev pub IsGridAfter : Option Grid → List Event → Type 0
 IsGridAfter None events = IsUndrawn events
 IsGridAfter (Some s) events = IsDrawn s events
 
--- a definition of one of so many registers that gives a colour in range
+-- the definition gives a colour in range, to one of this many registers
 abbrev pub IsGood : ℕ → ℕ → Definition → Type 0
 IsGood registers r d = (r < registers) × IsTrue (gives_colour d)
 
--- the drawing state after these events, of which none breaks a rule; there are so many registers, each of a byte
+-- the drawing state after these events, none of which breaks a rule; there are at most 256 registers
 pub record IsStateAfter (registers : ℕ) (state : DrawingState) (events : List Event) : Type 0 where
   pub column_is : state.column ≡ capped (column 0 events)
   pub band_is : state.band ≡ capped (band events)
@@ -57,7 +57,7 @@ pub record IsStateAfter (registers : ℕ) (state : DrawingState) (events : List 
   pub marks : length state.painted ≡ 256
   pub painted_is : (r : ℕ) → r < registers → slice_index_or state.painted r false ≡ is_painted_in events r
 
--- each register in which a pixel was painted last is one of so many, and has a definition
+-- each register that painted a pixel last is one of this many, and has a definition
 abbrev pub AreColoured : ℕ → List Event → Type 0
 AreColoured registers events = (x y r : ℕ) → register_at events x y ≡ Some r
     → (r < registers) × IsSome (definition_of events r)

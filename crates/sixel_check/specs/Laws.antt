@@ -19,40 +19,40 @@ use Rattle.sixel_check.specs.Growth.{MayGrowAmong}
 use Rattle.sixel_check.specs.Portable.{IsInBoxOn, IsPortable}
 use Rattle.sixel_check.specs.Verdicts.{IsVerdict}
 
--- on the terminal the register has the colour that is left, before the event at position i and at the end
+-- on the terminal the register has its final colour both before the event at position i and at the end
 pub record HasColourLeft (registers : ℕ) (t : Display) (events : List Event) (i r : ℕ) : Type 0 where
   pub at_painting : palette_at (picture_left registers events).palette r ≡ Some (map_on t (take i events) r)
   pub at_showing : palette_at (picture_left registers events).palette r ≡ Some (map_on t events r)
 
--- the rules on what is drawn are those up to `Uncovered`
+-- the drawing rules are those up to `Uncovered`, which are all but `EightBit`
 
--- where none of these is broken, the register in which a command paints has the colour that is left, at the painting
--- and at the end, on each terminal with enough registers
+-- if no drawing rule is broken, a register that a command paints in has its final colour at that command and at the
+-- end, on each terminal with enough registers
 abbrev pub PaintedColourIsLeft : ℕ → Type 0
 PaintedColourIsLeft registers =
     (t : Display) (events : List Event) (i : ℕ) (e : Event) (r : ℕ) → registers ≤ registers_of t
     → BreaksNone registers uncovered_rule events → slice_get events i ≡ Some e → IsTrue (is_painting e)
     → known (take i events) ≡ Some r → HasColourLeft registers t events i r
 
--- where none of these is broken, no raster attributes stand after a data command
+-- if no drawing rule is broken, no raster attributes follow a data command
 abbrev pub FilledFirst : ℕ → Type 0
 FilledFirst registers =
     (events : List Event) (i j : ℕ) (d e : Event) → BreaksNone registers uncovered_rule events → i < j
     → slice_get events i ≡ Some d → IsTrue (is_data_command d) → slice_get events j ≡ Some e → raster_of e ≡ None
 
--- where none of these is broken in a whole list, some event paints each pixel of the box
+-- if no drawing rule is broken in a whole list, some event paints each pixel of the box
 abbrev pub AllCovered : ℕ → Type 0
 AllCovered registers =
     (events : List Event) (a : Attributes) (x y : ℕ) → AreWhole events → BreaksNone registers uncovered_rule events
     → raster_before events ≡ Some a → IsTrue (is_in_box a x y) → IsTrue (is_covered events x y)
 
--- where none of these is broken, no event paints a pixel outside the box, on any terminal
+-- if no drawing rule is broken, no event paints a pixel outside the box, on any terminal
 abbrev pub NonePaintedOutside : ℕ → Type 0
 NonePaintedOutside registers =
     (t : Display) (events : List Event) (a : Attributes) (x y : ℕ) → BreaksNone registers uncovered_rule events
     → raster_before events ≡ Some a → ¬ IsInBoxOn t a.width a.height x y → ¬ IsPainted t events x y
 
--- where none of these is broken, clipping changes nothing: each event paints the same pixels, in the same registers
+-- if no drawing rule is broken, clipping changes nothing: each event paints the same pixels, in the same registers
 abbrev pub ClippingChangesNothing : ℕ → Type 0
 ClippingChangesNothing registers =
     (t : Display) (events : List Event) (i : ℕ) (e : Event) (x y : ℕ) → BreaksNone registers uncovered_rule events
@@ -60,30 +60,30 @@ ClippingChangesNothing registers =
     → paints_in (clipping true t) events (take i events) e x y
     ≡ paints_in (clipping false t) events (take i events) e x y
 
--- where no rule is broken in a whole list, the picture that is left is portable
+-- if no rule is broken in a whole list, the picture that the events leave is portable
 abbrev pub LeftIsPortable : ℕ → Type 0
 LeftIsPortable registers =
     (events : List Event) → AreWhole events → BreaksNone registers last_rule events
     → IsPortable registers events (picture_left registers events)
 
--- where no rule is broken, the verdict is the picture that is left, and no other
+-- if no rule is broken, the verdict is the picture that the events leave, and no other
 abbrev pub VerdictIsLeft : ℕ → Type 0
 VerdictIsLeft registers =
     (placed : List Placed) (p : PictureValue) → BreaksNone registers last_rule (events_of placed)
     → p ≡ picture_left registers (events_of placed)
     → IsVerdict registers placed (Portable p) × ((v : Verdict) → IsVerdict registers placed v → v ≡ Portable p)
 
--- a list of events has some verdict
+-- a list of events has at least one verdict
 abbrev pub SomeVerdict : ℕ → Type 0
 SomeVerdict registers = (placed : List Placed) → (v : Verdict) × IsVerdict registers placed v
 
--- and one only
+-- a list of events has at most one verdict
 abbrev pub OneVerdict : ℕ → Type 0
 OneVerdict registers =
     (placed : List Placed) (v w : Verdict) → IsVerdict registers placed v → IsVerdict registers placed w → v ≡ w
 
--- where memory may be taken at an event that is complete in a prefix of the bytes, it may be at one in each longer
--- prefix
+-- if a checker may allocate at an event that is complete in a prefix of the bytes, then also at one in each longer
+-- viable prefix
 abbrev pub GrowthStays : ℕ → Type 0
 GrowthStays registers =
     (prefix rest : List ℕ) (first second : List Placed) → CompleteIn first prefix → CompleteIn second (prefix ++ rest)
@@ -95,6 +95,6 @@ one_pixel =
     Start false (record { items = 0 ∷ [] }) ∷ Step (Raster 1 1 1 1) ∷ Step (Define 0 2 0 0 0) ∷ Step (Select 0)
     ∷ Step (Sixel 1) ∷ Finish false ∷ []
 
--- it is a whole list, and breaks no rule: the laws on such lists speak of some
+-- it is a whole list and breaks no rule, so the laws on such lists aren't empty
 abbrev pub OnePixelBreaksNone : ℕ → Type 0
 OnePixelBreaksNone registers = AreWhole one_pixel × BreaksNone registers last_rule one_pixel

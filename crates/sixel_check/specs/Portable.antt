@@ -16,25 +16,25 @@ pub record IsInBoxOn (t : Display) (width height x y : ℕ) : Type 0 where
   pub right : x < t.choices.origin_x + width
   pub bottom : y < t.choices.origin_y + height
 
--- after the events the terminal shows the colour that the picture has at the point, which is counted from its origin
+-- after the events the terminal shows the picture's colour at the point, which is relative to the terminal's origin
 abbrev pub ShowsAt : Display → List Event → PictureValue → ℕ → ℕ → Type 0
 ShowsAt t events p x y =
     palette_at p.palette (register_of p x y)
     ≡ Some (shown_on t events (t.choices.origin_x + x) (t.choices.origin_y + y))
 
--- after the events the terminal shows the picture in the box at its origin, and none of them paints a pixel outside it,
--- on the screen or off it
+-- after the events the terminal shows the picture in the box at its origin, and no event paints a pixel outside that
+-- box, on the screen or off it
 pub record Shows (t : Display) (events : List Event) (p : PictureValue) : Type 0 where
   pub inside : (x y : ℕ) → x < p.width → y < p.height → ShowsAt t events p x y
   pub outside : (x y : ℕ) → ¬ IsInBoxOn t p.width p.height x y → ¬ IsPainted t events x y
 
--- the picture has the size of the box, which the first raster attributes declare, and each terminal of the class for so
--- many registers that has room for it shows it
+-- the picture has the size that the first raster attributes declare, and each terminal of the class for this many
+-- registers that has room for it shows it
 pub record IsPortable (registers : ℕ) (events : List Event) (p : PictureValue) : Type 0 where
   pub size : IsSomeAnd (raster_before events) (λ a. (p.width ≡ a.width) × (p.height ≡ a.height))
   pub shown : (t : Display) → IsInClass registers t → HasRoom t p.width p.height → Shows t events p
 
--- a picture that is answered is portable
+-- the picture of a verdict is portable
 abbrev pub IsShownEverywhere : ℕ → List Event → Verdict → Type 0
 IsShownEverywhere registers events (Portable picture) = IsPortable registers events picture
 IsShownEverywhere registers events (Broken finding) = Unit {0}

@@ -19,21 +19,21 @@ abbrev pub is_start : Event → Bool
 is_start (Start eight parameters) = true
 is_start _ = false
 
--- the end came
+-- the finish has come
 abbrev pub is_whole : List Placed → Bool
 is_whole seen = list_any (λ p. is_finish p.event) seen
 
--- a start comes first, then commands, then one finish, and nothing after it
+-- the event may come next: first a start, then commands, then one finish, and nothing after it
 abbrev pub expects : List Placed → Event → Bool
 expects [] e = is_start e
 expects (p ∷ ps) e = not (is_whole (p ∷ ps)) && not (is_start e)
 
--- how far the events have come
+-- the part of a document that the events have reached
 abbrev pub progress_of : List Placed → Progress
 progress_of [] = Fresh
 progress_of (p ∷ ps) = if is_whole (p ∷ ps) then Whole else Begun
 
--- what is expected, by how far they have come
+-- whether the event may come next, by that part
 abbrev pub expects_from : Progress → Event → Bool
 expects_from Fresh e = is_start e
 expects_from Begun e = not (is_start e)
@@ -44,19 +44,19 @@ is_whole_at Fresh = false
 is_whole_at Begun = false
 is_whole_at Whole = true
 
--- how far they have come with an event that was expected
+-- the part after an event that was expected
 abbrev pub progress_with : Event → Progress
 progress_with e = if is_finish e then Whole else Begun
 
--- what a checker keeps: the first broken rule, else what the rules ask of the events; and how far they have come
+-- what a checker keeps: the first broken rule, or else what the rules need to know of the events; and the progress
 pub record CheckerValue : Type 0 where
   pub finding : Option Finding
   pub state : DrawingState
   pub grid : Option Grid
   pub progress : Progress
 
--- the checker, which judges by so many registers, has seen these events, in order: none, or a start and commands, or a
--- start, commands and a finish
+-- the checker, for this many registers, has seen these events in order: none; or a start and commands; or a start,
+-- commands and a finish
 unfoldable pub StandsAfter : ℕ → CheckerValue → List Placed → Type 0
 StandsAfter registers checker seen =
     JudgesAfter registers checker.finding checker.state checker.grid seen × (checker.progress ≡ progress_of seen)

@@ -23,16 +23,16 @@ pub record IsPaintedIn (state : DrawingState) (register : ℕ) : Type 0 where
   pub coloured : IsSome (palette_at state.palette register)
   pub painted : slice_index_or state.painted register false ≡ true
 
--- so many columns lie in the box, with all six rows of their band
+-- count columns from the current one on lie in the box, with all six rows of their band
 pub record Fits (state : DrawingState) (count : ℕ) (s : Grid) : Type 0 where
   pub columns : state.column + count ≤ s.width
   pub rows : band_rows * state.band + band_rows ≤ s.height
 
--- the drawing state after so many sixels in a register that was painted in before
+-- the drawing state after count sixels in a register that was painted in before
 abbrev pub moved_by : ℕ → DrawingState → DrawingState
 moved_by count state = record state { column = state.column + count }
 
--- the drawing state and the grid after a stretch, which breaks no rule
+-- the drawing state and the grid after a painted stretch, which breaks no rule
 pub record IsStretched (bytes : List ℕ) (count : ℕ) (state : DrawingState) (s : Grid) (next : DrawingState)
     (drawn : Grid) :
     Type 0 where
@@ -42,19 +42,19 @@ pub record IsStretched (bytes : List ℕ) (count : ℕ) (state : DrawingState) (
   pub next_is : next ≡ moved_by count state
   pub drawn_is : drawn ≡ stretched_grid s state.column state.band count (sixel_of bytes count) register
 
--- the byte of a sixel without a bit
+-- the byte of the sixel without a set bit: `?`
 abbrev pub blank_byte : ℕ
 blank_byte = 63
 
--- so many bytes at the beginning are sixels without a bit
+-- the first count bytes are sixels without a set bit
 abbrev pub AreBlank : List ℕ → ℕ → Type 0
 AreBlank bytes count = (k : ℕ) → k < count → slice_index bytes k ≡ blank_byte
 
--- the drawing state after so many sixels without a bit
+-- the drawing state after count sixels without a set bit
 abbrev pub passed_by : ℕ → DrawingState → DrawingState
 passed_by count state = record state { column = capped (state.column + count) }
 
--- the drawing state and the grid after a stretch without a bit, wherever it lies
+-- the drawing state and the grid after a stretch without a set bit, wherever it lies
 pub record IsPassed (bytes : List ℕ) (count : ℕ) (state : DrawingState) (s : Grid) (next : DrawingState) (drawn : Grid)
     :
     Type 0 where
@@ -62,7 +62,7 @@ pub record IsPassed (bytes : List ℕ) (count : ℕ) (state : DrawingState) (s :
   pub next_is : next ≡ passed_by count state
   pub drawn_is : drawn ≡ s
 
--- either of these, where there is a grid
+-- one of these two; there is a grid
 abbrev pub IsStretchedIn : List ℕ → ℕ → DrawingState → Option Grid → DrawingState → Option Grid → Type 0
 IsStretchedIn bytes count state (Some s) next (Some drawn) =
     IsStretched bytes count state s next drawn ⊎ IsPassed bytes count state s next drawn

@@ -35,7 +35,7 @@ number_of Outside = outside_rule
 number_of Uncovered = uncovered_rule
 number_of EightBit = eight_bit_rule
 
--- the greatest number of 64 bits, at which the coordinates of a pixel stop
+-- the greatest 64-bit number, the cap of a pixel's coordinates
 abbrev pub greatest : ℕ
 greatest = 2 ^ 64 - 1
 
@@ -56,13 +56,13 @@ IsPixel Uncovered pixel before e =
     IsFirstPixel (λ x y. IsSomeAnd (raster_before before) (λ a. StaysBlank before a x y)) pixel
 IsPixel _ pixel before e = pixel ≡ None
 
--- the finding is the first broken rule, at position i
+-- the finding is the first broken rule, and its event has position i
 pub record IsFinding (registers : ℕ) (placed : List Placed) (f : Finding) (i : ℕ) : Type 0 where
   pub first : IsFirstBroken registers (events_of placed) (number_of f.rule) i
   pub place : option_map (λ (p : Placed). p.place) (slice_get placed i) ≡ Some f.place
   pub pixel : HoldsAtPosition (IsPixel f.rule f.pixel) (events_of placed) i
 
--- the verdict: the first broken rule, or where none is broken the picture that is left
+-- the verdict: the picture that the events leave if no rule is broken, else the first broken rule
 abbrev pub IsVerdict : ℕ → List Placed → Verdict → Type 0
 IsVerdict registers placed (Portable picture) =
     BreaksNone registers last_rule (events_of placed) × (picture ≡ picture_left registers (events_of placed))

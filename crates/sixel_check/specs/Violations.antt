@@ -1,4 +1,4 @@
--- The least broken rule of an event, as it is looked for.
+-- The lowest-numbered rule that an event breaks, computed from the drawing state.
 use Rattle.std.specs.Prelude.{◌==◌, ◌&&◌, ◌||◌, ◌<◌, ℕ, Bool, false, not, Option, Some, None, List, is_none, is_some}
 use Rattle.std.specs.Prelude.{suc, length, slice_index_or, if◌then◌else◌}
 use Rattle.std.specs.Option.{option_map_or}
@@ -34,7 +34,7 @@ unselected_in n e = is_painting e && is_none (known_in n)
 abbrev pub undefined_in : DrawingState → Event → Bool
 undefined_in n e = is_painting e && option_map_or (λ r. is_none (palette_at n.palette r)) (known_in n) false
 
--- the colour is that of this colour system and these coordinates
+-- the colour has these coordinates in this colour system
 abbrev pub is_colour_of : Parts → ℕ → ℕ → ℕ → ℕ → Bool
 is_colour_of (Rgb red green blue) system x y z = (system == 2) && (red == x) && (green == y) && (blue == z)
 is_colour_of (Hls hue lightness saturation) system x y z =
@@ -46,7 +46,7 @@ redefined_in n (Step (Define register system x y z)) =
     && option_map_or (λ c. not (is_colour_of c system x y z)) (palette_at n.palette register) false
 redefined_in n _ = false
 
--- the first of the ten rules that look at no pixel
+-- the first broken one of the ten rules that don't look at pixels
 abbrev pub rule_in : DrawingState → Bool → Event → Option Rule
 rule_in n has_box e =
     if raster_first_in has_box e then Some RasterFirst
@@ -63,7 +63,7 @@ rule_in n has_box e =
 
 -- ---- what is found
 
--- no rule of a smaller number is broken
+-- no rule with a number below n is broken
 abbrev pub NoneBelow : ℕ → ℕ → List Event → Event → Type 0
 NoneBelow registers n before e = (m : ℕ) → m < n → ¬ Breaks registers m before e
 
@@ -71,7 +71,7 @@ NoneBelow registers n before e = (m : ℕ) → m < n → ¬ Breaks registers m b
 abbrev pub BreaksNoRule : ℕ → List Event → Event → Type 0
 BreaksNoRule registers before e = NoneBelow registers (suc last_rule) before e
 
--- the violation has the least rule that is broken, and its pixel
+-- the violation has the lowest-numbered broken rule, and its pixel
 pub record IsViolation (registers : ℕ) (before : List Event) (e : Event) (b : Violation) : Type 0 where
   pub broken : Breaks registers (number_of b.rule) before e
   pub none_smaller : NoneBelow registers (number_of b.rule) before e

@@ -24,9 +24,9 @@ use sixel_plane::Plane;
 use std::alloc::{AllocError, Global};
 use std::marker::Model;
 
-/// Checks events as they come: a start, commands, a finish. The pixels stand on a kind of plane.
+/// Checks events as they come: a start, commands, a finish. `P` is the kind of plane that holds the pixels.
 ///
-/// It keeps none of the events. Contracts say after which events it stands.
+/// It keeps none of the events. In contracts, `StandsAfter` says which events it has seen.
 #[derive(Drop)]
 pub struct Checker<P: Plane> {
     alloc: Global,
@@ -49,8 +49,8 @@ impl<P: Plane> Model for Checker<P> {
 }
 
 impl<P: Plane> Checker<P> {
-    /// A checker that has seen no event, and judges by the registers of the profile. It takes no memory; `push` takes
-    /// it from `alloc`, for the pixels of the box.
+    /// A checker that has seen no event, for pictures with the registers of `profile`. This allocates nothing; `push`
+    /// allocates the pixels of the box from `alloc`.
     pub fn new(alloc: Global, profile: Profile) -> Checker<P>
         ensures { StandsAfter (count_of profile) result [] }
     {
@@ -77,9 +77,9 @@ impl<P: Plane> Checker<P> {
         self.progress.is_whole()
     }
 
-    /// Takes the next event: one that `expects` allows, and that can be spelled.
+    /// Takes the next event. `expects` must allow it, and some bytes must spell it (`IsSpellable`).
     ///
-    /// `AllocError` is answered only where a growth was refused, and then nothing has changed.
+    /// `AllocError`: an allocation failed, and the checker is unchanged.
     #[inline(always)]
     pub fn push(&mut self, placed: &Placed) -> Result<(), AllocError>
         requires expected { (registers : ℕ) × (seen : List PlacedValue) × StandsAfter registers self.old seen
@@ -96,9 +96,9 @@ impl<P: Plane> Checker<P> {
         Ok(())
     }
 
-    /// Takes the sixels of so many data bytes at the beginning of `bytes` at once, where any command may come next, and
-    /// where they break no rule or a rule was broken before. Whether it did; else nothing has changed, and `push` takes
-    /// each.
+    /// Takes the first `count` bytes of `bytes`, all of them data, in one step. Any command must be allowed next.
+    /// Returns whether it did; it does only if these sixels break no rule, or if a rule was broken before. Else the
+    /// checker is unchanged, and the caller pushes the sixels one by one.
     #[inline(always)]
     pub(crate) fn try_push_stretch(&mut self, bytes: &[u8], count: usize) -> bool
         requires expected { (registers : ℕ) × (seen : List PlacedValue) × StandsAfter registers self.old seen
@@ -113,7 +113,7 @@ impl<P: Plane> Checker<P> {
         self.judge.try_take_stretch(bytes, count)
     }
 
-    /// The verdict on the whole list. It takes no memory, and is always `Ok`.
+    /// The verdict on the whole list. It allocates nothing, and is always `Ok`.
     pub fn finish(self) -> Result<Verdict, AllocError>
         requires whole { (registers : ℕ) × (seen : List PlacedValue) × StandsAfter registers self seen
             × IsTrue (is_whole seen) }

@@ -52,7 +52,7 @@ fn keep<P: Plane>(checker: &mut Checker<P>, completed: Completed) -> Result<(), 
     keep_one(checker, second)
 }
 
-/// Pushes a command of a kind that may be known.
+/// Pushes a command. It is inlined, so that a caller that knows the kind keeps only the code for that kind.
 #[inline(always)]
 fn push_command<P: Plane>(
     checker: &mut Checker<P>,
@@ -68,8 +68,7 @@ fn push_command<P: Plane>(
     checker.push(&Placed { place, event })
 }
 
-/// Pushes a command that a byte completed alone, which is data: where the kind is known, the compiler leaves out what
-/// others need.
+/// Pushes a command that one byte completed. Sixels and repeats, the common kinds, each get their own inlined call.
 #[inline(always)]
 fn keep_command<P: Plane>(
     checker: &mut Checker<P>,
@@ -124,7 +123,7 @@ fn read_byte<P: Plane>(
     }
 }
 
-/// Reads a byte of any kind.
+/// As `read_byte`, for any byte.
 #[inline(never)]
 fn feed_and_keep<P: Plane>(
     reader: &mut Reader,
@@ -140,8 +139,8 @@ fn feed_and_keep<P: Plane>(
     Ok(keep(checker, completed)?)
 }
 
-/// Pushes the sixels of so many data bytes at the beginning of `bytes`, the first of them at `place`. It takes no
-/// memory, and is always `Ok`.
+/// Pushes the first `count` bytes of `bytes`, all of them data, as sixels; the first has the offset `place`. It
+/// allocates nothing, and is always `Ok`.
 #[inline(always)]
 fn push_stretch<P: Plane>(
     checker: &mut Checker<P>,
@@ -187,7 +186,8 @@ fn push_each<P: Plane>(
     Ok(())
 }
 
-/// Reads a stretch of data bytes at the beginning of a piece, or else one byte, and tells how many it read.
+/// Reads the data bytes that `feed_stretch` takes at the beginning of `bytes`, or else one byte. Returns how many it
+/// read.
 #[inline(always)]
 fn read_stretch_or_byte<P: Plane>(
     reader: &mut Reader,
@@ -249,13 +249,13 @@ fn conclude<P: Plane>(reader: &Reader, checker: Checker<P>) -> Result<Verdict, I
     Ok(checker.finish()?)
 }
 
-/// The verdict on the document that the source gives, by the registers of the profile. A picture that it answers is of
-/// the profile.
+/// Checks the document that the source gives, with the registers of the profile. A picture of the verdict is of that
+/// profile.
 ///
-/// Whatever is met first in one pass over its bytes is answered: a fault of the grammar, a failure of the source, or a
-/// growth that was refused. Only a whole document has a verdict. The source isn't read after a fault or its end.
+/// The bytes are read once, and the first failure ends the check: `Grammar` (the bytes are no document), `Read` (the
+/// source failed) or `OutOfMemory` (an allocation failed). The source isn't read after a fault or after its end.
 ///
-/// Nothing of the input is kept. Memory is taken once, for the pixels of the box, when its raster attributes are
+/// Nothing of the input is kept. Memory is allocated once, for the pixels of the box, when its raster attributes are
 /// complete.
 pub fn check<S: Source>(
     alloc: Global,
@@ -281,8 +281,8 @@ pub fn check<S: Source>(
     }
 }
 
-/// The verdict on a document, by the registers of the profile; else its fault, or `OutOfMemory` where a growth was
-/// refused before the fault was met. Memory is taken as by `check`.
+/// Checks the bytes of a document, as `check` does. `Grammar`: the bytes are no document. `OutOfMemory`: an allocation
+/// failed before that was seen. Never `Read`.
 pub fn check_bytes(alloc: Global, profile: Profile, bytes: &[u8]) -> Result<Verdict, InputFault>
     ensures answer { Answers (count_of profile) result bytes.now }
     ensures never_read { IfErr result (λ fault. fault ≡ InputFault.Read → ⊥) }

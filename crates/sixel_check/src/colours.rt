@@ -6,7 +6,7 @@ ghost use Rattle.sixel_check.specs.DrawingState.{colour_within};
 
 use sixel_model::{Colour, Parts};
 
-/// The colour of a colour system and three coordinates, if it is in range.
+/// The colour with these coordinates in this system (1 is HLS, 2 is RGB), if the system exists and all are in range.
 pub(crate) fn colour_in(system: u16, x: u16, y: u16, z: u16) -> Option<Colour>
     ensures { result ≡ colour_within system x y z }
 {
@@ -20,7 +20,7 @@ pub(crate) fn colour_in(system: u16, x: u16, y: u16, z: u16) -> Option<Colour>
     }
 }
 
-/// Whether the colour is that of this colour system and these coordinates.
+/// Whether the colour has these coordinates in this colour system.
 pub(crate) fn is_colour_of(colour: Colour, system: u16, x: u16, y: u16, z: u16) -> bool
     ensures { result ≡ same_colour colour system x y z }
 {

@@ -1,4 +1,4 @@
-//! What a judge remembers of the events, but the pixels.
+//! What a judge remembers of the events, except the pixels.
 
 ghost use Rattle.std.specs.Prelude.{◌≡◌, ◌↔◌, ◌<◌, ◌++◌, ◌∷◌, [], ℕ, List, IfSome, IsSome, IsTrue, length, replicate};
 ghost use Rattle.std.specs.Prelude.{None, false, slice_index_or, true};
@@ -12,12 +12,12 @@ use crate::events::{columns_of, is_next_line, is_painting, is_return, named_by, 
 use sixel_grammar::{Command, Event};
 use sixel_model::{MOST_REGISTERS, Palette, Profile};
 
-/// What the rules ask of the events before, but the pixels, as long as no rule is broken.
+/// What the rules need to know of the events so far, except the pixels. It is kept while no rule is broken.
 #[derive(Debug, Drop)]
 pub(crate) struct DrawingState {
-    /// The sum of the widths since the last return. It stops at `u64::MAX`.
+    /// The column of the next sixel: the sum of the widths since the last return, at most `u64::MAX`.
     pub column: u64,
-    /// The number of next lines. It stops at `u64::MAX`.
+    /// The band: the number of next lines, at most `u64::MAX`.
     pub band: u64,
     /// The register of the last select.
     pub selected: Option<u16>,
@@ -25,7 +25,7 @@ pub(crate) struct DrawingState {
     pub named: Option<u16>,
     /// The last colour of each register.
     pub palette: Palette,
-    /// For each register of a byte whether a command painted in it.
+    /// Whether a command painted in the register, for each register number of a byte.
     pub painted: [bool; MOST_REGISTERS],
 }
 
@@ -34,7 +34,7 @@ impl DrawingState {
     ghost use Rattle.sixel_check.specs.DrawingState.{IsBelow, known_in, next_band, next_column, next_named};
     ghost use Rattle.sixel_check.specs.DrawingState.{next_painted, next_palette, next_selected};
 
-    /// What stands before any event.
+    /// The state before any event.
     pub(crate) fn new(profile: Profile) -> DrawingState
         ensures { IsStateAfter (count_of profile) result [] }
     {
@@ -48,7 +48,7 @@ impl DrawingState {
         }
     }
 
-    /// The register that was selected last, if it was named last too.
+    /// The known register: the one of the last select, if the last select or definition names it too.
     #[inline(always)]
     pub(crate) fn known(&self) -> Option<u8>
         requires { IsBelow self.now }
@@ -130,7 +130,7 @@ impl DrawingState {
         }
     }
 
-    /// Takes an event that breaks no rule.
+    /// Updates the state by an event that breaks no rule.
     #[inline(always)]
     pub(crate) fn take(&mut self, event: &Event)
         requires { IsBelow self.old }

@@ -8,7 +8,7 @@ ghost use Rattle.sixel_check.specs.Standing.{is_start as start_test};
 
 use sixel_grammar::{Command, Event};
 
-/// The bits of a data command; any other event has none set.
+/// The bits of a sixel or repeat; 0 for any other event.
 pub(crate) fn bits_of(event: &Event) -> u8
     ensures value { result ≡ said.bits_of event.now }
     ensures below { IsSpellable event.now → result ≤ 63 }
@@ -20,7 +20,7 @@ pub(crate) fn bits_of(event: &Event) -> u8
     }
 }
 
-/// The columns of a data command; any other event has none.
+/// The number of columns of a sixel or repeat; 0 for any other event.
 pub(crate) fn columns_of(event: &Event) -> u16
     ensures { result ≡ said.columns_of 0 event.now }
 {
@@ -31,7 +31,7 @@ pub(crate) fn columns_of(event: &Event) -> u16
     }
 }
 
-/// Whether it is data with a set bit of the six.
+/// Whether it is a sixel or repeat with at least one of the six bits set.
 pub(crate) fn is_painting(event: &Event) -> bool
     ensures { result ≡ said.is_painting event.now }
 {
@@ -78,7 +78,7 @@ pub(crate) fn is_finish(event: &Event) -> bool
     matches!(event, Event::Finish { .. })
 }
 
-/// Whether it is a start or a finish by a control of 8 bits.
+/// Whether it is a start or a finish written as an 8-bit control.
 pub(crate) fn is_eight_bit(event: &Event) -> bool
     ensures { result ≡ said.is_eight_bit event.now }
 {

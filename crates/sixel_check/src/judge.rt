@@ -22,7 +22,7 @@ use sixel_model::Profile;
 use sixel_plane::Plane;
 use std::alloc::{AllocError, Global};
 
-/// What stands after some events: the first broken rule; or, as long as none is broken, what the rules ask of them.
+/// The state after some events: the first broken rule, or, while none is broken, what the rules need to know of them.
 #[derive(Drop)]
 pub(crate) struct Judge<P: Plane> {
     pub finding: Option<Finding>,
@@ -32,7 +32,7 @@ pub(crate) struct Judge<P: Plane> {
 }
 
 impl<P: Plane> Judge<P> {
-    /// What stands before any event.
+    /// The state before any event.
     pub(crate) fn new(profile: Profile) -> Judge<P>
         ensures { JudgesAfter (count_of profile) result.finding result.state (option_map P.grid result.plane) [] }
     {
@@ -43,10 +43,9 @@ impl<P: Plane> Judge<P> {
         }
     }
 
-    /// Judges one event more. Memory is taken for the plane alone; refused, all is as it was.
+    /// Judges the next event. Only the plane is allocated; if that fails, nothing has changed.
     ///
-    /// What it calls is inlined with it, so that where the kind of the event is known nothing is left of the other
-    /// kinds.
+    /// Its callees are inlined too: a caller that knows the kind of the event keeps only the code for that kind.
     #[inline(always)]
     pub(crate) fn step(&mut self, alloc: Global, placed: &Placed) -> Result<(), AllocError>
         requires stands { (registers : ℕ) × (seen : List PlacedValue)
@@ -80,8 +79,9 @@ impl<P: Plane> Judge<P> {
         Ok(())
     }
 
-    /// Judges the sixels of so many data bytes at the beginning of `bytes`, where they break no rule and can be painted
-    /// at once or have no bit, or where a rule was broken before. Whether it did; else nothing has changed.
+    /// Judges the first `count` bytes of `bytes`, all of them data, in one step. Returns whether it did: after a broken
+    /// rule always; else if there is a plane, and the sixels are blank or can be painted on it in one step. If not,
+    /// nothing has changed.
     #[inline(always)]
     pub(crate) fn try_take_stretch(&mut self, bytes: &[u8], count: usize) -> bool
         requires stands { (registers : ℕ) × (seen : List PlacedValue)

@@ -9,14 +9,14 @@ ghost use Rattle.sixel_check.specs.Differences.{UncoveredDiffers};
 ghost use Rattle.sixel_model.specs.Profiles.{count_of};
 ghost use Rattle.sixel_model.specs.declared.profile.Profile.{Profile};
 
-/// Where no rule but `EightBit` is broken, the register in which a command paints has the colour that is left, at the
-/// painting and at the end, on each terminal with as many registers as the profile, or more.
+/// If no rule but `EightBit` is broken, a register that a command paints in has the colour that it has in the final
+/// palette, both at that command and at the end, on every terminal with at least as many registers as the profile.
 pub fn painted_colour_is_left()
     ensures { (profile : Profile) → PaintedColourIsLeft (count_of profile) }
 {}
 
-/// Where no rule but `EightBit` is broken in a whole list, no raster attributes stand after a data command, some event
-/// paints each pixel of the box, none paints a pixel outside it on any terminal, and clipping changes nothing.
+/// If no rule but `EightBit` is broken in a whole list: no raster attributes follow a data command, some event paints
+/// each pixel of the box, none paints a pixel outside it on any terminal, and clipping changes nothing.
 pub fn box_is_covered()
     ensures filled_first { (profile : Profile) → FilledFirst (count_of profile) }
     ensures all_covered { (profile : Profile) → AllCovered (count_of profile) }
@@ -24,25 +24,25 @@ pub fn box_is_covered()
     ensures none_clipped { (profile : Profile) → ClippingChangesNothing (count_of profile) }
 {}
 
-/// Where no rule is broken in a whole list, each terminal of the class with room shows the picture that is left, and
-/// paints no pixel outside it.
+/// If no rule is broken in a whole list, each terminal of the class with room shows the picture that the events leave,
+/// and paints no pixel outside it.
 pub fn left_is_portable()
     ensures { (profile : Profile) → LeftIsPortable (count_of profile) }
 {}
 
-/// Where no rule is broken, the verdict is the picture that is left, and no other.
+/// If no rule is broken, the verdict is the picture that the events leave, and no other.
 pub fn verdict_is_left()
     ensures { (profile : Profile) → VerdictIsLeft (count_of profile) }
 {}
 
-/// A list of events has some verdict, and one only.
+/// A list of events has exactly one verdict.
 pub fn lists_have_one_verdict()
     ensures some { (profile : Profile) → SomeVerdict (count_of profile) }
     ensures once { (profile : Profile) → OneVerdict (count_of profile) }
 {}
 
-/// Where memory may be taken at an event that is complete in a prefix of the bytes, it may be at one in each longer
-/// prefix, so in the longest with which some document begins.
+/// If a checker may allocate at an event that is complete in a prefix of the bytes, then also at one that is complete
+/// in any longer viable prefix.
 pub fn growth_stays()
     ensures { (profile : Profile) → GrowthStays (count_of profile) }
 {}
@@ -52,26 +52,26 @@ pub fn one_pixel_breaks_none()
     ensures { (profile : Profile) → OnePixelBreaksNone (count_of profile) }
 {}
 
-/// What a finding of three rules names, two given terminals of the class show in other colours. For `Uncovered` they
-/// have room and keep their ground, and other colours stood there; for `Outside` they differ in clipping alone, keep
-/// their ground and have 8-bit controls, and another colour stood there than the one that doesn't clip shows; for
-/// `EightBit` at the terminator they have room and differ in 8-bit controls alone, and another colour stood there
-/// than the picture has that is left.
+/// For three rules, two given terminals of the class show different colours at what the finding names. `Uncovered`:
+/// they have room, keep their ground, and had different colours there before. `Outside`: they keep their ground, have
+/// 8-bit controls and differ only in clipping; the colour there before wasn't the one that the unclipped terminal
+/// shows. `EightBit` at the terminator: they have room and differ only in 8-bit controls; the colour there before
+/// wasn't that of the picture that the events leave.
 pub fn findings_are_differences()
     ensures uncovered { (profile : Profile) → UncoveredDiffers (count_of profile) }
     ensures outside { (profile : Profile) → OutsideDiffers (count_of profile) }
     ensures eight_bit { (profile : Profile) → EightBitDiffers (count_of profile) }
 {}
 
-/// For each such finding there are two such terminals: their choices, their registers and their screens are written
-/// out.
+/// Such terminals exist for each such finding: `Differences` writes out their choices, their registers and their
+/// screens.
 pub fn some_terminals_differ()
     ensures uncovered { (profile : Profile) → SomeUncoveredDiffer profile }
     ensures outside { (profile : Profile) → SomeOutsideDiffer profile }
     ensures eight_bit { (profile : Profile) → SomeEightBitDiffer profile }
 {}
 
-/// In a document no coordinate of a pixel that is named as outside is so large that it is stopped.
+/// In a document, a finding of `Outside` has coordinates below `u64::MAX`: none is capped.
 pub fn coordinates_are_exact()
     ensures { (profile : Profile) → CoordinatesAreExact (count_of profile) }
 {}

@@ -7,7 +7,7 @@ ghost use Rattle.sixel_check.specs.Verdicts.{capped};
 
 use sixel_model::{BAND_ROWS, is_set};
 
-/// The row of a bit of a band. It stops at `u64::MAX`.
+/// The pixel row of a bit of a band, at most `u64::MAX`.
 fn row_of(band: u64, bit: u32) -> u64
     ensures { result ≡ capped (band_rows * band + bit) }
 {
@@ -15,7 +15,7 @@ fn row_of(band: u64, bit: u32) -> u64
         .saturating_add(bit as u64)
 }
 
-/// The first of some columns of a row that lies outside a box of this width and height.
+/// The first of `count` columns from `column` on that lies outside a box of this width and height, in this row.
 fn outside_column(column: u64, count: u16, row: u64, width: u32, height: u32) -> Option<u64>
     ensures { result ≡ first_column column count row width height }
 {
@@ -30,8 +30,8 @@ fn outside_column(column: u64, count: u16, row: u64, width: u32, height: u32) ->
 
 /// The first point, in row order, that a run paints outside a box of this width and height in pixels.
 ///
-/// The run has `count` columns from `column` on, in the rows of the set bits of its band of six. A column or a band
-/// of `u64::MAX` stands for each greater one too, and so does a coordinate of the result.
+/// The run has `count` columns from `column` on, in the rows of the set bits of its band. A column, band or result
+/// coordinate of `u64::MAX` means that number or any greater one.
 #[inline(always)]
 pub(crate) fn outside_pixel(
     column: u64,
@@ -51,7 +51,7 @@ pub(crate) fn outside_pixel(
     }
 }
 
-/// Whether the columns lie inside the box in all six rows of the band.
+/// Whether `count` columns from `column` on lie inside the box in all six rows of the band.
 #[inline(always)]
 pub(crate) fn is_inside(column: u64, band: u64, count: u64, width: u32, height: u32) -> bool
     ensures { IsTrue result ↔ (column + count ≤ width) × (band_rows * band + band_rows ≤ height) }

@@ -1,4 +1,4 @@
-//! The rules that look at pixels, and what is drawn.
+//! The rules that look at pixels, and the drawing.
 
 ghost use Rattle.std.specs.Prelude.{◌≡◌, ◌<◌, ◌++◌, ◌∷◌, [], ℕ, List, Some, None, IfSome, IsSome, IsTrue, OnOk, OnErr};
 ghost use Rattle.std.specs.Prelude.{IfOk};
@@ -25,7 +25,7 @@ use sixel_model::{Palette, Picture};
 use sixel_plane::Plane;
 use std::alloc::{AllocError, Global};
 
-/// The first pixel outside the box that the event paints.
+/// The first pixel outside the box, in row order, that the event paints.
 #[inline(always)]
 fn pixel_outside<P: Plane>(state: &DrawingState, plane: &P, event: &Event) -> Option<(u64, u64)>
     ensures { (registers : ℕ) (before : List EventValue) → IsStateAfter registers state.now before
@@ -52,7 +52,7 @@ fn pixel_blank<P: Plane>(plane: &P) -> Option<(u64, u64)>
     }
 }
 
-/// The violation of a control of 8 bits, which is looked at last.
+/// A violation of `EightBit`, the rule that is tested last.
 fn violation_of_eight_bit(event: &Event) -> Option<Violation>
     ensures { (registers : ℕ) (before : List EventValue) → NoneBelow registers eight_bit_rule before event.now
         → IsViolationOf registers before event.now result }
@@ -67,7 +67,7 @@ fn violation_of_eight_bit(event: &Event) -> Option<Violation>
     }
 }
 
-/// The violation of an end that leaves a pixel of the box blank, or of a control of 8 bits.
+/// A violation of `Uncovered` or of `EightBit`, tested in this order.
 fn violation_of_end<P: Plane>(plane: &P, event: &Event) -> Option<Violation>
     ensures { (registers : ℕ) (before : List EventValue) → IsDrawn (P.grid plane.now) before
         → NoneBelow registers uncovered_rule before event.now → IsViolationOf registers before event.now result }
@@ -84,7 +84,7 @@ fn violation_of_end<P: Plane>(plane: &P, event: &Event) -> Option<Violation>
     }
 }
 
-/// The violation of one of the rules that look at pixels, or of a control of 8 bits.
+/// A violation of `Outside`, `Uncovered` or `EightBit`, tested in this order.
 #[inline(always)]
 fn violation_of_pixels<P: Plane>(
     state: &DrawingState,
@@ -104,7 +104,7 @@ fn violation_of_pixels<P: Plane>(
     }
 }
 
-/// The violation of the least rule that the event breaks.
+/// The violation of the lowest-numbered rule that the event breaks.
 #[inline(always)]
 pub(crate) fn violation_of<P: Plane>(
     state: &DrawingState,
@@ -146,7 +146,7 @@ fn paint<P: Plane>(state: &DrawingState, plane: &mut P, event: &Event)
     }
 }
 
-/// The plane that the first raster attributes make; another event makes none.
+/// A blank plane of the declared size for raster attributes; `None` for any other event.
 fn first_plane<P: Plane>(alloc: Global, event: &Event) -> Result<Option<P>, AllocError>
     requires { (registers : ℕ) × (before : List EventValue) × BreaksNoRule registers before event.now }
     ensures ok { IfOk result (λ plane. (registers : ℕ) (before : List EventValue) → IsUndrawn before
@@ -160,7 +160,7 @@ fn first_plane<P: Plane>(alloc: Global, event: &Event) -> Result<Option<P>, Allo
     }
 }
 
-/// Makes the plane at the first raster attributes, and paints on it from then on.
+/// Makes the plane at the first raster attributes, and paints on it after that.
 #[inline(always)]
 pub(crate) fn draw<P: Plane>(
     alloc: Global,
@@ -190,7 +190,7 @@ pub(crate) fn draw<P: Plane>(
     }
 }
 
-/// The palette that is left: the colour of each register whose definition stands.
+/// The palette that the events leave: for each defined register its last colour.
 fn left_palette(state: DrawingState) -> Palette
     ensures { (registers : ℕ) (events : List EventValue) → IsStateAfter registers state events
         → result ≡ palette_left registers events }

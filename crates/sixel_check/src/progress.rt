@@ -1,4 +1,4 @@
-//! How far the events of a list have come.
+//! Which part of a document the events have reached.
 
 ghost use Rattle.std.specs.Prelude.{◌≡◌};
 ghost use Rattle.sixel_check.specs.Standing.{expects_from, is_whole_at, progress_with};
@@ -6,14 +6,14 @@ ghost use Rattle.sixel_check.specs.Standing.{expects_from, is_whole_at, progress
 use crate::events::{is_finish, is_start};
 use sixel_grammar::Event;
 
-/// How far they have come.
+/// The part that the events have reached.
 #[derive(Clone, Copy, Debug)]
 pub(crate) enum Progress {
-    /// There is none yet.
+    /// No event yet.
     Fresh,
-    /// A start came, and commands.
+    /// A start, and any number of commands.
     Begun,
-    /// The finish came.
+    /// The finish.
     Whole,
 }
 
@@ -35,7 +35,7 @@ impl Progress {
         matches!(self, Progress::Whole)
     }
 
-    /// How far they have come with this event, which may come next.
+    /// The progress after this event, which must have been expected.
     pub(crate) fn with(event: &Event) -> Progress
         ensures { result ≡ progress_with event.now }
     {

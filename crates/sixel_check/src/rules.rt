@@ -17,7 +17,7 @@ use sixel_model::MOST_REGISTERS;
 /// The greatest side of a box, in pixels.
 const MOST_SIDE: u16 = 2048;
 
-/// A data command, a return or an end before all raster attributes.
+/// A data command, a return or the finish before any raster attributes.
 fn breaks_raster_first(has_box: bool, event: &Event) -> bool
     ensures { result ≡ by_state.raster_first_in has_box event.now }
 {
@@ -31,7 +31,7 @@ fn breaks_raster_twice(has_box: bool, event: &Event) -> bool
     has_box && is_raster(event)
 }
 
-/// A ratio of which not both numbers are 1.
+/// Raster attributes whose aspect ratio isn't written as 1 to 1.
 #[tactic(auto, unfolding(sixel_model::specs::Rules::breaks_ratio))]
 fn breaks_ratio(event: &Event) -> bool
     ensures { result ≡ of.breaks_ratio event.now }
@@ -42,7 +42,7 @@ fn breaks_ratio(event: &Event) -> bool
     }
 }
 
-/// A side outside 1 to 2,048.
+/// Raster attributes with a side outside 1 to 2,048 pixels.
 #[tactic(auto, unfolding(sixel_model::specs::Rules::breaks_box_size))]
 fn breaks_box_size(event: &Event) -> bool
     ensures { result ≡ of.breaks_box_size event.now }
@@ -55,7 +55,7 @@ fn breaks_box_size(event: &Event) -> bool
     }
 }
 
-/// A register above those of the palette's profile.
+/// A register that the palette's profile doesn't have.
 #[tactic(auto, unfolding(sixel_model::specs::Rules::breaks_register))]
 fn breaks_register(state: &DrawingState, event: &Event) -> bool
     ensures { result ≡ of.breaks_register (length state.now.palette) event.now }
@@ -93,7 +93,7 @@ fn breaks_repeat_zero(event: &Event) -> bool
     is_repeat_of_zero(event)
 }
 
-/// A painting command where no register is known.
+/// A painting command while no register is known.
 #[inline(always)]
 fn breaks_unselected(state: &DrawingState, event: &Event) -> bool
     requires { IsBelow state.now }
@@ -117,7 +117,7 @@ fn breaks_undefined(state: &DrawingState, event: &Event) -> bool
     }
 }
 
-/// A definition of a register that was already painted in, with another colour than it has.
+/// A definition of a register that was painted in, unless it repeats the register's colour.
 #[inline(always)]
 fn breaks_redefined(state: &DrawingState, event: &Event) -> bool
     ensures { result ≡ by_state.redefined_in state.now event.now }
@@ -144,7 +144,7 @@ fn breaks_redefined(state: &DrawingState, event: &Event) -> bool
     }
 }
 
-/// The first broken rule of the ten that look at no pixel.
+/// The first broken rule of the ten that don't look at pixels.
 #[inline(always)]
 pub(crate) fn broken_rule(state: &DrawingState, has_box: bool, event: &Event) -> Option<Rule>
     requires { IsBelow state.now }

@@ -1,4 +1,4 @@
-//! Stretches of sixels, judged at once.
+//! Stretches of sixels, judged in one step.
 
 ghost use Rattle.std.specs.Prelude.{◌≡◌, ◌<◌, ◌≤◌, ◌+◌, ◌⊎◌, ◌↔◌, ℕ, IsTrue, false, length, slice_index, true};
 ghost use Rattle.sixel_grammar.specs.Bytes.{is_data};
@@ -10,8 +10,8 @@ use crate::drawing_state::DrawingState;
 use crate::outside::is_inside;
 use sixel_plane::Plane;
 
-/// Paints the sixels of so many data bytes at the beginning of `bytes`, where they lie in the box and their register
-/// was painted in before, so that they break no rule, and where the plane can paint them at once. Whether it did.
+/// Paints the first `count` bytes of `bytes`, all of them data, in one step. Returns whether it did: only if they lie
+/// in the box, a command painted in the known register before (so they break no rule), and the plane can paint them.
 #[inline(always)]
 fn try_paint_stretch<P: Plane>(
     state: &DrawingState,
@@ -49,7 +49,7 @@ fn try_paint_stretch<P: Plane>(
     }
 }
 
-/// Whether so many bytes at the beginning of `bytes` are sixels without a bit.
+/// Whether the first `count` bytes of `bytes` are all `?`, the sixel without a set bit.
 #[inline(never)]
 fn is_blank(bytes: &[u8], count: usize) -> bool
     requires { count ≤ length bytes.now }
@@ -58,9 +58,9 @@ fn is_blank(bytes: &[u8], count: usize) -> bool
     bytes[..count].iter().all(|byte| *byte == b'?')
 }
 
-/// Takes the sixels of so many data bytes at the beginning of `bytes`, where they can be painted at once, or have no
-/// bit: then they break no rule and paint nothing, wherever they lie and whichever register is selected. Whether it
-/// did.
+/// Takes the first `count` bytes of `bytes`, all of them data, in one step. Returns whether it did: if they can be
+/// painted in one step, or if all are blank. Blank sixels break no rule and paint nothing, wherever they lie and
+/// whichever register is selected.
 #[inline(always)]
 pub(crate) fn try_take_stretch<P: Plane>(
     state: &mut DrawingState,

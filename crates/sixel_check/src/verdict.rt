@@ -1,28 +1,29 @@
-//! What a check answers.
+//! The result of a check.
 
 use crate::rule::Rule;
 use sixel_model::Picture;
 
-/// The first broken rule: that at the earliest event, and among the rules broken there the one of the least number.
+/// The first broken rule: of the earliest event that breaks any rule, the lowest-numbered rule that it breaks.
 #[derive(Clone, Copy, Debug, PartialEq, Eq, Drop)]
 pub struct Finding {
     pub rule: Rule,
-    /// The place of the event: the offset of its first byte.
+    /// The offset of the event's first byte, from the start of the document.
     pub place: u64,
-    /// The column and the row, in pixels from the top left of the box. For `Outside` it is the first pixel outside the
-    /// box, for `Uncovered` the first that isn't covered, in row order; for any other rule there is none. A coordinate
-    /// above `u64::MAX` is given as `u64::MAX`; no document is so long.
+    /// The column and the row, in pixels from the top left of the box. `Outside`: the first pixel in row order that the
+    /// event paints outside the box. `Uncovered`: the first unpainted pixel of the box. Any other rule: `None`. A
+    /// coordinate above `u64::MAX` is given as `u64::MAX`; no document is long enough for that.
     pub pixel: Option<(u64, u64)>,
 }
 
-/// The picture that a string leaves, or the first broken rule.
+/// The picture that a document leaves, or the first rule that it breaks.
 #[derive(Debug, Drop)]
 pub enum Verdict {
-    /// No rule is broken. Over each pixel the picture has the register of the last set bit, and its palette has the
-    /// registers that were defined, each with its last colour. Each terminal that has room shows this picture; which
-    /// terminals are meant is said at `sixel_terminal::Choices`.
+    /// No rule is broken. Each pixel has the register that painted it last. The palette has the defined registers, each
+    /// with its last colour. Every terminal with room for the picture shows it; `sixel_terminal::Choices` says which
+    /// terminals are meant.
     Portable(Picture),
-    /// The first broken rule. What `Outside` and `Uncovered` name, and what `EightBit` does at a terminator, is a
-    /// difference between terminals; of the other rules, and of `EightBit` at an introducer, that isn't promised.
+    /// A rule is broken. For `Outside`, `Uncovered`, and `EightBit` at the terminator, two terminals can really differ
+    /// there. The other rules, and `EightBit` at the introducer, are conservative: the document may look the same
+    /// everywhere.
     Broken(Finding),
 }

@@ -1,8 +1,8 @@
-//! What one event breaks.
+//! The rule that one event breaks.
 
 use crate::rule::Rule;
 
-/// A broken rule, and its pixel.
+/// A broken rule, and its pixel as in `Finding`.
 #[derive(Clone, Copy, Debug)]
 pub(crate) struct Violation {
     pub rule: Rule,

@@ -1,34 +1,34 @@
-//! What two terminals of the class may differ in.
+//! The choices by which two terminals of the class may differ.
 
 use sixel_check::Rule;
 use sixel_terminal::{Choices, Ground};
 
-/// A choice of a terminal. Two terminals that differ in it alone may show two pictures of a document that isn't
+/// A choice of a terminal. Two terminals that differ only in it may show a document differently, if the document isn't
 /// portable.
 #[derive(Clone, Copy, Debug, PartialEq, Eq)]
 pub enum Choice {
-    /// A pixel shows the colour at the end of the string, or that at its painting.
+    /// A pixel shows the colour that its register has at the end of the string, or when it is painted.
     BindsAtShowing,
     /// A definition also selects its register, or it doesn't.
     Selects,
-    /// Raster attributes fill the box, or they leave it as it is.
+    /// Raster attributes fill the box, or they leave the screen unchanged.
     Ground,
     /// A repeat of 0 paints one column, or none.
     Zero,
-    /// A coordinate out of range becomes the nearest in range, or its definition gives no colour.
+    /// A coordinate out of range becomes the nearest one in range, or its definition gives no colour.
     Clamps,
-    /// What lies outside the box is painted, or it isn't.
+    /// Points outside the box are painted, or they aren't.
     Clips,
-    /// Controls of 8 bits are known, or they aren't.
+    /// The terminal knows 8-bit controls, or it doesn't.
     EightBit,
-    /// The colours in which the registers start.
+    /// The colours that the registers start with.
     Colours,
-    /// There are as many registers as the profile has, or 256.
+    /// The terminal has as many registers as the profile, or 256.
     Registers,
 }
 
 impl Choice {
-    /// The choice by which terminals may differ on a document that breaks the rule, if these terminals have one.
+    /// The choice by which terminals may differ on a document that breaks the rule, if the 128 terminals have one.
     pub fn of_rule(rule: Rule) -> Option<Choice> {
         match rule {
             Rule::RasterTwice | Rule::Uncovered => Some(Choice::Ground),
@@ -44,7 +44,7 @@ impl Choice {
         }
     }
 
-    /// The bit of a terminal's number that tells the choice; 0 where the number doesn't tell it.
+    /// The bit of this choice in a terminal's number; 0 if the number doesn't have it.
     pub(crate) fn bit(self) -> u8 {
         match self {
             Choice::BindsAtShowing => 1,
@@ -59,8 +59,8 @@ impl Choice {
     }
 }
 
-/// The choices of the terminal of a number from 0 to 127. It has room for a box of this width and height, and one pixel
-/// is left on each side.
+/// The choices of the terminal with this number, from 0 to 127. Its screen has room for a box of this width and height
+/// in pixels, with one pixel around it.
 pub(crate) fn choices_of(number: u8, width: u32, height: u32) -> Choices {
     let has = |choice: Choice| number & choice.bit() != 0;
     Choices {

@@ -1,9 +1,9 @@
-//! Documents of known commands, of which most break a rule.
+//! Documents made of known commands; most of them break a rule.
 
 use sixel_grammar::{Command, Event, Placed};
 use std::alloc::{AllocError, Global};
 
-/// A document in bytes and in events. The events are those that it was made of: they aren't read from the bytes.
+/// A document in bytes and in events. The events are those that it was made from; they aren't read from the bytes.
 #[derive(Debug, Drop)]
 pub struct Made {
     pub bytes: Vec<u8>,
@@ -40,12 +40,12 @@ const HUE: Command = Command::Define {
     z: 100,
 };
 
-/// `~`, so many times.
+/// `!count~`: all six bits, `count` times.
 const fn full(count: u16) -> Command {
     Command::Repeat { count, bits: 63 }
 }
 
-/// What a document of this number begins with: mostly a box of 2 by 6 pixels.
+/// The first command of a document, by a number: mostly a box of 2 by 6 pixels.
 fn first_of(number: u64) -> Command {
     match number % 8 {
         0 => raster(2, 2),
@@ -69,7 +69,7 @@ fn usual(number: u64) -> Command {
     }
 }
 
-/// What follows, by its number.
+/// A later command, by a number.
 fn more_of(number: u64) -> Command {
     match number % 27 {
         15 => Command::NextLine,
@@ -89,7 +89,7 @@ fn more_of(number: u64) -> Command {
 }
 
 impl Made {
-    /// A document of a start alone.
+    /// A document that has only a start.
     fn started(alloc: Global, eight: bool) -> Result<Made, AllocError> {
         let mut made = Made {
             bytes: Vec::new(alloc),
@@ -113,13 +113,13 @@ impl Made {
         self.push_event(Event::Step(command), text.as_bytes())
     }
 
-    /// Appends a sixel of six bits.
+    /// Appends a sixel of these six bits.
     fn push_sixel(&mut self, bits: u8) -> Result<(), AllocError> {
         let byte = bits.min(63) + b'?';
         self.push_event(Event::Step(Command::Sixel(bits)), &[byte])
     }
 
-    /// Appends a command. A repeat is spelled as one of all six bits.
+    /// Appends a command. The sixel of a repeat is spelled with all six bits.
     fn push(&mut self, alloc: Global, command: Command) -> Result<(), AllocError> {
         let text = match command {
             Command::Sixel(bits) => return self.push_sixel(bits),
@@ -151,14 +151,14 @@ impl Made {
     }
 }
 
-/// Makes one document after another, by the numbers of a generator.
+/// Makes one document after another, from the numbers of a generator.
 #[derive(Debug, Drop)]
 pub struct Documents {
     state: u64,
 }
 
 impl Documents {
-    /// A generator that begins with this number.
+    /// A generator with this first state.
     pub fn new(state: u64) -> Documents {
         Documents { state }
     }
@@ -172,8 +172,8 @@ impl Documents {
         self.state
     }
 
-    /// A document of two definitions, a select and five more commands after its beginning. One start of eight is of 8
-    /// bits, and one end of four.
+    /// A document: a first command, two definitions, a select, five more commands, an end. One start in eight and one
+    /// end in four is an 8-bit control.
     pub fn next_document(&mut self, alloc: Global) -> Result<Made, AllocError> {
         let number = self.number();
         let mut made = Made::started(alloc, (number >> 20) % 8 == 0)?;

@@ -1,8 +1,8 @@
-//! What a command knows of the events before it.
+//! What a command needs to know of the events before it.
 
 use sixel_grammar::{Command, Event, Placed};
 
-/// The command, where the event is one.
+/// The command, if the event is one.
 pub(crate) fn command_of(placed: &Placed) -> Option<Command> {
     match &placed.event {
         Event::Step(command) => Some(*command),
@@ -10,7 +10,7 @@ pub(crate) fn command_of(placed: &Placed) -> Option<Command> {
     }
 }
 
-/// The columns of data, and its bits.
+/// The columns and the bits of a sixel or repeat; 0 and 0 for any other command.
 pub(crate) fn data_of(command: Option<Command>) -> (u64, u8) {
     match command {
         Some(Command::Sixel(bits)) => (1, bits),
@@ -19,7 +19,7 @@ pub(crate) fn data_of(command: Option<Command>) -> (u64, u8) {
     }
 }
 
-/// The width and the height of the first raster attributes.
+/// The width and the height of the first raster attributes, in pixels.
 pub(crate) fn box_of(before: &[Placed]) -> Option<(u64, u64)> {
     for placed in before {
         if let Some(Command::Raster { width, height, .. }) = command_of(placed) {
@@ -29,7 +29,7 @@ pub(crate) fn box_of(before: &[Placed]) -> Option<(u64, u64)> {
     None
 }
 
-/// The register of the last select, if it was named last too.
+/// The register of the last select, if the last select or definition names it too.
 pub(crate) fn known(before: &[Placed]) -> Option<u16> {
     let mut selected = None;
     let mut named = None;
@@ -85,7 +85,7 @@ pub(crate) fn is_painted_in(before: &[Placed], register: u16) -> bool {
     false
 }
 
-/// The column and the row after these events.
+/// The column and the row, in pixels, where the next data command paints.
 pub(crate) fn corner(before: &[Placed]) -> (u64, u64) {
     let mut column: u64 = 0;
     let mut row: u64 = 0;

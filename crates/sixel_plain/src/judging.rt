@@ -9,7 +9,7 @@ use sixel_io::SliceSource;
 use sixel_model::Profile;
 use std::alloc::{AllocError, Global};
 
-/// What the plain judge says.
+/// The plain judge's verdict.
 #[derive(Clone, Copy, Debug, PartialEq, Eq, Drop)]
 pub enum PlainVerdict {
     /// No rule is broken. The width and the height are those of the box, in pixels.
@@ -18,7 +18,7 @@ pub enum PlainVerdict {
     Broken(Finding),
 }
 
-/// Whether the event is a control of 8 bits.
+/// Whether the event is an 8-bit control.
 fn is_eight_bit(event: &Event) -> bool {
     match event {
         Event::Start { eight, .. } => *eight,
@@ -27,10 +27,10 @@ fn is_eight_bit(event: &Event) -> bool {
     }
 }
 
-/// A point that an event breaks a rule at.
+/// A broken rule, and the first pixel that breaks it.
 type Broken = (Rule, (u64, u64));
 
-/// The first pixel that is left out at an end, and its rule.
+/// `Uncovered` and the first unpainted pixel of the box, if the event is an end and there is one.
 fn blank(
     alloc: Global,
     before: &[Placed],
@@ -47,7 +47,7 @@ fn blank(
     Ok(None)
 }
 
-/// The rule of those that look at pixels, and the pixel.
+/// The broken rule of those on pixels, and its pixel.
 fn pixel_rule(
     alloc: Global,
     before: &[Placed],
@@ -64,7 +64,7 @@ fn pixel_rule(
     }
 }
 
-/// What the event breaks.
+/// The first rule that the event breaks.
 fn finding_at(
     alloc: Global,
     profile: Profile,
@@ -96,7 +96,7 @@ fn finding_at(
     Ok(None)
 }
 
-/// The verdict on the events of a document. Its time grows with the square of their count at least.
+/// The verdict on the events of a document. It takes at least quadratic time.
 pub fn judge_events(
     alloc: Global,
     profile: Profile,
@@ -108,12 +108,12 @@ pub fn judge_events(
             return Ok(PlainVerdict::Broken(finding));
         }
     }
-    // Without raster attributes the end broke a rule.
+    // Without raster attributes the end would have broken a rule.
     let (width, height) = box_of(events).unwrap_or((0, 0));
     Ok(PlainVerdict::Portable { width, height })
 }
 
-/// The verdict on a document, or why the bytes are none.
+/// The verdict on a document; or the fault, if the bytes are no document.
 pub fn judge(alloc: Global, profile: Profile, bytes: &[u8]) -> Result<PlainVerdict, InputFault> {
     let events = read_all(alloc, &mut SliceSource::new(bytes, 4096, None))?;
     Ok(judge_events(alloc, profile, &events)?)

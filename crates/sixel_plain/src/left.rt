@@ -1,4 +1,4 @@
-//! Whether a picture is what a document leaves.
+//! Whether a picture is the one that a document leaves.
 
 use crate::history::{box_of, definition};
 use crate::pixels::{Pixels, painted};
@@ -14,7 +14,7 @@ fn values_of(colour: Colour) -> [u16; 4] {
     }
 }
 
-/// Whether each register has the colour of its last definition, and none where it has none.
+/// Whether each register has the colour of its last definition, and no colour without a definition.
 fn has_last_colours(picture: &Picture, events: &[Placed]) -> bool {
     for register in 0..=255u8 {
         let colour = picture.palette().get(register).map(values_of);
@@ -25,7 +25,7 @@ fn has_last_colours(picture: &Picture, events: &[Placed]) -> bool {
     true
 }
 
-/// Whether each pixel has the register in which it was painted last.
+/// Whether each pixel has the register that painted it last.
 fn has_last_registers(picture: &Picture, pixels: &Pixels) -> bool {
     for y in 0..picture.height() {
         for x in 0..picture.width() {
@@ -38,7 +38,7 @@ fn has_last_registers(picture: &Picture, pixels: &Pixels) -> bool {
     true
 }
 
-/// Whether the picture is of the profile, and has the size of the box, and the registers and the colours that the
+/// Whether the picture is of the profile, has the size of the box, and has the registers and the colours that the
 /// events leave.
 pub fn is_left(
     alloc: Global,

@@ -1,7 +1,7 @@
-//! For tests of the check: a plain judge of sixel pictures, documents to judge, and what terminals show of them.
+//! For tests of the check: a plain judge of sixel pictures, documents to judge, and what terminals show for them.
 //!
-//! The judge goes by the rules as `Rule` states them. It keeps all events and looks back from each of them, where the
-//! check keeps none, and it calls no function of the check. We prove only that it is safe and ends.
+//! The judge follows the rules as `Rule` states them. It keeps all events and looks back from each of them, while the
+//! check keeps none; and it calls no function of the check. We prove only that it is safe and ends.
 #![tactic(auto)]
 
 mod choice;

@@ -4,7 +4,7 @@ use crate::history::{command_of, corner, data_of, known};
 use sixel_grammar::{Command, Placed};
 use std::alloc::{AllocError, Global};
 
-/// Whether a sixel of these bits paints its row, counted from the top. None has more than six rows.
+/// Whether a sixel with these bits paints this row, counted from its top. A sixel has six rows.
 fn has_row(bits: u8, row: u64) -> bool {
     match row {
         0 => bits & 1 != 0,
@@ -40,14 +40,14 @@ pub(crate) fn outside(
     None
 }
 
-/// The register in which each pixel of a box was painted last, row by row; none where none was.
+/// For each pixel of a box, row by row, the register that painted it last, if any.
 #[derive(Drop)]
 pub(crate) struct Pixels {
     width: u64,
     registers: Vec<Option<u16>>,
 }
 
-/// Puts the register at the places from one to another.
+/// Sets the register of the pixels with an index from `from` up to `to`.
 fn paint_between(pixels: &mut [Option<u16>], from: u64, to: u64, register: Option<u16>) {
     for place in from..to {
         let place = place as usize;
@@ -57,7 +57,7 @@ fn paint_between(pixels: &mut [Option<u16>], from: u64, to: u64, register: Optio
     }
 }
 
-/// Paints what falls into the box of the command after these events.
+/// Paints the points of the box that the command covers after these events.
 fn paint(pixels: &mut Pixels, before: &[Placed], command: Option<Command>) {
     let (column, top) = corner(before);
     let (columns, bits) = data_of(command);
@@ -76,7 +76,7 @@ fn paint(pixels: &mut Pixels, before: &[Placed], command: Option<Command>) {
     }
 }
 
-/// What the events paint in a box of this width and height.
+/// The pixels of a box of this width and height after the events.
 pub(crate) fn painted(
     alloc: Global,
     events: &[Placed],
@@ -100,7 +100,7 @@ impl Pixels {
         self.registers.get(place).copied().flatten()
     }
 
-    /// The column and the row of the first pixel that no command paints.
+    /// The column and the row of the first pixel, in row order, that no command paints.
     pub(crate) fn uncovered(&self) -> Option<(u64, u64)> {
         for (place, register) in self.registers.iter().enumerate() {
             if register.is_none() && self.width > 0 {

@@ -1,11 +1,11 @@
-//! The rules that a command or an end breaks by itself, without a look at pixels.
+//! The rules that a command or an end breaks by itself, whatever the pixels are.
 
 use crate::history::{box_of, definition, is_painted_in, known};
 use sixel_check::Rule;
 use sixel_grammar::{Command, Event, Placed};
 use sixel_model::Profile;
 
-/// The least rule that raster attributes break.
+/// The lowest-numbered rule that raster attributes break.
 fn raster_rule(boxed: bool, pan: u16, pad: u16, width: u16, height: u16) -> Option<Rule> {
     if boxed {
         Some(Rule::RasterTwice)
@@ -26,7 +26,7 @@ fn last_of(profile: Profile) -> u16 {
     }
 }
 
-/// Whether the colour system is known, and the coordinates are in range.
+/// Whether the colour system is known and the coordinates are in range.
 fn is_colour(given: [u16; 4]) -> bool {
     let [system, x, y, z] = given;
     let most = match system {
@@ -37,7 +37,7 @@ fn is_colour(given: [u16; 4]) -> bool {
     x <= most && y <= 100 && z <= 100
 }
 
-/// The least rule that a definition breaks.
+/// The lowest-numbered rule that a definition breaks.
 fn definition_rule(
     profile: Profile,
     before: &[Placed],
@@ -55,7 +55,7 @@ fn definition_rule(
     }
 }
 
-/// The least rule that data after raster attributes breaks.
+/// The lowest-numbered rule that data breaks, if raster attributes came before.
 fn data_rule(before: &[Placed], columns: u64, bits: u8) -> Option<Rule> {
     if columns == 0 {
         return Some(Rule::RepeatZero);
@@ -70,7 +70,7 @@ fn data_rule(before: &[Placed], columns: u64, bits: u8) -> Option<Rule> {
     }
 }
 
-/// The least rule that a select or a definition breaks; none of another command.
+/// The lowest-numbered rule that a select or a definition breaks; `None` for any other command.
 fn colour_rule(profile: Profile, before: &[Placed], command: Command) -> Option<Rule> {
     match command {
         Command::Select(register) if register > last_of(profile) => Some(Rule::Register),
@@ -85,7 +85,7 @@ fn colour_rule(profile: Profile, before: &[Placed], command: Command) -> Option<
     }
 }
 
-/// The least rule that a command breaks.
+/// The lowest-numbered rule that a command breaks.
 fn command_rule(profile: Profile, before: &[Placed], command: Command) -> Option<Rule> {
     let boxed = box_of(before).is_some();
     match command {
@@ -103,7 +103,7 @@ fn command_rule(profile: Profile, before: &[Placed], command: Command) -> Option
     }
 }
 
-/// The least rule that the event breaks, of those that look at no pixel and at no control of 8 bits.
+/// The lowest-numbered rule that the event breaks, of all except those on pixels and `EightBit`.
 pub(crate) fn plain_rule(profile: Profile, before: &[Placed], event: &Event) -> Option<Rule> {
     match event {
         Event::Start { .. } => None,

@@ -1,7 +1,7 @@
 //! What 128 terminals of the class show.
 //!
-//! They make all choices but of the registers that they have. Each has a grey screen with room for a box, around which
-//! one pixel is left on each side.
+//! They take every combination of the seven choices with two values. Each has a grey screen with room for a box and one
+//! pixel around it.
 
 use crate::choice::{Choice, choices_of};
 use crate::history::box_of;
@@ -11,7 +11,7 @@ use sixel_model::{Colour, Parts, Picture, Profile};
 use sixel_terminal::Terminal;
 use std::alloc::{AllocError, Global};
 
-/// How many columns and rows of a picture the terminals show at most.
+/// How many columns and rows of a picture the terminals show at most, in pixels.
 pub const MOST_SHOWN: u32 = 256;
 
 /// The colour of a screen before anything is drawn.
@@ -21,11 +21,11 @@ const SCREEN: Parts = Parts::Rgb(50, 50, 50);
 #[derive(Clone, Copy)]
 struct Start {
     registers: Profile,
-    /// Each has 90 percent of red, green and blue. If not, register n has 6n modulo 101 percent of them.
+    /// All start at 90 percent of red, green and blue. If not, register n starts at 6n modulo 101 percent.
     pale: bool,
 }
 
-/// The percent of red, green and blue in which the register starts.
+/// The percentage of red, green and blue that the register starts with.
 fn percent_of(start: Start, register: u16) -> u8 {
     if start.pale {
         90
@@ -34,7 +34,7 @@ fn percent_of(start: Start, register: u16) -> u8 {
     }
 }
 
-/// A colour for each register.
+/// The starting colour of each register.
 fn colours_of(alloc: Global, start: Start) -> Result<Vec<Colour>, AllocError> {
     let mut colours = Vec::with_capacity(alloc, 256)?;
     for register in 0..start.registers.count() {
@@ -56,7 +56,7 @@ fn screen_of(alloc: Global, width: u32, height: u32) -> Result<Vec<Colour>, Allo
     Ok(screen)
 }
 
-/// What the terminal of this number shows of the events, row by row. It has room for a box of this width and height.
+/// What the terminal with this number shows after the events, row by row. It has room for a box of this size.
 fn shown(
     alloc: Global,
     number: u8,
@@ -72,8 +72,8 @@ fn shown(
     }
 }
 
-/// The colour that the picture has in this column and row of a screen on which it begins at 1 and 1, and of the screen
-/// around it; none where the picture's pixel has none.
+/// The colour that a screen must have in this column and row, if the picture begins at 1, 1 and the rest is untouched;
+/// `None` if the register of the pixel has no colour.
 fn expected_at(picture: &Picture, x: u32, y: u32) -> Option<Parts> {
     if x < 1 || y < 1 || x > picture.width() || y > picture.height() {
         return Some(SCREEN);
@@ -82,7 +82,7 @@ fn expected_at(picture: &Picture, x: u32, y: u32) -> Option<Parts> {
     picture.palette().get(register).map(|colour| colour.parts())
 }
 
-/// What is to be on such a screen.
+/// The colours that such a screen must have, row by row.
 fn framed(alloc: Global, picture: &Picture) -> Result<Vec<Option<Parts>>, AllocError> {
     let mut expected = Vec::new(alloc);
     for y in 0..picture.height().saturating_add(2) {
@@ -93,7 +93,7 @@ fn framed(alloc: Global, picture: &Picture) -> Result<Vec<Option<Parts>>, AllocE
     Ok(expected)
 }
 
-/// Whether a screen is as it is to be.
+/// Whether a screen has these colours.
 fn is_so(screen: &[Colour], expected: &[Option<Parts>]) -> bool {
     if screen.len() != expected.len() {
         return false;
@@ -106,8 +106,8 @@ fn is_so(screen: &[Colour], expected: &[Option<Parts>]) -> bool {
     true
 }
 
-/// Whether the 128 terminals, with the registers of the profile, all show the picture after the events, and their
-/// screens around it. A picture with a side above `MOST_SHOWN` they don't.
+/// Whether the 128 terminals, with the registers of the profile, all show the picture after the events and leave the
+/// rest of their screens untouched. It is false for a picture with a side above `MOST_SHOWN`.
 pub fn all_show(
     alloc: Global,
     profile: Profile,
@@ -132,20 +132,20 @@ pub fn all_show(
     Ok(true)
 }
 
-/// A side of the part of the screen on which a finding is looked at. It has that of the box, and the pixel.
+/// A side of the part of the screen to compare: large enough for the box and the pixel, at most `MOST_SHOWN`.
 fn side(of_box: u64, pixel: u64) -> u32 {
     let side = of_box.max(pixel.saturating_add(1)).min(MOST_SHOWN as u64);
     side as u32
 }
 
-/// The size of the box that the events declare, enlarged so far that the pixel of the finding lies in it.
+/// The size of the declared box, enlarged to hold the pixel of the finding.
 fn size_of(events: &[Placed], finding: &Finding) -> (u32, u32) {
     let (width, height) = box_of(events).unwrap_or((1, 1));
     let (x, y) = finding.pixel.unwrap_or((0, 0));
     (side(width, x), side(height, y))
 }
 
-/// Whether two screens show two colours at the pixel that the finding names, or anywhere where it names none.
+/// Whether two screens differ at the pixel of the finding, or anywhere if it has none.
 fn is_different(
     one: &[Colour],
     other: &[Colour],
@@ -162,7 +162,7 @@ fn is_different(
     }
 }
 
-/// The registers of the two sides of a choice.
+/// The starting registers of the two terminals that differ in the choice.
 fn starts_of(profile: Profile, choice: Choice) -> [Start; 2] {
     let start = Start {
         registers: profile,
@@ -182,8 +182,8 @@ fn starts_of(profile: Profile, choice: Choice) -> [Start; 2] {
     [start, other]
 }
 
-/// Whether some two terminals that differ in the choice alone show two pictures of the events. They are looked at in
-/// the pixel that the finding names, or as a whole where it names none. No column or row from `MOST_SHOWN` up is shown.
+/// Whether two of the terminals that differ only in the choice show the events differently: at the pixel of the
+/// finding, or anywhere if it has none. Columns and rows from `MOST_SHOWN` on aren't shown.
 pub fn terminals_differ(
     alloc: Global,
     profile: Profile,

@@ -1,14 +1,14 @@
-//! A source that cuts its bytes, and a sink that keeps what it takes.
+//! A source that gives its bytes in pieces, and a sink that keeps what it takes.
 
 ghost use Rattle.std.specs.Prelude.{None};
 
 use sixel_io::{DeviceFault, Sink, Source};
 use std::alloc::Global;
 
-/// How many bytes move in a call.
+/// How many bytes one call moves at most.
 #[derive(Clone, Copy, Debug)]
 pub struct Cutting {
-    /// The most that the first call of the source gives.
+    /// The most that the first call of the source gives, in bytes.
     pub first: usize,
     /// The most that each later call gives.
     pub later: usize,
@@ -16,7 +16,7 @@ pub struct Cutting {
     pub taken: usize,
 }
 
-/// Gives the bytes of a slice, cut in this way.
+/// Gives the bytes of a slice, in pieces of these sizes.
 #[derive(Drop)]
 pub struct CutSource<'a> {
     rest: &'a [u8],
@@ -62,7 +62,7 @@ pub struct KeepingSink {
 }
 
 impl KeepingSink {
-    /// An empty sink that takes at most so many bytes a call.
+    /// An empty sink that takes at most `most` bytes a call.
     pub fn new(alloc: Global, most: usize) -> KeepingSink {
         KeepingSink {
             bytes: Vec::new(alloc),

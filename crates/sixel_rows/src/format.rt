@@ -3,7 +3,7 @@
 use std::alloc::{AllocError, AllocFailed, Global};
 use thiserror::Error;
 
-/// One row: a task on an input, and what comes of it.
+/// One row: a task on an input, and how it must end.
 #[derive(Drop)]
 pub struct Row<'a> {
     /// The number of its line in the file, from 1.
@@ -11,15 +11,15 @@ pub struct Row<'a> {
     /// The task as on the command line, without the program's name.
     pub words: &'a str,
     pub input: Vec<u8>,
-    /// The exit status that is wanted.
+    /// The exit status that it must have.
     pub status: u8,
-    /// What is to be written to standard output.
+    /// What it must write to standard output.
     pub output: Vec<u8>,
-    /// The first line that is to be written to standard error, or nothing.
+    /// The first line that it must write to standard error; empty for none.
     pub said: Vec<u8>,
 }
 
-/// What is wrong with a file of rows.
+/// Why a file of rows is malformed.
 #[derive(Clone, Copy, Debug, Error)]
 pub enum RowFault {
     #[error("a row has five columns with one tab between two")]
@@ -46,7 +46,7 @@ impl<T: Drop> From<AllocFailed<T>> for RowFault {
     }
 }
 
-/// A fault, and the number of its line.
+/// A fault, and its line.
 #[derive(Clone, Copy, Debug, Error)]
 #[error("line {line}: {fault}")]
 pub struct Malformed {
@@ -54,7 +54,7 @@ pub struct Malformed {
     pub fault: RowFault,
 }
 
-/// The rows of a file. Empty lines, and those that begin with `#`, are no rows.
+/// The rows of a file. Empty lines, and lines that begin with `#`, are skipped.
 pub fn rows_of(alloc: Global, text: &str) -> Result<Vec<Row<'_>>, Malformed> {
     let mut rows = Vec::new(alloc);
     let mut line: u64 = 0;
@@ -67,7 +67,7 @@ pub fn rows_of(alloc: Global, text: &str) -> Result<Vec<Row<'_>>, Malformed> {
     Ok(rows)
 }
 
-/// Adds the row of a line, if it is one.
+/// Adds the row of a line, unless the line is skipped.
 fn push_row<'a>(
     alloc: Global,
     rows: &mut Vec<Row<'a>>,
@@ -80,7 +80,7 @@ fn push_row<'a>(
     Ok(())
 }
 
-/// The two sides of the first tab.
+/// What comes before and after the first tab.
 fn column<'a>(written: &'a str) -> Result<(&'a str, &'a str), RowFault> {
     written.split_once('\t').ok_or(RowFault::Columns)
 }
@@ -113,7 +113,7 @@ fn status_of(written: &str) -> Result<u8, RowFault> {
     }
 }
 
-/// What of an escape was read.
+/// The part of an escape that was read so far.
 #[derive(Clone, Copy)]
 enum Open {
     Nothing,
@@ -144,7 +144,7 @@ fn bytes_of(alloc: Global, written: &str) -> Result<Vec<u8>, RowFault> {
     }
 }
 
-/// Takes one sign of a column, and adds the byte that it completes.
+/// Takes one character of a column, and adds the byte that it completes.
 fn step(bytes: &mut Vec<u8>, open: Open, sign: u8) -> Result<Open, RowFault> {
     match (open, sign) {
         (Open::Nothing, b'\\') => return Ok(Open::Escape),

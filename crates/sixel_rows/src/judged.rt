@@ -1,4 +1,4 @@
-//! The rows of `check`, as a plain judge and terminals see them.
+//! The rows of `check`, tested with the plain judge and with terminals.
 
 use crate::format::Row;
 use crate::judges::{are_neighbours_alike, is_judged_alike, make_tally};
@@ -9,7 +9,7 @@ use sixel_grammar::InputFault;
 use sixel_model::Profile;
 use std::alloc::Global;
 
-/// The profile by which a row checks, if it does.
+/// The profile of a row's check, if its task is one.
 fn profile_of(words: &str) -> Option<Profile> {
     match words {
         "check" => Some(Profile::Registers16),
@@ -18,8 +18,8 @@ fn profile_of(words: &str) -> Option<Profile> {
     }
 }
 
-/// Whether the check says of the row and its neighbours what the plain judge says, and the terminals go along. A rule
-/// by whose choice two of them differ is added to the rules.
+/// Whether the check of the row's input and its neighbours agrees with the plain judge, and the terminals agree with
+/// the verdict. If two terminals differ by the choice of a broken rule, the rule is added to `rules`.
 fn is_right(alloc: Global, row: &Row<'_>, rules: &mut Vec<Rule>) -> Result<bool, InputFault> {
     let bytes = row.input.as_slice();
     match profile_of(row.words) {
@@ -32,7 +32,7 @@ fn is_right(alloc: Global, row: &Row<'_>, rules: &mut Vec<Rule>) -> Result<bool,
     }
 }
 
-/// What went wrong, but for a judgement.
+/// The error for a fault that keeps the judges from judging.
 fn reason_of(fault: InputFault) -> anyhow::Error {
     match fault {
         InputFault::Grammar(_) => anyhow!("no document"),
@@ -41,8 +41,8 @@ fn reason_of(fault: InputFault) -> anyhow::Error {
     }
 }
 
-/// Judges the rows and prints their number, and each one on which the judges or the terminals don't agree. How many
-/// don't.
+/// Judges the rows, and prints their number and each one on which the judges or the terminals disagree. Returns the
+/// number of these.
 pub fn judge_rows(
     rt: &(impl AllocGlobal + Print),
     name: &str,
@@ -67,8 +67,8 @@ pub fn judge_rows(
     Ok(wrong)
 }
 
-/// Judges made documents by a profile, and prints how many aren't judged alike, if any are or a rule was never broken.
-/// 1 if so, and else 0.
+/// Judges made documents of a profile. If verdicts disagree, or some rule was never broken, it prints how many
+/// disagree, and returns 1; else it returns 0.
 pub fn judge_made(rt: &(impl AllocGlobal + Print), profile: Profile) -> Result<u64, anyhow::Error> {
     let tally = make_tally(rt.alloc(), profile).map_err(reason_of)?;
     if tally.wrong == 0 && tally.has_all() {

@@ -1,4 +1,4 @@
-//! Whether the check says what the plain judge says.
+//! Whether the check agrees with the plain judge.
 
 use crate::steps::verdict_by_events;
 use sixel_check::{Rule, Verdict, check_bytes};
@@ -8,13 +8,13 @@ use sixel_model::Profile;
 use sixel_plain::{Documents, Made, PlainVerdict, is_left, judge_events};
 use std::alloc::{AllocError, Global};
 
-/// How many bytes a document may have for its neighbours to be judged.
+/// Neighbours are judged only of documents with at most this many bytes.
 const MOST_SWEPT: usize = 64;
 
-/// What takes the place of each byte in turn.
+/// The bytes that replace each byte in turn.
 const BYTES: [u8; 6] = *b"@-#1;\"";
 
-/// The rules, by their numbers.
+/// The rules, in the order of their numbers.
 const RULES: [Rule; 13] = [
     Rule::RasterFirst,
     Rule::RasterTwice,
@@ -31,7 +31,7 @@ const RULES: [Rule; 13] = [
     Rule::EightBit,
 ];
 
-/// Whether the verdict is the plain judge's: the same finding, or a picture that is what the events leave.
+/// Whether the verdict agrees with the plain judge's: the same finding, or the picture that the events leave.
 fn is_plain(
     alloc: Global,
     profile: Profile,
@@ -48,7 +48,7 @@ fn is_plain(
     }
 }
 
-/// Whether the verdict on these events is the plain judge's, and so is that of a checker that sees them one by one.
+/// Whether the verdict on these events agrees with the plain judge's, and so does a checker that gets them one by one.
 fn is_agreed(
     alloc: Global,
     profile: Profile,
@@ -79,7 +79,7 @@ fn is_refused(
     }
 }
 
-/// Whether the check's answer on the bytes is that of the plain judge, or the fault that they have.
+/// Whether the check gives the plain judge's verdict on the bytes, or their fault.
 pub fn is_judged_alike(alloc: Global, profile: Profile, bytes: &[u8]) -> Result<bool, InputFault> {
     match read_all(alloc, &mut SliceSource::new(bytes, 4096, None)) {
         Ok(events) => {
@@ -91,14 +91,14 @@ pub fn is_judged_alike(alloc: Global, profile: Profile, bytes: &[u8]) -> Result<
     }
 }
 
-/// The document up to a place, and an end.
+/// The document up to an offset, and an end.
 fn cut(alloc: Global, bytes: &[u8], place: usize) -> Result<Vec<u8>, AllocError> {
     let mut text = Vec::from_slice(alloc, bytes.get(..place).unwrap_or(&[]))?;
     text.extend_from_slice(b"\x1b\\")?;
     Ok(text)
 }
 
-/// The document with another byte in one place.
+/// The document with another byte at an offset.
 fn changed(alloc: Global, bytes: &[u8], place: usize, byte: u8) -> Result<Vec<u8>, AllocError> {
     let mut text = Vec::from_slice(alloc, bytes)?;
     if place < text.len() {
@@ -107,7 +107,7 @@ fn changed(alloc: Global, bytes: &[u8], place: usize, byte: u8) -> Result<Vec<u8
     Ok(text)
 }
 
-/// Whether the documents with another byte in this place are judged alike, and so is the one that is cut off there.
+/// Whether both judges agree on the documents with another byte at this offset, and on the one that is cut off there.
 fn is_alike_at(
     alloc: Global,
     profile: Profile,
@@ -124,8 +124,8 @@ fn is_alike_at(
     is_judged_alike(alloc, profile, text.as_slice())
 }
 
-/// Whether the neighbours of a document are judged alike: cut off anywhere, or with another byte in one place. It is
-/// always true of documents with more than `MOST_SWEPT` bytes.
+/// Whether both judges agree on the neighbours of a document: cut off anywhere, or with one byte replaced. It is always
+/// true for a document with more than `MOST_SWEPT` bytes.
 pub fn are_neighbours_alike(
     alloc: Global,
     profile: Profile,
@@ -141,18 +141,18 @@ pub fn are_neighbours_alike(
     Ok(true)
 }
 
-/// What made documents were like.
+/// Counts over made documents.
 #[derive(Drop)]
 pub struct Tally {
-    /// Those that aren't judged alike.
+    /// Those on which the judges disagree.
     pub wrong: u32,
     pub portable: u32,
-    /// Whether each rule was broken, after the start.
+    /// Whether each rule was broken at an event after the start.
     met: [bool; 13],
 }
 
 impl Tally {
-    /// Whether each rule was broken and some documents are portable.
+    /// Whether each rule was broken, and more than four documents are portable.
     pub fn has_all(&self) -> bool {
         self.met.iter().all(|met| *met) && self.portable > 4
     }
@@ -173,7 +173,7 @@ impl Tally {
     }
 }
 
-/// Whether the check's answer on the bytes of a made document is the plain judge's on its events.
+/// Whether the check's verdict on the bytes of a made document agrees with the plain judge's on its events.
 fn is_made_alike(
     alloc: Global,
     profile: Profile,
@@ -184,7 +184,7 @@ fn is_made_alike(
     Ok(is_plain(alloc, profile, &made.events, &verdict, plain)?)
 }
 
-/// What a thousand made documents are like.
+/// Counts over a thousand made documents.
 pub fn make_tally(alloc: Global, profile: Profile) -> Result<Tally, InputFault> {
     let mut tally = Tally {
         wrong: 0,

@@ -1,8 +1,8 @@
-//! Runs the rows of `data/` through `run`, in many cuttings: the conformance suite of this repository.
+//! Runs the rows of `data/` through `run`, with inputs cut in many ways: the conformance suite of this repository.
 //!
-//! It prints the number of rows of each file. A row with another end than it says is printed, and the exit status is 1.
-//! The inputs of `check.rows` are also judged by the plain judge and shown on terminals, as are made documents.
-//! A file that can't be read, an empty file and a malformed row are errors.
+//! It prints the number of rows of each file. If a run ends in another way than its row says, it prints the row, and
+//! the exit status is 1. The plain judge and the terminals also test the inputs of `check.rows`, and made documents. A
+//! file that can't be read, an empty file and a malformed row are errors.
 #![tactic(auto)]
 
 mod devices;
@@ -26,7 +26,7 @@ use sixel_model::Profile;
 use std::fs;
 use std::process::ExitCode;
 
-/// The files of rows, each of one task.
+/// The files of rows, one for each task.
 const FILES: [&str; 5] = [
     "list.rows",
     "check.rows",
@@ -35,7 +35,7 @@ const FILES: [&str; 5] = [
     "encode.rows",
 ];
 
-/// The file whose rows are judged too.
+/// The file whose rows the plain judge judges too.
 const JUDGED: &str = "check.rows";
 
 fn main(rt: HostRuntime) -> Result<ExitCode, anyhow::Error> {
@@ -53,7 +53,7 @@ fn main(rt: HostRuntime) -> Result<ExitCode, anyhow::Error> {
     })
 }
 
-/// Runs the rows of a file, and prints their number and each wrong one. How many are wrong.
+/// Runs the rows of a file, and prints their number and each wrong one. Returns how many are wrong.
 fn run_file(rt: &HostRuntime, name: &str) -> Result<u64, anyhow::Error> {
     let text = fs::read_to_string(rt, name).context(name)?;
     let rows = rows_of(rt.alloc(), text.as_str()).context(name)?;
@@ -71,7 +71,7 @@ fn run_file(rt: &HostRuntime, name: &str) -> Result<u64, anyhow::Error> {
     Ok(wrong)
 }
 
-/// Runs a row, and its prefixes if they follow from it, and prints what is wrong. How many are wrong.
+/// Runs a row, and its prefixes if it has any, and prints what is wrong. Returns how many are wrong.
 fn run_row(rt: &HostRuntime, name: &str, row: &Row<'_>) -> Result<u64, anyhow::Error> {
     let wrong = wrong_of(rt.alloc(), row).map_err(|fault| anyhow!(
         "{name}: line {}: {fault}",
@@ -98,7 +98,7 @@ fn run_prefix(
     report(rt, name, &prefix, wrong)
 }
 
-/// Prints what is wrong with a row, if anything is. How many are wrong: 0 or 1.
+/// Prints what is wrong with a row, if anything is. Returns how many are wrong: 0 or 1.
 fn report(
     rt: &HostRuntime,
     name: &str,

@@ -1,10 +1,10 @@
-//! Rows that follow from a row: each prefix of a document is truncated at its end.
+//! Rows that follow from another row: each prefix of a document is refused as truncated.
 
 use crate::format::Row;
 use crate::tasks::MOST_SHORT;
 use std::alloc::{AllocError, Global};
 
-/// Whether the row is a verdict on a short document that ends with ESC `\`, so that no prefix of it is one.
+/// Whether the row is a check of a short document that ends with ESC `\`, so that no prefix of it is a document.
 pub fn has_prefixes(row: &Row<'_>) -> bool {
     row.input.len() <= MOST_SHORT
         && row.status < 2
@@ -12,7 +12,7 @@ pub fn has_prefixes(row: &Row<'_>) -> bool {
         && row.input.as_slice().ends_with(b"\x1b\\")
 }
 
-/// The row of a prefix of so many bytes: it is refused there as truncated, and nothing is written.
+/// The row of a prefix of `length` bytes: it is refused as truncated at its end, and nothing is written.
 pub fn prefix_of<'a>(alloc: Global, row: &Row<'a>, length: usize) -> Result<Row<'a>, AllocError> {
     let prefix = row.input.as_slice().get(..length).unwrap_or(&[]);
     let said = format!(in alloc; "sixel: Truncated at {length}\n")?;

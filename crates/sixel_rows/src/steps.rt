@@ -1,4 +1,4 @@
-//! A checker, event by event, with its pixels in a plane of bytes.
+//! A checker that gets one event at a time, with its pixels in a plane of bytes.
 
 ghost use Rattle.std.specs.Prelude.{ℕ, List, OnOk};
 ghost use Rattle.sixel_grammar.specs.declared.command.Placed.{Placed as PlacedValue};
@@ -10,7 +10,7 @@ use sixel_model::Profile;
 use sixel_plane::BytePlane;
 use std::alloc::{AllocError, Global};
 
-/// Pushes the event, if it may come. Whether it may.
+/// Pushes the event, if it may come next. Returns whether it may.
 fn push_next(checker: &mut Checker<BytePlane>, placed: &Placed) -> Result<bool, AllocError>
     requires { (registers : ℕ) × (seen : List PlacedValue) × StandsAfter registers checker.old seen }
     ensures { OnOk result ((registers : ℕ) × (seen : List PlacedValue) × StandsAfter registers checker.new seen) }
@@ -22,7 +22,7 @@ fn push_next(checker: &mut Checker<BytePlane>, placed: &Placed) -> Result<bool, 
     Ok(true)
 }
 
-/// The verdict of a checker that saw these events one by one; none where they are no whole document.
+/// The verdict of a checker that got these events one by one; `None` if they aren't the events of a document.
 pub fn verdict_by_events(
     alloc: Global,
     profile: Profile,

@@ -1,4 +1,4 @@
-//! Runs a row in many cuttings.
+//! Runs a row, with its input cut in many ways.
 
 ghost use Rattle.std.specs.Prelude.{◌≡◌, true};
 ghost use Rattle.sixel_run.specs.Outputs.{HasSides};
@@ -9,30 +9,30 @@ use crate::words::task_of;
 use sixel_run::{Line, RunFault, Status, Task, fault_line, finding_line, run};
 use std::alloc::Global;
 
-/// Inputs of at most so many bytes are run in pieces of each size, and cut in two at each place.
+/// Inputs of at most this many bytes are run in pieces of each size, and cut in two at each offset.
 pub const MOST_SHORT: usize = 128;
 
-/// The sizes of the pieces of longer inputs.
+/// The sizes of the pieces for longer inputs, in bytes.
 const SIZES: [usize; 8] = [1, 2, 5, 7, 16, 64, 1_000, 65_536];
 
-/// What came of a run.
+/// How a run ended.
 #[derive(Drop)]
 pub struct Ended {
     pub status: u8,
     pub output: Vec<u8>,
     pub said: Line,
-    /// How often the output was flushed, which is to be once.
+    /// How often the output was flushed; it must be once.
     pub flushes: u64,
 }
 
-/// A run with another end than the row says.
+/// A run that ended in another way than the row says.
 #[derive(Drop)]
 pub struct Wrong {
     pub cutting: Cutting,
     pub ended: Ended,
 }
 
-/// The first cutting in which the row is wrong, and what came of it.
+/// The first cutting in which the run is wrong, and how it ended.
 pub fn wrong_of(alloc: Global, row: &Row<'_>) -> Result<Option<Wrong>, RowFault> {
     let task = task_of(row.words)?;
     if row.input.len() > MOST_SHORT {
@@ -44,7 +44,7 @@ pub fn wrong_of(alloc: Global, row: &Row<'_>) -> Result<Option<Wrong>, RowFault>
     }
 }
 
-/// The first of a few sizes of pieces in which the row is wrong, and what came of it.
+/// The first of a few piece sizes for which the run is wrong, and how it ended.
 pub fn wrong_in_some_pieces(alloc: Global, row: &Row<'_>) -> Result<Option<Wrong>, RowFault> {
     let task = task_of(row.words)?;
     Ok(in_some_pieces(alloc, task, row))
@@ -70,7 +70,7 @@ fn in_some_pieces(alloc: Global, task: Task, row: &Row<'_>) -> Option<Wrong>
     None
 }
 
-/// In pieces of one byte to the whole input, and one more.
+/// In pieces of each size, from one byte to one more than the whole input.
 fn in_all_pieces(alloc: Global, task: Task, row: &Row<'_>) -> Option<Wrong>
     requires { HasSides task }
 {
@@ -82,7 +82,7 @@ fn in_all_pieces(alloc: Global, task: Task, row: &Row<'_>) -> Option<Wrong>
     None
 }
 
-/// Cut in two at each place.
+/// Cut in two at each offset.
 fn in_two(alloc: Global, task: Task, row: &Row<'_>) -> Option<Wrong>
     requires { HasSides task }
 {
@@ -98,7 +98,7 @@ fn in_two(alloc: Global, task: Task, row: &Row<'_>) -> Option<Wrong>
     None
 }
 
-/// What came of a run in this cutting, if it isn't what the row says.
+/// How a run in this cutting ended, if the row says otherwise.
 fn wrong_in(alloc: Global, task: Task, row: &Row<'_>, cutting: Cutting) -> Option<Wrong>
     requires { HasSides task }
 {
@@ -146,7 +146,7 @@ fn code_of(answer: &Result<Status, RunFault>) -> u8 {
     }
 }
 
-/// The line that goes to standard error: why a run is refused, or why a picture isn't rendered.
+/// The line that goes to standard error: why a run was refused, or why a picture wasn't rendered.
 fn said_of(task: Task, answer: &Result<Status, RunFault>) -> Line {
     match answer {
         Ok(Status::Broken(finding)) if matches!(task, Task::Render { .. }) => finding_line(finding),

@@ -1,4 +1,4 @@
-//! Whether terminals show what a verdict says.
+//! Whether terminals show what a verdict claims.
 
 use sixel_check::{Finding, Rule, Verdict, check_bytes};
 use sixel_grammar::{InputFault, Placed, read_all};
@@ -18,8 +18,8 @@ fn is_in_sight(finding: &Finding) -> bool {
     x < MOST_SHOWN as u64 && y < MOST_SHOWN as u64
 }
 
-/// The choice by which some two terminals must differ: a pixel is outside or uncovered, a control of 8 bits stands at
-/// the end, or a register without a colour is painted in.
+/// The choice by which two terminals must differ: for a pixel outside the box or uncovered, for an 8-bit control at the
+/// end, and for painting in a register without a colour.
 fn choice_of(finding: &Finding) -> Option<Choice> {
     let differs = match finding.rule {
         Rule::Outside | Rule::Uncovered | Rule::Undefined => is_in_sight(finding),
@@ -46,10 +46,10 @@ fn is_seen(
     }
 }
 
-/// How many rules there are by whose choice terminals differ.
+/// How many rules have a choice by which terminals differ.
 pub const DIFFERENCES: usize = 10;
 
-/// Adds the broken rule to those by whose choice two terminals differed, if they do and it isn't among them.
+/// Adds the broken rule to `rules`, if two terminals differ by its choice and it isn't there yet.
 fn add_rule(
     alloc: Global,
     profile: Profile,
@@ -68,7 +68,7 @@ fn add_rule(
     Ok(())
 }
 
-/// Whether all terminals that have room show a portable picture, and some two of them differ where they must.
+/// Whether all terminals with room show a portable picture, and two terminals differ if a finding says so.
 fn is_verdict_shown(
     alloc: Global,
     profile: Profile,
@@ -87,8 +87,8 @@ fn is_verdict_shown(
     }
 }
 
-/// Whether the terminals go along with the verdict on the bytes. Always true for bytes with a fault. A rule by whose
-/// choice two differ is added to the rules.
+/// Whether the terminals agree with the verdict on the bytes; always true for bytes with a fault. If two differ by the
+/// choice of the broken rule, the rule is added to `rules`.
 pub fn is_shown_so(
     alloc: Global,
     profile: Profile,

@@ -1,4 +1,4 @@
-//! The task that the words of a row name.
+//! The task that the arguments of a row name.
 
 ghost use Rattle.std.specs.Prelude.{IfOk, IsTrue};
 ghost use Rattle.sixel_ppm.specs.Ppm.{is_file_side};
@@ -20,7 +20,7 @@ struct Options<'a> {
     height: Option<&'a str>,
 }
 
-/// An option whose value comes next.
+/// An option whose value is the next argument.
 #[derive(Clone, Copy)]
 enum Awaited {
     Nothing,
@@ -28,7 +28,7 @@ enum Awaited {
     Height,
 }
 
-/// The task that the words name.
+/// The task that the arguments name.
 pub fn task_of(words: &str) -> Result<Task, RowFault>
     ensures { IfOk result HasSides }
 {
@@ -47,7 +47,7 @@ pub fn task_of(words: &str) -> Result<Task, RowFault>
     }
 }
 
-/// Whether there is no option but `--wide`, and whether there is none at all.
+/// Whether there is no option except `--wide`, and whether there is no option at all.
 fn kind_of(options: Options<'_>) -> (bool, bool) {
     let is_wide = !options.showing
         && !options.fill
@@ -95,7 +95,7 @@ fn sized(profile: Profile, options: Options<'_>) -> Result<Task, RowFault>
     })
 }
 
-/// The side of a screen.
+/// The side of a screen, in pixels.
 fn side_of(written: Option<&str>) -> Result<u32, RowFault>
     ensures { IfOk result (λ side. IsTrue (is_file_side side)) }
 {
@@ -117,7 +117,7 @@ fn options_of(words: &str) -> Result<Options<'_>, RowFault> {
     }
 }
 
-/// Takes one word, and says which option waits for the next.
+/// Takes one argument. Returns the option whose value comes next.
 fn take_word<'a>(
     options: &mut Options<'a>,
     awaited: Awaited,

@@ -1,10 +1,10 @@
-//! What is printed of a wrong row.
+//! What is printed for a wrong row.
 
 use crate::format::Row;
 use crate::tasks::{Ended, Wrong};
 use std::alloc::{AllocError, Global};
 
-/// The value of a hexadecimal digit, as a sign.
+/// The hexadecimal digit of a value.
 fn hex(value: u8) -> u8 {
     let value = value & 15;
     if value < 10 {
@@ -40,14 +40,14 @@ fn escaped(alloc: Global, bytes: &[u8]) -> Result<String, AllocError> {
     Ok(text)
 }
 
-/// What a run gave or was to give, as the last three columns of a row.
+/// How a run ended or must end, as the last three columns of a row.
 fn columns(alloc: Global, status: u8, output: &[u8], said: &[u8]) -> Result<String, AllocError> {
     let output = escaped(alloc, output)?;
     let said = escaped(alloc, said)?;
     format!(in alloc; "{status}\t{output}\t{said}")
 }
 
-/// The lines of a wrong row: where it stands, what came of it and in which cutting, and what was wanted.
+/// The lines for a wrong row: where it is, in which cutting, how it ended, and how it must end.
 pub fn wrong_lines(
     alloc: Global,
     file: &str,

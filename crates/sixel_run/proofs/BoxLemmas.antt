@@ -1,4 +1,4 @@
--- What a run of `show --box` owes.
+-- Lemmas for a run of `show --box`.
 use Rattle.std.proofs.Common.{◌≡◌, ◌∙◌, ℕ, Bool, true, false, List, [], ◌∷◌, ◌++◌, take, Option, Some, None, refl, sym}
 use Rattle.std.proofs.Common.{ap, ap₂, subst, inl, inr, ◌+◌, add-one}
 use Rattle.std.specs.Prelude.{◌&&◌, option_and_then, option_map, slice_get, IfSome, IsTrue, Result, Ok, Err}
@@ -47,7 +47,7 @@ none-in : (o : Option Attributes) → None ≡ option_map size_of o → o ≡ No
 none-in None e = refl
 none-in (Some a) e = cc
 
--- none up to an event that is none either
+-- no raster attributes before the event or in it
 none-later : (xs : List Placed) (p : Placed) → earliest raster_at xs ≡ None
     → None ≡ option_map size_of (raster_of p.event)
     → earliest raster_at (xs ++ p ∷ []) ≡ None
@@ -59,7 +59,7 @@ pub none-yet : (xs : List Placed) (p : Placed) (i : ℕ) → slice_get xs i ≡ 
 none-yet xs p i there before here =
     rw add-one (ap (earliest raster_at) (take_one_more xs i p there) ∙ none-later (take i xs) p before here)
 
--- those of the first event that has any
+-- the first raster attributes are those of the first event that has any
 sides-at : (events : List Placed) (o : Option Attributes) (p : Placed) (i width height : ℕ) → raster_at p ≡ o
     → slice_get events i ≡ Some p → earliest raster_at (take i events) ≡ None
     → Some (width, height) ≡ option_map size_of o
@@ -96,7 +96,7 @@ boxed terminal bytes d sides doc is text (Err NotRgb) g = (d, doc, (sides, is, g
 boxed terminal bytes d sides doc is text (Err (Grammar f)) g = g
 boxed terminal bytes d sides doc is text (Err other) g = absurd g
 
--- the sides that another reading of the document declares
+-- the document, read in another way, declares the same sides
 same-sides : (bytes : List ℕ) (d e : List Placed) (a b : Sides) → Document d bytes → Document e bytes
     → declared_screen (events_of d) ≡ Some a → declared_screen (events_of e) ≡ Some b → b ≡ a
 same-sides bytes d e a b p q is are =
@@ -148,7 +148,7 @@ faulty terminal bytes f is text (Ok s) g = absurd (fault_no_document bytes f is 
 faulty terminal bytes f is text (Err NotRgb) g = absurd (fault_no_document bytes f is (g.0, g.1))
 faulty terminal bytes f is text (Err other) g = absurd g.2.2
 
--- ---- the same as relations both ways
+-- ---- the same as equivalences
 
 pub no-box : (terminal : Sides → Display) (bytes : List ℕ) (d : List Placed) → Document d bytes
     → declared_screen (events_of d) ≡ None → (text : Text) (answer : Result Status RunFault) → text ≡ []
@@ -194,7 +194,7 @@ pub declared_sides : (events : List Event) (width height : ℕ) → declared_scr
 unfolding declared_screen
 declared_sides events width height e = sides-in (raster_before events) width height e
 
--- ---- one output
+-- ---- at most one output
 
 both-same : (first second text : Text) (a b answer : Result Status RunFault) → (first ≡ text) × (a ≡ answer)
     → (second ≡ text) × (b ≡ answer) → (first ≡ second) × (a ≡ b)
@@ -219,7 +219,7 @@ box-once terminal bytes first second a b g h =
           (faulty terminal bytes f.0 f.1 second b h)
     ]
 
--- ---- some output
+-- ---- at least one output
 
 gives-in : (terminal : Sides → Display) (bytes : List ℕ) (d : List Placed) (o : Option Sides) → Document d bytes
     → declared_screen (events_of d) ≡ o
@@ -237,9 +237,9 @@ box-gives terminal bytes =
       | inr f ↦ ([], Err (Grammar f.0), (refl, f.1))
     ]
 
--- ---- what is written
+-- ---- the text written
 
--- what a show on the screen of the box has written
+-- if `show` on a screen of that size wrote this, `show --box` did too
 pub written-boxed : (terminal : Sides → Display) (bytes : List ℕ) (d : List Placed) (sides : Sides)
     (answer : Result Status RunFault) (had has : Option (List ℕ)) → Document d bytes
     → declared_screen (events_of d) ≡ Some sides

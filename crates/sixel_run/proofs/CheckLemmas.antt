@@ -87,15 +87,15 @@ check-gives registers bytes =
       | inr f ↦ ([], Err (Grammar f.0), (refl, f.1))
     ]
 
--- ---- what is written
+-- ---- the text written
 
--- the line of the verdict
+-- the line of the verdict was written
 verdict_written : (registers : ℕ) (bytes : List ℕ) (v : Verdict) (had has : Option (List ℕ))
     → CheckAnswers registers (Ok v) bytes → Appends had has (verdict_line v)
     → WroteBy (CheckGives registers bytes) WroteNothing (Ok (status_of v)) had has
 verdict_written _ bytes v had has given put = (verdict_line v, (given.0, given.1, (v, given.2, refl, refl)), put)
 
--- or a prefix of it
+-- or a prefix of it, if the sink failed
 verdict_unwritten : (registers : ℕ) (bytes : List ℕ) (v : Verdict) (had has : Option (List ℕ))
     → CheckAnswers registers (Ok v) bytes → (n : ℕ) × Appends had has (take n (verdict_line v))
     → WroteBy (CheckGives registers bytes) WroteNothing (Err Write) had has
@@ -122,7 +122,7 @@ checked_unwritten registers (Some bytes) v had has given put = verdict_unwritten
 
 -- ---- memory
 
--- a check that was refused for want of memory had a box to make
+-- if a check ran out of memory, a checker may allocate in the bytes
 pub grown : (registers : ℕ) (told : Option (List ℕ)) (fault : InputFault) (y : RunFault) (r : Result Status RunFault)
     → IfSome told
     (λ bytes. (let k : Result Verdict InputFault = Err fault in k) ≡ Err input.OutOfMemory → MayGrowIn registers bytes)

@@ -1,4 +1,4 @@
--- What a run of `encode` owes.
+-- Lemmas for a run of `encode`.
 use Rattle.std.proofs.Common.{◌≡◌, ◌∙◌, ℕ, List, [], take, drop, Option, Some, None, refl, sym, ap}
 use Rattle.std.specs.Prelude.{Result, Ok, Err, IfSome}
 use Rattle.std.specs.Io.KnownBytes.{Appends}
@@ -27,7 +27,7 @@ pub encode-gives : (registers : ℕ) (bytes : List ℕ)
 encode-gives registers bytes =
     let output = encode_output (ppm_read registers bytes) in (output.0, output.1, refl)
 
--- ---- what is written
+-- ---- the text written
 
 pub encoded : (registers : ℕ) (a : Option (List ℕ)) (p : PictureValue) (had has : Option (List ℕ))
     → IfSome a (ReadsPpm registers (Ok p)) → Appends had has (canon_text p)
@@ -56,7 +56,7 @@ unread registers bytes ppm.Read had read = Appends-none had
 unread registers bytes ppm.NotRgb had read = absurd read
 unread registers bytes ppm.Write had read = absurd read
 
--- nothing is written where no picture was read
+-- if no picture was read, nothing was written
 pub file_refused : (registers : ℕ) (a : Option (List ℕ)) (fault : PpmFault) (had : Option (List ℕ))
     → IfSome a (ReadsPpm registers (Err fault))
     → IfSome a (λ bytes. WroteBy (EncodeGives registers bytes) WroteNothing (Err (of_ppm fault)) had had)

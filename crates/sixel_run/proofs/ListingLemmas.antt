@@ -1,4 +1,4 @@
--- What a reader that is fed a piece owes, and the lines of its events.
+-- Lemmas for a reader that is fed a piece, and for the lines of its events.
 use Rattle.std.proofs.Common.{◌≡◌, ◌∙◌, ◌+◌, ◌<◌, ◌≤◌, ℕ, List, [], ◌∷◌, ◌++◌, Option, append_assoc, ap, drop, get_or}
 use Rattle.std.proofs.Common.{length, refl, subst, sym, take}
 use Rattle.std.specs.Prelude.{Result, Ok, Err}
@@ -29,7 +29,7 @@ pub stands-as : (r : Reader) (e1 e2 : List Placed) (b1 b2 : List ℕ) → e1 ≡
 stands-as r e1 e2 b1 b2 p q s = subst (λ (e : List Placed). StandsAfter r e b2) p
     (subst (λ (b : List ℕ). StandsAfter r e1 b) q s)
 
--- the lines of a piece waited in an empty block, which was drained
+-- the lines of a piece went to an empty block, which was then drained
 pub fed-drained : {A : Type 0} (result : Result A RunFault) (reader : Reader) (piece : List ℕ)
     (had mid has : Option (List ℕ)) (ws w v : List ℕ) (events : List Placed) (bytes : List ℕ)
     → ws ≡ [] → v ≡ [] → Keeps (in_all mid w) (in_all has v) → Feeds result reader piece (in_all had ws)
@@ -61,7 +61,7 @@ fed-drained (Err Write) reader piece had mid has ws w v events bytes e d kept fe
 }
 fed-drained (Err other) reader piece had mid has ws w v events bytes e d kept fed = fed
 
--- of the lines that were to be appended, a prefix went to the sink that failed
+-- a prefix of the lines to append went to the sink that failed
 stopped : (reader : Reader) (piece prefix rest : List ℕ) (had mid has : Option (List ℕ)) (ws w v text : List ℕ)
     (events more : List Placed) (bytes : List ℕ)
     → piece ≡ prefix ++ rest → StandsAfter reader (events ++ more) (bytes ++ prefix) → BeginsWith (list_text more) text
@@ -82,7 +82,7 @@ stopped reader piece prefix rest had mid has ws w v text events more bytes is st
       lines = part.2;
     }
 
--- the lines of a piece waited in an empty block, and the sink failed before it had all
+-- the lines of a piece went to an empty block, and the sink failed before it took all
 pub fed-stopped : {A : Type 0} (result : Result A RunFault) (reader : Reader) (piece : List ℕ)
     (had mid has : Option (List ℕ)) (ws w v : List ℕ) (events : List Placed) (bytes : List ℕ)
     → ws ≡ [] → Keeps (in_all mid w) (in_all has v) → TakesMore had has → Feeds result reader piece (in_all had ws)
@@ -142,14 +142,14 @@ byte-refused old new byte fault had events bytes stands refuses =
       lines = Appends-none had;
     }
 
--- a prefix of a piece and a part behind it, which has a prefix of its own
+-- a prefix of a piece, and a part after it that has a prefix of its own
 piece-joined : (piece prefix part rest inner outer : List ℕ) → piece ≡ prefix ++ (part ++ rest)
     → part ≡ inner ++ outer → piece ≡ (prefix ++ inner) ++ (outer ++ rest)
 piece-joined piece prefix part rest inner outer is e =
     is ∙ ap (λ (t : List ℕ). prefix ++ (t ++ rest)) e ∙ ap (λ (t : List ℕ). prefix ++ t) (append_assoc inner outer rest)
     ∙ sym (append_assoc prefix inner (outer ++ rest))
 
--- the lines of a prefix of the piece were put, and then the part behind it was refused
+-- the lines of a prefix of the piece were put, and then the part after it was refused
 refused-later : (fault : Fault) (piece prefix part rest : List ℕ) (had mid has : Option (List ℕ))
     (events more : List Placed) (bytes : List ℕ) → piece ≡ prefix ++ (part ++ rest) → Appends had mid (list_text more)
     → RefusesAt fault part mid has (events ++ more) (bytes ++ prefix) → RefusesAt fault piece had has events bytes
@@ -169,7 +169,7 @@ refused-later fault piece prefix part rest had mid has events more bytes is put 
           (list_text-append more r.more);
     }
 
--- the lines of a prefix of the piece were put, and then those of the part behind it failed to be
+-- the lines of a prefix of the piece were put, and then a write of those of the part after it failed
 stopped-later : (piece prefix part rest : List ℕ) (had mid has : Option (List ℕ))
     (events more : List Placed) (bytes : List ℕ) → piece ≡ prefix ++ (part ++ rest) → Appends had mid (list_text more)
     → StopsIn part mid has (events ++ more) (bytes ++ prefix) → StopsIn piece had has events bytes
@@ -189,7 +189,7 @@ stopped-later piece prefix part rest had mid has events more bytes is put s = re
   lines = Appends-then had mid has (list_text more) s.part (list_text more ++ s.part) put s.lines refl;
 }
 
--- a prefix of the piece was fed, and then the part behind it failed
+-- a prefix of the piece was fed, and then the part after it failed
 failed-later : (fault : RunFault) (after : Reader) (piece prefix part rest : List ℕ)
     (had mid has : Option (List ℕ)) (events more : List Placed) (bytes : List ℕ) → piece ≡ prefix ++ (part ++ rest)
     → Appends had mid (list_text more)
@@ -201,7 +201,7 @@ failed-later Write after piece prefix part rest had mid has events more bytes is
     stopped-later piece prefix part rest had mid has events more bytes is put fed
 failed-later _ after piece prefix part rest had mid has events more bytes is put fed = fed
 
--- wherever the reader stood, it then stands after these bytes more, and the lines of their events were appended
+-- whatever the reader had read, it has now read these bytes too, and the lines of their events were appended
 abbrev pub Lists : Reader → Reader → List ℕ → Option (List ℕ) → Option (List ℕ) → Type 0
 Lists old new piece had has =
     (events : List Placed) (bytes : List ℕ) → StandsAfter old events bytes →
@@ -215,7 +215,7 @@ lists-nothing reader had events bytes stands = (
   Appends-none had,
 )
 
--- one byte more
+-- one more byte
 pub lists-more : (first old new : Reader) (piece : List ℕ) (i : ℕ) (had mid has : Option (List ℕ)) → i < length piece
     → Lists first old (take i piece) had mid → Lists old new (get_or piece i 0 ∷ []) mid has
     → Lists first new (take (i + 1) piece) had has
@@ -234,7 +234,7 @@ pub lists-whole : (first last : Reader) (piece : List ℕ) (i : ℕ) (had has : 
 lists-whole first last piece i had has past before =
     subst (λ (t : List ℕ). Lists first last t had has) (take_all i piece past) before
 
--- one byte more failed
+-- one more byte failed
 pub fails-next : (fault : RunFault) (first old new : Reader) (piece : List ℕ) (i : ℕ) (had mid has : Option (List ℕ))
     → i < length piece → Lists first old (take i piece) had mid
     → ((events : List Placed) (bytes : List ℕ) → StandsAfter old events bytes

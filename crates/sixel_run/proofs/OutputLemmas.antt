@@ -1,4 +1,4 @@
--- What a list gives, and what it has written where a device failed.
+-- The text of `list`, and what it wrote if a device failed.
 use Rattle.std.proofs.Common.{◌≡◌, ◌∙◌, ℕ, ◌≤◌, List, [], ◌∷◌, ◌++◌, length, take, Option, Some, None, refl, sym, ap}
 use Rattle.std.proofs.Common.{subst, append_assoc, arith, length-append}
 use Rattle.std.specs.Prelude.{Result, Ok, Err, IfSome}
@@ -28,7 +28,7 @@ use Rattle.sixel_run.specs.Texts.{Text, BeginsWith, list_text}
 use Rattle.sixel_run.proofs.ListingLemmas.{list_text-append}
 use Rattle.sixel_run.proofs.PutLemmas.{begins-then}
 
--- what a list gives begins with the lines of the events that are complete in a viable prefix
+-- the text of `list` begins with the lines of the events that are complete in a viable prefix
 pub gives-begins : (bytes read more : List ℕ) (events : List Placed) → bytes ≡ read ++ more → CompleteIn events read
     → length read ≤ most_bytes
     → (text : Text) (answer : Result Status RunFault) → ListGives bytes text answer → BeginsWith text (list_text events)
@@ -43,7 +43,7 @@ gives-begins bytes read more events is c short text (Err (Grammar fault)) g =
     (list_text m.0, g.1.2 ∙ ap list_text m.1 ∙ list_text-append events m.0)
 gives-begins bytes read more events is c short text (Err other) g = absurd g
 
--- the lines before a fault are those of the events that a reader handed out up to it
+-- the lines before a fault are those of the events that a reader completed before it
 faulty-lists : (bytes read more : List ℕ) (events : List Placed) (r : Reader) (fault : Fault) → bytes ≡ read ++ more
     → IsFaultOf bytes fault → fault.place ≡ length read
     → StandsAfter r events read → ListGives bytes (list_text events) (Err (Grammar fault))
@@ -142,7 +142,7 @@ stopped (Some x) (Some y) (Some z) had mid has read piece events r fault first l
     stopped-in x read piece z (Some z) had mid has events r fault
     (first ∙ ap (λ (t : List ℕ). read ++ t) last ∙ sym (append_assoc read piece z)) put fed
 
--- a piece is never refused for want of memory or by the source
+-- a piece never fails with OutOfMemory or Read
 pub unrefused : (fault : RunFault) (r : Reader) (piece : List ℕ) (mid has : Option (List ℕ)) (events : List Placed)
     (read : List ℕ) → Feeds {A = Unit {0}} (Err fault) r piece mid has events read
     → (fault ≡ OutOfMemory → ⊥) × (fault ≡ Read → ⊥)

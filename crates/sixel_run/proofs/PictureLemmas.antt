@@ -1,4 +1,4 @@
--- What a run of `render` owes.
+-- Lemmas for a run of `render`.
 use Rattle.std.proofs.Common.{◌≡◌, ◌∙◌, ◌⊎◌, ℕ, Bool, true, false, List, [], take, drop, Option, Some, None, refl, sym}
 use Rattle.std.proofs.Common.{ap, inl, inr}
 use Rattle.std.specs.Prelude.{Result, Ok, Err, IfSome}
@@ -32,9 +32,9 @@ use Rattle.sixel_run.specs.Outputs.{RenderGives, WroteBy, WroteNothing, render_o
 use Rattle.sixel_run.specs.Texts.{Text}
 use Rattle.sixel_run.proofs.CheckLemmas.{same_verdict}
 
--- ---- one output
+-- ---- at most one output
 
--- the text and the answer are those of the verdict on a document
+-- the text and the answer are those for the verdict on a document
 record Renders (registers : ℕ) (bytes : List ℕ) (text : Text) (answer : Result Status RunFault) : Type 0 where
   events : List Placed
   document : Document events bytes
@@ -96,7 +96,7 @@ render-once registers bytes first second a b g h = elim (either _ bytes first a 
   ]
 ]
 
--- ---- some output
+-- ---- at least one output
 
 Gives : ℕ → List ℕ → Type 0
 Gives registers bytes = (text : Text) × (answer : Result Status RunFault) × RenderGives registers bytes text answer
@@ -123,7 +123,7 @@ render-gives registers bytes =
       | inr f ↦ ([], Err (Grammar f.0), (refl, f.1))
     ]
 
--- ---- what is written
+-- ---- the text written
 
 picture_rendered : (registers : ℕ) (bytes : List ℕ) (p : PictureValue) (had has : SinkState)
     → CheckAnswers registers (Ok (Portable p)) bytes
@@ -163,7 +163,7 @@ pub unrendered : (registers : ℕ) (a : Option (List ℕ)) (p : PictureValue) (f
 unrendered registers None p fault had has given put = tt
 unrendered registers (Some bytes) p fault had has given put = picture_unrendered _ bytes p fault had has given put
 
--- nothing is written of a broken picture
+-- for a broken picture nothing was written
 pub broken_rendered : (registers : ℕ) (a : Option (List ℕ)) (f : Finding) (had : Option (List ℕ))
     → IfSome a (CheckAnswers registers (Ok (Broken f)))
     → IfSome a (λ bytes. WroteBy (RenderGives registers bytes) WroteNothing (Ok (status.Broken f)) had had)

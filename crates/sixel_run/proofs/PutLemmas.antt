@@ -11,7 +11,7 @@ use Rattle.sixel_run.specs.Texts.{Text, BeginsWith}
 pub nothing-written : (had has : SinkState) → has ≡ had → WroteNothing had.taken has.taken
 nothing-written had has same = rw same (Appends-none had.taken)
 
--- an empty block that was drained again: all went to the sink
+-- a block that was empty before and after: all of the text went to the sink
 pub drained : (had mid has : Option (List ℕ)) (ws w v text : List ℕ) → ws ≡ [] → v ≡ []
     → Appends (in_all had ws) (in_all mid w) text → Keeps (in_all mid w) (in_all has v) → Appends had has text
 drained None mid has ws w v text e d put kept = tt
@@ -22,7 +22,7 @@ drained (Some x) (Some y) (Some z) ws w v text e d put kept =
     sym (append-nil z) ∙ ap (λ (t : List ℕ). z ++ t) (sym d) ∙ whole ∙ ap (λ (t : List ℕ). (x ++ t) ++ text) e
     ∙ ap (λ (t : List ℕ). t ++ text) (append-nil x)
 
--- an empty block before a sink that failed: a prefix went to the sink
+-- a block that was empty before a sink failed: a prefix of the text went to the sink
 pub cut : (had has : Option (List ℕ)) (ws w text : List ℕ) → ws ≡ [] → Appends (in_all had ws) (in_all has w) text
     → TakesMore had has → (part : Text) × BeginsWith text part × Appends had has part
 cut None has ws w text e put more = ([], (text, refl), tt)

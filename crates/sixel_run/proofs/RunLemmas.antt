@@ -1,4 +1,4 @@
--- What any run owes: a task gives one text and answer, and where the flush fails a prefix of the text was written.
+-- Lemmas for any run: a task gives one text and answer, and if the flush fails a prefix of the text was written.
 use Rattle.std.proofs.Common.{◌≡◌, ◌∙◌, ℕ, List, [], take, Option, Some, None, refl, sym, ap, subst, inl, inr}
 use Rattle.std.specs.Prelude.{Result, Ok, Err, IfSome}
 use Rattle.std.specs.Io.KnownBytes.{Appends, Keeps}
@@ -91,7 +91,7 @@ begins-all first second e = ([], sym e ∙ sym (append-nil first))
 
 -- ---- a flush that fails
 
--- what was written before reading failed is a prefix of what a list gives
+-- what was written before reading failed is a prefix of the text of `list`
 unflushed-list : (bytes : List ℕ) (left had mid has : Option (List ℕ)) → ListsUnread bytes left had mid → Keeps mid has
     → Wrote Listing bytes left (Err Write) had has
 unflushed-list bytes None had mid has w kept = absurd w.2

@@ -1,4 +1,4 @@
--- What a run of `show` owes.
+-- Lemmas for a run of `show`.
 use Rattle.std.proofs.Common.{◌≡◌, ◌∙◌, ℕ, ◌+◌, ◌*◌, Bool, true, false, List, [], ◌∷◌, ◌++◌, length, map, take, drop}
 use Rattle.std.proofs.Common.{arith, refl, sym, ap, subst, inl, inr}
 use Rattle.std.specs.Prelude.{Result, Ok, Err, IsTrue, IsFalse}
@@ -31,7 +31,7 @@ use Rattle.sixel_run.specs.Texts.{Text, BeginsWith}
 use Rattle.sixel_io.specs.Devices.{SinkState}
 use Rattle.sixel_run.proofs.PutLemmas.{nothing-written}
 
--- two readings of one document are shown in the same colours
+-- two readings of one document give the same screen
 same-screen : (t : Display) (bytes : List ℕ) (d e : List Placed) → Document d bytes → Document e bytes
     → events_of d ≡ events_of e
 same-screen t bytes d e p q = ap events_of (document_once bytes d e p q)
@@ -93,7 +93,7 @@ show-gives t bytes =
 
 -- ---- the terminal
 
--- one register more
+-- one more register
 pub greys_more : (profile : Profile) (n : ℕ)
     → map (λ k. grey (percent_at profile k)) (range_with_len 0 (n + 1))
     ≡ map (λ k. grey (percent_at profile k)) (range_with_len 0 n) ++ grey (percent_at profile n) ∷ []
@@ -104,7 +104,7 @@ pub screen_length : (t : Display) (events : List Event)
 unfolding screen_on
 screen_length t events = length_rows t.choices.screen_width t.choices.screen_height (shown_on t events)
 
--- ---- what is written
+-- ---- the text written
 
 -- the text is that of any answer that the document has
 written-begins : (t : Display) (bytes : List ℕ) (d : List Placed) (n : ℕ) → Document d bytes

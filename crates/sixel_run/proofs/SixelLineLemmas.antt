@@ -1,4 +1,4 @@
--- The line of a sixel, from the digits of its place.
+-- The line of a sixel, from the digits of its offset.
 use Rattle.std.proofs.Common.{◌≡◌, ◌∙◌, ℕ, ◌+◌, ◌/◌, ◌%◌, ◌^◌, ◌<◌, ◌≤◌, List, [], ◌∷◌, ◌++◌, ap, append_assoc, drop}
 use Rattle.std.proofs.Common.{length, refl, subst, take}
 use Rattle.std.specs.Prelude.{codes, decimal}
@@ -6,14 +6,14 @@ use Rattle.std.proofs.lemmas.List.{append-nil, drop-take, take_at}
 use Rattle.itoa.proofs.Decimal.{decimal_pair}
 use Rattle.sixel_run.specs.Texts.{line, numbers, two_digits}
 
--- digits that end at `end`, where more comes behind them
+-- digits that end at `end`, with more after them
 pub digits_before : (start end : ℕ) (digits text rest : List ℕ) → start + length digits ≡ end
     → drop start text ≡ digits ++ rest → drop start (take end text) ≡ digits
 digits_before start end digits text rest ends e =
     subst (λ n. drop start (take n text) ≡ digits) ends
     (drop-take start (length digits) text ∙ ap (take (length digits)) e ∙ take_at digits rest (length digits) refl)
 
--- the hundreds of the place, its last two digits, and what comes after the place
+-- the hundreds of the offset, its last two digits, and the rest of the line
 pub line-joined : (place bits tens ones : ℕ) (digits : List ℕ) → 100 ≤ place → place < 2 ^ 64
     → tens ∷ ones ∷ [] ≡ two_digits (place % 100) → decimal bits ≡ digits
     → decimal (place / 100) ++ (tens ∷ ones ∷ 32 ∷ 115 ∷ 105 ∷ 120 ∷ 101 ∷ 108 ∷ 32 ∷ (digits ++ 10 ∷ []))

@@ -1,4 +1,4 @@
--- What a piece of input comes to.
+-- What reading a piece of input does.
 use Rattle.std.specs.Prelude.{◌≡◌, ℕ, List, [], ◌∷◌, ◌++◌, length, Option, Result, Ok, Err}
 use Rattle.std.specs.Io.KnownBytes.{Appends}
 use Rattle.sixel_grammar.specs.declared.command.Placed.{Placed}
@@ -10,8 +10,8 @@ use Rattle.sixel_run.specs.declared.fault.RunFault.{RunFault}
 use Rattle.sixel_run.specs.declared.fault.RunFault.TheVariants.{Grammar, Ppm, NotRgb, NoBox, OutOfMemory, Read, Write}
 use Rattle.sixel_run.specs.Texts.{Text, BeginsWith, list_text}
 
--- the fault is that of the bytes and this prefix of the piece with one byte more, and lies at that byte; and the lines
--- of the events that came before it were appended
+-- a reader met the fault at a byte of the piece: it is that of the bytes, the prefix of the piece and this byte, and
+-- its place is the offset of this byte; the lines of the events that came before were appended
 pub record RefusesAt (fault : Fault) (piece : List ℕ) (had has : Option (List ℕ))
     (events : List Placed) (bytes : List ℕ) : Type 0 where
   pub prefix : List ℕ
@@ -25,7 +25,7 @@ pub record RefusesAt (fault : Fault) (piece : List ℕ) (had has : Option (List 
   pub place : fault.place ≡ length (bytes ++ prefix)
   pub lines : Appends had has (list_text more)
 
--- a reader came as far as this prefix of the piece, and of the lines of the events that came by then a prefix was
+-- a reader read this prefix of the piece, and then a write failed: a prefix of the lines of the events that came was
 -- appended
 pub record StopsIn (piece : List ℕ) (had has : Option (List ℕ))
     (events : List Placed) (bytes : List ℕ) : Type 0 where
@@ -39,8 +39,8 @@ pub record StopsIn (piece : List ℕ) (had has : Option (List ℕ))
   pub begins : BeginsWith (list_text more) part
   pub lines : Appends had has part
 
--- a reader that stood after these events and bytes was fed the piece, and the lines of the events that came were
--- appended to what was had: of all of them, or before a fault, or a prefix of them before a failed write
+-- a reader that had seen these events in these bytes was fed the piece. Ok: the lines of the new events were appended;
+-- Grammar: those before the fault; Write: a prefix of them
 abbrev pub Feeds : {A : Type 0} → Result A RunFault → Reader → List ℕ → Option (List ℕ)
     → Option (List ℕ) → List Placed → List ℕ → Type 0
 Feeds (Ok done) reader piece had has events bytes =

@@ -1,4 +1,4 @@
--- What the laws of encoded pictures and of shown boxes say.
+-- The laws of encoded pictures and of shown boxes.
 use Rattle.std.specs.Prelude.{◌≡◌, ◌↔◌, ℕ, Bool, List, [], Option, Some, None, Result, Ok, Err, ⊤}
 use Rattle.sixel_grammar.specs.declared.command.Placed.{Placed}
 use Rattle.sixel_grammar.specs.declared.fault.Fault.{Fault}
@@ -31,49 +31,49 @@ EncodedIsPortable registers =
     → (events : List Placed) × Document events (canon_text p) × IsVerdict registers events (Portable p)
     × IsPortable registers (events_of events) p
 
--- the answer is that the picture is portable; or memory was wanting, or a read failed
+-- the answer is that the picture is portable, or OutOfMemory, or Read
 abbrev pub IsPortableAnswer : PictureValue → Result Verdict InputFault → Type 0
 IsPortableAnswer p (Ok verdict) = verdict ≡ Portable p
 IsPortableAnswer p (Err OutOfMemory) = ⊤
 IsPortableAnswer p (Err Read) = ⊤
 IsPortableAnswer p (Err (Grammar fault)) = ⊥
 
--- whatever a check may answer for that text is that the picture is portable, or want of memory, or a failed read
+-- a check of that text can only answer that the picture is portable, or OutOfMemory, or Read
 abbrev pub EncodedAnswers : ℕ → Type 0
 EncodedAnswers registers = (p : PictureValue) (answer : Result Verdict InputFault) → IsPicture registers p
     → Answers registers answer (canon_text p) → IsPortableAnswer p answer
 
--- and so a check of it writes that it is portable, with its size
+-- a check of that text gives the line of a portable picture, with its size
 abbrev pub EncodedChecks : ℕ → Type 0
 EncodedChecks registers = (p : PictureValue) → IsPicture registers p
     → CheckGives registers (canon_text p) (portable_line p) (Ok Done)
 
 -- ---- boxes
 
--- whatever one task gives for the bytes, the other gives, and nothing else
+-- both tasks give the same for the bytes
 abbrev pub GiveTheSame : List ℕ → Task → Task → Type 0
 GiveTheSame bytes a b = (text : Text) (answer : Result Status RunFault)
     → Gives a bytes text answer ↔ Gives b bytes text answer
 
--- these bytes are a document, which declares a screen of these sides, or none
+-- these bytes are a document that declares a screen of these sides, or none
 abbrev pub DeclaresScreen : List ℕ → Option (ℕ × ℕ) → Type 0
 DeclaresScreen bytes sides =
     (events : List Placed) × Document events bytes × (declared_screen (events_of events) ≡ sides)
 
--- a declared screen is one that a show may be asked for, and what is then given is what a show on it gives
+-- if a document declares a screen, its sides are allowed for `show`, and `show --box` gives what `show` gives on it
 abbrev pub BoxIsShown : Type 0
 BoxIsShown = (profile : Profile) (showing fill selects : Bool) (width height : ℕ) (bytes : List ℕ)
     → DeclaresScreen bytes (Some (width, height))
     → HasSides (Show profile showing fill selects width height)
     × GiveTheSame bytes (ShowBox profile showing fill selects) (Show profile showing fill selects width height)
 
--- where none is declared, nothing is written, and `NoBox` is answered
+-- if it declares none, `show --box` writes nothing and answers NoBox
 abbrev pub NoBoxIsShown : Type 0
 NoBoxIsShown = (profile : Profile) (showing fill selects : Bool) (bytes : List ℕ) (text : Text)
     (answer : Result Status RunFault) → DeclaresScreen bytes None
     → Gives (ShowBox profile showing fill selects) bytes text answer ↔ (text ≡ []) × (answer ≡ Err NoBox)
 
--- bytes that are no document are refused as a show on any screen refuses them
+-- for bytes that are no document, `show --box` gives what `show` gives on a screen of any size
 abbrev pub FaultIsShown : Type 0
 FaultIsShown = (profile : Profile) (showing fill selects : Bool) (width height : ℕ) (bytes : List ℕ) (fault : Fault)
     → IsFaultOf bytes fault

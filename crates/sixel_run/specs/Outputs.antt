@@ -36,15 +36,15 @@ use Rattle.sixel_run.specs.Texts.{Text, BeginsWith, list_text, verdict_line}
 abbrev pub ListsPrefix : List ℕ → Text → Type 0
 ListsPrefix bytes text = (events : List Placed) × CompleteIn events bytes × (text ≡ list_text events)
 
--- the lines of all events of a document; of other bytes their fault, and the lines of the events complete before it
+-- for a document the lines of its events; for other bytes their fault, and the lines of the events complete before it
 abbrev pub ListGives : List ℕ → Text → Result Status RunFault → Type 0
 ListGives bytes text (Ok status) = (status ≡ Done)
     × ((events : List Placed) × Document events bytes × (text ≡ list_text events))
 ListGives bytes text (Err (Grammar fault)) = IsFaultOf bytes fault × ListsPrefix (take fault.place bytes) text
 ListGives bytes text (Err fault) = ⊥
 
--- the lines of the events complete in the bytes that were given, which are those before `left` and in which no fault
--- was met
+-- the lines of the events that are complete in the bytes given so far, those before `left`, were appended; some
+-- document begins with these bytes
 abbrev pub ListsUnread : List ℕ → Option (List ℕ) → Option (List ℕ) → Option (List ℕ) → Type 0
 ListsUnread bytes left had has =
     (given : List ℕ) × (text : Text) × Consumes (Some bytes) left given
@@ -52,12 +52,12 @@ ListsUnread bytes left had has =
 
 -- ---- verdicts
 
--- what comes of a verdict
+-- the status of a verdict
 abbrev pub status_of : Verdict → Status
 status_of (Portable picture) = Done
 status_of (Broken finding) = status.Broken finding
 
--- the line of the verdict on a document, by so many registers; of other bytes their fault, and nothing is written
+-- for a document the line of its verdict, with this many registers; for other bytes their fault, and no text
 abbrev pub CheckGives : ℕ → List ℕ → Text → Result Status RunFault → Type 0
 CheckGives registers bytes text (Ok status) =
     (events : List Placed) × Document events bytes
@@ -66,7 +66,7 @@ CheckGives registers bytes text (Ok status) =
 CheckGives registers bytes text (Err (Grammar fault)) = (text ≡ []) × IsFaultOf bytes fault
 CheckGives registers bytes text (Err fault) = ⊥
 
--- the answer of a check, and the line that it writes
+-- the answer of a check that found this verdict, and the line that it writes
 abbrev pub answer_of : Result Verdict RunFault → Result Status RunFault
 answer_of (Ok verdict) = Ok (status_of verdict)
 answer_of (Err fault) = Err fault
@@ -77,18 +77,17 @@ line_of (Err fault) = []
 
 -- ---- pictures
 
--- the picture file of a portable picture, if all its colours are of red, green and blue
+-- the PPM of a picture, if all its colours are RGB
 abbrev pub picture_output : PictureValue → Text × Result Status RunFault
 picture_output p =
     if are_rgb (colours_of p) then (ppm_text p.width p.height (colours_of p), Ok Done) else ([], Err NotRgb)
 
--- what is written of a verdict, and the answer; nothing is written of a broken rule
+-- the text and the answer of a render after this verdict; no text for a broken rule
 abbrev pub render_output : Verdict → Text × Result Status RunFault
 render_output (Portable picture) = picture_output picture
 render_output (Broken finding) = ([], Ok (status.Broken finding))
 
--- what is written of the verdict on a document, by so many registers; of other bytes their fault, and nothing is
--- written
+-- for a document the render_output of its verdict, with this many registers; for other bytes their fault, and no text
 abbrev pub RenderGives : ℕ → List ℕ → Text → Result Status RunFault → Type 0
 RenderGives registers bytes text (Err (Grammar fault)) = (text ≡ []) × IsFaultOf bytes fault
 RenderGives registers bytes text answer =
@@ -97,7 +96,7 @@ RenderGives registers bytes text answer =
 
 -- ---- picture files
 
--- the canonical text of a picture that was read, or the fault of the bytes
+-- for a picture that was read its canonical text; else the fault, and no text
 abbrev pub encode_output : Result PictureValue PpmFault → Text × Result Status RunFault
 encode_output (Ok picture) = (canon_text picture, Ok Done)
 encode_output (Err fault) = ([], Err (of_ppm fault))
@@ -107,8 +106,8 @@ EncodeGives registers bytes text answer = (text, answer) ≡ encode_output (ppm_
 
 -- ---- screens
 
--- the picture file of what the terminal shows after a document, if all its colours are of red, green and blue
--- of other bytes their fault, and nothing is written
+-- for a document the PPM of the terminal's screen after it, if all its colours are RGB; for other bytes their fault,
+-- and no text
 abbrev pub ShowGives : Display → List ℕ → Text → Result Status RunFault → Type 0
 ShowGives t bytes text (Ok status) = (status ≡ Done)
     × ((events : List Placed) × Document events bytes × IsTrue (are_rgb (screen_on t (events_of events)))
@@ -118,8 +117,8 @@ ShowGives t bytes text (Err NotRgb) = (text ≡ [])
 ShowGives t bytes text (Err (Grammar fault)) = (text ≡ []) × IsFaultOf bytes fault
 ShowGives t bytes text (Err fault) = ⊥
 
--- what the terminal whose screen has the sides of the declared box gives for a document; of a document without such a
--- box `NoBox`, and of other bytes their fault, and nothing is written
+-- for a document what the terminal with a screen of the size of the declared box gives; NoBox and no text if there is
+-- no such box; for other bytes their fault, and no text
 abbrev pub ShowBoxGives : (ℕ × ℕ → Display) → List ℕ → Text → Result Status RunFault → Type 0
 ShowBoxGives terminal bytes text (Err NoBox) = (text ≡ [])
     × ((events : List Placed) × Document events bytes × (declared_screen (events_of events) ≡ None))
@@ -136,7 +135,7 @@ abbrev pub HasSides : Task → Type 0
 HasSides (Show profile showing fill selects width height) = IsTrue (is_file_side width) × IsTrue (is_file_side height)
 HasSides t = Unit {0}
 
--- what a task writes for these bytes, and its answer, where memory is ample and no device fails
+-- what a task writes for these bytes, and its answer, if no allocation and no device fails
 abbrev pub Gives : Task → List ℕ → Text → Result Status RunFault → Type 0
 Gives Listing bytes text answer = ListGives bytes text answer
 Gives (Check profile) bytes text answer = CheckGives (count_of profile) bytes text answer
@@ -151,13 +150,13 @@ Gives (ShowBox profile showing fill selects) bytes text answer =
 abbrev pub WroteNothing : Option (List ℕ) → Option (List ℕ) → Type 0
 WroteNothing had has = Appends had has []
 
--- what a task has written to what the sink `had` when reading these bytes fails before `left`
+-- what a task has appended to what the sink `had` when reading these bytes fails before `left`
 abbrev pub WroteUnread : Task → List ℕ → Option (List ℕ) → Option (List ℕ) → Option (List ℕ) → Type 0
 WroteUnread Listing bytes left had has = ListsUnread bytes left had has
 WroteUnread t bytes left had has = WroteNothing had has
 
--- a run of the task over these bytes, if they are known, may be refused for want of memory: a check and a picture only
--- where raster attributes make a box in them, an encode only after a whole header
+-- a run of the task over these bytes, if they are known, may run out of memory: a check or a render only if a checker
+-- may allocate in them, an encode only after a whole header, a list never
 abbrev pub TakesMemory : Task → Option (List ℕ) → Type 0
 TakesMemory Listing told = ⊥
 TakesMemory (Check profile) told = IfSome told (MayGrowIn (count_of profile))
@@ -166,8 +165,8 @@ TakesMemory (Encode profile) told = IfSome told HasWholeHeader
 TakesMemory (Show profile showing fill selects width height) told = Unit {0}
 TakesMemory (ShowBox profile showing fill selects) told = Unit {0}
 
--- a run that answered so appended to what the sink `had` the text that is given with the answer; or, after an accident,
--- nothing for want of memory, on `Read` what `unread` says, on `Write` a prefix of what is given
+-- what a run with this answer appended to what the sink `had`. OutOfMemory: nothing; Read: what `unread` says; Write: a
+-- prefix of each text that `gives` allows; any other answer: a text that `gives` with it
 abbrev pub WroteBy : (Text → Result Status RunFault → Type 0) → (Option (List ℕ) → Option (List ℕ) → Type 0)
     → Result Status RunFault → Option (List ℕ) → Option (List ℕ) → Type 0
 WroteBy gives unread (Err OutOfMemory) had has = WroteNothing had has
@@ -177,24 +176,23 @@ WroteBy gives unread (Err Write) had has =
     × ((text : Text) (answer : Result Status RunFault) → gives text answer → BeginsWith text part)
 WroteBy gives unread answer had has = (text : Text) × gives text answer × Appends had has text
 
--- a run of the task over these bytes, of which `left` are left to give, appended this to what the sink `had` and
--- answered so
+-- what a run of the task over these bytes, with `left` unread, appended to what the sink `had`, for this answer
 abbrev pub Wrote : Task → List ℕ → Option (List ℕ)
     → Result Status RunFault → Option (List ℕ) → Option (List ℕ) → Type 0
 Wrote task bytes left answer had has = WroteBy (Gives task bytes) (WroteUnread task bytes left) answer had has
 
 -- ---- failures of devices
 
--- one failure more where the answer is the one of this device, else as many as before
+-- the failures of a device: one more if the answer is its fault, else as many as before
 abbrev pub failures_by : {A : Type 0} → RunFault → Result A RunFault → ℕ → ℕ
 failures_by Read (Err Read) n = one_more n
 failures_by Write (Err Write) n = one_more n
 failures_by device answer n = n
 
--- `Write` is answered exactly where the sink failed, once
+-- the answer is Write exactly if the sink failed, and then it failed once
 abbrev pub CountsWrites : {A : Type 0} → Result A RunFault → ℕ → ℕ → Type 0
 CountsWrites answer old new = new ≡ failures_by Write answer old
 
--- `Read` is answered exactly where the source failed, once; but where the flush fails after it, `Write` is
+-- the answer is Read exactly if the source failed, and then it failed once; or Write, if the flush failed after that
 abbrev pub CountsReads : {A : Type 0} → Result A RunFault → ℕ → ℕ → Type 0
 CountsReads answer old new = (new ≡ failures_by Read answer old) ⊎ ((answer ≡ Err Write) × (new ≡ one_more old))

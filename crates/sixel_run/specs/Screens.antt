@@ -1,4 +1,4 @@
--- The terminal on which a picture is shown, and the picture file of its screen.
+-- The terminal that shows a picture, and the PPM of its screen.
 use Rattle.std.specs.Prelude.{ℕ, ◌*◌, ◌%◌, ◌&&◌, Bool, true, false, List, Option, map, replicate, if◌then◌else◌}
 use Rattle.std.specs.Bool.{then_some}
 use Rattle.std.specs.List.{range_with_len}
@@ -19,7 +19,7 @@ use Rattle.sixel_terminal.specs.Drawing.{screen_on}
 use Rattle.sixel_terminal.specs.Limits.{display_of}
 use Rattle.sixel_run.specs.Texts.{Text}
 
--- binding at showing, a ground filled with register 0 and a definition that selects are asked for; so is the size
+-- showing, fill (with register 0), selects and the size are asked for; the other choices are fixed
 abbrev pub show_choices : Bool → Bool → Bool → ℕ → ℕ → Choices
 show_choices showing fill selects width height = let ground : Ground = if fill then Filled 0 else Kept in record {
   binds_at_showing = showing;
@@ -40,12 +40,12 @@ show_choices showing fill selects width height = let ground : Ground = if fill t
 abbrev pub grey : ℕ → Parts
 grey percent = Rgb percent percent percent
 
--- the percentage of the grey as which a register starts
+-- the grey that a register starts with, in percent
 abbrev pub percent_at : Profile → ℕ → ℕ
 percent_at Registers16 register = 6 * register
 percent_at Registers256 register = register % 101
 
--- the colours as which the registers of the profile start
+-- the colours that the registers of the profile start with
 abbrev pub greys : Profile → List Parts
 greys profile = map (λ register. grey (percent_at profile register)) (range_with_len 0 (count_of profile))
 
@@ -53,15 +53,15 @@ greys profile = map (λ register. grey (percent_at profile register)) (range_wit
 abbrev pub white_screen : Choices → List Parts
 white_screen choices = replicate (choices.screen_width * choices.screen_height) (Rgb 100 100 100)
 
--- the terminal of these choices, with the registers of the profile
+-- the terminal with these choices and the registers of the profile
 unfoldable pub show_terminal : Profile → Choices → Display
 show_terminal profile choices = display_of choices (greys profile) (white_screen choices)
 
--- the sides of the screen that is as large as a box, if a screen can be: each side is from 1 to 4,096
+-- this width and height, if a screen can have them: each side is from 1 to 4,096
 abbrev pub sides_of_box : ℕ → ℕ → Option (ℕ × ℕ)
 sides_of_box width height = then_some (is_file_side width && is_file_side height) (width, height)
 
--- the sides of the screen that is as large as the declared box, which is that of the first raster attributes
+-- the width and height of the declared box, that of the first raster attributes, if a screen can have them
 unfoldable pub declared_screen : List Event → Option (ℕ × ℕ)
 declared_screen events = option_and_then (λ a. sides_of_box a.width a.height) (raster_before events)
 
@@ -70,6 +70,6 @@ abbrev pub screen_terminal : Profile → Bool → Bool → Bool → ℕ × ℕ �
 screen_terminal profile showing fill selects sides =
     show_terminal profile (show_choices showing fill selects sides.0 sides.1)
 
--- the picture file of what the terminal shows after the events
+-- the PPM of the terminal's screen after the events
 unfoldable pub screen_text : Display → List Event → Text
 screen_text t events = ppm_text t.choices.screen_width t.choices.screen_height (screen_on t events)

@@ -1,4 +1,4 @@
--- The line of a sixel that is kept from one to the next.
+-- The line of a sixel, most of which is kept from one sixel to the next.
 use Rattle.std.specs.Prelude.{slice_range}
 use Rattle.sixel_run.specs.declared.sixel_line.SixelLine.{SixelLine}
 use Rattle.sixel_run.specs.Texts.{Text}

@@ -125,22 +125,22 @@ rule_name rule.Outside = codes "Outside"
 rule_name rule.Uncovered = codes "Uncovered"
 rule_name rule.EightBit = codes "EightBit"
 
--- the column and the row, where there is a pixel
+-- the column and the row, if there is a pixel
 abbrev pub column_and_row : Option (ℕ × ℕ) → List Text
 column_and_row None = []
 column_and_row (Some pixel) = numbers (pixel.0 ∷ pixel.1 ∷ [])
 
--- the pixel of a rule that names one
+-- the pixel, if the rule names one
 abbrev pub pixel_parts : Rule → Option (ℕ × ℕ) → List Text
 pixel_parts rule.Outside pixel = column_and_row pixel
 pixel_parts rule.Uncovered pixel = column_and_row pixel
 pixel_parts _ pixel = []
 
--- the rule, the place and the pixel
+-- the line of a finding: its rule, its offset and its pixel
 abbrev pub finding_line : Finding → Text
 finding_line f = line (codes "broken") (rule_name f.rule ∷ decimal f.place ∷ pixel_parts f.rule f.pixel)
 
--- the width and the height
+-- the line of a portable picture: its width and its height
 abbrev pub portable_line : PictureValue → Text
 portable_line p = line (codes "portable") (numbers (p.width ∷ p.height ∷ []))
 

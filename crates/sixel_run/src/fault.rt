@@ -5,8 +5,8 @@ use sixel_ppm::{PpmFault, PpmReason};
 use std::alloc::AllocError;
 use thiserror::Error;
 
-/// Why a run gave no result. Its `Display` is the variant's name; the line that the program prints is that of
-/// `lines::fault_line`.
+/// Why a run gave no result. Its `Display` is the variant's name; `lines::fault_line` makes the line that the program
+/// prints.
 #[derive(Clone, Copy, Debug, PartialEq, Eq, Error)]
 pub enum RunFault {
     /// The input is no document: why, and after how many bytes.
@@ -15,13 +15,14 @@ pub enum RunFault {
     /// The input is no picture file: why, and after how many bytes.
     #[error("Ppm")]
     Ppm { reason: PpmReason, place: u64 },
-    /// A pixel's colour is one of hue, lightness and saturation, which a PPM has no place for. Nothing was written.
+    /// A pixel has a colour of hue, lightness and saturation, which a PPM can't hold. Nothing was written.
     #[error("NotRgb")]
     NotRgb,
-    /// A screen as large as the declared box was asked for, and no box is declared, or a side of it isn't from 1 to
+    /// A screen of the size of the declared box was asked for, but no box is declared, or a side of it isn't from 1 to
     /// 4,096 pixels. Nothing was written.
     #[error("NoBox")]
     NoBox,
+    /// An allocation failed.
     #[error("OutOfMemory")]
     OutOfMemory,
     /// The input could not be read.

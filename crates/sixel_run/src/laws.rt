@@ -23,17 +23,17 @@ pub fn tasks_give_one_output()
         Gives task bytes first a → Gives task bytes second b → (first ≡ second) × (a ≡ b) }
 {}
 
-/// The text that `encode` writes of any picture is a document whose verdict, in the picture's profile, is that picture,
-/// palette included, and which each terminal of the class with room shows. Whatever a check may answer for it is that
-/// this picture is portable, or want of memory, or that a read failed; and its line says so.
+/// The text that `encode` writes for a picture is a document. Its verdict, in the picture's profile, is that picture
+/// with its palette, and each terminal of the class with room shows it. A check of it can only answer that this picture
+/// is portable, or `OutOfMemory`, or `Read`; and it writes the line of a portable picture.
 pub fn encoded_pictures_are_portable()
     ensures portable { (profile : Profile) → EncodedIsPortable (count_of profile) }
     ensures answered { (profile : Profile) → EncodedAnswers (count_of profile) }
     ensures checked { (profile : Profile) → EncodedChecks (count_of profile) }
 {}
 
-/// `show --box` gives what `show` gives on a screen with the sides of the declared box, where a screen can have them.
-/// Of another document it gives `NoBox` and no text, and of bytes that are no document their fault, as `show` does.
+/// `show --box` gives what `show` gives on a screen with the sides of the declared box, if a screen can have them. For
+/// any other document it gives `NoBox` and no text; for bytes that are no document, their fault, as `show` does.
 pub fn a_box_is_shown_as_its_screen()
     ensures shown { BoxIsShown }
     ensures refused { NoBoxIsShown }

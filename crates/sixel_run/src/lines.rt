@@ -38,7 +38,7 @@ fn push_number(line: &mut Line, number: u64)
     push_all(line, buffer.format(number).as_bytes());
 }
 
-/// A number of a document after a space: at most 5 digits.
+/// A 16-bit number after a space: at most 5 digits.
 fn push_small(line: &mut Line, number: u16)
     requires { array_vec_len line.old + 6 ≤ 96 }
     ensures items { line.new.items ≡ line.old.items ++ 32 ∷ decimal number }
@@ -49,7 +49,7 @@ fn push_small(line: &mut Line, number: u16)
     push_all(line, buffer.format(number).as_bytes());
 }
 
-/// Numbers of a document, each after a space.
+/// 16-bit numbers, each after a space.
 fn push_numbers(line: &mut Line, given: &[u16])
     requires { array_vec_len line.old + 6 * length given.now ≤ 96 }
     ensures items { line.new.items ≡ line.old.items ++ spaced (numbers given.now) }
@@ -60,7 +60,7 @@ fn push_numbers(line: &mut Line, given: &[u16])
     }
 }
 
-/// A name with the space before it, and numbers.
+/// A name that begins with a space, and 16-bit numbers.
 fn push_part(line: &mut Line, name: &[u8], given: &[u16])
     requires { array_vec_len line.old + length name.now + 6 * length given.now ≤ 96 }
     ensures items { line.new.items ≡ line.old.items ++ (name.now ++ spaced (numbers given.now)) }
@@ -162,7 +162,7 @@ fn ppm_reason_name(reason: PpmReason) -> &'static str
     }
 }
 
-/// A reason, and the place where it was met: at most 38 bytes.
+/// A reason, and the offset of the fault: at most 38 bytes.
 fn push_reason(line: &mut Line, reason: &str, place: u64)
     requires { array_vec_len line.old + length reason.now ≤ 72 }
     ensures items { line.new.items ≡ line.old.items ++ (reason.now ++ spaced (codes "at" ∷ decimal place ∷ [])) }
@@ -221,7 +221,7 @@ fn rule_name(rule: Rule) -> &'static str
     }
 }
 
-/// The pixel of a finding whose rule names one.
+/// The column and the row of a finding's pixel, if its rule names one.
 fn push_pixel(line: &mut Line, finding: &Finding)
     requires { array_vec_len line.old ≤ 50 }
     ensures items { line.new.items ≡ line.old.items ++ spaced (pixel_parts finding.now.rule finding.now.pixel) }

@@ -15,11 +15,11 @@ use crate::task::{Status, Task};
 use sixel_io::{Sink, Source};
 use std::alloc::Global;
 
-/// Runs a task: reads the input as far as the task wants it, writes what it gives, and flushes once at the end.
+/// Runs a task: reads the input as far as the task needs it, writes the output, and flushes once at the end.
 ///
-/// The output is written in blocks, and what a piece of input completed is written before the next is read. A device
-/// that failed isn't called again; where both failed, the answer is `Write`. The sides of a screen to show are from 1
-/// to 4,096 pixels.
+/// The output is written in blocks, and what a piece of input completes is written before the next piece is read. A
+/// device that failed isn't called again; if both failed, the answer is `Write`. The sides of a screen to show must be
+/// from 1 to 4,096 pixels.
 pub fn run<S: Source, K: Sink>(
     alloc: Global,
     task: Task,
@@ -44,7 +44,7 @@ pub fn run<S: Source, K: Sink>(
     }
 }
 
-/// Does all of a task but the flush.
+/// Does all of a task except the flush.
 fn perform<S: Source, K: Sink>(
     alloc: Global,
     task: Task,

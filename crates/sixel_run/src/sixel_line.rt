@@ -1,4 +1,4 @@
-//! The line of a sixel by itself, as nearly all events are: most of it is kept from one to the next.
+//! The line of a sixel, by far the most common event: most of it is kept from one sixel to the next.
 
 ghost use Rattle.std.specs.Prelude.{◌≡◌, ◌+◌, ◌<◌, ◌≤◌, ◌^◌, ◌∷◌, ◌++◌, [], decimal, drop, length, take};
 ghost use Rattle.sixel_grammar.specs.declared.command.Command.TheVariants.{Sixel};
@@ -7,10 +7,10 @@ ghost use Rattle.sixel_run.specs.Texts.{event_line, two_digits};
 
 use itoa::write_digits;
 
-/// Where the digits of a place's hundreds end, and its last two digits begin. A place has at most 18 before these.
+/// The index in `text` of the offset's last two digits. The digits of its hundreds, at most 18, end before it.
 const LAST: usize = 18;
 
-/// The line of a sixel. Its place mostly has as many hundreds as the one before, so their digits stay in the text.
+/// The line of a sixel. Its offset mostly has the same hundreds as the one before, so their digits stay in `text`.
 #[derive(Drop)]
 pub struct SixelLine {
     text: [u8; 30],
@@ -26,7 +26,7 @@ pub struct SixelLine {
 impl SixelLine {
     ghost use Rattle.sixel_run.specs.SixelLines.{text_of};
 
-    /// The line of no sixel yet: the digit of no hundreds.
+    /// No line yet: only the digit of 0 hundreds.
     pub fn new() -> SixelLine
         ensures { text_of result ≡ decimal 0 }
     {
@@ -38,7 +38,7 @@ impl SixelLine {
         }
     }
 
-    /// Makes it the line of this sixel.
+    /// Makes it the line of the sixel with these bits at the offset `place`.
     #[inline(always)]
     pub fn set(&mut self, place: u64, bits: u8)
         requires place { 100 ≤ place }
@@ -60,7 +60,7 @@ impl SixelLine {
         }
     }
 
-    /// Has the line begin with these hundreds.
+    /// Makes the line begin with these hundreds.
     #[inline(always)]
     fn keep_hundreds(&mut self, hundreds: u64)
         requires { hundreds < 10 ^ 18 }
@@ -80,7 +80,7 @@ impl SixelLine {
         self.hundreds = hundreds;
     }
 
-    /// Puts the rest of the line behind the hundreds.
+    /// Puts the rest of the line after the hundreds.
     #[inline(always)]
     fn set_rest(&mut self, rest: &[u8])
         requires { length rest.now ≤ 12 }

@@ -1,4 +1,4 @@
-//! What a run is asked for, and how it ends well.
+//! What a run does, and how it ends if it isn't refused.
 
 use sixel_check::Finding;
 use sixel_model::Profile;
@@ -6,27 +6,27 @@ use sixel_model::Profile;
 /// The greatest side of a screen, in pixels.
 pub const MOST_SCREEN_SIDE: u32 = 4096;
 
-/// What is to be done with the input.
+/// What to do with the input.
 #[derive(Clone, Copy, Debug, PartialEq, Eq)]
 pub enum Task {
-    /// A line for each event of a sixel picture (DEC EK-VT3XX-GP, volume 2, the chapter on sixel graphics): its place
-    /// in bytes, what it is, and its numbers.
+    /// A line for each event of a sixel picture (DEC EK-VT3XX-GP, volume 2, the chapter on sixel graphics): its offset
+    /// in bytes, its name, and its numbers.
     List,
-    /// A line with the verdict on a sixel picture, by the registers of the profile: `portable` and its size, or
-    /// `broken`, the first broken rule and its place.
+    /// A line with the verdict on a sixel picture, with the registers of the profile: `portable` and its size in
+    /// pixels, or `broken`, the first broken rule, its offset in bytes, and its pixel if it has one.
     Check {
         profile: Profile,
     },
-    /// A sixel picture that is portable in the profile, as a PPM of Netpbm with a maximum of 100.
+    /// A sixel picture that is portable in the profile, as a Netpbm PPM with a maxval of 100.
     Render {
         profile: Profile,
     },
-    /// The screen of one terminal after a sixel picture, written as a PPM of Netpbm. It has the registers of the
-    /// profile: of 16, register n starts as the grey of 6n percent, and of 256 as that of n modulo 101 percent. The
-    /// screen is white, and the picture begins at its top left.
+    /// The screen of one terminal after a sixel picture, as a Netpbm PPM. The terminal has the registers of the
+    /// profile: of 16, register n starts as the grey of 6n percent; of 256, as that of n modulo 101 percent. The screen
+    /// is white, and the picture begins at its top left.
     Show {
         profile: Profile,
-        /// A pixel shows the colour that its register has at the end of the string, not at its painting.
+        /// A pixel shows the colour that its register has at the end of the string, not when the pixel was painted.
         showing: bool,
         /// Raster attributes fill their box with register 0.
         fill: bool,
@@ -34,27 +34,27 @@ pub enum Task {
         selects: bool,
         /// The width of the screen in pixels, from 1 to 4,096.
         width: u32,
-        /// Its height, likewise.
+        /// The height of the screen in pixels, from 1 to 4,096.
         height: u32,
     },
-    /// The same, on a screen as large as the declared box, which is that of the first raster attributes. Its sides are
-    /// to be from 1 to 4,096 pixels.
+    /// As `Show`, on a screen with the size of the declared box, that of the first raster attributes. Its sides must be
+    /// from 1 to 4,096 pixels.
     ShowBox {
         profile: Profile,
         showing: bool,
         fill: bool,
         selects: bool,
     },
-    /// A PPM of Netpbm, of at most as many colours as the profile has registers, as a portable sixel picture.
+    /// A Netpbm PPM, with at most as many colours as the profile has registers, as a portable sixel picture.
     Encode {
         profile: Profile,
     },
 }
 
-/// What came of a task that was not refused.
+/// How a task ended that wasn't refused.
 #[derive(Clone, Copy, Debug, PartialEq, Eq)]
 pub enum Status {
-    /// What was asked for is done; of a check, no rule is broken.
+    /// The task is done; for a check, no rule is broken.
     Done,
     /// The picture isn't portable: its first broken rule.
     Broken(Finding),

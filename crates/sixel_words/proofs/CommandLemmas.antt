@@ -9,7 +9,7 @@ use Rattle.clap.specs.declared.builder.arg.Arg.{Arg}
 use Rattle.clap.specs.declared.builder.command.Command.{Command}
 use Rattle.clap.specs.declared.builder.command.Command.TheViews.{out-Command as fields_of}
 
--- the command reads words as this one does, and none of its arguments is global
+-- the command parses arguments as this one does, and none of its options is global
 pub record ReadsAs (a : App) (c : Command) : Type 0 where
   pub app : app_of c ≡ a
   pub local : (fields_of c).has_globals ≡ false
@@ -17,7 +17,7 @@ pub record ReadsAs (a : App) (c : Command) : Type 0 where
 neither : (a b c : Bool) → a ≡ (b || c) → b ≡ false → c ≡ false → a ≡ false
 neither a b c e h k = rw (e, h, k) refl
 
--- a new command with what its help says
+-- a new command with its help texts
 pub begun : (name : Text) (c d e : Command) (about more : Option (Bor (List ℕ))) → app_of c ≡ new_app name
     → (fields_of c).has_globals ≡ false → fields_of d ≡ record (fields_of c) { about = about }
     → fields_of e ≡ record (fields_of d) { after_help = more } → ReadsAs (new_app name) e

@@ -1,4 +1,4 @@
--- What the words of `explain` ask for.
+-- What the arguments of `explain` ask for.
 use Rattle.std.proofs.Common.{◌≡◌, ◌∙◌, Option, Some, None, ap, codes, subst, sym, List}
 use Rattle.std.specs.Prelude.{option_map}
 use Rattle.clap.specs.Simple.{subcommand_of}
@@ -11,7 +11,7 @@ use Rattle.sixel_run.specs.Texts.{Text}
 use Rattle.sixel_words.proofs.MatchLemmas.{same_parts}
 use Rattle.sixel_words.specs.Words.{AsksFor, IsAskedBy, IsAskedIn, IsNoHelp, IsRefusal, IsUnexplained, sixel_app}
 
--- a topic is asked for by its name
+-- a topic has this name, so it can't be that none has
 pub by_name : (topic : Option Topic) (name : Text) → Some name ≡ option_map topic_name topic
     → ((t : Topic) → topic_name t ≡ name → ⊥) → ⊥
 by_name None name is none = cc
@@ -25,7 +25,7 @@ asked_by words name rows (fault.Usage error) is asked = tt
 asked_by words name rows (fault.Help error) is asked = tt
 asked_by words name rows fault.OutOfMemory is asked = tt
 
--- what is no explanation may come of any words
+-- a fault that is no explanation is right for any arguments
 pub unasked : (words : List Text) (f : WordsFault) → IsUnexplained f → IsAskedBy words f
 unasked words (fault.Explanation topic) is = absurd is
 unasked words (fault.Usage error) is = tt
@@ -38,7 +38,7 @@ refused_unasked words (fault.Usage error) is = tt
 refused_unasked words (fault.Help error) is = absurd is
 refused_unasked words fault.OutOfMemory is = tt
 
--- words that ask for a name have this subcommand, with this option
+-- arguments that ask for a name have the subcommand `explain`, with this name
 pub same_wish : (words : List Text) (wanted : Option Text) (name : Text) (rows : List Row) → AsksFor words wanted
     → subcommand_of sixel_app words ≡ Some (name, rows)
     → (name ≡ codes "explain") × (first_of (codes "name") rows ≡ wanted)
@@ -46,7 +46,7 @@ same_wish words wanted name rows asks is =
     let same = same_parts (subcommand_of sixel_app words) (codes "explain") name asks.0 rows asks.1 is in
     (sym same.0, subst (λ (r : List Row). first_of (codes "name") r ≡ wanted) same.1 asks.2)
 
--- a refusal is no help
+-- a refusal isn't help
 pub refused_unhelped : (f : WordsFault) → IsRefusal f → IsNoHelp f
 refused_unhelped (fault.Explanation topic) is = absurd is
 refused_unhelped (fault.Usage error) is = tt

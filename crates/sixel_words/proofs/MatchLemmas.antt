@@ -1,4 +1,4 @@
--- What an entry's getters read.
+-- What the getters of clap's matches return.
 use Rattle.std.proofs.Common.{◌≡◌, ◌∙◌, ◌≤◌, ◌⊎◌, ℕ, Bool, true, false, List, [], Option, Some, None, arith}
 use Rattle.std.proofs.Common.{codes, refl, slice_index, subst, sym, ap, ap₂, inl, inr}
 use Rattle.std.specs.Prelude.{find, option_and_then, option_map, map, string_bytes, Box, IfSome, IfOk, Result, Ok, Err}
@@ -43,7 +43,7 @@ name_rows (Some b) = refl
 
 -- ---- numbers in range
 
--- an option's text, if it has one, is this number
+-- the value of an option, if it has one, is this number
 abbrev pub HasNumber : Option Text → ℕ → Type 0
 HasNumber o n = (text : Text) × (o ≡ Some text) × IsSideText text n
 
@@ -70,9 +70,9 @@ number_refused o gives (Some k) parses value out n h =
     let got = parses h.0 (Ok k) (value h.0 h.1) in
     out (omega (arith, got.1, h.2.value, h.2.least)) (omega (arith, got.1, h.2.value, h.2.most))
 
--- ---- the words
+-- ---- the command line
 
--- the source of an id's value, by its row
+-- the source of an option's value, by its row
 pub source_rows : (f : Found) (id : Text) → option_and_then (λ (a : MatchedArg). a.source) (matched_of f id)
     ≡ option_and_then (λ (r : Row). r.source) (find (λ r. bytes_eq r.id id) (rows_of f))
 source_rows f id = go (find (λ (e : Entry). bytes_eq e.0.now id) f.entries.items)
@@ -104,7 +104,7 @@ not_render is = let first : 115 ≡ 114 = ap (λ (t : Text). slice_index t 0) is
 not_encode : codes "show" ≡ codes "encode" → ⊥
 not_encode is = let first : 115 ≡ 101 = ap (λ (t : Text). slice_index t 0) is in omega (arith, first)
 
--- without the box, and without one of the sides
+-- without `--box`, and without one of the sides
 pub without_side : (rows : List Row) (t : Task) → is_given (codes "box") rows ≡ false
     → ((n : ℕ) → HasSide (codes "width") rows n → ⊥) ⊎ ((n : ℕ) → HasSide (codes "height") rows n → ⊥)
     → IsTask (codes "show") rows t → ⊥
@@ -116,7 +116,7 @@ without_side rows (Show profile showing fill selects width height) plain (inl no
 without_side rows (Show profile showing fill selects width height) plain (inr none) is = none height is.7
 without_side rows (ShowBox profile showing fill selects) plain none is = not_both _ is.5 plain
 
--- with the box, and a side beside it
+-- with `--box`, and with a side too
 box_beside : (rows : List Row) (t : Task) → is_given (codes "box") rows ≡ true
     → is_named (codes "width") rows ≡ true ⊎ is_named (codes "height") rows ≡ true → IsTask (codes "show") rows t → ⊥
 box_beside rows Listing boxed side is = not_list is
@@ -135,7 +135,7 @@ abbrev pub rows_in : Option (Text × List Row) → List Row
 rows_in None = []
 rows_in (Some p) = p.1
 
--- the task of one name and its rows
+-- the task of a subcommand is that of its name and options
 pub same_task : (o : Option (Text × List Row)) (n m : Text) (r s : List Row) (t : Task) → o ≡ Some (n, r)
     → o ≡ Some (m, s) → IsTask n r t → IsTask m s t
 same_task o n m r s t e f is =
@@ -143,7 +143,7 @@ same_task o n m r s t e f is =
     let rows : r ≡ s = sym (ap rows_in e) ∙ ap rows_in f in
     subst (λ (k : Text). IsTask k s t) name (subst (λ (k : List Row). IsTask n k t) rows is)
 
--- the words name `show` with the box, and a side beside it
+-- the arguments ask for `show` with `--box`, and with a side too
 pub none_named : (o : Option (Text × List Row)) (name : Text) (rows : List Row) (t : Task) → o ≡ Some (name, rows)
     → IsTask name rows t → name_in o ≡ codes "show" → is_given (codes "box") (rows_in o) ≡ true
     → is_named (codes "width") (rows_in o) ≡ true ⊎ is_named (codes "height") (rows_in o) ≡ true → ⊥
@@ -153,14 +153,14 @@ none_named o name rows t e is called boxed side =
     box_beside (rows_in o) t boxed side
     (subst (λ (k : Text). IsTask k (rows_in o) t) n (subst (λ (k : List Row). IsTask name k t) r is))
 
--- one subcommand has one name and its rows
+-- a subcommand has one name and one list of options
 pub same_parts : (o : Option (Text × List Row)) (n m : Text) (r s : List Row) → o ≡ Some (n, r) → o ≡ Some (m, s)
     → (n ≡ m) × (r ≡ s)
 same_parts o n m r s e f = (sym (ap name_in e) ∙ ap name_in f, sym (ap rows_in e) ∙ ap rows_in f)
 
--- ---- what is asked for
+-- ---- the request
 
--- the task of a name and its rows, with what else they say
+-- the request of a subcommand: its task, and its other options
 pub request_is : {E : Type 0} (o : Option (Text × List Row)) (n : Text) (rows : List Row) (t : Task)
     (r : Result Request E) → o ≡ Some (n, rows) → IsTask n rows t
     → IfOk r (λ asked. asked.task ≡ t) → IfOk r (λ asked. is_given (codes "quiet") rows ≡ asked.is_quiet)

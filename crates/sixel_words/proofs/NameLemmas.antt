@@ -8,7 +8,7 @@ use Rattle.sixel_words.specs.declared.explanations.Topic.{Topic}
 use Rattle.sixel_words.specs.declared.explanations.Topic.TheVariants as topic
 use Rattle.sixel_words.specs.Explanations.{listed_names, topic_name}
 
--- where each is listed
+-- the index at which each is listed
 pub name_listed : (t : Topic) → Contains listed_names (topic_name t)
 name_listed (topic.Rule rule.RasterFirst) = (0, omega arith, refl)
 name_listed (topic.Rule rule.RasterTwice) = (1, omega arith, refl)

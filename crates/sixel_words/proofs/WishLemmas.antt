@@ -1,4 +1,4 @@
--- Words that ask for a name.
+-- Arguments that ask for a name to be explained.
 use Rattle.std.proofs.Common.{◌≡◌, ◌∷◌, List, [], Option, Some, codes, map, refl, true}
 use Rattle.std.specs.List.{All}
 use Rattle.std.proofs.lemmas.List.Elements.{All-cons, All-contains, All-nil}
@@ -12,7 +12,7 @@ use Rattle.sixel_words.proofs.MatchLemmas.{rows_in}
 use Rattle.sixel_words.proofs.NameLemmas.{name_listed}
 use Rattle.sixel_words.specs.Words.{AsksFor, sixel_app}
 
--- what two functions that agree on a list say of each item
+-- two functions that agree on a list agree on each item
 each : {X Y : Type 0} (f g : X → Y) (xs : List X) → map f xs ≡ map g xs → All (λ x. f x ≡ g x) xs
 each f g [] e = All-nil (λ x. f x ≡ g x)
 each f g (x ∷ xs) e =

@@ -1,4 +1,4 @@
--- What `explain` says, and of what.
+-- What `explain` says, and of which topics.
 use Rattle.std.specs.Prelude.{◌≡◌, ◌∷◌, ◌++◌, ℕ, Bool, List, [], Option, Some, None, codes, map, nat_eq}
 use Rattle.std.specs.Io.{StartsWith}
 use Rattle.std.specs.List.{after_first}
@@ -17,7 +17,7 @@ use Rattle.sixel_run.specs.declared.fault.RunFault.{RunFault}
 use Rattle.sixel_run.specs.declared.fault.RunFault.TheVariants as fault
 use Rattle.sixel_run.specs.Texts.{Text, ppm_reason_name, reason_name, rule_name}
 
--- the name by which a topic is asked for; of a rule and of a reason it is the one in the line of `check` or of a fault
+-- the name of a topic; for a rule and for a reason it is the name in the line of `check` or of a fault
 abbrev pub topic_name : Topic → Text
 topic_name (Rule rule) = rule_name rule
 topic_name (Grammar reason) = reason_name reason
@@ -28,7 +28,7 @@ topic_name OutOfMemory = codes "OutOfMemory"
 topic_name Read = codes "Read"
 topic_name Write = codes "Write"
 
--- what a run's fault is a case of
+-- the topic of a run's fault
 abbrev pub topic_of : RunFault → Topic
 topic_of (fault.Grammar f) = Grammar f.reason
 topic_of (fault.Ppm reason place) = Ppm reason
@@ -47,7 +47,7 @@ abbrev pub refusals_of_text : List Topic
 refusals_of_text = Grammar NotSixel ∷ Grammar BadByte ∷ Grammar NumberTooLarge ∷ Grammar FieldCount ∷ Grammar BadRepeat
     ∷ Grammar BadTerminator ∷ Grammar Truncated ∷ Grammar TooLong ∷ Grammar Trailing ∷ []
 
--- but for `Trailing`, whose name is that of a refusal of sixel text too
+-- without `Trailing`, whose name is also that of a reason for sixel text
 abbrev pub refusals_of_pictures : List Topic
 refusals_of_pictures =
     Ppm Header ∷ Ppm Size ∷ Ppm Maxval ∷ Ppm Sample ∷ Ppm TooManyColours ∷ Ppm Short ∷ []
@@ -55,20 +55,20 @@ refusals_of_pictures =
 abbrev pub refusals_of_runs : List Topic
 refusals_of_runs = NotRgb ∷ NoBox ∷ OutOfMemory ∷ Read ∷ Write ∷ []
 
--- the names that are listed, in that order
+-- the listed names, in this order
 abbrev pub listed_names : List Text
 listed_names = map topic_name (rules ++ refusals_of_text ++ refusals_of_pictures ++ refusals_of_runs)
 
 abbrev pub is_line_feed : ℕ → Bool
 is_line_feed byte = nat_eq byte 10
 
--- the text is a line for each of the names, which begins with it and a colon
+-- the text has one line for each name, which begins with the name and a colon
 abbrev pub ListsNames : List Text → Text → Type 0
 ListsNames [] text = text ≡ []
 ListsNames (name ∷ more) text =
     StartsWith text (name ++ codes ": ") × ListsNames more (after_first is_line_feed text)
 
--- the explanation of a topic begins with its name and a colon; without a topic it is the list of the names
+-- the explanation of a topic begins with its name and a colon; without a topic, it is the list of names
 abbrev pub IsExplanation : Option Topic → Text → Type 0
 IsExplanation None text = ListsNames listed_names text
 IsExplanation (Some topic) text = StartsWith text (topic_name topic ++ codes ": ")

@@ -1,4 +1,4 @@
--- The command line: what the words say, over the matches that `clap` states.
+-- The command line: what the arguments ask for, in the terms of clap's contracts.
 use Rattle.std.specs.Prelude.{◌≡◌, ◌≢◌, ◌⊎◌, ◌≤◌, ℕ, Bool, false, true, List, [], ◌∷◌, Option, Some, codes, pos, ⊤}
 use Rattle.std.specs.Prelude.{find, map, if◌then◌else◌, option_map, unwrap_or}
 use Rattle.std.specs.Option.{option_and_then, option_map_or}
@@ -28,7 +28,7 @@ use Rattle.sixel_words.specs.Explanations.{topic_name}
 
 -- ---- the commands
 
--- `FILE`, which may be left out
+-- `FILE`, optional
 abbrev pub file : Rule
 file = new_rule (codes "FILE")
 
@@ -36,11 +36,11 @@ file = new_rule (codes "FILE")
 abbrev pub files : Rule
 files = record (new_rule (codes "FILE")) { action = Some Append }
 
--- with one subcommand more, which has no options
+-- the command with one more subcommand, which has no options
 abbrev pub with_file_only : App → Text → App
 with_file_only a name = with_subcommand a (with_rule (new_app name) file).top
 
--- `--name`, which takes no value
+-- `--name`, without a value
 abbrev pub flag : Text → Rule
 flag name = record (new_rule name) { long = Some name; action = Some SetTrue }
 
@@ -48,7 +48,7 @@ flag name = record (new_rule name) { long = Some name; action = Some SetTrue }
 abbrev pub quiet : Rule
 quiet = record (flag (codes "quiet")) { short = Some 113 }
 
--- `--name N`, a number from 1 to 4,096, which is `fallback` where the option isn't given
+-- `--name N`, a number from 1 to 4,096, with the default `fallback`
 abbrev pub side : Text → Text → Rule
 side name fallback = record (new_rule name) {
   long = Some name;
@@ -57,7 +57,7 @@ side name fallback = record (new_rule name) {
   parser = Some (parser.Signed (pos 1) (pos most_screen_side));
 }
 
--- with one subcommand more, which may be told to take the wide profile
+-- the command with one more subcommand, which has the option `--wide`
 abbrev pub with_profile : App → Text → App
 with_profile a name = with_subcommand a (with_rule (with_rule (new_app name) (flag (codes "wide"))) file).top
 
@@ -78,11 +78,11 @@ show_app =
     (flag (codes "box")))
     file
 
--- `explain`, which may be given a name
+-- `explain`, with an optional name
 abbrev pub explain_app : App
 explain_app = with_rule (new_app (codes "explain")) (record (new_rule (codes "name")) { value_names = 1 })
 
--- `sixel`, which tells its version and wants a subcommand
+-- `sixel`, with a version, and with a required subcommand
 abbrev pub sixel_app : App
 sixel_app =
     with_subcommand (with_subcommand
@@ -101,32 +101,32 @@ subcommands = map (λ s. s.name) sixel_app.subs
 abbrev pub is_given : Text → List Row → Bool
 is_given name rows = option_map_or (λ text. bytes_eq text (codes "true")) (first_of name rows) false
 
--- a value that the words give, and no default
+-- the value is given on the command line, and isn't a default
 abbrev pub is_of_words : Option ValueSource → Bool
 is_of_words (Some CommandLine) = true
 is_of_words _ = false
 
--- the words give the option
+-- the command line gives the option
 abbrev pub is_named : Text → List Row → Bool
 is_named name rows = is_of_words (option_and_then (λ r. r.source) (find (λ r. bytes_eq r.id name) rows))
 
--- the wide profile was asked for, or else it is that of 16 registers
+-- the profile of 256 registers with `--wide`, else that of 16
 abbrev pub profile_of : List Row → Profile
 profile_of rows = if is_given (codes "wide") rows then Registers256 else Registers16
 
--- the text is a number from 1 to 4,096, in decimal digits after perhaps a plus
+-- the text is the number n from 1 to 4,096 in decimal digits, perhaps after a plus
 pub record IsSideText (text : Text) (n : ℕ) : Type 0 where
   pub numeral : IsNumeral 10 (without_leading_plus text)
   pub value : digits_value 10 (without_leading_plus text) ≡ n
   pub least : 1 ≤ n
   pub most : n ≤ most_screen_side
 
--- the option's entry is this number from 1 to 4,096
+-- the value of the option is this number, from 1 to 4,096
 abbrev pub HasSide : Text → List Row → ℕ → Type 0
 HasSide name rows n = (text : Text) × (one_of name rows ≡ Some text) × IsSideText text n
 
--- the task of a subcommand's name and of its options' entries
--- the box gives a screen its sides, or else the options for them do: the words that give both name no task
+-- the task of a subcommand with this name and these options; the size of a screen comes from `--box`, or else from
+-- `--width` and `--height`: with both there is no task
 abbrev pub IsTask : Text → List Row → Task → Type 0
 IsTask name rows task.List = name ≡ codes "list"
 IsTask name rows (task.Check profile) = (name ≡ codes "check") × (profile_of rows ≡ profile)
@@ -149,18 +149,18 @@ IsTask name rows (task.ShowBox profile showing fill selects) = (name ≡ codes "
     × (is_named (codes "width") rows ≡ false)
     × (is_named (codes "height") rows ≡ false)
 
--- the task that the words give, of which the first is the program's name
+-- the task that the arguments ask for; the first is the program's name
 abbrev pub IsTaskOf : List Text → Task → Type 0
 IsTaskOf words t = (name : Text) × (rows : List Row)
     × (subcommand_of sixel_app words ≡ Some (name, rows)) × IsTask name rows t
 
--- ---- what else is asked for
+-- ---- files and `--quiet`
 
--- the names of the files, in the order of the words
+-- the names of the files, in the order of the arguments
 abbrev pub files_of : List Row → List Text
 files_of rows = unwrap_or (all_of (codes "FILE") rows) []
 
--- what the words give, of which the first is the program's name: the task, whether no verdict is wanted, and the files
+-- what the arguments ask for, the first being the program's name: the task, whether it is quiet, and the files
 abbrev pub IsRequestOf : List Text → Task → Bool → List Text → Type 0
 IsRequestOf words t is_quiet names = (name : Text) × (rows : List Row)
     × (subcommand_of sixel_app words ≡ Some (name, rows)) × IsTask name rows t
@@ -168,31 +168,31 @@ IsRequestOf words t is_quiet names = (name : Text) × (rows : List Row)
 
 -- ---- explanations
 
--- the words ask for the explanation of this name, or without one for the list of names
+-- the arguments ask for the explanation of this name, or without one for the list of names
 abbrev pub AsksFor : List Text → Option Text → Type 0
 AsksFor words name = (rows : List Row)
     × (subcommand_of sixel_app words ≡ Some (codes "explain", rows)) × (first_of (codes "name") rows ≡ name)
 
--- the explanation, if it is one, is the one that a subcommand of this name with these options asks for
+-- an explanation is the one that a subcommand with this name and these options asks for
 abbrev pub IsAskedIn : Text → List Row → WordsFault → Type 0
 IsAskedIn name rows (fault.Explanation topic) =
     (name ≡ codes "explain") × (first_of (codes "name") rows ≡ option_map topic_name topic)
 IsAskedIn name rows _ = ⊤
 
--- and the one that these words ask for
+-- an explanation is the one that these arguments ask for
 abbrev pub IsAskedBy : List Text → WordsFault → Type 0
 IsAskedBy words (fault.Explanation topic) = AsksFor words (option_map topic_name topic)
 IsAskedBy words _ = ⊤
 
--- it is the explanation of this name, or there is no memory
+-- the explanation of this name, or OutOfMemory
 abbrev pub IsExplanationOf : Option Text → WordsFault → Type 0
 IsExplanationOf name (fault.Explanation topic) = option_map topic_name topic ≡ name
 IsExplanationOf name fault.OutOfMemory = ⊤
 IsExplanationOf name _ = ⊥
 
--- ---- the refusals
+-- ---- usage errors and help
 
--- help holds what asks for help or the version, and usage neither that nor want of memory
+-- Help has clap's text of the help or the version; Usage has neither, nor clap's own OutOfMemory
 abbrev pub IsSortedOut : WordsFault → Type 0
 IsSortedOut (fault.Usage error) = (kind_of error ≢ kind.DisplayHelp) × (kind_of error ≢ kind.DisplayVersion)
     × (kind_of error ≢ kind.OutOfMemory)
@@ -211,14 +211,14 @@ abbrev pub IsUnexplained : WordsFault → Type 0
 IsUnexplained (fault.Explanation topic) = ⊥
 IsUnexplained _ = ⊤
 
--- neither help nor an explanation is shown
+-- neither help nor an explanation: a usage error or OutOfMemory
 abbrev pub IsRefusal : WordsFault → Type 0
 IsRefusal (fault.Usage error) = ⊤
 IsRefusal (fault.Help error) = ⊥
 IsRefusal (fault.Explanation topic) = ⊥
 IsRefusal fault.OutOfMemory = ⊤
 
--- no help is shown, and no version
+-- neither help nor the version
 abbrev pub IsNoHelp : WordsFault → Type 0
 IsNoHelp (fault.Help error) = ⊥
 IsNoHelp _ = ⊤

@@ -1,4 +1,4 @@
-//! The words of the system, as a request.
+//! The arguments of the process, as a request.
 
 ghost use Rattle.std.specs.Prelude.{◌≡◌, IfErr, IfOk, IsErrOf, [], false, is_ok, map};
 ghost use Rattle.std.specs.IoError.{error_kind};
@@ -14,7 +14,7 @@ use std::env::Args;
 use std::io;
 use std::io::ErrorKind;
 
-/// What these arguments ask for, of which the first is the program's name; nothing where they couldn't be read.
+/// What these arguments ask for; the first is the program's name. A usage error if they couldn't be read as text.
 pub fn task_in(alloc: Global, arguments: io::Result<Args>) -> Result<Request, WordsFault>
     ensures task { IfOk result (λ asked. IfOk arguments (λ words.
         IsTaskOf (map string_bytes (into_iter_items words)) asked.task)) }

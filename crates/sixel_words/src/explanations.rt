@@ -13,13 +13,13 @@ use sixel_check::Rule;
 use sixel_grammar::Reason;
 use sixel_ppm::PpmReason;
 
-/// What can be explained: a rule, or why a run is refused.
+/// What can be explained: a rule, or why a run was refused.
 #[derive(Clone, Copy, Debug, PartialEq, Eq, Drop)]
 pub enum Topic {
     Rule(Rule),
-    /// Why bytes are no document.
+    /// Why bytes are no sixel document.
     Grammar(Reason),
-    /// Why bytes are no picture file.
+    /// Why bytes are no PPM.
     Ppm(PpmReason),
     NotRgb,
     NoBox,

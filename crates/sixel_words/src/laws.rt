@@ -15,21 +15,21 @@ ghost use Rattle.sixel_words.specs.Explanations.{listed_names, topic_name, topic
 ghost use Rattle.sixel_run.specs.Texts.{Text, rule_name};
 ghost use Rattle.sixel_words.specs.Words.{AsksFor, IsTaskOf, kinds_of, sixel_app, subcommands};
 
-/// The one word `list` after the program's name is taken, and gives the list.
+/// The command line `sixel list` is accepted, and asks for the task `List`.
 pub fn the_word_list_gives_a_list()
     ensures taken { (program : Text) → takes sixel_app (program ∷ codes "list" ∷ []) ≡ true }
     ensures task { (program : Text) → IsTaskOf (program ∷ codes "list" ∷ []) Listing }
 {}
 
-/// The one word `show` is taken, and shows as no flag asks, by 16 registers on a screen of 800 by 480 pixels.
+/// `sixel show` is accepted, and shows without any flag, with 16 registers on a screen of 800 by 480 pixels.
 pub fn the_word_show_gives_a_show()
     ensures taken { (program : Text) → takes sixel_app (program ∷ codes "show" ∷ []) ≡ true }
     ensures task { (program : Text) →
         IsTaskOf (program ∷ codes "show" ∷ []) (Show Registers16 false false false 800 480) }
 {}
 
-/// The words `show --box` are taken, and show on a screen of the declared box as no flag asks, by 16 registers. With a
-/// side beside the box they give no task.
+/// `sixel show --box` is accepted, and shows without any other flag, with 16 registers on a screen of the size of the
+/// declared box. With `--width` or `--height` too, it gives no task.
 pub fn the_words_show_box_give_a_box()
     ensures taken { (program : Text) → takes sixel_app (program ∷ codes "show" ∷ codes "--box" ∷ []) ≡ true }
     ensures task { (program : Text) →
@@ -66,13 +66,13 @@ pub fn each_name_is_listed()
     ensures faults { (fault : RunFault) → Contains listed_names (topic_name (topic_of fault)) }
 {}
 
-/// The one word `explain` is taken, and asks for the list of names.
+/// `sixel explain` is accepted, and asks for the list of names.
 pub fn the_word_explain_asks_for_the_list()
     ensures taken { (program : Text) → takes sixel_app (program ∷ codes "explain" ∷ []) ≡ true }
     ensures asked { (program : Text) → AsksFor (program ∷ codes "explain" ∷ []) None }
 {}
 
-/// After the word `explain` each name is taken, and asked for.
+/// `sixel explain NAME` is accepted for each listed name, and asks for its explanation.
 pub fn each_name_can_be_asked_for()
     ensures taken { (program : Text) (topic : Topic) →
         takes sixel_app (program ∷ codes "explain" ∷ topic_name topic ∷ []) ≡ true }

@@ -1,4 +1,4 @@
-//! The words of the command line: what they ask for, and what `explain` says.
+//! The command line: what its arguments ask for, and what `explain` says.
 #![tactic(auto)]
 
 mod arguments;

@@ -1,13 +1,13 @@
-//! What the words ask for.
+//! What the arguments ask for.
 
 use sixel_run::Task;
 
-/// A task, and what it is done with.
+/// A task, and the options that aren't part of it.
 #[derive(Debug, Drop)]
 pub struct Request {
     pub task: Task,
-    /// A check writes no verdict.
+    /// Whether a check prints no verdict.
     pub is_quiet: bool,
-    /// The files to read in place of standard input, in turn; `-` is standard input.
+    /// The files to read instead of standard input, in order; `-` is standard input.
     pub files: Vec<String>,
 }

@@ -1,4 +1,4 @@
-//! The words of the command line.
+//! The command line, over clap.
 
 ghost use Rattle.std.specs.Prelude.{◌≡◌, ◌≤◌, ◌↔◌, ℕ, IfOk, IfErr, IfSome, IsNone, IsTrue, [], codes, false};
 ghost use Rattle.std.specs.Prelude.{Option, map, option_map, true};
@@ -32,18 +32,19 @@ use sixel_model::Profile;
 use sixel_run::{MOST_SCREEN_SIDE, Task};
 use std::alloc::{AllocError, Global};
 
-/// What `--version` says behind the program's name.
+/// What `--version` prints after the program's name.
 const VERSION: &str = "1.0.0";
 
-/// Why words give no task. `Usage` and `Help` hold the text to show, which ends with a line feed.
+/// Why the arguments give no task. `Usage` and `Help` hold the text to print, which ends with a newline.
 #[derive(Debug, Drop)]
 pub enum WordsFault {
-    /// The words are refused, or name no subcommand.
+    /// A usage error: the arguments are refused, or name no subcommand.
     Usage(Error),
-    /// Help was asked for.
+    /// Help or the version was asked for.
     Help(Error),
     /// An explanation was asked for: of a topic, or the list of names.
     Explanation(Option<Topic>),
+    /// An allocation failed.
     OutOfMemory,
 }
 
@@ -85,8 +86,8 @@ pub fn parse_request(alloc: Global, words: &[String]) -> Result<Request, WordsFa
     }
 }
 
-/// A refusal of a box beside sides, with the text of the usage of `show`. The parser lets no other words through that
-/// name no task; what it states of them doesn't say so for all.
+/// A usage error: `--box` with `--width` or `--height`, with the usage of `show`. clap accepts no other arguments
+/// without a task, but its contract doesn't say so of all.
 fn untasked(alloc: Global, matches: &ArgMatches<'_>) -> WordsFault
     ensures sorted { IsSortedOut result }
     ensures refusal { IsRefusal result }
@@ -112,7 +113,7 @@ fn show_error(alloc: Global, reason: &str) -> Result<Error, AllocError>
     command.error(ErrorKind::ArgumentConflict, reason)
 }
 
-/// A refusal of the words for a reason of the program's own, with the text of the usage.
+/// A usage error for a reason of the program's own, with the usage text.
 pub fn usage(alloc: Global, reason: &str) -> WordsFault
     ensures sorted { IsSortedOut result }
     ensures refusal { IsRefusal result }
@@ -130,7 +131,7 @@ fn usage_error(alloc: Global, reason: &str) -> Result<Error, AllocError>
     command.error(ErrorKind::ValueValidation, reason)
 }
 
-/// What a subcommand that names no task comes to.
+/// The result for a subcommand that gives no task.
 fn without_task(alloc: Global, name: &str, matches: &ArgMatches<'_>) -> WordsFault
     ensures sorted { IsSortedOut result }
     ensures asked { IsAskedIn name.now (rows_of (found_of matches.now)) result }
@@ -163,7 +164,7 @@ fn asked(alloc: Global, matches: &ArgMatches<'_>) -> WordsFault
     }
 }
 
-/// A refusal of a name that has no explanation, with the text of the usage of `explain`.
+/// A usage error: nothing to explain has this name. It has the usage of `explain`.
 fn unexplained(alloc: Global) -> WordsFault
     ensures sorted { IsSortedOut result }
     ensures refusal { IsRefusal result }
@@ -182,7 +183,7 @@ fn explain_error(alloc: Global, reason: &str) -> Result<Error, AllocError>
     command.error(ErrorKind::ValueValidation, reason)
 }
 
-/// Each task is a subcommand, and so is `explain`. `check` and `show`, which have options, have functions of their own.
+/// Each task is a subcommand, and so is `explain`. `check`, `show` and `explain` have functions of their own.
 fn sixel_command<'a>(alloc: Global) -> Result<Command<'a>, AllocError>
     ensures { IfOk result (λ c. app_of c ≡ sixel_app) }
 {
@@ -217,7 +218,7 @@ fn sixel_command<'a>(alloc: Global) -> Result<Command<'a>, AllocError>
         .subcommand(explain_command(alloc)?)
 }
 
-/// `explain`, which may be given a name.
+/// `explain`, with an optional name.
 fn explain_command<'a>(alloc: Global) -> Result<Command<'a>, AllocError>
     ensures app { IfOk result (λ c. app_of c ≡ explain_app) }
     ensures local { IfOk result (λ c. (fields_of c).has_globals ≡ false) }
@@ -232,7 +233,7 @@ fn explain_command<'a>(alloc: Global) -> Result<Command<'a>, AllocError>
         )
 }
 
-/// `check`, which takes any number of files.
+/// `check`, with any number of files.
 fn check_command<'a>(alloc: Global) -> Result<Command<'a>, AllocError>
     ensures app { IfOk result (λ c. app_of c ≡ check_app) }
     ensures local { IfOk result (λ c. (fields_of c).has_globals ≡ false) }
@@ -245,7 +246,7 @@ fn check_command<'a>(alloc: Global) -> Result<Command<'a>, AllocError>
         .arg(files_arg(alloc))
 }
 
-/// `show`, which has seven options and may be given a file.
+/// `show`, with seven options and an optional file.
 fn show_command<'a>(alloc: Global) -> Result<Command<'a>, AllocError>
     ensures app { IfOk result (λ c. app_of c ≡ show_app) }
     ensures local { IfOk result (λ c. (fields_of c).has_globals ≡ false) }
@@ -281,7 +282,7 @@ fn show_command<'a>(alloc: Global) -> Result<Command<'a>, AllocError>
         .arg(file_arg(alloc))
 }
 
-/// `--name`, which takes no value.
+/// `--name`, without a value.
 fn flag_arg<'a>(alloc: Global, name: &'a str, help: &'a str) -> Arg<'a>
     ensures rule { rule_of result ≡ flag name.entry.now }
     ensures local { result.global ≡ false }
@@ -292,7 +293,7 @@ fn flag_arg<'a>(alloc: Global, name: &'a str, help: &'a str) -> Arg<'a>
         .help(help)
 }
 
-/// `--name N`, with a number to take where the option isn't given.
+/// `--name N`, with a default.
 fn side_arg<'a>(alloc: Global, name: &'a str, fallback: &'a str, help: &'a str) -> Arg<'a>
     ensures rule { rule_of result ≡ side name.entry.now fallback.entry.now }
     ensures local { result.global ≡ false }
@@ -305,7 +306,7 @@ fn side_arg<'a>(alloc: Global, name: &'a str, fallback: &'a str, help: &'a str) 
         .help(help)
 }
 
-/// The command with one subcommand more, which has no options.
+/// The command with one more subcommand, which has no options.
 fn with_plain_command<'a>(
     alloc: Global,
     command: Command<'a>,
@@ -323,7 +324,7 @@ fn with_plain_command<'a>(
     )
 }
 
-/// The command with one subcommand more, which may be told to take the wide profile.
+/// The command with one more subcommand, which has the option `--wide`.
 fn with_profile_command<'a>(
     alloc: Global,
     command: Command<'a>,
@@ -342,7 +343,7 @@ fn with_profile_command<'a>(
     )
 }
 
-/// `--wide`, which names the profile of 256 registers.
+/// `--wide`, which selects the profile of 256 registers.
 fn wide_arg<'a>(alloc: Global) -> Arg<'a>
     ensures rule { rule_of result ≡ flag (codes "wide") }
     ensures local { result.global ≡ false }
@@ -358,7 +359,7 @@ fn quiet_arg<'a>(alloc: Global) -> Arg<'a>
     flag_arg(alloc, "quiet", "Print no verdict; use the exit status").short('q')
 }
 
-/// `FILE`, which may be left out.
+/// `FILE`, optional.
 fn file_arg<'a>(alloc: Global) -> Arg<'a>
     ensures rule { rule_of result ≡ file }
     ensures local { result.global ≡ false }
@@ -376,7 +377,7 @@ fn files_arg<'a>(alloc: Global) -> Arg<'a>
     )
 }
 
-/// The task with what else the options of its subcommand say.
+/// The task, with the other options of its subcommand.
 fn request_of(alloc: Global, task: Task, matches: &ArgMatches<'_>) -> Result<Request, WordsFault>
     ensures task { IfOk result (λ asked. asked.task ≡ task) }
     ensures quiet { IfOk result (λ asked.
@@ -395,7 +396,7 @@ fn request_of(alloc: Global, task: Task, matches: &ArgMatches<'_>) -> Result<Req
     }
 }
 
-/// The names of the files, in the order of the words.
+/// The names of the files, in the order of the arguments.
 fn files_of(alloc: Global, matches: &ArgMatches<'_>) -> Result<Vec<String>, AllocError>
     ensures { IfOk result (λ files. files_of (rows_of (found_of matches.now)) ≡ map string_bytes files.items) }
 {
@@ -415,7 +416,7 @@ fn copies(alloc: Global, names: &[&str]) -> Result<Vec<String>, AllocError>
     Ok(copied)
 }
 
-/// The task of a subcommand.
+/// The task of a subcommand with these options.
 fn task_of(name: &str, matches: &ArgMatches<'_>) -> Option<Task>
     ensures task { IfSome result (IsTask name.now (rows_of (found_of matches.now))) }
     ensures sides { IfSome result HasSides }
@@ -437,7 +438,7 @@ fn task_of(name: &str, matches: &ArgMatches<'_>) -> Option<Task>
     }
 }
 
-/// The task of `show` with these options: of the box, or of a screen whose sides they give.
+/// The task of `show` with these options: on a screen of the box, or of a width and a height.
 fn show_task(matches: &ArgMatches<'_>) -> Option<Task>
     ensures task { IfSome result (IsTask (codes "show") (rows_of (found_of matches.now))) }
     ensures sides { IfSome result HasSides }
@@ -459,7 +460,7 @@ fn show_task(matches: &ArgMatches<'_>) -> Option<Task>
     }
 }
 
-/// The task of `show --box` with these options. With a side beside the box there is none.
+/// The task of `show --box` with these options; none with `--width` or `--height` too.
 fn box_task(matches: &ArgMatches<'_>) -> Option<Task>
     requires { is_given (codes "box") (rows_of (found_of matches.now)) ≡ true }
     ensures task { IfSome result (IsTask (codes "show") (rows_of (found_of matches.now))) }
@@ -477,7 +478,7 @@ fn box_task(matches: &ArgMatches<'_>) -> Option<Task>
     })
 }
 
-/// The profile that the options name.
+/// The profile that the options select.
 fn profile_of(matches: &ArgMatches<'_>) -> Profile
     ensures { profile_of (rows_of (found_of matches.now)) ≡ result }
 {
@@ -498,7 +499,7 @@ fn flag_of(matches: &ArgMatches<'_>, name: &str) -> bool
     }
 }
 
-/// Whether the words give the option. A default doesn't count.
+/// Whether the arguments give the option; a default doesn't count.
 fn is_named(matches: &ArgMatches<'_>, name: &str) -> bool
     ensures { is_named name.now (rows_of (found_of matches.now)) ≡ result }
 {
@@ -509,8 +510,7 @@ fn is_named(matches: &ArgMatches<'_>, name: &str) -> bool
     }
 }
 
-/// The number of an option. The parser lets none through that is out of range; what it states of the options of a
-/// subcommand doesn't say so.
+/// The number of an option. clap accepts none out of range, but its contract doesn't say so of a subcommand's options.
 fn side_of(matches: &ArgMatches<'_>, name: &str) -> Option<u32>
     ensures some { IfSome result (HasSide name.now (rows_of (found_of matches.now))) }
     ensures none { IsNone result → (n : ℕ) → HasSide name.now (rows_of (found_of matches.now)) n → ⊥ }

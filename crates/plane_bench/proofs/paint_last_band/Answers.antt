@@ -3,7 +3,7 @@ use Rattle.std.specs.Int.{bit_at}
 use Rattle.std.proofs.lemmas.Nat.Bits.{bit_at-suc, bit_at-zero}
 use Rattle.plane_bench.proofs.paint_last_band.Goals as goal
 
--- the bits of 3 are the lowest two
+-- the set bits of 3 are the lowest two
 lowest : (k : ℕ) → bit_at 3 k ≡ 1 → k < 2
 lowest zero set = omega arith
 lowest (suc zero) set = omega arith

@@ -39,7 +39,7 @@ pub fn check<S: Source, K: Sink>(
     }
 }
 
-/// Reads the whole input, and answers with the verdict, whose line isn't written.
+/// Reads the whole input, and returns the verdict. It writes nothing.
 pub fn judge<S: Source>(alloc: Global, profile: Profile, input: &mut S) -> Result<Verdict, RunFault>
     ensures judged { IfSome (S.state input.old).remaining (λ bytes.
         WroteBy (CheckGives (count_of profile) bytes) WroteNothing
@@ -53,7 +53,7 @@ pub fn judge<S: Source>(alloc: Global, profile: Profile, input: &mut S) -> Resul
     Ok(sixel_check::check(alloc, profile, input)?)
 }
 
-/// What comes of a verdict.
+/// The status of a verdict: `Done` for a portable picture, `Broken` for a finding.
 pub fn status_of(verdict: &Verdict) -> Status
     ensures { result ≡ status_of verdict.now }
 {

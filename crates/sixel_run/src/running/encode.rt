@@ -13,7 +13,7 @@ use sixel_model::Profile;
 use sixel_ppm::read_ppm;
 use std::alloc::Global;
 
-/// Reads a whole picture file, and writes its picture's canonical text. It doesn't flush.
+/// Reads a whole PPM, and writes the canonical sixel text of its picture. It doesn't flush.
 pub fn encode<S: Source, K: Sink>(
     alloc: Global,
     profile: Profile,

@@ -19,12 +19,12 @@ use crate::task::Status;
 use sixel_grammar::{Command, Completed, Event, Placed, Plain, Reader};
 use sixel_io::{Block, DeviceFault, PIECE, Sink, Source};
 
-/// Room for 12 bytes of lines a byte read. A data byte gives up to 19, so a piece of them leaves in two writes.
+/// Room for 12 bytes of lines per byte of a piece. A data byte gives up to 19, so a piece of data takes two writes.
 type Lines = Block<786_432>;
 
-/// Writes a line for each event as it is complete, also before a fault. It takes no memory and doesn't flush.
+/// Writes a line for each event when it is complete, also before a fault. It allocates nothing and doesn't flush.
 ///
-/// It isn't inlined: else its block would stand on the stack of every task.
+/// It isn't inlined, or its block would be on the stack of every task.
 #[inline(never)]
 pub fn list<S: Source, K: Sink>(input: &mut S, output: &mut K) -> Result<Status, RunFault>
     ensures wrote { IfSome (S.state input.old).remaining (λ bytes.
@@ -75,7 +75,7 @@ fn list_piece<K: Sink>(
     }
 }
 
-/// Reads the bytes of a piece. The lines are in the block, or where it was full at the sink.
+/// Reads the bytes of a piece. Their lines go to the block, and from there to the sink when it is full.
 fn feed_all<K: Sink>(
     reader: &mut Reader,
     piece: &[u8],
@@ -101,7 +101,7 @@ fn feed_all<K: Sink>(
     Ok(())
 }
 
-/// Reads a byte of any kind.
+/// Reads any byte, and puts the lines of the events that it completes.
 #[inline(never)]
 fn feed_and_put<K: Sink>(
     reader: &mut Reader,
@@ -140,7 +140,7 @@ fn put_plain<K: Sink>(
     }
 }
 
-/// Nearly all commands are sixels, whose lines are made quickly where the place has hundreds.
+/// Puts the line of a command. Nearly all are sixels, whose lines are made quickly from offset 100 on.
 #[inline(always)]
 fn put_command<K: Sink>(
     place: u64,

@@ -14,7 +14,7 @@ use sixel_model::Profile;
 use sixel_ppm::write_ppm;
 use std::alloc::Global;
 
-/// Reads the whole input, and writes the picture of a portable one; of a broken one it writes nothing. It doesn't
+/// Reads the whole input, and writes the picture as a PPM if it is portable; if not, it writes nothing. It doesn't
 /// flush.
 pub fn render<S: Source, K: Sink>(
     alloc: Global,

@@ -22,8 +22,8 @@ use sixel_ppm::write_ppm_colours;
 use sixel_terminal::{Choices, Ground, Terminal};
 use std::alloc::{AllocError, Global};
 
-/// The choices of the terminal: what is asked for, and beside it a screen as large as asked for, on which the picture
-/// begins at the top left.
+/// The choices of the terminal: the given ones, a screen of this width and height in pixels with the picture at its top
+/// left, and fixed values for the rest.
 pub fn show_choices(showing: bool, fill: bool, selects: bool, width: u32, height: u32) -> Choices
     ensures { result ≡ show_choices showing fill selects width height }
 {
@@ -68,7 +68,7 @@ pub fn show<S: Source, K: Sink>(
     write_screen(choices, &shown, output)
 }
 
-/// Writes these colours of a screen.
+/// Writes these colours of a screen, row by row, as a PPM.
 pub fn write_screen<K: Sink>(
     choices: Choices,
     shown: &[Colour],
@@ -88,7 +88,7 @@ pub fn write_screen<K: Sink>(
     Ok(Status::Done)
 }
 
-/// The colours of the whole screen after the events.
+/// The colours of the whole screen after the events, row by row.
 #[tactic(auto, unfolding(crate::specs::Screens::show_terminal))]
 pub fn screen_after(
     alloc: Global,
@@ -114,7 +114,7 @@ fn grey(percent: u8) -> Colour
     Colour::rgb(percent, percent, percent).unwrap()
 }
 
-/// The percentage of the grey as which a register starts.
+/// The grey that a register starts with, in percent.
 fn percent_at(profile: Profile, register: u16) -> u8
     requires { register < count_of profile }
     ensures value { result ≡ percent_at profile register }

@@ -16,8 +16,8 @@ use sixel_io::{Sink, Source};
 use sixel_model::Profile;
 use std::alloc::Global;
 
-/// Reads the whole document, draws it on a terminal with a screen as large as the declared box, and writes the screen.
-/// It doesn't flush. The terminal is that of `show` with these choices.
+/// Reads the whole document, draws it on a terminal with a screen of the size of the declared box, and writes the
+/// screen. It doesn't flush. The terminal is that of `show` with these choices.
 pub fn show_box<S: Source, K: Sink>(
     alloc: Global,
     profile: Profile,
@@ -42,7 +42,7 @@ pub fn show_box<S: Source, K: Sink>(
     write_screen(choices, &shown, output)
 }
 
-/// The sides of the screen that is as large as the declared box.
+/// The width and the height of the declared box in pixels, if a screen can have them.
 fn declared_screen(events: &[Placed]) -> Option<(u32, u32)>
     ensures value { result ≡ declared_screen (events_of events.now) }
     ensures sides { IfSome result (λ sides. IsTrue (is_file_side sides.0) × IsTrue (is_file_side sides.1)) }
@@ -65,7 +65,7 @@ fn box_in(event: &Event) -> Option<(u16, u16)>
     }
 }
 
-/// The sides of a screen as large as the box, if a screen can be.
+/// This width and height, if a screen can have them.
 fn sides_of_box(width: u16, height: u16) -> Option<(u32, u32)>
     ensures value { result ≡ sides_of_box width height }
     ensures sides { IfSome result (λ sides. IsTrue (is_file_side sides.0) × IsTrue (is_file_side sides.1)) }
@@ -77,7 +77,7 @@ fn sides_of_box(width: u16, height: u16) -> Option<(u32, u32)>
     }
 }
 
-/// Whether a side of a box is one that a screen can have.
+/// Whether a screen can have this side, in pixels.
 fn is_side(side: u16) -> bool
     ensures { result ≡ is_file_side side }
 {

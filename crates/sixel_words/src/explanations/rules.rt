@@ -7,7 +7,7 @@ ghost use Rattle.sixel_run.specs.Texts.{rule_name};
 
 use sixel_check::Rule;
 
-/// The rule of this name.
+/// The rule with this name.
 pub fn rule_named(name: &str) -> Option<Rule>
     ensures found { IfSome result (λ rule. rule_name rule ≡ name.now) }
     ensures none { IsNone result → (rule : ARule) → rule_name rule ≡ name.now → ⊥ }

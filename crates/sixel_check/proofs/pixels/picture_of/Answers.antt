@@ -19,7 +19,7 @@ fits_not registers w h palette left xs s reason fault width height colours long 
     let there = rw (width, height, colours, long) at fault in
     cc
 
--- the picture of parts that are left is left
+-- a picture with the parts that the events leave is the picture that they leave
 left_of : (registers : ℕ) (p : PictureValue) (w h : ℕ) (palette : List (Option Parts)) (xs : List ℕ) (s : Grid)
     (events : List Event) → p ≡ picture_of_parts w h palette xs → w ≡ s.width → h ≡ s.height
     → palette ≡ palette_left registers events → IsDrawn s events → map Some xs ≡ s.cells

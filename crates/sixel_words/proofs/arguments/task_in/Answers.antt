@@ -6,7 +6,7 @@ use Rattle.std.proofs.lemmas.Iterator.Adapters.{YieldsList-from_vec}
 use Rattle.sixel_words.proofs.FaultLemmas.{memory_is_wanted}
 use Rattle.sixel_words.proofs.arguments.task_in.Goals as goal
 
--- the words that were collected are those of the arguments
+-- the collected strings are the arguments
 pub returns-in-Ok-collect : goal.returns-in-Ok-collect
 returns-in-Ok-collect c =
     let had = into_iter_items c.in-Ok.arguments in

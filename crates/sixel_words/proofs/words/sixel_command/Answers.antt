@@ -5,7 +5,7 @@ use Rattle.sixel_words.specs.Words.{with_file_only, with_profile}
 use Rattle.sixel_words.proofs.CommandLemmas.{with_sub}
 use Rattle.sixel_words.proofs.words.sixel_command.Goals as goal
 
--- `sixel` with no subcommand yet
+-- `sixel` without any subcommand
 abbrev bare : App
 bare = on_top (λ s. record s { has_version = true; subcommand_required = true }) (new_app (codes "sixel"))
 
