@@ -2,29 +2,10 @@
 
 use crate::fixtures::is_said;
 use sixel_check::check;
-use sixel_io::{DeviceFault, SliceSource, Source};
+use sixel_io::SliceSource;
 use sixel_model::Profile;
+use sixel_test_devices::CountingDevice;
 use std::test::Fail;
-
-/// A source, and how often it was filled from.
-#[derive(Drop)]
-struct Counted<S> {
-    source: S,
-    fills: u64,
-}
-
-impl<S: Source> Source for Counted<S> {
-    ghost state = { λ c. S.state c.source };
-
-    fn fill(&mut self, piece: &mut [u8]) -> Result<usize, DeviceFault> {
-        self.fills = self.fills.saturating_add(1);
-        self.source.fill(piece)
-    }
-
-    fn failures(&self) -> u64 {
-        self.source.failures()
-    }
-}
 
 /// Whether the check of the bytes in pieces, with a fill that fails or none, has this answer after so many fills.
 fn agrees_after(
@@ -35,12 +16,9 @@ fn agrees_after(
     expected: &str,
     fills: u64,
 ) -> Result<bool, Fail> {
-    let mut counted = Counted {
-        source: SliceSource::new(bytes, piece.max(1), fail_at),
-        fills: 0,
-    };
-    let answer = check(rt.alloc(), Profile::Registers16, &mut counted);
-    Ok(is_said(rt, &answer, expected)? && counted.fills == fills)
+    let mut source = CountingDevice::new(SliceSource::new(bytes, piece.max(1), fail_at));
+    let answer = check(rt.alloc(), Profile::Registers16, &mut source);
+    Ok(is_said(rt, &answer, expected)? && source.calls.fills == fills)
 }
 
 /// The smallest portable picture, 26 bytes.

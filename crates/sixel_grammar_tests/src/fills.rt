@@ -2,28 +2,9 @@
 
 use crate::words::{PICTURE, PICTURE_IN_WORDS, answer_in_words};
 use sixel_grammar::read_all;
-use sixel_io::{DeviceFault, SliceSource, Source};
+use sixel_io::SliceSource;
+use sixel_test_devices::CountingDevice;
 use std::test::Fail;
-
-/// A source, and how often it was filled from.
-#[derive(Drop)]
-struct Counted<S> {
-    source: S,
-    fills: u64,
-}
-
-impl<S: Source> Source for Counted<S> {
-    ghost state = { λ c. S.state c.source };
-
-    fn fill(&mut self, piece: &mut [u8]) -> Result<usize, DeviceFault> {
-        self.fills = self.fills.saturating_add(1);
-        self.source.fill(piece)
-    }
-
-    fn failures(&self) -> u64 {
-        self.source.failures()
-    }
-}
 
 /// Whether reading the bytes in pieces, with a fill that fails or none, has this answer after so many fills.
 fn agrees_after(
@@ -34,12 +15,9 @@ fn agrees_after(
     expected: &str,
     fills: u64,
 ) -> Result<bool, Fail> {
-    let mut counted = Counted {
-        source: SliceSource::new(bytes, piece.max(1), fail_at),
-        fills: 0,
-    };
-    let answer = read_all(rt.alloc(), &mut counted);
-    Ok(answer_in_words(rt, &answer)?.as_str() == expected && counted.fills == fills)
+    let mut source = CountingDevice::new(SliceSource::new(bytes, piece.max(1), fail_at));
+    let answer = read_all(rt.alloc(), &mut source);
+    Ok(answer_in_words(rt, &answer)?.as_str() == expected && source.calls.fills == fills)
 }
 
 /// CAN at 12, in the middle of 26 bytes.

@@ -1,29 +1,66 @@
 //! How the program ends over streams in memory.
 
-ghost use Rattle.std.specs.Prelude.{◌≡◌};
 ghost use Rattle.sixel_run.specs.Outputs.{HasSides};
 
 use crate::memory_folder::MemoryFolder;
+use sixel_model::Profile;
 use sixel_program::{Exit, execute};
 use sixel_run::Task;
 use sixel_words::Request;
 use std::alloc::Global;
+use std::io::Write;
+
+pub const CHECK: Task = Task::Check {
+    profile: Profile::Registers16,
+};
+
+pub const RENDER: Task = Task::Render {
+    profile: Profile::Registers16,
+};
+
+pub const ENCODE: Task = Task::Encode {
+    profile: Profile::Registers16,
+};
+
+/// A screen of one pixel.
+pub const SHOW: Task = Task::Show {
+    profile: Profile::Registers16,
+    showing: false,
+    fill: false,
+    selects: false,
+    width: 1,
+    height: 1,
+};
+
+pub const SHOW_BOX: Task = Task::ShowBox {
+    profile: Profile::Registers16,
+    showing: false,
+    fill: false,
+    selects: false,
+};
 
 /// No file can be opened.
-pub const NO_FILES: MemoryFolder<'static> = MemoryFolder {
+const NO_FILES: MemoryFolder<'static> = MemoryFolder {
     files: &[],
     cut: &[],
 };
 
-/// What asks for a task on standard input.
-pub fn plain(alloc: Global, task: Task) -> Request
-    ensures { result.task ≡ task }
+/// How a task on the bytes ends over these streams.
+pub fn exit_over<W: Write + Drop, E: Write + Drop>(
+    alloc: Global,
+    task: Task,
+    bytes: &[u8],
+    output: W,
+    errors: E,
+) -> Exit
+    requires { HasSides task }
 {
-    Request {
+    let request = Request {
         task,
         is_quiet: false,
         files: Vec::new(alloc),
-    }
+    };
+    execute(alloc, &request, &NO_FILES, false, bytes, output, errors)
 }
 
 /// Whether a task on the bytes ends so, and writes this to standard output and this to standard error.
@@ -39,15 +76,6 @@ pub fn ends(
 {
     let mut output = Vec::new(alloc);
     let mut errors = Vec::new(alloc);
-    let request = plain(alloc, task);
-    let ended = execute(
-        alloc,
-        &request,
-        &NO_FILES,
-        false,
-        bytes,
-        &mut output,
-        &mut errors,
-    );
+    let ended = exit_over(alloc, task, bytes, &mut output, &mut errors);
     ended == exit && output.as_slice() == written && errors.as_slice() == said
 }

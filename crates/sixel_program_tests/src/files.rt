@@ -8,6 +8,7 @@ mod notices;
 mod system;
 mod tasks;
 
+use crate::ends::CHECK;
 use crate::memory_folder::MemoryFolder;
 use crate::streams::Narrow;
 use sixel_model::Profile;
@@ -95,11 +96,7 @@ struct Counted<'a> {
 impl Read for Counted<'_> {
     fn read(&mut self, buf: &mut [u8]) -> io::Result<usize> {
         *self.reads = self.reads.saturating_add(1);
-        let count = buf.len().min(self.rest.len());
-        let (prefix, rest) = self.rest.split_at(count);
-        buf[..count].copy_from_slice(prefix);
-        self.rest = rest;
-        Ok(count)
+        self.rest.read(buf)
     }
 }
 
@@ -139,11 +136,7 @@ fn ends_over(
         room: streams.room,
         is_flushable: streams.is_flushable,
     };
-    let errors = Narrow {
-        written: &mut said,
-        room: streams.errors_room,
-        is_flushable: true,
-    };
+    let errors = Narrow::new(&mut said, streams.errors_room);
     let exit = execute(
         alloc,
         &request,
@@ -161,23 +154,47 @@ fn ends_over(
     )
 }
 
-/// A check of the files of these names, where standard input has these bytes.
-fn check_of<'a>(is_quiet: bool, names: &'a [&'a str], input: &'a [u8]) -> Asked<'a>
-    ensures { HasSides result.task }
+/// A task over the files of these names, where standard input has these bytes.
+fn asked_of<'a>(task: Task, names: &'a [&'a str], input: &'a [u8]) -> Asked<'a>
+    ensures { result.task ≡ task }
 {
-    let task = Task::Check {
-        profile: Profile::Registers16,
-    };
     Asked {
         task,
-        is_quiet,
+        is_quiet: false,
         names,
         input,
     }
 }
 
-/// Whether a check of these files ends so, and leaves standard input unread. Where it writes no verdict, the status and
-/// what is said are the same.
+/// A check of them.
+fn check_of<'a>(is_quiet: bool, names: &'a [&'a str], input: &'a [u8]) -> Asked<'a>
+    ensures { HasSides result.task }
+{
+    Asked {
+        is_quiet,
+        ..asked_of(CHECK, names, input)
+    }
+}
+
+/// Whether a check of these files ends so, where standard input has these bytes. Where it writes no verdict, the rest
+/// is the same.
+fn check_ends(
+    alloc: Global,
+    names: &[&str],
+    input: &[u8],
+    ended: Ended<'_>,
+) -> Result<bool, AllocError> {
+    let quiet = Ended {
+        written: b"",
+        ..ended
+    };
+    Ok(
+        ends_over(alloc, check_of(false, names, input), STREAMS, ended)?
+            && ends_over(alloc, check_of(true, names, input), STREAMS, quiet)?,
+    )
+}
+
+/// Whether a check of these files ends so, and leaves standard input unread.
 fn checks(
     alloc: Global,
     names: &[&str],
@@ -185,22 +202,13 @@ fn checks(
     written: &[u8],
     said: &[u8],
 ) -> Result<bool, AllocError> {
-    let loud = Ended {
+    let ended = Ended {
         exit,
         written,
         said,
         is_read: false,
     };
-    let quiet = Ended {
-        exit,
-        written: b"",
-        said,
-        is_read: false,
-    };
-    Ok(
-        ends_over(alloc, check_of(false, names, PIXEL), STREAMS, loud)?
-            && ends_over(alloc, check_of(true, names, PIXEL), STREAMS, quiet)?,
-    )
+    check_ends(alloc, names, PIXEL, ended)
 }
 
 #[test]
@@ -251,14 +259,8 @@ fn files_in_the_wide_profile(rt: HostRuntime) -> Result<(), Fail> {
     let names = ["wide", "pixel"];
     let narrow = b"wide: broken Register 11\npixel: portable 1 1\n";
     assert!(rt; checks(rt.alloc(), &names, Exit::Broken, narrow, b"")?);
-    let asked = Asked {
-        task: Task::Check {
-            profile: Profile::Registers256,
-        },
-        is_quiet: false,
-        names: &names,
-        input: RATIO,
-    };
+    let profile = Profile::Registers256;
+    let asked = asked_of(Task::Check { profile }, &names, RATIO);
     let ended = Ended {
         exit: Exit::Done,
         written: b"wide: portable 2 1\npixel: portable 1 1\n",
@@ -269,8 +271,7 @@ fn files_in_the_wide_profile(rt: HostRuntime) -> Result<(), Fail> {
     Ok(())
 }
 
-/// Whether a check of these files ends so, where standard input has these bytes and is read. Where it writes no
-/// verdict, the status and what is said are the same.
+/// Whether a check of these files ends so, where standard input has these bytes and is read.
 fn reads(
     alloc: Global,
     names: &[&str],
@@ -279,22 +280,13 @@ fn reads(
     written: &[u8],
     said: &[u8],
 ) -> Result<bool, AllocError> {
-    let loud = Ended {
+    let ended = Ended {
         exit,
         written,
         said,
         is_read: true,
     };
-    let quiet = Ended {
-        exit,
-        written: b"",
-        said,
-        is_read: true,
-    };
-    Ok(
-        ends_over(alloc, check_of(false, names, input), STREAMS, loud)?
-            && ends_over(alloc, check_of(true, names, input), STREAMS, quiet)?,
-    )
+    check_ends(alloc, names, input, ended)
 }
 
 /// `-` is standard input, which has an end: another `-` finds nothing there.

@@ -1,17 +1,7 @@
 //! What is said where `encode` meets a file of another format, worked out by hand.
 
-use crate::ends::ends;
-use sixel_model::Profile;
+use crate::ends::{CHECK, ENCODE, ends};
 use sixel_program::Exit;
-use sixel_run::Task;
-
-const ENCODE: Task = Task::Encode {
-    profile: Profile::Registers16,
-};
-
-const CHECK: Task = Task::Check {
-    profile: Profile::Registers16,
-};
 
 /// Whether `encode` refuses the bytes with these lines, and writes nothing.
 fn refuses(rt: &impl AllocGlobal, bytes: &[u8], lines: &[u8]) -> bool {

@@ -50,10 +50,7 @@ impl Read for Opened<'_> {
         if self.rest.is_empty() && self.is_cut {
             return Err(Error::other("broken"));
         }
-        let count = buf.len().min(self.rest.len()).min(3);
-        let (prefix, rest) = self.rest.split_at(count);
-        buf[..count].copy_from_slice(prefix);
-        self.rest = rest;
-        Ok(count)
+        let most = buf.len().min(3);
+        self.rest.read(&mut buf[..most])
     }
 }

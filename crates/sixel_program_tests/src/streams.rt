@@ -2,11 +2,10 @@
 
 ghost use Rattle.sixel_run.specs.Outputs.{HasSides};
 
-use crate::ends::{NO_FILES, plain};
+use crate::ends::{CHECK, ENCODE, RENDER, SHOW, SHOW_BOX, exit_over};
 use sixel_io::ToWrite;
-use sixel_model::Profile;
 use sixel_ppm::PpmReason;
-use sixel_program::{Exit, execute, tell};
+use sixel_program::{Exit, tell};
 use sixel_run::Task;
 use sixel_words::{Topic, WordsFault, parse_words, task_in};
 use std::alloc::Global;
@@ -14,24 +13,23 @@ use std::io;
 use std::io::{Error, ErrorKind, Write};
 use std::test::Fail;
 
-const CHECK: Task = Task::Check {
-    profile: Profile::Registers16,
-};
-
-const RENDER: Task = Task::Render {
-    profile: Profile::Registers16,
-};
-
-const ENCODE: Task = Task::Encode {
-    profile: Profile::Registers16,
-};
-
 /// A stream that takes so many bytes, one a call, and then fails.
 #[derive(Drop)]
 pub struct Narrow<'a> {
     pub written: &'a mut Vec<u8>,
     pub room: usize,
     pub is_flushable: bool,
+}
+
+impl<'a> Narrow<'a> {
+    /// A stream with this room that can be flushed.
+    pub fn new(written: &'a mut Vec<u8>, room: usize) -> Narrow<'a> {
+        Narrow {
+            written,
+            room,
+            is_flushable: true,
+        }
+    }
 }
 
 impl Write for Narrow<'_> {
@@ -75,21 +73,8 @@ fn ends_in(
 {
     let mut output = Vec::new(alloc);
     let mut said = Vec::new(alloc);
-    let errors = Narrow {
-        written: &mut said,
-        room,
-        is_flushable: true,
-    };
-    let request = plain(alloc, task);
-    let ended = execute(
-        alloc,
-        &request,
-        &NO_FILES,
-        false,
-        bytes,
-        &mut output,
-        errors,
-    );
+    let errors = Narrow::new(&mut said, room);
+    let ended = exit_over(alloc, task, bytes, &mut output, errors);
     ended == exit && output.as_slice() == text && fills(said.as_slice(), line, room)
 }
 
@@ -117,36 +102,22 @@ fn a_standard_error_that_fails(rt: HostRuntime) {
             b"",
         )
     );
-    let pixel = Task::Show {
-        profile: Profile::Registers16,
-        showing: false,
-        fill: false,
-        selects: false,
-        width: 1,
-        height: 1,
-    };
     let hue = b"\x1bPq#0;1;360;50;100#0@\x1b\\";
     assert!(rt;
         ends_so(
             rt.alloc(),
-            pixel,
+            SHOW,
             hue,
             Exit::Refused,
             b"",
             b"sixel: NotRgb\n"
         )
     );
-    let boxed = Task::ShowBox {
-        profile: Profile::Registers16,
-        showing: false,
-        fill: false,
-        selects: false,
-    };
     let dot = b"P6\n1 1\n100\n\x00\x00\x00";
     assert!(rt;
         ends_so(
             rt.alloc(),
-            boxed,
+            SHOW_BOX,
             b"\x1bPq\"1;1;1;1#0@\x1b\\",
             Exit::Done,
             dot,
@@ -157,7 +128,7 @@ fn a_standard_error_that_fails(rt: HostRuntime) {
     assert!(rt;
         ends_so(
             rt.alloc(),
-            boxed,
+            SHOW_BOX,
             unboxed,
             Exit::Refused,
             b"",
@@ -215,19 +186,10 @@ fn a_standard_error_that_fails(rt: HostRuntime) {
 fn refuses_with(alloc: Global, room: usize, line: &[u8]) -> bool {
     let mut written = Vec::new(alloc);
     let mut said = Vec::new(alloc);
-    let output = Narrow {
-        written: &mut written,
-        room: 5,
-        is_flushable: true,
-    };
-    let errors = Narrow {
-        written: &mut said,
-        room,
-        is_flushable: true,
-    };
-    let bytes = b"\x1bPq\"1;1;1;1#0;2;0;0;0#0@\x1b\\".as_slice();
-    let request = plain(alloc, CHECK);
-    let ended = execute(alloc, &request, &NO_FILES, false, bytes, output, errors);
+    let output = Narrow::new(&mut written, 5);
+    let errors = Narrow::new(&mut said, room);
+    let bytes = b"\x1bPq\"1;1;1;1#0;2;0;0;0#0@\x1b\\";
+    let ended = exit_over(alloc, CHECK, bytes, output, errors);
     ended == Exit::Refused && written.as_slice() == b"porta".as_slice() && said.as_slice() == line
 }
 
@@ -250,16 +212,8 @@ fn explains_so(
 ) -> bool {
     let mut written = Vec::new(alloc);
     let mut said = Vec::new(alloc);
-    let mut output = ToWrite::new(Narrow {
-        written: &mut written,
-        room,
-        is_flushable: true,
-    });
-    let mut errors = ToWrite::new(Narrow {
-        written: &mut said,
-        room,
-        is_flushable: true,
-    });
+    let mut output = ToWrite::new(Narrow::new(&mut written, room));
+    let mut errors = ToWrite::new(Narrow::new(&mut said, room));
     let ended = tell(alloc, fault, &mut output, &mut errors);
     ended == exit
         && fills(written.as_slice(), text.as_bytes(), room)

@@ -4,8 +4,6 @@
 #[cfg(test)]
 mod at_limits;
 #[cfg(test)]
-mod counting_device;
-#[cfg(test)]
 mod exhausted;
 #[cfg(test)]
 mod in_turn;

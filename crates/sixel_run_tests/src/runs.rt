@@ -2,10 +2,10 @@
 
 ghost use Rattle.sixel_run.specs.Outputs.{HasSides};
 
-use crate::counting_device::{Calls, CountingDevice};
 use sixel_grammar::{Fault, Reason};
 use sixel_io::{SliceSink, SliceSource};
 use sixel_run::{RunFault, Status, Task, run};
+use sixel_test_devices::{Calls, CountingDevice};
 use std::alloc::Global;
 
 /// What a run over counting devices answered and wrote into the room, and the calls that they saw.

@@ -2,8 +2,8 @@
 
 ghost use Rattle.sixel_run.specs.Outputs.{HasSides};
 
-use super::{Asked, Ended, PIXEL, RED, STREAMS, Streams, check_of, ends_over};
-use sixel_model::Profile;
+use super::{Asked, Ended, PIXEL, RED, STREAMS, Streams, asked_of, check_of, ends_over};
+use crate::ends::{ENCODE, RENDER, SHOW, SHOW_BOX};
 use sixel_program::Exit;
 use sixel_run::Task;
 use std::alloc::{AllocError, Global};
@@ -12,9 +12,7 @@ use std::test::Fail;
 /// Standard input is a terminal.
 const TERMINAL: Streams = Streams {
     is_terminal: true,
-    room: 512,
-    is_flushable: true,
-    errors_room: 512,
+    ..STREAMS
 };
 
 const WAITING: &[u8] = b"sixel: waiting for sixel text on standard input\n";
@@ -86,46 +84,21 @@ fn files_alone(rt: HostRuntime) -> Result<(), Fail> {
 fn says_nothing(alloc: Global, task: Task, input: &[u8], written: &[u8]) -> Result<bool, AllocError>
     requires { HasSides task }
 {
-    let plain = Asked {
-        task,
-        is_quiet: false,
-        names: &[],
-        input,
-    };
-    let named = Asked {
-        task,
-        is_quiet: false,
-        names: &["-"],
-        input,
-    };
+    let plain = asked_of(task, &[], input);
+    let named = asked_of(task, &["-"], input);
     Ok(says(alloc, plain, written, true, b"")? && says(alloc, named, written, true, b"")?)
 }
 
 #[test]
 fn other_tasks(rt: HostRuntime) -> Result<(), Fail> {
-    let profile = Profile::Registers16;
     let empty = b"0 start 7bit 0\n3 end 7bit\n";
     assert!(rt; says_nothing(rt.alloc(), Task::List, b"\x1bPq\x1b\\", empty)?);
     let black = b"P6\n1 1\n100\n\0\0\0";
-    assert!(rt; says_nothing(rt.alloc(), Task::Render { profile }, PIXEL, black)?);
-    let screen = Task::Show {
-        profile,
-        showing: false,
-        fill: false,
-        selects: false,
-        width: 1,
-        height: 1,
-    };
-    assert!(rt; says_nothing(rt.alloc(), screen, PIXEL, black)?);
-    let boxed = Task::ShowBox {
-        profile,
-        showing: false,
-        fill: false,
-        selects: false,
-    };
-    assert!(rt; says_nothing(rt.alloc(), boxed, PIXEL, black)?);
+    assert!(rt; says_nothing(rt.alloc(), RENDER, PIXEL, black)?);
+    assert!(rt; says_nothing(rt.alloc(), SHOW, PIXEL, black)?);
+    assert!(rt; says_nothing(rt.alloc(), SHOW_BOX, PIXEL, black)?);
     let red = b"\x1bP0;1q\"1;1;1;1#0;2;100;0;0#0@\x1b\\";
-    assert!(rt; says_nothing(rt.alloc(), Task::Encode { profile }, RED, red)?);
+    assert!(rt; says_nothing(rt.alloc(), ENCODE, RED, red)?);
     Ok(())
 }
 

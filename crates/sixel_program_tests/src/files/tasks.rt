@@ -2,37 +2,12 @@
 
 ghost use Rattle.sixel_run.specs.Outputs.{HasSides};
 
-use super::{Asked, Ended, PIXEL, PNG, RED, STREAMS, Streams, WIDE, ends_over};
-use sixel_model::Profile;
+use super::{Ended, PIXEL, PNG, RED, STREAMS, Streams, WIDE, asked_of, ends_over};
+use crate::ends::{ENCODE, RENDER, SHOW, SHOW_BOX};
 use sixel_program::Exit;
 use sixel_run::Task;
 use std::alloc::{AllocError, Global};
 use std::test::Fail;
-
-const RENDER: Task = Task::Render {
-    profile: Profile::Registers16,
-};
-
-const ENCODE: Task = Task::Encode {
-    profile: Profile::Registers16,
-};
-
-/// A screen of one pixel.
-const SHOW: Task = Task::Show {
-    profile: Profile::Registers16,
-    showing: false,
-    fill: false,
-    selects: false,
-    width: 1,
-    height: 1,
-};
-
-const SHOW_BOX: Task = Task::ShowBox {
-    profile: Profile::Registers16,
-    showing: false,
-    fill: false,
-    selects: false,
-};
 
 /// Whether the task over the file of this name, where standard input has these bytes, ends so over these streams.
 fn ends_with(
@@ -45,14 +20,7 @@ fn ends_with(
 ) -> Result<bool, AllocError>
     requires { HasSides task }
 {
-    let names = [name];
-    let asked = Asked {
-        task,
-        is_quiet: false,
-        names: &names,
-        input,
-    };
-    ends_over(alloc, asked, streams, ended)
+    ends_over(alloc, asked_of(task, &[name], input), streams, ended)
 }
 
 /// Whether the task writes this of these bytes where standard input has them, by no name and by its own, and where the
@@ -76,14 +44,8 @@ fn writes(
         is_read: false,
         ..ended
     };
-    let plain = Asked {
-        task,
-        is_quiet: false,
-        names: &[],
-        input: bytes,
-    };
     Ok(
-        ends_over(alloc, plain, STREAMS, ended)?
+        ends_over(alloc, asked_of(task, &[], bytes), STREAMS, ended)?
             && ends_with(alloc, task, "-", bytes, STREAMS, ended)?
             && ends_with(alloc, task, name, WIDE, STREAMS, unread)?,
     )

@@ -1,4 +1,4 @@
-//! Devices that count their calls, for tests.
+//! A device that counts its calls, around any other.
 
 use sixel_io::{DeviceFault, Sink, Source};
 
@@ -18,6 +18,7 @@ pub struct CountingDevice<D> {
 }
 
 impl<D> CountingDevice<D> {
+    /// The device, which has seen no call yet.
     pub fn new(device: D) -> CountingDevice<D> {
         CountingDevice {
             device,
