@@ -97,8 +97,8 @@ rest_unbroken profile (Some bytes) (Some rest) (Ok s) reads below broken =
     absurd (nothing_unjudged (count_of profile) broken.0 (status.Broken broken.1)
     (subst (λ (t : List ℕ). Gives (Check profile) t broken.0 (Ok (status.Broken broken.1))) none broken.2))
 
--- what holds of a name when it is read after a file holds of it before that, if what holds of the rest of standard input
--- holds of all of it
+-- what holds of a name when it is read after a file holds of it before that, if what holds of the rest of standard
+-- input holds of all of it
 earlier_read : (P : Option (List ℕ) → Type 0) (a b : Bool) (had left later : Option (List ℕ))
     → (a ≡ true → P left → P had) → P (if b then (if a then left else had) else later) → P (if b then had else later)
 earlier_read P true true had left later back q = back refl q
@@ -128,7 +128,8 @@ module _ (profile : Profile) (contents : Text → Option (List ℕ)) where
       subst (IsBrokenOver (Check profile)) same (rest_unbroken profile e.told e.left e.answer end.reads low broken) in
       let found = told_broken (left_after had e.name e.left) has rest tells.1
       (All-tail (IsFileEnd profile) e rest each)
-      (All-tail (λ e. exit_code (exit_of_end e) ≤ exit_code exit.Broken) e rest below) (k, omega (arith, short), is) in (
+      (All-tail (λ e. exit_code (exit_of_end e) ≤ exit_code exit.Broken) e rest below)
+      (k, omega (arith, short), is) in (
         found.0,
         contains_later e.name found.0 (names_of rest) found.1,
         earlier_read (IsBrokenOver (Check profile)) (is_dash e.name) (is_dash found.0) had e.left (contents found.0)
