@@ -2,7 +2,7 @@ use sixel_words::{WordsFault, parse_words};
 use std::alloc::{AllocError, Global};
 use std::test::Fail;
 
-/// The words, which have spaces between them.
+/// The arguments of a line, split at spaces.
 fn words_of(alloc: Global, line: &str) -> Result<Vec<String>, AllocError> {
     let mut words = Vec::new(alloc);
     for word in line.split(' ') {
@@ -20,7 +20,7 @@ fn told(alloc: Global, fault: WordsFault) -> Result<String, AllocError> {
     }
 }
 
-/// What the words, with spaces between them, come to.
+/// The result of a command line, as text.
 fn said(alloc: Global, line: &str) -> Result<String, AllocError> {
     let words = words_of(alloc, line)?;
     match parse_words(alloc, words.as_slice()) {
@@ -29,12 +29,12 @@ fn said(alloc: Global, line: &str) -> Result<String, AllocError> {
     }
 }
 
-/// Whether the words come to this text.
+/// Whether the result of the command line is this text.
 fn says(rt: &HostRuntime, line: &str, text: &str) -> Result<bool, Fail> {
     Ok(said(rt.alloc(), line)?.as_str() == text)
 }
 
-/// Whether the words ask for this task, with a verdict or without, over these files.
+/// Whether the command line asks for this task, quietly or not, on these files.
 fn asks(
     rt: &HostRuntime,
     line: &str,
@@ -48,7 +48,7 @@ fn asks(
     says(rt, line, request.as_str())
 }
 
-/// Whether the words are refused with this text and the sentence that follows each.
+/// Whether the command line is refused with this text and clap's last sentence.
 fn refuses(rt: &HostRuntime, line: &str, text: &str) -> Result<bool, Fail> {
     let more = "\n\nFor more information, try '--help'.\n";
     let whole = format!(in rt.alloc(); "{text}{more}")?;
@@ -120,7 +120,7 @@ fn names_the_task(rt: HostRuntime) -> Result<(), Fail> {
     Ok(())
 }
 
-/// Files stand in the order of the words, `-` among them, and behind `--` each word is one.
+/// The files are in the order of the arguments, `-` among them; after `--` each argument is a file.
 #[test]
 fn names_the_files_to_check(rt: HostRuntime) -> Result<(), Fail> {
     let rows = [
@@ -151,7 +151,7 @@ fn names_the_files_to_check(rt: HostRuntime) -> Result<(), Fail> {
     Ok(())
 }
 
-/// A task other than a check may be given one file.
+/// Each task except `check` may have one file.
 #[test]
 fn names_the_file_of_a_task(rt: HostRuntime) -> Result<(), Fail> {
     let rows = [
@@ -285,7 +285,7 @@ const BESIDE_BOTH: &str = "usage error: the argument '--box' cannot be used with
 
 Usage: sixel show [OPTIONS] [FILE]";
 
-/// A box beside a side, also where that is the number that stands for none.
+/// `--box` with a side, even with the default number.
 #[test]
 fn refuses_a_box_beside_a_side(rt: HostRuntime) -> Result<(), Fail> {
     let rows = [
@@ -354,7 +354,7 @@ fn shows_the_version(rt: HostRuntime) -> Result<(), Fail> {
     Ok(())
 }
 
-/// The help of each task tells what the exit status says.
+/// The help of each task says what the exit status means.
 #[test]
 fn shows_the_exit_status(rt: HostRuntime) -> Result<(), Fail> {
     for (line, status) in [
@@ -453,7 +453,7 @@ Example: sixel show --wide --box plot.six > plot.ppm
     Ok(())
 }
 
-/// The name in the line of `check` or of a fault is that of its explanation.
+/// A name in the line of `check` or of a fault is also the name of its explanation.
 #[test]
 fn asks_for_an_explanation(rt: HostRuntime) -> Result<(), Fail> {
     let rows = [
