@@ -15,7 +15,7 @@ pub const NO_FILES: MemoryFolder<'static> = MemoryFolder {
     cut: &[],
 };
 
-/// What asks for a task on standard input.
+/// The request for a task on standard input.
 pub fn plain(alloc: Global, task: Task) -> Request
     ensures { result.task ≡ task }
 {
@@ -26,7 +26,7 @@ pub fn plain(alloc: Global, task: Task) -> Request
     }
 }
 
-/// Whether a task on the bytes ends so, and writes this to standard output and this to standard error.
+/// Whether a task on the bytes ends so, with these bytes on standard output and on standard error.
 pub fn ends(
     alloc: Global,
     task: Task,

@@ -1,4 +1,4 @@
-//! What comes of files in place of standard input, worked out by hand.
+//! Files instead of standard input, worked out by hand.
 
 ghost use Rattle.std.specs.Prelude.{◌≡◌, IfOk};
 ghost use Rattle.sixel_run.specs.Outputs.{HasSides};
@@ -48,7 +48,7 @@ const FOLDER: MemoryFolder<'static> = MemoryFolder {
     cut: &[("cut", b"\x1bPq\"1;1;1;1#0;2")],
 };
 
-/// What is asked for, and what standard input has.
+/// A request, and the bytes of standard input.
 #[derive(Clone, Copy)]
 struct Asked<'a> {
     task: Task,
@@ -57,18 +57,18 @@ struct Asked<'a> {
     input: &'a [u8],
 }
 
-/// What the standard streams are like.
+/// The standard streams.
 #[derive(Clone, Copy)]
 struct Streams {
     is_terminal: bool,
     /// How many bytes standard output takes before it fails.
     room: usize,
     is_flushable: bool,
-    /// How many bytes standard error takes.
+    /// How many bytes standard error takes before it fails.
     errors_room: usize,
 }
 
-/// No terminal, and room for all.
+/// No terminal, and enough room.
 const STREAMS: Streams = Streams {
     is_terminal: false,
     room: 512,
@@ -76,7 +76,7 @@ const STREAMS: Streams = Streams {
     errors_room: 512,
 };
 
-/// How a request ended: with what was written and said, and whether standard input was read.
+/// How a request ended, what was on standard output and standard error, and whether standard input was read.
 #[derive(Clone, Copy)]
 struct Ended<'a> {
     exit: Exit,
@@ -85,7 +85,7 @@ struct Ended<'a> {
     is_read: bool,
 }
 
-/// Bytes as standard input, which counts the reads.
+/// Bytes as standard input; it counts the reads.
 #[derive(Drop)]
 struct Counted<'a> {
     rest: &'a [u8],
@@ -117,7 +117,7 @@ fn request_of(alloc: Global, asked: Asked<'_>) -> Result<Request, AllocError>
     })
 }
 
-/// Whether what is asked for ends so over these streams.
+/// Whether the request ends so over these streams.
 fn ends_over(
     alloc: Global,
     asked: Asked<'_>,
@@ -161,7 +161,7 @@ fn ends_over(
     )
 }
 
-/// A check of the files of these names, where standard input has these bytes.
+/// A check of the files with these names, with these bytes on standard input.
 fn check_of<'a>(is_quiet: bool, names: &'a [&'a str], input: &'a [u8]) -> Asked<'a>
     ensures { HasSides result.task }
 {
@@ -176,8 +176,8 @@ fn check_of<'a>(is_quiet: bool, names: &'a [&'a str], input: &'a [u8]) -> Asked<
     }
 }
 
-/// Whether a check of these files ends so, and leaves standard input unread. Where it writes no verdict, the status and
-/// what is said are the same.
+/// Whether a check of these files ends so, and doesn't read standard input. A quiet check must have the same status and
+/// the same standard error.
 fn checks(
     alloc: Global,
     names: &[&str],
@@ -216,7 +216,7 @@ fn portable_files(rt: HostRuntime) -> Result<(), Fail> {
     Ok(())
 }
 
-/// Each file is judged, also after one that is refused or can't be opened or read.
+/// Each file is judged, even after one that is refused or can't be opened or read.
 #[test]
 fn files_of_each_kind(rt: HostRuntime) -> Result<(), Fail> {
     let names = ["pixel", "ratio", "text", "none", "cut", "empty", "a b"];
@@ -227,7 +227,7 @@ fn files_of_each_kind(rt: HostRuntime) -> Result<(), Fail> {
     Ok(())
 }
 
-/// The exit status is the greatest of the files', wherever its file stands.
+/// The exit status is the greatest of all files, in any order.
 #[test]
 fn the_greatest_status(rt: HostRuntime) -> Result<(), Fail> {
     let broken = b"ratio: broken Ratio 3\n";
@@ -245,7 +245,7 @@ fn the_greatest_status(rt: HostRuntime) -> Result<(), Fail> {
     Ok(())
 }
 
-/// The profile is that of all files.
+/// All files are checked in the same profile.
 #[test]
 fn files_in_the_wide_profile(rt: HostRuntime) -> Result<(), Fail> {
     let names = ["wide", "pixel"];
@@ -269,8 +269,8 @@ fn files_in_the_wide_profile(rt: HostRuntime) -> Result<(), Fail> {
     Ok(())
 }
 
-/// Whether a check of these files ends so, where standard input has these bytes and is read. Where it writes no
-/// verdict, the status and what is said are the same.
+/// Whether a check of these files ends so, with these bytes on standard input, which it reads. A quiet check must have
+/// the same status and the same standard error.
 fn reads(
     alloc: Global,
     names: &[&str],
@@ -297,7 +297,7 @@ fn reads(
     )
 }
 
-/// `-` is standard input, which has an end: another `-` finds nothing there.
+/// `-` is standard input. It is read to its end, so a second `-` finds nothing.
 #[test]
 fn standard_input_among_files(rt: HostRuntime) -> Result<(), Fail> {
     let alone = b"-: portable 1 1\n";
@@ -332,7 +332,7 @@ fn standard_input_among_files(rt: HostRuntime) -> Result<(), Fail> {
     Ok(())
 }
 
-/// Where no file is named, no name stands before a line.
+/// Without a file, lines have no name before them.
 #[test]
 fn standard_input_alone(rt: HostRuntime) -> Result<(), Fail> {
     assert!(rt; reads(rt.alloc(), &[], PIXEL, Exit::Done, b"portable 1 1\n", b"")?);
