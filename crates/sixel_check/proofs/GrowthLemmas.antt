@@ -74,7 +74,7 @@ grows_before {registers} seen p g =
           (holds_within (MayGrow registers) (events_of seen) i g.1) g.1),
     )
 
--- it stays so with more events
+-- if a checker may allocate at one of the events, then also with more events after them
 pub grows_among : {registers : ℕ} (seen more : List Placed) → MayGrowAmong registers seen
     → MayGrowAmong registers (seen ++ more)
 grows_among {registers} seen [] g = subst (MayGrowAmong registers) (sym (append-nil seen)) g
@@ -89,7 +89,7 @@ grows_longer {registers} seen (Some p) g = grows_before seen p g
 
 -- ---- bytes
 
--- it stays so in a longer prefix
+-- if a checker may allocate at an event of a prefix, then also at one of a longer prefix
 pub growth_stays : {registers : ℕ} (prefix rest : List ℕ) (first second : List Placed) → CompleteIn first prefix
     → CompleteIn second (prefix ++ rest) → MayGrowAmong registers first → MayGrowAmong registers second
 growth_stays {registers} prefix rest first second c d g =
@@ -118,7 +118,7 @@ grows_on bytes more all is g = record {
   grows = g.grows;
 }
 
--- it stays so with more bytes
+-- an OutOfMemory that is right for the bytes is right with more bytes after them
 pub grows_for_on : (registers : ℕ) (fault : InputFault) (bytes more all : List ℕ) → all ≡ bytes ++ more
     → GrowsFor registers fault bytes → GrowsFor registers fault all
 grows_for_on registers (Grammar f) bytes more all is g = tt
@@ -146,7 +146,7 @@ grows_if (Err (Grammar f)) bytes g e = cc
 grows_if (Err OutOfMemory) bytes g e = g
 grows_if (Err Read) bytes g e = cc
 
--- for the bytes that a source gave
+-- the same for the bytes of a source
 pub grows_told : (registers : ℕ) (a b : Option (List ℕ)) (fault : InputFault) (xs : List ℕ) → Consumes a b xs
     → GrowsFor registers fault xs
     → IfSome a (λ bytes. (let r : Result Verdict InputFault = Err fault in r) ≡ Err OutOfMemory

@@ -1,4 +1,4 @@
-//! That what three of the rules name is a difference: two terminals of the class show two colours there.
+//! Findings of three rules are real differences: two terminals of the class show two colours there.
 
 use crate::fixtures::{bytes_of, events_of, finding_in_words};
 use crate::terminals::{grey, greys};
@@ -7,7 +7,7 @@ use sixel_model::{Colour, Profile};
 use sixel_terminal::{Choices, Ground, Terminal};
 use std::test::Fail;
 
-/// A text with `E` for ESC, its finding in words, and the width and the height of the screen.
+/// A document with `E` for ESC, the line of its finding, and the width and the height of the screen.
 #[derive(Clone, Copy)]
 struct Row {
     text: &'static str,
@@ -16,7 +16,7 @@ struct Row {
     height: u32,
 }
 
-/// A pixel of the box stays blank: the second of a row, and the second of a column.
+/// A pixel of the box stays blank: the second pixel of a row, and of a column.
 const UNCOVERED: [Row; 2] = [
     Row {
         text: "EPq\"1;1;2;1#0;2;0;0;0#0@E\\",
@@ -48,7 +48,7 @@ const OUTSIDE: [Row; 2] = [
     },
 ];
 
-/// The smallest picture with controls of 8 bits, at its start and at its end, and at its end alone.
+/// The smallest picture with 8-bit controls: at its start and its end, and only at its end.
 const EIGHT_BIT: [Row; 2] = [
     Row {
         text: "\u{90}q\"1;1;1;1#0;2;0;0;0#0@\u{9c}",
@@ -64,7 +64,7 @@ const EIGHT_BIT: [Row; 2] = [
     },
 ];
 
-/// Nothing stands between an introducer of 8 bits and the end.
+/// An 8-bit introducer, and at once the end.
 const NOTHING: Row = Row {
     text: "\u{90}qE\\",
     finding: "broken EightBit 0",
@@ -72,7 +72,7 @@ const NOTHING: Row = Row {
     height: 1,
 };
 
-/// A terminal on a screen of one grey, and the percent of red, green and blue that it shows at the pixel.
+/// A terminal with a screen of one grey, and the percentage of red, green and blue that it shows at the pixel.
 #[derive(Clone, Copy)]
 struct Side {
     clips: bool,
@@ -81,7 +81,7 @@ struct Side {
     shown: u8,
 }
 
-/// The terminal of `sixel show`: it doesn't clip, has controls of 8 bits, and has a screen of 100 percent.
+/// The terminal of `sixel show`: it doesn't clip, has 8-bit controls, and has a white screen.
 const fn stated(shown: u8) -> Side {
     Side {
         clips: false,
@@ -91,7 +91,7 @@ const fn stated(shown: u8) -> Side {
     }
 }
 
-/// What the terminal of `sixel show` chooses, with no option, but for two choices.
+/// The choices of `sixel show` without options, except for clipping and 8-bit controls.
 fn choices_of(row: &Row, side: &Side) -> Choices {
     Choices {
         binds_at_showing: false,
@@ -110,7 +110,7 @@ fn choices_of(row: &Row, side: &Side) -> Choices {
     }
 }
 
-/// The finding of a text by the profile.
+/// The finding of a text, for the profile.
 fn finding_of(rt: &impl AllocGlobal, profile: Profile, text: &str) -> Result<Finding, Fail> {
     let bytes = bytes_of(rt, text)?;
     match check_bytes(rt.alloc(), profile, &bytes).or(Err("a document"))? {
@@ -125,13 +125,13 @@ fn is_found(rt: &impl AllocGlobal, profile: Profile, row: &Row) -> Result<bool, 
     Ok(finding_in_words(rt, &finding)?.as_str() == row.finding)
 }
 
-/// The number in row order of the pixel that the finding names, or of the first where it names none.
+/// The index in row order of the finding's pixel, or of the first pixel if it has none.
 fn pixel_of(row: &Row, finding: &Finding) -> usize {
     let (x, y) = finding.pixel.unwrap_or((0, 0));
     (y.saturating_mul(row.width as u64).saturating_add(x)) as usize
 }
 
-/// Whether the terminal shows its colour at the pixel that the check names.
+/// Whether the terminal shows its colour at the finding's pixel.
 fn shows(rt: &impl AllocGlobal, profile: Profile, row: &Row, side: &Side) -> Result<bool, Fail> {
     let alloc = rt.alloc();
     let bytes = bytes_of(rt, row.text)?;
@@ -148,7 +148,7 @@ fn shows(rt: &impl AllocGlobal, profile: Profile, row: &Row, side: &Side) -> Res
     Ok(colour.parts() == grey(side.shown))
 }
 
-/// Whether the row has its finding by both profiles, and the two terminals show their colours there.
+/// Whether the row has its finding for both profiles, and the two terminals show their two colours there.
 fn differs(rt: &impl AllocGlobal, row: &Row, one: &Side, other: &Side) -> Result<bool, Fail> {
     for profile in [Profile::Registers16, Profile::Registers256] {
         let agrees = is_found(rt, profile, row)?
@@ -161,7 +161,7 @@ fn differs(rt: &impl AllocGlobal, row: &Row, one: &Side, other: &Side) -> Result
     Ok(true)
 }
 
-/// Two that keep their ground show what stood there.
+/// Two terminals that keep their ground still show what was there before.
 #[test]
 fn terminals_differ_where_a_pixel_is_uncovered(rt: HostRuntime) -> Result<(), Fail> {
     let bright = stated(100);
@@ -175,7 +175,7 @@ fn terminals_differ_where_a_pixel_is_uncovered(rt: HostRuntime) -> Result<(), Fa
     Ok(())
 }
 
-/// One paints in register 0, and on one that clips what stood there is left.
+/// One terminal paints with register 0; on the one that clips, what was there before stays.
 #[test]
 fn terminals_differ_where_a_pixel_is_outside(rt: HostRuntime) -> Result<(), Fail> {
     let clips = Side {
@@ -188,7 +188,7 @@ fn terminals_differ_where_a_pixel_is_outside(rt: HostRuntime) -> Result<(), Fail
     Ok(())
 }
 
-/// One shows the picture, and one without controls of 8 bits shows nothing of it.
+/// One terminal shows the picture; the one without 8-bit controls shows nothing of it.
 #[test]
 fn terminals_differ_on_the_controls_of_a_picture(rt: HostRuntime) -> Result<(), Fail> {
     let without = Side {
@@ -201,7 +201,7 @@ fn terminals_differ_on_the_controls_of_a_picture(rt: HostRuntime) -> Result<(), 
     Ok(())
 }
 
-/// So no difference is promised of an introducer.
+/// So no difference is promised for an introducer.
 #[test]
 fn terminals_agree_on_an_introducer_without_a_picture(rt: HostRuntime) -> Result<(), Fail> {
     let without = Side {

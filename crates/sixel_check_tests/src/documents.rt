@@ -7,7 +7,7 @@ use sixel_model::Profile;
 use std::process::Abort;
 use std::test::Fail;
 
-/// A document with `E` for ESC, and the answer.
+/// A document with `E` for ESC, and the expected answer.
 const DOCUMENTS: &[(&str, &str)] = &[
     ("EPq\"1;1;1;1#0;2;0;0;0#0@E\\", "portable 1 1"),
     ("EPq\"1;1;2;1#0;2;0;0;0#0@E\\", "broken Uncovered 24 1 0"),
@@ -46,7 +46,7 @@ const DOCUMENTS: &[(&str, &str)] = &[
         "EPq\"1;1;1;1\"1;1;1;1#0;2;0;0;0#0@E\\",
         "broken RasterTwice 11",
     ),
-    // a broken rule, and then a fault
+    // a broken rule, and a fault after it
     ("EPq!0@!65536~E\\", "NumberTooLarge 11"),
     ("EPq\n\"1;1;1;1\n#0;2;0;0;0\n#0\n@\nE\\\n", "portable 1 1"),
     ("EPq\"1;1;1;1#0;2;0;0;0#0@------E\\", "portable 1 1"),
@@ -64,7 +64,7 @@ const DOCUMENTS: &[(&str, &str)] = &[
         "EPq\"1;1;1;1#0;2;0;0;0#1;2;100;0;0@E\\",
         "broken Unselected 33",
     ),
-    // two rules at one event: the least number
+    // two rules at one event: the lower number counts
     ("EPq\"1;1;1;1AE\\", "broken Unselected 11"),
     (
         "EPq\"1;1;1;1#0;2;0;0;0#0@#16;3;0;0;0E\\",
@@ -83,13 +83,13 @@ const DOCUMENTS: &[(&str, &str)] = &[
         "EPq\"1;1;1;1#0;2;0;0;0#0@\"1;1;1;1E\\",
         "broken RasterTwice 24",
     ),
-    // a repeat that is empty counts as a command before raster attributes
+    // an empty repeat also counts as a command before raster attributes
     ("EPq!0?\"1;1;1;1E\\", "broken RasterFirst 3"),
     ("EPq$\"1;1;1;1E\\", "broken RasterFirst 3"),
     ("EPq-\"1;1;1;1E\\", "broken RasterFirst 3"),
-    // a later painting of a pixel replaces the earlier one, and needs no new definition
+    // painting a pixel again replaces its register, without a new definition
     ("EPq\"1;1;1;1#0;2;0;0;0#1;2;1;1;1#0@$#1@E\\", "portable 1 1"),
-    // each side of the greatest box and the next
+    // a height above its range and one below it, and a ratio
     ("EPq\"1;1;1;2049#0;2;0;0;0#0@E\\", "broken BoxSize 3"),
     ("EPq\"1;1;1;0#0;2;0;0;0#0@E\\", "broken BoxSize 3"),
     ("EPq\"1;2;1;1#0;2;0;0;0#0@E\\", "broken Ratio 3"),
@@ -101,23 +101,23 @@ const DOCUMENTS: &[(&str, &str)] = &[
     ("EPq\"1;1;1;1#0;1;0;0;101#0@E\\", "broken ColourValue 11"),
     ("EPq\"1;1;1;1#0;0;0;0;0#0@E\\", "broken ColourValue 11"),
     ("EPq\"1;1;1;1#15;2;0;0;0#15@E\\", "portable 1 1"),
-    // a control of 8 bits, as the introducer and the terminator, and as each of them
+    // an 8-bit control as introducer and terminator, or as one of them
     ("\u{90}q\"1;1;1;1#0;2;0;0;0#0@\u{9c}", "broken EightBit 0"),
     ("\u{90}q\"1;1;1;1#0;2;0;0;0#0@E\\", "broken EightBit 0"),
     ("EPq\"1;1;1;1#0;2;0;0;0#0@\u{9c}", "broken EightBit 24"),
     (" \n\u{90}q\"1;1;1;1#0;2;0;0;0#0@E\\", "broken EightBit 2"),
-    // such an introducer goes before all that follows, and such a terminator after all that stands before
+    // such an introducer is the first event, and such a terminator the last
     ("\u{90}qE\\", "broken EightBit 0"),
     ("\u{90}q\u{9c}", "broken EightBit 0"),
     ("\u{90}q@\"2;1;0;1#16;3;0;0;0!0@E\\", "broken EightBit 0"),
     ("EPq\"1;1;1;1#0;2;0;0;0@\u{9c}", "broken Unselected 21"),
     ("EPq\"1;1;1;1#0;2;0;0;0#0A\u{9c}", "broken Outside 23 0 1"),
-    // the other two rules of a terminator go before it
+    // the terminator's other two rules come before it
     ("EPq\u{9c}", "broken RasterFirst 3"),
     ("EPq#0;2;0;0;0#0\u{9c}", "broken RasterFirst 15"),
     ("EPq\"1;1;2;1#0;2;0;0;0#0@\u{9c}", "broken Uncovered 24 1 0"),
     ("EPq\"1;1;1;1\u{9c}", "broken Uncovered 11 0 0"),
-    // it is a broken rule, and then a fault
+    // it is a broken rule, and a fault after it
     ("\u{90}q!65536~E\\", "NumberTooLarge 7"),
     ("EPq\u{9c}x", "Trailing 4"),
     // faults
@@ -127,7 +127,7 @@ const DOCUMENTS: &[(&str, &str)] = &[
     ("x", "NotSixel 0"),
 ];
 
-/// The worked documents and their answers. The proof of a test that calls it doesn't read the table.
+/// The worked documents and their answers. A function, so the proof of a test doesn't read the table.
 pub(crate) fn documents() -> &'static [(&'static str, &'static str)] {
     DOCUMENTS
 }
@@ -137,7 +137,7 @@ fn worked_documents(rt: HostRuntime) -> Result<(), Fail> {
     agree(&rt, documents())
 }
 
-/// Whether the answer by the profile on the bytes in pieces of a size is so.
+/// Whether the check of the bytes, in pieces of this size, gives this answer for the profile.
 fn agrees_in(
     rt: &impl AllocGlobal,
     profile: Profile,
@@ -149,7 +149,7 @@ fn agrees_in(
     is_said(rt, &check(rt.alloc(), profile, &mut source), expected)
 }
 
-/// Whether it is, in pieces of one byte, of a few, and of them all.
+/// The same in pieces of one byte, of a few, and of all bytes.
 pub(crate) fn agrees_in_three(
     rt: &impl AllocGlobal,
     profile: Profile,
@@ -164,7 +164,7 @@ pub(crate) fn agrees_in_three(
     Ok(true)
 }
 
-/// Whether it is by 16 registers, in pieces of 1 byte to their length.
+/// The same for 16 registers, in pieces of each size.
 fn agrees_in_pieces(rt: &impl AllocGlobal, bytes: &[u8], expected: &str) -> Result<bool, Fail> {
     for piece in 1..=bytes.len() {
         if !agrees_in(rt, Profile::Registers16, bytes, piece, expected)? {
@@ -174,13 +174,13 @@ fn agrees_in_pieces(rt: &impl AllocGlobal, bytes: &[u8], expected: &str) -> Resu
     Ok(true)
 }
 
-/// Whether it is, on a text in which `E` stands for ESC.
+/// The same for a text with `E` for ESC.
 fn text_agrees_in_pieces(rt: &impl AllocGlobal, text: &str, expected: &str) -> Result<bool, Fail> {
     let bytes = bytes_of(rt, text)?;
     agrees_in_pieces(rt, &bytes, expected)
 }
 
-/// Each text has its answer in pieces.
+/// Each text has its answer in pieces of each size.
 fn each_agrees_in_pieces(
     rt: &(impl AllocGlobal + Abort),
     rows: &[(&str, &str)],
@@ -196,7 +196,7 @@ fn worked_documents_in_pieces(rt: HostRuntime) -> Result<(), Fail> {
     each_agrees_in_pieces(&rt, documents())
 }
 
-/// The smallest document with an introducer and a terminator of one byte each.
+/// The smallest document with a one-byte introducer and a one-byte terminator.
 #[test]
 fn eight_bits(rt: HostRuntime) -> Result<(), Fail> {
     let bytes = b"\x90q\"1;1;1;1#0;2;0;0;0#0@\x9c";

@@ -1,4 +1,4 @@
-//! The verdict of a checker that is given the events one by one.
+//! The verdict of a checker that gets the events one by one.
 
 ghost use Rattle.std.specs.Prelude.{ℕ, List};
 ghost use Rattle.sixel_grammar.specs.declared.command.Placed.{Placed as PlacedValue};
@@ -13,7 +13,7 @@ use sixel_plane::BytePlane;
 use std::process::Abort;
 use std::test::Fail;
 
-/// The verdict of a checker that has seen a whole list.
+/// The verdict of a checker that has seen a whole list, as a line.
 fn verdict_of(rt: &impl AllocGlobal, checker: Checker<BytePlane>) -> Result<String, Fail>
     requires { (registers : ℕ) × (seen : List PlacedValue) × StandsAfter registers checker seen }
 {
@@ -24,7 +24,7 @@ fn verdict_of(rt: &impl AllocGlobal, checker: Checker<BytePlane>) -> Result<Stri
     in_words(rt, &Ok(verdict))
 }
 
-/// The verdict on the events of a document, pushed one by one; none where the bytes are no document.
+/// The verdict on the events of a document, pushed one by one; `None` if the bytes are no document.
 fn answer_by_events(
     rt: &impl AllocGlobal,
     profile: Profile,
@@ -39,7 +39,7 @@ fn answer_by_events(
     }
 }
 
-/// Whether it is so.
+/// Whether the verdict on the events is this one; false if the bytes are no document.
 pub(crate) fn agrees_on_events(
     rt: &impl AllocGlobal,
     profile: Profile,
@@ -52,7 +52,7 @@ pub(crate) fn agrees_on_events(
     }
 }
 
-/// Whether pushed events have the verdict that the bytes have. Bytes with a fault have none.
+/// Whether the events of a text have the verdict that its bytes have. A text with a fault has none.
 fn agrees_by_events(rt: &impl AllocGlobal, text: &str, expected: &str) -> Result<bool, Fail> {
     let bytes = bytes_of(rt, text)?;
     Ok(match answer_by_events(rt, Profile::Registers16, &bytes)? {
@@ -61,7 +61,7 @@ fn agrees_by_events(rt: &impl AllocGlobal, text: &str, expected: &str) -> Result
     })
 }
 
-/// Each document has its answer.
+/// Each document has its answer, by its events.
 fn each_agrees(rt: &(impl AllocGlobal + Abort), rows: &[(&str, &str)]) -> Result<(), Fail> {
     for (text, expected) in rows {
         assert!(rt; agrees_by_events(rt, text, expected)?, "{text}");

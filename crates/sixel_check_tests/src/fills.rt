@@ -1,4 +1,4 @@
-//! How often a check fills from its source.
+//! How often a check calls its source.
 
 use crate::fixtures::is_said;
 use sixel_check::check;
@@ -27,10 +27,10 @@ const PICTURE: &[u8] = b"\x1bPq\"1;1;1;1#0;2;0;0;0#0@\x1b\\";
 /// A return before raster attributes, 27 bytes.
 const BROKEN: &[u8] = b"\x1bPq$\"1;1;1;1#0;2;0;0;0#0@\x1b\\";
 
-/// CAN at 12, in the middle of 26 bytes.
+/// CAN at offset 12, in the middle of 26 bytes.
 const FAULTY: &[u8] = b"\x1bPq\"1;1;1;1#\x18;2;0;0;0#0@\x1b\\";
 
-/// So many fills give all bytes, and one more finds the end.
+/// All but one of the fills give the bytes, and the last finds the end.
 #[test]
 fn one_fill_finds_the_end(rt: HostRuntime) -> Result<(), Fail> {
     for (piece, fills) in [(1, 27), (2, 14), (5, 7), (13, 3), (25, 3), (26, 2), (64, 2)] {
@@ -61,7 +61,7 @@ fn a_broken_document_is_read_to_its_end(rt: HostRuntime) -> Result<(), Fail> {
     Ok(())
 }
 
-/// The piece that holds the fault is the last one.
+/// The piece with the fault is the last one that is read.
 #[test]
 fn a_source_is_left_alone_after_a_fault(rt: HostRuntime) -> Result<(), Fail> {
     for (piece, fills) in [(1, 13), (2, 7), (5, 3), (12, 2), (13, 1), (64, 1)] {
@@ -70,7 +70,7 @@ fn a_source_is_left_alone_after_a_fault(rt: HostRuntime) -> Result<(), Fail> {
             "in pieces of {piece}"
         );
     }
-    // the fill that would fail is the next
+    // the next fill would fail
     assert!(rt; agrees_after(&rt, FAULTY, 5, Some(3), "BadByte 12", 3)?);
     Ok(())
 }
@@ -79,7 +79,8 @@ fn a_source_is_left_alone_after_a_fault(rt: HostRuntime) -> Result<(), Fail> {
 const LETTERS: &[u8] =
     b"\x1bPq\"1;1;14;7#0;2;0;0;0#1;2;100;100;0#2;2;0;100;0#1~~@@vv@@~~@@~~$#2??}}GG}}??}}??-#1!14@\x1b\\";
 
-/// Whether each of so many fills, failing in turn, is answered and is the last one. No fill after them fails.
+/// Whether each of the fills, failing in turn, is the last one and gives `read failed`. The one after them is never
+/// made.
 fn fails_in_turn(
     rt: &impl AllocGlobal,
     bytes: &[u8],
@@ -96,7 +97,7 @@ fn fails_in_turn(
     agrees_after(rt, bytes, piece, Some(fills), expected, fills)
 }
 
-/// So many fills give all bytes, and the last one finds their end.
+/// All but one of the fills give the bytes, and the last finds the end.
 #[test]
 fn a_source_is_left_alone_after_its_failure(rt: HostRuntime) -> Result<(), Fail> {
     for (piece, fills) in [(1, 27), (5, 7), (64, 2)] {

@@ -1,4 +1,4 @@
-//! What the tests share: documents with `E` for ESC, answers in words, pictures left.
+//! What the tests share: documents with `E` for ESC, answers as text, and the pictures of documents.
 
 use sixel_check::{Finding, Verdict, check_bytes};
 use sixel_grammar::{Fault, InputFault, Placed, read_all};
@@ -8,8 +8,8 @@ use std::alloc::{AllocError, Global};
 use std::process::Abort;
 use std::test::Fail;
 
-/// The byte of a sign: its code, but that `E` stands for ESC. So the control U+0090 is the introducer of 8 bits, and
-/// U+009C the terminator.
+/// The byte of a character: its code, except that `E` is ESC. So U+0090 is the 8-bit introducer, and U+009C the 8-bit
+/// terminator.
 fn byte_of(sign: char) -> Result<u8, Fail> {
     if sign == 'E' {
         return Ok(0x1b);
@@ -17,7 +17,7 @@ fn byte_of(sign: char) -> Result<u8, Fail> {
     Ok(u8::try_from(sign).or(Err("a byte"))?)
 }
 
-/// The bytes of a text in which `E` stands for ESC.
+/// The bytes of a text with `E` for ESC.
 pub(crate) fn bytes_of(rt: &impl AllocGlobal, text: &str) -> Result<Vec<u8>, Fail> {
     let mut bytes = Vec::new(rt.alloc());
     for sign in text.chars() {
@@ -35,7 +35,7 @@ pub(crate) fn joined(rt: &impl AllocGlobal, parts: &[&str]) -> Result<String, Al
     Ok(text)
 }
 
-/// A part so many times.
+/// A part, `count` times.
 pub(crate) fn times(rt: &impl AllocGlobal, part: &str, count: u32) -> Result<String, AllocError> {
     let mut text = String::new(rt.alloc());
     for _ in 0..count {
@@ -75,7 +75,7 @@ fn fault_in_words(rt: &impl AllocGlobal, fault: &InputFault) -> Result<String, A
     }
 }
 
-/// An answer in words.
+/// An answer as text.
 pub(crate) fn in_words(
     rt: &impl AllocGlobal,
     answer: &Result<Verdict, InputFault>,
@@ -87,7 +87,7 @@ pub(crate) fn in_words(
     })
 }
 
-/// Whether the answer is so in words.
+/// Whether this is the answer, as text.
 pub(crate) fn is_said(
     rt: &impl AllocGlobal,
     answer: &Result<Verdict, InputFault>,
@@ -96,7 +96,7 @@ pub(crate) fn is_said(
     Ok(in_words(rt, answer)?.as_str() == expected)
 }
 
-/// Whether the answer by the profile, on a text in which `E` stands for ESC, is so.
+/// Whether this is the answer for the profile, on a text with `E` for ESC.
 pub(crate) fn agrees_by(
     rt: &impl AllocGlobal,
     profile: Profile,
@@ -107,12 +107,12 @@ pub(crate) fn agrees_by(
     is_said(rt, &check_bytes(rt.alloc(), profile, &bytes), expected)
 }
 
-/// Whether it is, by 16 registers.
+/// The same, for 16 registers.
 pub(crate) fn agrees(rt: &impl AllocGlobal, text: &str, expected: &str) -> Result<bool, Fail> {
     agrees_by(rt, Profile::Registers16, text, expected)
 }
 
-/// Each text, in which `E` stands for ESC, has its answer by the profile.
+/// Each text, with `E` for ESC, has its answer, for the profile.
 pub(crate) fn agree_by(
     rt: &(impl AllocGlobal + Abort),
     profile: Profile,
@@ -124,12 +124,12 @@ pub(crate) fn agree_by(
     Ok(())
 }
 
-/// Each has its answer by 16 registers.
+/// The same, for 16 registers.
 pub(crate) fn agree(rt: &(impl AllocGlobal + Abort), rows: &[(&str, &str)]) -> Result<(), Fail> {
     agree_by(rt, Profile::Registers16, rows)
 }
 
-/// The picture of a document that is portable by the profile.
+/// The picture of a document that is portable for the profile.
 pub(crate) fn picture_by(
     rt: &impl AllocGlobal,
     profile: Profile,
@@ -142,12 +142,12 @@ pub(crate) fn picture_by(
     }
 }
 
-/// The picture of a document that is portable by 16 registers.
+/// The picture of a document that is portable for 16 registers.
 pub(crate) fn picture_of(rt: &impl AllocGlobal, text: &str) -> Result<Picture, Fail> {
     picture_by(rt, Profile::Registers16, text)
 }
 
-/// Whether the first registers have these colours, and the others have none.
+/// Whether the first registers have these colours, and no other has one.
 pub(crate) fn has_colours(picture: &Picture, colours: &[Option<Colour>]) -> bool {
     for register in 0..=255u8 {
         let expected = colours.get(register as usize).copied().flatten();
@@ -158,7 +158,7 @@ pub(crate) fn has_colours(picture: &Picture, colours: &[Option<Colour>]) -> bool
     true
 }
 
-/// Whether the picture of one pixel has this register, registers 0 and 1 have these colours, and the others have none.
+/// Whether the picture of one pixel has this register, registers 0 and 1 have these colours, and no other has one.
 pub(crate) fn is_left(
     picture: &Picture,
     register: u8,

@@ -1,5 +1,5 @@
-//! Where memory is taken. `rt try --test --fail-alloc N` refuses the N-th growth of each test; these take none of their
-//! own.
+//! Where a check allocates. `rt try --test --fail-alloc N` makes allocation N of each test fail; the tests make none of
+//! their own.
 
 ghost use Rattle.std.specs.Prelude.{◌++◌, ◌∷◌, [], ℕ, List, IfOk, IsTrue, OnOk};
 ghost use Rattle.sixel_grammar.specs.Spelling.{IsSpellable};
@@ -18,7 +18,7 @@ use std::test::Fail;
 /// A picture of one pixel.
 const PICTURE: &[u8] = b"\x1bPq\"1;1;1;1#0;2;0;0;0#0@\x1b\\";
 
-/// Documents that make no box, their first broken rule and its place.
+/// Documents that make no box, with their first broken rule and its offset.
 const BOXLESS: &[(&[u8], Rule, u64)] = &[
     (b"\x1bPq\x1b\\", Rule::RasterFirst, 3),
     (
@@ -30,7 +30,7 @@ const BOXLESS: &[(&[u8], Rule, u64)] = &[
     (b"\x1bPq\"1;1;2049;1#0;2;0;0;0#0@\x1b\\", Rule::BoxSize, 3),
 ];
 
-/// Whether this rule is the first broken one, at this place.
+/// Whether this is the first broken rule, at this offset, without a pixel.
 fn is_broken(answer: &Result<Verdict, InputFault>, rule: Rule, place: u64) -> bool {
     match answer {
         Ok(Verdict::Broken(finding)) => {
@@ -40,7 +40,7 @@ fn is_broken(answer: &Result<Verdict, InputFault>, rule: Rule, place: u64) -> bo
     }
 }
 
-/// Whether the document has this verdict, from a slice and from a source.
+/// Whether the document has this finding, from a slice and from a source.
 fn breaks(rt: &impl AllocGlobal, bytes: &[u8], rule: Rule, place: u64) -> bool {
     let mut source = SliceSource::new(bytes, 5, None);
     is_broken(
@@ -54,7 +54,7 @@ fn breaks(rt: &impl AllocGlobal, bytes: &[u8], rule: Rule, place: u64) -> bool {
     )
 }
 
-/// The verdict is the same whichever growth is refused.
+/// The verdict is the same whichever allocation fails.
 #[test]
 fn no_box_takes_no_memory(rt: HostRuntime) -> Result<(), Fail> {
     for (bytes, rule, place) in BOXLESS {
@@ -63,7 +63,7 @@ fn no_box_takes_no_memory(rt: HostRuntime) -> Result<(), Fail> {
     Ok(())
 }
 
-/// Pushes an event; where it is refused, nothing has changed, and it is pushed once more.
+/// Pushes an event. If an allocation fails, nothing has changed, and the event is pushed again.
 fn push_again<P: Plane>(checker: &mut Checker<P>, placed: &Placed) -> Result<(), Fail>
     requires expected { (registers : ℕ) × (seen : List PlacedValue) × StandsAfter registers checker.old seen
         × IsTrue (expects seen placed.now.event) }
@@ -81,7 +81,7 @@ fn push_again<P: Plane>(checker: &mut Checker<P>, placed: &Placed) -> Result<(),
     Ok(())
 }
 
-/// Pushes an event that may come.
+/// Pushes an event that may come next.
 fn push_next<P: Plane>(checker: &mut Checker<P>, placed: Option<Placed>) -> Result<(), Fail>
     requires { (registers : ℕ) × (seen : List PlacedValue) × StandsAfter registers checker.old seen }
     ensures { OnOk result ((registers : ℕ) × (seen : List PlacedValue) × StandsAfter registers checker.new seen) }
@@ -116,7 +116,7 @@ fn pushed_again<P: Plane>(rt: &impl AllocGlobal, bytes: &[u8]) -> Result<Checker
     Ok(checker)
 }
 
-/// Whether the verdict on the picture of one pixel is that of ample memory, where a refused push was repeated.
+/// Whether the picture of one pixel has its usual verdict, with a failed push repeated.
 fn is_repeated<P: Plane>(rt: &impl AllocGlobal) -> Result<bool, Fail> {
     let checker: Checker<P> = pushed_again(rt, PICTURE)?;
     if !checker.is_whole() {
@@ -128,14 +128,14 @@ fn is_repeated<P: Plane>(rt: &impl AllocGlobal) -> Result<bool, Fail> {
     }
 }
 
-/// A plane of bytes takes memory once; its first growth refused, the push that asked for it is repeated.
+/// A plane of bytes is one allocation. If it fails, the push is repeated.
 #[test]
 fn a_refused_push_is_repeated(rt: HostRuntime) -> Result<(), Fail> {
     assert!(rt; is_repeated::<BytePlane>(&rt)?);
     Ok(())
 }
 
-/// A plane of bands takes memory twice; so does the first growth refused, and the second.
+/// A plane of bands is two allocations. If the first or the second fails, the push is repeated.
 #[test]
 fn a_refused_push_of_bands_is_repeated(rt: HostRuntime) -> Result<(), Fail> {
     assert!(rt; is_repeated::<BandPlane>(&rt)?);

@@ -1,4 +1,4 @@
-//! What no contract of `sixel_check` says: that the definitions are those of the worked documents.
+//! What no contract of `sixel_check` can say: that its definitions agree with worked documents.
 #![tactic(auto)]
 
 #[cfg(test)]

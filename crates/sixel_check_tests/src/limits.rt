@@ -8,7 +8,7 @@ use std::alloc::AllocError;
 use std::process::Abort;
 use std::test::Fail;
 
-/// The smallest picture without its end, 24 bytes; 200 times one command; more commands; and the end.
+/// The smallest picture without its end, 24 bytes; then `command` 200 times, `more`, and the end.
 fn with_many(rt: &impl AllocGlobal, command: &str, more: &str) -> Result<String, AllocError> {
     let many = times(rt, command, 200)?;
     joined(
@@ -17,7 +17,7 @@ fn with_many(rt: &impl AllocGlobal, command: &str, more: &str) -> Result<String,
     )
 }
 
-/// Whether the answer by the profile is the same on the bytes, from a source, and on the events.
+/// Whether this is the answer for the profile, from the bytes, from a source, and from the events.
 pub(crate) fn agrees_each_way(
     rt: &impl AllocGlobal,
     profile: Profile,
@@ -32,7 +32,7 @@ pub(crate) fn agrees_each_way(
     )
 }
 
-/// The answer is so by each profile.
+/// This is the answer for each profile.
 fn agree(rt: &(impl AllocGlobal + Abort), text: &str, expected: &str) -> Result<(), Fail> {
     for profile in [Profile::Registers16, Profile::Registers256] {
         assert!(rt; agrees_each_way(rt, profile, text, expected)?, "{expected}");
@@ -40,8 +40,8 @@ fn agree(rt: &(impl AllocGlobal + Abort), text: &str, expected: &str) -> Result<
     Ok(())
 }
 
-/// Blank columns past the box are no matter, however many. A pixel that follows is the first outside the box: its
-/// command stands at 24 + 200 * 7, and its column is 1 + 200 * 65535.
+/// Blank columns past the box break no rule, however many. A pixel after them is outside the box: its command is at
+/// offset 24 + 200 * 7, and its column is 1 + 200 * 65535.
 #[test]
 fn many_columns(rt: HostRuntime) -> Result<(), Fail> {
     let blank = with_many(&rt, "!65535?", "")?;
@@ -50,7 +50,7 @@ fn many_columns(rt: HostRuntime) -> Result<(), Fail> {
     agree(&rt, painted.as_str(), "broken Outside 1424 13107001 0")
 }
 
-/// The pixel stands at 24 + 200, six times 200 rows down.
+/// The pixel is at offset 24 + 200, and its row is 6 * 200.
 #[test]
 fn many_bands(rt: HostRuntime) -> Result<(), Fail> {
     let empty = with_many(&rt, "-", "")?;
@@ -59,7 +59,7 @@ fn many_bands(rt: HostRuntime) -> Result<(), Fail> {
     agree(&rt, painted.as_str(), "broken Outside 224 0 1200")
 }
 
-/// A return goes back to the first column, so no pixel is outside the box. Without it the column is that of
+/// A return goes back to the first column, so no pixel is outside the box. Without it, the column is that of
 /// `many_columns`.
 #[test]
 fn a_return_after_many_columns(rt: HostRuntime) -> Result<(), Fail> {
@@ -67,8 +67,7 @@ fn a_return_after_many_columns(rt: HostRuntime) -> Result<(), Fail> {
     agree(&rt, text.as_str(), "portable 1 1")
 }
 
-/// Each number is the greatest that a document has: the ratio is the first rule that its first event with numbers
-/// breaks.
+/// Each number is the greatest that a document can have. The first rule broken is `Ratio`, by the raster attributes.
 #[test]
 fn the_greatest_numbers(rt: HostRuntime) -> Result<(), Fail> {
     agree(

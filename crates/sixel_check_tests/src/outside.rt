@@ -1,11 +1,11 @@
 //! The first pixel that a run of columns paints outside the box, worked out by hand.
 //!
-//! Offsets: what follows `"1;1;1;1#0;2;0;0;0#0` stands at 23, and what follows `"1;1;14;7#0;2;0;0;0#0` at 24.
+//! Offsets: 23 after `"1;1;1;1#0;2;0;0;0#0`, and 24 after `"1;1;14;7#0;2;0;0;0#0`.
 
 use crate::fixtures::agree;
 use std::test::Fail;
 
-/// Bits 0, 1 and 2 are the bytes `@`, `A` and `C`; 0 and 1 are `B`, and all six `~`.
+/// The bytes of bits 0, 1 and 2 are `@`, `A` and `C`; bits 0 and 1 are `B`, and all six are `~`.
 #[test]
 fn a_box_of_one_pixel(rt: HostRuntime) -> Result<(), Fail> {
     agree(
@@ -25,7 +25,7 @@ fn a_box_of_one_pixel(rt: HostRuntime) -> Result<(), Fail> {
     )
 }
 
-/// Bit 5 is the byte `_`, bits 1 and 5 are `a`, and 4 and 5 `o`.
+/// Bit 5 is the byte `_`; bits 1 and 5 are `a`, and bits 4 and 5 are `o`.
 #[test]
 fn a_box_of_more_bands(rt: HostRuntime) -> Result<(), Fail> {
     agree(

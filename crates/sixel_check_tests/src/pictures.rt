@@ -6,7 +6,7 @@ use std::alloc::{AllocError, Global};
 use std::process::Abort;
 use std::test::Fail;
 
-/// The text leaves such a picture.
+/// The text leaves a picture of one pixel, with this register and these colours.
 fn agree_left(
     rt: &(impl AllocGlobal + Abort),
     text: &str,
@@ -23,7 +23,7 @@ fn red() -> Option<Colour> {
     Colour::rgb(100, 0, 0)
 }
 
-/// The picture has the last register over each pixel, and the registers that were defined, used or not.
+/// Each pixel has the register that painted it last; the palette has the defined registers, used or not.
 #[test]
 fn pictures_left(rt: HostRuntime) -> Result<(), Fail> {
     agree_left(&rt, "EPq\"1;1;1;1#0;2;0;0;0#0@E\\", 0, black(), None)?;
@@ -55,8 +55,8 @@ fn pictures_left(rt: HostRuntime) -> Result<(), Fail> {
     agree_left(&rt, unused, 0, black(), red())
 }
 
-/// The rows of two letters in register 2 on a ground of register 1, by the register of each pixel. They are worked out
-/// from the bits: `~` is all six rows, `@` the first and `}` the others, `G` the fourth and `v` the others.
+/// The rows of two letters in register 2 on a ground of register 1, a digit for each pixel's register, from the bits:
+/// `~` is all six rows, `@` the first and `}` the others, `G` the fourth and `v` the others.
 const LETTERS: [&str; 7] = [
     "11111111111111",
     "11221122112211",
@@ -78,7 +78,7 @@ fn row_of(alloc: Global, picture: &Picture, y: u32) -> Result<Vec<u8>, AllocErro
     Ok(row)
 }
 
-/// Whether this is the row of the picture.
+/// Whether this is row `y` of the picture.
 fn is_row(alloc: Global, picture: &Picture, y: u32, expected: &str) -> Result<bool, AllocError> {
     Ok(row_of(alloc, picture, y)?.as_slice() == expected.as_bytes())
 }
@@ -116,7 +116,7 @@ fn is_black_alone(picture: &Picture, register: u8) -> bool {
     true
 }
 
-/// Whether the picture is one black pixel in this register, and of the profile.
+/// Whether the picture is one black pixel in this register, of this profile.
 fn is_black_of(picture: &Picture, profile: Profile, register: u8) -> bool {
     picture.profile() == profile
         && picture.width() == 1
@@ -125,7 +125,7 @@ fn is_black_of(picture: &Picture, profile: Profile, register: u8) -> bool {
         && is_black_alone(picture, register)
 }
 
-/// Whether a black pixel in this register leaves such a picture.
+/// Whether the document of one black pixel in this register leaves such a picture.
 fn leaves(rt: &impl AllocGlobal, profile: Profile, register: u8) -> Result<bool, Fail> {
     let alloc = rt.alloc();
     let text = format!(in alloc; "EPq\"1;1;1;1#{register};2;0;0;0#{register}@E\\")?;
@@ -133,7 +133,7 @@ fn leaves(rt: &impl AllocGlobal, profile: Profile, register: u8) -> Result<bool,
     Ok(is_black_of(&picture, profile, register))
 }
 
-/// The picture has the profile of the check, whatever registers it uses.
+/// The picture has the profile of the check, whichever registers it uses.
 #[test]
 fn a_picture_has_the_profile_of_its_check(rt: HostRuntime) -> Result<(), Fail> {
     for register in [0, 15] {
@@ -145,7 +145,7 @@ fn a_picture_has_the_profile_of_its_check(rt: HostRuntime) -> Result<(), Fail> {
     Ok(())
 }
 
-/// The text is portable, and register 0 is left with this colour.
+/// The text is portable, and register 0 has this colour in the picture.
 fn agree_first(
     rt: &(impl AllocGlobal + Abort),
     text: &str,
@@ -159,34 +159,34 @@ fn agree_first(
     Ok(())
 }
 
-/// A register may be defined as often as one likes, as long as nothing was painted in it. It keeps the last colour.
+/// A register may be defined any number of times before something is painted in it. It keeps its last colour.
 #[test]
 fn definitions_before_all_painting(rt: HostRuntime) -> Result<(), Fail> {
-    // as A, B, A
+    // defined as A, B, A
     agree_first(
         &rt,
         "EPq\"1;1;1;1#0;2;0;0;0#0;2;1;0;0#0;2;0;0;0#0@E\\",
         Colour::rgb(0, 0, 0),
     )?;
-    // as A, B
+    // defined as A, B
     agree_first(
         &rt,
         "EPq\"1;1;1;1#0;2;0;0;0#0;2;1;0;0#0@E\\",
         Colour::rgb(1, 0, 0),
     )?;
-    // as A, and as B after data without a bit
+    // defined as A, and as B after blank data
     agree_first(
         &rt,
         "EPq\"1;1;1;1#0;2;0;0;0#0?!9?$#0;2;1;0;0#0@E\\",
         Colour::rgb(1, 0, 0),
     )?;
-    // as A, B, and as B again once it was painted in
+    // defined as A, B, and as B again after it was painted in
     agree_first(
         &rt,
         "EPq\"1;1;1;1#0;2;0;0;0#0;2;1;0;0#0@#0;2;1;0;0E\\",
         Colour::rgb(1, 0, 0),
     )?;
-    // as A, B, and as A in the other system
+    // defined as A, B, and with A's coordinates in the other system
     agree_first(
         &rt,
         "EPq\"1;1;1;1#0;2;0;0;0#0;2;1;0;0#0;1;0;0;0#0@E\\",
@@ -194,7 +194,7 @@ fn definitions_before_all_painting(rt: HostRuntime) -> Result<(), Fail> {
     )
 }
 
-/// A hue is at most 360, lightness and saturation at most 100; so is each of red, green and blue.
+/// A hue is at most 360, lightness and saturation at most 100, and red, green and blue at most 100.
 #[test]
 fn colours_at_their_edges(rt: HostRuntime) -> Result<(), Fail> {
     let hue = "EPq\"1;1;1;1#0;1;360;100;100#0@E\\";

@@ -1,15 +1,15 @@
-//! What each profile says of a register: worked documents, by hand.
+//! The registers of each profile: worked documents.
 //!
-//! Offsets: `"1;1;1;1` is 3 to 10, so a first definition stands at 11.
+//! Offsets: `"1;1;1;1` is at 3 to 10, so a first definition is at 11.
 
 use crate::limits::agrees_each_way;
 use sixel_model::Profile;
 use std::process::Abort;
 use std::test::Fail;
 
-/// Documents with `E` for ESC, the answer by 16 registers, and the answer by 256.
+/// Documents with `E` for ESC, the answer for 16 registers, and the answer for 256.
 const DOCUMENTS: &[(&str, &str, &str)] = &[
-    // the last register of each profile, and the first above it
+    // the last register of each profile, and the next one
     (
         "EPq\"1;1;1;1#15;2;0;0;0#15@E\\",
         "portable 1 1",
@@ -30,7 +30,7 @@ const DOCUMENTS: &[(&str, &str, &str)] = &[
         "broken Register 11",
         "broken Register 11",
     ),
-    // a definition that nothing selects, behind one of ten bytes
+    // a definition that nothing selects, after one of ten bytes
     (
         "EPq\"1;1;1;1#0;2;0;0;0#16;2;0;0;0#0@E\\",
         "broken Register 21",
@@ -41,7 +41,7 @@ const DOCUMENTS: &[(&str, &str, &str)] = &[
         "broken Register 21",
         "broken Register 21",
     ),
-    // a select in which nothing is painted, behind `#0@` at 21 to 23
+    // a select without painting, after `#0@` at 21 to 23
     (
         "EPq\"1;1;1;1#0;2;0;0;0#0@#16E\\",
         "broken Register 24",
@@ -52,7 +52,7 @@ const DOCUMENTS: &[(&str, &str, &str)] = &[
         "broken Register 24",
         "broken Register 24",
     ),
-    // registers that are 0 in eight bits, or in the four lowest of them
+    // registers whose low eight bits, or low four bits, are 0
     (
         "EPq\"1;1;1;1#0;2;0;0;0#256@E\\",
         "broken Register 21",
@@ -73,7 +73,7 @@ const DOCUMENTS: &[(&str, &str, &str)] = &[
         "broken Register 24",
         "portable 1 1",
     ),
-    // the other rules, of register 200: `#200;2;0;0;0` has twelve bytes
+    // the other rules, for register 200: `#200;2;0;0;0` has twelve bytes
     (
         "EPq\"1;1;1;1#200;3;0;0;0E\\",
         "broken Register 11",
@@ -111,7 +111,7 @@ const DOCUMENTS: &[(&str, &str, &str)] = &[
     ),
 ];
 
-/// Each document has its answer by each profile, on the bytes, from a source, and on the events.
+/// Each document has its answer for each profile, from the bytes, from a source, and from the events.
 fn agree_by_both(rt: &(impl AllocGlobal + Abort), rows: &[(&str, &str, &str)]) -> Result<(), Fail> {
     for (text, narrow, wide) in rows {
         assert!(rt;

@@ -1,4 +1,4 @@
-//! A checker, event by event.
+//! A checker that gets one event at a time.
 
 ghost use Rattle.std.specs.Prelude.{ℕ, List, IfOk, OnOk};
 ghost use Rattle.sixel_grammar.specs.declared.command.Placed.{Placed as PlacedValue};
@@ -11,7 +11,7 @@ use sixel_model::Profile;
 use sixel_plane::{BytePlane, Plane};
 use std::test::Fail;
 
-/// Pushes an event that may come.
+/// Pushes an event that may come next.
 fn push_next(checker: &mut Checker<BytePlane>, placed: &Placed) -> Result<(), Fail>
     requires { (registers : ℕ) × (seen : List PlacedValue) × StandsAfter registers checker.old seen }
     ensures { OnOk result ((registers : ℕ) × (seen : List PlacedValue) × StandsAfter registers checker.new seen) }
@@ -23,7 +23,7 @@ fn push_next(checker: &mut Checker<BytePlane>, placed: &Placed) -> Result<(), Fa
     Ok(())
 }
 
-/// A checker by the profile that has seen these events.
+/// A checker for the profile that has seen these events.
 pub(crate) fn pushed(
     rt: &impl AllocGlobal,
     profile: Profile,
@@ -48,7 +48,7 @@ fn smallest(rt: &impl AllocGlobal) -> Result<Vec<Placed>, Fail> {
     }
 }
 
-/// A command of each kind, also such as break a rule.
+/// A command of each kind; some break a rule.
 const COMMANDS: [Command; 7] = [
     Command::Sixel(63),
     Command::Repeat { count: 0, bits: 1 },
@@ -70,7 +70,7 @@ const COMMANDS: [Command; 7] = [
     Command::NextLine,
 ];
 
-/// A start without a parameter.
+/// A start without parameters.
 fn start_of(eight: bool) -> Event {
     Event::Start {
         eight,
@@ -78,12 +78,12 @@ fn start_of(eight: bool) -> Event {
     }
 }
 
-/// Whether the checker expects such a start or not, and such an end or not.
+/// Whether the checker expects a start exactly if `start` says so, and an end exactly if `more` says so.
 fn expects_ends<P: Plane>(checker: &Checker<P>, eight: bool, start: bool, more: bool) -> bool {
     checker.expects(&start_of(eight)) == start && checker.expects(&Event::Finish { eight }) == more
 }
 
-/// Whether it expects commands of any kind or not.
+/// Whether it expects commands of any kind exactly if `more` says so.
 fn expects_commands<P: Plane>(checker: &Checker<P>, more: bool) -> bool {
     for command in COMMANDS {
         if checker.expects(&Event::Step(command)) != more {
@@ -93,15 +93,14 @@ fn expects_commands<P: Plane>(checker: &Checker<P>, more: bool) -> bool {
     true
 }
 
-/// Whether the checker expects a start or not, and commands of any kind and an end or not.
+/// Whether it expects a start exactly if `start` says so, and commands and an end exactly if `more` says so.
 pub(crate) fn expects_so<P: Plane>(checker: &Checker<P>, start: bool, more: bool) -> bool {
     expects_ends(checker, false, start, more)
         && expects_ends(checker, true, start, more)
         && expects_commands(checker, more)
 }
 
-/// A start comes first and at no other time. Then commands of any kind come, and an end at any time; after it comes
-/// nothing.
+/// A start comes first and never again. Then commands of any kind come, and at any time an end; after it nothing comes.
 #[test]
 fn each_kind_of_event_is_expected_in_its_turn(rt: HostRuntime) -> Result<(), Fail> {
     let events = smallest(&rt)?;

@@ -1,7 +1,7 @@
-//! Stretches of sixels that are painted at once, worked out by hand.
+//! Stretches of sixels that are painted in one step, worked out by hand.
 //!
-//! A stretch is painted at once where its register was painted in before, it lies in the box with all six rows, and 16
-//! bytes follow it. Offsets: in `"1;1;20;12` the first definition stands at 13, and what follows `#0;2;0;0;0` at 23.
+//! That happens if its register was painted in before, it lies in the box with all six rows, and 16 bytes follow it.
+//! Offsets: in `"1;1;20;12` the first definition is at 13, and `#0;2;0;0;0` ends before 23.
 
 use crate::fixtures::{agree, bytes_of, is_said, picture_of, times};
 use sixel_check::check;
@@ -9,7 +9,7 @@ use sixel_io::SliceSource;
 use sixel_model::{Picture, Profile};
 use std::test::Fail;
 
-/// Each column and row of a stretch is painted, and no other.
+/// Each column and row of a stretch is painted, and nothing else.
 #[test]
 fn stretches_are_painted_whole(rt: HostRuntime) -> Result<(), Fail> {
     agree(
@@ -19,7 +19,7 @@ fn stretches_are_painted_whole(rt: HostRuntime) -> Result<(), Fail> {
                 "EPq\"1;1;20;12#0;2;0;0;0#0@$~~~~~~~~~~~~~~~~~~~~-~~~~~~~~~~~~~~~~~~~~E\\",
                 "portable 20 12",
             ),
-            // the uppermost row of the last column is missing, and then the lowest of it
+            // the top row of the last column is missing, and then its bottom row
             (
                 "EPq\"1;1;20;12#0;2;0;0;0#0@$~~~~~~~~~~~~~~~~~~~}-~~~~~~~~~~~~~~~~~~~~E\\",
                 "broken Uncovered 68 19 0",
@@ -37,7 +37,7 @@ fn stretches_are_painted_whole(rt: HostRuntime) -> Result<(), Fail> {
     )
 }
 
-/// A stretch may end at the box's last column and not after it, but for columns without a bit.
+/// A stretch may end at the box's last column, but not after it, unless the columns are blank.
 #[test]
 fn stretches_end_at_the_box(rt: HostRuntime) -> Result<(), Fail> {
     agree(
@@ -69,8 +69,8 @@ fn stretches_end_at_the_box(rt: HostRuntime) -> Result<(), Fail> {
     )
 }
 
-/// A stretch without a bit breaks no rule after raster attributes, wherever it lies and whatever is selected. The
-/// column moves on by it: what follows 24 bytes and 20 blank columns stands in column 21.
+/// A blank stretch breaks no rule after raster attributes, wherever it lies and whatever is selected. It moves the
+/// column: after 24 bytes and 20 blank columns, the next sixel is in column 21.
 #[test]
 fn stretches_without_a_bit(rt: HostRuntime) -> Result<(), Fail> {
     agree(
@@ -89,17 +89,17 @@ fn stretches_without_a_bit(rt: HostRuntime) -> Result<(), Fail> {
                 "EPq\"1;1;1;1#0;2;0;0;0#0@????????????????????-????????????????????E\\",
                 "portable 1 1",
             ),
-            // all but the last
+            // a bit in the last sixel, outside the box
             (
                 "EPq\"1;1;1;1#0;2;0;0;0#0@????????????????????@E\\",
                 "broken Outside 44 21 0",
             ),
-            // a command of its own after the stretch
+            // a repeat after the stretch
             (
                 "EPq\"1;1;1;1#0;2;0;0;0#0@????????????????????!1@E\\",
                 "broken Outside 44 21 0",
             ),
-            // all but the first
+            // a bit in the second sixel, outside the box
             (
                 "EPq\"1;1;1;1#0;2;0;0;0#0@$?@????????????????????E\\",
                 "broken Outside 26 1 0",
@@ -108,7 +108,7 @@ fn stretches_without_a_bit(rt: HostRuntime) -> Result<(), Fail> {
     )
 }
 
-/// The register of a stretch is known, has a colour, and counts as painted in.
+/// The register of a stretch must be known and have a colour; it then counts as painted in.
 #[test]
 fn stretches_are_of_a_register(rt: HostRuntime) -> Result<(), Fail> {
     agree(
@@ -122,7 +122,7 @@ fn stretches_are_of_a_register(rt: HostRuntime) -> Result<(), Fail> {
                 "EPq\"1;1;20;6#0;2;0;0;0#0~$#1;2;0;0;0??~~~~~~~~~~~~~~~~~~~~~~~~E\\",
                 "broken Unselected 38",
             ),
-            // without a bit it paints in none
+            // without a set bit it paints in no register
             (
                 "EPq\"1;1;20;6#0;2;0;0;0#0~$#1;2;0;0;0?????????????????$#0~~~~~~~~~~~~~~~~~~~~E\\",
                 "portable 20 6",
@@ -135,8 +135,8 @@ fn stretches_are_of_a_register(rt: HostRuntime) -> Result<(), Fail> {
     )
 }
 
-/// Whether each pixel of a picture of 20 by 6 is in register 1 where its row is 1 and its column odd, or at the top
-/// left, and in register 0 elsewhere.
+/// Whether in a picture of 20 by 6 exactly these pixels are in register 1, and all others in register 0: those in row 1
+/// with an odd column, and the top left one.
 fn is_striped(picture: &Picture) -> bool {
     if (picture.width(), picture.height()) != (20, 6) {
         return false;
@@ -152,7 +152,7 @@ fn is_striped(picture: &Picture) -> bool {
     true
 }
 
-/// A stretch paints the bits of its bytes over what was painted before.
+/// A stretch paints its set bits over what was there before.
 #[test]
 fn stretches_paint_over(rt: HostRuntime) -> Result<(), Fail> {
     let text =

@@ -11,7 +11,7 @@ const BLACK: Parts = Parts::Rgb(0, 0, 0);
 
 const RED: Parts = Parts::Rgb(100, 0, 0);
 
-/// The colour in which register 0 is defined after it was painted in.
+/// The second colour of register 0, defined after it was painted in.
 const LATE: Parts = Parts::Rgb(1, 0, 0);
 
 /// Portable documents, with `E` for ESC.
@@ -27,12 +27,12 @@ const PORTABLE: [&str; 9] = [
     "EPq\"1;1;14;7#0;2;0;0;0#1;2;100;100;0#2;2;0;100;0#1~~@@vv@@~~@@~~$#2??}}GG}}??}}??-#1!14@E\\",
 ];
 
-/// A grey of this many percent.
+/// A grey of this percentage.
 pub(crate) fn grey(percent: u8) -> Parts {
     Parts::Rgb(percent, percent, percent)
 }
 
-/// The choices of a terminal from 0 to 127, with room for a box around which one pixel is left on each side.
+/// The choices of the terminal with this number, from 0 to 127; its screen has room for a box and one pixel around it.
 fn choices_of(number: u8, width: u32, height: u32) -> Choices {
     Choices {
         binds_at_showing: number & 1 != 0,
@@ -55,7 +55,7 @@ fn choices_of(number: u8, width: u32, height: u32) -> Choices {
     }
 }
 
-/// A colour for each register of the profile: register n starts as 6n modulo 101 percent of red, green and blue.
+/// The starting colours of the profile's registers: register n is the grey of 6n modulo 101 percent.
 pub(crate) fn greys(alloc: Global, profile: Profile) -> Result<Vec<Colour>, Fail> {
     let mut colours = Vec::with_capacity(alloc, 256)?;
     for register in 0..profile.count() {
@@ -65,13 +65,13 @@ pub(crate) fn greys(alloc: Global, profile: Profile) -> Result<Vec<Colour>, Fail
     Ok(colours)
 }
 
-/// Sixteen registers that all start as 90 percent of red, green and blue.
+/// Sixteen registers that all start as the grey of 90 percent.
 fn pale(alloc: Global) -> Result<Vec<Colour>, Fail> {
     let colour = Colour::rgb(90, 90, 90).ok_or("a grey")?;
     Ok(vec![in alloc; colour; 16]?)
 }
 
-/// The coordinates of what a terminal of these choices and starting colours, with a grey screen, shows.
+/// The colours that a terminal with these choices, starting colours and a grey screen shows.
 fn shown(
     alloc: Global,
     choices: Choices,
@@ -120,7 +120,7 @@ fn colours_of(alloc: Global, picture: &Picture) -> Result<Vec<Parts>, Fail> {
     Ok(pixels)
 }
 
-/// Whether terminals of all choices, with the registers of the profile, show the picture after these events, and grey
+/// Whether terminals with all choices and the registers of the profile show the picture after these events, with grey
 /// around it.
 fn is_shown(
     alloc: Global,
@@ -141,7 +141,7 @@ fn is_shown(
     Ok(true)
 }
 
-/// Whether they show the picture of a document that is portable by the profile.
+/// Whether they show the picture of a document that is portable for the profile.
 fn is_shown_by_all(rt: &impl AllocGlobal, profile: Profile, text: &str) -> Result<bool, Fail> {
     let bytes = bytes_of(rt, text)?;
     let events = events_of(rt.alloc(), &bytes).or(Err("a document"))?;
@@ -149,7 +149,7 @@ fn is_shown_by_all(rt: &impl AllocGlobal, profile: Profile, text: &str) -> Resul
     is_shown(rt.alloc(), profile, events.as_slice(), &picture)
 }
 
-/// What is portable by 16 registers is so by 256, on terminals of so many registers.
+/// What is portable for 16 registers is portable for 256, on terminals with 256 registers.
 #[test]
 fn each_terminal_shows_what_is_portable(rt: HostRuntime) -> Result<(), Fail> {
     for text in PORTABLE {
@@ -165,8 +165,8 @@ fn each_terminal_shows_what_is_portable(rt: HostRuntime) -> Result<(), Fail> {
     Ok(())
 }
 
-/// Definitions of 256 registers. No two have the same colour, and none has a starting colour: its blue is 100 and its
-/// red below.
+/// Definitions of 256 registers. No two have the same colour, and none has a starting colour: blue is 100, and red is
+/// less.
 fn definitions(rt: &impl AllocGlobal) -> Result<String, Fail> {
     let alloc = rt.alloc();
     let mut text = String::new(alloc);
@@ -177,7 +177,7 @@ fn definitions(rt: &impl AllocGlobal) -> Result<String, Fail> {
     Ok(text)
 }
 
-/// A pixel in each of them, from the left to the right.
+/// One pixel in each of them, from left to right.
 fn columns(rt: &impl AllocGlobal) -> Result<String, Fail> {
     let alloc = rt.alloc();
     let mut text = String::new(alloc);
@@ -187,7 +187,7 @@ fn columns(rt: &impl AllocGlobal) -> Result<String, Fail> {
     Ok(text)
 }
 
-/// A document that paints in all registers of the greater profile.
+/// A document that paints in all 256 registers.
 fn wide_document(rt: &impl AllocGlobal) -> Result<String, Fail> {
     let (definitions, columns) = (definitions(rt)?, columns(rt)?);
     let parts = [
@@ -208,15 +208,15 @@ fn defined(alloc: Global) -> Result<Vec<Parts>, Fail> {
     Ok(pixels)
 }
 
-/// Whether its picture is a row of them.
+/// Whether its picture is one row of them.
 fn is_defined(rt: &impl AllocGlobal, text: &str) -> Result<bool, Fail> {
     let picture = picture_by(rt, Profile::Registers256, text)?;
     let pixels = colours_of(rt.alloc(), &picture)?;
     Ok(picture.height() == 1 && pixels.as_slice() == defined(rt.alloc())?.as_slice())
 }
 
-/// A terminal with fewer registers isn't of this class. By 16 registers the definition of register 16 is broken: ten of
-/// twelve bytes and six of fourteen stand between it and the raster attributes, which end before 13.
+/// A terminal with fewer registers isn't in this class. For 16 registers the definition of register 16 breaks a rule:
+/// the raster attributes end before 13, and ten definitions of twelve bytes and six of fourteen come before it.
 #[test]
 fn each_terminal_of_256_registers_shows_256_colours(rt: HostRuntime) -> Result<(), Fail> {
     let text = wide_document(&rt)?;
@@ -226,26 +226,26 @@ fn each_terminal_of_256_registers_shows_256_colours(rt: HostRuntime) -> Result<(
     Ok(())
 }
 
-/// A register is painted in that is not selected on each terminal.
+/// A register is painted in that some terminals haven't selected.
 const UNSELECTED: &str = "EPq\"1;1;1;1#0;2;0;0;0@E\\";
-/// A register is painted in that is not defined.
+/// A register is painted in that is never defined.
 const UNDEFINED: &str = "EPq\"1;1;1;1#0@E\\";
-/// A register is defined anew after it was painted in.
+/// A register is defined again after it was painted in.
 const REDEFINED: &str = "EPq\"1;1;2;1#0;2;0;0;0#1;2;100;0;0#0@#1@#0;2;1;0;0E\\";
-/// Raster attributes stand after data.
+/// Raster attributes come after data.
 const RASTER_TWICE: &str = "EPq\"1;1;1;1#0;2;0;0;0#0@\"1;1;1;1E\\";
-/// The second pixel of the box is not painted.
+/// The second pixel of the box is unpainted.
 const UNCOVERED: &str = "EPq\"1;1;2;1#0;2;0;0;0#0@E\\";
-/// The pixel below the box is painted, and that of the box is not.
+/// The pixel below a box of one pixel is painted, and that of the box isn't.
 const OUTSIDE: &str = "EPq\"1;1;1;1#0;2;0;0;0#0AE\\";
-/// The smallest picture, with controls of 8 bits: at its start, at its end, and at both.
+/// The smallest picture, with 8-bit controls: at its start, at its end, and at both.
 const EIGHT_BIT: [&str; 3] = [
     "\u{90}q\"1;1;1;1#0;2;0;0;0#0@E\\",
     "EPq\"1;1;1;1#0;2;0;0;0#0@\u{9c}",
     "\u{90}q\"1;1;1;1#0;2;0;0;0#0@\u{9c}",
 ];
 
-/// Whether a terminal of these choices and starting colours shows these pixels in the box, and grey around it.
+/// Whether a terminal with these choices and starting colours shows these pixels in the box, and grey around it.
 fn shows(
     rt: &impl AllocGlobal,
     text: &str,
@@ -263,7 +263,7 @@ fn shows(
     Ok(answer.as_slice() == expected.as_slice())
 }
 
-/// Whether a definition selects its register on some.
+/// Whether a definition selects its register on some terminals.
 fn shows_unselected(rt: &impl AllocGlobal, choices: Choices) -> Result<bool, Fail> {
     let pixel = if choices.selects { BLACK } else { grey(42) };
     shows(
@@ -275,7 +275,7 @@ fn shows_unselected(rt: &impl AllocGlobal, choices: Choices) -> Result<bool, Fai
     )
 }
 
-/// Whether they show the colour in which register 0 starts.
+/// Whether terminals show the starting colour of register 0.
 fn shows_undefined(rt: &impl AllocGlobal, choices: Choices) -> Result<bool, Fail> {
     Ok(
         shows(
@@ -288,13 +288,13 @@ fn shows_undefined(rt: &impl AllocGlobal, choices: Choices) -> Result<bool, Fail
     )
 }
 
-/// Register 16 is another register than 0, on terminals that have it.
+/// Register 16 isn't register 0, on terminals that have it.
 const SEVENTEENTH: &str = "EPq\"1;1;2;1#0;2;0;0;0#16;2;100;0;0#0@#16@E\\";
-/// The last register of the greater profile is painted in, and isn't defined.
+/// The last of 256 registers is painted in and never defined.
 const LAST_UNDEFINED: &str = "EPq\"1;1;1;1#255@E\\";
 
-/// Whether a terminal of 16 registers, which isn't of the class of 256, takes register 16 for register 0, in which the
-/// definition of 16 then counts.
+/// Whether a terminal with 16 registers, which isn't in the class for 256, takes register 16 for register 0; then the
+/// definition of 16 counts for it.
 fn shows_seventeenth(rt: &impl AllocGlobal, choices: Choices) -> Result<bool, Fail> {
     let few = greys(rt.alloc(), Profile::Registers16)?;
     let many = greys(rt.alloc(), Profile::Registers256)?;
@@ -304,13 +304,13 @@ fn shows_seventeenth(rt: &impl AllocGlobal, choices: Choices) -> Result<bool, Fa
     )
 }
 
-/// Whether one of 256 registers shows the colour in which the last one starts: 1,530 modulo 101.
+/// Whether a terminal with 256 registers shows the starting colour of the last one: 1,530 modulo 101 percent.
 fn shows_last_undefined(rt: &impl AllocGlobal, choices: Choices) -> Result<bool, Fail> {
     let colours = greys(rt.alloc(), Profile::Registers256)?;
     shows(rt, LAST_UNDEFINED, choices, colours, &[grey(15)])
 }
 
-/// Whether the last definition counts on some, and on others the one at the painting.
+/// Whether the last definition counts on some terminals, and on others the one before the painting.
 fn shows_redefined(rt: &impl AllocGlobal, choices: Choices) -> Result<bool, Fail> {
     let pixel = if choices.binds_at_showing {
         LATE
@@ -326,7 +326,7 @@ fn shows_redefined(rt: &impl AllocGlobal, choices: Choices) -> Result<bool, Fail
     )
 }
 
-/// Whether raster attributes fill the box on some.
+/// Whether raster attributes fill the box on some terminals.
 fn shows_filled(rt: &impl AllocGlobal, choices: Choices) -> Result<bool, Fail> {
     let pixel = match choices.ground {
         Ground::Kept => BLACK,
@@ -341,7 +341,7 @@ fn shows_filled(rt: &impl AllocGlobal, choices: Choices) -> Result<bool, Fail> {
     )
 }
 
-/// What a pixel of the box shows that nothing paints: what stood there, or the register that the box is filled with.
+/// What an unpainted pixel of the box shows: what was there before, or the register that filled the box.
 fn blank_on(choices: &Choices) -> Parts {
     match choices.ground {
         Ground::Kept => grey(50),
@@ -349,7 +349,7 @@ fn blank_on(choices: &Choices) -> Parts {
     }
 }
 
-/// Whether a pixel that is not covered stays as it was, or as the box was filled.
+/// Whether an unpainted pixel shows what was there before, or the colour that filled the box.
 fn shows_uncovered(rt: &impl AllocGlobal, choices: Choices) -> Result<bool, Fail> {
     shows(
         rt,
@@ -360,7 +360,7 @@ fn shows_uncovered(rt: &impl AllocGlobal, choices: Choices) -> Result<bool, Fail
     )
 }
 
-/// Whether what lies below the box is clipped on some.
+/// Whether some terminals clip the pixel below the box.
 fn shows_outside(rt: &impl AllocGlobal, choices: Choices) -> Result<bool, Fail> {
     let inside = blank_on(&choices);
     let below = if choices.clips { grey(50) } else { BLACK };
@@ -373,7 +373,7 @@ fn shows_outside(rt: &impl AllocGlobal, choices: Choices) -> Result<bool, Fail> 
     )
 }
 
-/// Whether a picture with controls of 8 bits is shown on some, and nothing of it on others.
+/// Whether some terminals show a picture with 8-bit controls, and others nothing of it.
 fn shows_eight_bits(rt: &impl AllocGlobal, text: &str, choices: Choices) -> Result<bool, Fail> {
     let pixel = if choices.eight_bit { BLACK } else { grey(50) };
     shows(

@@ -1,4 +1,4 @@
-//! What no contract of `sixel_encode` says, by worked examples and against a plain, slow encoder.
+//! Tests of what no contract of `sixel_encode` says: worked examples, and a plain, slow encoder to compare with.
 #![tactic(auto)]
 
 #[cfg(test)]

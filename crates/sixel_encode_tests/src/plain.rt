@@ -7,7 +7,7 @@ use sixel_model::{Picture, Profile};
 use std::alloc::{AllocError, Global};
 use std::test::Fail;
 
-/// The data bytes of a register in a band, whose rows are given.
+/// The data bytes of a register in a band with these rows.
 fn plain_columns(
     alloc: Global,
     rows: &[u8],
@@ -37,7 +37,7 @@ fn trimmed(columns: &[u8]) -> &[u8] {
     }
 }
 
-/// So many columns, one by one up to three of them.
+/// Appends a run of equal columns: one by one up to three of them, else as a repeat.
 fn push_run(
     alloc: Global,
     text: &mut String,
@@ -62,7 +62,7 @@ fn push_runs(alloc: Global, text: &mut String, columns: &[u8]) -> Result<(), All
     Ok(())
 }
 
-/// The registers that a band has, whose rows are given, each with its columns.
+/// Appends each register of a band with these rows, and its columns.
 fn push_band(
     alloc: Global,
     text: &mut String,
@@ -96,7 +96,7 @@ fn opening(
     Ok(text)
 }
 
-/// The text of a picture of one colour, written without care for time or memory.
+/// The text of a picture of one colour, made without regard to time or memory.
 fn plain_text(
     alloc: Global,
     profile: Profile,
@@ -117,7 +117,7 @@ fn plain_text(
     Ok(text)
 }
 
-/// The registers of a picture of this size, in runs that the size chooses, the longest of them of this length.
+/// The registers of a picture of this size, in runs that depend on the size, at most this long.
 fn registers_in_runs(
     alloc: Global,
     profile: Profile,
@@ -144,14 +144,14 @@ fn registers_in_runs(
     Ok(registers)
 }
 
-/// Whether the picture has the text.
+/// Whether the picture is encoded as this text.
 fn has_text(picture: &Picture, expected: &str) -> bool {
     let mut room = [0; 8_192];
     let mut sink = SliceSink::new(&mut room, 1_000, None);
     encode(picture, &mut sink) == Ok(()) && sink.written() == expected.as_bytes()
 }
 
-/// Whether a picture of this size has the plain text, with runs of at most this length.
+/// Whether a picture of this size, with runs of at most this length, is encoded as the plain encoder does.
 fn has_plain_text(
     alloc: Global,
     profile: Profile,
@@ -167,7 +167,7 @@ fn has_plain_text(
     Ok(has_text(&picture, &expected))
 }
 
-/// Whether pictures of this width and of some heights have the plain text.
+/// The same for pictures of this width and some heights.
 fn have_plain_text(
     alloc: Global,
     profile: Profile,
@@ -204,7 +204,7 @@ fn wide_rows_have_the_plain_text(rt: HostRuntime) -> Result<(), Fail> {
     Ok(())
 }
 
-/// Groups of columns of the same register, and repeats that are longer than a group.
+/// Groups of columns with the same register, and repeats that are longer than a group.
 #[test]
 fn long_runs_have_the_plain_text(rt: HostRuntime) -> Result<(), Fail> {
     for width in [32, 35, 36, 63, 64, 65, 67, 68, 96, 97, 200] {

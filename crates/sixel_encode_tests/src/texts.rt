@@ -18,7 +18,7 @@ const HI: [u8; 98] = [
     1, 1, 1, 1, 1, 1, 1, 1, 1, 1, 1, 1, 1, 1, //
 ];
 
-/// Whether the picture has the text.
+/// Whether the picture is encoded as this text.
 fn has_text(
     alloc: Global,
     profile: Profile,
@@ -115,7 +115,7 @@ fn pictures_have_their_texts(rt: HostRuntime) -> Result<(), Fail> {
     Ok(())
 }
 
-/// Registers from 16 up are defined and painted in by their numbers, in increasing order. An entry that no pixel has is
+/// Registers from 16 on are defined and painted in by their numbers, in increasing order. An entry without a pixel is
 /// defined too.
 #[test]
 fn wide_pictures_have_their_texts(rt: HostRuntime) -> Result<(), Fail> {
@@ -143,7 +143,7 @@ fn wide_pictures_have_their_texts(rt: HostRuntime) -> Result<(), Fail> {
     Ok(())
 }
 
-/// Whether a sink with this room, of so many bytes a call and with this call failing, fails and has the prefix.
+/// Whether writing to a sink with this room, this many bytes a call and this failing call fails, after the prefix.
 fn fails(
     picture: &Picture,
     room: &mut [u8],
@@ -156,7 +156,7 @@ fn fails(
 }
 
 /// Whether a sink that fails before the end of the text has a prefix of it: one that takes a byte a call and fails at
-/// one, and one with too little room.
+/// some call, and one with too little room.
 fn fails_in_turn(picture: &Picture, text: &[u8]) -> bool {
     for count in 0..text.len().min(33) {
         let prefix = &text[..count];
@@ -182,8 +182,8 @@ fn a_failed_sink_has_a_prefix_of_the_text(rt: HostRuntime) -> Result<(), Fail> {
     Ok(())
 }
 
-/// The registers of 2,048 rows of 2,048 pixels. Sixteen take turns in each row, the next sixteen of the profile in each
-/// band, and after the last ones the first again.
+/// The registers of 2,048 rows of 2,048 pixels. Sixteen take turns in each row: in each band the next sixteen of the
+/// profile, and after the last ones the first again.
 fn registers_by_turns(alloc: Global, profile: Profile) -> Result<Vec<u8>, AllocError> {
     let mut registers = Vec::with_capacity(alloc, 4_194_304)?;
     for index in 0..4_194_304u32 {
@@ -193,7 +193,7 @@ fn registers_by_turns(alloc: Global, profile: Profile) -> Result<Vec<u8>, AllocE
     Ok(registers)
 }
 
-/// Whether that picture of the profile has a text of this length with these bytes at its end.
+/// Whether that picture in the profile has a text of this length that ends with these bytes.
 fn has_length(alloc: Global, profile: Profile, length: usize, end: &[u8]) -> Result<bool, Fail> {
     let entries = all_entries(alloc, profile)?;
     let registers = registers_by_turns(alloc, profile)?;
@@ -206,9 +206,9 @@ fn has_length(alloc: Global, profile: Profile, length: usize, end: &[u8]) -> Res
 }
 
 /// Each band has 16 registers. A register has 128 runs of one column, with 127 repeats of 15 blank ones between them:
-/// 636 bytes after a select of 2 or 3 bytes and the blank columns before the first, of which more than 3 are a repeat.
-/// That makes 10,262 bytes a band, 15 carriage returns, and 341 next lines; 228 bytes declare the colours and the size,
-/// and the introducer and the terminator have 6 and 2.
+/// 636 bytes, after a select of 2 or 3 bytes and the blank columns before the first run, which are a repeat if there
+/// are more than 3. That makes 10,262 bytes a band, with 15 carriage returns, and 341 next lines; 228 bytes declare the
+/// colours and the size, and the introducer and the terminator have 6 and 2.
 #[test]
 fn the_largest_picture_is_written(rt: HostRuntime) -> Result<(), Fail> {
     let (profile, end) = (Profile::Registers16, b"?B!15?B\x1b\\");
@@ -216,9 +216,9 @@ fn the_largest_picture_is_written(rt: HostRuntime) -> Result<(), Fail> {
     Ok(())
 }
 
-/// The same in 256 registers, where a select has 2 to 4 bytes: 914 in 16 bands, and 278 in the first 6 of them. So 342
-/// bands have 342 times 10,239 bytes and 19,472 bytes of selects; the next lines are 341, and 3,744 bytes declare the
-/// colours and the size.
+/// The same with 256 registers, where a select has 2 to 4 bytes: 914 in 16 bands, and 278 in the first 6 of them. So
+/// 342 bands have 342 times 10,239 bytes and 19,472 bytes of selects; there are 341 next lines, and 3,744 bytes declare
+/// the colours and the size.
 #[test]
 fn the_largest_wide_picture_is_written(rt: HostRuntime) -> Result<(), Fail> {
     let (profile, end) = (Profile::Registers256, b"?B!15?B\x1b\\");

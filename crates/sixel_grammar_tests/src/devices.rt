@@ -8,7 +8,7 @@ use std::io;
 use std::io::{Error, ErrorKind, Read, Write};
 use std::test::Fail;
 
-/// What a call of a fake reader or writer does: move so many bytes at most, or fail.
+/// What a call of a fake reader or writer does: move at most this many bytes, or fail.
 #[derive(Clone, Copy)]
 enum Call {
     Moves(usize),
@@ -16,7 +16,7 @@ enum Call {
     Fails,
 }
 
-/// The next call of the list; after its end each moves all it can.
+/// The next call of the list; after its end a call moves all it can.
 fn next_call(calls: &mut &'static [Call]) -> io::Result<usize> {
     let all = *calls;
     match all {
@@ -69,7 +69,7 @@ impl Write for FakeWriter<'_> {
     }
 }
 
-/// Whether a fill of four bytes gives these and changes no other, and so many calls have failed.
+/// Whether a fill of four bytes gives these and changes no others, and this many calls have failed.
 fn gives(source: &mut FromRead<FakeReader>, bytes: &[u8], failures: u64) -> bool {
     let mut piece = [0; 4];
     let answer = source.fill(&mut piece);
@@ -80,7 +80,7 @@ fn gives(source: &mut FromRead<FakeReader>, bytes: &[u8], failures: u64) -> bool
         && source.failures() == failures
 }
 
-/// Whether a fill fails, and so many calls have failed.
+/// Whether a fill fails, and this many calls have failed.
 fn fails(source: &mut FromRead<FakeReader>, failures: u64) -> bool {
     let mut piece = [0; 4];
     source.fill(&mut piece) == Err(DeviceFault) && source.failures() == failures
@@ -106,7 +106,7 @@ fn a_reader_is_a_source(rt: HostRuntime) {
     assert!(rt; gives(&mut source, b"", 2));
 }
 
-/// Whether the picture is read from a reader that does these calls, with this answer.
+/// Whether reading the picture from a reader with these calls gives this answer.
 fn agrees(rt: &impl AllocGlobal, calls: &'static [Call], expected: &str) -> Result<bool, Fail> {
     let mut source = FromRead::new(FakeReader {
         rest: PICTURE,
@@ -171,13 +171,13 @@ fn a_block_hands_on_in_order(rt: HostRuntime) {
     for line in [b"one\n".as_slice(), b"two\n", b"", b"seventy\n", b"3\n"] {
         assert_eq!(rt; block.put(line, &mut sink), Ok(()));
     }
-    // what fits waits, and leaves in blocks
+    // what fits stays in the block
     assert_eq!(rt; sink.written(), b"one\ntwo\nseventy\n".as_slice());
     assert_eq!(rt; block.drain(&mut sink), Ok(()));
     assert_eq!(rt; sink.written(), b"one\ntwo\nseventy\n3\n".as_slice());
 }
 
-/// Whether a block whose sink fails at this call keeps what the sink left, and hands it on in order afterwards.
+/// Whether a block whose sink fails at this call keeps the bytes that the sink left, and writes them in order later.
 fn keeps_what_is_left(call: u64) -> bool {
     let mut room = [0; 16];
     let mut sink = SliceSink::new(&mut room, 3, Some(call));
@@ -196,7 +196,7 @@ fn keeps_what_is_left(call: u64) -> bool {
     sink.written() == b"sixeldec-vt".as_slice()
 }
 
-/// Whether the block can't put these bytes, and the sink has taken just so many of those that waited.
+/// Whether putting these bytes fails, and the sink has taken just these bytes of those in the block.
 fn is_refused(block: &mut Block<8>, sink: &mut SliceSink<'_>, taken: &[u8]) -> bool {
     block.put(b"dec-vt", sink) == Err(DeviceFault) && sink.written() == taken
 }

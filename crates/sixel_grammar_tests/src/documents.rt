@@ -1,4 +1,4 @@
-//! Documents and what they say, byte by byte and in pieces.
+//! Documents and their events, byte by byte and in pieces.
 
 use crate::words::{PICTURE, PICTURE_IN_WORDS, all_in_words, answer_in_words, in_words};
 use arrayvec::ArrayVec;
@@ -16,7 +16,7 @@ fn keep(events: &mut Vec<Placed>, placed: Option<Placed>) -> Result<(), Fail> {
     }
 }
 
-/// The events that a reader hands out for the bytes, and its fault or that of the end.
+/// The events that a reader completes from the bytes, and its fault, of a byte or of the end.
 fn fed(rt: &impl AllocGlobal, bytes: &[u8]) -> Result<(Vec<Placed>, Option<Fault>), Fail> {
     let mut reader = Reader::new();
     let mut events = Vec::new(rt.alloc());
@@ -36,10 +36,10 @@ fn fault(reason: Reason, place: u64) -> Option<Fault> {
     Some(Fault { reason, place })
 }
 
-/// A row: the bytes, the events in words, the reason and the place of the fault.
+/// A row: the bytes, the events as text, the reason and the place of the fault.
 type Row = (&'static [u8], &'static str, Option<(Reason, u64)>);
 
-/// Whether the bytes, fed one by one, have these events in words, and this fault or none.
+/// Whether the bytes, fed one by one, have these events, and this fault or none.
 fn agrees_fed(
     rt: &impl AllocGlobal,
     bytes: &[u8],
@@ -50,7 +50,7 @@ fn agrees_fed(
     Ok(all_in_words(rt, events.as_slice())?.as_str() == words && found == expected)
 }
 
-/// Whether the bytes, read in pieces of a size, are these events in words, or have this fault.
+/// Whether the bytes, read in pieces of this size, have these events, or this fault.
 fn agrees_read(
     rt: &impl AllocGlobal,
     bytes: &[u8],
@@ -68,7 +68,7 @@ fn agrees_read(
     }
 }
 
-/// Whether `feed`, and `read_all` in pieces of 1, 5 and 64 bytes, answer as the row says.
+/// Whether `feed`, and `read_all` in pieces of 1, 5 and 64 bytes, give what the row says.
 fn agrees(rt: &impl AllocGlobal, row: &Row) -> Result<bool, Fail> {
     let (bytes, words, refusal) = row;
     let expected = match refusal {
@@ -83,7 +83,7 @@ fn agrees(rt: &impl AllocGlobal, row: &Row) -> Result<bool, Fail> {
     agrees_fed(rt, bytes, words, expected)
 }
 
-/// Each row is so.
+/// Each row agrees.
 fn agree(rt: &(impl Abort + AllocGlobal), rows: &[Row]) -> Result<(), Fail> {
     for (index, row) in rows.iter().enumerate() {
         assert!(rt; agrees(rt, row)?, "row {index}");
@@ -149,7 +149,7 @@ const DOCUMENTS: &[Row] = &[
 
 const START: &str = "0 start false [0]";
 
-/// What is no document.
+/// Bytes that are no documents.
 const NO_DOCUMENTS: &[Row] = &[
     (b"", "", Some((Reason::Truncated, 0))),
     (b"x", "", Some((Reason::NotSixel, 0))),
@@ -197,12 +197,12 @@ const NO_DOCUMENTS: &[Row] = &[
     ),
 ];
 
-/// The documents. The proof of a test that calls it doesn't read the table.
+/// The documents. A function, so the proof of a test doesn't read the table.
 fn documents() -> &'static [Row] {
     DOCUMENTS
 }
 
-/// The bytes that are no document. The proof of a test that calls it doesn't read the table.
+/// The bytes that are no documents. A function, so the proof of a test doesn't read the table.
 fn no_documents() -> &'static [Row] {
     NO_DOCUMENTS
 }
@@ -255,8 +255,8 @@ fn plain_bytes_are_read_quickly(rt: HostRuntime) -> Result<(), Fail> {
             }
         }
     }
-    // Left to `feed` are the byte that ends the introducer, those that end a definition and a select, a next line, and
-    // the end.
+    // Left to `feed` are the last byte of the introducer, the bytes that end a definition and a select, a next line,
+    // and the end.
     assert_eq!(rt;
         read.as_str(),
         "..x..3 repeat 3 636 sixel 0..........x.xx.x"
@@ -265,7 +265,7 @@ fn plain_bytes_are_read_quickly(rt: HostRuntime) -> Result<(), Fail> {
     Ok(())
 }
 
-/// The bytes, so many times one byte, and bytes after it.
+/// A prefix, one byte `count` times, and the rest.
 fn filled(
     rt: &impl AllocGlobal,
     prefix: &[u8],
@@ -315,8 +315,8 @@ fn a_long_list_is_read(rt: HostRuntime) -> Result<(), Fail> {
     Ok(())
 }
 
-/// Feeds the bytes and then spaces up to the limit: what the reader answers at the end, at a byte more and at the end
-/// again.
+/// Feeds the bytes and then spaces up to the limit. Returns what the reader answers at the end, at one more byte, and
+/// at the end again.
 fn at_the_limit(
     rt: &impl Abort,
     bytes: &[u8],
@@ -397,7 +397,7 @@ fn smallest() -> [Placed; 6] {
     ]
 }
 
-/// Its events whole, where memory is ample.
+/// The smallest picture has these events, if no allocation fails.
 #[test]
 fn the_smallest_picture_has_six_events(rt: HostRuntime) {
     let mut source = SliceSource::new(PICTURE, 64, None);

@@ -1,4 +1,4 @@
-//! Each byte value after each thing that can be open, by the table of what may follow.
+//! Each byte value after each open thing, against the table of what may follow.
 
 use sixel_grammar::{Fault, Reader, Reason};
 use std::process::Abort;
@@ -13,7 +13,7 @@ enum Bytes {
     /// The digits from `0` to `5`.
     LowDigits,
     Data,
-    /// What may stand where no command is open.
+    /// What may come while no command is open.
     Body,
 }
 
@@ -33,8 +33,8 @@ fn is_body(byte: u8) -> bool {
     matches!(byte, 0x09 | 0x0a | 0x0d | 0x1b | 0x20..=0x24 | 0x2d | 0x3f..=0x7e | 0x9c)
 }
 
-/// What is open, shown by bytes that open it: which bytes may follow, which others have a reason of their own, and the
-/// reason of the rest.
+/// Something open, shown by bytes that open it: the bytes that may follow, others with a reason of their own, and the
+/// reason for all others.
 #[derive(Drop)]
 struct Open {
     bytes: &'static [u8],
@@ -43,7 +43,7 @@ struct Open {
     reason: Reason,
 }
 
-/// Why the byte can't follow; none where it may.
+/// Why the byte can't follow; `None` if it can.
 fn expected(open: &Open, byte: u8) -> Option<Reason> {
     if open.allowed.iter().any(|bytes| is_in(*bytes, byte)) {
         return None;
@@ -56,7 +56,7 @@ fn expected(open: &Open, byte: u8) -> Option<Reason> {
     Some(open.reason)
 }
 
-/// Feeds the byte after those that open something; the place of that byte is their count.
+/// Feeds the byte after those that open something; its offset is their number.
 fn judge(rt: &impl Abort, open: &Open, byte: u8) {
     let mut reader = Reader::new();
     let mut place: u64 = 0;

@@ -1,4 +1,4 @@
-//! How often `read_all` fills from its source.
+//! How often `read_all` calls its source.
 
 use crate::words::{PICTURE, PICTURE_IN_WORDS, answer_in_words};
 use sixel_grammar::read_all;
@@ -20,10 +20,10 @@ fn agrees_after(
     Ok(answer_in_words(rt, &answer)?.as_str() == expected && source.calls.fills == fills)
 }
 
-/// CAN at 12, in the middle of 26 bytes.
+/// CAN at offset 12, in the middle of 26 bytes.
 const FAULTY: &[u8] = b"\x1bPq\"1;1;1;1#\x18;2;0;0;0#0@\x1b\\";
 
-/// So many fills give all bytes, and one more finds the end; each of them fails in turn, and then none does.
+/// All but one of the fills give the bytes, and the last finds the end; each fails in turn, and then none.
 #[test]
 fn each_fill_fails_in_turn(rt: HostRuntime) -> Result<(), Fail> {
     for (piece, fills) in [(1, 27), (5, 7), (64, 2)] {
@@ -42,7 +42,7 @@ fn each_fill_fails_in_turn(rt: HostRuntime) -> Result<(), Fail> {
     Ok(())
 }
 
-/// Whether reading the bytes has this fault after so many fills, where the next one would fail.
+/// Whether reading the bytes has this fault after this many fills, with a failure at the next one.
 fn ends_after(
     rt: &impl AllocGlobal,
     bytes: &[u8],
@@ -53,7 +53,7 @@ fn ends_after(
     agrees_after(rt, bytes, piece, Some(fills), fault, fills)
 }
 
-/// The piece that holds the fault is the last one, also where the next fill would fail.
+/// The piece with the fault is the last one that is read, even if the next fill would fail.
 #[test]
 fn a_source_is_left_alone_after_a_fault(rt: HostRuntime) -> Result<(), Fail> {
     for (piece, fills) in [(1, 13), (2, 7), (5, 3), (12, 2), (13, 1), (64, 1)] {
@@ -63,7 +63,7 @@ fn a_source_is_left_alone_after_a_fault(rt: HostRuntime) -> Result<(), Fail> {
     Ok(())
 }
 
-/// At the end there is one fill more.
+/// One more fill finds the end.
 #[test]
 fn a_source_is_left_alone_after_its_end(rt: HostRuntime) -> Result<(), Fail> {
     for (piece, fills) in [(1, 26), (5, 6), (24, 3), (25, 2), (64, 2)] {

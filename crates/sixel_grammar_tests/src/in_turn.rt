@@ -1,9 +1,9 @@
-//! Each byte of the smallest picture in turn: the end before it, and a byte that can't come in its place.
+//! Each byte of the smallest picture in turn: the input ends before it, or another byte comes that isn't allowed there.
 
 use crate::words::PICTURE;
 use sixel_grammar::{Fault, Reader, Reason};
 
-/// Why CAN (18) can't stand at the place.
+/// Why CAN (byte 18) isn't allowed at this offset.
 fn reason_at(place: u64) -> Reason {
     match place {
         0..=2 => Reason::NotSixel,
@@ -13,7 +13,7 @@ fn reason_at(place: u64) -> Reason {
     }
 }
 
-/// Why the prefix of the picture that has so many bytes is no document; none where it is the whole picture.
+/// Why the first `place` bytes of the picture are no document; `Ok` for all of them.
 fn end_at(place: u64) -> Result<(), Fault> {
     let reason = Reason::Truncated;
     if place < 26 {
@@ -23,7 +23,7 @@ fn end_at(place: u64) -> Result<(), Fault> {
     }
 }
 
-/// Whether the prefix of the picture is read, its end has its answer, and CAN after it is a fault that stays.
+/// Whether the prefix of the picture is read, its end gives this answer, and CAN after it is a fault that stays.
 fn is_refused_after(prefix: &[u8]) -> bool {
     let mut reader = Reader::new();
     if prefix.iter().any(|byte| reader.feed(*byte).is_err()) {

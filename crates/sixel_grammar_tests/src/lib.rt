@@ -1,4 +1,4 @@
-//! The tests of `sixel_grammar`: that its definitions are the format's, by its tables and worked documents.
+//! Tests of `sixel_grammar`: its definitions agree with the format, by tables and worked documents.
 #![tactic(auto)]
 
 #[cfg(test)]

@@ -1,4 +1,4 @@
-//! The fixed spelling, and what can be spelled.
+//! The fixed spelling, and which events it can spell.
 
 use arrayvec::ArrayVec;
 use sixel_grammar::{Command, Event, write_event};

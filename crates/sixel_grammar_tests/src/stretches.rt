@@ -1,8 +1,8 @@
-//! Stretches of data bytes that are read at once.
+//! Stretches of data bytes that are read in one step.
 
 use sixel_grammar::{Reader, Stretch};
 
-/// What a reader that was fed this prefix makes of the piece; `None` where it refuses the prefix.
+/// The stretch that a reader finds in the piece after this prefix; `None` if it refuses the prefix.
 fn stretch_after(prefix: &[u8], piece: &[u8]) -> Option<Stretch> {
     let mut reader = Reader::new();
     if prefix.iter().any(|byte| reader.feed(*byte).is_err()) {
@@ -11,12 +11,12 @@ fn stretch_after(prefix: &[u8], piece: &[u8]) -> Option<Stretch> {
     Some(reader.feed_stretch(piece))
 }
 
-/// Whether the stretch begins at the place, and has so many bytes.
+/// Whether the stretch begins at this offset, and has this many bytes.
 fn is_stretch(prefix: &[u8], piece: &[u8], place: u64, count: usize) -> bool {
     stretch_after(prefix, piece) == Some(Stretch { place, count })
 }
 
-/// A stretch ends before the first byte that is no data byte, and at the piece's end.
+/// A stretch ends before the first byte that isn't data, or at the end of the piece.
 #[test]
 fn data_bytes_after_each_other(rt: HostRuntime) {
     assert!(rt; is_stretch(b"\x1bPq", b"?~@", 3, 3));
@@ -46,7 +46,7 @@ fn data_bytes_after_each_other(rt: HostRuntime) {
     );
 }
 
-/// None is read where a command is open, before the picture, and after it.
+/// There is no stretch while a command is open, before the picture, and after it.
 #[test]
 fn no_sixels_where_none_may_come(rt: HostRuntime) {
     assert!(rt; is_stretch(b"", b"~~", 0, 0));

@@ -1,4 +1,4 @@
-//! Events and answers in words.
+//! Events and answers as text.
 
 use arrayvec::ArrayVec;
 use sixel_grammar::{Command, Event, Fault, InputFault, Placed};
@@ -7,7 +7,7 @@ use std::test::Fail;
 /// The smallest portable picture, 26 bytes.
 pub(crate) const PICTURE: &[u8] = b"\x1bPq\"1;1;1;1#0;2;0;0;0#0@\x1b\\";
 
-/// What it says.
+/// Its events, as text.
 pub(crate) const PICTURE_IN_WORDS: &str =
     "0 start false [0], 3 raster 1 1 1 1, 11 define 0 2 0 0 0, 21 select 0, 23 sixel 1, 24 finish false";
 
@@ -50,7 +50,7 @@ fn command_in_words(rt: &impl AllocGlobal, command: &Command) -> Result<String, 
     Ok(text)
 }
 
-/// One event in words: its place, its name, its numbers.
+/// One event as text: its place, its name, its numbers.
 pub(crate) fn in_words(rt: &impl AllocGlobal, placed: &Placed) -> Result<String, Fail> {
     let alloc = rt.alloc();
     let place = placed.place;
@@ -69,7 +69,7 @@ pub(crate) fn in_words(rt: &impl AllocGlobal, placed: &Placed) -> Result<String,
     Ok(text)
 }
 
-/// All of them, with `, ` between two.
+/// Several events, separated by `, `.
 pub(crate) fn all_in_words(rt: &impl AllocGlobal, events: &[Placed]) -> Result<String, Fail> {
     let mut text = String::new(rt.alloc());
     for placed in events {
@@ -81,7 +81,7 @@ pub(crate) fn all_in_words(rt: &impl AllocGlobal, events: &[Placed]) -> Result<S
     Ok(text)
 }
 
-/// The events, or why there are none.
+/// The events as text, or the fault.
 pub(crate) fn answer_in_words(
     rt: &impl AllocGlobal,
     answer: &Result<Vec<Placed>, InputFault>,

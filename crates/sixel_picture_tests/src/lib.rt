@@ -1,4 +1,4 @@
-//! The tests of `sixel_picture`: worked examples of colours, pictures, planes and picture files.
+//! Tests of `sixel_picture`: worked examples of colours, pictures, planes and PPM files.
 #![tactic(auto)]
 
 #[cfg(test)]

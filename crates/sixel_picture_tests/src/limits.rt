@@ -1,4 +1,4 @@
-//! Reading picture files at the limits: long headers, long numbers, large pictures.
+//! Reading PPM files at the limits: long headers, long numbers, large pictures.
 
 use crate::reading::{agrees, fault, format, reads};
 use sixel_model::Parts;
@@ -6,7 +6,7 @@ use sixel_ppm::{PpmFault, PpmReason};
 use std::alloc::{AllocError, Global};
 use std::test::Fail;
 
-/// A prefix, so many bytes of filler, and the rest.
+/// A prefix, one byte `count` times, and the rest.
 fn filled(
     alloc: Global,
     prefix: &[u8],
@@ -22,7 +22,7 @@ fn filled(
     Ok(bytes)
 }
 
-/// Whether `P6` with so many bytes of filler and the rest of a file has this fault, or none.
+/// Whether `P6`, filler of this length and the rest of a file have this fault, or none.
 fn header_agrees(
     alloc: Global,
     filler: u8,
@@ -66,7 +66,7 @@ fn headers_have_a_limit(rt: HostRuntime) -> Result<(), Fail> {
     Ok(())
 }
 
-/// Whether `P6 ` with so many digits and the rest of a file has this fault, or none.
+/// Whether `P6 `, this many digits and the rest of a file have this fault, or none.
 fn number_agrees(
     alloc: Global,
     digit: u8,
@@ -95,7 +95,7 @@ fn long_numbers_do_not_wrap(rt: HostRuntime) -> Result<(), Fail> {
     Ok(())
 }
 
-/// The longest header and 2,048 pixels by 16 without the last one: 163,837 bytes. They have 16 colours.
+/// The longest header, and 2,048 by 16 pixels without the last one, in 16 colours: 163,837 bytes.
 fn wide(alloc: Global) -> Result<Vec<u8>, AllocError> {
     let mut bytes = filled(alloc, b"P6", b' ', 65_524, b"2048 16 2\n")?;
     for colour in 0u8..16 {
@@ -105,7 +105,7 @@ fn wide(alloc: Global) -> Result<Vec<u8>, AllocError> {
     Ok(bytes)
 }
 
-/// Whether that picture with these bytes at its end has this fault, or none.
+/// Whether that picture, with these bytes at its end, has this fault, or none.
 fn wide_agrees(alloc: Global, end: &[u8], expected: Option<PpmFault>) -> Result<bool, AllocError> {
     let mut bytes = wide(alloc)?;
     bytes.extend_from_slice(end)?;
@@ -133,7 +133,7 @@ fn a_wide_picture_is_read_or_refused_at_its_end(rt: HostRuntime) -> Result<(), F
     Ok(())
 }
 
-/// The largest picture: black pixels, and a red one at the end.
+/// The largest picture: black pixels, and a red one as the last.
 #[test]
 fn the_largest_picture_is_read(rt: HostRuntime) -> Result<(), Fail> {
     let bytes = filled(

@@ -1,10 +1,10 @@
-//! The worked examples of colours, palettes and pictures.
+//! Worked examples of colours, palettes and pictures.
 
 use sixel_model::{Colour, Palette, Parts, Picture, PictureFault, PictureReason, Profile};
 use std::alloc::{AllocError, Global};
 use std::test::Fail;
 
-/// The parts of a colour, where there is one.
+/// The parts of a colour, if there is one.
 pub(crate) fn parts_of(colour: Option<Colour>) -> Option<Parts> {
     match colour {
         Some(colour) => Some(colour.parts()),
@@ -29,7 +29,7 @@ fn colours_are_in_range(rt: HostRuntime) -> Result<(), Fail> {
     Ok(())
 }
 
-/// Gives a register a colour, where there are both.
+/// Gives a register a colour, if both exist.
 pub(crate) fn set(palette: &mut Palette, register: u8, colour: Option<Colour>) {
     if let Some(colour) = colour
         && (register as u16) < palette.profile().count()
@@ -38,7 +38,7 @@ pub(crate) fn set(palette: &mut Palette, register: u8, colour: Option<Colour>) {
     }
 }
 
-/// Whether the register has the colour, and each other one none.
+/// Whether the register has this colour, and no other has one.
 fn holds_alone(palette: &Palette, register: u8, colour: Option<Colour>) -> bool {
     (0..=255u8).all(|other| palette.get(other) == if other == register { colour } else { None })
 }
@@ -49,7 +49,7 @@ fn profiles_have_16_and_256_registers(rt: HostRuntime) {
     assert!(rt; Profile::Registers256.count() == 256);
 }
 
-/// Whether a new palette of the profile is of it, and has no colour.
+/// Whether a new palette of the profile has that profile, and no colour.
 fn starts_empty(profile: Profile) -> bool {
     let palette = Palette::new(profile);
     palette.profile() == profile && holds_alone(&palette, 0, None)
@@ -62,7 +62,7 @@ fn palette_with(profile: Profile, register: u8) -> Palette {
     palette
 }
 
-/// Whether a palette of the profile holds a colour in its last register alone.
+/// Whether a palette of the profile holds a colour only in its last register.
 fn keeps_its_last(profile: Profile, last: u8) -> bool {
     let palette = palette_with(profile, last);
     palette.get(last).is_some() && holds_alone(&palette, last, Colour::rgb(20, 40, 60))
@@ -89,8 +89,8 @@ fn hands_back(fault: &PictureFault, palette: &Palette, registers: &[u8]) -> bool
     fault.palette == *palette && fault.registers.as_slice() == registers
 }
 
-/// Why the parts with a palette of the profile in which registers 0 and 3 are red and blue make no picture, if they
-/// come back as they were.
+/// Why these registers, with a palette of the profile in which registers 0 and 3 are red and blue, make no picture;
+/// `None` if they do, or if the parts don't come back unchanged.
 fn reason_of(
     alloc: Global,
     profile: Profile,
@@ -127,7 +127,7 @@ fn pictures_name_the_first_reason(rt: HostRuntime) -> Result<(), Fail> {
     Ok(())
 }
 
-/// No register is above those of the wide profile, so what is wanting there is a colour.
+/// No register is above those of the wide profile, so there only a colour can be missing.
 #[test]
 fn wide_pictures_have_each_register(rt: HostRuntime) -> Result<(), Fail> {
     for (width, height, registers, expected) in [
@@ -141,7 +141,7 @@ fn wide_pictures_have_each_register(rt: HostRuntime) -> Result<(), Fail> {
     Ok(())
 }
 
-/// Whether an empty palette of the profile is refused for the colour of register 3.
+/// Whether an empty palette of the profile is refused because register 3 has no colour.
 fn is_without_colour(alloc: Global, profile: Profile) -> Result<bool, AllocError> {
     let made = Picture::new(1, 1, Palette::new(profile), [3].to_vec(alloc)?);
     Ok(match made {
@@ -157,7 +157,7 @@ fn a_picture_wants_a_colour_for_each_register(rt: HostRuntime) -> Result<(), Fai
     Ok(())
 }
 
-/// A picture of these registers in the palette.
+/// A picture with these registers and this palette.
 pub(crate) fn picture_of(
     alloc: Global,
     width: u32,
@@ -169,7 +169,7 @@ pub(crate) fn picture_of(
     Ok(Picture::new(width, height, palette, registers).or(Err("a picture"))?)
 }
 
-/// The register of a pixel, where it lies in the picture.
+/// The register of a pixel, if it lies in the picture.
 pub(crate) fn register_of(picture: &Picture, x: u32, y: u32) -> Option<u8> {
     let (width, height) = (picture.width(), picture.height());
     if x >= width || y >= height {

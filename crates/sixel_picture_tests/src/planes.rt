@@ -1,4 +1,4 @@
-//! Both planes are given the same runs, and show the same pixels.
+//! Both planes get the same runs, and have the same pixels.
 
 ghost use Rattle.std.specs.Prelude.{◌≡◌, ◌<◌, ◌≤◌, ◌+◌, ◌*◌, ℕ, IsTrue, length, slice_index};
 ghost use Rattle.sixel_grammar.specs.Bytes.{is_data};
@@ -19,7 +19,7 @@ struct Run {
     register: u8,
 }
 
-/// Whether the rows of the set bits lie above `height`.
+/// Whether the rows of the set bits are above `height`.
 fn rows_fit(bits: u8, band: u32, height: u32) -> bool
     requires { band < 1000 }
     ensures { IsTrue result → (k : ℕ) → k < 6 → bit_at bits k ≡ 1 → 6 * band + k < height }
@@ -32,7 +32,7 @@ fn rows_fit(bits: u8, band: u32, height: u32) -> bool
     true
 }
 
-/// Paints a run, or tells that it doesn't lie in the plane.
+/// Paints a run, if it lies in the plane. Returns whether it does.
 fn paint<P: Plane>(plane: &mut P, run: Run) -> bool {
     let Run {
         column,
@@ -51,7 +51,7 @@ fn paint<P: Plane>(plane: &mut P, run: Run) -> bool {
     false
 }
 
-/// The register of a pixel, where it lies in the plane and isn't blank.
+/// The register of a pixel, if it lies in the plane and isn't blank.
 fn pixel<P: Plane>(plane: &P, x: u32, y: u32) -> Option<u8> {
     if x < plane.width() && y < plane.height() {
         plane.register_at(x, y)
@@ -60,12 +60,12 @@ fn pixel<P: Plane>(plane: &P, x: u32, y: u32) -> Option<u8> {
     }
 }
 
-/// Whether the planes show the same pixel there.
+/// Whether the planes have the same pixel there.
 fn is_same_pixel<P: Plane, Q: Plane>(one: &P, other: &Q, x: u32, y: u32) -> bool {
     pixel(one, x, y) == pixel(other, x, y)
 }
 
-/// Whether the planes show the same in these columns of a row.
+/// Whether the planes have the same pixels in these columns of a row.
 fn is_same_row<P: Plane, Q: Plane>(one: &P, other: &Q, columns: u32, row: u32) -> bool {
     for column in 0..columns {
         if !is_same_pixel(one, other, column, row) {
@@ -75,7 +75,7 @@ fn is_same_row<P: Plane, Q: Plane>(one: &P, other: &Q, columns: u32, row: u32) -
     true
 }
 
-/// Whether the planes show the same pixels.
+/// Whether the planes have the same pixels.
 fn is_same<P: Plane, Q: Plane>(one: &P, other: &Q) -> bool {
     let (width, height) = (one.width(), one.height());
     for row in 0..height {
@@ -86,12 +86,12 @@ fn is_same<P: Plane, Q: Plane>(one: &P, other: &Q) -> bool {
     (width, height) == (other.width(), other.height()) && one.first_blank() == other.first_blank()
 }
 
-/// Paints a run in both planes, and tells whether they took it and show the same.
+/// Paints a run in both planes. Returns whether both took it and have the same pixels.
 fn paint_both(bytes: &mut BytePlane, bands: &mut BandPlane, run: Run) -> bool {
     paint(bytes, run) && paint(bands, run) && is_same(bytes, bands)
 }
 
-/// Nine runs that leave a plane of nine rows without a blank pixel. Some overlap, some have no bits or no columns.
+/// Nine runs that leave a plane of nine rows without a blank pixel. Some overlap; some have no bits or no columns.
 fn run_at(width: u32, index: u32) -> Run
     requires { 0 < width }
 {
@@ -135,7 +135,7 @@ fn both_planes_show_the_same(rt: HostRuntime) -> Result<(), Fail> {
     Ok(())
 }
 
-/// Whether so many bytes at the beginning are data bytes.
+/// Whether the first `count` bytes are data bytes.
 fn are_sixels(bytes: &[u8], count: usize) -> bool
     requires { count ≤ length bytes.now }
     ensures { IsTrue result → (j : ℕ) → j < count → IsTrue (is_data (slice_index bytes.now j)) }
@@ -148,7 +148,7 @@ fn are_sixels(bytes: &[u8], count: usize) -> bool
     true
 }
 
-/// Paints a stretch of so many bytes in a register at once; whether the plane could.
+/// Paints a stretch of `count` bytes in a register, in one step. Returns whether the plane could.
 fn stretch(plane: &mut BandPlane, column: u32, bytes: &[u8], count: u32, register: u8) -> bool {
     let width = plane.width();
     let is_inside = column <= width && count <= width - column && plane.height() >= 6;
@@ -159,7 +159,7 @@ fn stretch(plane: &mut BandPlane, column: u32, bytes: &[u8], count: u32, registe
         && plane.try_paint_stretch(column, 0, bytes, count, register)
 }
 
-/// Paints so many columns of the bytes in a register, one by one.
+/// Paints `count` columns of the bytes in a register, one by one.
 fn columns(plane: &mut BytePlane, column: u32, bytes: &[u8], count: u32, register: u8) -> bool {
     for (index, byte) in bytes.iter().take(count as usize).enumerate() {
         let run = Run {
@@ -176,11 +176,11 @@ fn columns(plane: &mut BytePlane, column: u32, bytes: &[u8], count: u32, registe
     true
 }
 
-/// Each of the 64 data bytes, in an order in which neighbours differ in many bits, and 16 bytes after them.
+/// Each of the 64 data bytes, ordered so that neighbours differ in many bits, and 16 bytes after them.
 const SIXELS: &[u8] =
     b"?~@}A|B{CzDyExFwGvHuItJsKrLqMpNoOnPmQlRkSjTiUhVgWfXeYdZc[b\\a]`^_~~~~~~~~~~~~~~~~";
 
-/// A stretch is painted as its columns one by one, with whole groups of 16 and without.
+/// A stretch paints the same as its columns one by one, with whole groups of 16 and without.
 #[test]
 fn stretches_are_their_columns(rt: HostRuntime) -> Result<(), Fail> {
     for (column, count) in [
@@ -210,7 +210,7 @@ fn stretches_are_their_columns(rt: HostRuntime) -> Result<(), Fail> {
     Ok(())
 }
 
-/// Without 16 bytes after it, or columns of the plane, a stretch isn't painted at once, and nothing changes.
+/// Unless 16 more bytes and 16 more columns of the plane follow it, a stretch isn't painted, and nothing changes.
 #[test]
 fn stretches_want_room_for_lanes(rt: HostRuntime) -> Result<(), Fail> {
     let mut plane = BandPlane::blank(rt.alloc(), 40, 6)?;
@@ -244,7 +244,7 @@ fn the_columns_after_whole_groups_are_looked_at(rt: HostRuntime) -> Result<(), F
     Ok(())
 }
 
-/// Whether the plane has this size, and no pixel with a register.
+/// Whether the plane has this size, and only blank pixels.
 fn is_blank<P: Plane>(plane: &P, width: u32, height: u32) -> bool {
     for y in 0..height {
         for x in 0..width {
@@ -256,7 +256,7 @@ fn is_blank<P: Plane>(plane: &P, width: u32, height: u32) -> bool {
     (plane.width(), plane.height()) == (width, height) && plane.first_blank() == Some((0, 0))
 }
 
-/// Whether a new plane is blank; `None` where a growth was refused.
+/// Whether a new plane is blank; `None` if an allocation failed.
 fn is_made_blank<P: Plane>(alloc: Global, width: u32, height: u32) -> Option<bool> {
     if width < 1 || width > 2048 || height < 1 || height > 2048 {
         return Some(false);
@@ -282,7 +282,7 @@ fn planes_of_any_size_are_made_blank(rt: HostRuntime) {
     }
 }
 
-/// Whether one of two planes is made at least, and each that is made is blank.
+/// Whether at least one of two planes is made, and each that is made is blank.
 fn one_is_blank<P: Plane>(alloc: Global) -> bool {
     match (
         is_made_blank::<P>(alloc, 3, 7),
@@ -294,19 +294,19 @@ fn one_is_blank<P: Plane>(alloc: Global) -> bool {
     }
 }
 
-/// Under `rt try --test --fail-alloc N` the N-th growth is refused: those of the first plane are 1 and 2.
+/// `rt try --test --fail-alloc N` makes allocation N fail: 1 and 2 are those of the first plane.
 #[test]
 fn a_refused_growth_is_answered(rt: HostRuntime) {
     assert!(rt; one_is_blank::<BytePlane>(rt.alloc()));
 }
 
-/// Under `rt try --test --fail-alloc N` the N-th growth is refused: those of the first plane are 1 and 2.
+/// `rt try --test --fail-alloc N` makes allocation N fail: 1 and 2 are those of the first plane.
 #[test]
 fn a_refused_growth_of_bands_is_answered(rt: HostRuntime) {
     assert!(rt; one_is_blank::<BandPlane>(rt.alloc()));
 }
 
-/// Whether the plane takes the run, and then has this first blank pixel, and shows these two pixels.
+/// Whether the plane takes the run, and then has this first blank pixel and these two pixels.
 fn paints<P: Plane>(
     plane: &mut P,
     run: Run,
@@ -318,7 +318,7 @@ fn paints<P: Plane>(
         && (pixel(plane, 1, 5), pixel(plane, 0, 6)) == shown
 }
 
-/// Whether a plane of 2 by 7 pixels is painted as it should, until no pixel is blank.
+/// Whether runs paint a plane of 2 by 7 pixels as expected, until no pixel is blank.
 fn is_filled<P: Plane>(plane: &mut P) -> bool {
     if (plane.width(), plane.height()) != (2, 7) || plane.first_blank() != Some((0, 0)) {
         return false;
@@ -342,10 +342,10 @@ fn is_filled<P: Plane>(plane: &mut P) -> bool {
     true
 }
 
-/// The registers of a plane that is filled so.
+/// The registers of that plane at the end.
 const FILLED: [u8; 14] = [3, 3, 3, 3, 3, 3, 3, 3, 3, 3, 3, 3, 4, 4];
 
-/// Whether a plane has these registers, once it is filled.
+/// Whether a plane has these registers after those runs.
 fn is_painted_by_runs<P: Plane>(alloc: Global) -> Result<bool, AllocError> {
     let mut plane = P::blank(alloc, 2, 7)?;
     if !is_filled(&mut plane) || plane.first_blank().is_some() {
@@ -354,7 +354,7 @@ fn is_painted_by_runs<P: Plane>(alloc: Global) -> Result<bool, AllocError> {
     Ok(plane.into_registers().as_slice() == FILLED.as_slice())
 }
 
-/// Whether a plane of one pixel takes register 255, the greatest, as any other.
+/// Whether a plane of one pixel takes register 255, the greatest, like any other.
 fn takes_the_greatest_register<P: Plane>(alloc: Global) -> Result<bool, AllocError> {
     let mut plane = P::blank(alloc, 1, 1)?;
     let run = Run {

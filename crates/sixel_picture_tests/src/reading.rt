@@ -1,4 +1,4 @@
-//! Reading picture files: worked examples, each reason at its first and last place, filler, failing sources.
+//! Reading PPM files: worked examples, each reason at its first and last offset, filler, failing sources.
 
 ghost use Rattle.std.specs.Prelude.{◌<◌, None};
 
@@ -22,7 +22,7 @@ fn read(alloc: Global, bytes: &[u8], piece: usize) -> Result<Picture, PpmFault>
     )
 }
 
-/// The fault of the bytes in pieces of a size.
+/// The fault of the bytes, read in pieces of this size.
 pub(crate) fn fault(alloc: Global, bytes: &[u8], piece: usize) -> Option<PpmFault>
     requires { 0 < piece }
 {
@@ -36,7 +36,7 @@ pub(crate) fn format(reason: PpmReason, place: u64) -> Option<PpmFault> {
     Some(PpmFault::Format { reason, place })
 }
 
-/// Whether the bytes have this fault, or none, in pieces of up to so many bytes and in one piece.
+/// Whether the bytes have this fault, or none, in pieces of each size up to `pieces` bytes and in one piece.
 pub(crate) fn agrees(
     alloc: Global,
     bytes: &[u8],
@@ -69,7 +69,7 @@ fn has_registers(picture: &Picture, registers: &[u8]) -> bool {
     rest.next().is_none()
 }
 
-/// Whether the picture has this size, these registers and, from register 0 on, these colours alone.
+/// Whether the picture has this size, these registers and, from register 0 on, only these colours.
 fn is_picture(
     picture: &Picture,
     (width, height): (u32, u32),
@@ -84,7 +84,7 @@ fn is_picture(
     picture.width() == width && picture.height() == height && has_registers(picture, registers)
 }
 
-/// Whether the bytes, in pieces of a size, are this picture.
+/// Whether the bytes, read in pieces of this size, are this picture.
 pub(crate) fn reads(
     alloc: Global,
     bytes: &[u8],
@@ -101,7 +101,7 @@ pub(crate) fn reads(
     }
 }
 
-/// A row: the bytes, the reason of their fault, its place.
+/// A row: the bytes, the reason of their fault, and its offset.
 type Row = (&'static [u8], PpmReason, u64);
 
 const FAULTS: &[Row] = &[
@@ -134,7 +134,7 @@ const FAULTS: &[Row] = &[
     (b"P6 1 1 100\n\x00\x00\x00\xff\xff", PpmReason::Trailing, 14),
 ];
 
-/// Files with a fault. The proof of a test that calls it doesn't read the table.
+/// Files with a fault. A function, so the proof of a test doesn't read the table.
 fn faults() -> &'static [Row] {
     FAULTS
 }
@@ -147,7 +147,7 @@ fn faults_have_reasons_and_places(rt: HostRuntime) {
     }
 }
 
-/// A header and so many pixels (i, 0, 0) after it.
+/// A header, and `count` pixels (i, 0, 0).
 fn reds(alloc: Global, header: &[u8], count: u8) -> Result<Vec<u8>, AllocError> {
     let mut bytes = header.to_vec(alloc)?;
     for red in 0..count {
@@ -156,7 +156,7 @@ fn reds(alloc: Global, header: &[u8], count: u8) -> Result<Vec<u8>, AllocError> 
     Ok(bytes)
 }
 
-/// The header and so many pixels side by side of which no two have one colour.
+/// The header, and `count` pixels in one row, all of different colours.
 fn different(alloc: Global, header: &[u8], count: u16) -> Result<Vec<u8>, AllocError> {
     let mut bytes = header.to_vec(alloc)?;
     for pixel in 0..count {
@@ -165,7 +165,7 @@ fn different(alloc: Global, header: &[u8], count: u16) -> Result<Vec<u8>, AllocE
     Ok(bytes)
 }
 
-/// What reading the bytes answers in a profile: the fault, or else how many registers have a colour of their own.
+/// The result of reading the bytes in a profile: the fault, or how many registers have a colour.
 fn count_of(alloc: Global, profile: Profile, bytes: &[u8]) -> Result<usize, PpmFault> {
     let picture = read_ppm(alloc, profile, &mut SliceSource::new(bytes, 100, None))?;
     Ok(
@@ -209,7 +209,7 @@ fn a_seventeenth_colour_is_refused(rt: HostRuntime) -> Result<(), Fail> {
         reads(rt.alloc(), &bytes, 65_536, (16, 1), &registers, &colours),
         "each has its own register"
     );
-    // Another colour after the last one of 16: the samples are judged first.
+    // A 17th colour whose sample is too large: the samples are judged first.
     let mut bytes = reds(rt.alloc(), b"P6 17 1 100\n", 16)?;
     bytes.extend_from_slice(&[50, 0, 101])?;
     let expected = format(PpmReason::Sample, 62);
@@ -229,7 +229,7 @@ fn samples_become_percentages(rt: HostRuntime) -> Result<(), Fail> {
 
 #[test]
 fn colours_are_numbered_as_they_are_first_seen(rt: HostRuntime) -> Result<(), Fail> {
-    // 9 and 10 of 200 are 5 percent.
+    // 9 and 10 of 200 become 5 percent.
     let bytes =
         b"P6 3 2 200\n\x09\x09\x09\xc8\x00\x00\x0a\x0a\x09\xc8\x00\x00\x00\x00\x00\x09\x0a\x09";
     let colours = [
@@ -263,7 +263,7 @@ fn filler_stands_wherever_it_may(rt: HostRuntime) -> Result<(), Fail> {
         assert!(rt; agrees(rt.alloc(), bytes, 24, None));
         assert!(rt; reads(rt.alloc(), bytes, 65_536, (1, 1), &[0], &magenta));
     }
-    // One whitespace byte ends the header: the next one is a sample.
+    // One whitespace byte ends the header; the next byte is a sample.
     let bytes = b"P6 1 1 100\n \x00\x00";
     let dark = [Parts::Rgb(32, 0, 0)];
     assert!(rt; reads(rt.alloc(), bytes, 65_536, (1, 1), &[0], &dark));
@@ -283,7 +283,7 @@ fn prefixes_are_short(rt: HostRuntime) -> Result<(), Fail> {
     Ok(())
 }
 
-/// How reading five red pixels ends where one call of the source fails, and how many calls failed.
+/// How reading five red pixels ends if one call of the source fails, and how many calls failed.
 fn read_failing(alloc: Global, piece: usize, fail_at: u64) -> (Option<PpmFault>, u64)
     requires { 0 < piece }
 {
@@ -295,7 +295,7 @@ fn read_failing(alloc: Global, piece: usize, fail_at: u64) -> (Option<PpmFault>,
     (fault, source.failures())
 }
 
-/// Whether each call of the source that fails is named. The calls give the bytes, and one more gives none.
+/// Whether a failure of each call of the source is reported. The calls give the bytes, and the last one finds the end.
 fn fails_in_turn(alloc: Global, piece: usize) -> bool
     requires { 0 < piece }
 {
@@ -345,7 +345,7 @@ fn a_failed_source_is_called_no_more(rt: HostRuntime) -> Result<(), Fail> {
     Ok(())
 }
 
-/// Whether five red pixels are read as they are; `None` where a growth was refused.
+/// Whether five red pixels are read correctly; `None` if an allocation failed.
 fn reads_red(alloc: Global) -> Option<bool> {
     match read(alloc, RED, 65_536) {
         Ok(picture) => {
@@ -356,7 +356,7 @@ fn reads_red(alloc: Global) -> Option<bool> {
     }
 }
 
-/// `rt try --test --fail-alloc 1` refuses the only growth of the first reading. A header at fault comes before it.
+/// `rt try --test --fail-alloc 1` makes the only allocation of the first reading fail. A bad header comes before it.
 #[test]
 fn a_refused_growth_is_out_of_memory(rt: HostRuntime) {
     let size = format(PpmReason::Size, 3);

@@ -1,4 +1,4 @@
-//! Picture files that are written: worked examples, and sinks that fail.
+//! Writing PPM files: worked examples, and sinks that fail.
 
 ghost use Rattle.std.specs.Prelude.{None};
 
@@ -15,7 +15,7 @@ const TWO_PIXELS: &[u8] = b"P6\n2 1\n100\n\x64\x00\x00\x00\x00\x64";
 /// The PPM of a black pixel.
 const BLACK: &[u8] = b"P6\n1 1\n100\n\x00\x00\x00";
 
-/// Whether the picture is written so: the answer, and what a sink has that takes so many bytes a call and fails at one.
+/// Whether writing the picture gives this answer and this text, into a sink with a limit a call and a failing call.
 fn writes(
     picture: &Picture,
     room: &mut [u8],
@@ -28,7 +28,7 @@ fn writes(
     write_ppm(picture, &mut sink) == answer && sink.written() == text
 }
 
-/// Whether the picture of these registers side by side is written so into a sink with room for it.
+/// Whether writing the picture of these registers in one row gives this answer and this text, with enough room.
 fn is_written(
     alloc: Global,
     palette: Palette,
@@ -59,7 +59,7 @@ fn pictures_are_written_as_ppm(rt: HostRuntime) -> Result<(), Fail> {
             Ok(()),
             TWO_PIXELS,
         ),
-        // A hue that no pixel has.
+        // No pixel has the hue.
         (black_and_hue(), [0].as_slice(), Ok(()), BLACK),
         (black_and_hue(), [1].as_slice(), refused, b"".as_slice()),
         (black_and_hue(), [0, 1].as_slice(), refused, b"".as_slice()),
@@ -69,7 +69,7 @@ fn pictures_are_written_as_ppm(rt: HostRuntime) -> Result<(), Fail> {
     Ok(())
 }
 
-/// Whether the colours are written so, after what the sink has.
+/// Whether writing the colours gives this answer, and this text after what the sink had.
 fn writes_colours(
     sink: &mut SliceSink<'_>,
     colours: &[Colour; 2],
@@ -92,7 +92,7 @@ fn colours_are_written_as_ppm(rt: HostRuntime) -> Result<(), Fail> {
 }
 
 /// Whether a sink that fails before the end of the text has a prefix of it: one that takes a byte a call and fails at
-/// one, and one with too little room.
+/// some call, and one with too little room.
 fn fails_in_turn(picture: &Picture, text: &[u8]) -> bool {
     let failed = Err(PpmFault::Write);
     for count in 0..text.len() {
@@ -124,7 +124,7 @@ fn failing_sinks_have_a_prefix_of_the_text(rt: HostRuntime) -> Result<(), Fail> 
     Ok(())
 }
 
-/// Takes all that it is given, and counts the calls.
+/// Takes everything, and counts the calls.
 #[derive(Drop)]
 struct CountingSink {
     takes: u32,
@@ -159,7 +159,7 @@ fn large_text(alloc: Global) -> Result<Vec<u8>, AllocError> {
     Ok(text)
 }
 
-/// How often a sink is called that takes all of the picture's text at once, where the picture is written.
+/// How often a sink is called that takes the picture's whole text in each call; `None` if writing fails.
 fn takes_of(picture: &Picture) -> Option<u32> {
     let mut sink = CountingSink {
         takes: 0,
@@ -171,7 +171,7 @@ fn takes_of(picture: &Picture) -> Option<u32> {
     }
 }
 
-/// A block of 65,536 bytes takes the header's 15 and 21,840 pixels'.
+/// A block of 65,536 bytes takes the 15 bytes of the header, and 21,840 pixels.
 #[test]
 fn large_pictures_leave_in_blocks(rt: HostRuntime) -> Result<(), Fail> {
     let registers = vec![in rt.alloc(); 3; 300 * 200]?;

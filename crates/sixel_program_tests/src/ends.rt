@@ -63,7 +63,7 @@ pub fn exit_over<W: Write + Drop, E: Write + Drop>(
     execute(alloc, &request, &NO_FILES, false, bytes, output, errors)
 }
 
-/// Whether a task on the bytes ends so, and writes this to standard output and this to standard error.
+/// Whether a task on the bytes ends so, with these bytes on standard output and on standard error.
 pub fn ends(
     alloc: Global,
     task: Task,

@@ -1,4 +1,4 @@
-//! What comes of files in place of standard input, worked out by hand.
+//! Files instead of standard input, worked out by hand.
 
 ghost use Rattle.std.specs.Prelude.{◌≡◌, IfOk};
 ghost use Rattle.sixel_run.specs.Outputs.{HasSides};
@@ -49,7 +49,7 @@ const FOLDER: MemoryFolder<'static> = MemoryFolder {
     cut: &[("cut", b"\x1bPq\"1;1;1;1#0;2")],
 };
 
-/// What is asked for, and what standard input has.
+/// A request, and the bytes of standard input.
 #[derive(Clone, Copy)]
 struct Asked<'a> {
     task: Task,
@@ -58,18 +58,18 @@ struct Asked<'a> {
     input: &'a [u8],
 }
 
-/// What the standard streams are like.
+/// The standard streams.
 #[derive(Clone, Copy)]
 struct Streams {
     is_terminal: bool,
     /// How many bytes standard output takes before it fails.
     room: usize,
     is_flushable: bool,
-    /// How many bytes standard error takes.
+    /// How many bytes standard error takes before it fails.
     errors_room: usize,
 }
 
-/// No terminal, and room for all.
+/// No terminal, and enough room.
 const STREAMS: Streams = Streams {
     is_terminal: false,
     room: 512,
@@ -77,7 +77,7 @@ const STREAMS: Streams = Streams {
     errors_room: 512,
 };
 
-/// How a request ended: with what was written and said, and whether standard input was read.
+/// How a request ended, what was on standard output and standard error, and whether standard input was read.
 #[derive(Clone, Copy)]
 struct Ended<'a> {
     exit: Exit,
@@ -86,7 +86,7 @@ struct Ended<'a> {
     is_read: bool,
 }
 
-/// Bytes as standard input, which counts the reads.
+/// Bytes as standard input; it counts the reads.
 #[derive(Drop)]
 struct Counted<'a> {
     rest: &'a [u8],
@@ -114,7 +114,7 @@ fn request_of(alloc: Global, asked: Asked<'_>) -> Result<Request, AllocError>
     })
 }
 
-/// Whether what is asked for ends so over these streams.
+/// Whether the request ends so over these streams.
 fn ends_over(
     alloc: Global,
     asked: Asked<'_>,
@@ -224,7 +224,7 @@ fn portable_files(rt: HostRuntime) -> Result<(), Fail> {
     Ok(())
 }
 
-/// Each file is judged, also after one that is refused or can't be opened or read.
+/// Each file is judged, even after one that is refused or can't be opened or read.
 #[test]
 fn files_of_each_kind(rt: HostRuntime) -> Result<(), Fail> {
     let names = ["pixel", "ratio", "text", "none", "cut", "empty", "a b"];
@@ -235,7 +235,7 @@ fn files_of_each_kind(rt: HostRuntime) -> Result<(), Fail> {
     Ok(())
 }
 
-/// The exit status is the greatest of the files', wherever its file stands.
+/// The exit status is the greatest of all files, in any order.
 #[test]
 fn the_greatest_status(rt: HostRuntime) -> Result<(), Fail> {
     let broken = b"ratio: broken Ratio 3\n";
@@ -253,7 +253,7 @@ fn the_greatest_status(rt: HostRuntime) -> Result<(), Fail> {
     Ok(())
 }
 
-/// The profile is that of all files.
+/// All files are checked in the same profile.
 #[test]
 fn files_in_the_wide_profile(rt: HostRuntime) -> Result<(), Fail> {
     let names = ["wide", "pixel"];
@@ -289,7 +289,7 @@ fn reads(
     check_ends(alloc, names, input, ended)
 }
 
-/// `-` is standard input, which has an end: another `-` finds nothing there.
+/// `-` is standard input. It is read to its end, so a second `-` finds nothing.
 #[test]
 fn standard_input_among_files(rt: HostRuntime) -> Result<(), Fail> {
     let alone = b"-: portable 1 1\n";
@@ -324,7 +324,7 @@ fn standard_input_among_files(rt: HostRuntime) -> Result<(), Fail> {
     Ok(())
 }
 
-/// Where no file is named, no name stands before a line.
+/// Without a file, lines have no name before them.
 #[test]
 fn standard_input_alone(rt: HostRuntime) -> Result<(), Fail> {
     assert!(rt; reads(rt.alloc(), &[], PIXEL, Exit::Done, b"portable 1 1\n", b"")?);

@@ -1,4 +1,4 @@
-//! What is said where `encode` meets a file of another format, worked out by hand.
+//! What `encode` says about files of other formats, worked out by hand.
 
 use crate::ends::{CHECK, ENCODE, ends};
 use sixel_program::Exit;
@@ -8,7 +8,7 @@ fn refuses(rt: &impl AllocGlobal, bytes: &[u8], lines: &[u8]) -> bool {
     ends(rt.alloc(), ENCODE, bytes, Exit::Refused, b"", lines)
 }
 
-/// The fault's line is as it is for any bytes, and a second line says what makes a PPM.
+/// The line of the fault is the usual one, and a second line says how to make a PPM.
 #[test]
 fn files_of_other_formats(rt: HostRuntime) {
     assert!(rt;
@@ -41,7 +41,7 @@ fn files_of_other_formats(rt: HostRuntime) {
     );
 }
 
-/// Each format of Netpbm but the raw PPM has the line.
+/// Each Netpbm format except the raw PPM has the second line.
 #[test]
 fn formats_of_netpbm(rt: HostRuntime) {
     let lines =
@@ -55,7 +55,7 @@ fn formats_of_netpbm(rt: HostRuntime) {
     assert!(rt; refuses(&rt, b"P8", b"sixel: Header at 1\n"));
 }
 
-/// Bytes without such a mark, or with a prefix of one, have the fault's line alone, and so has a PPM with another
+/// Bytes without such a mark, or with only a prefix of one, have only the line of the fault; so does a PPM with another
 /// fault.
 #[test]
 fn bytes_of_no_format(rt: HostRuntime) {
@@ -69,7 +69,7 @@ fn bytes_of_no_format(rt: HostRuntime) {
     assert!(rt; refuses(&rt, b"P6 1 1 255\n\0\0\0P5", b"sixel: Trailing at 14\n"));
 }
 
-/// Another task says nothing of formats, and a picture whose first bytes were looked at is encoded from its first byte.
+/// Other tasks say nothing about formats, and a picture is encoded from its first byte although its mark was looked at.
 #[test]
 fn other_inputs(rt: HostRuntime) {
     assert!(rt;

@@ -7,22 +7,22 @@ use sixel_program::Folder;
 use std::io;
 use std::io::{Error, Read};
 
-/// Files in memory, by their names. A file of another name can't be opened.
+/// Files in memory, by name. No other file can be opened.
 #[derive(Clone, Copy)]
 pub struct MemoryFolder<'a> {
     pub files: &'a [(&'a str, &'a [u8])],
-    /// Files of which a read fails where these bytes are read.
+    /// Files whose reads fail after these bytes.
     pub cut: &'a [(&'a str, &'a [u8])],
 }
 
-/// What is left of an open file, of which a read gives three bytes at most: fewer than the mark of a PNG has.
+/// The rest of an open file. A read gives at most three bytes: fewer than the mark of a PNG.
 #[derive(Drop)]
 pub struct Opened<'a> {
     rest: &'a [u8],
     is_cut: bool,
 }
 
-/// The file of this name among these, if it is there.
+/// The file with this name, if there is one.
 fn find<'a>(files: &[(&'a str, &'a [u8])], name: &str, is_cut: bool) -> Option<Opened<'a>> {
     for (kept, rest) in files {
         if *kept == name {

@@ -1,4 +1,4 @@
-//! How the program ends where a standard stream can't be written.
+//! How the program ends if a standard stream can't be written.
 
 ghost use Rattle.sixel_run.specs.Outputs.{HasSides};
 
@@ -54,12 +54,12 @@ impl Write for Narrow<'_> {
     }
 }
 
-/// Whether a prefix of the line was written, as long as there is room for.
+/// Whether the line was written as far as the room goes.
 fn fills(written: &[u8], line: &[u8], room: usize) -> bool {
     Some(written) == line.get(..room.min(line.len()))
 }
 
-/// Whether the task on these bytes ends so and writes this, and of this line what standard error has room for.
+/// Whether the task on these bytes ends so, writes this text, and on standard error as much of the line as has room.
 fn ends_in(
     alloc: Global,
     task: Task,
@@ -78,7 +78,7 @@ fn ends_in(
     ended == exit && output.as_slice() == text && fills(said.as_slice(), line, room)
 }
 
-/// The same whatever room standard error has.
+/// The same for any room of standard error.
 fn ends_so(alloc: Global, task: Task, bytes: &[u8], exit: Exit, text: &[u8], line: &[u8]) -> bool
     requires { HasSides task }
 {
@@ -88,8 +88,7 @@ fn ends_so(alloc: Global, task: Task, bytes: &[u8], exit: Exit, text: &[u8], lin
         && ends_in(alloc, task, bytes, exit, text, line, 64)
 }
 
-/// Each task ends by what came of it, also where the line of a refusal, or of a picture that isn't rendered, can't be
-/// written.
+/// Each task ends in its own way, even if the line of a refusal, or of a picture that isn't rendered, can't be written.
 #[test]
 fn a_standard_error_that_fails(rt: HostRuntime) {
     assert!(rt;
@@ -181,8 +180,8 @@ fn a_standard_error_that_fails(rt: HostRuntime) {
     );
 }
 
-/// Whether a check is refused, where standard output has room for five bytes of its line, and standard error for so
-/// many of the fault's.
+/// Whether a check is refused if standard output has room for only five bytes of its line, and standard error for
+/// `room` bytes of the fault's line.
 fn refuses_with(alloc: Global, room: usize, line: &[u8]) -> bool {
     let mut written = Vec::new(alloc);
     let mut said = Vec::new(alloc);
@@ -200,8 +199,8 @@ fn a_standard_output_that_fails(rt: HostRuntime) {
     assert!(rt; refuses_with(rt.alloc(), 0, b""));
 }
 
-/// Whether words that give no task end so, and write of this text what standard output has room for, and likewise of
-/// that line.
+/// Whether arguments without a task end so, with as much of this text on standard output as has room, and as much of
+/// that line on standard error.
 fn explains_so(
     alloc: Global,
     fault: WordsFault,
@@ -220,7 +219,7 @@ fn explains_so(
         && fills(said.as_slice(), line.as_bytes(), room)
 }
 
-/// Why these words after the program's name give no task.
+/// Why these arguments, after the program's name, give no task.
 fn fault_of(alloc: Global, arguments: &[&str]) -> Result<WordsFault, Fail> {
     let mut words = Vec::new(alloc);
     words.push(String::from_str(alloc, "sixel")?)?;
@@ -233,7 +232,7 @@ fn fault_of(alloc: Global, arguments: &[&str]) -> Result<WordsFault, Fail> {
     }
 }
 
-/// Why arguments that couldn't be read for this reason give no task.
+/// Why arguments give no task if they couldn't be read for this reason.
 fn unread(alloc: Global, reason: ErrorKind) -> Result<WordsFault, Fail> {
     match task_in(alloc, Err(Error::from(reason))) {
         Ok(_) => Err(Fail::from("a task")),
@@ -274,7 +273,7 @@ Usage: sixel <COMMAND>
 For more information, try '--help'.
 ";
 
-/// Help goes to standard output, and all else to standard error. Where it can't be written the exit status stays.
+/// Help goes to standard output, and all else to standard error. A failed write doesn't change the exit status.
 #[test]
 fn words_are_explained_as_far_as_there_is_room(rt: HostRuntime) -> Result<(), Fail> {
     for room in [0, 1, 20, 1024] {
@@ -302,7 +301,7 @@ Output of encode: sixel: Maxval at 7
 Fix: write samples of one byte, with the maxval 255.
 ";
 
-/// An explanation goes to standard output. Where it can't be written whole, the program ends as a task would.
+/// An explanation goes to standard output. If it can't be written whole, the program ends as a task would.
 #[test]
 fn an_explanation_is_written_or_refused(rt: HostRuntime) -> Result<(), Fail> {
     for (room, exit, line) in [

@@ -1,4 +1,4 @@
-//! Runs on long inputs, and on numbers and places at their limits.
+//! Runs on long inputs, and on numbers and offsets at their limits.
 
 use crate::runs::{Limits, agrees, run_counted};
 use sixel_check::{Finding, Rule};
@@ -8,7 +8,7 @@ use sixel_run::{RunFault, Status, Task};
 use std::alloc::{AllocError, Global};
 use std::test::Fail;
 
-/// Some bytes, others so many times, and some more.
+/// A prefix, then a part `count` times, then the rest.
 fn with_many(
     alloc: Global,
     prefix: &[u8],
@@ -40,7 +40,7 @@ fn checks(alloc: Global, bytes: &[u8], line: &str, answer: Result<Status, RunFau
     )
 }
 
-/// An outside pixel.
+/// The answer for a pixel outside the box.
 fn outside(place: u64, x: u64, y: u64) -> Result<Status, RunFault> {
     Ok(Status::Broken(Finding {
         rule: Rule::Outside,
@@ -49,7 +49,7 @@ fn outside(place: u64, x: u64, y: u64) -> Result<Status, RunFault> {
     }))
 }
 
-/// A column is 1 + 200 * 65535 and a row 6 * 200. The commands stand at 24 + 200 * 7 and 24 + 200.
+/// The column is 1 + 200 * 65535, and the row is 6 * 200. The commands are at 24 + 200 * 7 and at 24 + 200.
 #[test]
 fn pixels_far_outside_are_named(rt: HostRuntime) -> Result<(), Fail> {
     let bytes = with_many(rt.alloc(), OPEN_PIXEL, 200, b"!65535?", b"\x1b\\")?;
@@ -79,7 +79,7 @@ fn the_greatest_numbers_are_checked(rt: HostRuntime) {
     assert!(rt; checks(rt.alloc(), bytes, "broken Ratio 20\n", answer));
 }
 
-/// The `!` stands at 3, 100,000 zeros from 4 on, the 3 at 100,004, and the end at 100,006.
+/// The `!` is at 3, 100,000 zeros follow from 4 on, the 3 is at 100,004, and the end at 100,006.
 #[test]
 fn a_number_with_many_zeros_is_listed(rt: HostRuntime) -> Result<(), Fail> {
     let bytes = with_many(rt.alloc(), b"\x1bPq!", 100_000, b"0", b"3~\x1b\\")?;
@@ -107,7 +107,7 @@ const SCREEN: Task = Task::Show {
     height: 1000,
 };
 
-/// Whether the bytes are shown on that screen, white but for the first pixel: 17 bytes are the header.
+/// Whether the bytes are shown on that screen, white except for the first pixel; the header has 17 bytes.
 fn shows_a_pixel(alloc: Global, bytes: &[u8]) -> Result<bool, AllocError> {
     let mut room = vec![in alloc; 0u8; 3_300_017]?;
     let limits = Limits {
@@ -125,7 +125,7 @@ fn shows_a_pixel(alloc: Global, bytes: &[u8]) -> Result<bool, AllocError> {
     )
 }
 
-/// More than 100,000 events, of which one paints.
+/// More than 100,000 events, one of which paints.
 #[test]
 fn a_long_document_is_shown_on_a_large_screen(rt: HostRuntime) -> Result<(), Fail> {
     let bytes = with_many(rt.alloc(), b"\x1bPq", 150_000, b"$", b"@\x1b\\")?;
@@ -143,7 +143,7 @@ fn refused(reason: PpmReason, place: u64) -> Result<Status, RunFault> {
     Err(RunFault::Ppm { reason, place })
 }
 
-/// A header ends before 65,536 bytes: here it has 2 + 65,526 + 8, and one more.
+/// A header must end before 65,536 bytes: this one has 2 + 65,526 + 8, and then one more.
 #[test]
 fn the_longest_header_is_encoded(rt: HostRuntime) -> Result<(), Fail> {
     let bytes = with_many(rt.alloc(), b"P6", 65_526, b" ", b"1 1 100\n\0\0\0")?;
@@ -169,7 +169,7 @@ fn a_size_of_many_digits_is_refused(rt: HostRuntime) -> Result<(), Fail> {
     Ok(())
 }
 
-/// A comment is filler. A sample becomes the nearest percentage: of 128, 255 and 2 in 255 these are 50, 100 and 1.
+/// A comment is skipped. A sample becomes the nearest percentage: 128, 255 and 2 of 255 become 50, 100 and 1.
 #[test]
 fn samples_are_encoded_in_percent(rt: HostRuntime) {
     assert!(rt;
@@ -182,7 +182,7 @@ fn samples_are_encoded_in_percent(rt: HostRuntime) {
     );
 }
 
-/// The header has 12 bytes, and the 17th colour comes after 16 pixels of three.
+/// The header has 12 bytes, and the 17th colour comes after 16 pixels of three bytes.
 #[test]
 fn a_seventeenth_colour_is_not_encoded(rt: HostRuntime) -> Result<(), Fail> {
     let mut bytes = Vec::new(rt.alloc());

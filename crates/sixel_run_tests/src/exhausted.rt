@@ -1,4 +1,4 @@
-//! What calls answer where no memory is left at all, and then once there is enough of it again.
+//! What calls return when no memory is left at all, and then when there is enough again.
 
 ghost use Rattle.sixel_run.specs.Outputs.{HasSides};
 
@@ -18,13 +18,13 @@ const PIXEL: &[u8] = b"\x1bPq\"1;1;1;1#0;2;0;0;0#0@\x1b\\";
 /// Five red pixels.
 const RED: &[u8] = b"P6 5 1 100\nd\0\0d\0\0d\0\0d\0\0d\0\0";
 
-/// Whether a new plane is blank; `None` where it wants memory, and so below.
+/// Whether a new plane is blank. `None` if an allocation fails; the same below.
 fn is_made_blank<P: Plane>(alloc: Global) -> Option<bool> {
     let plane = P::blank(alloc, 3, 7).ok()?;
     Some((plane.width(), plane.height(), plane.first_blank()) == (3, 7, Some((0, 0))))
 }
 
-/// Whether the picture has this size, and this colour alone.
+/// Whether the picture has this size, and only this colour.
 fn is_picture(picture: &Picture, width: u32, colour: Option<Colour>) -> bool {
     let palette = picture.palette();
     (picture.width(), picture.height()) == (width, 1)
@@ -59,7 +59,7 @@ fn runs(alloc: Global, task: Task, text: &[u8]) -> Option<bool>
     }
 }
 
-/// A call that takes memory. A check pushes the events, and its push makes the plane.
+/// A call that allocates. A check pushes the events, and one push makes the plane.
 #[derive(Clone, Copy)]
 enum Call {
     BlankOfBytes,
@@ -81,7 +81,7 @@ const CALLS: [Call; 8] = [
     Call::RunRender(Profile::Registers256),
 ];
 
-/// Whether the call gives what it should. A copy of its own in each place would need more stack at the next one.
+/// Whether the call gives its expected result. It isn't inlined: a copy in each caller would need more stack.
 #[inline(never)]
 fn answer(alloc: Global, call: Call) -> Option<bool> {
     match call {
@@ -94,11 +94,11 @@ fn answer(alloc: Global, call: Call) -> Option<bool> {
     }
 }
 
-/// How many blocks are held at most. A large one that nothing is written to takes three pages of real memory.
+/// How many blocks are held at most. A large one that is never written takes three pages of real memory.
 const MOST: usize = 20_000;
 
-/// All memory that is granted, in blocks of half the size again and again, down to one byte; `None` where so many are
-/// not all, as under `rt try`.
+/// All memory that can be allocated, in blocks of half the size again and again, down to one byte; `None` if `MOST`
+/// blocks don't hold all of it, as under `rt try`.
 fn all_memory(alloc: Global) -> Result<Option<Vec<Vec<u8>>>, AllocError> {
     let mut held = Vec::with_capacity(alloc, MOST)?;
     let mut size = usize::MAX;
@@ -117,8 +117,8 @@ fn all_memory(alloc: Global) -> Result<Option<Vec<Vec<u8>>>, AllocError> {
     Ok(Some(held))
 }
 
-/// Whether the call wants memory when none is left, and gives what it should once enough blocks are given back. The
-/// first calls, from here too, take the stack that the later ones need: it can't grow where no memory is left.
+/// Whether the call fails when no memory is left, and gives its result when enough blocks are freed. The first calls
+/// make the stack grow as far as later ones need: it can't grow when no memory is left.
 fn waits_for_memory(alloc: Global, call: Call) -> Result<bool, AllocError> {
     for first in CALLS {
         if answer(alloc, first) != Some(true) {

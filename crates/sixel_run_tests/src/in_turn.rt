@@ -1,4 +1,4 @@
-//! Each call of a device fails in turn, task by task, and the calls of whole runs are counted.
+//! For each task, each call of a device fails in turn; and the calls of whole runs are counted.
 
 ghost use Rattle.sixel_run.specs.Outputs.{HasSides};
 
@@ -10,15 +10,15 @@ use sixel_ppm::PpmReason;
 use sixel_run::{RunFault, Status, Task};
 use std::alloc::Global;
 
-/// A task on some bytes, and what it writes and answers where no device fails.
+/// A task on some bytes, and what it writes and answers if no device fails.
 #[derive(Clone, Copy)]
 struct Case {
     task: Task,
     bytes: &'static [u8],
     text: &'static [u8],
     answer: Result<Status, RunFault>,
-    /// In and out in pieces of 1, 5 and 64 bytes: how often is filled and taken. The fills give the bytes up to the one
-    /// that is a fault, or all and find the end.
+    /// The piece size (1, 5 and 64 bytes, for input and output), and the numbers of fills and takes. The fills give the
+    /// bytes up to the one with the fault, or all bytes and then the end.
     calls: [(usize, u64, u64); 3],
 }
 
@@ -33,7 +33,7 @@ const TOO_LARGE: RunFault = RunFault::Grammar(Fault {
     place: 8,
 });
 
-/// One pixel, listed. In pieces of 5 the lines leave by 15, 17, 43 and 12 bytes.
+/// One pixel, listed. In pieces of 5 bytes the lines leave as 15, 17, 43 and 12 bytes.
 const LISTED: Case = Case {
     task: Task::List,
     bytes: PIXEL,
@@ -81,7 +81,7 @@ const LETTERS: Case = Case {
     calls: [(1, 91, 14), (5, 19, 3), (64, 3, 1)],
 };
 
-/// A box of two pixels of which one is painted, checked.
+/// A box of two pixels, one of them painted, checked.
 const UNCOVERED: Case = Case {
     task: CHECK,
     bytes: b"\x1bPq\"1;1;2;1#0;2;0;0;0#0@\x1b\\",
@@ -94,7 +94,7 @@ const UNCOVERED: Case = Case {
     calls: [(1, 27, 24), (5, 7, 5), (64, 2, 1)],
 };
 
-/// A fault, which leaves no verdict.
+/// A fault: no verdict.
 const CHECKED_FAULT: Case = Case {
     task: CHECK,
     bytes: LARGE,
@@ -112,7 +112,7 @@ const RENDERED: Case = Case {
     calls: [(1, 27, 14), (5, 7, 3), (64, 2, 1)],
 };
 
-/// A fault, which leaves no picture.
+/// A fault: no picture.
 const RENDERED_FAULT: Case = Case {
     task: RENDER,
     ..CHECKED_FAULT
@@ -136,7 +136,7 @@ const SHORT_RED: Case = Case {
     calls: [(1, 21, 33), (5, 5, 7), (64, 2, 1)],
 };
 
-/// A file of another kind, by its second byte.
+/// A file of another kind: its second byte is wrong.
 const ENCODED_FAULT: Case = Case {
     task: ENCODE,
     bytes: b"P5 1 1 100",
@@ -158,7 +158,7 @@ const SCREEN: Task = Task::Show {
     height: 1,
 };
 
-/// A register that is black and then red, shown: 38 bytes.
+/// A register that is painted as black and then defined as red, shown: 38 bytes.
 const SHOWN: Case = Case {
     task: SCREEN,
     bytes: b"\x1bPq\"1;1;1;1#0;2;0;0;0#0@#0;2;100;0;0\x1b\\",
@@ -167,7 +167,7 @@ const SHOWN: Case = Case {
     calls: [(1, 39, 14), (5, 9, 3), (64, 2, 1)],
 };
 
-/// A fault, which leaves no screen.
+/// A fault: no screen.
 const SHOWN_FAULT: Case = Case {
     task: SCREEN,
     ..CHECKED_FAULT
@@ -180,13 +180,13 @@ const BOX: Task = Task::ShowBox {
     selects: false,
 };
 
-/// One pixel, on a screen of its box: 26 bytes.
+/// One pixel, on a screen with the size of its box: 26 bytes.
 const BOXED: Case = Case {
     task: BOX,
     ..RENDERED
 };
 
-/// A document of 5 bytes without a box, which leaves no screen.
+/// A document of 5 bytes without a box: no screen.
 const UNBOXED: Case = Case {
     task: BOX,
     bytes: b"\x1bPq\x1b\\",
@@ -195,7 +195,7 @@ const UNBOXED: Case = Case {
     calls: [(1, 6, 0), (5, 2, 0), (64, 2, 0)],
 };
 
-/// A fault, which leaves none either.
+/// A fault: no screen.
 const BOXED_FAULT: Case = Case {
     task: BOX,
     ..CHECKED_FAULT
@@ -226,7 +226,7 @@ const WIDE_RENDERED: Case = Case {
     calls: [(1, 29, 14), (5, 7, 3), (64, 2, 1)],
 };
 
-/// A register that is shown in its starting colour: 9 bytes.
+/// A register that shows its starting colour: 9 bytes.
 const WIDE_SHOWN: Case = Case {
     task: Task::Show {
         profile: Profile::Registers256,
@@ -242,7 +242,7 @@ const WIDE_SHOWN: Case = Case {
     calls: [(1, 10, 14), (5, 3, 3), (64, 2, 1)],
 };
 
-/// Three red pixels, encoded in the wide profile as in the other.
+/// Three red pixels, encoded in the wide profile as in the narrow one.
 const WIDE_RED: Case = Case {
     task: Task::Encode {
         profile: Profile::Registers256,
@@ -250,8 +250,8 @@ const WIDE_RED: Case = Case {
     ..SHORT_RED
 };
 
-/// Runs the task on the bytes, in and out in pieces. Fill number `fill_fails` fails, and take or flush number
-/// `take_fails`.
+/// Runs the task on the bytes, with input and output in pieces. Fill number `fill_fails` fails, and take or flush
+/// number `take_fails`.
 fn run_in_pieces(
     alloc: Global,
     task: Task,
@@ -272,7 +272,7 @@ fn run_in_pieces(
     run_counted(alloc, task, bytes, limits, room)
 }
 
-/// The lines of the events that the first bytes of one pixel complete, and of the number that is too large.
+/// The lines of the events that the first `given` bytes complete, of one pixel or of the number that is too large.
 fn lines_of(given: usize) -> &'static [u8] {
     match given {
         0..=2 => b"",
@@ -285,7 +285,7 @@ fn lines_of(given: usize) -> &'static [u8] {
     }
 }
 
-/// What is written where the source fails after so many bytes: only a list doesn't wait for the end.
+/// What is written if the source fails after `given` bytes: only a list writes before the end.
 fn written_text(task: Task, given: usize) -> &'static [u8] {
     if task == Task::List {
         lines_of(given)
@@ -294,7 +294,7 @@ fn written_text(task: Task, given: usize) -> &'static [u8] {
     }
 }
 
-/// Whether a run stops where this fill fails, and doesn't fill again.
+/// Whether a run stops at this failing fill, and doesn't fill again.
 fn stops_at_fill(alloc: Global, case: Case, piece: usize, fill: u64) -> bool
     requires { HasSides case.task }
 {
@@ -315,14 +315,14 @@ fn stops_at_fill(alloc: Global, case: Case, piece: usize, fill: u64) -> bool
         && ran.sink.flushes == 1
 }
 
-/// How much is written where this take fails. The lines of a list that a piece completes leave by themselves, so its
-/// takes aren't all full.
+/// Whether this much is written if this take fails. A list writes the lines of each piece on their own, so its takes
+/// aren't all full.
 fn is_prefix(case: Case, piece: usize, take: u64, written: usize) -> bool {
     let full = piece.saturating_mul(take as usize);
     (case.task == Task::List && piece > 1) || written == full.min(case.text.len())
 }
 
-/// Whether a run stops where this take or flush fails, and calls the sink no more: a prefix of the text is written.
+/// Whether a run stops at this failing take or flush, and doesn't call the sink again: a prefix of the text is written.
 fn stops_at_take(alloc: Global, case: Case, piece: usize, take: u64, flushes: u64) -> bool
     requires { HasSides case.task }
 {
@@ -343,7 +343,7 @@ fn stops_at_take(alloc: Global, case: Case, piece: usize, take: u64, flushes: u6
         && ran.sink.flushes == flushes
 }
 
-/// Whether a run is whole, with so many fills and takes: each device fails at a call that doesn't come.
+/// Whether a run ends with this many fills and takes. Each device would fail at the call after its last.
 fn is_whole(alloc: Global, case: Case, piece: usize, fills: u64, takes: u64) -> bool
     requires { HasSides case.task }
 {
@@ -365,7 +365,7 @@ fn is_whole(alloc: Global, case: Case, piece: usize, fills: u64, takes: u64) -> 
         && ran.sink.flushes == 1
 }
 
-/// Each call of each device fails in turn, in pieces of a size.
+/// Each call of each device fails in turn, in pieces of this size.
 fn stops_in_pieces(alloc: Global, case: Case, piece: usize, fills: u64, takes: u64) -> bool
     requires { HasSides case.task }
 {
@@ -382,7 +382,7 @@ fn stops_in_pieces(alloc: Global, case: Case, piece: usize, fills: u64, takes: u
     stops_at_take(alloc, case, piece, takes, 1) && is_whole(alloc, case, piece, fills, takes)
 }
 
-/// Whether a sink with room for a part of the text has that part.
+/// Whether a sink with room for a part of the text gets that part.
 fn fills_room(alloc: Global, case: Case, count: usize) -> bool
     requires { HasSides case.task }
 {
@@ -394,8 +394,8 @@ fn fills_room(alloc: Global, case: Case, count: usize) -> bool
         && ran.sink.flushes == 0
 }
 
-/// Whether nothing is written, and neither device is called again, where both fail at their first call, which for the
-/// sink is the flush.
+/// Whether nothing is written, and no device is called again, if both fail at their first call; for the sink that is
+/// the flush.
 fn stops_at_both(alloc: Global, case: Case) -> bool
     requires { HasSides case.task }
 {
@@ -415,7 +415,7 @@ fn stops_at_both(alloc: Global, case: Case) -> bool
         && ran.sink.flushes == 1
 }
 
-/// Each call of each device fails in turn, then both at once, and each room is tried that is too small for the text.
+/// Each call of each device fails in turn, then both at once; and each room is tried that is too small for the text.
 fn stops(alloc: Global, case: Case) -> bool
     requires { HasSides case.task }
 {

@@ -15,7 +15,8 @@ const PPM: RunFault = RunFault::Ppm {
     place: 60,
 };
 
-/// Whether this is the line of the fault, and five bytes a call are a prefix of it where the third call fails.
+/// Whether this is the line of the fault, and a prefix of it is written in takes of five bytes of which the third
+/// fails.
 fn says(fault: RunFault, line: &str) -> bool {
     let (mut room, mut short) = ([0; 64], [0; 64]);
     let mut out = SliceSink::new(&mut room, 64, None);
@@ -101,7 +102,7 @@ fn writes_the_line_of_a_finding(rt: HostRuntime) {
             "broken Outside 18446744073709551615 18446744073709551615 18446744073709551615\n",
         ),
         (Rule::EightBit, 0, None, "broken EightBit 0\n"),
-        // no document's finding: this rule names no pixel
+        // in no document: this rule has no pixel
         (Rule::RasterFirst, 3, Some((1, 0)), "broken RasterFirst 3\n"),
     ];
     for (rule, place, pixel, line) in rows {

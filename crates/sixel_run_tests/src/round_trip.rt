@@ -7,12 +7,12 @@ use sixel_run::{Status, Task, run};
 use std::alloc::{AllocError, Global};
 use std::test::Fail;
 
-/// The next of the pseudo-random numbers.
+/// The next pseudo-random number.
 fn after(state: u32) -> u32 {
     state.wrapping_mul(1_664_525).wrapping_add(1_013_904_223)
 }
 
-/// The register of the next pixel, one of the profile's: in one case of four another one.
+/// The register of the next pixel, one of the profile's: in one case of four it changes.
 fn drawn(profile: Profile, state: u32, register: u8) -> u8 {
     if state >> 30 != 0 {
         return register;
@@ -23,7 +23,7 @@ fn drawn(profile: Profile, state: u32, register: u8) -> u8 {
     }
 }
 
-/// Pixel number i of those with colours of their own has this colour.
+/// Pixel `number`, with its own colour.
 pub fn push_pixel(bytes: &mut Vec<u8>, number: u16) -> Result<(), AllocError> {
     bytes.extend_from_slice(&[(number % 100) as u8, (number / 100 % 100) as u8, 0])
 }
@@ -45,7 +45,7 @@ fn push_pixels(
     Ok(())
 }
 
-/// A picture file of pseudo-random runs in the profile's number of colours.
+/// A PPM of pseudo-random runs in the profile's number of colours.
 fn picture_file(alloc: Global, profile: Profile, width: u32, height: u32) -> Result<Vec<u8>, Fail> {
     let head = format!(in alloc; "P6\n{width} {height}\n100\n")?;
     let mut bytes = Vec::new(alloc);
@@ -54,7 +54,7 @@ fn picture_file(alloc: Global, profile: Profile, width: u32, height: u32) -> Res
     Ok(bytes)
 }
 
-/// How many bytes of the room the text of a picture file takes, where it is encoded.
+/// Encodes a PPM into the room. Returns the number of bytes of its text, if it is encoded.
 pub fn encode_into(
     alloc: Global,
     profile: Profile,
@@ -67,7 +67,7 @@ pub fn encode_into(
     (answer == Ok(Status::Done)).then_some(output.written().len())
 }
 
-/// Whether a task is done for the bytes and writes this.
+/// Whether a task on the bytes is done, and writes this text.
 pub fn sends(alloc: Global, task: Task, bytes: &[u8], text: &[u8]) -> bool
     requires { HasSides task }
 {
@@ -77,7 +77,7 @@ pub fn sends(alloc: Global, task: Task, bytes: &[u8], text: &[u8]) -> bool
     run(alloc, task, &mut input, &mut output) == Ok(Status::Done) && output.written() == text
 }
 
-/// Whether what is encoded of a picture file of these sides is portable, and rendered it is that file.
+/// Whether the text of a PPM of this size is portable, and is rendered as that PPM again.
 fn returns(alloc: Global, profile: Profile, width: u32, height: u32) -> Result<bool, Fail> {
     let picture = picture_file(alloc, profile, width, height)?;
     let mut room = [0; 8192];
@@ -112,7 +112,7 @@ pub fn is_encoded_as(picture: &Picture, text: &[u8]) -> bool {
     sixel_encode::encode(picture, &mut output).is_ok() && output.written() == text
 }
 
-/// Whether registers 0 and 3 have these colours, and no other register has one.
+/// Whether registers 0 and 3 have these colours, and no other of the 16 has one.
 fn has_colours(palette: &Palette, first: Option<Colour>, fourth: Option<Colour>) -> bool {
     for register in 0..16 {
         let expected = match register {
@@ -127,7 +127,7 @@ fn has_colours(palette: &Palette, first: Option<Colour>, fourth: Option<Colour>)
     true
 }
 
-/// Whether the text is portable, leaves one pixel in register 0 of these colours, and is what is encoded of that.
+/// Whether the text is portable and leaves one pixel in register 0, with these colours, which is encoded as the text.
 fn comes_back(alloc: Global, text: &[u8], first: Option<Colour>, fourth: Option<Colour>) -> bool {
     match check_bytes(alloc, Profile::Registers16, text) {
         Ok(Verdict::Portable(picture)) => {
@@ -150,7 +150,7 @@ fn palettes_come_back(rt: HostRuntime) {
     assert!(rt; comes_back(rt.alloc(), text, Colour::hls(360, 50, 100), None));
 }
 
-/// The picture of the 14 by 7 example, encoded again: the blank columns at the end of a register's line are gone.
+/// The picture of the 14 by 7 example, encoded again: blank columns at the end of a register's line are left out.
 #[test]
 fn a_picture_is_encoded_shortly(rt: HostRuntime) {
     let bytes =

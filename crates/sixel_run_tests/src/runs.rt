@@ -1,4 +1,4 @@
-//! Runs over devices that count their calls and fail where they are told to.
+//! Runs over devices that count their calls, and fail at a given call.
 
 ghost use Rattle.sixel_run.specs.Outputs.{HasSides};
 
@@ -8,7 +8,7 @@ use sixel_run::{RunFault, Status, Task, run};
 use sixel_test_devices::{Calls, CountingDevice};
 use std::alloc::Global;
 
-/// What a run over counting devices answered and wrote into the room, and the calls that they saw.
+/// What a run over counting devices answered, how many bytes it wrote, and the calls of the devices.
 #[derive(Drop)]
 pub struct Ran {
     pub answer: Result<Status, RunFault>,
@@ -17,7 +17,7 @@ pub struct Ran {
     pub sink: Calls,
 }
 
-/// How many bytes a call of each device moves at most, and which of their calls fails.
+/// How many bytes one call of each device moves at most, and which of their calls fail.
 #[derive(Clone, Copy)]
 pub struct Limits {
     pub piece: usize,
@@ -44,7 +44,7 @@ pub fn run_counted(alloc: Global, task: Task, bytes: &[u8], limits: Limits, room
     }
 }
 
-/// Whether the task on the bytes in pieces of a size answers so, writes this text and flushes once.
+/// Whether the task on the bytes, in pieces of this size, gives this answer, writes this text and flushes once.
 pub fn agrees(
     alloc: Global,
     task: Task,
@@ -134,7 +134,7 @@ fn lists_documents(rt: HostRuntime) {
     }
 }
 
-/// A command with fields is complete once the byte after it came.
+/// A command with numbers is complete only after the byte that follows it.
 #[test]
 fn lists_what_came_before_a_fault(rt: HostRuntime) {
     let start = "0 start 7bit 0\n";
@@ -203,7 +203,7 @@ fn lists_what_came_before_a_fault(rt: HostRuntime) {
     }
 }
 
-/// From one sixel to the next the tens, the hundreds, and the number of digits go on.
+/// From one sixel to the next, the offset carries into the tens, the hundreds, and the number of digits.
 #[test]
 fn lists_places_that_are_carried(rt: HostRuntime) {
     let mut bytes = [b'\n'; 1004];

@@ -6,7 +6,7 @@ use sixel_run::{Status, Task};
 use std::alloc::{AllocError, Global};
 use std::test::Fail;
 
-/// Whether the bytes are shown as a file of so many bytes, which begins so, and all else of it is white.
+/// Whether the bytes are shown as a PPM of this many bytes with this header, all white.
 fn shows_white(
     alloc: Global,
     bytes: &[u8],
@@ -36,7 +36,7 @@ fn shows_white(
     )
 }
 
-/// The greatest sides: 14 bytes of header, and three for each of 4,096 pixels.
+/// The greatest sides: a header of 14 bytes, and three bytes for each of 4,096 pixels.
 #[test]
 fn the_greatest_sides_are_shown(rt: HostRuntime) -> Result<(), Fail> {
     let wide = b"\x1bPq\"1;1;4096;1\x1b\\";

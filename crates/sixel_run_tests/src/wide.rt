@@ -48,7 +48,7 @@ fn is_pixel(picture: &Picture, low: Option<Colour>, last: Option<Colour>) -> boo
         && has_colours(picture.palette(), low, last)
 }
 
-/// Whether the bytes leave that pixel, and this is what is encoded of it.
+/// Whether the bytes leave that pixel, and it is encoded as this text.
 fn comes_back(
     alloc: Global,
     bytes: &[u8],
@@ -79,7 +79,7 @@ fn the_last_register_comes_back(rt: HostRuntime) {
     assert!(rt; comes_back(rt.alloc(), bytes, black, hue, text));
 }
 
-/// A header, and a row of so many pixels, each in a colour of its own.
+/// A header, and a row of `count` pixels, each in its own colour.
 fn row_of(alloc: Global, header: &[u8], count: u16) -> Result<Vec<u8>, AllocError> {
     let mut bytes = Vec::from_slice(alloc, header)?;
     for number in 0..count {
@@ -88,14 +88,14 @@ fn row_of(alloc: Global, header: &[u8], count: u16) -> Result<Vec<u8>, AllocErro
     Ok(bytes)
 }
 
-/// Whether the file is refused where its colours are too many.
+/// Whether the file is refused at this offset, with too many colours.
 fn refuses(alloc: Global, profile: Profile, bytes: &[u8], place: u64) -> bool {
     let reason = PpmReason::TooManyColours;
     let answer = Err(RunFault::Ppm { reason, place });
     agrees(alloc, Task::Encode { profile }, bytes, 100, b"", answer)
 }
 
-/// The header has 13 bytes, and 256 pixels before the first of too many colours have 768, and 16 pixels 48.
+/// The header has 13 bytes; 256 pixels before the colour that is too many have 768, and 16 pixels 48.
 #[test]
 fn a_colour_too_many_is_not_encoded(rt: HostRuntime) -> Result<(), Fail> {
     let bytes = row_of(rt.alloc(), b"P6 257 1 100\n", 257)?;
@@ -104,7 +104,7 @@ fn a_colour_too_many_is_not_encoded(rt: HostRuntime) -> Result<(), Fail> {
     Ok(())
 }
 
-/// Before the definition of register 16 there are 6 and 10 bytes, ten definitions of 10 bytes and six of 12.
+/// 6 and 10 bytes, ten definitions of 10 bytes and six of 12 come before the definition of register 16.
 fn is_too_wide(alloc: Global, text: &[u8]) -> bool {
     let profile = Profile::Registers16;
     let finding = Finding {
@@ -136,7 +136,7 @@ fn a_picture_of_256_colours_comes_back(rt: HostRuntime) -> Result<(), Fail> {
     Ok(())
 }
 
-/// A row of 2,048 pixels, each of which is so many colours on from the one before it.
+/// A row of 2,048 pixels; each colour is `step` colours after the one before.
 fn row_by(alloc: Global, step: u16) -> Result<Vec<u8>, AllocError> {
     let mut row = Vec::new(alloc);
     for x in 0..2048u16 {
@@ -145,8 +145,7 @@ fn row_by(alloc: Global, step: u16) -> Result<Vec<u8>, AllocError> {
     Ok(row)
 }
 
-/// A file of the largest picture: its first and its last row go through the 256 colours, and all others have the first
-/// of them.
+/// A PPM of the largest size: its first and its last row have all 256 colours, and the others only the first of them.
 fn largest_file(alloc: Global) -> Result<Vec<u8>, AllocError> {
     let (colours, plain) = (row_by(alloc, 1)?, row_by(alloc, 0)?);
     let mut bytes = Vec::from_slice(alloc, b"P6\n2048 2048\n100\n")?;
@@ -158,7 +157,7 @@ fn largest_file(alloc: Global) -> Result<Vec<u8>, AllocError> {
     Ok(bytes)
 }
 
-/// Where the task is done for the bytes, in large pieces, how much it writes into the room.
+/// How much the task on the bytes, in large pieces, writes into the room, if it is done.
 fn written_by(alloc: Global, task: Task, bytes: &[u8], room: &mut [u8]) -> Option<usize>
     requires { HasSides task }
 {

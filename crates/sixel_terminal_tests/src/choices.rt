@@ -1,18 +1,18 @@
-//! What each choice of a terminal does to what it shows.
+//! How each choice of a terminal changes what it shows.
 
 use crate::fixtures::{BLACK, RED, WHITE, grey, is_shown, plain_choices};
 use sixel_terminal::{Choices, Ground};
 use std::test::Fail;
 
-/// A pixel painted in register 0, which is black, and then another colour of register 0.
+/// A pixel painted in register 0, which is black, and then a new definition of register 0.
 const REDEFINED: &[u8] = b"\x1bPq\"1;1;1;1#0;2;0;0;0#0@#0;2;100;0;0\x1b\\";
-/// A box of two pixels, of which one is painted.
+/// A box of two pixels, one of them painted.
 const HALF: &[u8] = b"\x1bPq\"1;1;2;1#0;2;0;0;0#0@\x1b\\";
 /// Two definitions, and a pixel without a select.
 const UNSELECTED: &[u8] = b"\x1bPq\"1;1;1;1#0;2;0;0;0#1;2;100;0;0@\x1b\\";
 /// A colour out of range, and a pixel in its register.
 const OUT_OF_RANGE: &[u8] = b"\x1bPq#1;2;200;0;0#1@\x1b\\";
-/// A repeat of no data byte.
+/// A repeat of 0.
 const NONE_REPEATED: &[u8] = b"\x1bPq!0@\x1b\\";
 
 #[test]

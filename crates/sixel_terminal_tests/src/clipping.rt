@@ -6,7 +6,7 @@ use sixel_terminal::{Choices, Ground};
 use std::alloc::Global;
 use std::test::Fail;
 
-/// Whether a terminal shows the first colours after a document, and one that differs in clipping alone the others.
+/// Whether a terminal shows the first colours after a document, and one that differs only in clipping the second ones.
 fn is_clipped(
     alloc: Global,
     choices: Choices,
@@ -25,16 +25,16 @@ fn is_clipped(
     Ok(is_shown(alloc, choices, 16, text, whole)? && is_shown(alloc, clips, 16, text, clipped)?)
 }
 
-/// A box of one pixel, and a pixel in the row below it: the byte `A` is the second bit.
+/// A box of one pixel, and a pixel in the row below it: the byte `A` sets the second bit.
 const BELOW: &[u8] = b"\x1bPq\"1;1;1;1#0;2;0;0;0#0A\x1b\\";
 /// A box of one pixel, and a run of two.
 const BESIDE: &[u8] = b"\x1bPq\"1;1;1;1#0;2;0;0;0#0!2@\x1b\\";
 /// A box of one pixel, a run of two, and a pixel at the left margin.
 const OVER: &[u8] = b"\x1bPq\"1;1;1;1#1!2@$#2@\x1b\\";
-/// A run of two past a box of one pixel, and then another colour of its register.
+/// A run of two past a box of one pixel, and then a new definition of its register.
 const REDEFINED: &[u8] = b"\x1bPq\"1;1;1;1#0!2@#0;2;100;0;0\x1b\\";
 
-/// Data paint in the declared box alone, and what they would paint outside it stays as it was.
+/// Data paints only in the declared box; the pixels outside it stay as they were.
 #[test]
 fn data_outside_the_box_are_clipped(rt: HostRuntime) -> Result<(), Fail> {
     let two = plain_choices(2, 1);
@@ -57,10 +57,10 @@ fn data_outside_the_box_are_clipped(rt: HostRuntime) -> Result<(), Fail> {
     Ok(())
 }
 
-/// A run of two before any box, and then a box of one pixel and a run of two in another register.
+/// A run of two before any box, then a box of one pixel, and a run of two in another register.
 const BOX_AFTER: &[u8] = b"\x1bPq!2@$\"1;1;1;1#1!2@\x1b\\";
 
-/// The box is that of the first raster attributes before the data. Where there are none, nothing is clipped.
+/// The box is that of the first raster attributes before the data. Without any, nothing is clipped.
 #[test]
 fn the_first_box_before_clips(rt: HostRuntime) -> Result<(), Fail> {
     let two = plain_choices(2, 1);
@@ -104,7 +104,7 @@ const GROUNDS: &[u8] = b"\x1bPq\"1;1;1;1\"1;1;2;1\x1b\\";
 /// The same, and then a run of two.
 const GROUNDS_AND_RUN: &[u8] = b"\x1bPq\"1;1;1;1\"1;1;2;1#1!2@\x1b\\";
 
-/// A ground is filled whole, also that of a box which is larger than the first.
+/// A ground is filled whole, even in a box that is larger than the first.
 #[test]
 fn grounds_are_not_clipped(rt: HostRuntime) -> Result<(), Fail> {
     let filled = Choices {
@@ -123,7 +123,7 @@ fn grounds_are_not_clipped(rt: HostRuntime) -> Result<(), Fail> {
     Ok(())
 }
 
-/// So many white pixels, of which these have the colour of register 1.
+/// `count` white pixels, except that these have the colour of register 1.
 fn pixels_of(alloc: Global, count: usize, painted: &[usize]) -> Result<Vec<Parts>, Fail> {
     let mut pixels = Vec::with_capacity(alloc, count)?;
     for pixel in 0..count {
@@ -136,8 +136,8 @@ fn pixels_of(alloc: Global, count: usize, painted: &[usize]) -> Result<Vec<Parts
     Ok(pixels)
 }
 
-/// Whether the first pixels, by row and column, have the colour of register 1 where nothing is clipped, and the others
-/// where it is.
+/// Whether these pixels, by index in row order, have the colour of register 1: the first ones without clipping, the
+/// others with it.
 fn is_clipped_to(
     alloc: Global,
     choices: Choices,
@@ -151,7 +151,7 @@ fn is_clipped_to(
     is_clipped(alloc, choices, text, &whole, &clipped)
 }
 
-/// The box begins at the origin. All six bits of two columns are set; of them four pixels lie on the screen.
+/// The box begins at the origin. All six bits of two columns are set; four of these pixels are on the screen.
 #[test]
 fn the_box_begins_at_the_origin(rt: HostRuntime) -> Result<(), Fail> {
     let middle = Choices {
@@ -178,7 +178,7 @@ fn the_box_begins_at_the_origin(rt: HostRuntime) -> Result<(), Fail> {
     Ok(())
 }
 
-/// A run is cut at the box's right side and at the screen's, whichever comes first.
+/// A run is cut at the right side of the box or of the screen, whichever comes first.
 #[test]
 fn runs_are_cut_at_the_right(rt: HostRuntime) -> Result<(), Fail> {
     for (text, whole, clipped) in [
@@ -218,20 +218,20 @@ fn runs_are_cut_at_the_right(rt: HostRuntime) -> Result<(), Fail> {
 /// Two bits at 2;2, in a box of three rows.
 const TALL: &[u8] = b"\x1bPq\"2;2;1;3#1B\x1b\\";
 
-/// The box counts pixels of the screen, so it also cuts a sixel pixel that is two of them high.
+/// The box counts pixels of the screen, so it can cut through a sixel pixel that is two of them high.
 #[test]
 fn tall_sixel_pixels_are_cut_in_the_middle(rt: HostRuntime) -> Result<(), Fail> {
     for (height, text, whole, clipped) in [
-        // The two bits of `B` are the rows 0 and 1, and 2 and 3. The box ends below row 2.
+        // The bits of `B` are rows 0 and 1, and rows 2 and 3. The box ends below row 2.
         (5, TALL, [0, 1, 2, 3].as_slice(), [0, 1, 2].as_slice()),
-        // The latest ratio says the height, the first box the sides.
+        // The latest ratio sets the height, and the first box the sides.
         (
             5,
             b"\x1bPq\"1;1;1;3\"2;2;1;9#1B\x1b\\".as_slice(),
             [0, 1, 2, 3].as_slice(),
             [0, 1, 2].as_slice(),
         ),
-        // The first bit of the next line is the rows 12 and 13.
+        // The first bit of the next line is rows 12 and 13.
         (
             14,
             b"\x1bPq\"2;2;1;13#1-@\x1b\\".as_slice(),

@@ -5,7 +5,7 @@ use sixel_model::Parts;
 use sixel_terminal::Choices;
 use std::test::Fail;
 
-/// A definition in a system that there isn't, and a pixel without a select.
+/// A definition in an unknown colour system, and a pixel without a select.
 const NO_SYSTEM: &[u8] = b"\x1bPq#1;3;0;0;0@\x1b\\";
 /// A definition out of range, and a pixel without a select.
 const OUT_OF_RANGE: &[u8] = b"\x1bPq#1;2;200;0;0@\x1b\\";
@@ -43,7 +43,7 @@ fn definitions_give_colours_or_none(rt: HostRuntime) -> Result<(), Fail> {
     Ok(())
 }
 
-/// A register's number is taken modulo the count, which need not be 16.
+/// The number of a register is taken modulo the number of registers, which need not be 16.
 #[test]
 fn numbers_of_registers_wrap_at_their_count(rt: HostRuntime) -> Result<(), Fail> {
     for (registers, text, expected) in [

@@ -1,4 +1,4 @@
-//! Where events paint, and what paints last.
+//! Where events paint, and which painting is shown.
 
 use crate::fixtures::{
     BLACK, RED, WHITE, document, events_of, grey, is_shown, parts_of, plain_choices, terminal,
@@ -9,7 +9,7 @@ use sixel_terminal::{Choices, Ground, Terminal};
 use std::alloc::{AllocError, Global};
 use std::test::Fail;
 
-/// So many white rows of one column, of which these are black.
+/// A column of `height` white pixels, except that these rows are black.
 fn rows_of(alloc: Global, height: u32, black: &[u32]) -> Result<Vec<Parts>, Fail> {
     let mut rows = Vec::with_capacity(alloc, height as usize)?;
     for row in 0..height {
@@ -18,7 +18,7 @@ fn rows_of(alloc: Global, height: u32, black: &[u32]) -> Result<Vec<Parts>, Fail
     Ok(rows)
 }
 
-/// The height is that of the latest raster attributes before: 1 where both numbers are 1, else the terminal's.
+/// The height is that of the latest raster attributes before: 1 if both numbers are 1, else the terminal's.
 #[test]
 fn heights_follow_the_ratio(rt: HostRuntime) -> Result<(), Fail> {
     for (height, text, black) in [
@@ -45,7 +45,7 @@ fn heights_follow_the_ratio(rt: HostRuntime) -> Result<(), Fail> {
     Ok(())
 }
 
-/// The last painting of a pixel is shown, and none wraps round the screen.
+/// The last painting of a pixel is shown, and no run wraps round the screen.
 #[test]
 fn the_last_painting_is_shown(rt: HostRuntime) -> Result<(), Fail> {
     let one = plain_choices(1, 1);
@@ -83,10 +83,10 @@ fn the_last_painting_is_shown(rt: HostRuntime) -> Result<(), Fail> {
 
 /// The second raster attributes come after a painting.
 const RASTER_TWICE: &[u8] = b"\x1bPq\"1;1;1;1#1@\"1;1;1;1\x1b\\";
-/// The ground's register is defined after the filling.
+/// The register of the ground is defined after the filling.
 const GROUND_REDEFINED: &[u8] = b"\x1bPq\"1;1;1;1#5;2;100;0;0\x1b\\";
 
-/// Raster attributes paint their box from the origin on, each time, in the ground's register.
+/// Each raster attributes command fills its box, from the origin on, with the ground's register.
 #[test]
 fn grounds_are_filled_or_kept(rt: HostRuntime) -> Result<(), Fail> {
     let one = plain_choices(1, 1);
@@ -136,7 +136,7 @@ fn grounds_are_filled_or_kept(rt: HostRuntime) -> Result<(), Fail> {
     Ok(())
 }
 
-/// Lists that no document gives: none at all, and one with a finish and a start in the middle, which reset nothing.
+/// Lists that aren't a document's: an empty one, and one with a finish and a start in the middle, which reset nothing.
 #[test]
 fn any_list_of_events_is_shown(rt: HostRuntime) -> Result<(), Fail> {
     let terminal = terminal(rt.alloc(), plain_choices(2, 1), 16)?;
@@ -156,10 +156,10 @@ fn any_list_of_events_is_shown(rt: HostRuntime) -> Result<(), Fail> {
     Ok(())
 }
 
-/// A pixel painted in register 0, which is black, and then another colour of register 0.
+/// A pixel painted in register 0, which is black, and then a new definition of register 0.
 const REDEFINED: &[u8] = b"\x1bPq\"1;1;1;1#0;2;0;0;0#0@#0;2;100;0;0\x1b\\";
 
-/// Whether the terminal shows one pixel of this colour; `None` where a growth was refused.
+/// Whether the terminal shows one pixel of this colour; `None` if an allocation failed.
 fn shows(alloc: Global, terminal: &Terminal, events: &[Placed], expected: Parts) -> Option<bool> {
     let colours = terminal.show(alloc, events).ok()?;
     let [colour] = colours.as_slice() else {
@@ -172,7 +172,7 @@ fn copies(alloc: Global, colour: Colour, count: usize) -> Result<Vec<Colour>, Al
     vec![in alloc; colour; count]
 }
 
-/// A terminal of black registers and one white pixel, also where a growth was refused.
+/// A terminal with black registers and one white pixel, even if one allocation fails.
 fn terminal_in_turn(alloc: Global, choices: Choices) -> Result<Terminal, Fail> {
     let black = Colour::rgb(0, 0, 0).ok_or("black")?;
     let white = Colour::rgb(100, 100, 100).ok_or("white")?;
@@ -181,7 +181,7 @@ fn terminal_in_turn(alloc: Global, choices: Choices) -> Result<Terminal, Fail> {
     Ok(Terminal::new(choices, colours, screen).or(Err("a terminal"))?)
 }
 
-/// Whether a terminal shows the colour after a document, or does at the next call where a growth was refused.
+/// Whether a terminal shows the colour after a document, at once or, if an allocation failed, at the next call.
 fn shows_in_turn(
     alloc: Global,
     choices: Choices,
@@ -195,8 +195,8 @@ fn shows_in_turn(
     Ok(first.or_else(|| shows(alloc, &terminal, &events, expected)) == Some(true))
 }
 
-/// Under `rt try --test --fail-alloc N` the N-th growth is refused: the first four make the terminal and the events,
-/// and those of `show` are 5, 6 and 7. No other is refused.
+/// `rt try --test --fail-alloc N` makes allocation N fail. The first four make the terminal and the events, and 5, 6
+/// and 7 are those of `show`. No other fails.
 #[test]
 fn a_refused_growth_is_answered(rt: HostRuntime) -> Result<(), Fail> {
     let one = plain_choices(1, 1);
@@ -214,7 +214,7 @@ fn a_refused_growth_is_answered_at_showing(rt: HostRuntime) -> Result<(), Fail> 
     Ok(())
 }
 
-/// What isn't seen takes one growth, the fifth.
+/// If the string isn't seen, `show` makes one allocation, the fifth.
 #[test]
 fn a_refused_growth_is_answered_unseen(rt: HostRuntime) -> Result<(), Fail> {
     let without = Choices {
@@ -226,7 +226,7 @@ fn a_refused_growth_is_answered_unseen(rt: HostRuntime) -> Result<(), Fail> {
     Ok(())
 }
 
-/// So many black columns of six rows, one event each.
+/// `count` black columns of six rows, one event each.
 fn events_of_columns(alloc: Global, count: usize) -> Result<Vec<Placed>, Fail> {
     let mut events = Vec::with_capacity(alloc, count)?;
     for _ in 0..count {
@@ -238,14 +238,14 @@ fn events_of_columns(alloc: Global, count: usize) -> Result<Vec<Placed>, Fail> {
     Ok(events)
 }
 
-/// Whether the first pixels are black, so many, and the others white.
+/// Whether the first `count` pixels are black, and the others white.
 fn are_black_first(colours: &[Colour], count: usize) -> bool {
     let (black, white) = colours.split_at(count.min(colours.len()));
     black.iter().all(|colour| colour.parts() == BLACK)
         && white.iter().all(|colour| colour.parts() == WHITE)
 }
 
-/// The largest screen, and a list that goes far past its right side.
+/// The largest screen, and a list that goes far beyond its right side.
 #[test]
 fn the_largest_screen_is_shown(rt: HostRuntime) -> Result<(), Fail> {
     let terminal = terminal(rt.alloc(), plain_choices(4_096, 4_096), 16)?;

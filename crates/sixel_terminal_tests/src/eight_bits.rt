@@ -9,16 +9,16 @@ use sixel_terminal::{Choices, Ground, Terminal};
 use std::alloc::Global;
 use std::test::Fail;
 
-/// A black pixel between controls of 7 bits.
+/// A black pixel between 7-bit controls.
 const SEVEN: &[u8] = b"\x1bPq\"1;1;1;1#0;2;0;0;0#0@\x1b\\";
-/// The same between an introducer and a terminator of 8 bits.
+/// The same between an 8-bit introducer and an 8-bit terminator.
 const EIGHT: &[u8] = b"\x90q\"1;1;1;1#0;2;0;0;0#0@\x9c";
-/// The introducer alone has 8 bits.
+/// Only the introducer has 8 bits.
 const EIGHT_AT_START: &[u8] = b"\x90q\"1;1;1;1#0;2;0;0;0#0@\x1b\\";
-/// The terminator alone has 8 bits.
+/// Only the terminator has 8 bits.
 const EIGHT_AT_END: &[u8] = b"\x1bPq\"1;1;1;1#0;2;0;0;0#0@\x9c";
 
-/// A terminal without 8-bit controls shows nothing of a string that has one, wherever it stands.
+/// A terminal without 8-bit controls shows nothing of a string that has one, wherever it is.
 #[test]
 fn eight_bits_are_seen_or_not(rt: HostRuntime) -> Result<(), Fail> {
     let one = plain_choices(1, 1);
@@ -45,7 +45,7 @@ fn eight_bits_are_seen_or_not(rt: HostRuntime) -> Result<(), Fail> {
         (without, EIGHT_AT_END, WHITE),
         (clips, SEVEN, BLACK),
         (clips, EIGHT_AT_END, WHITE),
-        // Nor is a ground filled.
+        // A ground isn't filled either.
         (filled, b"\x1bPq\"1;1;1;1\x1b\\".as_slice(), grey(30)),
         (filled, b"\x1bPq\"1;1;1;1\x9c".as_slice(), WHITE),
     ] {
@@ -57,7 +57,7 @@ fn eight_bits_are_seen_or_not(rt: HostRuntime) -> Result<(), Fail> {
     Ok(())
 }
 
-/// Whether a terminal with or without 8-bit controls, whose three pixels are 0, 6 and 12 percent grey, shows this.
+/// Whether a terminal with or without 8-bit controls, whose three pixels are grey of 0, 6 and 12 percent, shows this.
 fn is_shown_over_greys(
     alloc: Global,
     eight_bit: bool,
@@ -75,7 +75,7 @@ fn is_shown_over_greys(
     Ok(parts_of(alloc, &shown)?.as_slice() == expected)
 }
 
-/// The whole screen stays as it was, each pixel in its own colour.
+/// The whole screen stays as it was, each pixel with its own colour.
 #[test]
 fn a_screen_stays_as_it_was(rt: HostRuntime) -> Result<(), Fail> {
     let text = b"\x1bPq#0;2;100;0;0!2@\x9c".as_slice();
@@ -99,7 +99,7 @@ fn push_events(alloc: Global, events: &mut Vec<Placed>, text: &[u8]) -> Result<(
     Ok(())
 }
 
-/// The events of this document between those of two of 7 bits.
+/// The events of this document between those of two documents with 7-bit controls.
 fn events_around(alloc: Global, text: &[u8]) -> Result<Vec<Placed>, Fail> {
     let mut events = events_of(alloc, SEVEN)?;
     push_events(alloc, &mut events, text)?;
@@ -107,7 +107,7 @@ fn events_around(alloc: Global, text: &[u8]) -> Result<Vec<Placed>, Fail> {
     Ok(events)
 }
 
-/// Lists that no document gives: a start or a finish of 8 bits stands in the middle.
+/// Lists that aren't a document's: an 8-bit start or finish is in the middle.
 #[test]
 fn eight_bits_in_the_middle_are_not_seen(rt: HostRuntime) -> Result<(), Fail> {
     let one = plain_choices(1, 1);

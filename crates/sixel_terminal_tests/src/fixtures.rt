@@ -13,7 +13,7 @@ pub(crate) const RED: Parts = Parts::Rgb(100, 0, 0);
 
 pub(crate) const WHITE: Parts = Parts::Rgb(100, 100, 100);
 
-/// A grey of this many percent.
+/// A grey of this percentage.
 pub(crate) fn grey(percent: u8) -> Parts {
     Parts::Rgb(percent, percent, percent)
 }
@@ -37,7 +37,7 @@ pub(crate) fn plain_choices(width: u32, height: u32) -> Choices {
     }
 }
 
-/// Register n starts as 6n percent of red, green and blue, from 17 on modulo 101.
+/// The starting colours: register n is the grey of 6n percent, modulo 101 from 17 on.
 pub(crate) fn grey_colours(alloc: Global, count: u16) -> Result<Vec<Colour>, Fail> {
     let mut colours = Vec::with_capacity(alloc, count as usize)?;
     for register in 0..count {
@@ -53,14 +53,14 @@ pub(crate) fn white_screen(alloc: Global, pixels: usize) -> Result<Vec<Colour>, 
     Ok(vec![in alloc; white; pixels]?)
 }
 
-/// A terminal of these choices with so many grey registers and a white screen.
+/// A terminal with these choices, this many grey registers and a white screen.
 pub(crate) fn terminal(alloc: Global, choices: Choices, registers: u16) -> Result<Terminal, Fail> {
     let pixels = (choices.screen_width as usize).saturating_mul(choices.screen_height as usize);
     let colours = grey_colours(alloc, registers)?;
     Ok(Terminal::new(choices, colours, white_screen(alloc, pixels)?).or(Err("a terminal"))?)
 }
 
-/// What reading a text gives.
+/// The events of a text, or the fault.
 pub(crate) fn document(alloc: Global, text: &[u8]) -> Result<Vec<Placed>, InputFault> {
     read_all(alloc, &mut SliceSource::new(text, 64, None))
 }
@@ -70,7 +70,7 @@ pub(crate) fn events_of(alloc: Global, text: &[u8]) -> Result<Vec<Placed>, Fail>
     Ok(document(alloc, text).or(Err("a document"))?)
 }
 
-/// What a terminal of so many grey registers and a white screen shows after a document.
+/// What a terminal with this many grey registers and a white screen shows after a document.
 pub(crate) fn shown_of(
     alloc: Global,
     choices: Choices,
@@ -82,7 +82,7 @@ pub(crate) fn shown_of(
     parts_of(alloc, colours.as_slice())
 }
 
-/// Whether a terminal of so many registers shows this after a document.
+/// Whether a terminal with this many registers shows this after a document.
 pub(crate) fn is_shown(
     alloc: Global,
     choices: Choices,

@@ -1,4 +1,4 @@
-//! That the definitions of `sixel_terminal` are the format's and the class's, by worked examples.
+//! Tests of `sixel_terminal`: its definitions agree with the format and the class, by worked examples.
 #![tactic(auto)]
 
 #[cfg(test)]

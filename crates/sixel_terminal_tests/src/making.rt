@@ -1,11 +1,11 @@
-//! Which parts make a terminal, and where it has room.
+//! Which parts make a terminal, and for which box it has room.
 
 use crate::fixtures::{grey_colours, plain_choices, terminal};
 use sixel_terminal::{Choices, Ground, Terminal, TerminalReason};
 use std::alloc::Global;
 use std::test::Fail;
 
-/// Why so many registers and pixels make no terminal, if their colours come back as they were.
+/// Why this many registers and pixels make no terminal; `None` if they do, or if the fault changed their colours.
 fn refused(
     alloc: Global,
     choices: Choices,
@@ -107,7 +107,7 @@ fn terminals_name_the_first_reason(rt: HostRuntime) -> Result<(), Fail> {
     Ok(())
 }
 
-/// The widest limits: a terminal is made of each.
+/// A terminal can be made at each limit.
 #[test]
 fn terminals_are_made_up_to_their_limits(rt: HostRuntime) -> Result<(), Fail> {
     let plain = plain_choices(1, 1);

@@ -2,7 +2,7 @@
 
 use sixel_io::{DeviceFault, Sink, Source};
 
-/// How often a device was called.
+/// The number of calls of a device.
 #[derive(Clone, Copy)]
 pub struct Calls {
     pub fills: u64,
@@ -10,7 +10,7 @@ pub struct Calls {
     pub flushes: u64,
 }
 
-/// A device, and the calls that it saw.
+/// A device, and the number of its calls.
 #[derive(Drop)]
 pub struct CountingDevice<D> {
     pub device: D,

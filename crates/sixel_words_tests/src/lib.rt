@@ -1,4 +1,4 @@
-//! Tests of the words of the command line.
+//! Tests of the command line.
 #![tactic(auto)]
 
 #[cfg(test)]

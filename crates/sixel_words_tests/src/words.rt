@@ -2,7 +2,7 @@ use sixel_words::{Request, WordsFault, parse_request, parse_words, task_in};
 use std::alloc::{AllocError, Global};
 use std::test::Fail;
 
-/// The words, which have spaces between them.
+/// The arguments of a line, split at spaces.
 fn words_of(alloc: Global, line: &str) -> Result<Vec<String>, AllocError> {
     let mut words = Vec::new(alloc);
     for word in line.split(' ') {
@@ -68,7 +68,7 @@ fn asks(
     Ok(says(rt, line, request.as_str())? && task_said(rt.alloc(), line)?.as_str() == task)
 }
 
-/// Whether the words are refused with this text and the sentence that follows each.
+/// Whether the command line is refused with this text and clap's last sentence.
 fn refuses(rt: &HostRuntime, line: &str, text: &str) -> Result<bool, Fail> {
     let more = "\n\nFor more information, try '--help'.\n";
     let whole = format!(in rt.alloc(); "{text}{more}")?;
@@ -140,7 +140,7 @@ fn names_the_task(rt: HostRuntime) -> Result<(), Fail> {
     Ok(())
 }
 
-/// Files stand in the order of the words, `-` among them, and behind `--` each word is one.
+/// The files are in the order of the arguments, `-` among them; after `--` each argument is a file.
 #[test]
 fn names_the_files_to_check(rt: HostRuntime) -> Result<(), Fail> {
     let rows = [
@@ -171,7 +171,7 @@ fn names_the_files_to_check(rt: HostRuntime) -> Result<(), Fail> {
     Ok(())
 }
 
-/// A task other than a check may be given one file.
+/// Each task except `check` may have one file.
 #[test]
 fn names_the_file_of_a_task(rt: HostRuntime) -> Result<(), Fail> {
     let rows = [
@@ -305,7 +305,7 @@ const BESIDE_BOTH: &str = "usage error: the argument '--box' cannot be used with
 
 Usage: sixel show [OPTIONS] [FILE]";
 
-/// A box beside a side, also where that is the number that stands for none.
+/// `--box` with a side, even with the default number.
 #[test]
 fn refuses_a_box_beside_a_side(rt: HostRuntime) -> Result<(), Fail> {
     let rows = [
@@ -374,7 +374,7 @@ fn shows_the_version(rt: HostRuntime) -> Result<(), Fail> {
     Ok(())
 }
 
-/// The help of each task tells what the exit status says.
+/// The help of each task says what the exit status means.
 #[test]
 fn shows_the_exit_status(rt: HostRuntime) -> Result<(), Fail> {
     for (line, status) in [
@@ -473,7 +473,7 @@ Example: sixel show --wide --box plot.six > plot.ppm
     Ok(())
 }
 
-/// The name in the line of `check` or of a fault is that of its explanation.
+/// A name in the line of `check` or of a fault is also the name of its explanation.
 #[test]
 fn asks_for_an_explanation(rt: HostRuntime) -> Result<(), Fail> {
     let rows = [

@@ -5,12 +5,12 @@ use sixel_program::Exit;
 use std::alloc::{AllocError, Global};
 use std::test::Fail;
 
-/// Standard output has room for so many bytes.
+/// Standard output with room for this many bytes.
 fn narrow(room: usize) -> Streams {
     Streams { room, ..STREAMS }
 }
 
-/// Whether a check of these files is refused with these lines, where standard output takes so many bytes and these.
+/// Whether a check of these files is refused with these lines, if standard output has room for only these bytes.
 fn is_cut(
     alloc: Global,
     names: &[&str],
@@ -27,7 +27,7 @@ fn is_cut(
     ends_over(alloc, check_of(false, names, PIXEL), narrow(room), ended)
 }
 
-/// The line names no file, and the rest isn't read, standard input among it.
+/// The line names no file, and the remaining inputs aren't read, standard input included.
 #[test]
 fn an_output_that_fails(rt: HostRuntime) -> Result<(), Fail> {
     let names = ["pixel", "-", "text"];
@@ -43,7 +43,7 @@ fn an_output_that_fails(rt: HostRuntime) -> Result<(), Fail> {
     Ok(())
 }
 
-/// All is written, and may be lost.
+/// Everything is written, but may be lost.
 #[test]
 fn an_output_that_is_not_flushed(rt: HostRuntime) -> Result<(), Fail> {
     let streams = Streams {
@@ -61,7 +61,7 @@ fn an_output_that_is_not_flushed(rt: HostRuntime) -> Result<(), Fail> {
     Ok(())
 }
 
-/// A check that writes no verdict doesn't fail for want of room, nor where the output can't be flushed.
+/// A quiet check doesn't fail if standard output has no room or can't be flushed.
 #[test]
 fn an_output_that_nothing_is_written_to(rt: HostRuntime) -> Result<(), Fail> {
     let broken = Ended {
@@ -80,7 +80,7 @@ fn an_output_that_nothing_is_written_to(rt: HostRuntime) -> Result<(), Fail> {
     Ok(())
 }
 
-/// What can't be said is left out, and the program ends as it would.
+/// What standard error can't take is left out, and the program ends as before.
 #[test]
 fn errors_that_fail(rt: HostRuntime) -> Result<(), Fail> {
     for (errors_room, said) in [

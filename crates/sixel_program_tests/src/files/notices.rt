@@ -1,4 +1,4 @@
-//! What is said before a check that reads a terminal.
+//! The notice before a check that reads a terminal.
 
 ghost use Rattle.sixel_run.specs.Outputs.{HasSides};
 
@@ -17,7 +17,7 @@ const TERMINAL: Streams = Streams {
 
 const WAITING: &[u8] = b"sixel: waiting for sixel text on standard input\n";
 
-/// Whether what is asked for is done and this is said where standard input is a terminal, and nothing where it is none.
+/// Whether the request is done with this notice if standard input is a terminal, and without one if not.
 fn says(
     alloc: Global,
     asked: Asked<'_>,
@@ -53,7 +53,7 @@ fn a_check_that_reads_a_terminal(rt: HostRuntime) -> Result<(), Fail> {
     Ok(())
 }
 
-/// It is said once, before all else.
+/// The notice comes once, before everything else.
 #[test]
 fn the_notice_comes_first(rt: HostRuntime) -> Result<(), Fail> {
     let ended = Ended {
@@ -80,7 +80,7 @@ fn files_alone(rt: HostRuntime) -> Result<(), Fail> {
     Ok(())
 }
 
-/// Whether the task over standard input, by no name and by its own, writes this and says nothing.
+/// Whether the task on standard input, without a name and as `-`, writes this and gives no notice.
 fn says_nothing(alloc: Global, task: Task, input: &[u8], written: &[u8]) -> Result<bool, AllocError>
     requires { HasSides task }
 {
@@ -102,7 +102,7 @@ fn other_tasks(rt: HostRuntime) -> Result<(), Fail> {
     Ok(())
 }
 
-/// A notice that can't be said keeps no check from being done.
+/// A check is done even if its notice can't be written.
 #[test]
 fn errors_that_fail(rt: HostRuntime) -> Result<(), Fail> {
     for (errors_room, said) in [(0, b"".as_slice()), (14, b"sixel: waiting")] {

@@ -4,7 +4,7 @@ use super::{check_of, request_of};
 use sixel_program::{Exit, System, execute};
 use std::test::Fail;
 
-/// An empty file, a folder, which can be opened and not read, and a name of nothing.
+/// An empty file, a directory, which can be opened but not read, and a name without a file.
 #[test]
 fn files_of_the_system(rt: HostRuntime) -> Result<(), Fail> {
     let names = ["/dev/null", "/", "/no such file", "/dev/null"];

@@ -1,4 +1,4 @@
-//! Tasks over one file.
+//! Tasks on one file.
 
 ghost use Rattle.sixel_run.specs.Outputs.{HasSides};
 
@@ -23,8 +23,8 @@ fn ends_with(
     ends_over(alloc, asked_of(task, &[name], input), streams, ended)
 }
 
-/// Whether the task writes this of these bytes where standard input has them, by no name and by its own, and where the
-/// file of this name has them and standard input has others, which it leaves unread.
+/// Whether the task writes this for these bytes: on standard input, without a name and as `-`; and in the file with
+/// this name, with other bytes on standard input that it doesn't read.
 fn writes(
     alloc: Global,
     task: Task,
@@ -65,8 +65,8 @@ fn a_file_is_as_standard_input(rt: HostRuntime) -> Result<(), Fail> {
     Ok(())
 }
 
-/// Whether the task over the file of this name ends so, writes this and says this, and leaves standard input, which has
-/// a PNG, unread.
+/// Whether the task on the file with this name ends so, with this on standard output and on standard error, and doesn't
+/// read standard input, which has a PNG.
 fn ends_so(
     alloc: Global,
     task: Task,
@@ -86,7 +86,7 @@ fn ends_so(
     ends_with(alloc, task, name, PNG, STREAMS, ended)
 }
 
-/// The line of a fault, or of the rule that kept a picture from being rendered, names the file.
+/// The line of a fault, or of the rule that keeps a picture from being rendered, has the file's name.
 #[test]
 fn a_file_that_is_refused(rt: HostRuntime) -> Result<(), Fail> {
     let broken = b"ratio: broken Ratio 3\n";
@@ -107,7 +107,7 @@ fn a_file_that_is_refused(rt: HostRuntime) -> Result<(), Fail> {
     Ok(())
 }
 
-/// The advice on another format is by the first bytes of the file, and not by those of standard input.
+/// The advice on another format depends on the first bytes of the file, not on those of standard input.
 #[test]
 fn files_of_other_formats(rt: HostRuntime) -> Result<(), Fail> {
     let png =
@@ -127,7 +127,7 @@ fn files_of_other_formats(rt: HostRuntime) -> Result<(), Fail> {
     Ok(())
 }
 
-/// That the output fails is the fault of no file.
+/// No file is blamed if the output fails.
 #[test]
 fn an_output_that_fails(rt: HostRuntime) -> Result<(), Fail> {
     let ended = Ended {
@@ -150,8 +150,8 @@ fn an_output_that_fails(rt: HostRuntime) -> Result<(), Fail> {
     Ok(())
 }
 
-/// Whether the task over the file of this name ends so and writes nothing, where standard error takes so many bytes and
-/// these.
+/// Whether the task on the file with this name ends so and writes nothing, with these bytes on standard error, which
+/// has room for `errors_room`.
 fn says_so(
     alloc: Global,
     task: Task,
@@ -175,7 +175,7 @@ fn says_so(
     ends_with(alloc, task, name, PIXEL, streams, ended)
 }
 
-/// What can't be said is left out.
+/// What standard error can't take is left out.
 #[test]
 fn errors_that_fail(rt: HostRuntime) -> Result<(), Fail> {
     assert!(rt; says_so(rt.alloc(), RENDER, "ratio", Exit::Broken, 0, b"")?);
