@@ -70,6 +70,7 @@ impl<S: Source> Source for Peeked<S> {
 
 /// The input of a task over this source. Only `encode` looks at its first bytes, to say what an input of another format
 /// is; for any other task nothing is read here.
+#[tactic(auto, using(crate::proofs::FilesLemmas::no_prefix))]
 pub fn peek<S: Source>(task: Task, source: S) -> Peeked<S>
     ensures told { Keeps (S.state source).remaining (⟦<Peeked<S> as Source>⟧.state result).remaining }
     ensures prefix { IsPrefix (S.state source).remaining result.prefix.items }
