@@ -1,6 +1,6 @@
 //! Runs on long inputs, and on numbers and offsets at their limits.
 
-use crate::runs::{Limits, agrees, run_counted};
+use crate::runs::{CHECK, ENCODE, Limits, agrees, run_counted};
 use sixel_check::{Finding, Rule};
 use sixel_model::Profile;
 use sixel_ppm::PpmReason;
@@ -29,15 +29,7 @@ const OPEN_PIXEL: &[u8] = b"\x1bPq\"1;1;1;1#0;2;0;0;0#0@";
 
 /// Whether a check of the bytes writes this line, and answers this.
 fn checks(alloc: Global, bytes: &[u8], line: &str, answer: Result<Status, RunFault>) -> bool {
-    let profile = Profile::Registers16;
-    agrees(
-        alloc,
-        Task::Check { profile },
-        bytes,
-        1000,
-        line.as_bytes(),
-        answer,
-    )
+    agrees(alloc, CHECK, bytes, 1000, line.as_bytes(), answer)
 }
 
 /// The answer for a pixel outside the box.
@@ -110,12 +102,7 @@ const SCREEN: Task = Task::Show {
 /// Whether the bytes are shown on that screen, white except for the first pixel; the header has 17 bytes.
 fn shows_a_pixel(alloc: Global, bytes: &[u8]) -> Result<bool, AllocError> {
     let mut room = vec![in alloc; 0u8; 3_300_017]?;
-    let limits = Limits {
-        piece: 65_536,
-        fill_fails: None,
-        most: 65_536,
-        take_fails: None,
-    };
+    let limits = Limits::unfailing(65_536, 65_536);
     let ran = run_counted(alloc, SCREEN, bytes, limits, &mut room);
     Ok(
         ran.answer == Ok(Status::Done)
@@ -135,8 +122,7 @@ fn a_long_document_is_shown_on_a_large_screen(rt: HostRuntime) -> Result<(), Fai
 
 /// Whether an encode of the bytes writes this text, and answers this.
 fn encodes(alloc: Global, bytes: &[u8], text: &[u8], answer: Result<Status, RunFault>) -> bool {
-    let profile = Profile::Registers16;
-    agrees(alloc, Task::Encode { profile }, bytes, 1000, text, answer)
+    agrees(alloc, ENCODE, bytes, 1000, text, answer)
 }
 
 fn refused(reason: PpmReason, place: u64) -> Result<Status, RunFault> {

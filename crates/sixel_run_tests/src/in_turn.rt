@@ -2,7 +2,9 @@
 
 ghost use Rattle.sixel_run.specs.Outputs.{HasSides};
 
-use crate::runs::{Limits, Ran, run_counted};
+use crate::runs::{
+    CHECK, ENCODE, Limits, RENDER, Ran, SHOW_BOX, WIDE_CHECK, WIDE_ENCODE, WIDE_RENDER, run_counted,
+};
 use sixel_check::{Finding, Rule};
 use sixel_grammar::{Fault, Reason};
 use sixel_model::Profile;
@@ -49,18 +51,6 @@ const LISTED_FAULT: Case = Case {
     text: b"0 start 7bit 0\n",
     answer: Err(TOO_LARGE),
     calls: [(1, 9, 15), (5, 2, 3), (64, 1, 1)],
-};
-
-const CHECK: Task = Task::Check {
-    profile: Profile::Registers16,
-};
-
-const RENDER: Task = Task::Render {
-    profile: Profile::Registers16,
-};
-
-const ENCODE: Task = Task::Encode {
-    profile: Profile::Registers16,
 };
 
 /// One pixel, checked.
@@ -173,22 +163,15 @@ const SHOWN_FAULT: Case = Case {
     ..CHECKED_FAULT
 };
 
-const BOX: Task = Task::ShowBox {
-    profile: Profile::Registers16,
-    showing: false,
-    fill: false,
-    selects: false,
-};
-
-/// One pixel, on a screen with the size of its box: 26 bytes.
+/// One pixel, on a screen of its box: 26 bytes.
 const BOXED: Case = Case {
-    task: BOX,
+    task: SHOW_BOX,
     ..RENDERED
 };
 
 /// A document of 5 bytes without a box: no screen.
 const UNBOXED: Case = Case {
-    task: BOX,
+    task: SHOW_BOX,
     bytes: b"\x1bPq\x1b\\",
     text: b"",
     answer: Err(RunFault::NoBox),
@@ -197,7 +180,7 @@ const UNBOXED: Case = Case {
 
 /// A fault: no screen.
 const BOXED_FAULT: Case = Case {
-    task: BOX,
+    task: SHOW_BOX,
     ..CHECKED_FAULT
 };
 
@@ -206,9 +189,7 @@ const WIDE_PIXEL: &[u8] = b"\x1bPq\"1;1;1;1#16;2;0;0;0#16@\x1b\\";
 
 /// That pixel, checked in the wide profile.
 const WIDE_CHECKED: Case = Case {
-    task: Task::Check {
-        profile: Profile::Registers256,
-    },
+    task: WIDE_CHECK,
     bytes: WIDE_PIXEL,
     text: b"portable 1 1\n",
     answer: Ok(Status::Done),
@@ -217,9 +198,7 @@ const WIDE_CHECKED: Case = Case {
 
 /// The same, rendered.
 const WIDE_RENDERED: Case = Case {
-    task: Task::Render {
-        profile: Profile::Registers256,
-    },
+    task: WIDE_RENDER,
     bytes: WIDE_PIXEL,
     text: b"P6\n1 1\n100\n\x00\x00\x00",
     answer: Ok(Status::Done),
@@ -244,24 +223,21 @@ const WIDE_SHOWN: Case = Case {
 
 /// Three red pixels, encoded in the wide profile as in the narrow one.
 const WIDE_RED: Case = Case {
-    task: Task::Encode {
-        profile: Profile::Registers256,
-    },
+    task: WIDE_ENCODE,
     ..SHORT_RED
 };
 
-/// Runs the task on the bytes, with input and output in pieces. Fill number `fill_fails` fails, and take or flush
+/// Runs the task of the case on its bytes, in and out in pieces. Fill number `fill_fails` fails, and take or flush
 /// number `take_fails`.
 fn run_in_pieces(
     alloc: Global,
-    task: Task,
-    bytes: &[u8],
+    case: Case,
     piece: usize,
     fill_fails: Option<u64>,
     take_fails: Option<u64>,
     room: &mut [u8],
 ) -> Ran
-    requires { HasSides task }
+    requires { HasSides case.task }
 {
     let limits = Limits {
         piece,
@@ -269,7 +245,7 @@ fn run_in_pieces(
         most: piece,
         take_fails,
     };
-    run_counted(alloc, task, bytes, limits, room)
+    run_counted(alloc, case.task, case.bytes, limits, room)
 }
 
 /// The lines of the events that the first `given` bytes complete, of one pixel or of the number that is too large.
@@ -299,15 +275,7 @@ fn stops_at_fill(alloc: Global, case: Case, piece: usize, fill: u64) -> bool
     requires { HasSides case.task }
 {
     let mut room = [0; 128];
-    let ran = run_in_pieces(
-        alloc,
-        case.task,
-        case.bytes,
-        piece,
-        Some(fill),
-        None,
-        &mut room,
-    );
+    let ran = run_in_pieces(alloc, case, piece, Some(fill), None, &mut room);
     let text = written_text(case.task, piece.saturating_mul(fill as usize));
     ran.answer == Err(RunFault::Read)
         && room.get(..ran.written) == Some(text)
@@ -327,15 +295,7 @@ fn stops_at_take(alloc: Global, case: Case, piece: usize, take: u64, flushes: u6
     requires { HasSides case.task }
 {
     let mut room = [0; 128];
-    let ran = run_in_pieces(
-        alloc,
-        case.task,
-        case.bytes,
-        piece,
-        None,
-        Some(take),
-        &mut room,
-    );
+    let ran = run_in_pieces(alloc, case, piece, None, Some(take), &mut room);
     ran.answer == Err(RunFault::Write)
         && is_prefix(case, piece, take, ran.written)
         && room.get(..ran.written) == case.text.get(..ran.written)
@@ -349,15 +309,7 @@ fn is_whole(alloc: Global, case: Case, piece: usize, fills: u64, takes: u64) -> 
 {
     let mut room = [0; 128];
     let never = takes.saturating_add(1);
-    let ran = run_in_pieces(
-        alloc,
-        case.task,
-        case.bytes,
-        piece,
-        Some(fills),
-        Some(never),
-        &mut room,
-    );
+    let ran = run_in_pieces(alloc, case, piece, Some(fills), Some(never), &mut room);
     ran.answer == case.answer
         && room.get(..ran.written) == Some(case.text)
         && ran.source.fills == fills
@@ -388,7 +340,7 @@ fn fills_room(alloc: Global, case: Case, count: usize) -> bool
 {
     let mut whole = [0; 128];
     let (room, _) = whole.split_at_mut(count.min(128));
-    let ran = run_in_pieces(alloc, case.task, case.bytes, 5, None, None, room);
+    let ran = run_in_pieces(alloc, case, 5, None, None, room);
     ran.answer == Err(RunFault::Write)
         && case.text.get(..count) == Some(&*room)
         && ran.sink.flushes == 0
@@ -399,15 +351,7 @@ fn fills_room(alloc: Global, case: Case, count: usize) -> bool
 fn stops_at_both(alloc: Global, case: Case) -> bool
     requires { HasSides case.task }
 {
-    let ran = run_in_pieces(
-        alloc,
-        case.task,
-        case.bytes,
-        1,
-        Some(0),
-        Some(0),
-        &mut [0; 128],
-    );
+    let ran = run_in_pieces(alloc, case, 1, Some(0), Some(0), &mut [0; 128]);
     ran.answer == Err(RunFault::Write)
         && ran.written == 0
         && ran.source.fills == 1

@@ -2,7 +2,7 @@ ghost use Rattle.sixel_run.specs.Outputs.{HasSides};
 
 use sixel_check::{Verdict, check_bytes};
 use sixel_io::{SliceSink, SliceSource};
-use sixel_model::{Colour, Palette, Picture, Profile};
+use sixel_model::{Palette, Parts, Picture, Profile};
 use sixel_run::{Status, Task, run};
 use std::alloc::{AllocError, Global};
 use std::test::Fail;
@@ -93,14 +93,12 @@ fn returns(alloc: Global, profile: Profile, width: u32, height: u32) -> Result<b
 #[test]
 fn encoded_pictures_come_back(rt: HostRuntime) -> Result<(), Fail> {
     for width in 1..=70 {
-        assert!(rt;
-            returns(rt.alloc(), Profile::Registers16, width, width % 13 + 1)?,
-            "{width}"
-        );
-        assert!(rt;
-            returns(rt.alloc(), Profile::Registers256, width, width % 13 + 1)?,
-            "{width}"
-        );
+        for profile in [Profile::Registers16, Profile::Registers256] {
+            assert!(rt;
+                returns(rt.alloc(), profile, width, width % 13 + 1)?,
+                "{width}"
+            );
+        }
     }
     Ok(())
 }
@@ -112,30 +110,40 @@ pub fn is_encoded_as(picture: &Picture, text: &[u8]) -> bool {
     sixel_encode::encode(picture, &mut output).is_ok() && output.written() == text
 }
 
-/// Whether registers 0 and 3 have these colours, and no other of the 16 has one.
-fn has_colours(palette: &Palette, first: Option<Colour>, fourth: Option<Colour>) -> bool {
-    for register in 0..16 {
-        let expected = match register {
-            0 => first,
-            3 => fourth,
-            _ => None,
-        };
-        if palette.get(register) != expected {
+/// Whether these registers have these colours, and no other register of the profile has one.
+fn has_colours(palette: &Palette, colours: &[(u8, Parts)]) -> bool {
+    for register in 0..palette.profile().count() {
+        let register = register as u8;
+        let expected = colours.iter().find(|(number, _)| *number == register);
+        let colour = palette.get(register).map(|colour| colour.parts());
+        if colour != expected.map(|(_, parts)| *parts) {
             return false;
         }
     }
     true
 }
 
-/// Whether the text is portable and leaves one pixel in register 0, with these colours, which is encoded as the text.
-fn comes_back(alloc: Global, text: &[u8], first: Option<Colour>, fourth: Option<Colour>) -> bool {
-    match check_bytes(alloc, Profile::Registers16, text) {
+/// Whether the picture is one pixel of the profile in this register, and these registers have these colours.
+fn is_pixel(picture: &Picture, profile: Profile, register: u8, colours: &[(u8, Parts)]) -> bool {
+    picture.profile() == profile
+        && picture.width() == 1
+        && picture.height() == 1
+        && picture.register_at(0, 0) == register
+        && has_colours(picture.palette(), colours)
+}
+
+/// Whether the bytes leave that pixel, and this is what is encoded of it.
+pub fn comes_back(
+    alloc: Global,
+    profile: Profile,
+    bytes: &[u8],
+    register: u8,
+    colours: &[(u8, Parts)],
+    text: &[u8],
+) -> bool {
+    match check_bytes(alloc, profile, bytes) {
         Ok(Verdict::Portable(picture)) => {
-            picture.width() == 1
-                && picture.height() == 1
-                && picture.register_at(0, 0) == 0
-                && has_colours(picture.palette(), first, fourth)
-                && is_encoded_as(&picture, text)
+            is_pixel(&picture, profile, register, colours) && is_encoded_as(&picture, text)
         }
         _ => false,
     }
@@ -143,11 +151,13 @@ fn comes_back(alloc: Global, text: &[u8], first: Option<Colour>, fourth: Option<
 
 #[test]
 fn palettes_come_back(rt: HostRuntime) {
+    let profile = Profile::Registers16;
     let text = b"\x1bP0;1q\"1;1;1;1#0;2;0;0;0#3;1;120;50;100#0@\x1b\\";
-    let (black, hue) = (Colour::rgb(0, 0, 0), Colour::hls(120, 50, 100));
-    assert!(rt; comes_back(rt.alloc(), text, black, hue));
+    let colours = [(0, Parts::Rgb(0, 0, 0)), (3, Parts::Hls(120, 50, 100))];
+    assert!(rt; comes_back(rt.alloc(), profile, text, 0, &colours, text));
     let text = b"\x1bP0;1q\"1;1;1;1#0;1;360;50;100#0@\x1b\\";
-    assert!(rt; comes_back(rt.alloc(), text, Colour::hls(360, 50, 100), None));
+    let colours = [(0, Parts::Hls(360, 50, 100))];
+    assert!(rt; comes_back(rt.alloc(), profile, text, 0, &colours, text));
 }
 
 /// The picture of the 14 by 7 example, encoded again: blank columns at the end of a register's line are left out.

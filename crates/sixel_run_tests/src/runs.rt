@@ -1,14 +1,47 @@
-//! Runs over devices that count their calls, and fail at a given call.
+//! The tasks, and runs of them over devices that count their calls and fail where they are told to.
 
 ghost use Rattle.sixel_run.specs.Outputs.{HasSides};
 
 use sixel_grammar::{Fault, Reason};
 use sixel_io::{SliceSink, SliceSource};
+use sixel_model::Profile;
 use sixel_run::{RunFault, Status, Task, run};
 use sixel_test_devices::{Calls, CountingDevice};
 use std::alloc::Global;
 
-/// What a run over counting devices answered, how many bytes it wrote, and the calls of the devices.
+pub const CHECK: Task = Task::Check {
+    profile: Profile::Registers16,
+};
+
+pub const RENDER: Task = Task::Render {
+    profile: Profile::Registers16,
+};
+
+pub const ENCODE: Task = Task::Encode {
+    profile: Profile::Registers16,
+};
+
+/// A screen with the sides of the declared box.
+pub const SHOW_BOX: Task = Task::ShowBox {
+    profile: Profile::Registers16,
+    showing: false,
+    fill: false,
+    selects: false,
+};
+
+pub const WIDE_CHECK: Task = Task::Check {
+    profile: Profile::Registers256,
+};
+
+pub const WIDE_RENDER: Task = Task::Render {
+    profile: Profile::Registers256,
+};
+
+pub const WIDE_ENCODE: Task = Task::Encode {
+    profile: Profile::Registers256,
+};
+
+/// What a run over counting devices answered and wrote into the room, and the calls that they saw.
 #[derive(Drop)]
 pub struct Ran {
     pub answer: Result<Status, RunFault>,
@@ -24,6 +57,18 @@ pub struct Limits {
     pub fill_fails: Option<u64>,
     pub most: usize,
     pub take_fails: Option<u64>,
+}
+
+impl Limits {
+    /// No call fails.
+    pub fn unfailing(piece: usize, most: usize) -> Limits {
+        Limits {
+            piece,
+            fill_fails: None,
+            most,
+            take_fails: None,
+        }
+    }
 }
 
 /// Runs the task on the bytes over devices with these limits.
@@ -56,13 +101,7 @@ pub fn agrees(
     requires { HasSides task }
 {
     let mut room = [0; 512];
-    let limits = Limits {
-        piece,
-        fill_fails: None,
-        most: 512,
-        take_fails: None,
-    };
-    let ran = run_counted(alloc, task, bytes, limits, &mut room);
+    let ran = run_counted(alloc, task, bytes, Limits::unfailing(piece, 512), &mut room);
     ran.answer == answer && room.get(..ran.written) == Some(text) && ran.sink.flushes == 1
 }
 

@@ -1,8 +1,7 @@
 //! The greatest boxes that a screen can have.
 
-use crate::runs::{Limits, run_counted};
-use sixel_model::Profile;
-use sixel_run::{Status, Task};
+use crate::runs::{Limits, SHOW_BOX, run_counted};
+use sixel_run::Status;
 use std::alloc::{AllocError, Global};
 use std::test::Fail;
 
@@ -14,19 +13,8 @@ fn shows_white(
     whole: usize,
 ) -> Result<bool, AllocError> {
     let mut room = vec![in alloc; 0u8; whole]?;
-    let limits = Limits {
-        piece: 64,
-        fill_fails: None,
-        most: 65_536,
-        take_fails: None,
-    };
-    let task = Task::ShowBox {
-        profile: Profile::Registers16,
-        showing: false,
-        fill: false,
-        selects: false,
-    };
-    let ran = run_counted(alloc, task, bytes, limits, &mut room);
+    let limits = Limits::unfailing(64, 65_536);
+    let ran = run_counted(alloc, SHOW_BOX, bytes, limits, &mut room);
     let white = room.iter().skip(header.len()).all(|sample| *sample == 100);
     Ok(
         ran.answer == Ok(Status::Done)

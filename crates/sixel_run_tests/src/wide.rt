@@ -2,81 +2,30 @@
 
 ghost use Rattle.sixel_run.specs.Outputs.{HasSides};
 
-use crate::round_trip::{encode_into, is_encoded_as, push_pixel, sends};
-use crate::runs::agrees;
-use sixel_check::{Finding, Rule, Verdict, check_bytes};
+use crate::round_trip::{comes_back, encode_into, push_pixel, sends};
+use crate::runs::{CHECK, WIDE_CHECK, WIDE_ENCODE, WIDE_RENDER, agrees};
+use sixel_check::{Finding, Rule};
 use sixel_io::{SliceSink, SliceSource};
-use sixel_model::{Colour, Palette, Picture, Profile};
+use sixel_model::{Parts, Profile};
 use sixel_ppm::PpmReason;
 use sixel_run::{RunFault, Status, Task, run};
 use std::alloc::{AllocError, Global};
 use std::test::Fail;
 
-const CHECK: Task = Task::Check {
-    profile: Profile::Registers256,
-};
-
-const RENDER: Task = Task::Render {
-    profile: Profile::Registers256,
-};
-
-const ENCODE: Task = Task::Encode {
-    profile: Profile::Registers256,
-};
-
-/// Whether registers 16 and 255 have these colours, and no other register has one.
-fn has_colours(palette: &Palette, low: Option<Colour>, last: Option<Colour>) -> bool {
-    for register in 0..=255 {
-        let expected = match register {
-            16 => low,
-            255 => last,
-            _ => None,
-        };
-        if palette.get(register) != expected {
-            return false;
-        }
-    }
-    true
-}
-
-/// Whether the picture is one pixel of the wide profile in register 16, with these colours.
-fn is_pixel(picture: &Picture, low: Option<Colour>, last: Option<Colour>) -> bool {
-    picture.profile() == Profile::Registers256
-        && picture.width() == 1
-        && picture.height() == 1
-        && picture.register_at(0, 0) == 16
-        && has_colours(picture.palette(), low, last)
-}
-
-/// Whether the bytes leave that pixel, and it is encoded as this text.
-fn comes_back(
-    alloc: Global,
-    bytes: &[u8],
-    low: Option<Colour>,
-    last: Option<Colour>,
-    text: &[u8],
-) -> bool {
-    match check_bytes(alloc, Profile::Registers256, bytes) {
-        Ok(Verdict::Portable(picture)) => {
-            is_pixel(&picture, low, last) && is_encoded_as(&picture, text)
-        }
-        _ => false,
-    }
-}
-
 #[test]
 fn a_register_above_15_comes_back(rt: HostRuntime) {
     let bytes = b"\x1bPq\"1;1;1;1#16;2;0;0;0#16@\x1b\\";
     let text = b"\x1bP0;1q\"1;1;1;1#16;2;0;0;0#16@\x1b\\";
-    assert!(rt; comes_back(rt.alloc(), bytes, Colour::rgb(0, 0, 0), None, text));
+    let colours = [(16, Parts::Rgb(0, 0, 0))];
+    assert!(rt; comes_back(rt.alloc(), Profile::Registers256, bytes, 16, &colours, text));
 }
 
 #[test]
 fn the_last_register_comes_back(rt: HostRuntime) {
     let bytes = b"\x1bPq\"1;1;1;1#255;1;120;50;100#16;2;0;0;0#16@\x1b\\";
     let text = b"\x1bP0;1q\"1;1;1;1#16;2;0;0;0#255;1;120;50;100#16@\x1b\\";
-    let (black, hue) = (Colour::rgb(0, 0, 0), Colour::hls(120, 50, 100));
-    assert!(rt; comes_back(rt.alloc(), bytes, black, hue, text));
+    let colours = [(16, Parts::Rgb(0, 0, 0)), (255, Parts::Hls(120, 50, 100))];
+    assert!(rt; comes_back(rt.alloc(), Profile::Registers256, bytes, 16, &colours, text));
 }
 
 /// A header, and a row of `count` pixels, each in its own colour.
@@ -106,21 +55,13 @@ fn a_colour_too_many_is_not_encoded(rt: HostRuntime) -> Result<(), Fail> {
 
 /// 6 and 10 bytes, ten definitions of 10 bytes and six of 12 come before the definition of register 16.
 fn is_too_wide(alloc: Global, text: &[u8]) -> bool {
-    let profile = Profile::Registers16;
     let finding = Finding {
         rule: Rule::Register,
         place: 188,
         pixel: None,
     };
     let answer = Ok(Status::Broken(finding));
-    agrees(
-        alloc,
-        Task::Check { profile },
-        text,
-        100,
-        b"broken Register 188\n",
-        answer,
-    )
+    agrees(alloc, CHECK, text, 100, b"broken Register 188\n", answer)
 }
 
 #[test]
@@ -129,10 +70,10 @@ fn a_picture_of_256_colours_comes_back(rt: HostRuntime) -> Result<(), Fail> {
     let mut room = [0; 8192];
     let count = encode_into(rt.alloc(), Profile::Registers256, &bytes, &mut room).ok_or("no text")?;
     let text = room.get(..count).ok_or("the text")?;
-    assert!(rt; sends(rt.alloc(), CHECK, text, b"portable 256 1\n"));
+    assert!(rt; sends(rt.alloc(), WIDE_CHECK, text, b"portable 256 1\n"));
     assert!(rt; is_too_wide(rt.alloc(), text));
     let file = row_of(rt.alloc(), b"P6\n256 1\n100\n", 256)?;
-    assert!(rt; sends(rt.alloc(), RENDER, text, &file));
+    assert!(rt; sends(rt.alloc(), WIDE_RENDER, text, &file));
     Ok(())
 }
 
@@ -171,8 +112,8 @@ fn written_by(alloc: Global, task: Task, bytes: &[u8], room: &mut [u8]) -> Optio
 fn the_largest_picture_is_portable(rt: HostRuntime) -> Result<(), Fail> {
     let file = largest_file(rt.alloc())?;
     let mut room = vec![in rt.alloc(); 0u8; 100_000]?;
-    let count = written_by(rt.alloc(), ENCODE, &file, &mut room).ok_or("no text")?;
+    let count = written_by(rt.alloc(), WIDE_ENCODE, &file, &mut room).ok_or("no text")?;
     let text = room.get(..count).ok_or("the text")?;
-    assert!(rt; sends(rt.alloc(), CHECK, text, b"portable 2048 2048\n"));
+    assert!(rt; sends(rt.alloc(), WIDE_CHECK, text, b"portable 2048 2048\n"));
     Ok(())
 }
