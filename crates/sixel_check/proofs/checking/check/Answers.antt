@@ -42,8 +42,11 @@ returns-in_err-count g c =
           (g.S.Source.state c.fill.new.self).remaining
           c.loop-checker.reader i.1.events i.0 i.1.read i.2 c.in_err-count.ensures.bytes;
       left = record {
-        read = (i.0, consumes-kept a (g.S.Source.state c.loop-checker.input).remaining
-            (g.S.Source.state c.fill.new.self).remaining i.0 i.2 c.in_err-count.ensures.bytes);
+        read = (
+          i.0,
+          consumes-kept a (g.S.Source.state c.loop-checker.input).remaining
+              (g.S.Source.state c.fill.new.self).remaining i.0 i.2 c.in_err-count.ensures.bytes,
+        );
         ended = none_ended _ r Read is;
       };
       memory = read_grows _ a r is;
@@ -79,9 +82,12 @@ returns-then-count-eq0-clause-left g c =
     let i = c.loop-checker.invariant in
     let b = c.in_ok-count.ensures.bytes in
     let none : c.in_ok-count.count ≡ 0 = omega arith in record {
-      read = (_, consumes-then (g.S.Source.state c.args.input.now).remaining
-          (g.S.Source.state c.loop-checker.input).remaining (g.S.Source.state c.fill.new.self).remaining i.0
-          (take c.in_ok-count.count c.fill.new.piece) i.2 b.0);
+      read = (
+        _,
+        consumes-then (g.S.Source.state c.args.input.now).remaining
+            (g.S.Source.state c.loop-checker.input).remaining (g.S.Source.state c.fill.new.self).remaining i.0
+            (take c.in_ok-count.count c.fill.new.piece) i.2 b.0,
+      );
       ended = all_ended _ c.conclude.result (b.1 none (omega arith));
     }
 
