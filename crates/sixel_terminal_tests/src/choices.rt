@@ -1,11 +1,9 @@
 //! What each choice of a terminal does to what it shows.
 
-use crate::fixtures::{BLACK, RED, WHITE, grey, is_shown, plain_choices};
+use crate::fixtures::{BLACK, RED, REDEFINED, WHITE, grey, is_shown, plain_choices};
 use sixel_terminal::{Choices, Ground};
 use std::test::Fail;
 
-/// A pixel painted in register 0, which is black, and then another colour of register 0.
-const REDEFINED: &[u8] = b"\x1bPq\"1;1;1;1#0;2;0;0;0#0@#0;2;100;0;0\x1b\\";
 /// A box of two pixels, of which one is painted.
 const HALF: &[u8] = b"\x1bPq\"1;1;2;1#0;2;0;0;0#0@\x1b\\";
 /// Two definitions, and a pixel without a select.
