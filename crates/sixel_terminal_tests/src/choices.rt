@@ -1,12 +1,10 @@
 //! How each choice of a terminal changes what it shows.
 
-use crate::fixtures::{BLACK, RED, WHITE, grey, is_shown, plain_choices};
+use crate::fixtures::{BLACK, RED, REDEFINED, WHITE, grey, is_shown, plain_choices};
 use sixel_terminal::{Choices, Ground};
 use std::test::Fail;
 
-/// A pixel painted in register 0, which is black, and then a new definition of register 0.
-const REDEFINED: &[u8] = b"\x1bPq\"1;1;1;1#0;2;0;0;0#0@#0;2;100;0;0\x1b\\";
-/// A box of two pixels, one of them painted.
+/// A box of two pixels, of which one is painted.
 const HALF: &[u8] = b"\x1bPq\"1;1;2;1#0;2;0;0;0#0@\x1b\\";
 /// Two definitions, and a pixel without a select.
 const UNSELECTED: &[u8] = b"\x1bPq\"1;1;1;1#0;2;0;0;0#1;2;100;0;0@\x1b\\";

@@ -1,6 +1,6 @@
 //! Terminals that clip data to the declared box.
 
-use crate::fixtures::{BLACK, RED, WHITE, grey, is_shown, plain_choices};
+use crate::fixtures::{BLACK, RED, WHITE, grey, is_shown, plain_choices, white_but};
 use sixel_model::Parts;
 use sixel_terminal::{Choices, Ground};
 use std::alloc::Global;
@@ -123,21 +123,8 @@ fn grounds_are_not_clipped(rt: HostRuntime) -> Result<(), Fail> {
     Ok(())
 }
 
-/// `count` white pixels, except that these have the colour of register 1.
-fn pixels_of(alloc: Global, count: usize, painted: &[usize]) -> Result<Vec<Parts>, Fail> {
-    let mut pixels = Vec::with_capacity(alloc, count)?;
-    for pixel in 0..count {
-        pixels.push(if painted.contains(&pixel) {
-            grey(6)
-        } else {
-            WHITE
-        })?;
-    }
-    Ok(pixels)
-}
-
-/// Whether these pixels, by index in row order, have the colour of register 1: the first ones without clipping, the
-/// others with it.
+/// Whether the first pixels, by row and column, have the colour of register 1 where nothing is clipped, and the others
+/// where it is.
 fn is_clipped_to(
     alloc: Global,
     choices: Choices,
@@ -146,8 +133,8 @@ fn is_clipped_to(
     clipped: &[usize],
 ) -> Result<bool, Fail> {
     let count = (choices.screen_width as usize).saturating_mul(choices.screen_height as usize);
-    let whole = pixels_of(alloc, count, whole)?;
-    let clipped = pixels_of(alloc, count, clipped)?;
+    let whole = white_but(alloc, count, whole, grey(6))?;
+    let clipped = white_but(alloc, count, clipped, grey(6))?;
     is_clipped(alloc, choices, text, &whole, &clipped)
 }
 

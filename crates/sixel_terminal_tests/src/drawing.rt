@@ -1,7 +1,8 @@
 //! Where events paint, and which painting is shown.
 
 use crate::fixtures::{
-    BLACK, RED, WHITE, document, events_of, grey, is_shown, parts_of, plain_choices, terminal,
+    BLACK, RED, REDEFINED, WHITE, document, events_of, grey, is_shown, parts_of, plain_choices,
+    push_events, terminal, white_but,
 };
 use sixel_grammar::{Command, Event, Placed};
 use sixel_model::{Colour, Parts};
@@ -9,16 +10,7 @@ use sixel_terminal::{Choices, Ground, Terminal};
 use std::alloc::{AllocError, Global};
 use std::test::Fail;
 
-/// A column of `height` white pixels, except that these rows are black.
-fn rows_of(alloc: Global, height: u32, black: &[u32]) -> Result<Vec<Parts>, Fail> {
-    let mut rows = Vec::with_capacity(alloc, height as usize)?;
-    for row in 0..height {
-        rows.push(if black.contains(&row) { BLACK } else { WHITE })?;
-    }
-    Ok(rows)
-}
-
-/// The height is that of the latest raster attributes before: 1 if both numbers are 1, else the terminal's.
+/// The height is that of the latest raster attributes before: 1 where both numbers are 1, else the terminal's.
 #[test]
 fn heights_follow_the_ratio(rt: HostRuntime) -> Result<(), Fail> {
     for (height, text, black) in [
@@ -36,7 +28,7 @@ fn heights_follow_the_ratio(rt: HostRuntime) -> Result<(), Fail> {
             tall: 2,
             ..plain_choices(1, height)
         };
-        let expected = rows_of(rt.alloc(), height, black)?;
+        let expected = white_but(rt.alloc(), height as usize, black, BLACK)?;
         assert!(rt;
             is_shown(rt.alloc(), choices, 16, text, &expected)?,
             "{text:?}"
@@ -146,9 +138,7 @@ fn any_list_of_events_is_shown(rt: HostRuntime) -> Result<(), Fail> {
 
     let text = b"\x1bPq@\x1b\\".as_slice();
     let mut events = events_of(rt.alloc(), text)?;
-    for placed in events_of(rt.alloc(), text)? {
-        events.push(placed)?;
-    }
+    push_events(rt.alloc(), &mut events, text)?;
     let middle = events.as_slice().get(1..5).ok_or("six events")?;
     let twice = terminal.show(rt.alloc(), middle)?;
     let twice = parts_of(rt.alloc(), twice.as_slice())?;
@@ -156,10 +146,7 @@ fn any_list_of_events_is_shown(rt: HostRuntime) -> Result<(), Fail> {
     Ok(())
 }
 
-/// A pixel painted in register 0, which is black, and then a new definition of register 0.
-const REDEFINED: &[u8] = b"\x1bPq\"1;1;1;1#0;2;0;0;0#0@#0;2;100;0;0\x1b\\";
-
-/// Whether the terminal shows one pixel of this colour; `None` if an allocation failed.
+/// Whether the terminal shows one pixel of this colour; `None` where a growth was refused.
 fn shows(alloc: Global, terminal: &Terminal, events: &[Placed], expected: Parts) -> Option<bool> {
     let colours = terminal.show(alloc, events).ok()?;
     let [colour] = colours.as_slice() else {

@@ -1,7 +1,8 @@
 //! Terminals without 8-bit controls.
 
 use crate::fixtures::{
-    BLACK, RED, WHITE, events_of, grey, grey_colours, is_shown, parts_of, plain_choices, terminal,
+    BLACK, RED, WHITE, events_of, grey, grey_colours, is_shown, parts_of, plain_choices,
+    push_events, shown_after,
 };
 use sixel_grammar::Placed;
 use sixel_model::Parts;
@@ -91,15 +92,7 @@ fn a_screen_stays_as_it_was(rt: HostRuntime) -> Result<(), Fail> {
     Ok(())
 }
 
-/// Adds the events of a document.
-fn push_events(alloc: Global, events: &mut Vec<Placed>, text: &[u8]) -> Result<(), Fail> {
-    for placed in events_of(alloc, text)? {
-        events.push(placed)?;
-    }
-    Ok(())
-}
-
-/// The events of this document between those of two documents with 7-bit controls.
+/// The events of this document between those of two of 7 bits.
 fn events_around(alloc: Global, text: &[u8]) -> Result<Vec<Placed>, Fail> {
     let mut events = events_of(alloc, SEVEN)?;
     push_events(alloc, &mut events, text)?;
@@ -122,8 +115,7 @@ fn eight_bits_in_the_middle_are_not_seen(rt: HostRuntime) -> Result<(), Fail> {
         (without, EIGHT_AT_END, WHITE),
     ] {
         let events = events_around(rt.alloc(), text)?;
-        let shown = terminal(rt.alloc(), choices, 16)?.show(rt.alloc(), &events)?;
-        let shown = parts_of(rt.alloc(), &shown)?;
+        let shown = shown_after(rt.alloc(), choices, 16, &events)?;
         assert_eq!(rt; shown.as_slice(), [expected].as_slice(), "{text:?}");
     }
     Ok(())

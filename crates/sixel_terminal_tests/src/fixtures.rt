@@ -13,7 +13,10 @@ pub(crate) const RED: Parts = Parts::Rgb(100, 0, 0);
 
 pub(crate) const WHITE: Parts = Parts::Rgb(100, 100, 100);
 
-/// A grey of this percentage.
+/// A pixel painted in register 0, which is black, and then another colour of register 0.
+pub(crate) const REDEFINED: &[u8] = b"\x1bPq\"1;1;1;1#0;2;0;0;0#0@#0;2;100;0;0\x1b\\";
+
+/// A grey of this many percent.
 pub(crate) fn grey(percent: u8) -> Parts {
     Parts::Rgb(percent, percent, percent)
 }
@@ -70,15 +73,26 @@ pub(crate) fn events_of(alloc: Global, text: &[u8]) -> Result<Vec<Placed>, Fail>
     Ok(document(alloc, text).or(Err("a document"))?)
 }
 
-/// What a terminal with this many grey registers and a white screen shows after a document.
-pub(crate) fn shown_of(
+/// Adds the events of a document.
+pub(crate) fn push_events(
+    alloc: Global,
+    events: &mut Vec<Placed>,
+    text: &[u8],
+) -> Result<(), Fail> {
+    for placed in events_of(alloc, text)? {
+        events.push(placed)?;
+    }
+    Ok(())
+}
+
+/// What a terminal of so many grey registers and a white screen shows after these events.
+pub(crate) fn shown_after(
     alloc: Global,
     choices: Choices,
     registers: u16,
-    text: &[u8],
+    events: &[Placed],
 ) -> Result<Vec<Parts>, Fail> {
-    let events = events_of(alloc, text)?;
-    let colours = terminal(alloc, choices, registers)?.show(alloc, events.as_slice())?;
+    let colours = terminal(alloc, choices, registers)?.show(alloc, events)?;
     parts_of(alloc, colours.as_slice())
 }
 
@@ -90,7 +104,26 @@ pub(crate) fn is_shown(
     text: &[u8],
     expected: &[Parts],
 ) -> Result<bool, Fail> {
-    Ok(shown_of(alloc, choices, registers, text)?.as_slice() == expected)
+    let events = events_of(alloc, text)?;
+    Ok(shown_after(alloc, choices, registers, events.as_slice())?.as_slice() == expected)
+}
+
+/// So many white pixels, of which these have another colour.
+pub(crate) fn white_but(
+    alloc: Global,
+    count: usize,
+    painted: &[usize],
+    colour: Parts,
+) -> Result<Vec<Parts>, Fail> {
+    let mut pixels = Vec::with_capacity(alloc, count)?;
+    for pixel in 0..count {
+        pixels.push(if painted.contains(&pixel) {
+            colour
+        } else {
+            WHITE
+        })?;
+    }
+    Ok(pixels)
 }
 
 /// The coordinates of colours.
