@@ -12,13 +12,13 @@ pub(crate) const PIXELS: usize = 21_840;
 /// Room for a header, for these samples, and for one byte after the last sample.
 pub(crate) const ROOM: usize = 29 + 3 * PIXELS + 1;
 
-/// Turns a pixel into red, green, blue and one more byte. One store writes the four, and the next pixel's overwrite the
-/// fourth.
+/// Turns a pixel into red, green, blue and a byte more. The four go out in one store, and the next pixel's go over the
+/// last. They are a vector, since LLVM takes an array apart and then doesn't unroll the loop.
 pub(crate) trait ToRgbx<P> {
     /// The four bytes of a pixel.
     ghost rgbx: { Self → P → List ℕ };
 
-    fn to_rgbx(&self, pixel: P) -> [u8; 4]
+    fn to_rgbx(&self, pixel: P) -> u8x4
         ensures { result ≡ rgbx self.now pixel };
 }
 
@@ -28,8 +28,8 @@ pub(crate) type Table = [[u8; 4]; MOST_REGISTERS];
 impl ToRgbx<u8> for Table {
     ghost rgbx = { λ table register. get_or table register [] };
 
-    fn to_rgbx(&self, register: u8) -> [u8; 4] {
-        self[register as usize]
+    fn to_rgbx(&self, register: u8) -> u8x4 {
+        u8x4::from_array(self[register as usize])
     }
 }
 
@@ -39,8 +39,8 @@ pub(crate) struct DirectColour;
 impl ToRgbx<Colour> for DirectColour {
     ghost rgbx = { λ _ colour. rgbx_of (Some colour) };
 
-    fn to_rgbx(&self, colour: Colour) -> [u8; 4] {
-        rgbx_of(Some(colour))
+    fn to_rgbx(&self, colour: Colour) -> u8x4 {
+        u8x4::from_array(rgbx_of(Some(colour)))
     }
 }
 
@@ -81,7 +81,7 @@ pub(crate) fn put_samples<P: Copy, C: ToRgbx<P>>(
 {
     let mut at = start;
     for pixel in pixels {
-        u8x4::from_array(colours.to_rgbx(*pixel)).copy_to_slice(&mut text[at..]);
+        colours.to_rgbx(*pixel).copy_to_slice(&mut text[at..]);
         at += 3;
     }
 }
