@@ -12,8 +12,8 @@ pub(crate) const PIXELS: usize = 21_840;
 /// Room for a header, for these samples, and for one byte after the last sample.
 pub(crate) const ROOM: usize = 29 + 3 * PIXELS + 1;
 
-/// Turns a pixel into red, green, blue and a byte more. The four go out in one store, and the next pixel's go over the
-/// last. They are a vector, since LLVM takes an array apart and then doesn't unroll the loop.
+/// Turns a pixel into red, green, blue and one more byte. One store writes the four, and the next pixel's overwrite the
+/// fourth. They are a vector: LLVM takes an array apart, and then doesn't unroll the loop.
 pub(crate) trait ToRgbx<P> {
     /// The four bytes of a pixel.
     ghost rgbx: { Self → P → List ℕ };
