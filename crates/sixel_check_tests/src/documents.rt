@@ -138,7 +138,7 @@ fn worked_documents(rt: HostRuntime) -> Result<(), Fail> {
 }
 
 /// Whether the answer by the profile on the bytes in pieces of a size is so.
-fn agrees_in(
+pub(crate) fn agrees_in(
     rt: &impl AllocGlobal,
     profile: Profile,
     bytes: &[u8],
