@@ -91,7 +91,15 @@ const fn stated(shown: u8) -> Side {
     }
 }
 
-/// The choices of `sixel show` without options, except for clipping and 8-bit controls.
+/// One without controls of 8 bits, on which the screen stays as it is.
+const WITHOUT: Side = Side {
+    clips: false,
+    eight_bit: false,
+    screen: 100,
+    shown: 100,
+};
+
+/// What the terminal of `sixel show` chooses, with no option, but for two choices.
 fn choices_of(row: &Row, side: &Side) -> Choices {
     Choices {
         binds_at_showing: false,
@@ -191,12 +199,8 @@ fn terminals_differ_where_a_pixel_is_outside(rt: HostRuntime) -> Result<(), Fail
 /// One terminal shows the picture; the one without 8-bit controls shows nothing of it.
 #[test]
 fn terminals_differ_on_the_controls_of_a_picture(rt: HostRuntime) -> Result<(), Fail> {
-    let without = Side {
-        eight_bit: false,
-        ..stated(100)
-    };
     for row in &EIGHT_BIT {
-        assert!(rt; differs(&rt, row, &stated(0), &without)?, "{}", row.text);
+        assert!(rt; differs(&rt, row, &stated(0), &WITHOUT)?, "{}", row.text);
     }
     Ok(())
 }
@@ -204,10 +208,6 @@ fn terminals_differ_on_the_controls_of_a_picture(rt: HostRuntime) -> Result<(), 
 /// So no difference is promised for an introducer.
 #[test]
 fn terminals_agree_on_an_introducer_without_a_picture(rt: HostRuntime) -> Result<(), Fail> {
-    let without = Side {
-        eight_bit: false,
-        ..stated(100)
-    };
-    assert!(rt; differs(&rt, &NOTHING, &stated(100), &without)?);
+    assert!(rt; differs(&rt, &NOTHING, &stated(100), &WITHOUT)?);
     Ok(())
 }

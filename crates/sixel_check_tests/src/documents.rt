@@ -137,8 +137,8 @@ fn worked_documents(rt: HostRuntime) -> Result<(), Fail> {
     agree(&rt, documents())
 }
 
-/// Whether the check of the bytes, in pieces of this size, gives this answer for the profile.
-fn agrees_in(
+/// Whether the answer by the profile on the bytes in pieces of a size is so.
+pub(crate) fn agrees_in(
     rt: &impl AllocGlobal,
     profile: Profile,
     bytes: &[u8],

@@ -3,9 +3,8 @@
 //! That happens if its register was painted in before, it lies in the box with all six rows, and 16 bytes follow it.
 //! Offsets: in `"1;1;20;12` the first definition is at 13, and `#0;2;0;0;0` ends before 23.
 
-use crate::fixtures::{agree, bytes_of, is_said, picture_of, times};
-use sixel_check::check;
-use sixel_io::SliceSource;
+use crate::documents::agrees_in;
+use crate::fixtures::{agree, bytes_of, picture_of, times};
 use sixel_model::{Picture, Profile};
 use std::test::Fail;
 
@@ -173,10 +172,8 @@ fn stretches_of_any_length(rt: HostRuntime) -> Result<(), Fail> {
         let expected = format!(in rt.alloc(); "portable {count} 18")?;
         let bytes = bytes_of(&rt, &text)?;
         for piece in [1, 7, 16, 30, 200] {
-            let mut source = SliceSource::new(&bytes, piece, None);
-            let answer = check(rt.alloc(), Profile::Registers16, &mut source);
             assert!(rt;
-                is_said(&rt, &answer, &expected)?,
+                agrees_in(&rt, Profile::Registers16, &bytes, piece, &expected)?,
                 "{count} columns, pieces of {piece}"
             );
         }

@@ -153,14 +153,9 @@ fn is_shown_by_all(rt: &impl AllocGlobal, profile: Profile, text: &str) -> Resul
 #[test]
 fn each_terminal_shows_what_is_portable(rt: HostRuntime) -> Result<(), Fail> {
     for text in PORTABLE {
-        assert!(rt;
-            is_shown_by_all(&rt, Profile::Registers16, text)?,
-            "{text:?}"
-        );
-        assert!(rt;
-            is_shown_by_all(&rt, Profile::Registers256, text)?,
-            "{text:?}"
-        );
+        for profile in [Profile::Registers16, Profile::Registers256] {
+            assert!(rt; is_shown_by_all(&rt, profile, text)?, "{text:?}");
+        }
     }
     Ok(())
 }
@@ -263,28 +258,28 @@ fn shows(
     Ok(answer.as_slice() == expected.as_slice())
 }
 
-/// Whether a definition selects its register on some terminals.
+/// Whether it does with 16 registers that start in greys.
+fn shows_in_greys(
+    rt: &impl AllocGlobal,
+    text: &str,
+    choices: Choices,
+    pixels: &[Parts],
+) -> Result<bool, Fail> {
+    let colours = greys(rt.alloc(), Profile::Registers16)?;
+    shows(rt, text, choices, colours, pixels)
+}
+
+/// Whether a definition selects its register on some.
 fn shows_unselected(rt: &impl AllocGlobal, choices: Choices) -> Result<bool, Fail> {
     let pixel = if choices.selects { BLACK } else { grey(42) };
-    shows(
-        rt,
-        UNSELECTED,
-        choices,
-        greys(rt.alloc(), Profile::Registers16)?,
-        &[pixel],
-    )
+    shows_in_greys(rt, UNSELECTED, choices, &[pixel])
 }
 
 /// Whether terminals show the starting colour of register 0.
 fn shows_undefined(rt: &impl AllocGlobal, choices: Choices) -> Result<bool, Fail> {
     Ok(
-        shows(
-            rt,
-            UNDEFINED,
-            choices,
-            greys(rt.alloc(), Profile::Registers16)?,
-            &[BLACK],
-        )? && shows(rt, UNDEFINED, choices, pale(rt.alloc())?, &[grey(90)])?,
+        shows_in_greys(rt, UNDEFINED, choices, &[BLACK])?
+            && shows(rt, UNDEFINED, choices, pale(rt.alloc())?, &[grey(90)])?,
     )
 }
 
@@ -296,10 +291,9 @@ const LAST_UNDEFINED: &str = "EPq\"1;1;1;1#255@E\\";
 /// Whether a terminal with 16 registers, which isn't in the class for 256, takes register 16 for register 0; then the
 /// definition of 16 counts for it.
 fn shows_seventeenth(rt: &impl AllocGlobal, choices: Choices) -> Result<bool, Fail> {
-    let few = greys(rt.alloc(), Profile::Registers16)?;
     let many = greys(rt.alloc(), Profile::Registers256)?;
     Ok(
-        shows(rt, SEVENTEENTH, choices, few, &[RED, RED])?
+        shows_in_greys(rt, SEVENTEENTH, choices, &[RED, RED])?
             && shows(rt, SEVENTEENTH, choices, many, &[BLACK, RED])?,
     )
 }
@@ -317,13 +311,7 @@ fn shows_redefined(rt: &impl AllocGlobal, choices: Choices) -> Result<bool, Fail
     } else {
         BLACK
     };
-    shows(
-        rt,
-        REDEFINED,
-        choices,
-        greys(rt.alloc(), Profile::Registers16)?,
-        &[pixel, RED],
-    )
+    shows_in_greys(rt, REDEFINED, choices, &[pixel, RED])
 }
 
 /// Whether raster attributes fill the box on some terminals.
@@ -332,13 +320,7 @@ fn shows_filled(rt: &impl AllocGlobal, choices: Choices) -> Result<bool, Fail> {
         Ground::Kept => BLACK,
         Ground::Filled(_) => grey(30),
     };
-    shows(
-        rt,
-        RASTER_TWICE,
-        choices,
-        greys(rt.alloc(), Profile::Registers16)?,
-        &[pixel],
-    )
+    shows_in_greys(rt, RASTER_TWICE, choices, &[pixel])
 }
 
 /// What an unpainted pixel of the box shows: what was there before, or the register that filled the box.
@@ -351,38 +333,20 @@ fn blank_on(choices: &Choices) -> Parts {
 
 /// Whether an unpainted pixel shows what was there before, or the colour that filled the box.
 fn shows_uncovered(rt: &impl AllocGlobal, choices: Choices) -> Result<bool, Fail> {
-    shows(
-        rt,
-        UNCOVERED,
-        choices,
-        greys(rt.alloc(), Profile::Registers16)?,
-        &[BLACK, blank_on(&choices)],
-    )
+    shows_in_greys(rt, UNCOVERED, choices, &[BLACK, blank_on(&choices)])
 }
 
 /// Whether some terminals clip the pixel below the box.
 fn shows_outside(rt: &impl AllocGlobal, choices: Choices) -> Result<bool, Fail> {
     let inside = blank_on(&choices);
     let below = if choices.clips { grey(50) } else { BLACK };
-    shows(
-        rt,
-        OUTSIDE,
-        choices,
-        greys(rt.alloc(), Profile::Registers16)?,
-        &[inside, below],
-    )
+    shows_in_greys(rt, OUTSIDE, choices, &[inside, below])
 }
 
 /// Whether some terminals show a picture with 8-bit controls, and others nothing of it.
 fn shows_eight_bits(rt: &impl AllocGlobal, text: &str, choices: Choices) -> Result<bool, Fail> {
     let pixel = if choices.eight_bit { BLACK } else { grey(50) };
-    shows(
-        rt,
-        text,
-        choices,
-        greys(rt.alloc(), Profile::Registers16)?,
-        &[pixel],
-    )
+    shows_in_greys(rt, text, choices, &[pixel])
 }
 
 #[test]

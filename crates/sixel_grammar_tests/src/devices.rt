@@ -41,11 +41,8 @@ struct FakeReader {
 impl Read for FakeReader {
     fn read(&mut self, buf: &mut [u8]) -> io::Result<usize> {
         let most = next_call(&mut self.calls)?;
-        let count = most.min(buf.len()).min(self.rest.len());
-        let (prefix, rest) = self.rest.split_at(count);
-        buf[..count].copy_from_slice(prefix);
-        self.rest = rest;
-        Ok(count)
+        let most = most.min(buf.len());
+        self.rest.read(&mut buf[..most])
     }
 }
 

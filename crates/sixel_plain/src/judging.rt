@@ -21,9 +21,8 @@ pub enum PlainVerdict {
 /// Whether the event is an 8-bit control.
 fn is_eight_bit(event: &Event) -> bool {
     match event {
-        Event::Start { eight, .. } => *eight,
+        Event::Start { eight, .. } | Event::Finish { eight } => *eight,
         Event::Step(_) => false,
-        Event::Finish { eight } => *eight,
     }
 }
 
@@ -72,26 +71,15 @@ fn finding_at(
     placed: &Placed,
 ) -> Result<Option<Finding>, AllocError> {
     let place = placed.place;
+    let finding = |rule, pixel| Some(Finding { rule, place, pixel });
     if let Some(rule) = plain_rule(profile, before, &placed.event) {
-        return Ok(Some(Finding {
-            rule,
-            place,
-            pixel: None,
-        }));
+        return Ok(finding(rule, None));
     }
     if let Some((rule, pixel)) = pixel_rule(alloc, before, placed)? {
-        return Ok(Some(Finding {
-            rule,
-            place,
-            pixel: Some(pixel),
-        }));
+        return Ok(finding(rule, Some(pixel)));
     }
     if is_eight_bit(&placed.event) {
-        return Ok(Some(Finding {
-            rule: Rule::EightBit,
-            place,
-            pixel: None,
-        }));
+        return Ok(finding(Rule::EightBit, None));
     }
     Ok(None)
 }

@@ -170,12 +170,12 @@ fn starts_of(profile: Profile, choice: Choice) -> [Start; 2] {
     };
     let other = match choice {
         Choice::Colours => Start {
-            registers: profile,
             pale: true,
+            ..start
         },
         Choice::Registers => Start {
             registers: Profile::Registers256,
-            pale: false,
+            ..start
         },
         _ => start,
     };
