@@ -1,3 +1,5 @@
+//! The lines of faults and findings.
+
 use sixel_check::{Finding, Rule};
 use sixel_grammar::{Fault, Reason};
 use sixel_io::{DeviceFault, SliceSink};

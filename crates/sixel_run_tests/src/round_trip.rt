@@ -1,3 +1,5 @@
+//! Pictures that are encoded, and then rendered or checked.
+
 ghost use Rattle.sixel_run.specs.Outputs.{HasSides};
 
 use sixel_check::{Verdict, check_bytes};

@@ -13,7 +13,7 @@ pub fn terminals_are_in_class()
     ensures { TerminalsAreInClass }
 {}
 
-/// If a list has no repeat of 0, and each ratio is given as 1 to 1, an event after raster attributes paints the same
+/// If a list has no repeat of 0, and each ratio is given as 1 to 1, an event after raster attributes covers the same
 /// points on each terminal, with bits of one row.
 pub fn same_points_on_each()
     ensures { SamePointsOnEach }

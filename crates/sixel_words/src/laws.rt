@@ -40,8 +40,8 @@ pub fn the_words_show_box_give_a_box()
         IsTaskOf (program ∷ codes "show" ∷ codes "--height" ∷ codes "480" ∷ codes "--box" ∷ []) task → ⊥ }
 {}
 
-/// In the words `--help` and `-h`, also behind the name of each subcommand, clap finds that help is asked for, and in
-/// `--version` and `-V` that the version is.
+/// clap finds that the arguments `--help`, `-h`, and `--help` after the name of each subcommand ask for help, and that
+/// `--version` and `-V` ask for the version.
 pub fn the_word_help_asks_for_help()
     ensures long { (program : Text) → kinds_of (program ∷ codes "--help" ∷ []) ≡ DisplayHelp ∷ [] }
     ensures short { (program : Text) → kinds_of (program ∷ codes "-h" ∷ []) ≡ DisplayHelp ∷ [] }
