@@ -41,7 +41,7 @@ fn said_in(alloc: Global, line: &str) -> Result<String, AllocError> {
     answered(alloc, task_in(alloc, Ok(words.into_iter())))
 }
 
-/// What they come to where the task is all that is wanted.
+/// The text of the answer of `parse_words`, which is only the task.
 fn task_said(alloc: Global, line: &str) -> Result<String, AllocError> {
     let words = words_of(alloc, line)?;
     match parse_words(alloc, words.as_slice()) {
