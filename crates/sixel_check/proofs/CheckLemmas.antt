@@ -60,7 +60,7 @@ pub end_grows : (registers : ℕ) (o : Option (List ℕ)) (r : Result Verdict In
 end_grows registers None r other = tt
 end_grows registers (Some bytes) r other = λ e. absurd (other e)
 
--- where the answer is a fault, nothing is said of an end
+-- a fault promises nothing about the end of the source
 pub none_ended : (P : Type 0) (r : Result Verdict InputFault) (fault : InputFault) → r ≡ Err fault → OnOk r P
 none_ended P (Ok v) fault is = cc
 none_ended P (Err f) fault is = tt

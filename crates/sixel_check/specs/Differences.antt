@@ -46,7 +46,8 @@ UncoveredDiffers registers =
     → shown_at t placed x y ≢ shown_at u placed x y
 
 -- Outside: two terminals that keep their ground, have 8-bit controls and differ only in clipping differ at the pixel of
--- the finding, if the colour there before wasn't the one that the terminal without clipping shows
+-- the finding, if its coordinates are below `greatest` and the colour there before wasn't the one that the terminal
+-- without clipping shows
 abbrev pub OutsideDiffers : ℕ → Type 0
 OutsideDiffers registers =
     (placed : List Placed) (f : Finding) (i x y : ℕ) (t : Display) → IsFound registers placed Outside i f
@@ -131,7 +132,8 @@ pub record DifferByClipping (registers : ℕ) (placed : List Placed) (x y : ℕ)
   pub in_class : IsInClass registers t
   pub apart : shown_at (clipping true t) placed x y ≢ shown_at (clipping false t) placed x y
 
--- for each finding of Outside, this terminal with and without clipping shows different colours
+-- for each finding of Outside whose coordinates are below `greatest`, this terminal shows different colours with and
+-- without clipping
 abbrev pub SomeOutsideDiffer : Profile → Type 0
 SomeOutsideDiffer profile =
     (placed : List Placed) (f : Finding) (i x y : ℕ) → IsFound (count_of profile) placed Outside i f

@@ -16,7 +16,7 @@ use Rattle.sixel_check.specs.Verdicts.{capped}
 abbrev pub colour_within : ℕ → ℕ → ℕ → ℕ → Option Parts
 colour_within system x y z = option_and_then (λ c. if is_colour c then Some c else None) (colour_in system x y z)
 
--- the selected register is one of the palette's, and the palette has at most 256 registers
+-- the selected register, if any, is one of the palette's, and the palette has at most 256 registers
 abbrev pub IsBelow : DrawingState → Type 0
 IsBelow n = IfSome n.selected (λ r. r < length n.palette) × (length n.palette ≤ 256)
 

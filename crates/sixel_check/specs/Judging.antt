@@ -20,7 +20,7 @@ use Rattle.sixel_check.specs.Verdicts.{IsFinding, capped}
 abbrev pub box_of : Grid → Attributes
 box_of s = record { pan = 1; pad = 1; width = s.width; height = s.height }
 
--- no raster attributes yet, and no point is painted
+-- no raster attributes yet, and no point is covered
 pub record IsUndrawn (events : List Event) : Type 0 where
   pub no_box : raster_before events ≡ None
   pub uncovered : (x y : ℕ) → is_covered events x y ≡ false
@@ -44,7 +44,8 @@ IsGridAfter (Some s) events = IsDrawn s events
 abbrev pub IsGood : ℕ → ℕ → Definition → Type 0
 IsGood registers r d = (r < registers) × IsTrue (gives_colour d)
 
--- the drawing state after these events, none of which breaks a rule; there are at most 256 registers
+-- the drawing state after these events; the selected register and the last definitions are in range, and there are at
+-- most 256 registers
 pub record IsStateAfter (registers : ℕ) (state : DrawingState) (events : List Event) : Type 0 where
   pub column_is : state.column ≡ capped (column 0 events)
   pub band_is : state.band ≡ capped (band events)

@@ -19,15 +19,16 @@ use Rattle.sixel_check.specs.Growth.{MayGrowAmong}
 use Rattle.sixel_check.specs.Portable.{IsInBoxOn, IsPortable}
 use Rattle.sixel_check.specs.Verdicts.{IsVerdict}
 
--- on the terminal the register has its final colour both before the event at position i and at the end
+-- on the terminal the register has its colour in the picture that the events leave, both before the event at position i
+-- and at the end
 pub record HasColourLeft (registers : ℕ) (t : Display) (events : List Event) (i r : ℕ) : Type 0 where
   pub at_painting : palette_at (picture_left registers events).palette r ≡ Some (map_on t (take i events) r)
   pub at_showing : palette_at (picture_left registers events).palette r ≡ Some (map_on t events r)
 
 -- the drawing rules are those up to `Uncovered`, which are all but `EightBit`
 
--- if no drawing rule is broken, a register that a command paints in has its final colour at that command and at the
--- end, on each terminal with enough registers
+-- if no drawing rule is broken, a register that a command paints in has its colour in the picture that the events leave
+-- at that command and at the end, on each terminal with enough registers
 abbrev pub PaintedColourIsLeft : ℕ → Type 0
 PaintedColourIsLeft registers =
     (t : Display) (events : List Event) (i : ℕ) (e : Event) (r : ℕ) → registers ≤ registers_of t
@@ -40,7 +41,7 @@ FilledFirst registers =
     (events : List Event) (i j : ℕ) (d e : Event) → BreaksNone registers uncovered_rule events → i < j
     → slice_get events i ≡ Some d → IsTrue (is_data_command d) → slice_get events j ≡ Some e → raster_of e ≡ None
 
--- if no drawing rule is broken in a whole list, some event paints each pixel of the box
+-- if no drawing rule is broken in a whole list, each pixel of the box is covered by some event
 abbrev pub AllCovered : ℕ → Type 0
 AllCovered registers =
     (events : List Event) (a : Attributes) (x y : ℕ) → AreWhole events → BreaksNone registers uncovered_rule events

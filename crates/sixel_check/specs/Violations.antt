@@ -46,7 +46,7 @@ redefined_in n (Step (Define register system x y z)) =
     && option_map_or (λ c. not (is_colour_of c system x y z)) (palette_at n.palette register) false
 redefined_in n _ = false
 
--- the first broken one of the ten rules that don't look at pixels
+-- the first broken one of the rules 1 to 10
 abbrev pub rule_in : DrawingState → Bool → Event → Option Rule
 rule_in n has_box e =
     if raster_first_in has_box e then Some RasterFirst

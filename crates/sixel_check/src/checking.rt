@@ -255,8 +255,8 @@ fn conclude<P: Plane>(reader: &Reader, checker: Checker<P>) -> Result<Verdict, I
 /// The bytes are read once, and the first failure ends the check: `Grammar` (the bytes are no document), `Read` (the
 /// source failed) or `OutOfMemory` (an allocation failed). The source isn't read after a fault or after its end.
 ///
-/// Nothing of the input is kept. Memory is allocated once, for the pixels of the box, when its raster attributes are
-/// complete.
+/// Nothing of the input is kept. Memory is allocated at one point only, for the pixels of the box: when its raster
+/// attributes are complete, if no rule is broken by then.
 pub fn check<S: Source>(
     alloc: Global,
     profile: Profile,

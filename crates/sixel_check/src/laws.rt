@@ -15,8 +15,8 @@ pub fn painted_colour_is_left()
     ensures { (profile : Profile) → PaintedColourIsLeft (count_of profile) }
 {}
 
-/// If no rule but `EightBit` is broken in a whole list: no raster attributes follow a data command, some event paints
-/// each pixel of the box, none paints a pixel outside it on any terminal, and clipping changes nothing.
+/// If no rule but `EightBit` is broken in a whole list: no raster attributes follow a data command, each pixel of the
+/// box is covered by some event, no event paints a pixel outside it on any terminal, and clipping changes nothing.
 pub fn box_is_covered()
     ensures filled_first { (profile : Profile) → FilledFirst (count_of profile) }
     ensures all_covered { (profile : Profile) → AllCovered (count_of profile) }
@@ -52,11 +52,11 @@ pub fn one_pixel_breaks_none()
     ensures { (profile : Profile) → OnePixelBreaksNone (count_of profile) }
 {}
 
-/// For three rules, two given terminals of the class show different colours at what the finding names. `Uncovered`:
-/// they have room, keep their ground, and had different colours there before. `Outside`: they keep their ground, have
-/// 8-bit controls and differ only in clipping; the colour there before wasn't the one that the unclipped terminal
-/// shows. `EightBit` at the terminator: they have room and differ only in 8-bit controls; the colour there before
-/// wasn't that of the picture that the events leave.
+/// For three rules, two given terminals of the class show different colours. `Uncovered`, at the finding's pixel: they
+/// have room, keep their ground, and had different colours there before. `Outside`, at the finding's pixel, if its
+/// coordinates are below `u64::MAX`: they keep their ground, have 8-bit controls and differ only in clipping; the
+/// colour there before wasn't the one that the unclipped terminal shows. `EightBit` at the terminator, at a pixel of
+/// the box: they have room and differ only in 8-bit controls; the colour there before wasn't that of the picture left.
 pub fn findings_are_differences()
     ensures uncovered { (profile : Profile) → UncoveredDiffers (count_of profile) }
     ensures outside { (profile : Profile) → OutsideDiffers (count_of profile) }

@@ -25,7 +25,8 @@ pub enum Rule {
     Unselected = 8,
     /// A command that paints in a register without a definition before it.
     Undefined = 9,
-    /// A definition of a register that a command has painted in, unless it repeats the register's last definition.
+    /// A definition of a register that a command has painted in and that was defined before, unless it repeats the
+    /// register's last definition.
     Redefined = 10,
     /// A command that paints a pixel outside the box.
     Outside = 11,

@@ -45,7 +45,7 @@ run_commands r = if nat_le 4 r.count then Repeat r.count r.item ∷ [] else repl
 
 -- ---- columns
 
--- the pixel in this column and this row of a band is in the picture, and has the register
+-- this row of the band is in the picture, and its pixel in column x has the register
 abbrev pub has_pixel : PictureValue → ℕ → ℕ → ℕ → ℕ → Bool
 has_pixel p band register x k =
     nat_lt (band_rows * band + k) p.height && (register_of p x (band_rows * band + k) == register)

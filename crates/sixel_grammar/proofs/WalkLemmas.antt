@@ -42,7 +42,7 @@ abbrev pub with_stamp : List Stamp → ℕ → ℕ → Option Event → List Sta
 with_stamp s k place None = s
 with_stamp s k place (Some event) = s ++ stamp k place event ∷ []
 
--- the offset of the own event of byte number n: n if the byte ends a command, otherwise `opened`
+-- the offset of the event that byte number n completes itself: n if the byte ends a command, otherwise `opened`
 abbrev pub moved : ℕ → ℕ → Option Event → ℕ
 moved opened n None = opened
 moved opened n (Some event) = n

@@ -32,6 +32,6 @@ pub record CompleteIn (events : List Placed) (bytes : List ℕ) : Type 0 where
   pub parses : Parses pieces (bytes ++ tail)
   pub complete : events ≡ complete_from (length bytes) 0 pieces
 
--- the bytes followed by one of the tails are a document, ignoring the length limit: so some document begins with them
+-- ignoring the length limit: the bytes followed by one of the tails are a document, so some document begins with them
 abbrev pub IsViable : List ℕ → Type 0
 IsViable bytes = (events : List Placed) × CompleteIn events bytes

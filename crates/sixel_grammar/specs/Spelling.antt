@@ -9,7 +9,7 @@ use Rattle.sixel_grammar.specs.declared.command.Event.TheVariants.{Start, Step, 
 use Rattle.sixel_grammar.specs.Bytes.{separator, repeat_sign, raster_sign, colour_sign, introducer, terminator}
 use Rattle.sixel_grammar.specs.Number.{NumberText, Fields}
 
--- sixel bits are at most 63, and a start has a parameter; some bytes spell such an event if its numbers are in range
+-- sixel bits are at most 63, and a start has a parameter; if `IsEvent` holds too, some bytes spell the event
 abbrev pub IsSpellable : Event → Type 0
 IsSpellable (Start eight parameters) = 0 < length parameters.items
 IsSpellable (Step (Sixel bits)) = bits ≤ 63
@@ -89,7 +89,7 @@ IsCommand (Define register system x y z) = AreNumbers (register ∷ system ∷ x
 IsCommand CarriageReturn = Unit {0}
 IsCommand NextLine = Unit {0}
 
--- an event as a program has it: its numbers fit their types
+-- an event as a program has it: its numbers fit their types, and a start has at most three parameters
 abbrev pub IsEvent : Event → Type 0
 IsEvent (Start eight parameters) = (length parameters.items ≤ 3) × AreNumbers parameters.items
 IsEvent (Step command) = IsCommand command

@@ -20,7 +20,7 @@ pub enum Reason {
     BadTerminator = 6,
     /// The input ends before the string does.
     Truncated = 7,
-    /// The document is longer than 268,435,456 bytes.
+    /// The input is longer than 268,435,456 bytes, and valid up to there.
     TooLong = 8,
     /// Something other than filler follows the string.
     Trailing = 9,

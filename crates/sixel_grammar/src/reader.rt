@@ -59,8 +59,8 @@ impl Reader {
         }
     }
 
-    /// Reads one byte, and returns the events that it completes. After an `Err`, each further call returns the same
-    /// fault.
+    /// Reads one byte, and returns the events that it completes. An `Err` is the fault of the bytes up to this one, and
+    /// has this byte's offset; each further call returns the same fault.
     #[inline(always)]
     pub fn feed(&mut self, byte: u8) -> Result<Completed, Fault>
         ensures kept { IfSome (fault_of self.old) (λ fault. (result ≡ Err fault) × (self.new ≡ self.old)) }

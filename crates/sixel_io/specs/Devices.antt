@@ -36,7 +36,7 @@ one_more n = min (n + 1) (2 ^ 64 - 1)
 abbrev pub CountsFailure : {A E : Type 0} → Result A E → ℕ → ℕ → Type 0
 CountsFailure result old new = new ≡ (if is_ok result then old else one_more old)
 
--- of the bytes of a source some were read, and what is left is what followed them; after an `Ok` nothing is left
+-- a prefix of the source's bytes was read, perhaps none, and the rest is still to come; after an `Ok` nothing is left
 pub record ReadsToEnd {A E : Type 0} (result : Result A E) (old new : Option (List ℕ)) : Type 0 where
   pub read : (bytes : List ℕ) × Consumes old new bytes
   pub ended : OnOk result (IsAtEnd new)

@@ -20,7 +20,8 @@ pub trait Source {
     /// The bytes still to come, if they are known, and how many calls failed.
     ghost state: { Self → SourceState };
 
-    /// Copies the next bytes to the beginning of `piece` and returns how many. 0 means the end.
+    /// Copies the next bytes to the beginning of `piece`, which must not be empty, and returns how many; 0 means the
+    /// end. On an `Err` no byte was taken from the source.
     fn fill(&mut self, piece: &mut [u8]) -> Result<usize, DeviceFault>
         requires { 0 < length piece.old }
         ensures bound { IfOk result (λ n. n ≤ length piece.new) }
@@ -37,7 +38,8 @@ pub trait Sink {
     /// The bytes taken so far, if they are known, how many calls failed, and whether the sink is flushed.
     ghost state: { Self → SinkState };
 
-    /// Takes a prefix of `piece`, at least one byte, and returns its length.
+    /// Takes a prefix of `piece`, which must not be empty: at least one byte. Returns its length. On an `Err` it took
+    /// none.
     fn take(&mut self, piece: &[u8]) -> Result<usize, DeviceFault>
         requires { 0 < length piece.now }
         ensures bound { IfOk result (λ n. (0 < n) × (n ≤ length piece.now)) }

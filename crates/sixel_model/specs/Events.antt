@@ -59,7 +59,7 @@ bits_of (Step (Sixel bits)) = bits
 bits_of (Step (Repeat count bits)) = bits
 bits_of _ = 0
 
--- a data command with one of the six bits set; higher bits, which no text spells, paint nothing
+-- a data command with at least one of the six bits set; higher bits, which no text spells, paint nothing
 abbrev pub is_painting : Event → Bool
 is_painting e = not (bits_of e % 64 == 0)
 

@@ -43,7 +43,7 @@ abbrev pub painted_cell : ℕ → List ℕ → (ℕ → ℕ → Bool) → ℕ �
 painted_cell width registers is_painted x y =
     if is_painted x y then Some (slice_index registers (y * width + x)) else None
 
--- the grid that has a register for each pixel, row by row; only the painted pixels count
+-- the grid of these registers, one for each pixel, row by row; a pixel that isn't painted is blank
 abbrev pub grid_of_painted : ℕ → ℕ → List ℕ → (ℕ → ℕ → Bool) → Grid
 grid_of_painted width height registers is_painted =
     record { width = width; height = height; cells = row_by_row width height (painted_cell width registers is_painted) }

@@ -109,7 +109,7 @@ breaks_unselected before e = is_painting e && is_none (known before)
 unfoldable pub breaks_undefined : List Event → Event → Bool
 breaks_undefined before e = is_painting e && option_map_or (λ r. is_none (definition_of before r)) (known before) false
 
--- a definition of a register that was painted in, unless it repeats the register's last definition
+-- a definition of a register that was painted in and defined before, unless it repeats the register's last definition
 unfoldable pub breaks_redefined : List Event → Event → Bool
 breaks_redefined before (Step (Define register system x y z)) =
     is_painted_in before register
@@ -185,7 +185,7 @@ unfoldable pub palette_left : ℕ → List Event → List (Option Parts)
 palette_left registers events = map (colour_of events) (range_with_len 0 registers)
 
 -- the picture of the box: each pixel has the register that was known when it was last covered. Without such a register
--- it is 0, and without raster attributes the box is 0 by 0; if no rule is broken, neither happens
+-- it is 0, and without raster attributes the box is 0 by 0; in a whole list that breaks no rule, neither happens
 unfoldable pub picture_left : ℕ → List Event → PictureValue
 picture_left registers events =
     let a : Attributes = unwrap_or (raster_before events) (record { pan = 1; pad = 1; width = 0; height = 0 }) in

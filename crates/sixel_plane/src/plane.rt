@@ -45,7 +45,8 @@ pub trait Plane: Drop {
     /// data byte, and paints the rows of the band whose bits are set in it. Returns whether it painted; if not, nothing
     /// has changed, and `paint_run` can paint each column.
     ///
-    /// A data byte is `?` plus six bits. Lanes need 16 more bytes after these, which aren't painted.
+    /// A data byte is `?` plus six bits. All six rows of the band must be in the plane. A plane may need 16 more bytes
+    /// after the first `count`; these aren't painted.
     fn try_paint_stretch(
         &mut self,
         column: u32,

@@ -70,8 +70,8 @@ colours_of_samples maxval (red ∷ green ∷ blue ∷ rest) =
 
 -- ---- the whole
 
--- the bytes are a header, and three samples for each pixel, with at most as many different colours as registers; the
--- picture is the one of these colours
+-- the bytes are a header, and three samples for each pixel, each at most the maximum, with at most as many different
+-- colours as registers; the picture is the one of these colours
 pub record IsPictureFile (registers : ℕ) (picture : PictureValue) (bytes : List ℕ) : Type 0 where
   pub width : ℕ
   pub height : ℕ

@@ -56,7 +56,7 @@ after_filler false at (b ∷ rest) =
 after_filler true at (b ∷ rest) =
     if nat_lt at most_header then after_filler (not (b == 10)) (at + 1) rest else (at, b ∷ rest)
 
--- the number whose digits follow those of `value`, and what follows it
+-- the number whose digits are those of `value` and the ones at the beginning, and what follows it
 abbrev pub after_digits : ℕ → ℕ → List ℕ → ℕ × ℕ × List ℕ
 after_digits value at [] = (value, at, [])
 after_digits value at (b ∷ rest) =

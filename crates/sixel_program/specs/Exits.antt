@@ -43,7 +43,7 @@ abbrev pub labelled : Option Text → Text → Text
 labelled None text = text
 labelled (Some name) text = named name text
 
--- the line of a fault, with the input's name if it has one; not for a failed write, which isn't the input's fault
+-- the line of a fault, with the input's name if it has one; for a failed write without it: that isn't the input's fault
 abbrev pub fault_said : Option Text → RunFault → Text
 fault_said None fault = fault_line fault
 fault_said (Some name) fault = named_fault_line name fault

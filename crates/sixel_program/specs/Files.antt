@@ -192,7 +192,8 @@ Tells contents had [] has = has ≡ had
 Tells contents had (e ∷ rest) has =
     (e.told ≡ told_of contents had e.name) × Tells contents (left_after had e.name e.left) rest has
 
--- how many calls on standard input have failed after the check of a file: one more if a read of it failed
+-- how many calls on standard input have failed after the check of a file: one more if that file was standard input and
+-- a read of it failed
 abbrev pub failures_past : ℕ → FileEnd → ℕ
 failures_past count e = if is_dash e.name then failures_by run.Read e.answer count else count
 
@@ -239,7 +240,7 @@ pub record AreCut (profile : Profile) (is_quiet : Bool) (contents : Text → Opt
   pub count : ℕ
   pub wanted : is_quiet ≡ false
   pub names_are : names ≡ names_of (whole ++ option_to_list last) ++ rest
-  -- without a file at whose line it failed it failed when it was flushed, after all files
+  -- if the output failed at no file, it failed at the flush, after all files
   pub at_the_end : last ≡ None → rest ≡ []
   pub each : All (IsFileEnd profile) (whole ++ option_to_list last)
   pub tells : Tells contents input.old.remaining (whole ++ option_to_list last) input.new.remaining

@@ -42,7 +42,7 @@ advice_on Jpeg = codes "sixel: this is a JPEG; `jpegtopnm | ppmtoppm` makes a PP
 advice_on Gif = codes "sixel: this is a GIF; `giftopnm | ppmtoppm` makes a PPM (P6) of it" ++ 10 ∷ []
 advice_on Netpbm = codes "sixel: this is another format of Netpbm; `ppmtoppm` makes a PPM (P6) of it" ++ 10 ∷ []
 
--- the advice on an input of this format, if its header is refused within the magic number
+-- the advice on an input of this format, if its header is refused at the first or the second byte
 abbrev pub advice_for : Option Format → Result Status RunFault → Text
 advice_for format (Err (Ppm Header place)) = if nat_le place 1 then option_map_or advice_on format [] else []
 advice_for format _ = []

@@ -15,7 +15,8 @@ use sixel_words::Request;
 use std::alloc::Global;
 use std::io::{Read, Write};
 
-/// Carries out a request. Messages, as the reason of a refusal, go to `errors`.
+/// Carries out a request over `input` and the files of `folder`. Results go to `output`, messages to `errors`. If
+/// `input` is a terminal (`is_terminal`), a check that reads it first says that it waits. Never returns `Usage`.
 pub fn execute<F: Folder, R: Read + Drop, W: Write + Drop, E: Write + Drop>(
     alloc: Global,
     request: &Request,

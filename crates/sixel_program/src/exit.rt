@@ -47,8 +47,9 @@ pub fn exit_of(answer: Result<Status, RunFault>) -> Exit
     }
 }
 
-/// Ends the program if its arguments name no task: shows the help or the explanation that was asked for, or says what
-/// is wrong. If a help text, a usage text or a fault's line can't be made or written, the exit status stays the same.
+/// What the program does if its arguments name no task: it shows the help or the explanation that was asked for, or
+/// says what is wrong. An explanation that can't be written gives `Refused`; any other text that can't be made or
+/// written leaves the exit status as it is.
 pub fn tell<K: Sink, E: Sink>(
     alloc: Global,
     fault: WordsFault,

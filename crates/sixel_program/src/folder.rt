@@ -37,13 +37,14 @@ impl Read for Input {
     }
 }
 
-/// The file system. It tells no file's bytes.
+/// The file system. Contracts know no file's bytes.
 #[derive(Clone, Copy)]
 pub struct System<'a> {
     rt: &'a HostRuntime,
 }
 
 impl<'a> System<'a> {
+    /// The file system that this runtime reaches.
     pub fn new(rt: &'a HostRuntime) -> System<'a> {
         System { rt }
     }

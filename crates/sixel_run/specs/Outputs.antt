@@ -43,8 +43,8 @@ ListGives bytes text (Ok status) = (status ≡ Done)
 ListGives bytes text (Err (Grammar fault)) = IsFaultOf bytes fault × ListsPrefix (take fault.place bytes) text
 ListGives bytes text (Err fault) = ⊥
 
--- the lines of the events that are complete in the bytes given so far, those before `left`, were appended; some
--- document begins with these bytes
+-- the lines of the events that are complete in the bytes given so far, those before `left`, were appended; these bytes
+-- are viable and within the length limit
 abbrev pub ListsUnread : List ℕ → Option (List ℕ) → Option (List ℕ) → Option (List ℕ) → Type 0
 ListsUnread bytes left had has =
     (given : List ℕ) × (text : Text) × Consumes (Some bytes) left given
@@ -77,7 +77,7 @@ line_of (Err fault) = []
 
 -- ---- pictures
 
--- the PPM of a picture, if all its colours are RGB
+-- the PPM of a picture, if the colours of all its pixels are RGB; else NotRgb, and no text
 abbrev pub picture_output : PictureValue → Text × Result Status RunFault
 picture_output p =
     if are_rgb (colours_of p) then (ppm_text p.width p.height (colours_of p), Ok Done) else ([], Err NotRgb)
@@ -106,8 +106,8 @@ EncodeGives registers bytes text answer = (text, answer) ≡ encode_output (ppm_
 
 -- ---- screens
 
--- for a document the PPM of the terminal's screen after it, if all its colours are RGB; for other bytes their fault,
--- and no text
+-- for a document the PPM of the terminal's screen after it, or NotRgb and no text if some colour on it isn't RGB; for
+-- other bytes their fault, and no text
 abbrev pub ShowGives : Display → List ℕ → Text → Result Status RunFault → Type 0
 ShowGives t bytes text (Ok status) = (status ≡ Done)
     × ((events : List Placed) × Document events bytes × IsTrue (are_rgb (screen_on t (events_of events)))
@@ -117,8 +117,8 @@ ShowGives t bytes text (Err NotRgb) = (text ≡ [])
 ShowGives t bytes text (Err (Grammar fault)) = (text ≡ []) × IsFaultOf bytes fault
 ShowGives t bytes text (Err fault) = ⊥
 
--- for a document what the terminal with a screen of the size of the declared box gives; NoBox and no text if there is
--- no such box; for other bytes their fault, and no text
+-- for a document what the terminal with a screen of the size of the declared box gives; NoBox and no text if no box is
+-- declared, or no screen can have its size; for other bytes their fault, and no text
 abbrev pub ShowBoxGives : (ℕ × ℕ → Display) → List ℕ → Text → Result Status RunFault → Type 0
 ShowBoxGives terminal bytes text (Err NoBox) = (text ≡ [])
     × ((events : List Placed) × Document events bytes × (declared_screen (events_of events) ≡ None))
@@ -166,7 +166,7 @@ TakesMemory (Show profile showing fill selects width height) told = Unit {0}
 TakesMemory (ShowBox profile showing fill selects) told = Unit {0}
 
 -- what a run with this answer appended to what the sink `had`. OutOfMemory: nothing; Read: what `unread` says; Write: a
--- prefix of each text that `gives` allows; any other answer: a text that `gives` with it
+-- prefix of each text that `gives` allows; any other answer: a text that `gives` allows with that answer
 abbrev pub WroteBy : (Text → Result Status RunFault → Type 0) → (Option (List ℕ) → Option (List ℕ) → Type 0)
     → Result Status RunFault → Option (List ℕ) → Option (List ℕ) → Type 0
 WroteBy gives unread (Err OutOfMemory) had has = WroteNothing had has

@@ -80,8 +80,8 @@ paint_at t before e x y =
     then Some (selected_on t before)
     else filled_on t.choices.ground e x y
 
--- the register in which the event paints the pixel, on the screen or off it; the point is counted from the origin.
--- `paints_in` asks whether the terminal sees the string
+-- the register in which the event paints the pixel in this column and row, on the screen or off it; none left of the
+-- origin or above it. `paints_in` asks whether the terminal sees the string
 unfoldable pub paints_on : Display → List Event → Event → ℕ → ℕ → Option ℕ
 paints_on t before e x y =
     if nat_le t.choices.origin_x x && nat_le t.choices.origin_y y
@@ -97,8 +97,8 @@ unfoldable pub IsPainted : Display → List Event → ℕ → ℕ → Type 0
 IsPainted t events x y =
     (i : ℕ) × HoldsAtPosition (λ before e. IsSome (paints_in t events before e x y)) events i
 
--- the colour in which the event paints the pixel, if it does: the colour of its register at that moment, or at the end
--- of the events
+-- the colour in which the event paints the pixel, if it does: the colour of its register before the event, or after all
+-- events if the terminal binds at showing
 abbrev pub inked_on : Display → List Event → ℕ → ℕ → List Event → Event → Option Parts
 inked_on t events x y before e =
     option_map (map_on t (if t.choices.binds_at_showing then events else before)) (paints_in t events before e x y)

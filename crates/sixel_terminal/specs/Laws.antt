@@ -28,7 +28,7 @@ pub record IsPlain (events : List Event) : Type 0 where
   pub no_repeat_of_zero : AllByRecursion (λ e. IsFalse (is_repeat_of_zero e)) events
   pub square : AllByRecursion (λ e. IfSome (raster_of e) (λ a. IsTrue (is_square a))) events
 
--- in a plain list an event after raster attributes paints the same points on each terminal
+-- in a plain list an event after raster attributes covers the same points on each terminal, before any clipping
 abbrev pub SamePointsOnEach : Type 0
 SamePointsOnEach =
     (t : Display) (events : List Event) (i : ℕ) (e : Event) (x y : ℕ) → IsPlain events → slice_get events i ≡ Some e

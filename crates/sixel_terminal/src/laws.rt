@@ -14,7 +14,7 @@ pub fn terminals_are_in_class()
 {}
 
 /// If a list has no repeat of 0, and each ratio is given as 1 to 1, an event after raster attributes covers the same
-/// points on each terminal, with bits of one row.
+/// points on each terminal, before any clipping: those that it covers with bits of one row.
 pub fn same_points_on_each()
     ensures { SamePointsOnEach }
 {}

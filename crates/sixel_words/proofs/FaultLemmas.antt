@@ -25,7 +25,7 @@ memory_is_wanted words = record {
   unhelped = λ taken. tt;
 }
 
--- an error of clap's that is shown is no want of memory, so its kind is one of the others that it may have
+-- an error that is shown isn't out of memory, so its kind is one of the other kinds that it may have
 shown_kind : (words : List Text) (error held : Error) (f : WordsFault) → held ≡ error
     → (kind_of error ≡ kind.OutOfMemory → f ≡ fault.OutOfMemory) → (f ≡ fault.OutOfMemory → ⊥)
     → HasKind (kinds_of words) error → IsAmong (kind_of held) (kinds_of words)

@@ -126,7 +126,7 @@ abbrev pub HasSide : Text → List Row → ℕ → Type 0
 HasSide name rows n = (text : Text) × (one_of name rows ≡ Some text) × IsSideText text n
 
 -- the task of a subcommand with this name and these options; the size of a screen comes from `--box`, or else from
--- `--width` and `--height`: with both there is no task
+-- `--width` and `--height`: with `--box` and either of these two there is no task
 abbrev pub IsTask : Text → List Row → Task → Type 0
 IsTask name rows task.List = name ≡ codes "list"
 IsTask name rows (task.Check profile) = (name ≡ codes "check") × (profile_of rows ≡ profile)
@@ -223,34 +223,35 @@ abbrev pub IsNoHelp : WordsFault → Type 0
 IsNoHelp (fault.Help error) = ⊥
 IsNoHelp _ = ⊤
 
--- ---- what words that give no task come to
+-- ---- arguments that name no task
 
--- the kinds of error by which clap may refuse the words, with help and the version among them; none where it takes them
+-- the kinds of error that clap may find in the arguments, help and version among them; none if it accepts them
 abbrev pub kinds_of : List Text → Kinds
 kinds_of words = fault_of sixel_app words
 
--- clap takes the words, but they ask for nothing: for no task, and for no explanation that there is
+-- clap accepts the arguments, but they ask for no task, and for no explanation that exists
 pub record AskForNothing (words : List Text) : Type 0 where
   pub taken : kinds_of words ≡ []
   pub task : (t : Task) → IsTaskOf words t → ⊥
   pub explanation : (topic : Option Topic) → AsksFor words (option_map topic_name topic) → ⊥
 
--- an error is of a kind that clap has for the words; where it takes them they ask for nothing, or for an explanation
+-- Usage and Help have an error of a kind that clap finds in the arguments; Usage also fits arguments that clap accepts
+-- and that ask for nothing; with an explanation, clap accepts them
 abbrev pub IsFoundIn : List Text → WordsFault → Type 0
 IsFoundIn words (fault.Usage error) = IsAmong (kind_of error) (kinds_of words) ⊎ AskForNothing words
 IsFoundIn words (fault.Help error) = IsAmong (kind_of error) (kinds_of words)
 IsFoundIn words (fault.Explanation topic) = kinds_of words ≡ []
 IsFoundIn words fault.OutOfMemory = ⊤
 
--- why the words give none
+-- what the fault may be if these arguments name no task
 pub record IsFaultFor (words : List Text) (f : WordsFault) : Type 0 where
   pub sorted : IsSortedOut f
   pub found : IsFoundIn words f
-  -- words that clap takes and that give a task are refused for want of memory only
+  -- if clap accepts the arguments and they name a task, the fault can only be OutOfMemory
   pub accepted : takes sixel_app words ≡ true → (t : Task) → IsTaskOf words t → f ≡ fault.OutOfMemory
   pub asked : IsAskedBy words f
-  -- words that clap takes and that ask for an explanation get it
+  -- if clap accepts the arguments and they ask for an explanation, the fault is that one or OutOfMemory
   pub explained : takes sixel_app words ≡ true → (topic : Option Topic)
       → AsksFor words (option_map topic_name topic) → IsExplanationOf (option_map topic_name topic) f
-  -- words that clap takes get no help
+  -- if clap accepts the arguments, the fault isn't help or the version
   pub unhelped : takes sixel_app words ≡ true → IsNoHelp f

@@ -14,7 +14,8 @@ use std::env::Args;
 use std::io;
 use std::io::ErrorKind;
 
-/// What these arguments ask for; the first is the program's name. A usage error if they couldn't be read as text.
+/// What these arguments ask for; the first is the program's name. If they couldn't be read as text: a usage error, or
+/// `OutOfMemory`.
 pub fn task_in(alloc: Global, arguments: io::Result<Args>) -> Result<Request, WordsFault>
     ensures task { IfOk result (λ asked. IfOk arguments (λ words.
         IsTaskOf (map string_bytes (into_iter_items words)) asked.task)) }

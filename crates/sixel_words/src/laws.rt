@@ -29,7 +29,7 @@ pub fn the_word_show_gives_a_show()
 {}
 
 /// `sixel show --box` is accepted, and shows without any other flag, with 16 registers on a screen of the size of the
-/// declared box. With `--width` or `--height` too, it gives no task.
+/// declared box. With `--width 800` after it, or `--height 480` before it, there is no task.
 pub fn the_words_show_box_give_a_box()
     ensures taken { (program : Text) → takes sixel_app (program ∷ codes "show" ∷ codes "--box" ∷ []) ≡ true }
     ensures task { (program : Text) →
@@ -51,7 +51,7 @@ pub fn the_word_help_asks_for_help()
     ensures short_version { (program : Text) → kinds_of (program ∷ codes "-V" ∷ []) ≡ DisplayVersion ∷ [] }
 {}
 
-/// In no words, an unknown option and a side of 0 clap finds a mistake, and no call for help.
+/// Without arguments, with an unknown option and with a side of 0, clap finds a usage error and no request for help.
 pub fn wrong_words_ask_for_no_help()
     ensures none { (program : Text) → kinds_of (program ∷ []) ≡ MissingSubcommand ∷ [] }
     ensures unknown { (program : Text) →
@@ -60,7 +60,7 @@ pub fn wrong_words_ask_for_no_help()
         kinds_of (program ∷ codes "show" ∷ codes "--width" ∷ codes "0" ∷ []) ≡ ValueValidation ∷ [] }
 {}
 
-/// The name of each rule, which a line of `check` can hold, and of each fault is one of those that `explain` lists.
+/// `explain` lists the name of each rule and of each fault of a run.
 pub fn each_name_is_listed()
     ensures rules { (rule : Rule) → Contains listed_names (rule_name rule) }
     ensures faults { (fault : RunFault) → Contains listed_names (topic_name (topic_of fault)) }

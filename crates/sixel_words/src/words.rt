@@ -48,8 +48,7 @@ pub enum WordsFault {
     OutOfMemory,
 }
 
-/// The task that the words ask for. The first of them is the program's name. `Usage` and `Help` hold the text of clap
-/// for these words.
+/// The task that these arguments ask for; the first is the program's name. `WordsFault` says what an `Err` means.
 pub fn parse_words(alloc: Global, words: &[String]) -> Result<Task, WordsFault>
     ensures task { IfOk result (IsTaskOf (map string_bytes words.now)) }
     ensures sides { IfOk result HasSides }
@@ -60,7 +59,7 @@ pub fn parse_words(alloc: Global, words: &[String]) -> Result<Task, WordsFault>
     Ok(request.task)
 }
 
-/// What the words ask for: the task of `parse_words`, and what it is done with.
+/// What these arguments ask for: the task of `parse_words`, whether a check is quiet, and the files to read.
 pub fn parse_request(alloc: Global, words: &[String]) -> Result<Request, WordsFault>
     ensures task { IfOk result (λ asked. IsTaskOf (map string_bytes words.now) asked.task) }
     ensures request { IfOk result (λ asked.

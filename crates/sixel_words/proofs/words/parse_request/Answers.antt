@@ -34,7 +34,7 @@ taken_by c =
     sym (ap (λ (a : App). fault_of a (map string_bytes c.args.words.now)) c.in-Ok.ensures)
     ∙ c.in-Ok-try_get_matches_from.ensures.kinds (ap is_simple_and_free c.in-Ok.ensures)
 
--- words that are taken are refused for want of memory alone
+-- if clap accepts the arguments, matching them fails only with OutOfMemory
 pub returns-in-Err-try_get_matches_from : goal.returns-in-Err-try_get_matches_from
 returns-in-Err-try_get_matches_from c =
     let words = map string_bytes c.args.words.now in
@@ -61,7 +61,7 @@ returns-in-Err-try_get_matches_from c =
       };
     }
 
--- the options of a task are refused for want of memory alone
+-- once the task is known, the rest of the request fails only with OutOfMemory
 pub returns-in-Some-task_of : goal.returns-in-Some-task_of
 returns-in-Some-task_of c =
     let words = map string_bytes c.args.words.now in
