@@ -32,6 +32,14 @@ echo 0
 exit 1
 """
 
+# What ./install copies besides the program, and where to.
+COPIES = {
+    "docs/sixel.1": "share/man/man1/sixel.1",
+    "completions/sixel.bash": "share/bash-completion/completions/sixel",
+    "completions/_sixel": "share/zsh/site-functions/_sixel",
+    "completions/sixel.fish": "share/fish/vendor_completions.d/sixel.fish",
+}
+
 faults = []
 runs = 0
 
@@ -59,9 +67,8 @@ class Clone:
         self.failing_sum = above / "failing sum"
         self.main = self.root / "crates/sixel/src/main.rt"
         self.program = self.root / "crates/sixel/out/sixel"
-        self.manual = self.root / "docs/sixel.1"
         self.bin = above / "bin"
-        for name in ("sixel", "install", "crates.txt", "docs/sixel.1"):
+        for name in ("sixel", "install", "crates.txt", *COPIES):
             (self.root / name).parent.mkdir(parents=True, exist_ok=True)
             shutil.copy(ROOT / name, self.root / name)
         self.crates = re.findall(r"^(\w+):", (ROOT / "crates.txt").read_text(), re.MULTILINE)
@@ -162,15 +169,21 @@ def run_failures(clone):
 
 
 def run_install(clone):
-    program, manual = clone.prefix / "bin/sixel", clone.prefix / "share/man/man1/sixel.1"
+    targets = {clone.prefix / target: (clone.root / source, 0o644) for source, target in COPIES.items()}
+    targets = {clone.prefix / "bin/sixel": (clone.program, 0o755), **targets}
     clone.program.unlink()
-    clone.want_install([clone.prefix], 0, f"installed {program} and {manual}\n", 1)
-    for path, source, mode in ((program, clone.program, 0o755), (manual, clone.manual, 0o644)):
+    clone.want_install([clone.prefix], 0, "".join(f"installed {path}\n" for path in targets), 1)
+    for path, (source, mode) in targets.items():
         is_same = path.read_bytes() == source.read_bytes() and path.stat().st_mode & 0o777 == mode
         want(is_same, f"./install wrote another {path.name}, or with another mode")
-    clone.want_install(["--uninstall", clone.prefix], 0, f"removed {program} and {manual}\n")
-    want(not program.exists() and not manual.exists(), "./install --uninstall left files")
-    clone.want_install(["--uninstall", clone.prefix], 1, f"neither {program} nor {manual} is there\n")
+    written = [path for path in clone.prefix.rglob("*") if path.is_file()]
+    want(sorted(written) == sorted(targets), f"./install wrote {written}")
+    clone.want_install(["--uninstall", clone.prefix], 0, "".join(f"removed {path}\n" for path in targets))
+    want(not any(path.exists() for path in targets), "./install --uninstall left files")
+    clone.want_install(["--uninstall", clone.prefix], 1, f"none of its files is below {clone.prefix}\n")
+    # As an older one installed it.
+    (clone.prefix / "bin/sixel").write_text("")
+    clone.want_install(["--uninstall", clone.prefix], 0, f"removed {clone.prefix}/bin/sixel\n")
     # From the folder that it is called in.
     clone.want_install(["here"], 0, "installed here/bin/sixel")
     want((clone.elsewhere / "here/bin/sixel").exists(), "./install here: nothing is there")
@@ -182,12 +195,12 @@ def run_staged_install(clone):
     """The files go below DESTDIR, and words that name no folder write and remove nothing."""
     staged = clone.stage / str(clone.prefix / "bin/sixel")[1:]
     stage = str(clone.stage)
-    clone.want_install([clone.prefix], 0, f"installed {staged} and ", DESTDIR=stage)
+    clone.want_install([clone.prefix], 0, f"installed {staged}\n", DESTDIR=stage)
     want(staged.exists() and not (clone.prefix / "bin/sixel").exists(), "./install doesn't go by DESTDIR")
-    clone.want_install(["--uninstall", clone.prefix], 0, f"removed {staged} and ", DESTDIR=stage)
+    clone.want_install(["--uninstall", clone.prefix], 0, f"removed {staged}\n", DESTDIR=stage)
     want(not staged.exists(), "./install --uninstall doesn't go by DESTDIR")
     # Where an empty prefix would go.
-    kept = [clone.stage / "bin/sixel", clone.stage / "share/man/man1/sixel.1"]
+    kept = [clone.stage / name for name in ("bin/sixel", *COPIES.values())]
     wrong = ([""], ["--uninstall", ""], ["here"], ["--uninstall"], [], ["-x"], ["here", "there"], ["--help", "here"])
     for words in wrong:
         clone.want_install(words, 3, "usage: ./install PREFIX", DESTDIR=stage)

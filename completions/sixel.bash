@@ -1,0 +1,52 @@
+# Completions of sixel for bash, by `completions/check --write`.
+
+_sixel() {
+    local IFS=$' \t\n' command= ended= operands=0 options= names= i
+    # The words before the one at the cursor. bash splits `--width=8` at the =.
+    for ((i = 1; i < COMP_CWORD; i++)); do
+        if [[ ! $ended && ${COMP_WORDS[i]} == -- ]]; then
+            ended=yes
+        elif [[ ! $ended && ${COMP_WORDS[i]} == @(--width|--height) ]]; then
+            ((++i))
+            [[ ${COMP_WORDS[i]} != = ]] || ((++i))
+        elif [[ ! $ended && ${COMP_WORDS[i]} == -?* ]]; then
+            continue
+        elif [[ ! $command ]]; then
+            command=${COMP_WORDS[i]}
+        else
+            ((++operands))
+        fi
+    done
+    # The word at the cursor is the value of an option, a number.
+    ((i == COMP_CWORD)) || return
+    # For a command that reads any number of files the operands don't count.
+    case $command in
+        '') options='-h --help -V --version'
+            names='list check render encode show explain help'
+            ;;
+        list) options='-h --help' ;;
+        check) options='--wide -q --quiet -h --help' operands=0 ;;
+        render) options='--wide -h --help' ;;
+        encode) options='--wide -h --help' ;;
+        show) options='--wide --showing --fill --define-selects --width --height --box -h --help' ;;
+        explain) options='-h --help'
+            names='RasterFirst RasterTwice Ratio BoxSize Register ColourValue RepeatZero Unselected Undefined
+                Redefined Outside Uncovered EightBit NotSixel BadByte NumberTooLarge FieldCount BadRepeat
+                BadTerminator Truncated TooLong Trailing Header Size Maxval Sample TooManyColours Short NotRgb NoBox
+                OutOfMemory Read Write'
+            ;;
+        help)
+            names='list check render encode show explain help'
+            ;;
+        *) return ;;
+    esac
+    if [[ ! $ended && $2 == -* ]]; then
+        mapfile -t COMPREPLY < <(compgen -W "$options" -- "$2")
+    elif ((operands == 0)) && [[ $names ]]; then
+        mapfile -t COMPREPLY < <(compgen -W "$names" -- "$2")
+    elif ((operands == 0)); then
+        compopt -o default
+    fi
+}
+
+complete -F _sixel sixel

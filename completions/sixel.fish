@@ -1,0 +1,89 @@
+# Completions of sixel for fish, by `completions/check --write`.
+
+# Whether the word after `sixel` is this one; with a number, whether there are as many words before the cursor, too.
+function __fish_sixel_is
+    set -l words (commandline -opc)
+    test "$words[2]" = "$argv[1]"; and begin
+        not set -q argv[2]; or test (count $words) -eq $argv[2]
+    end
+end
+
+complete -c sixel -f
+complete -c sixel -n __fish_use_subcommand -s h -l help -d 'Print help'
+complete -c sixel -n __fish_use_subcommand -s V -l version -d 'Print version'
+complete -c sixel -n __fish_use_subcommand -a list -d 'Lists the commands of the picture, one per line'
+complete -c sixel -n __fish_use_subcommand -a check -d 'Says whether the picture is portable, or which rule it breaks first'
+complete -c sixel -n __fish_use_subcommand -a render -d 'Converts a portable picture to a PPM'
+complete -c sixel -n __fish_use_subcommand -a encode -d 'Converts a PPM to portable sixel text'
+complete -c sixel -n __fish_use_subcommand -a show -d 'Draws the picture as one terminal would, and writes its screen as a PPM'
+complete -c sixel -n __fish_use_subcommand -a explain -d 'Explains a rule or a refusal by its name, or lists all names'
+complete -c sixel -n __fish_use_subcommand -a help -d 'Print this message or the help of the given subcommand(s)'
+
+complete -c sixel -n '__fish_sixel_is list' -F
+complete -c sixel -n '__fish_sixel_is list' -s h -l help -d 'Print help'
+
+complete -c sixel -n '__fish_sixel_is check' -F
+complete -c sixel -n '__fish_sixel_is check' -l wide -d 'Use 256 colour registers instead of 16'
+complete -c sixel -n '__fish_sixel_is check' -s q -l quiet -d 'Print no verdict; use the exit status'
+complete -c sixel -n '__fish_sixel_is check' -s h -l help -d 'Print help'
+
+complete -c sixel -n '__fish_sixel_is render' -F
+complete -c sixel -n '__fish_sixel_is render' -l wide -d 'Use 256 colour registers instead of 16'
+complete -c sixel -n '__fish_sixel_is render' -s h -l help -d 'Print help'
+
+complete -c sixel -n '__fish_sixel_is encode' -F
+complete -c sixel -n '__fish_sixel_is encode' -l wide -d 'Use 256 colour registers instead of 16'
+complete -c sixel -n '__fish_sixel_is encode' -s h -l help -d 'Print help'
+
+complete -c sixel -n '__fish_sixel_is show' -F
+complete -c sixel -n '__fish_sixel_is show' -l wide -d 'Use 256 colour registers instead of 16'
+complete -c sixel -n '__fish_sixel_is show' -l showing -d 'Show each pixel in the final colour of its register'
+complete -c sixel -n '__fish_sixel_is show' -l fill -d 'Fill the declared box with register 0'
+complete -c sixel -n '__fish_sixel_is show' -l define-selects -d 'Let a colour definition also select its register'
+complete -c sixel -n '__fish_sixel_is show' -l width -x -d 'The screen\'s width in pixels, 1 to 4096 [default: 800]'
+complete -c sixel -n '__fish_sixel_is show' -l height -x -d 'The screen\'s height in pixels, 1 to 4096 [default: 480]'
+complete -c sixel -n '__fish_sixel_is show' -l box -d 'Make the screen as large as the declared box'
+complete -c sixel -n '__fish_sixel_is show' -s h -l help -d 'Print help'
+
+complete -c sixel -n '__fish_sixel_is explain' -s h -l help -d 'Print help'
+complete -c sixel -n '__fish_sixel_is explain 2' -a RasterFirst -d 'data, return, new line or terminator before any raster attributes'
+complete -c sixel -n '__fish_sixel_is explain 2' -a RasterTwice -d 'raster attributes more than once'
+complete -c sixel -n '__fish_sixel_is explain 2' -a Ratio -d 'a pixel aspect ratio not written as 1;1'
+complete -c sixel -n '__fish_sixel_is explain 2' -a BoxSize -d 'a width or height outside 1 to 2,048'
+complete -c sixel -n '__fish_sixel_is explain 2' -a Register -d 'a register above 15, or above 255 with --wide'
+complete -c sixel -n '__fish_sixel_is explain 2' -a ColourValue -d 'a colour system other than 1 or 2, or a coordinate out of range'
+complete -c sixel -n '__fish_sixel_is explain 2' -a RepeatZero -d 'a repeat of 0'
+complete -c sixel -n '__fish_sixel_is explain 2' -a Unselected -d 'painting while no register is known'
+complete -c sixel -n '__fish_sixel_is explain 2' -a Undefined -d 'painting in a register that is not defined yet'
+complete -c sixel -n '__fish_sixel_is explain 2' -a Redefined -d 'a different colour for a register already painted in'
+complete -c sixel -n '__fish_sixel_is explain 2' -a Outside -d 'a set bit outside the box'
+complete -c sixel -n '__fish_sixel_is explain 2' -a Uncovered -d 'a pixel of the box that no set bit covers, at the terminator'
+complete -c sixel -n '__fish_sixel_is explain 2' -a EightBit -d 'the byte 90 as the introducer, or 9C as the terminator'
+complete -c sixel -n '__fish_sixel_is explain 2' -a NotSixel -d 'input that doesn\'t start like a sixel string'
+complete -c sixel -n '__fish_sixel_is explain 2' -a BadByte -d 'unexpected byte'
+complete -c sixel -n '__fish_sixel_is explain 2' -a NumberTooLarge -d 'a number above 65,535'
+complete -c sixel -n '__fish_sixel_is explain 2' -a FieldCount -d 'too many or too few numbers in a command'
+complete -c sixel -n '__fish_sixel_is explain 2' -a BadRepeat -d 'a repeat without a sixel after its count'
+complete -c sixel -n '__fish_sixel_is explain 2' -a BadTerminator -d 'an ESC that isn\'t followed by \\'
+complete -c sixel -n '__fish_sixel_is explain 2' -a Truncated -d 'input that ends before the terminator is complete'
+complete -c sixel -n '__fish_sixel_is explain 2' -a TooLong -d 'input of more than 268,435,456 bytes'
+complete -c sixel -n '__fish_sixel_is explain 2' -a Trailing -d 'data after the terminator, or after the last sample of a PPM'
+complete -c sixel -n '__fish_sixel_is explain 2' -a Header -d 'not a valid P6 header'
+complete -c sixel -n '__fish_sixel_is explain 2' -a Size -d 'a PPM width or height outside 1 to 2,048'
+complete -c sixel -n '__fish_sixel_is explain 2' -a Maxval -d 'a PPM maxval outside 1 to 255'
+complete -c sixel -n '__fish_sixel_is explain 2' -a Sample -d 'a PPM sample above the maxval'
+complete -c sixel -n '__fish_sixel_is explain 2' -a TooManyColours -d 'a PPM of more than 16 colours, or more than 256 with --wide'
+complete -c sixel -n '__fish_sixel_is explain 2' -a Short -d 'a PPM that ends before its last sample'
+complete -c sixel -n '__fish_sixel_is explain 2' -a NotRgb -d 'a colour of hue, lightness and saturation that would appear in a PPM'
+complete -c sixel -n '__fish_sixel_is explain 2' -a NoBox -d 'a text that declares no box of a possible screen size'
+complete -c sixel -n '__fish_sixel_is explain 2' -a OutOfMemory -d 'an allocation failed'
+complete -c sixel -n '__fish_sixel_is explain 2' -a Read -d 'input that couldn\'t be opened or read'
+complete -c sixel -n '__fish_sixel_is explain 2' -a Write -d 'output that couldn\'t be written'
+
+complete -c sixel -n '__fish_sixel_is help 2' -a list -d 'Lists the commands of the picture, one per line'
+complete -c sixel -n '__fish_sixel_is help 2' -a check -d 'Says whether the picture is portable, or which rule it breaks first'
+complete -c sixel -n '__fish_sixel_is help 2' -a render -d 'Converts a portable picture to a PPM'
+complete -c sixel -n '__fish_sixel_is help 2' -a encode -d 'Converts a PPM to portable sixel text'
+complete -c sixel -n '__fish_sixel_is help 2' -a show -d 'Draws the picture as one terminal would, and writes its screen as a PPM'
+complete -c sixel -n '__fish_sixel_is help 2' -a explain -d 'Explains a rule or a refusal by its name, or lists all names'
+complete -c sixel -n '__fish_sixel_is help 2' -a help -d 'Print this message or the help of the given subcommand(s)'
