@@ -1,10 +1,11 @@
 //! Checks of files, and quiet checks of standard input.
 
-ghost use Rattle.std.specs.Prelude.{◌≡◌, Result, map, option_copied};
+ghost use Rattle.std.specs.Prelude.{◌≡◌, None, Result, map, option_copied};
 ghost use Rattle.std.specs.String.{string_bytes};
 ghost use Rattle.sixel_io.specs.Devices.{change};
 ghost use Rattle.sixel_program.specs.Exits.{IsPut, exit_for_answer};
 ghost use Rattle.sixel_program.specs.Files.{FilesEnd, IsChecked, IsFileEnd, IsOutcome, QuietEnds, SaysOfCheck, worse};
+ghost use Rattle.sixel_program.specs.Openings.{folder_view};
 ghost use Rattle.sixel_run.specs.Outputs.{answer_of, failures_by, line_of};
 ghost use Rattle.sixel_run.specs.Texts.{Text, fault_line};
 ghost use Rattle.sixel_run.specs.declared.fault.RunFault.{RunFault as AFault};
@@ -12,12 +13,12 @@ ghost use Rattle.sixel_run.specs.declared.fault.RunFault.TheVariants.{Read as Re
 ghost use Rattle.sixel_run.specs.declared.task.Status.{Status as AStatus};
 
 use crate::exit::{Exit, code_of, exit_of};
-use crate::folder::Folder;
+use crate::folder::{Folder, open_file};
 use crate::names::put_named;
 use crate::peeked::Peeked;
-use crate::saying::put_fault;
+use crate::saying::{put_fault, put_unopened};
 use sixel_check::Verdict;
-use sixel_io::{DeviceFault, FromRead, Sink, Source};
+use sixel_io::{DeviceFault, Sink, Source};
 use sixel_model::Profile;
 use sixel_run::{RunFault, judge, status_of, verdict_line, write_fault};
 use std::alloc::Global;
@@ -64,7 +65,7 @@ fn put_judged<K: Sink, E: Sink>(
     output: &mut K,
     errors: &mut E,
 ) -> Result<Exit, DeviceFault>
-    ensures { IsOutcome is_quiet name.now (line_of judged) (answer_of judged) result
+    ensures { IsOutcome is_quiet name.now None (line_of judged) (answer_of judged) result
         (change (K.state output.old) (K.state output.new)) (change (E.state errors.old) (E.state errors.new)) }
 {
     if let Ok(verdict) = &judged {
@@ -88,13 +89,14 @@ fn check_named<S: Source, K: Sink, E: Sink>(
     ensures { (line : Text) × (answer : Result AStatus AFault)
         × IsFileEnd profile (record {
           name = name.now;
+          unopened = None;
           told = (S.state input.old).remaining;
           left = (S.state input.new).remaining;
           line = line;
           answer = answer;
         })
         × ((S.state input.new).failures ≡ failures_by ReadFault answer (S.state input.old).failures)
-        × IsOutcome is_quiet name.now line answer result
+        × IsOutcome is_quiet name.now None line answer result
         (change (K.state output.old) (K.state output.new)) (change (E.state errors.old) (E.state errors.new)) }
 {
     let judged = judge(alloc, profile, input);
@@ -112,19 +114,22 @@ fn check_file<F: Folder, S: Source, K: Sink, E: Sink>(
     output: &mut K,
     errors: &mut E,
 ) -> Result<Exit, DeviceFault>
-    ensures { IsChecked profile is_quiet (F.contents folder.now) name.now result
+    ensures { IsChecked profile is_quiet (folder_view (F.opening folder.now) F.Opened.state) name.now result
         (change (S.state input.old) (S.state input.new)) (change (K.state output.old) (K.state output.new))
         (change (E.state errors.old) (E.state errors.new)) }
 {
     if name == "-" {
         return check_named(alloc, profile, is_quiet, name, input, output, errors);
     }
-    match folder.open(name) {
+    match open_file(folder, name) {
         Ok(file) => {
-            let mut file = Peeked::unread(FromRead::new(file));
+            let mut file = Peeked::unread(file);
             check_named(alloc, profile, is_quiet, name, &mut file, output, errors)
         }
-        Err(_) => put_judged(is_quiet, name, Err(RunFault::Read), output, errors),
+        Err(reason) => {
+            let _ = put_unopened(name, reason, errors);
+            Ok(Exit::Refused)
+        }
     }
 }
 
@@ -157,7 +162,7 @@ pub fn check_files<F: Folder, S: Source, K: Sink, E: Sink>(
     output: &mut K,
     errors: &mut E,
 ) -> Exit
-    ensures { FilesEnd profile is_quiet (F.contents folder.now) (map string_bytes names.now) result
+    ensures { FilesEnd profile is_quiet (folder_view (F.opening folder.now) F.Opened.state) (map string_bytes names.now) result
         (change (S.state input.old) (S.state input.new)) (change (K.state output.old) (K.state output.new))
         (change (E.state errors.old) (E.state errors.new)) }
 {

@@ -4,6 +4,7 @@ ghost use Rattle.std.specs.Prelude.{◌≡◌, ◌≢◌, All, Contains, map};
 ghost use Rattle.std.specs.String.{string_bytes};
 ghost use Rattle.sixel_program.specs.Files.{IsBrokenOver, IsDoneOver, IsJudgedOver, names_read};
 ghost use Rattle.sixel_program.specs.Files.{told_of};
+ghost use Rattle.sixel_program.specs.Openings.{bytes_of};
 ghost use Rattle.sixel_run.specs.Outputs.{HasSides};
 ghost use Rattle.sixel_run.specs.Texts.{Text};
 
@@ -28,13 +29,13 @@ pub fn execute<F: Folder, R: Read + Drop, W: Write + Drop, E: Write + Drop>(
 ) -> Exit
     requires { HasSides request.now.task }
     ensures done { result ≡ Exit.Done → All (λ name.
-        IsDoneOver request.now.task (told_of (F.contents folder.now) (R.remaining input) name))
+        IsDoneOver request.now.task (told_of (bytes_of (F.opening folder.now)) (R.remaining input) name))
         (names_read request.now.task (map string_bytes request.now.files.items)) }
     ensures broken { result ≡ Exit.Broken → (name : Text)
         × Contains (names_read request.now.task (map string_bytes request.now.files.items)) name
-        × IsBrokenOver request.now.task (told_of (F.contents folder.now) (R.remaining input) name) }
+        × IsBrokenOver request.now.task (told_of (bytes_of (F.opening folder.now)) (R.remaining input) name) }
     ensures judged { result ≡ Exit.Broken → All (λ name.
-        IsJudgedOver request.now.task (told_of (F.contents folder.now) (R.remaining input) name))
+        IsJudgedOver request.now.task (told_of (bytes_of (F.opening folder.now)) (R.remaining input) name))
         (names_read request.now.task (map string_bytes request.now.files.items)) }
     ensures no_usage { result ≢ Exit.Usage }
 {

@@ -7,16 +7,17 @@ ghost use Rattle.std.specs.String.{string_bytes};
 ghost use Rattle.sixel_io.specs.Devices.{change};
 ghost use Rattle.sixel_program.specs.Exits.{IsPut, RunEnds};
 ghost use Rattle.sixel_program.specs.Files.{FileEnds, IsPrefix, RequestEnds, awaits_text, is_dash, notice, reads_input};
+ghost use Rattle.sixel_program.specs.Openings.{folder_view};
 ghost use Rattle.sixel_run.specs.Outputs.{HasSides};
 
 use crate::checks::{check_files, check_quietly};
 use crate::exit::{Exit, exit_of};
-use crate::folder::Folder;
+use crate::folder::{Folder, open_file};
 use crate::formats::format_of;
 use crate::peeked::{Peeked, peek};
-use crate::saying::{put_fault, put_said};
-use sixel_io::{FromRead, Sink, Source, put_all};
-use sixel_run::{RunFault, Task, run};
+use crate::saying::{put_said, put_unopened};
+use sixel_io::{Sink, Source, put_all};
+use sixel_run::{Task, run};
 use sixel_words::Request;
 use std::alloc::Global;
 
@@ -117,20 +118,20 @@ fn report_file<F: Folder, S: Source, K: Sink, E: Sink>(
     errors: &mut E,
 ) -> Exit
     requires { HasSides task }
-    ensures { FileEnds task (F.contents folder.now) name.now input.old.prefix.items result
+    ensures { FileEnds task (folder_view (F.opening folder.now) F.Opened.state) name.now input.old.prefix.items result
         (change (⟦<Peeked<S> as Source>⟧.state input.old) (⟦<Peeked<S> as Source>⟧.state input.new))
         (change (K.state output.old) (K.state output.new)) (change (E.state errors.old) (E.state errors.new)) }
 {
     if name == "-" {
         return report(alloc, task, Some(name), input, output, errors);
     }
-    match folder.open(name) {
+    match open_file(folder, name) {
         Ok(file) => {
-            let mut file = peek(task, FromRead::new(file));
+            let mut file = peek(task, file);
             report(alloc, task, Some(name), &mut file, output, errors)
         }
-        Err(_) => {
-            let _ = put_fault(Some(name), &RunFault::Read, errors);
+        Err(reason) => {
+            let _ = put_unopened(name, reason, errors);
             Exit::Refused
         }
     }
@@ -147,7 +148,7 @@ pub fn answer<F: Folder, S: Source, K: Sink, E: Sink>(
 ) -> Exit
     requires { HasSides request.now.task }
     ensures { RequestEnds request.now.task request.now.is_quiet (map string_bytes request.now.files.items)
-        (F.contents folder.now) input.old.prefix.items result
+        (folder_view (F.opening folder.now) F.Opened.state) input.old.prefix.items result
         (change (⟦<Peeked<S> as Source>⟧.state input.old) (⟦<Peeked<S> as Source>⟧.state input.new))
         (change (K.state output.old) (K.state output.new)) (change (E.state errors.old) (E.state errors.new)) }
 {

@@ -14,4 +14,4 @@ mod saying;
 
 pub use execution::execute;
 pub use exit::{Exit, code_of, tell};
-pub use folder::{Folder, Input, System};
+pub use folder::{Folder, Input, System, Unopened};

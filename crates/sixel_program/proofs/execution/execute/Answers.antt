@@ -7,6 +7,7 @@ use Rattle.sixel_check.specs.declared.verdict.Finding.{Finding}
 use Rattle.sixel_run.specs.declared.task.Status.TheVariants.{Broken, Done}
 use Rattle.sixel_run.specs.declared.task.Status.{Status}
 use Rattle.sixel_program.specs.Files.{names_read}
+use Rattle.sixel_program.specs.Openings.{bytes_of}
 use Rattle.sixel_run.specs.Outputs.{Gives}
 use Rattle.sixel_run.specs.Texts.{Text}
 use Rattle.sixel_program.proofs.FilesLemmas.{request_no_usage}
@@ -16,7 +17,7 @@ use Rattle.sixel_program.proofs.execution.execute.Goals as goal
 pub returns-clause-done : goal.returns-clause-done
 returns-clause-done g c = λ is.
     let t = c.args.request.now.task in
-    let contents = g.F.Folder.contents c.args.folder.now in
+    let contents = bytes_of (g.F.Folder.opening c.args.folder.now) in
     let told = rw (ap (λ (s : SourceState). s.remaining) c.new.ensures) at c.peek_input-input.ensures.told in
     All-weaker _ _
     (λ name. told_kept (λ (bytes : List ℕ). (text : Text) × Gives t bytes text (Ok Done)) contents _ _ name told)
@@ -26,7 +27,7 @@ returns-clause-done g c = λ is.
 pub returns-clause-broken : goal.returns-clause-broken
 returns-clause-broken g c = λ is.
     let t = c.args.request.now.task in
-    let contents = g.F.Folder.contents c.args.folder.now in
+    let contents = bytes_of (g.F.Folder.opening c.args.folder.now) in
     let told = rw (ap (λ (s : SourceState). s.remaining) c.new.ensures) at c.peek_input-input.ensures.told in
     let found = one_read_broken _ _ _ _ _ _ _ _ _ c.answer.ensures is in (
       found.0,
@@ -38,7 +39,7 @@ returns-clause-broken g c = λ is.
 pub returns-clause-judged : goal.returns-clause-judged
 returns-clause-judged g c = λ is.
     let t = c.args.request.now.task in
-    let contents = g.F.Folder.contents c.args.folder.now in
+    let contents = bytes_of (g.F.Folder.opening c.args.folder.now) in
     let told = rw (ap (λ (s : SourceState). s.remaining) c.new.ensures) at c.peek_input-input.ensures.told in
     All-weaker _ _
     (λ name. told_kept (λ (bytes : List ℕ). (text : Text) × (status : Status) × Gives t bytes text (Ok status))
