@@ -11,18 +11,19 @@ ghost use Rattle.sixel_run.specs.Texts.{Text};
 use crate::exit::Exit;
 use crate::files::{announce, answer, peek_input};
 use crate::folder::Folder;
+use crate::terminals::Terminals;
 use sixel_io::{FromRead, ToWrite};
 use sixel_words::Request;
 use std::alloc::Global;
 use std::io::{Read, Write};
 
 /// Carries out a request over `input` and the files of `folder`. Results go to `output`, messages to `errors`. If
-/// `input` is a terminal (`is_terminal`), a check that reads it first says that it waits. Never returns `Usage`.
+/// `input` is a terminal (`terminals`), a check that reads it first says that it waits. Never returns `Usage`.
 pub fn execute<F: Folder, R: Read + Drop, W: Write + Drop, E: Write + Drop>(
     alloc: Global,
     request: &Request,
     folder: &F,
-    is_terminal: bool,
+    terminals: Terminals,
     input: R,
     output: W,
     errors: E,
@@ -42,6 +43,6 @@ pub fn execute<F: Folder, R: Read + Drop, W: Write + Drop, E: Write + Drop>(
     let mut input = peek_input(request, FromRead::new(input));
     let mut output = ToWrite::new(output);
     let mut errors = ToWrite::new(errors);
-    announce(request, is_terminal, &mut errors);
+    announce(request, terminals.input, &mut errors);
     answer(alloc, request, folder, &mut input, &mut output, &mut errors)
 }

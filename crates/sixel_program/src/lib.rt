@@ -11,7 +11,9 @@ pub mod laws;
 mod names;
 mod peeked;
 mod saying;
+mod terminals;
 
 pub use execution::execute;
 pub use exit::{Exit, code_of, tell};
 pub use folder::{Folder, Input, System, Unopened};
+pub use terminals::Terminals;

@@ -4,7 +4,7 @@ ghost use Rattle.sixel_run.specs.Outputs.{HasSides};
 
 use crate::memory_folder::MemoryFolder;
 use sixel_model::Profile;
-use sixel_program::{Exit, execute};
+use sixel_program::{Exit, Terminals, execute};
 use sixel_run::Task;
 use sixel_words::Request;
 use std::alloc::Global;
@@ -45,6 +45,13 @@ const NO_FILES: MemoryFolder<'static> = MemoryFolder {
     cut: &[],
 };
 
+/// No standard stream is a terminal.
+pub const NO_TERMINALS: Terminals = Terminals {
+    input: false,
+    output: false,
+    errors: false,
+};
+
 /// How a task on the bytes ends over these streams.
 pub fn exit_over<W: Write + Drop, E: Write + Drop>(
     alloc: Global,
@@ -60,7 +67,15 @@ pub fn exit_over<W: Write + Drop, E: Write + Drop>(
         is_quiet: false,
         files: Vec::new(alloc),
     };
-    execute(alloc, &request, &NO_FILES, false, bytes, output, errors)
+    execute(
+        alloc,
+        &request,
+        &NO_FILES,
+        NO_TERMINALS,
+        bytes,
+        output,
+        errors,
+    )
 }
 
 /// Whether a task on the bytes ends so, with these bytes on standard output and on standard error.

@@ -8,11 +8,11 @@ mod notices;
 mod system;
 mod tasks;
 
-use crate::ends::CHECK;
+use crate::ends::{CHECK, NO_TERMINALS};
 use crate::memory_folder::MemoryFolder;
 use crate::streams::Narrow;
 use sixel_model::Profile;
-use sixel_program::{Exit, execute};
+use sixel_program::{Exit, Terminals, execute};
 use sixel_run::Task;
 use sixel_words::Request;
 use std::alloc::{AllocError, Global};
@@ -61,7 +61,7 @@ struct Asked<'a> {
 /// The standard streams.
 #[derive(Clone, Copy)]
 struct Streams {
-    is_terminal: bool,
+    terminals: Terminals,
     /// How many bytes standard output takes before it fails.
     room: usize,
     is_flushable: bool,
@@ -71,7 +71,7 @@ struct Streams {
 
 /// No terminal, and enough room.
 const STREAMS: Streams = Streams {
-    is_terminal: false,
+    terminals: NO_TERMINALS,
     room: 512,
     is_flushable: true,
     errors_room: 512,
@@ -141,7 +141,7 @@ fn ends_over(
         alloc,
         &request,
         &FOLDER,
-        streams.is_terminal,
+        streams.terminals,
         input,
         output,
         errors,

@@ -1,6 +1,7 @@
 //! Files of the system.
 
 use super::{check_of, request_of};
+use crate::ends::NO_TERMINALS;
 use sixel_program::{Exit, System, execute};
 use std::test::Fail;
 
@@ -15,7 +16,7 @@ fn files_of_the_system(rt: HostRuntime) -> Result<(), Fail> {
         rt.alloc(),
         &request,
         &System::new(&rt),
-        false,
+        NO_TERMINALS,
         b"".as_slice(),
         &mut written,
         &mut said,
