@@ -40,9 +40,10 @@ pub const SHOW_BOX: Task = Task::ShowBox {
 };
 
 /// No file can be opened.
-const NO_FILES: MemoryFolder<'static> = MemoryFolder {
+pub const NO_FILES: MemoryFolder<'static> = MemoryFolder {
     files: &[],
     cut: &[],
+    refused: &[],
 };
 
 /// No standard stream is a terminal.
