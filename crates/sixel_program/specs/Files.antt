@@ -1,5 +1,6 @@
 -- How requests end: over standard input or files, quiet or not.
-use Rattle.std.specs.Prelude.{◌≡◌, ◌≢◌, ◌⊎◌, ◌-◌, ◌^◌, ◌<◌, ◌==◌, ◌&&◌, ◌||◌, ℕ, Bool, length, true, false, List}
+use Rattle.std.specs.Prelude.{◌≡◌, ◌≢◌, ◌⊎◌, ◌-◌, ◌^◌, ◌<◌, ◌==◌, ◌&&◌, ◌||◌, ℕ, Bool, length, not, true, false}
+use Rattle.std.specs.Prelude.{List}
 use Rattle.std.specs.Prelude.{[]}
 use Rattle.std.specs.Prelude.{◌∷◌, ◌++◌, codes, flat_map, fold, map, take, nat_lt, Option, Some, None, IfSome, Result}
 use Rattle.std.specs.Prelude.{Ok}
@@ -10,6 +11,7 @@ use Rattle.std.specs.List.{All, list_any}
 use Rattle.std.specs.Str.{bytes_eq}
 use Rattle.sixel_io.specs.Devices.{Change, ReadsToEnd, SinkState, SourceState, change, one_more}
 use Rattle.sixel_model.specs.declared.profile.Profile.{Profile}
+use Rattle.sixel_check.specs.declared.rule.Rule.{Rule}
 use Rattle.sixel_check.specs.declared.verdict.Finding.{Finding}
 use Rattle.sixel_program.specs.declared.exit.Exit.{Exit}
 use Rattle.sixel_program.specs.declared.folder.Unopened.{Unopened}
@@ -22,6 +24,7 @@ use Rattle.sixel_run.specs.declared.task.Task.{Task}
 use Rattle.sixel_run.specs.declared.task.Task.TheVariants.{Check}
 use Rattle.sixel_program.specs.Exits.{IsPut, RunEnds, complaint, exit_code, exit_for_answer, fault_said}
 use Rattle.sixel_run.specs.Outputs.{Gives, TakesMemory, Wrote, failures_by}
+use Rattle.sixel_program.specs.Hints.{first_rule, hint}
 use Rattle.sixel_program.specs.Names.{named, named_fault_line, unopened_line}
 use Rattle.sixel_program.specs.Openings.{CountsOf, FailsWith, FolderView, IsOpening, Told, bytes_of}
 use Rattle.sixel_run.specs.Texts.{BeginsWith, Text, fault_line, line}
@@ -99,8 +102,8 @@ pub record IsOpened {O : Type 0} (folder : FolderView O) (name : Text) (input : 
 -- how a task over the file with this name ended. If the name is that of standard input, the file is `input`, which
 -- begins with `given` as far as that is known. Otherwise `input` is unchanged, and the file was read or couldn't be
 -- opened
-pub record FileEnds {O : Type 0} (t : Task) (folder : FolderView O) (name : Text) (given : List ℕ) (exit : Exit)
-    (input : Change SourceState) (output errors : Change SinkState) : Type 0 where
+pub record FileEnds {O : Type 0} (t : Task) (is_shown : Bool) (folder : FolderView O) (name : Text) (given : List ℕ)
+    (exit : Exit) (input : Change SourceState) (output errors : Change SinkState) : Type 0 where
   pub prefix : List ℕ
   pub file : Change SourceState
   pub given_prefix : is_dash name ≡ true → prefix ≡ given
@@ -108,7 +111,7 @@ pub record FileEnds {O : Type 0} (t : Task) (folder : FolderView O) (name : Text
   pub told : file.old.remaining ≡ told_of (bytes_of folder.opening) input.old.remaining name
   pub is_input : is_dash name ≡ true → file ≡ input
   pub stays : is_dash name ≡ false → input.new ≡ input.old
-  pub ended : (RunEnds t (Some name) prefix exit file output errors × IsOpened folder name file)
+  pub ended : (RunEnds t is_shown (Some name) prefix exit file output errors × IsOpened folder name file)
       ⊎ IsUnopened (folder.opening name) name exit output errors
 
 -- ---- checks of several files
@@ -180,6 +183,10 @@ exit_of_end e = exit_for_answer e.answer
 abbrev pub files_exit : List FileEnd → Exit
 files_exit ends = worst (map exit_of_end ends)
 
+-- the rule of the first broken verdict
+abbrev pub first_broken : List FileEnd → Option Rule
+first_broken ends = first_rule (map (λ e. e.answer) ends)
+
 abbrev pub names_of : List FileEnd → List Text
 names_of ends = map (λ e. e.name) ends
 
@@ -203,10 +210,10 @@ SaysOfFile name (Some reason) answer errors = IsPut (unopened_line name reason) 
 -- what the check of the file with this name did to the two sinks, given the verdict's line and the answer. `Ok`: the
 -- text for the file was appended to the output, and the message about it was put to the errors. `Err`: the output
 -- failed after a prefix of that text, and nothing was put to the errors. This can't happen if the check is quiet
-abbrev pub IsOutcome : {E : Type 0} → Bool → Text → Option Unopened → Text → Result Status RunFault → Result Exit E
-    → Change SinkState → Change SinkState → Type 0
-IsOutcome is_quiet name unopened line answer (Ok exit) output errors =
-    (exit ≡ exit_for_answer answer)
+abbrev pub IsOutcome : {E : Type 0} → Bool → Text → Option Unopened → Text → Result Status RunFault
+    → Result (Result Status RunFault) E → Change SinkState → Change SinkState → Type 0
+IsOutcome is_quiet name unopened line answer (Ok answered) output errors =
+    (answered ≡ answer)
     × Appends output.old.taken output.new.taken (file_text is_quiet name line answer)
     × (output.new.failures ≡ output.old.failures) × SaysOfFile name unopened answer errors
 IsOutcome is_quiet name unopened line answer (Err fault) output errors =
@@ -227,7 +234,7 @@ failures_past count e = if is_dash e.name then failures_by run.Read e.answer cou
 
 -- how the check of the file with this name ended, beside standard input, and what it did to the two sinks
 pub record IsChecked {O E : Type 0} (profile : Profile) (is_quiet : Bool) (folder : FolderView O)
-    (name : Text) (result : Result Exit E) (input : Change SourceState) (output errors : Change SinkState)
+    (name : Text) (result : Result (Result Status RunFault) E) (input : Change SourceState) (output errors : Change SinkState)
     : Type 0 where
   pub e : FileEnd
   pub name_is : e.name ≡ name
@@ -283,12 +290,21 @@ pub record AreCut {O : Type 0} (profile : Profile) (is_quiet : Bool) (folder : F
   pub silent : All (λ e. said_of e ≡ []) (option_to_list last)
   pub said : ArePut (complaints_of whole ++ fault_line run.Write ∷ []) errors
 
--- all files were checked, and the output is flushed unless the check is quiet; or the output failed
-abbrev pub FilesEnd : {O : Type 0} → Profile → Bool → FolderView O → List Text → Exit → Change SourceState
+-- all files were checked, and the output is flushed unless the check is quiet. Then the errors got the hint on the
+-- first broken verdict, if hints are shown and the check isn't quiet
+pub record AreDone {O : Type 0} (profile : Profile) (is_quiet is_shown : Bool) (folder : FolderView O)
+    (names : List Text) (exit : Exit) (input : Change SourceState) (output errors : Change SinkState) : Type 0 where
+  pub ends : List FileEnd
+  pub between : SinkState
+  pub checked : AreChecked profile is_quiet folder ends names exit input output (change errors.old between)
+  pub flushed : is_quiet ≡ false → output.new.is_flushed ≡ true
+  pub hinted : IsPut (hint (not is_quiet && is_shown) profile (first_broken ends)) (change between errors.new)
+
+-- all files were checked, or the output failed
+abbrev pub FilesEnd : {O : Type 0} → Profile → Bool → Bool → FolderView O → List Text → Exit → Change SourceState
     → Change SinkState → Change SinkState → Type 0
-FilesEnd profile is_quiet folder names exit input output errors =
-    ((ends : List FileEnd) × AreChecked profile is_quiet folder ends names exit input output errors
-    × (is_quiet ≡ false → output.new.is_flushed ≡ true))
+FilesEnd profile is_quiet is_shown folder names exit input output errors =
+    AreDone profile is_quiet is_shown folder names exit input output errors
     ⊎ AreCut profile is_quiet folder names exit input output errors
 
 -- ---- requests
@@ -308,12 +324,13 @@ pub record QuietEnds (profile : Profile) (exit : Exit) (input : Change SourceSta
 
 -- how a request ended, over standard input that begins with `prefix` as far as that is known. Without names the task
 -- is over standard input. Otherwise a check is of all files that are named, and any other task is over the first
-abbrev pub RequestEnds : {O : Type 0} → Task → Bool → List Text → FolderView O → List ℕ → Exit → Change SourceState
+abbrev pub RequestEnds : {O : Type 0} → Task → Bool → Bool → List Text → FolderView O → List ℕ → Exit → Change SourceState
     → Change SinkState → Change SinkState → Type 0
-RequestEnds (Check profile) true [] folder prefix exit input output errors =
+RequestEnds (Check profile) true is_shown [] folder prefix exit input output errors =
     QuietEnds profile exit input errors × (output.new ≡ output.old)  -- nothing was written
-RequestEnds t is_quiet [] folder prefix exit input output errors = RunEnds t None prefix exit input output errors
-RequestEnds (Check profile) is_quiet (name ∷ more) folder prefix exit input output errors =
-    FilesEnd profile is_quiet folder (name ∷ more) exit input output errors
-RequestEnds t is_quiet (name ∷ more) folder prefix exit input output errors =
-    FileEnds t folder name prefix exit input output errors
+RequestEnds t is_quiet is_shown [] folder prefix exit input output errors =
+    RunEnds t is_shown None prefix exit input output errors
+RequestEnds (Check profile) is_quiet is_shown (name ∷ more) folder prefix exit input output errors =
+    FilesEnd profile is_quiet is_shown folder (name ∷ more) exit input output errors
+RequestEnds t is_quiet is_shown (name ∷ more) folder prefix exit input output errors =
+    FileEnds t is_shown folder name prefix exit input output errors

@@ -18,7 +18,8 @@ use std::alloc::Global;
 use std::io::{Read, Write};
 
 /// Carries out a request over `input` and the files of `folder`. Results go to `output`, messages to `errors`. If
-/// `input` is a terminal (`terminals`), a check that reads it first says that it waits. Never returns `Usage`.
+/// `input` is a terminal (`terminals`), a check that reads it first says that it waits. If `errors` is one, a check
+/// ends with a hint on the first broken rule, unless it is quiet. Never returns `Usage`.
 pub fn execute<F: Folder, R: Read + Drop, W: Write + Drop, E: Write + Drop>(
     alloc: Global,
     request: &Request,
@@ -44,5 +45,13 @@ pub fn execute<F: Folder, R: Read + Drop, W: Write + Drop, E: Write + Drop>(
     let mut output = ToWrite::new(output);
     let mut errors = ToWrite::new(errors);
     announce(request, terminals.input, &mut errors);
-    answer(alloc, request, folder, &mut input, &mut output, &mut errors)
+    answer(
+        alloc,
+        request,
+        terminals.errors,
+        folder,
+        &mut input,
+        &mut output,
+        &mut errors,
+    )
 }

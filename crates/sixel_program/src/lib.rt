@@ -7,6 +7,7 @@ mod exit;
 mod files;
 mod folder;
 mod formats;
+mod hints;
 pub mod laws;
 mod names;
 mod peeked;

@@ -4,6 +4,7 @@ ghost use Rattle.std.specs.Prelude.{◌≡◌, IfOk};
 ghost use Rattle.sixel_run.specs.Outputs.{HasSides};
 
 mod faults;
+mod hints;
 mod named;
 mod notices;
 mod system;

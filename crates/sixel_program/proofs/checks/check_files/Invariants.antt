@@ -1,7 +1,7 @@
-use Rattle.std.proofs.Common.{List, map, take}
+use Rattle.std.proofs.Common.{◌≡◌, List, map, take}
 use Rattle.std.specs.String.{string_bytes}
 use Rattle.sixel_io.specs.Devices.{change}
-use Rattle.sixel_program.specs.Files.{AreChecked, FileEnd}
+use Rattle.sixel_program.specs.Files.{AreChecked, FileEnd, first_broken}
 use Rattle.sixel_program.specs.Openings.{folder_view}
 use Rattle.sixel_program.proofs.checks.check_files.Given as goal
 
@@ -12,3 +12,4 @@ invariant-loop-name g l = (ends : List FileEnd) × AreChecked l.profile l.is_qui
     (change (g.S.Source.state l.fn.input) (g.S.Source.state l.input))
     (change (g.K.Sink.state l.fn.output) (g.K.Sink.state l.output))
     (change (g.E.Sink.state l.fn.errors) (g.E.Sink.state l.errors))
+    × (l.broken ≡ first_broken ends)

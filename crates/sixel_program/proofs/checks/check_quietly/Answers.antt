@@ -10,6 +10,6 @@ returns g c = record {
   memory = c.judge-judged.ensures.memory;
   read = c.judge-judged.ensures.reads;
   written = c.judge-judged.ensures.unwritten;
-  ends = c.say_judged.ensures.exit;
+  ends = rw c.say_judged.ensures.answer at c.exit_of.ensures;
   said = said_quietly c.args.profile (answer_of c.judge-judged.result) _ _ c.say_judged.ensures.said;
 }
