@@ -14,7 +14,7 @@ use crate::ends::{CHECK, NO_TERMINALS};
 use crate::memory_folder::MemoryFolder;
 use crate::streams::Narrow;
 use sixel_model::Profile;
-use sixel_program::{Exit, Unopened, Terminals, execute};
+use sixel_program::{Exit, Terminals, Unopened, execute};
 use sixel_run::Task;
 use sixel_words::Request;
 use std::alloc::{AllocError, Global};

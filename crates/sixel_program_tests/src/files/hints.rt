@@ -61,8 +61,26 @@ fn a_broken_picture(rt: HostRuntime) -> Result<(), Fail> {
 #[test]
 fn no_hint(rt: HostRuntime) -> Result<(), Fail> {
     let alloc = rt.alloc();
-    assert!(rt; hints(alloc, check_of(true, &[], RATIO), Exit::Broken, b"", true, b"")?);
-    assert!(rt; hints(alloc, check_of(true, &["ratio"], PIXEL), Exit::Broken, b"", false, b"")?);
+    assert!(rt;
+        hints(
+            alloc,
+            check_of(true, &[], RATIO),
+            Exit::Broken,
+            b"",
+            true,
+            b""
+        )?
+    );
+    assert!(rt;
+        hints(
+            alloc,
+            check_of(true, &["ratio"], PIXEL),
+            Exit::Broken,
+            b"",
+            false,
+            b""
+        )?
+    );
     let ended = Ended {
         exit: Exit::Broken,
         written: b"",
@@ -78,12 +96,31 @@ fn no_hint(rt: HostRuntime) -> Result<(), Fail> {
 fn a_register(rt: HostRuntime) -> Result<(), Fail> {
     let alloc = rt.alloc();
     let narrow = check_of(false, &[], WIDE);
-    let hint = b"sixel: 'sixel explain Register' tells how to fix it; '--wide' checks for 256 registers\n";
-    assert!(rt; hints(alloc, narrow, Exit::Broken, b"broken Register 11\n", true, hint)?);
+    let hint =
+        b"sixel: 'sixel explain Register' tells how to fix it; '--wide' checks for 256 registers\n";
+    assert!(rt;
+        hints(
+            alloc,
+            narrow,
+            Exit::Broken,
+            b"broken Register 11\n",
+            true,
+            hint
+        )?
+    );
     let profile = Profile::Registers256;
     let wide = asked_of(Task::Check { profile }, &[], b"\x1bPq\"1;1;2;1#256\x1b\\");
     let hint = b"sixel: 'sixel explain Register' tells how to fix it\n";
-    assert!(rt; hints(alloc, wide, Exit::Broken, b"broken Register 11\n", true, hint)?);
+    assert!(rt;
+        hints(
+            alloc,
+            wide,
+            Exit::Broken,
+            b"broken Register 11\n",
+            true,
+            hint
+        )?
+    );
     Ok(())
 }
 

@@ -16,9 +16,18 @@ use std::test::Fail;
 #[test]
 fn files_that_cannot_be_opened(rt: HostRuntime) -> Result<(), Fail> {
     let names = ["none", "locked", "folder", "\u{FFFD}.six", "lost", "pixel"];
-    let said = b"sixel: none: no such file\nsixel: locked: permission denied\nsixel: folder: is a folder\n\
+    let said =
+        b"sixel: none: no such file\nsixel: locked: permission denied\nsixel: folder: is a folder\n\
         sixel: \xef\xbf\xbd.six: name is not valid UTF-8\nsixel: lost: read failed\n";
-    assert!(rt; checks(rt.alloc(), &names, Exit::Refused, b"pixel: portable 1 1\n", said)?);
+    assert!(rt;
+        checks(
+            rt.alloc(),
+            &names,
+            Exit::Refused,
+            b"pixel: portable 1 1\n",
+            said
+        )?
+    );
     Ok(())
 }
 
@@ -39,7 +48,14 @@ fn refuses(alloc: Global, task: Task, name: &str, said: &[u8]) -> Result<bool, A
 fn a_file_that_cannot_be_opened(rt: HostRuntime) -> Result<(), Fail> {
     let locked = b"sixel: locked: permission denied\n";
     assert!(rt; refuses(rt.alloc(), Task::List, "locked", locked)?);
-    assert!(rt; refuses(rt.alloc(), RENDER, "folder", b"sixel: folder: is a folder\n")?);
+    assert!(rt;
+        refuses(
+            rt.alloc(),
+            RENDER,
+            "folder",
+            b"sixel: folder: is a folder\n"
+        )?
+    );
     assert!(rt; refuses(rt.alloc(), ENCODE, "lost", b"sixel: lost: read failed\n")?);
     let name = b"sixel: a\xef\xbf\xbd: name is not valid UTF-8\n";
     assert!(rt; refuses(rt.alloc(), ENCODE, "a\u{FFFD}", name)?);
@@ -49,7 +65,8 @@ fn a_file_that_cannot_be_opened(rt: HostRuntime) -> Result<(), Fail> {
 /// A name is opened as it is given, with the blanks around it.
 #[test]
 fn names_between_blanks(rt: HostRuntime) -> Result<(), Fail> {
-    let said = b"sixel:  pixel: no such file\nsixel: pixel : no such file\nsixel: \\x09pixel\\x0A: no such file\n";
+    let said =
+        b"sixel:  pixel: no such file\nsixel: pixel : no such file\nsixel: \\x09pixel\\x0A: no such file\n";
     let names = [" pixel", "pixel ", "\tpixel\n"];
     assert!(rt; checks(rt.alloc(), &names, Exit::Refused, b"", said)?);
     Ok(())
@@ -91,7 +108,15 @@ fn goes_out_in(alloc: Global, name: &str, printed: &str, most: u64) -> Result<bo
         refused: &[],
     };
     let is_whole = goes_so(alloc, name, folder, "", printed, ": portable 1 1\n", most)?;
-    let is_said = goes_so(alloc, name, NO_FILES, "sixel: ", printed, ": no such file\n", most)?;
+    let is_said = goes_so(
+        alloc,
+        name,
+        NO_FILES,
+        "sixel: ",
+        printed,
+        ": no such file\n",
+        most,
+    )?;
     Ok(is_whole && is_said)
 }
 
