@@ -317,6 +317,7 @@ pub record QuietEnds (profile : Profile) (exit : Exit) (input : Change SourceSta
   pub wrote : IfSome input.old.remaining
       (λ bytes. Wrote (Check profile) bytes input.new.remaining answer (Some []) (Some line))
   pub memory : answer ≡ Err run.OutOfMemory → TakesMemory (Check profile) input.old.remaining
+  pub reads : ReadsToEnd answer input.old.remaining input.new.remaining
   pub read : input.new.failures ≡ failures_by run.Read answer input.old.failures
   pub written : answer ≢ Err run.Write
   pub ends : exit ≡ exit_for_answer answer

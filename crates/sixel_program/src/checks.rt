@@ -166,7 +166,8 @@ pub fn check_files<F: Folder, S: Source, K: Sink, E: Sink>(
     output: &mut K,
     errors: &mut E,
 ) -> Exit
-    ensures { FilesEnd profile is_quiet is_shown (folder_view (F.opening folder.now) F.Opened.state) (map string_bytes names.now) result
+    ensures { FilesEnd profile is_quiet is_shown (folder_view (F.opening folder.now) F.Opened.state)
+        (map string_bytes names.now) result
         (change (S.state input.old) (S.state input.new)) (change (K.state output.old) (K.state output.new))
         (change (E.state errors.old) (E.state errors.new)) }
 {

@@ -8,6 +8,7 @@ returns g c = record {
   line = line_of c.judge-judged.result;
   wrote = c.judge-judged.ensures.judged;
   memory = c.judge-judged.ensures.memory;
+  reads = c.judge-judged.ensures.left;
   read = c.judge-judged.ensures.reads;
   written = c.judge-judged.ensures.unwritten;
   ends = rw c.say_judged.ensures.answer at c.exit_of.ensures;

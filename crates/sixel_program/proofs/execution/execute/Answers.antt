@@ -1,4 +1,4 @@
-use Rattle.std.proofs.Common.{List, ℕ, ap, map}
+use Rattle.std.proofs.Common.{rules, List, ℕ, ap, map}
 use Rattle.std.specs.Prelude.{Ok}
 use Rattle.std.specs.String.{string_bytes}
 use Rattle.std.proofs.lemmas.List.Elements.{All-weaker}
@@ -22,14 +22,14 @@ returns-clause-done g c = λ is.
     All-weaker _ _
     (λ name. told_kept (λ (bytes : List ℕ). (text : Text) × Gives t bytes text (Ok Done)) contents _ _ name told)
     (names_read t (map string_bytes c.args.request.now.files.items))
-    (all_read_done _ _ _ _ _ _ _ _ _ _ c.answer.ensures is)
+    (all_read_done _ _ _ _ _ _ _ _ _ _ c.answer.ensures (search rules))
 
 pub returns-clause-broken : goal.returns-clause-broken
 returns-clause-broken g c = λ is.
     let t = c.args.request.now.task in
     let contents = bytes_of (g.F.Folder.opening c.args.folder.now) in
     let told = rw (ap (λ (s : SourceState). s.remaining) c.new.ensures) at c.peek_input-input.ensures.told in
-    let found = one_read_broken _ _ _ _ _ _ _ _ _ _ c.answer.ensures is in (
+    let found = one_read_broken _ _ _ _ _ _ _ _ _ _ c.answer.ensures (search rules) in (
       found.0,
       found.1,
       told_kept (λ (bytes : List ℕ). (text : Text) × (finding : Finding) × Gives t bytes text (Ok (Broken finding)))
@@ -45,7 +45,7 @@ returns-clause-judged g c = λ is.
     (λ name. told_kept (λ (bytes : List ℕ). (text : Text) × (status : Status) × Gives t bytes text (Ok status))
     contents _ _ name told)
     (names_read t (map string_bytes c.args.request.now.files.items))
-    (all_read_judged _ _ _ _ _ _ _ _ _ _ c.answer.ensures is)
+    (all_read_judged _ _ _ _ _ _ _ _ _ _ c.answer.ensures (search rules))
 
 pub returns-clause-no_usage : goal.returns-clause-no_usage
-returns-clause-no_usage g c = request_no_usage _ _ _ _ _ _ _ _ _ _ c.answer.ensures
+returns-clause-no_usage g c = λ is. request_no_usage _ _ _ _ _ _ _ _ _ _ c.answer.ensures (search rules)
