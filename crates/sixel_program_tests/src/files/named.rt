@@ -133,7 +133,8 @@ fn goes_so(
     let request = request_of(alloc, check_of(false, &[name], b""))?;
     let mut taken = Vec::new(alloc);
     let mut said = Vec::new(alloc);
-    let (mut writes, mut sayings) = (0, 0);
+    let mut writes: u64 = 0;
+    let mut sayings: u64 = 0;
     let output = Takes {
         taken: &mut taken,
         calls: &mut writes,
@@ -153,7 +154,7 @@ fn goes_so(
     );
     let line = format!(in alloc; "{before}{printed}{after}")?;
     taken.extend_from_slice(said.as_slice())?;
-    Ok(taken.as_slice() == line.as_bytes() && writes + sayings <= most)
+    Ok(taken.as_slice() == line.as_bytes() && writes.saturating_add(sayings) <= most)
 }
 
 /// A line with the longest name that a file can have goes out in one call, and one with a longer name in few.
