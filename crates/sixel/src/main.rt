@@ -2,7 +2,7 @@
 #![tactic(auto)]
 
 use sixel_io::ToWrite;
-use sixel_program::{Input, System, code_of, execute, tell};
+use sixel_program::{Input, System, Terminals, code_of, execute, tell};
 use sixel_words::task_in;
 use std::env;
 use std::io::IsTerminal;
@@ -12,12 +12,16 @@ fn main(rt: HostRuntime) -> ExitCode {
     let exit = match task_in(rt.alloc(), env::args(&rt)) {
         Ok(request) => {
             let folder = System::new(&rt);
-            let is_terminal = rt.stdin().is_terminal();
+            let terminals = Terminals {
+                input: rt.stdin().is_terminal(),
+                output: rt.stdout().is_terminal(),
+                errors: rt.stderr().is_terminal(),
+            };
             execute(
                 rt.alloc(),
                 &request,
                 &folder,
-                is_terminal,
+                terminals,
                 Input::Standard(rt.stdin()),
                 rt.stdout(),
                 rt.stderr(),

@@ -5,6 +5,7 @@ use Rattle.std.proofs.Common.{fold, map}
 use Rattle.std.specs.Prelude.{◌≢◌, ◌⊎◌, Result, Ok, Err, IfSome, String, string_bytes, if◌then◌else◌}
 use Rattle.std.specs.Global.{Global}
 use Rattle.std.specs.Io.KnownBytes.{Appends, Keeps}
+use Rattle.std.specs.Option.{option_or}
 use Rattle.std.proofs.KnownBytes.{Consumes-nil, Appends-trans}
 use Rattle.std.proofs.Common.{get_or}
 use Rattle.std.proofs.lemmas.List.{append-nil, take-append-drop, take_more}
@@ -26,12 +27,15 @@ use Rattle.sixel_run.specs.declared.task.Task.{Task}
 use Rattle.sixel_run.specs.declared.task.Task.TheVariants as task
 use Rattle.sixel_run.specs.declared.task.Task.TheVariants.{Check}
 use Rattle.sixel_program.specs.Exits.{IsPut, RunEnds, complaint, exit_for_answer}
-use Rattle.sixel_program.specs.Files.{AreChecked, ArePut, AreCut, FileEnd, IsChecked, IsFileEnd, IsPrefix}
+use Rattle.sixel_program.specs.Files.{AreChecked, AreDone, ArePut, AreCut, FileEnd, IsChecked, IsFileEnd, IsFileOpening, IsPrefix}
 use Rattle.sixel_program.specs.Files.{FileEnds, FilesEnd, RequestEnds, Tells, SaysOfCheck, is_dash, complaints_of}
-use Rattle.sixel_program.specs.Files.{exit_of_end, failures_past, files_exit, files_text, worst, left_after}
-use Rattle.sixel_program.specs.Files.{names_of, names_read, said_of, said_of_check}
+use Rattle.sixel_program.specs.Files.{SaysOfFile, exit_of_end, first_broken, failures_past, files_exit, files_text, worst, left_after}
+use Rattle.sixel_program.specs.Files.{names_of, names_read, said_of, said_of_check, said_of_file}
 use Rattle.sixel_program.specs.Files.{text_of_end, told_of, worse}
-use Rattle.sixel_program.specs.Names.{named_fault_line}
+use Rattle.sixel_program.specs.Hints.{first_rule, hint, rule_of}
+use Rattle.sixel_program.specs.Names.{named_fault_line, unopened_line}
+use Rattle.sixel_program.specs.Openings.{CountsOf, FolderView, IsOpening, bytes_of}
+use Rattle.sixel_program.specs.declared.folder.Unopened.{Unopened}
 use Rattle.sixel_run.specs.Outputs.{TakesMemory, Wrote}
 use Rattle.sixel_run.specs.Texts.{Text, fault_line, fault_parts}
 use Rattle.sixel_program.proofs.EndLemmas.{kept}
@@ -62,6 +66,12 @@ unfolding ArePut
 said_put name (Ok status) a b says = says
 said_put name (Err fault) a b says = one_put (named_fault_line name fault) a b says
 
+-- what is said of a file was put
+pub file_said_put : (name : Text) (unopened : Option Unopened) (answer : Result Status RunFault) (a b : SinkState)
+    → SaysOfFile name unopened answer (change a b) → ArePut (said_of_file name unopened answer) (change a b)
+file_said_put name None answer a b says = said_put name answer a b says
+file_said_put name (Some reason) answer a b says = one_put (unopened_line name reason) a b says
+
 -- texts were put, and then others
 pub put_then : (texts more : List Text) (a b c : SinkState) → ArePut texts (change a b) → ArePut more (change b c)
     → ArePut (texts ++ more) (change a c)
@@ -71,13 +81,14 @@ put_then (text ∷ texts) more a b c before are = (before.0, before.1, put_then 
 
 -- ---- one file more
 
-pub none_checked : (profile : Profile) (q : Bool) (contents : Text → Option (List ℕ)) (i : SourceState)
+pub none_checked : (profile : Profile) (q : Bool) {O : Type 0} (folder : FolderView O) (i : SourceState)
     (o e : SinkState)
-    → AreChecked profile q contents [] [] exit.Done (change i i) (change o o) (change e e)
+    → AreChecked profile q folder [] [] exit.Done (change i i) (change o o) (change e e)
 unfolding Tells
-none_checked profile q contents i o e = record {
+none_checked profile q folder i o e = record {
   names_are = refl;
   each = λ i e short. let no : ⊥ = omega (arith, short) in absurd no;
+  openings = λ i e short. let no : ⊥ = omega (arith, short) in absurd no;
   tells = refl;
   counted = refl;
   exits = refl;
@@ -134,36 +145,41 @@ counted_more ends e a b c before is =
 names_more : (ends : List FileEnd) (e : FileEnd) → names_of (ends ++ e ∷ []) ≡ names_of ends ++ e.name ∷ []
 names_more ends e = map-append (λ e. e.name) ends (e ∷ [])
 
-module _ (profile : Profile) (q : Bool) (contents : Text → Option (List ℕ)) (ends : List FileEnd) (names : List Text)
+module _ (profile : Profile) (q : Bool) {O : Type 0} (folder : FolderView O) (ends : List FileEnd) (names : List Text)
     (name : Text) (x : Exit) (i₀ i₁ i₂ : SourceState) (o₀ o₁ o₂ e₀ e₁ e₂ : SinkState)
-    (before : AreChecked profile q contents ends names x (change i₀ i₁) (change o₀ o₁) (change e₀ e₁)) where
-  pub checked_more : {E : Type 0} (y : Exit)
-      → IsChecked {E = E} profile q contents name (Ok y) (change i₁ i₂) (change o₁ o₂) (change e₁ e₂)
-      → (all : List FileEnd) × AreChecked profile q contents all (names ++ name ∷ []) (worse x y) (change i₀ i₂)
-      (change o₀ o₂) (change e₀ e₂)
+    (before : AreChecked profile q folder ends names x (change i₀ i₁) (change o₀ o₁) (change e₀ e₁)) where
+  pub checked_more : {E : Type 0} (y : Result Status RunFault)
+      → IsChecked {E = E} profile q folder name (Ok y) (change i₁ i₂) (change o₁ o₂) (change e₁ e₂)
+      → (all : List FileEnd) × AreChecked profile q folder all (names ++ name ∷ [])
+      (worse x (exit_for_answer y)) (change i₀ i₂) (change o₀ o₂) (change e₀ e₂)
+      × (first_broken all ≡ option_or (first_broken ends) (rule_of y))
   checked_more y one = (
     ends ++ one.e ∷ [],
     record {
       names_are = ap₂ (λ (ns : List Text) (n : Text). ns ++ n ∷ []) before.names_are (sym one.name_is)
           ∙ sym (names_more ends one.e);
       each = All-push (IsFileEnd profile) ends one.e before.each one.is_end;
-      tells = tells_more contents i₀.remaining i₁.remaining i₂.remaining ends one.e before.tells
+      openings = All-push (IsFileOpening folder) ends one.e before.openings one.opening;
+      tells = tells_more (bytes_of folder.opening) i₀.remaining i₁.remaining i₂.remaining ends one.e before.tells
           (rw one.name_is one.told) (rw one.name_is one.left);
       counted = counted_more ends one.e i₀.failures i₁.failures i₂.failures before.counted one.counted;
-      exits = ap₂ worse before.exits one.outcome.0 ∙ sym (exits_more ends one.e);
+      exits = ap₂ worse before.exits (ap exit_for_answer one.outcome.0) ∙ sym (exits_more ends one.e);
       lines = Appends-then o₀.taken o₁.taken o₂.taken (files_text q ends) (text_of_end q one.e) _ before.lines
           (rw one.name_is one.outcome.1) (text_more (text_of_end q) ends one.e);
       unfailed = one.outcome.2 ∙ before.unfailed;
       said = rw (text_more said_of ends one.e)
           (put_then (complaints_of ends) (said_of one.e) e₀ e₁ e₂ before.said
-          (said_put one.e.name one.e.answer e₁ e₂ (rw one.name_is one.outcome.3)));
+          (file_said_put one.e.name one.e.unopened one.e.answer e₁ e₂ (rw one.name_is one.outcome.3)));
     },
+    ap first_rule (map-append (λ e. e.answer) ends (one.e ∷ []))
+        ∙ fold_push (λ found answer. option_or found (rule_of answer)) None (map (λ e. e.answer) ends) one.e.answer
+        ∙ ap (λ (a : Result Status RunFault). option_or (first_broken ends) (rule_of a)) (sym one.outcome.0),
   )
 
   pub cut_after : {E : Type 0} (f : E) (all rest : List Text) (e₃ : SinkState) → all ≡ (names ++ name ∷ []) ++ rest
-      → IsChecked {E = E} profile q contents name (Err f) (change i₁ i₂) (change o₁ o₂) (change e₁ e₂)
+      → IsChecked {E = E} profile q folder name (Err f) (change i₁ i₂) (change o₁ o₂) (change e₁ e₂)
       → IsPut (fault_line run.Write) (change e₂ e₃)
-      → AreCut profile q contents all exit.Refused (change i₀ i₂) (change o₀ o₂) (change e₀ e₃)
+      → AreCut profile q folder all exit.Refused (change i₀ i₂) (change o₀ o₂) (change e₀ e₃)
   cut_after f all rest e₃ is one put =
       let cut : (count : ℕ) × Appends o₁.taken o₂.taken (take count (text_of_end q one.e)) =
       rw one.name_is one.outcome.0 in
@@ -178,7 +194,8 @@ module _ (profile : Profile) (q : Bool) (contents : Text → Option (List ℕ)) 
             (ap₂ (λ (ns : List Text) (n : Text). ns ++ n ∷ []) before.names_are (sym one.name_is)
             ∙ sym (names_more ends one.e));
         each = All-push (IsFileEnd profile) ends one.e before.each one.is_end;
-        tells = tells_more contents i₀.remaining i₁.remaining i₂.remaining ends one.e before.tells
+        openings = All-push (IsFileOpening folder) ends one.e before.openings one.opening;
+        tells = tells_more (bytes_of folder.opening) i₀.remaining i₁.remaining i₂.remaining ends one.e before.tells
             (rw one.name_is one.told) (rw one.name_is one.left);
         counted = counted_more ends one.e i₀.failures i₁.failures i₂.failures before.counted one.counted;
         exits = refl;
@@ -207,10 +224,10 @@ memory_kept (task.Show profile showing fill selects width height) told has same 
 memory_kept (task.ShowBox profile showing fill selects) told has same takes = tt
 
 -- a run over a source is one over the bytes that the source was made from
-pub run_kept : (t : Task) (name : Option Text) (prefix : List ℕ) (x : Exit) (told : Option (List ℕ))
-    (i : Change SourceState) (o e : Change SinkState) → Keeps told i.old.remaining → RunEnds t name prefix x i o e
-    → RunEnds t name prefix x (change (record { remaining = told; failures = i.old.failures }) i.new) o e
-run_kept t name prefix x told i o e same ended = record {
+pub run_kept : (t : Task) (h : Bool) (name : Option Text) (prefix : List ℕ) (x : Exit) (told : Option (List ℕ))
+    (i : Change SourceState) (o e : Change SinkState) → Keeps told i.old.remaining → RunEnds t h name prefix x i o e
+    → RunEnds t h name prefix x (change (record { remaining = told; failures = i.old.failures }) i.new) o e
+run_kept t h name prefix x told i o e same ended = record {
   answer = ended.answer;
   wrote = kept (λ (bytes : List ℕ). Wrote t bytes i.new.remaining ended.answer o.old.taken o.new.taken) told
       i.old.remaining same ended.wrote;
@@ -219,18 +236,22 @@ run_kept t name prefix x told i o e same ended = record {
   written = ended.written;
   flushed = ended.flushed;
   ends = ended.ends;
+  between = ended.between;
   said = ended.said;
+  hinted = ended.hinted;
 }
 
 -- a file that couldn't be opened
-pub unopened : (profile : Profile) (name : Text) (told : Option (List ℕ)) → IsFileEnd profile (record {
-  name = name;
-  told = told;
-  left = told;
-  line = [];
-  answer = Err run.Read;
-})
-unopened profile name told = record {
+pub unopened : (profile : Profile) (name : Text) (reason : Unopened) (told : Option (List ℕ))
+    → IsFileEnd profile (record {
+      name = name;
+      unopened = Some reason;
+      told = told;
+      left = told;
+      line = [];
+      answer = Err run.Read;
+    })
+unopened profile name reason told = record {
   wrote = nothing told;
   memory = λ is. cc;
   written = λ is. cc;
@@ -249,14 +270,27 @@ named_tail fault = refl
 
 -- ---- when all files are checked
 
-module _ (profile : Profile) (q : Bool) (contents : Text → Option (List ℕ)) (ends : List FileEnd) (names : List Text)
+-- quietly
+pub done_quietly : (profile : Profile) (q h : Bool) {O : Type 0} (folder : FolderView O) (ends : List FileEnd)
+    (names : List Text) (x : Exit) (i : Change SourceState) (o e : Change SinkState)
+    → AreChecked profile q folder ends names x i o e → q ≡ true → AreDone profile q h folder names x i o e
+done_quietly profile q h folder ends names x i o e are quiet = record {
+  ends = ends;
+  between = e.new;
+  checked = are;
+  flushed = λ is. let no : true ≡ false = sym quiet ∙ is in cc;
+  hinted = rw quiet (inl (Appends-none e.new.taken, refl));
+}
+
+module _ (profile : Profile) (q : Bool) {O : Type 0} (folder : FolderView O) (ends : List FileEnd) (names : List Text)
     (x : Exit) (i : Change SourceState) (o₀ o₁ o₂ e₀ e₁ : SinkState)
-    (before : AreChecked profile q contents ends names x i (change o₀ o₁) (change e₀ e₁)) where
+    (before : AreChecked profile q folder ends names x i (change o₀ o₁) (change e₀ e₁)) where
   pub checked_flushed : Keeps o₁.taken o₂.taken → o₂.failures ≡ o₁.failures
-      → AreChecked profile q contents ends names x i (change o₀ o₂) (change e₀ e₁)
+      → AreChecked profile q folder ends names x i (change o₀ o₂) (change e₀ e₁)
   checked_flushed kept same = record {
     names_are = before.names_are;
     each = before.each;
+    openings = before.openings;
     tells = before.tells;
     counted = before.counted;
     exits = before.exits;
@@ -265,9 +299,20 @@ module _ (profile : Profile) (q : Bool) (contents : Text → Option (List ℕ)) 
     said = before.said;
   }
 
+  pub done_hinted : (h : Bool) (e₂ : SinkState) → q ≡ false → Keeps o₁.taken o₂.taken → o₂.failures ≡ o₁.failures
+      → o₂.is_flushed ≡ true → IsPut (hint h profile (first_broken ends)) (change e₁ e₂)
+      → AreDone profile q h folder names x i (change o₀ o₂) (change e₀ e₂)
+  done_hinted h e₂ loud kept same flushed put = record {
+    ends = ends;
+    between = e₁;
+    checked = checked_flushed kept same;
+    flushed = λ is. flushed;
+    hinted = rw loud put;
+  }
+
   pub cut_at_flush : (e₂ : SinkState) → q ≡ false → Keeps o₁.taken o₂.taken → o₂.failures ≡ one_more o₁.failures
       → IsPut (fault_line run.Write) (change e₁ e₂)
-      → AreCut profile q contents names exit.Refused i (change o₀ o₂) (change e₀ e₂)
+      → AreCut profile q folder names exit.Refused i (change o₀ o₂) (change e₀ e₂)
   cut_at_flush e₂ wanted kept failed put =
       let none : ends ++ [] ≡ ends = append-nil ends in
       record {
@@ -279,6 +324,7 @@ module _ (profile : Profile) (q : Bool) (contents : Text → Option (List ℕ)) 
         wanted = wanted;
         names_are = before.names_are ∙ sym (append-nil (names_of (ends ++ [])) ∙ ap names_of none);
         each = rw none before.each;
+        openings = rw none before.openings;
         tells = rw none before.tells;
         counted = rw none before.counted;
         exits = refl;
@@ -292,9 +338,9 @@ module _ (profile : Profile) (q : Bool) (contents : Text → Option (List ℕ)) 
 
 -- ---- a task over a file
 
-module _ (t : Task) (contents : Text → Option (List ℕ)) (name : Text) (given : List ℕ) (o e : Change SinkState) where
-  pub dash_ends : (x : Exit) (i : Change SourceState) → is_dash name ≡ true → RunEnds t (Some name) given x i o e
-      → FileEnds t contents name given x i o e
+module _ (t : Task) (h : Bool) {O : Type 0} (folder : FolderView O) (name : Text) (given : List ℕ) (o e : Change SinkState) where
+  pub dash_ends : (x : Exit) (i : Change SourceState) → is_dash name ≡ true → RunEnds t h (Some name) given x i o e
+      → FileEnds t h folder name given x i o e
   dash_ends x i dash ended = record {
     prefix = given;
     file = i;
@@ -303,81 +349,99 @@ module _ (t : Task) (contents : Text → Option (List ℕ)) (name : Text) (given
     told = rw dash refl;
     is_input = λ is. refl;
     stays = λ is. let no : true ≡ false = sym dash ∙ is in cc;
-    ended = inl ended;
+    ended = inl (
+      ended,
+      record {
+        opening = λ is. let no : true ≡ false = sym dash ∙ is in cc;
+        counted = λ is. let no : true ≡ false = sym dash ∙ is in cc;
+      },
+    );
   }
 
   pub file_ends : (x : Exit) (i : SourceState) (file : Change SourceState) (prefix : List ℕ) → is_dash name ≡ false
-      → Keeps (contents name) file.old.remaining → IsPrefix (contents name) prefix
-      → RunEnds t (Some name) prefix x file o e → FileEnds t contents name given x (change i i) o e
-  file_ends x i file prefix other same begins ended = record {
+      → Keeps (bytes_of folder.opening name) file.old.remaining → IsPrefix (bytes_of folder.opening name) prefix
+      → IsOpening (folder.opening name) name None → CountsOf folder file
+      → RunEnds t h (Some name) prefix x file o e → FileEnds t h folder name given x (change i i) o e
+  file_ends x i file prefix other same begins opens counts ended = record {
     prefix = prefix;
-    file = change (record { remaining = contents name; failures = file.old.failures }) file.new;
+    file = change (record { remaining = bytes_of folder.opening name; failures = file.old.failures }) file.new;
     given_prefix = λ is. let no : true ≡ false = sym is ∙ other in cc;
     own_prefix = λ is. begins;
     told = rw other refl;
     is_input = λ is. let no : true ≡ false = sym is ∙ other in cc;
     stays = λ is. refl;
-    ended = inl (run_kept t (Some name) prefix x (contents name) file o e same ended);
+    ended = inl (
+      run_kept t h (Some name) prefix x (bytes_of folder.opening name) file o e same ended,
+      record { opening = λ is. opens; counted = λ is. counts },
+    );
   }
 
-pub unopened_ends : (t : Task) (contents : Text → Option (List ℕ)) (name : Text) (given : List ℕ) (i : SourceState)
-    (o : SinkState) (e : Change SinkState) → is_dash name ≡ false → contents name ≡ None
-    → IsPut (complaint t (Some name) (Err run.Read)) e
-    → FileEnds t contents name given exit.Refused (change i i) (change o o) e
-unopened_ends t contents name given i o e file none put =
-    let unread : SourceState = record { remaining = contents name; failures = 0 } in
+pub unopened_ends : (t : Task) (h : Bool) {O : Type 0} (folder : FolderView O) (name : Text) (given : List ℕ) (i : SourceState)
+    (o : SinkState) (e : Change SinkState) (reason : Unopened) → is_dash name ≡ false
+    → IsOpening (folder.opening name) name (Some reason) → IsPut (unopened_line name reason) e
+    → FileEnds t h folder name given exit.Refused (change i i) (change o o) e
+unopened_ends t h folder name given i o e reason file opens put =
+    let unread : SourceState = record { remaining = bytes_of folder.opening name; failures = 0 } in
     record {
       prefix = [];
       file = change unread unread;
       given_prefix = λ is. let no : true ≡ false = sym is ∙ file in cc;
-      own_prefix = λ is. no_prefix (contents name);
+      own_prefix = λ is. no_prefix (bytes_of folder.opening name);
       told = rw file refl;
       is_input = λ is. let no : true ≡ false = sym is ∙ file in cc;
       stays = λ is. refl;
-      ended = inr (file, none, refl, refl, put);
+      ended = inr (record {
+        reason = reason;
+        file = file;
+        opening = opens;
+        ends = refl;
+        silent = refl;
+        said = put;
+      });
     }
 
 -- ---- what is asked for
 
--- a run of the task over these bytes, where they are told, had an answer, and the exit status is that of it
+-- a run of the task over these bytes, where they are told, had an answer, and the exit status is that of it; or the
+-- input wasn't read, and the status is that of a refusal
 abbrev pub IsRunOver : Task → Exit → Option (List ℕ) → Type 0
 IsRunOver t x told = (answer : Result Status RunFault) × (x ≡ exit_for_answer answer)
-    × ((left : Option (List ℕ)) × (had : Option (List ℕ)) × (has : Option (List ℕ))
+    × (x ≢ exit.Refused → (left : Option (List ℕ)) × (had : Option (List ℕ)) × (has : Option (List ℕ))
     × IfSome told (λ bytes. Wrote t bytes left answer had has))
 
-run_ends : (t : Task) (name : Option Text) (prefix : List ℕ) (x : Exit) (i : Change SourceState)
-    (o e : Change SinkState) → RunEnds t name prefix x i o e → IsRunOver t x i.old.remaining
-run_ends t name prefix x i o e ended =
-    (ended.answer, ended.ends, (i.new.remaining, o.old.taken, o.new.taken, ended.wrote))
+run_ends : (t : Task) (h : Bool) (name : Option Text) (prefix : List ℕ) (x : Exit) (i : Change SourceState)
+    (o e : Change SinkState) → RunEnds t h name prefix x i o e → IsRunOver t x i.old.remaining
+run_ends t h name prefix x i o e ended =
+    (ended.answer, ended.ends, λ judged. (i.new.remaining, o.old.taken, o.new.taken, ended.wrote))
 
-file_run : (contents : Text → Option (List ℕ)) (t : Task) (name : Text) (prefix : List ℕ) (x : Exit)
-    (i : Change SourceState) (o e : Change SinkState) → FileEnds t contents name prefix x i o e
-    → IsRunOver t x (told_of contents i.old.remaining name)
-file_run contents t name prefix x i o e ended =
+file_run : {O : Type 0} (folder : FolderView O) (t : Task) (h : Bool) (name : Text) (prefix : List ℕ) (x : Exit)
+    (i : Change SourceState) (o e : Change SinkState) → FileEnds t h folder name prefix x i o e
+    → IsRunOver t x (told_of (bytes_of folder.opening) i.old.remaining name)
+file_run folder t h name prefix x i o e ended =
     subst (λ (told : Option (List ℕ)). IsRunOver t x told) ended.told (elim ended.ended [
-      | inl ran ↦ run_ends t (Some name) ended.prefix x ended.file o e ran
-      | inr unopened ↦ (Err run.Read, unopened.2, (None, None, None, rw unopened.1 tt))
+      | inl ran ↦ run_ends t h (Some name) ended.prefix x ended.file o e ran.0
+      | inr unopened ↦ (Err run.Read, unopened.ends, λ judged. absurd (judged unopened.ends))
     ])
 
-module _ (contents : Text → Option (List ℕ)) (prefix : List ℕ) (x : Exit) (i : Change SourceState)
+module _ {O : Type 0} (folder : FolderView O) (prefix : List ℕ) (x : Exit) (i : Change SourceState)
     (o e : Change SinkState) where
   -- one input was read, or files were checked
-  abbrev pub HasRead : Task → Bool → List Text → Type 0
-  HasRead t q names =
-      ((name : Text) × (names_read t names ≡ name ∷ []) × IsRunOver t x (told_of contents i.old.remaining name))
+  abbrev pub HasRead : Task → Bool → Bool → List Text → Type 0
+  HasRead t q h names =
+      ((name : Text) × (names_read t names ≡ name ∷ []) × IsRunOver t x (told_of (bytes_of folder.opening) i.old.remaining name))
       ⊎ ((profile : Profile) × (t ≡ Check profile) × (names_read t names ≡ names)
-      × FilesEnd profile q contents names x i o e)
+      × FilesEnd profile q h folder names x i o e)
 
-  pub request_read : (t : Task) (q : Bool) (names : List Text)
-      → RequestEnds t q names contents prefix x i o e → HasRead t q names
-  request_read (task.Check profile) true [] ended =
+  pub request_read : (t : Task) (q h : Bool) (names : List Text)
+      → RequestEnds t q h names folder prefix x i o e → HasRead t q h names
+  request_read (task.Check profile) true h [] ended =
       inl (
         codes "-",
         refl,
         (
           ended.0.answer,
           ended.0.ends,
-          (
+          λ judged. (
             i.new.remaining,
             Some [],
             Some ended.0.line,
@@ -385,34 +449,34 @@ module _ (contents : Text → Option (List ℕ)) (prefix : List ℕ) (x : Exit) 
           ),
         ),
       )
-  request_read (task.Check profile) false [] ended =
-      inl (codes "-", refl, run_ends (Check profile) None prefix x i o e ended)
-  request_read (task.Check profile) q (name ∷ more) ended = inr (profile, refl, refl, ended)
-  request_read task.List q [] ended =
-      inl (codes "-", refl, run_ends task.List None prefix x i o e ended)
-  request_read task.List q (name ∷ more) ended =
-      inl (name, refl, file_run contents task.List name prefix x i o e ended)
-  request_read (task.Render profile) q [] ended =
-      inl (codes "-", refl, run_ends (task.Render profile) None prefix x i o e ended)
-  request_read (task.Render profile) q (name ∷ more) ended =
-      inl (name, refl, file_run contents (task.Render profile) name prefix x i o e ended)
-  request_read (task.Encode profile) q [] ended =
-      inl (codes "-", refl, run_ends (task.Encode profile) None prefix x i o e ended)
-  request_read (task.Encode profile) q (name ∷ more) ended =
-      inl (name, refl, file_run contents (task.Encode profile) name prefix x i o e ended)
-  request_read (task.Show profile showing fill selects width height) q [] ended =
-      inl (codes "-", refl, run_ends (task.Show profile showing fill selects width height) None prefix x i o e ended)
-  request_read (task.Show profile showing fill selects width height) q (name ∷ more) ended =
+  request_read (task.Check profile) false h [] ended =
+      inl (codes "-", refl, run_ends (Check profile) h None prefix x i o e ended)
+  request_read (task.Check profile) q h (name ∷ more) ended = inr (profile, refl, refl, ended)
+  request_read task.List q h [] ended =
+      inl (codes "-", refl, run_ends task.List h None prefix x i o e ended)
+  request_read task.List q h (name ∷ more) ended =
+      inl (name, refl, file_run folder task.List h name prefix x i o e ended)
+  request_read (task.Render profile) q h [] ended =
+      inl (codes "-", refl, run_ends (task.Render profile) h None prefix x i o e ended)
+  request_read (task.Render profile) q h (name ∷ more) ended =
+      inl (name, refl, file_run folder (task.Render profile) h name prefix x i o e ended)
+  request_read (task.Encode profile) q h [] ended =
+      inl (codes "-", refl, run_ends (task.Encode profile) h None prefix x i o e ended)
+  request_read (task.Encode profile) q h (name ∷ more) ended =
+      inl (name, refl, file_run folder (task.Encode profile) h name prefix x i o e ended)
+  request_read (task.Show profile showing fill selects width height) q h [] ended =
+      inl (codes "-", refl, run_ends (task.Show profile showing fill selects width height) h None prefix x i o e ended)
+  request_read (task.Show profile showing fill selects width height) q h (name ∷ more) ended =
       inl (
         name,
         refl,
-        file_run contents (task.Show profile showing fill selects width height) name prefix x i o e
+        file_run folder (task.Show profile showing fill selects width height) h name prefix x i o e
             ended,
       )
-  request_read (task.ShowBox profile showing fill selects) q [] ended =
-      inl (codes "-", refl, run_ends (task.ShowBox profile showing fill selects) None prefix x i o e ended)
-  request_read (task.ShowBox profile showing fill selects) q (name ∷ more) ended =
-      inl (name, refl, file_run contents (task.ShowBox profile showing fill selects) name prefix x i o e ended)
+  request_read (task.ShowBox profile showing fill selects) q h [] ended =
+      inl (codes "-", refl, run_ends (task.ShowBox profile showing fill selects) h None prefix x i o e ended)
+  request_read (task.ShowBox profile showing fill selects) q h (name ∷ more) ended =
+      inl (name, refl, file_run folder (task.ShowBox profile showing fill selects) h name prefix x i o e ended)
 
 answer_no_usage : (a : Result Status RunFault) → exit_for_answer a ≢ exit.Usage
 answer_no_usage (Ok status.Done) = λ (is : exit.Done ≡ exit.Usage). cc
@@ -429,18 +493,18 @@ greatest_no_usage x [] other = other
 greatest_no_usage x (e ∷ ends) other =
     greatest_no_usage (worse x (exit_of_end e)) ends (one_of_two _ x (exit_of_end e) other (answer_no_usage e.answer))
 
-files_no_usage : (profile : Profile) (q : Bool) (contents : Text → Option (List ℕ)) (names : List Text) (x : Exit)
-    (i : Change SourceState) (o e : Change SinkState) → FilesEnd profile q contents names x i o e → x ≢ exit.Usage
-files_no_usage profile q contents names x i o e (inl checked) is =
-    greatest_no_usage exit.Done checked.0 (λ (none : exit.Done ≡ exit.Usage). cc) (sym checked.1.exits ∙ is)
-files_no_usage profile q contents names x i o e (inr cut) is =
+files_no_usage : (profile : Profile) (q h : Bool) {O : Type 0} (folder : FolderView O) (names : List Text) (x : Exit)
+    (i : Change SourceState) (o e : Change SinkState) → FilesEnd profile q h folder names x i o e → x ≢ exit.Usage
+files_no_usage profile q h folder names x i o e (inl done) is =
+    greatest_no_usage exit.Done done.ends (λ (none : exit.Done ≡ exit.Usage). cc) (sym done.checked.exits ∙ is)
+files_no_usage profile q h folder names x i o e (inr cut) is =
     let no : exit.Refused ≡ exit.Usage = sym cut.exits ∙ is in cc
 
-pub request_no_usage : (t : Task) (q : Bool) (names : List Text) (contents : Text → Option (List ℕ)) (prefix : List ℕ)
-    (x : Exit) (i : Change SourceState) (o e : Change SinkState) → RequestEnds t q names contents prefix x i o e
+pub request_no_usage : (t : Task) (q h : Bool) (names : List Text) {O : Type 0} (folder : FolderView O) (prefix : List ℕ)
+    (x : Exit) (i : Change SourceState) (o e : Change SinkState) → RequestEnds t q h names folder prefix x i o e
     → x ≢ exit.Usage
-request_no_usage t q names contents prefix x i o e ended is =
-    elim (request_read contents prefix x i o e t q names ended) [
+request_no_usage t q h names folder prefix x i o e ended is =
+    elim (request_read folder prefix x i o e t q h names ended) [
       | inl one ↦ answer_no_usage one.2.0 (sym one.2.1 ∙ is)
-      | inr checked ↦ files_no_usage checked.0 q contents names x i o e checked.3 is
+      | inr checked ↦ files_no_usage checked.0 q h folder names x i o e checked.3 is
     ]

@@ -1,3 +1,4 @@
+pub mod OpeningLemmas
 pub mod PeekedLemmas
 pub mod PutLemmas
 pub mod EndLemmas

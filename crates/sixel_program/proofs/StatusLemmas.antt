@@ -21,6 +21,7 @@ use Rattle.sixel_program.specs.Files.{FileEnd, FilesEnd, IsBrokenOver, IsDoneOve
 use Rattle.sixel_program.specs.Files.{RequestEnds, Tells, exit_of_end, files_exit, is_dash}
 use Rattle.sixel_program.specs.Files.{left_after, names_of, names_read}
 use Rattle.sixel_program.specs.Files.{told_of}
+use Rattle.sixel_program.specs.Openings.{FolderView, bytes_of}
 use Rattle.sixel_run.specs.Texts.{Text}
 use Rattle.sixel_program.proofs.EndLemmas.{broken_gives, done_gives, kept}
 use Rattle.sixel_program.proofs.FilesLemmas.{request_read}
@@ -140,81 +141,81 @@ one_broken : (ends : List FileEnd) → files_exit ends ≡ exit.Broken → Conta
 one_broken [] is = let no : exit.Done ≡ exit.Broken = is in cc
 one_broken (e ∷ more) is = subst (Contains (map exit_of_end (e ∷ more))) is (reached e more)
 
-module _ (profile : Profile) (q : Bool) (contents : Text → Option (List ℕ)) (names : List Text) (x : Exit)
+module _ (profile : Profile) (q h : Bool) {O : Type 0} (folder : FolderView O) (names : List Text) (x : Exit)
     (i : Change SourceState) (o e : Change SinkState) where
-  files_done : FilesEnd profile q contents names x i o e → x ≡ exit.Done
-      → All (λ name. IsDoneOver (Check profile) (told_of contents i.old.remaining name)) names
-  files_done (inl checked) is =
-      let are = checked.1 in
-      subst (All (λ name. IsDoneOver (Check profile) (told_of contents i.old.remaining name))) (sym are.names_are)
-      (told_each (IsDoneOver (Check profile)) contents i.old.remaining i.new.remaining checked.0 are.tells
-      (each_done profile checked.0 are.each (sym are.exits ∙ is)))
+  files_done : FilesEnd profile q h folder names x i o e → x ≡ exit.Done
+      → All (λ name. IsDoneOver (Check profile) (told_of (bytes_of folder.opening) i.old.remaining name)) names
+  files_done (inl done) is =
+      let are = done.checked in
+      subst (All (λ name. IsDoneOver (Check profile) (told_of (bytes_of folder.opening) i.old.remaining name))) (sym are.names_are)
+      (told_each (IsDoneOver (Check profile)) (bytes_of folder.opening) i.old.remaining i.new.remaining done.ends are.tells
+      (each_done profile done.ends are.each (sym are.exits ∙ is)))
   files_done (inr cut) is = let no : exit.Refused ≡ exit.Done = sym cut.exits ∙ is in cc
 
-  files_judged : FilesEnd profile q contents names x i o e → x ≡ exit.Broken
-      → All (λ name. IsJudgedOver (Check profile) (told_of contents i.old.remaining name)) names
-  files_judged (inl checked) is =
-      let are = checked.1 in
-      subst (All (λ name. IsJudgedOver (Check profile) (told_of contents i.old.remaining name))) (sym are.names_are)
-      (told_each (IsJudgedOver (Check profile)) contents i.old.remaining i.new.remaining checked.0 are.tells
-      (each_judged profile checked.0 are.each (sym are.exits ∙ is)))
+  files_judged : FilesEnd profile q h folder names x i o e → x ≡ exit.Broken
+      → All (λ name. IsJudgedOver (Check profile) (told_of (bytes_of folder.opening) i.old.remaining name)) names
+  files_judged (inl done) is =
+      let are = done.checked in
+      subst (All (λ name. IsJudgedOver (Check profile) (told_of (bytes_of folder.opening) i.old.remaining name))) (sym are.names_are)
+      (told_each (IsJudgedOver (Check profile)) (bytes_of folder.opening) i.old.remaining i.new.remaining done.ends are.tells
+      (each_judged profile done.ends are.each (sym are.exits ∙ is)))
   files_judged (inr cut) is = let no : exit.Refused ≡ exit.Broken = sym cut.exits ∙ is in cc
 
-  files_broken : FilesEnd profile q contents names x i o e → x ≡ exit.Broken
-      → (name : Text) × Contains names name × IsBrokenOver (Check profile) (told_of contents i.old.remaining name)
-  files_broken (inl checked) is =
-      let are = checked.1 in
+  files_broken : FilesEnd profile q h folder names x i o e → x ≡ exit.Broken
+      → (name : Text) × Contains names name × IsBrokenOver (Check profile) (told_of (bytes_of folder.opening) i.old.remaining name)
+  files_broken (inl done) is =
+      let are = done.checked in
       subst (λ (ns : List Text). (name : Text) × Contains ns name
-      × IsBrokenOver (Check profile) (told_of contents i.old.remaining name)) (sym are.names_are)
-      (told_broken profile contents i.old.remaining i.new.remaining checked.0 are.tells are.each
-      (each_below profile checked.0 are.each (sym are.exits ∙ is)) (one_broken checked.0 (sym are.exits ∙ is)))
+      × IsBrokenOver (Check profile) (told_of (bytes_of folder.opening) i.old.remaining name)) (sym are.names_are)
+      (told_broken profile (bytes_of folder.opening) i.old.remaining i.new.remaining done.ends are.tells are.each
+      (each_below profile done.ends are.each (sym are.exits ∙ is)) (one_broken done.ends (sym are.exits ∙ is)))
   files_broken (inr cut) is = let no : exit.Refused ≡ exit.Broken = sym cut.exits ∙ is in cc
 
 -- ---- what is asked for
 
-module _ (t : Task) (q : Bool) (names : List Text) (contents : Text → Option (List ℕ)) (prefix : List ℕ) (x : Exit)
+module _ (t : Task) (q h : Bool) (names : List Text) {O : Type 0} (folder : FolderView O) (prefix : List ℕ) (x : Exit)
     (i : Change SourceState) (o e : Change SinkState)
-    (ended : RequestEnds t q names contents prefix x i o e) where
-  all_of_one : (P : Option (List ℕ) → Type 0) (name : Text) → P (told_of contents i.old.remaining name)
-      → All (λ n. P (told_of contents i.old.remaining n)) (name ∷ [])
+    (ended : RequestEnds t q h names folder prefix x i o e) where
+  all_of_one : (P : Option (List ℕ) → Type 0) (name : Text) → P (told_of (bytes_of folder.opening) i.old.remaining name)
+      → All (λ n. P (told_of (bytes_of folder.opening) i.old.remaining n)) (name ∷ [])
   all_of_one P name p =
-      All-cons (λ n. P (told_of contents i.old.remaining n)) name [] p
-      (All-nil (λ n. P (told_of contents i.old.remaining n)))
+      All-cons (λ n. P (told_of (bytes_of folder.opening) i.old.remaining n)) name [] p
+      (All-nil (λ n. P (told_of (bytes_of folder.opening) i.old.remaining n)))
 
-  pub all_read_done : x ≡ exit.Done → All (λ name. IsDoneOver t (told_of contents i.old.remaining name))
+  pub all_read_done : x ≡ exit.Done → All (λ name. IsDoneOver t (told_of (bytes_of folder.opening) i.old.remaining name))
       (names_read t names)
-  all_read_done is = elim (request_read contents prefix x i o e t q names ended) [
+  all_read_done is = elim (request_read folder prefix x i o e t q h names ended) [
     | inl one ↦
-        let run = one.2.2 in
+        let run = one.2.2 (λ refused. let no : exit.Done ≡ exit.Refused = sym is ∙ refused in cc) in
         rw one.1 (all_of_one (IsDoneOver t) one.0
         (done_gives t _ run.0 one.2.0 run.1 run.2 run.3 (sym one.2.1 ∙ is)))
     | inr checked ↦
-        rw (checked.2, checked.1) (files_done checked.0 q contents names x i o e checked.3 is)
+        rw (checked.2, checked.1) (files_done checked.0 q h folder names x i o e checked.3 is)
   ]
 
-  pub all_read_judged : x ≡ exit.Broken → All (λ name. IsJudgedOver t (told_of contents i.old.remaining name))
+  pub all_read_judged : x ≡ exit.Broken → All (λ name. IsJudgedOver t (told_of (bytes_of folder.opening) i.old.remaining name))
       (names_read t names)
-  all_read_judged is = elim (request_read contents prefix x i o e t q names ended) [
+  all_read_judged is = elim (request_read folder prefix x i o e t q h names ended) [
     | inl one ↦
-        let run = one.2.2 in
+        let run = one.2.2 (λ refused. let no : exit.Broken ≡ exit.Refused = sym is ∙ refused in cc) in
         let ends : exit_for_answer one.2.0 ≡ exit.Broken = sym one.2.1 ∙ is in
         rw one.1 (all_of_one (IsJudgedOver t) one.0
         (judged_gives t _ run.0 one.2.0 run.1 run.2 run.3 (rw ends (omega arith))))
     | inr checked ↦
-        rw (checked.2, checked.1) (files_judged checked.0 q contents names x i o e checked.3 is)
+        rw (checked.2, checked.1) (files_judged checked.0 q h folder names x i o e checked.3 is)
   ]
 
   pub one_read_broken : x ≡ exit.Broken → (name : Text)
-      × Contains (names_read t names) name × IsBrokenOver t (told_of contents i.old.remaining name)
-  one_read_broken is = elim (request_read contents prefix x i o e t q names ended) [
+      × Contains (names_read t names) name × IsBrokenOver t (told_of (bytes_of folder.opening) i.old.remaining name)
+  one_read_broken is = elim (request_read folder prefix x i o e t q h names ended) [
     | inl one ↦
-        let run = one.2.2 in (
+        let run = one.2.2 (λ refused. let no : exit.Broken ≡ exit.Refused = sym is ∙ refused in cc) in (
           one.0,
           rw one.1 (0, omega arith, refl),
           broken_gives t _ run.0 one.2.0 run.1 run.2 run.3 (sym one.2.1 ∙ is),
         )
     | inr checked ↦
-        rw (checked.2, checked.1) (files_broken checked.0 q contents names x i o e checked.3 is)
+        rw (checked.2, checked.1) (files_broken checked.0 q h folder names x i o e checked.3 is)
   ]
 
 -- the same of the bytes that are read for a name

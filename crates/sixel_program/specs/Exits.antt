@@ -2,7 +2,7 @@
 use Rattle.std.specs.Prelude.{◌≡◌, ◌≢◌, ◌⊎◌, ◌++◌, ℕ, List, [], Bool, false, true, take, IfSome, Result, Ok}
 use Rattle.std.specs.Prelude.{Err, None, Option, Some, if◌then◌else◌}
 use Rattle.std.specs.Io.KnownBytes.{Appends}
-use Rattle.sixel_io.specs.Devices.{Change, SinkState, SourceState, one_more}
+use Rattle.sixel_io.specs.Devices.{Change, SinkState, SourceState, change, one_more}
 use Rattle.sixel_program.specs.declared.exit.Exit.{Exit}
 use Rattle.sixel_program.specs.declared.exit.Exit.TheVariants.{Done, Broken, Refused, Usage}
 use Rattle.sixel_run.specs.declared.fault.RunFault.{RunFault}
@@ -15,6 +15,7 @@ use Rattle.sixel_words.specs.declared.words.WordsFault.TheVariants as fault
 use Rattle.sixel_run.specs.declared.fault.RunFault.TheVariants as run
 use Rattle.sixel_words.specs.Explanations.{IsExplanation}
 use Rattle.sixel_program.specs.Formats.{advice}
+use Rattle.sixel_program.specs.Hints.{hint_after}
 use Rattle.sixel_program.specs.Names.{named, named_fault_line}
 use Rattle.sixel_run.specs.Outputs.{CountsReads, CountsWrites, TakesMemory, Wrote}
 use Rattle.sixel_run.specs.Texts.{Text, fault_line, finding_line}
@@ -62,10 +63,12 @@ IsPut text sink =
 
 -- how a run of the task ended, over an input that has this name or none and that begins with `prefix` as far as that
 -- is known. The run had some answer. The input and the output are as after a run with this answer, the exit status is
--- that of the answer, and the errors got the message about it and the advice on an input of another format
-pub record RunEnds (t : Task) (name : Option Text) (prefix : List ℕ) (exit : Exit) (input : Change SourceState)
-    (output errors : Change SinkState) : Type 0 where
+-- that of the answer, and the errors got the message about it and the advice on an input of another format, and then
+-- the hint, if hints are shown
+pub record RunEnds (t : Task) (is_shown : Bool) (name : Option Text) (prefix : List ℕ) (exit : Exit)
+    (input : Change SourceState) (output errors : Change SinkState) : Type 0 where
   pub answer : Result Status RunFault
+  pub between : SinkState
   pub wrote : IfSome input.old.remaining
       (λ bytes. Wrote t bytes input.new.remaining answer output.old.taken output.new.taken)
   pub memory : answer ≡ Err run.OutOfMemory → TakesMemory t input.old.remaining
@@ -73,7 +76,8 @@ pub record RunEnds (t : Task) (name : Option Text) (prefix : List ℕ) (exit : E
   pub written : CountsWrites answer output.old.failures output.new.failures
   pub flushed : answer ≢ Err run.Write → output.new.is_flushed ≡ true
   pub ends : exit ≡ exit_for_answer answer
-  pub said : IsPut (complaint t name answer ++ advice prefix answer) errors
+  pub said : IsPut (complaint t name answer ++ advice prefix answer) (change errors.old between)
+  pub hinted : IsPut (hint_after is_shown t answer) (change between errors.new)
 
 -- ---- if the arguments name no task
 

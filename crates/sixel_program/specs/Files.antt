@@ -1,5 +1,6 @@
 -- How requests end: over standard input or files, quiet or not.
-use Rattle.std.specs.Prelude.{◌≡◌, ◌≢◌, ◌⊎◌, ◌-◌, ◌^◌, ◌<◌, ◌≤◌, ◌==◌, ◌&&◌, ◌||◌, ℕ, Bool, length, true, false, List}
+use Rattle.std.specs.Prelude.{◌≡◌, ◌≢◌, ◌⊎◌, ◌-◌, ◌^◌, ◌<◌, ◌==◌, ◌&&◌, ◌||◌, ℕ, Bool, length, not, true, false}
+use Rattle.std.specs.Prelude.{List}
 use Rattle.std.specs.Prelude.{[]}
 use Rattle.std.specs.Prelude.{◌∷◌, ◌++◌, codes, flat_map, fold, map, take, nat_lt, Option, Some, None, IfSome, Result}
 use Rattle.std.specs.Prelude.{Ok}
@@ -10,8 +11,10 @@ use Rattle.std.specs.List.{All, list_any}
 use Rattle.std.specs.Str.{bytes_eq}
 use Rattle.sixel_io.specs.Devices.{Change, ReadsToEnd, SinkState, SourceState, change, one_more}
 use Rattle.sixel_model.specs.declared.profile.Profile.{Profile}
+use Rattle.sixel_check.specs.declared.rule.Rule.{Rule}
 use Rattle.sixel_check.specs.declared.verdict.Finding.{Finding}
 use Rattle.sixel_program.specs.declared.exit.Exit.{Exit}
+use Rattle.sixel_program.specs.declared.folder.Unopened.{Unopened}
 use Rattle.sixel_program.specs.declared.exit.Exit.TheVariants.{Done, Refused}
 use Rattle.sixel_run.specs.declared.fault.RunFault.{RunFault}
 use Rattle.sixel_run.specs.declared.fault.RunFault.TheVariants as run
@@ -21,7 +24,9 @@ use Rattle.sixel_run.specs.declared.task.Task.{Task}
 use Rattle.sixel_run.specs.declared.task.Task.TheVariants.{Check}
 use Rattle.sixel_program.specs.Exits.{IsPut, RunEnds, complaint, exit_code, exit_for_answer, fault_said}
 use Rattle.sixel_run.specs.Outputs.{Gives, TakesMemory, Wrote, failures_by}
-use Rattle.sixel_program.specs.Names.{named, named_fault_line}
+use Rattle.sixel_program.specs.Hints.{first_rule, hint}
+use Rattle.sixel_program.specs.Names.{named, named_fault_line, unopened_line}
+use Rattle.sixel_program.specs.Openings.{CountsOf, FailsWith, FolderView, IsOpening, Told, bytes_of}
 use Rattle.sixel_run.specs.Texts.{BeginsWith, Text, fault_line, line}
 
 -- ---- names
@@ -79,34 +84,43 @@ left_after input name left = if is_dash name then left else input
 abbrev pub IsPrefix : Option (List ℕ) → List ℕ → Type 0
 IsPrefix told prefix = IfSome told (λ bytes. BeginsWith bytes prefix)
 
--- the file with this name, which isn't that of standard input, couldn't be opened: the output is unchanged, and the
--- errors got the line of a failed read
-abbrev pub IsUnopened : Task → Option (List ℕ) → Text → Exit → Change SinkState → Change SinkState → Type 0
-IsUnopened t told name exit output errors =
-    (is_dash name ≡ false) × (told ≡ None) × (exit ≡ Refused) × (output.new ≡ output.old)
-    × IsPut (complaint t (Some name) (Err run.Read)) errors
+-- the file with this name, which isn't that of standard input, couldn't be opened for this reason: the output is
+-- unchanged, and the errors got the line of that reason
+pub record IsUnopened (told : Told) (name : Text) (exit : Exit) (output errors : Change SinkState) : Type 0 where
+  pub reason : Unopened
+  pub file : is_dash name ≡ false
+  pub opening : IsOpening told name (Some reason)
+  pub ends : exit ≡ Refused
+  pub silent : output.new ≡ output.old
+  pub said : IsPut (unopened_line name reason) errors
+
+-- an input with another name than that of standard input is the file with this name, which was opened
+pub record IsOpened {O : Type 0} (folder : FolderView O) (name : Text) (input : Change SourceState) : Type 0 where
+  pub opening : is_dash name ≡ false → IsOpening (folder.opening name) name None
+  pub counted : is_dash name ≡ false → CountsOf folder input
 
 -- how a task over the file with this name ended. If the name is that of standard input, the file is `input`, which
 -- begins with `given` as far as that is known. Otherwise `input` is unchanged, and the file was read or couldn't be
 -- opened
-pub record FileEnds (t : Task) (contents : Text → Option (List ℕ)) (name : Text) (given : List ℕ) (exit : Exit)
-    (input : Change SourceState) (output errors : Change SinkState) : Type 0 where
+pub record FileEnds {O : Type 0} (t : Task) (is_shown : Bool) (folder : FolderView O) (name : Text) (given : List ℕ)
+    (exit : Exit) (input : Change SourceState) (output errors : Change SinkState) : Type 0 where
   pub prefix : List ℕ
   pub file : Change SourceState
   pub given_prefix : is_dash name ≡ true → prefix ≡ given
-  pub own_prefix : is_dash name ≡ false → IsPrefix (contents name) prefix
-  pub told : file.old.remaining ≡ told_of contents input.old.remaining name
+  pub own_prefix : is_dash name ≡ false → IsPrefix (bytes_of folder.opening name) prefix
+  pub told : file.old.remaining ≡ told_of (bytes_of folder.opening) input.old.remaining name
   pub is_input : is_dash name ≡ true → file ≡ input
   pub stays : is_dash name ≡ false → input.new ≡ input.old
-  pub ended : RunEnds t (Some name) prefix exit file output errors
-      ⊎ IsUnopened t file.old.remaining name exit output errors
+  pub ended : (RunEnds t is_shown (Some name) prefix exit file output errors × IsOpened folder name file)
+      ⊎ IsUnopened (folder.opening name) name exit output errors
 
 -- ---- checks of several files
 
--- how the check of a file ended: the file's bytes and what it had left, if they are known, the verdict's line and the
--- answer
+-- how the check of a file ended: why it couldn't be opened, if it couldn't; the file's bytes and what it had left, if
+-- they are known; the verdict's line; and the answer
 pub record FileEnd : Type 0 where
   pub name : Text
+  pub unopened : Option Unopened
   pub told : Option (List ℕ)
   pub left : Option (List ℕ)
   pub line : Text
@@ -118,6 +132,13 @@ pub record IsFileEnd (profile : Profile) (e : FileEnd) : Type 0 where
   pub memory : e.answer ≡ Err run.OutOfMemory → TakesMemory (Check profile) e.told
   pub written : e.answer ≢ Err run.Write
   pub reads : ReadsToEnd e.answer e.told e.left
+
+-- the file was opened, or couldn't be, which counts as a failed read. Standard input is never opened
+pub record IsFileOpening {O : Type 0} (folder : FolderView O) (e : FileEnd) : Type 0 where
+  pub input : is_dash e.name ≡ true → e.unopened ≡ None
+  pub opening : is_dash e.name ≡ false → IsOpening (folder.opening e.name) e.name e.unopened
+  pub unread : (reason : Unopened) → e.unopened ≡ Some reason → e.answer ≡ Err run.Read
+  pub counted : is_dash e.name ≡ false → e.unopened ≡ None → FailsWith folder e.answer
 
 -- the output for a file: its name and the verdict's line; nothing if the check is quiet or the file is refused
 abbrev pub file_text : Bool → Text → Text → Result Status RunFault → Text
@@ -136,8 +157,13 @@ abbrev pub said_of_check : Text → Result Status RunFault → List Text
 said_of_check name (Ok status) = []
 said_of_check name (Err fault) = named_fault_line name fault ∷ []
 
+-- the messages about the file with this name: one if it couldn't be opened or is refused
+abbrev pub said_of_file : Text → Option Unopened → Result Status RunFault → List Text
+said_of_file name None answer = said_of_check name answer
+said_of_file name (Some reason) answer = unopened_line name reason ∷ []
+
 abbrev pub said_of : FileEnd → List Text
-said_of e = said_of_check e.name e.answer
+said_of e = said_of_file e.name e.unopened e.answer
 
 -- the messages about several files
 abbrev pub complaints_of : List FileEnd → List Text
@@ -157,6 +183,10 @@ exit_of_end e = exit_for_answer e.answer
 abbrev pub files_exit : List FileEnd → Exit
 files_exit ends = worst (map exit_of_end ends)
 
+-- the rule of the first broken verdict
+abbrev pub first_broken : List FileEnd → Option Rule
+first_broken ends = first_rule (map (λ e. e.answer) ends)
+
 abbrev pub names_of : List FileEnd → List Text
 names_of ends = map (λ e. e.name) ends
 
@@ -172,19 +202,24 @@ abbrev pub SaysOfCheck : Option Text → Result Status RunFault → Change SinkS
 SaysOfCheck name (Ok status) errors = errors.new ≡ errors.old
 SaysOfCheck name (Err fault) errors = IsPut (fault_said name fault) errors
 
+-- the message about the file with this name was put to a sink
+abbrev pub SaysOfFile : Text → Option Unopened → Result Status RunFault → Change SinkState → Type 0
+SaysOfFile name None answer errors = SaysOfCheck (Some name) answer errors
+SaysOfFile name (Some reason) answer errors = IsPut (unopened_line name reason) errors
+
 -- what the check of the file with this name did to the two sinks, given the verdict's line and the answer. `Ok`: the
 -- text for the file was appended to the output, and the message about it was put to the errors. `Err`: the output
 -- failed after a prefix of that text, and nothing was put to the errors. This can't happen if the check is quiet
-abbrev pub IsOutcome : {E : Type 0} → Bool → Text → Text → Result Status RunFault → Result Exit E
-    → Change SinkState → Change SinkState → Type 0
-IsOutcome is_quiet name line answer (Ok exit) output errors =
-    (exit ≡ exit_for_answer answer)
+abbrev pub IsOutcome : {E : Type 0} → Bool → Text → Option Unopened → Text → Result Status RunFault
+    → Result (Result Status RunFault) E → Change SinkState → Change SinkState → Type 0
+IsOutcome is_quiet name unopened line answer (Ok answered) output errors =
+    (answered ≡ answer)
     × Appends output.old.taken output.new.taken (file_text is_quiet name line answer)
-    × (output.new.failures ≡ output.old.failures) × SaysOfCheck (Some name) answer errors
-IsOutcome is_quiet name line answer (Err fault) output errors =
+    × (output.new.failures ≡ output.old.failures) × SaysOfFile name unopened answer errors
+IsOutcome is_quiet name unopened line answer (Err fault) output errors =
     ((count : ℕ) × Appends output.old.taken output.new.taken (take count (file_text is_quiet name line answer)))
     × (is_quiet ≡ false) × (output.new.failures ≡ one_more output.old.failures)
-    × (said_of_check name answer ≡ []) × (errors.new ≡ errors.old)
+    × (said_of_file name unopened answer ≡ []) × (errors.new ≡ errors.old)
 
 -- the bytes of each file in turn, if they are known; standard input had `had` before them and has `has` after them
 unfoldable pub Tells : (Text → Option (List ℕ)) → Option (List ℕ) → List FileEnd → Option (List ℕ) → Type 0
@@ -198,16 +233,17 @@ abbrev pub failures_past : ℕ → FileEnd → ℕ
 failures_past count e = if is_dash e.name then failures_by run.Read e.answer count else count
 
 -- how the check of the file with this name ended, beside standard input, and what it did to the two sinks
-pub record IsChecked {E : Type 0} (profile : Profile) (is_quiet : Bool) (contents : Text → Option (List ℕ))
-    (name : Text) (result : Result Exit E) (input : Change SourceState) (output errors : Change SinkState)
+pub record IsChecked {O E : Type 0} (profile : Profile) (is_quiet : Bool) (folder : FolderView O)
+    (name : Text) (result : Result (Result Status RunFault) E) (input : Change SourceState) (output errors : Change SinkState)
     : Type 0 where
   pub e : FileEnd
   pub name_is : e.name ≡ name
-  pub told : e.told ≡ told_of contents input.old.remaining name
+  pub told : e.told ≡ told_of (bytes_of folder.opening) input.old.remaining name
   pub left : input.new.remaining ≡ left_after input.old.remaining name e.left
   pub is_end : IsFileEnd profile e
+  pub opening : IsFileOpening folder e
   pub counted : input.new.failures ≡ failures_past input.old.failures e
-  pub outcome : IsOutcome is_quiet name e.line e.answer result output errors
+  pub outcome : IsOutcome is_quiet name e.unopened e.line e.answer result output errors
 
 -- a call on a sink failed: its count of failures rose, or is the greatest `u64`
 abbrev pub HasFailed : Change SinkState → Type 0
@@ -219,11 +255,12 @@ IsSaid text sink =
     (Appends sink.old.taken sink.new.taken text × (sink.new.failures ≡ sink.old.failures)) ⊎ HasFailed sink
 
 -- all files with these names were checked in turn and ended so
-pub record AreChecked (profile : Profile) (is_quiet : Bool) (contents : Text → Option (List ℕ)) (ends : List FileEnd)
+pub record AreChecked {O : Type 0} (profile : Profile) (is_quiet : Bool) (folder : FolderView O) (ends : List FileEnd)
     (names : List Text) (exit : Exit) (input : Change SourceState) (output errors : Change SinkState) : Type 0 where
   pub names_are : names ≡ names_of ends
   pub each : All (IsFileEnd profile) ends
-  pub tells : Tells contents input.old.remaining ends input.new.remaining
+  pub openings : All (IsFileOpening folder) ends
+  pub tells : Tells (bytes_of folder.opening) input.old.remaining ends input.new.remaining
   pub counted : input.new.failures ≡ fold failures_past input.old.failures ends
   pub exits : exit ≡ files_exit ends
   pub lines : Appends output.old.taken output.new.taken (files_text is_quiet ends)
@@ -232,7 +269,7 @@ pub record AreChecked (profile : Profile) (is_quiet : Bool) (contents : Text →
 
 -- the output failed at one of the files, the last that was read, or when it was flushed. The lines of the files before
 -- it were written, and a prefix of its own line
-pub record AreCut (profile : Profile) (is_quiet : Bool) (contents : Text → Option (List ℕ)) (names : List Text)
+pub record AreCut {O : Type 0} (profile : Profile) (is_quiet : Bool) (folder : FolderView O) (names : List Text)
     (exit : Exit) (input : Change SourceState) (output errors : Change SinkState) : Type 0 where
   pub whole : List FileEnd
   pub last : Option FileEnd
@@ -243,7 +280,8 @@ pub record AreCut (profile : Profile) (is_quiet : Bool) (contents : Text → Opt
   -- if the output failed at no file, it failed at the flush, after all files
   pub at_the_end : last ≡ None → rest ≡ []
   pub each : All (IsFileEnd profile) (whole ++ option_to_list last)
-  pub tells : Tells contents input.old.remaining (whole ++ option_to_list last) input.new.remaining
+  pub openings : All (IsFileOpening folder) (whole ++ option_to_list last)
+  pub tells : Tells (bytes_of folder.opening) input.old.remaining (whole ++ option_to_list last) input.new.remaining
   pub counted : input.new.failures ≡ fold failures_past input.old.failures (whole ++ option_to_list last)
   pub exits : exit ≡ Refused
   pub lines : Appends output.old.taken output.new.taken
@@ -252,13 +290,22 @@ pub record AreCut (profile : Profile) (is_quiet : Bool) (contents : Text → Opt
   pub silent : All (λ e. said_of e ≡ []) (option_to_list last)
   pub said : ArePut (complaints_of whole ++ fault_line run.Write ∷ []) errors
 
--- all files were checked, and the output is flushed unless the check is quiet; or the output failed
-abbrev pub FilesEnd : Profile → Bool → (Text → Option (List ℕ)) → List Text → Exit → Change SourceState
+-- all files were checked, and the output is flushed unless the check is quiet. Then the errors got the hint on the
+-- first broken verdict, if hints are shown and the check isn't quiet
+pub record AreDone {O : Type 0} (profile : Profile) (is_quiet is_shown : Bool) (folder : FolderView O)
+    (names : List Text) (exit : Exit) (input : Change SourceState) (output errors : Change SinkState) : Type 0 where
+  pub ends : List FileEnd
+  pub between : SinkState
+  pub checked : AreChecked profile is_quiet folder ends names exit input output (change errors.old between)
+  pub flushed : is_quiet ≡ false → output.new.is_flushed ≡ true
+  pub hinted : IsPut (hint (not is_quiet && is_shown) profile (first_broken ends)) (change between errors.new)
+
+-- all files were checked, or the output failed
+abbrev pub FilesEnd : {O : Type 0} → Profile → Bool → Bool → FolderView O → List Text → Exit → Change SourceState
     → Change SinkState → Change SinkState → Type 0
-FilesEnd profile is_quiet contents names exit input output errors =
-    ((ends : List FileEnd) × AreChecked profile is_quiet contents ends names exit input output errors
-    × (is_quiet ≡ false → output.new.is_flushed ≡ true))
-    ⊎ AreCut profile is_quiet contents names exit input output errors
+FilesEnd profile is_quiet is_shown folder names exit input output errors =
+    AreDone profile is_quiet is_shown folder names exit input output errors
+    ⊎ AreCut profile is_quiet folder names exit input output errors
 
 -- ---- requests
 
@@ -270,6 +317,7 @@ pub record QuietEnds (profile : Profile) (exit : Exit) (input : Change SourceSta
   pub wrote : IfSome input.old.remaining
       (λ bytes. Wrote (Check profile) bytes input.new.remaining answer (Some []) (Some line))
   pub memory : answer ≡ Err run.OutOfMemory → TakesMemory (Check profile) input.old.remaining
+  pub reads : ReadsToEnd answer input.old.remaining input.new.remaining
   pub read : input.new.failures ≡ failures_by run.Read answer input.old.failures
   pub written : answer ≢ Err run.Write
   pub ends : exit ≡ exit_for_answer answer
@@ -277,12 +325,13 @@ pub record QuietEnds (profile : Profile) (exit : Exit) (input : Change SourceSta
 
 -- how a request ended, over standard input that begins with `prefix` as far as that is known. Without names the task
 -- is over standard input. Otherwise a check is of all files that are named, and any other task is over the first
-abbrev pub RequestEnds : Task → Bool → List Text → (Text → Option (List ℕ)) → List ℕ → Exit → Change SourceState
+abbrev pub RequestEnds : {O : Type 0} → Task → Bool → Bool → List Text → FolderView O → List ℕ → Exit → Change SourceState
     → Change SinkState → Change SinkState → Type 0
-RequestEnds (Check profile) true [] contents prefix exit input output errors =
+RequestEnds (Check profile) true is_shown [] folder prefix exit input output errors =
     QuietEnds profile exit input errors × (output.new ≡ output.old)  -- nothing was written
-RequestEnds t is_quiet [] contents prefix exit input output errors = RunEnds t None prefix exit input output errors
-RequestEnds (Check profile) is_quiet (name ∷ more) contents prefix exit input output errors =
-    FilesEnd profile is_quiet contents (name ∷ more) exit input output errors
-RequestEnds t is_quiet (name ∷ more) contents prefix exit input output errors =
-    FileEnds t contents name prefix exit input output errors
+RequestEnds t is_quiet is_shown [] folder prefix exit input output errors =
+    RunEnds t is_shown None prefix exit input output errors
+RequestEnds (Check profile) is_quiet is_shown (name ∷ more) folder prefix exit input output errors =
+    FilesEnd profile is_quiet is_shown folder (name ∷ more) exit input output errors
+RequestEnds t is_quiet is_shown (name ∷ more) folder prefix exit input output errors =
+    FileEnds t is_shown folder name prefix exit input output errors

@@ -1,4 +1,6 @@
 pub mod Formats
 pub mod Exits
 pub mod Names
+pub mod Hints
+pub mod Openings
 pub mod Files

@@ -4,6 +4,8 @@ use Rattle.std.specs.Prelude.{if◌then◌else◌}
 use Rattle.sixel_run.specs.declared.fault.RunFault.{RunFault}
 use Rattle.sixel_run.specs.declared.fault.RunFault.TheVariants as run
 use Rattle.sixel_run.specs.Texts.{Text, fault_line, fault_parts, line}
+use Rattle.sixel_program.specs.declared.folder.Unopened.{Unopened}
+use Rattle.sixel_program.specs.Openings.{reason_text}
 
 -- the hexadecimal digit of a number below 16: 0 to 9, A to F
 abbrev pub hex_digit : ℕ → ℕ
@@ -30,3 +32,7 @@ named name text = printed name ++ codes ": " ++ text
 abbrev pub named_fault_line : Text → RunFault → Text
 named_fault_line name run.Write = fault_line run.Write
 named_fault_line name fault = line (codes "sixel: " ++ printed name ++ codes ":") (fault_parts fault)
+
+-- the line about the file with this name, which can't be opened for this reason
+abbrev pub unopened_line : Text → Unopened → Text
+unopened_line name reason = line (codes "sixel: " ++ printed name ++ codes ":") (reason_text reason ∷ [])

@@ -1,10 +1,11 @@
 //! Checks of files, and quiet checks of standard input.
 
-ghost use Rattle.std.specs.Prelude.{◌≡◌, Result, map, option_copied};
+ghost use Rattle.std.specs.Prelude.{◌≡◌, None, Result, map, option_copied};
 ghost use Rattle.std.specs.String.{string_bytes};
 ghost use Rattle.sixel_io.specs.Devices.{change};
-ghost use Rattle.sixel_program.specs.Exits.{IsPut, exit_for_answer};
+ghost use Rattle.sixel_program.specs.Exits.{IsPut};
 ghost use Rattle.sixel_program.specs.Files.{FilesEnd, IsChecked, IsFileEnd, IsOutcome, QuietEnds, SaysOfCheck, worse};
+ghost use Rattle.sixel_program.specs.Openings.{folder_view};
 ghost use Rattle.sixel_run.specs.Outputs.{answer_of, failures_by, line_of};
 ghost use Rattle.sixel_run.specs.Texts.{Text, fault_line};
 ghost use Rattle.sixel_run.specs.declared.fault.RunFault.{RunFault as AFault};
@@ -12,31 +13,32 @@ ghost use Rattle.sixel_run.specs.declared.fault.RunFault.TheVariants.{Read as Re
 ghost use Rattle.sixel_run.specs.declared.task.Status.{Status as AStatus};
 
 use crate::exit::{Exit, code_of, exit_of};
-use crate::folder::Folder;
+use crate::folder::{Folder, open_file};
+use crate::hints::{put_hint, rule_of};
 use crate::names::put_named;
 use crate::peeked::Peeked;
-use crate::saying::put_fault;
+use crate::saying::{put_fault, put_unopened};
 use sixel_check::Verdict;
-use sixel_io::{DeviceFault, FromRead, Sink, Source};
+use sixel_io::{DeviceFault, Sink, Source};
 use sixel_model::Profile;
-use sixel_run::{RunFault, judge, status_of, verdict_line, write_fault};
+use sixel_run::{RunFault, Status, judge, status_of, verdict_line, write_fault};
 use std::alloc::Global;
 
-/// Writes why a checked input was refused, if it was. The input has this name or none. Returns the exit status.
+/// Writes why a checked input was refused, if it was. The input has this name or none. Returns the answer of the check.
 fn say_judged<E: Sink>(
     name: Option<&str>,
     judged: Result<Verdict, RunFault>,
     errors: &mut E,
-) -> Exit
-    ensures exit { result ≡ exit_for_answer (answer_of judged) }
+) -> Result<Status, RunFault>
+    ensures answer { result ≡ answer_of judged }
     ensures said { SaysOfCheck (option_copied name.entry) (answer_of judged)
         (change (E.state errors.old) (E.state errors.new)) }
 {
     match judged {
-        Ok(verdict) => exit_of(Ok(status_of(&verdict))),
+        Ok(verdict) => Ok(status_of(&verdict)),
         Err(fault) => {
             let _ = put_fault(name, &fault, errors);
-            Exit::Refused
+            Err(fault)
         }
     }
 }
@@ -52,19 +54,19 @@ pub fn check_quietly<S: Source, E: Sink>(
         (change (S.state input.old) (S.state input.new)) (change (E.state errors.old) (E.state errors.new)) }
 {
     let judged = judge(alloc, profile, input);
-    say_judged(None, judged, errors)
+    exit_of(say_judged(None, judged, errors))
 }
 
-/// Writes the verdict on a file, unless the check is quiet, or why the file was refused. An `Err` means that `output`
-/// failed.
+/// Writes the verdict on a file, unless the check is quiet, or why the file was refused. Returns the answer of the
+/// check, or an `Err` if `output` failed.
 fn put_judged<K: Sink, E: Sink>(
     is_quiet: bool,
     name: &str,
     judged: Result<Verdict, RunFault>,
     output: &mut K,
     errors: &mut E,
-) -> Result<Exit, DeviceFault>
-    ensures { IsOutcome is_quiet name.now (line_of judged) (answer_of judged) result
+) -> Result<Result<Status, RunFault>, DeviceFault>
+    ensures { IsOutcome is_quiet name.now None (line_of judged) (answer_of judged) result
         (change (K.state output.old) (K.state output.new)) (change (E.state errors.old) (E.state errors.new)) }
 {
     if let Ok(verdict) = &judged {
@@ -75,7 +77,7 @@ fn put_judged<K: Sink, E: Sink>(
     Ok(say_judged(Some(name), judged, errors))
 }
 
-/// Checks an open file, or standard input by its name. An `Err` means that `output` failed.
+/// Checks an open file, or standard input by its name. Returns the answer, or an `Err` if `output` failed.
 fn check_named<S: Source, K: Sink, E: Sink>(
     alloc: Global,
     profile: Profile,
@@ -84,24 +86,26 @@ fn check_named<S: Source, K: Sink, E: Sink>(
     input: &mut S,
     output: &mut K,
     errors: &mut E,
-) -> Result<Exit, DeviceFault>
+) -> Result<Result<Status, RunFault>, DeviceFault>
     ensures { (line : Text) × (answer : Result AStatus AFault)
         × IsFileEnd profile (record {
           name = name.now;
+          unopened = None;
           told = (S.state input.old).remaining;
           left = (S.state input.new).remaining;
           line = line;
           answer = answer;
         })
         × ((S.state input.new).failures ≡ failures_by ReadFault answer (S.state input.old).failures)
-        × IsOutcome is_quiet name.now line answer result
+        × IsOutcome is_quiet name.now None line answer result
         (change (K.state output.old) (K.state output.new)) (change (E.state errors.old) (E.state errors.new)) }
 {
     let judged = judge(alloc, profile, input);
     put_judged(is_quiet, name, judged, output, errors)
 }
 
-/// Checks the file with this name, or standard input if the name is `-`. An `Err` means that `output` failed.
+/// Checks the file with this name, or standard input if the name is `-`. Returns the answer, or an `Err` if `output`
+/// failed.
 fn check_file<F: Folder, S: Source, K: Sink, E: Sink>(
     alloc: Global,
     profile: Profile,
@@ -111,20 +115,23 @@ fn check_file<F: Folder, S: Source, K: Sink, E: Sink>(
     input: &mut S,
     output: &mut K,
     errors: &mut E,
-) -> Result<Exit, DeviceFault>
-    ensures { IsChecked profile is_quiet (F.contents folder.now) name.now result
+) -> Result<Result<Status, RunFault>, DeviceFault>
+    ensures { IsChecked profile is_quiet (folder_view (F.opening folder.now) F.Opened.state) name.now result
         (change (S.state input.old) (S.state input.new)) (change (K.state output.old) (K.state output.new))
         (change (E.state errors.old) (E.state errors.new)) }
 {
     if name == "-" {
         return check_named(alloc, profile, is_quiet, name, input, output, errors);
     }
-    match folder.open(name) {
+    match open_file(folder, name) {
         Ok(file) => {
-            let mut file = Peeked::unread(FromRead::new(file));
+            let mut file = Peeked::unread(file);
             check_named(alloc, profile, is_quiet, name, &mut file, output, errors)
         }
-        Err(_) => put_judged(is_quiet, name, Err(RunFault::Read), output, errors),
+        Err(reason) => {
+            let _ = put_unopened(name, reason, errors);
+            Ok(Err(RunFault::Read))
+        }
     }
 }
 
@@ -146,22 +153,26 @@ fn unwritten<E: Sink>(errors: &mut E) -> Exit
 }
 
 /// Checks the files with these names in turn. A refused file doesn't end this, but a failed write does. The exit status
-/// is the greatest of theirs.
+/// is the greatest of theirs. If hints are shown (`is_shown`) and the check isn't quiet, one on the first broken verdict
+/// comes last.
 pub fn check_files<F: Folder, S: Source, K: Sink, E: Sink>(
     alloc: Global,
     profile: Profile,
     is_quiet: bool,
+    is_shown: bool,
     names: &[String],
     folder: &F,
     input: &mut S,
     output: &mut K,
     errors: &mut E,
 ) -> Exit
-    ensures { FilesEnd profile is_quiet (F.contents folder.now) (map string_bytes names.now) result
+    ensures { FilesEnd profile is_quiet is_shown (folder_view (F.opening folder.now) F.Opened.state)
+        (map string_bytes names.now) result
         (change (S.state input.old) (S.state input.new)) (change (K.state output.old) (K.state output.new))
         (change (E.state errors.old) (E.state errors.new)) }
 {
     let mut exit = Exit::Done;
+    let mut broken = None;
     for name in names {
         match check_file(
             alloc,
@@ -173,7 +184,10 @@ pub fn check_files<F: Folder, S: Source, K: Sink, E: Sink>(
             output,
             errors,
         ) {
-            Ok(next) => exit = worse(exit, next),
+            Ok(answer) => {
+                broken = broken.or(rule_of(&answer));
+                exit = worse(exit, exit_of(answer));
+            }
             Err(_) => return unwritten(errors),
         }
     }
@@ -181,7 +195,10 @@ pub fn check_files<F: Folder, S: Source, K: Sink, E: Sink>(
         return exit;
     }
     match output.flush() {
-        Ok(()) => exit,
+        Ok(()) => {
+            put_hint(is_shown, profile, broken, errors);
+            exit
+        }
         Err(_) => unwritten(errors),
     }
 }

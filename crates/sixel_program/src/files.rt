@@ -7,16 +7,18 @@ ghost use Rattle.std.specs.String.{string_bytes};
 ghost use Rattle.sixel_io.specs.Devices.{change};
 ghost use Rattle.sixel_program.specs.Exits.{IsPut, RunEnds};
 ghost use Rattle.sixel_program.specs.Files.{FileEnds, IsPrefix, RequestEnds, awaits_text, is_dash, notice, reads_input};
+ghost use Rattle.sixel_program.specs.Openings.{folder_view};
 ghost use Rattle.sixel_run.specs.Outputs.{HasSides};
 
 use crate::checks::{check_files, check_quietly};
 use crate::exit::{Exit, exit_of};
-use crate::folder::Folder;
+use crate::folder::{Folder, open_file};
 use crate::formats::format_of;
+use crate::hints::put_hint_after;
 use crate::peeked::{Peeked, peek};
-use crate::saying::{put_fault, put_said};
-use sixel_io::{FromRead, Sink, Source, put_all};
-use sixel_run::{RunFault, Task, run};
+use crate::saying::{put_said, put_unopened};
+use sixel_io::{Sink, Source, put_all};
+use sixel_run::{Task, run};
 use sixel_words::Request;
 use std::alloc::Global;
 
@@ -85,24 +87,26 @@ pub fn peek_input<S: Source>(request: &Request, source: S) -> Peeked<S>
 }
 
 /// Runs a task over an input, which has this name or none. Writes to `errors` why the input was refused, or which rule
-/// kept its picture from being rendered, and how to convert an input of another format. If that can't be written, the
-/// exit status stays the same.
+/// kept its picture from being rendered, and how to convert an input of another format; and after a check the hint on a
+/// broken rule, if hints are shown (`is_shown`). If that can't be written, the exit status stays the same.
 fn report<S: Source, K: Sink, E: Sink>(
     alloc: Global,
     task: Task,
+    is_shown: bool,
     name: Option<&str>,
     input: &mut Peeked<S>,
     output: &mut K,
     errors: &mut E,
 ) -> Exit
     requires { HasSides task }
-    ensures { RunEnds task (option_copied name.entry) input.old.prefix.items result
+    ensures { RunEnds task is_shown (option_copied name.entry) input.old.prefix.items result
         (change (⟦<Peeked<S> as Source>⟧.state input.old) (⟦<Peeked<S> as Source>⟧.state input.new))
         (change (K.state output.old) (K.state output.new)) (change (E.state errors.old) (E.state errors.new)) }
 {
     let format = format_of(input.prefix.as_slice());
     let answer = run(alloc, task, input, output);
     let _ = put_said(task, name, format, &answer, errors);
+    put_hint_after(is_shown, task, &answer, errors);
     exit_of(answer)
 }
 
@@ -110,6 +114,7 @@ fn report<S: Source, K: Sink, E: Sink>(
 fn report_file<F: Folder, S: Source, K: Sink, E: Sink>(
     alloc: Global,
     task: Task,
+    is_shown: bool,
     name: &str,
     folder: &F,
     input: &mut Peeked<S>,
@@ -117,37 +122,39 @@ fn report_file<F: Folder, S: Source, K: Sink, E: Sink>(
     errors: &mut E,
 ) -> Exit
     requires { HasSides task }
-    ensures { FileEnds task (F.contents folder.now) name.now input.old.prefix.items result
+    ensures { FileEnds task is_shown (folder_view (F.opening folder.now) F.Opened.state) name.now input.old.prefix.items result
         (change (⟦<Peeked<S> as Source>⟧.state input.old) (⟦<Peeked<S> as Source>⟧.state input.new))
         (change (K.state output.old) (K.state output.new)) (change (E.state errors.old) (E.state errors.new)) }
 {
     if name == "-" {
-        return report(alloc, task, Some(name), input, output, errors);
+        return report(alloc, task, is_shown, Some(name), input, output, errors);
     }
-    match folder.open(name) {
+    match open_file(folder, name) {
         Ok(file) => {
-            let mut file = peek(task, FromRead::new(file));
-            report(alloc, task, Some(name), &mut file, output, errors)
+            let mut file = peek(task, file);
+            report(alloc, task, is_shown, Some(name), &mut file, output, errors)
         }
-        Err(_) => {
-            let _ = put_fault(Some(name), &RunFault::Read, errors);
+        Err(reason) => {
+            let _ = put_unopened(name, reason, errors);
             Exit::Refused
         }
     }
 }
 
-/// Carries out a request. A check reads all files that are named; any other task reads the first.
+/// Carries out a request. A check reads all files that are named, and ends with a hint on the first broken rule if hints
+/// are shown (`is_shown`) and it isn't quiet; any other task reads the first file.
 pub fn answer<F: Folder, S: Source, K: Sink, E: Sink>(
     alloc: Global,
     request: &Request,
+    is_shown: bool,
     folder: &F,
     input: &mut Peeked<S>,
     output: &mut K,
     errors: &mut E,
 ) -> Exit
     requires { HasSides request.now.task }
-    ensures { RequestEnds request.now.task request.now.is_quiet (map string_bytes request.now.files.items)
-        (F.contents folder.now) input.old.prefix.items result
+    ensures { RequestEnds request.now.task request.now.is_quiet is_shown (map string_bytes request.now.files.items)
+        (folder_view (F.opening folder.now) F.Opened.state) input.old.prefix.items result
         (change (⟦<Peeked<S> as Source>⟧.state input.old) (⟦<Peeked<S> as Source>⟧.state input.new))
         (change (K.state output.old) (K.state output.new)) (change (E.state errors.old) (E.state errors.new)) }
 {
@@ -155,14 +162,23 @@ pub fn answer<F: Folder, S: Source, K: Sink, E: Sink>(
     let is_quiet = request.is_quiet;
     match (request.task, names) {
         (Task::Check { profile }, []) if is_quiet => check_quietly(alloc, profile, input, errors),
-        (task, []) => report(alloc, task, None, input, output, errors),
+        (task, []) => report(alloc, task, is_shown, None, input, output, errors),
         (Task::Check { profile }, _) => {
             check_files(
-                alloc, profile, is_quiet, names, folder, input, output, errors,
+                alloc, profile, is_quiet, is_shown, names, folder, input, output, errors,
             )
         }
         (task, [name, ..]) => {
-            report_file(alloc, task, name.as_str(), folder, input, output, errors)
+            report_file(
+                alloc,
+                task,
+                is_shown,
+                name.as_str(),
+                folder,
+                input,
+                output,
+                errors,
+            )
         }
     }
 }

@@ -1,24 +1,86 @@
 //! Files by their names.
 
-ghost use Rattle.std.specs.Prelude.{◌≡◌, IfErr, IfOk, ℕ, List, None, Option};
+ghost use Rattle.std.specs.Prelude.{◌≡◌, ◌∷◌, ◌++◌, [], IfOk, MatchResult, ℕ, List, None, Some};
+ghost use Rattle.sixel_program.specs.Openings.{IsOpening, OpensAs, Told, bytes_told, reason_text};
 
-use sixel_io::DeviceFault;
+use sixel_io::{FromRead, Source};
 use std::fs::File;
 use std::io;
-use std::io::{Read, Stdin};
+use std::io::{ErrorKind, Read, Stdin};
+
+/// Why a file can't be opened.
+#[derive(Clone, Copy, Debug, PartialEq, Eq)]
+pub enum Unopened {
+    /// No file has this name.
+    NotFound,
+    PermissionDenied,
+    /// It is a folder.
+    IsFolder,
+    /// Its name isn't valid UTF-8.
+    NotText,
+    /// There is another reason.
+    Failed,
+}
+
+impl From<io::Error> for Unopened {
+    ghost use Rattle.std.specs.Prelude.{◌≡◌};
+    ghost use Rattle.std.specs.IoError.{error_kind};
+    ghost use Rattle.sixel_program.specs.Openings.{reason_of};
+
+    ghost from_gives = { λ error result. result ≡ reason_of (error_kind error) };
+
+    fn from(error: io::Error) -> Unopened {
+        match error.kind() {
+            ErrorKind::NotFound => Unopened::NotFound,
+            ErrorKind::PermissionDenied => Unopened::PermissionDenied,
+            ErrorKind::IsADirectory => Unopened::IsFolder,
+            _ => Unopened::Failed,
+        }
+    }
+}
+
+/// How a reason is printed, with the space before it and the line feed after it.
+pub fn reason_text(reason: Unopened) -> &'static str
+    ensures { result.now ≡ 32 ∷ reason_text reason ++ 10 ∷ [] }
+{
+    match reason {
+        Unopened::NotFound => " no such file\n",
+        Unopened::PermissionDenied => " permission denied\n",
+        Unopened::IsFolder => " is a folder\n",
+        Unopened::NotText => " name is not valid UTF-8\n",
+        Unopened::Failed => " read failed\n",
+    }
+}
 
 /// Opens files by their names.
 pub trait Folder {
     /// An open file.
-    type Opened: Read + Drop;
+    type Opened: Source + Drop;
 
-    /// The bytes of the file with this name, if the folder tells them.
-    ghost contents: { Self → List ℕ → Option (List ℕ) };
+    /// What opening the file with this name gives, if the folder tells it.
+    ghost opening: { Self → List ℕ → Told };
 
-    /// Opens the file with this name, at its start. This succeeds if the folder tells the file's bytes.
-    fn open(&self, name: &str) -> Result<Self::Opened, DeviceFault>
-        ensures opened { IfOk result (λ file. Self.Opened.remaining file ≡ contents self.now name.now) }
-        ensures unopened { IfErr result (λ fault. contents self.now name.now ≡ None) };
+    /// Opens the file with this name, at its start. If the folder tells what that gives, it ends so.
+    fn open(&self, name: &str) -> Result<Self::Opened, Unopened>
+        ensures told { MatchResult result (λ _. OpensAs (opening self.now name.now) None)
+            (λ reason. OpensAs (opening self.now name.now) (Some reason)) }
+        ensures bytes { IfOk result (λ file. Self.Opened.state file ≡
+            record { remaining = bytes_told (opening self.now name.now); failures = 0 }) };
+}
+
+/// Opens the file with this name. U+FFFD in a name stands for bytes that aren't valid UTF-8, and no file is opened by
+/// such a name.
+#[tactic(auto, using(crate::proofs::OpeningLemmas::as_the_folder, crate::proofs::OpeningLemmas::not_opened))]
+pub fn open_file<F: Folder>(folder: &F, name: &str) -> Result<F::Opened, Unopened>
+    ensures ended { MatchResult result (λ _. IsOpening (F.opening folder.now name.now) name.now None)
+        (λ reason. IsOpening (F.opening folder.now name.now) name.now (Some reason)) }
+    ensures bytes { IfOk result (λ file. F.Opened.state file ≡
+        record { remaining = bytes_told (F.opening folder.now name.now); failures = 0 }) }
+{
+    if name.contains("\u{FFFD}") {
+        return Err(Unopened::NotText);
+    }
+    folder.open(name)
 }
 
 /// What a task reads: standard input or a file. They are one type, so that each task is compiled only once.
@@ -37,7 +99,7 @@ impl Read for Input {
     }
 }
 
-/// The file system. Contracts know no file's bytes.
+/// The file system. Contracts know nothing of its files.
 #[derive(Clone, Copy)]
 pub struct System<'a> {
     rt: &'a HostRuntime,
@@ -51,14 +113,16 @@ impl<'a> System<'a> {
 }
 
 impl<'a> Folder for System<'a> {
-    type Opened = Input;
+    type Opened = FromRead<Input>;
 
-    ghost contents = { λ folder name. None };
+    ghost opening = { λ folder name. None };
 
-    fn open(&self, name: &str) -> Result<Input, DeviceFault> {
-        match File::open(self.rt, name) {
-            Ok(file) => Ok(Input::Named(file)),
-            Err(_) => Err(DeviceFault),
+    /// A folder opens like a file, and only a read of it fails.
+    fn open(&self, name: &str) -> Result<FromRead<Input>, Unopened> {
+        let file = File::open(self.rt, name)?;
+        if file.metadata()?.is_dir() {
+            return Err(Unopened::IsFolder);
         }
+        Ok(FromRead::new(Input::Named(file)))
     }
 }

@@ -7,11 +7,14 @@ mod exit;
 mod files;
 mod folder;
 mod formats;
+mod hints;
 pub mod laws;
 mod names;
 mod peeked;
 mod saying;
+mod terminals;
 
 pub use execution::execute;
 pub use exit::{Exit, code_of, tell};
-pub use folder::{Folder, Input, System};
+pub use folder::{Folder, Input, System, Unopened};
+pub use terminals::Terminals;

@@ -1,14 +1,17 @@
 //! How file names are printed, and lines that contain one.
 
-ghost use Rattle.std.specs.Prelude.{◌≡◌, ◌<◌, ◌++◌, IfSome};
+ghost use Rattle.std.specs.Prelude.{◌≡◌, ◌<◌, ◌≤◌, ◌++◌, IfSome, length};
 ghost use Rattle.sixel_io.specs.Devices.{Writes};
 ghost use Rattle.sixel_program.specs.Names.{hex_digit, printed, printed_byte};
 
 use arrayvec::ArrayVec;
 use sixel_io::{DeviceFault, Sink, put_all};
 
-/// Room for any line with a file name: a name has at most 4,095 bytes, each printed as at most four, and the text
-/// around it has at most 260.
+/// The length of the longest name that a file can have.
+const MOST_NAME: usize = 4_095;
+
+/// Room for any line with such a name: each of its bytes is printed as at most four, and the text around it has at most
+/// 260.
 const ROOM: usize = 16_640;
 
 type NamedLine = ArrayVec<u8, ROOM>;
@@ -105,12 +108,27 @@ fn put_parts<K: Sink>(
     put_all(out, rest)
 }
 
-/// Writes a name as it is printed, byte by byte.
+/// Writes a name as it is printed, `MOST_NAME` bytes of it at a time.
 fn put_name<K: Sink>(out: &mut K, name: &[u8]) -> Result<(), DeviceFault>
     ensures { Writes result (K.state out.old) (K.state out.new) (printed name.now) }
 {
-    for byte in name {
-        put_all(out, printed_byte(*byte).as_slice())?;
+    let mut rest = name;
+    while !rest.is_empty() {
+        let (part, more) = rest.split_at(rest.len().min(MOST_NAME));
+        put_all(out, printed_part(part).as_slice())?;
+        rest = more;
     }
     Ok(())
+}
+
+/// How a part of a name is printed.
+fn printed_part(part: &[u8]) -> NamedLine
+    requires { length part.now ≤ 4095 }
+    ensures { result.items ≡ printed part.now }
+{
+    let mut text = ArrayVec::new();
+    for byte in part {
+        let _ = text.try_extend_from_slice(printed_byte(*byte).as_slice());
+    }
+    text
 }

@@ -4,7 +4,9 @@ ghost use Rattle.std.specs.Prelude.{◌≡◌, ◌≤◌, ◌++◌, length, opti
 ghost use Rattle.sixel_io.specs.Devices.{Writes};
 ghost use Rattle.sixel_program.specs.Exits.{complaint, fault_said, labelled};
 ghost use Rattle.sixel_program.specs.Formats.{advice_for};
+ghost use Rattle.sixel_program.specs.Names.{unopened_line};
 
+use crate::folder::{Unopened, reason_text};
 use crate::formats::{Format, advice_on};
 use crate::names::put_named;
 use sixel_io::{DeviceFault, Sink, put_all};
@@ -63,6 +65,13 @@ pub fn put_fault<K: Sink>(
         ),
         (None, _) => write_fault(fault, out),
     }
+}
+
+/// Writes why the file with this name can't be opened.
+pub fn put_unopened<K: Sink>(name: &str, reason: Unopened, out: &mut K) -> Result<(), DeviceFault>
+    ensures { Writes result (K.state out.old) (K.state out.new) (unopened_line name.now reason) }
+{
+    put_named(out, b"sixel: ", name, b":", reason_text(reason).as_bytes())
 }
 
 /// Writes why a run was refused, or which rule kept its picture from being rendered.

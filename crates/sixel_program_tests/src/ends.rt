@@ -4,7 +4,7 @@ ghost use Rattle.sixel_run.specs.Outputs.{HasSides};
 
 use crate::memory_folder::MemoryFolder;
 use sixel_model::Profile;
-use sixel_program::{Exit, execute};
+use sixel_program::{Exit, Terminals, execute};
 use sixel_run::Task;
 use sixel_words::Request;
 use std::alloc::Global;
@@ -40,9 +40,17 @@ pub const SHOW_BOX: Task = Task::ShowBox {
 };
 
 /// No file can be opened.
-const NO_FILES: MemoryFolder<'static> = MemoryFolder {
+pub const NO_FILES: MemoryFolder<'static> = MemoryFolder {
     files: &[],
     cut: &[],
+    refused: &[],
+};
+
+/// No standard stream is a terminal.
+pub const NO_TERMINALS: Terminals = Terminals {
+    input: false,
+    output: false,
+    errors: false,
 };
 
 /// How a task on the bytes ends over these streams.
@@ -60,7 +68,15 @@ pub fn exit_over<W: Write + Drop, E: Write + Drop>(
         is_quiet: false,
         files: Vec::new(alloc),
     };
-    execute(alloc, &request, &NO_FILES, false, bytes, output, errors)
+    execute(
+        alloc,
+        &request,
+        &NO_FILES,
+        NO_TERMINALS,
+        bytes,
+        output,
+        errors,
+    )
 }
 
 /// Whether a task on the bytes ends so, with these bytes on standard output and on standard error.

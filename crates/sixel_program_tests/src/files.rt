@@ -4,15 +4,17 @@ ghost use Rattle.std.specs.Prelude.{◌≡◌, IfOk};
 ghost use Rattle.sixel_run.specs.Outputs.{HasSides};
 
 mod faults;
+mod hints;
+mod named;
 mod notices;
 mod system;
 mod tasks;
 
-use crate::ends::CHECK;
+use crate::ends::{CHECK, NO_TERMINALS};
 use crate::memory_folder::MemoryFolder;
 use crate::streams::Narrow;
 use sixel_model::Profile;
-use sixel_program::{Exit, execute};
+use sixel_program::{Exit, Terminals, Unopened, execute};
 use sixel_run::Task;
 use sixel_words::Request;
 use std::alloc::{AllocError, Global};
@@ -47,6 +49,11 @@ const FOLDER: MemoryFolder<'static> = MemoryFolder {
         ("red", RED),
     ],
     cut: &[("cut", b"\x1bPq\"1;1;1;1#0;2")],
+    refused: &[
+        ("locked", Unopened::PermissionDenied),
+        ("folder", Unopened::IsFolder),
+        ("lost", Unopened::Failed),
+    ],
 };
 
 /// A request, and the bytes of standard input.
@@ -61,7 +68,7 @@ struct Asked<'a> {
 /// The standard streams.
 #[derive(Clone, Copy)]
 struct Streams {
-    is_terminal: bool,
+    terminals: Terminals,
     /// How many bytes standard output takes before it fails.
     room: usize,
     is_flushable: bool,
@@ -71,7 +78,7 @@ struct Streams {
 
 /// No terminal, and enough room.
 const STREAMS: Streams = Streams {
-    is_terminal: false,
+    terminals: NO_TERMINALS,
     room: 512,
     is_flushable: true,
     errors_room: 512,
@@ -141,7 +148,7 @@ fn ends_over(
         alloc,
         &request,
         &FOLDER,
-        streams.is_terminal,
+        streams.terminals,
         input,
         output,
         errors,
@@ -229,7 +236,7 @@ fn portable_files(rt: HostRuntime) -> Result<(), Fail> {
 fn files_of_each_kind(rt: HostRuntime) -> Result<(), Fail> {
     let names = ["pixel", "ratio", "text", "none", "cut", "empty", "a b"];
     let written = b"pixel: portable 1 1\nratio: broken Ratio 3\na b: portable 1 1\n";
-    let said = b"sixel: text: NotSixel at 0\nsixel: none: read failed\nsixel: cut: read failed\n\
+    let said = b"sixel: text: NotSixel at 0\nsixel: none: no such file\nsixel: cut: read failed\n\
         sixel: empty: Truncated at 0\n";
     assert!(rt; checks(rt.alloc(), &names, Exit::Refused, written, said)?);
     Ok(())
@@ -242,7 +249,7 @@ fn the_greatest_status(rt: HostRuntime) -> Result<(), Fail> {
     let first = b"ratio: broken Ratio 3\npixel: portable 1 1\n";
     let last = b"pixel: portable 1 1\nratio: broken Ratio 3\n";
     let text = b"sixel: text: NotSixel at 0\n";
-    let none = b"sixel: none: read failed\n";
+    let none = b"sixel: none: no such file\n";
     assert!(rt; checks(rt.alloc(), &["ratio"], Exit::Broken, broken, b"")?);
     assert!(rt; checks(rt.alloc(), &["ratio", "pixel"], Exit::Broken, first, b"")?);
     assert!(rt; checks(rt.alloc(), &["pixel", "ratio"], Exit::Broken, last, b"")?);

@@ -2,17 +2,20 @@
 
 ghost use Rattle.std.specs.Prelude.{None};
 
-use sixel_io::DeviceFault;
-use sixel_program::Folder;
+use sixel_io::FromRead;
+use sixel_program::{Folder, Unopened};
+use std::cell::Cell;
 use std::io;
 use std::io::{Error, Read};
 
-/// Files in memory, by name. No other file can be opened.
+/// Files in memory, by name. There are no others.
 #[derive(Clone, Copy)]
 pub struct MemoryFolder<'a> {
     pub files: &'a [(&'a str, &'a [u8])],
     /// Files whose reads fail after these bytes.
     pub cut: &'a [(&'a str, &'a [u8])],
+    /// Files that can't be opened, and why.
+    pub refused: &'a [(&'a str, Unopened)],
 }
 
 /// The rest of an open file. A read gives at most three bytes: fewer than the mark of a PNG.
@@ -22,26 +25,51 @@ pub struct Opened<'a> {
     is_cut: bool,
 }
 
-/// The file with this name, if there is one.
-fn find<'a>(files: &[(&'a str, &'a [u8])], name: &str, is_cut: bool) -> Option<Opened<'a>> {
-    for (kept, rest) in files {
-        if *kept == name {
-            return Some(Opened { rest, is_cut });
+/// What is kept under this name, if there is anything.
+fn find<T: Copy>(kept: &[(&str, T)], name: &str) -> Option<T> {
+    for (its_name, value) in kept {
+        if *its_name == name {
+            return Some(*value);
         }
     }
     None
 }
 
 impl<'a> Folder for MemoryFolder<'a> {
-    type Opened = Opened<'a>;
+    type Opened = FromRead<Opened<'a>>;
 
-    ghost contents = { λ folder name. None };
+    ghost opening = { λ folder name. None };
 
-    fn open(&self, name: &str) -> Result<Opened<'a>, DeviceFault> {
-        match find(self.files, name, false) {
-            Some(file) => Ok(file),
-            None => find(self.cut, name, true).ok_or(DeviceFault),
+    fn open(&self, name: &str) -> Result<FromRead<Opened<'a>>, Unopened> {
+        if let Some(reason) = find(self.refused, name) {
+            return Err(reason);
         }
+        let cut = find(self.cut, name);
+        match find(self.files, name).or(cut) {
+            Some(rest) => Ok(FromRead::new(Opened {
+                rest,
+                is_cut: cut.is_some(),
+            })),
+            None => Err(Unopened::NotFound),
+        }
+    }
+}
+
+/// A folder in memory that counts the files that it is asked for.
+#[derive(Drop)]
+pub struct Watched<'a> {
+    pub folder: MemoryFolder<'a>,
+    pub asked: Cell<u64>,
+}
+
+impl<'a> Folder for Watched<'a> {
+    type Opened = FromRead<Opened<'a>>;
+
+    ghost opening = { λ folder name. None };
+
+    fn open(&self, name: &str) -> Result<FromRead<Opened<'a>>, Unopened> {
+        self.asked.set(self.asked.get().saturating_add(1));
+        self.folder.open(name)
     }
 }
 

@@ -1,8 +1,12 @@
 //! Streams that fail.
 
-use super::{Ended, PIXEL, RATIO, STREAMS, Streams, check_of, ends_over};
-use sixel_program::Exit;
+use super::{Ended, FOLDER, PIXEL, RATIO, STREAMS, Streams, check_of, ends_over, request_of};
+use crate::ends::NO_TERMINALS;
+use crate::memory_folder::Watched;
+use crate::streams::Narrow;
+use sixel_program::{Exit, execute};
 use std::alloc::{AllocError, Global};
+use std::cell::Cell;
 use std::test::Fail;
 
 /// Standard output with room for this many bytes.
@@ -38,7 +42,7 @@ fn an_output_that_fails(rt: HostRuntime) -> Result<(), Fail> {
     assert!(rt; is_cut(rt.alloc(), &names, 19, b"pixel: portable 1 1", line)?);
     let names = ["text", "pixel", "none", "ratio", "-"];
     let written = b"pixel: portable 1 1\nratio: br";
-    let said = b"sixel: text: NotSixel at 0\nsixel: none: read failed\nsixel: write failed\n";
+    let said = b"sixel: text: NotSixel at 0\nsixel: none: no such file\nsixel: write failed\n";
     assert!(rt; is_cut(rt.alloc(), &names, 29, written, said)?);
     Ok(())
 }
@@ -53,7 +57,7 @@ fn an_output_that_is_not_flushed(rt: HostRuntime) -> Result<(), Fail> {
     let ended = Ended {
         exit: Exit::Refused,
         written: b"ratio: broken Ratio 3\npixel: portable 1 1\n",
-        said: b"sixel: none: read failed\nsixel: write failed\n",
+        said: b"sixel: none: no such file\nsixel: write failed\n",
         is_read: false,
     };
     let asked = check_of(false, &["ratio", "none", "pixel"], RATIO);
@@ -101,5 +105,39 @@ fn errors_that_fail(rt: HostRuntime) -> Result<(), Fail> {
         let asked = check_of(false, &["text", "ratio", "none", "pixel"], RATIO);
         assert!(rt; ends_over(rt.alloc(), asked, streams, ended)?);
     }
+    Ok(())
+}
+
+/// How many files a check of these opens, if standard output has room for only these bytes.
+fn opened(alloc: Global, is_quiet: bool, names: &[&str], room: usize) -> Result<u64, AllocError> {
+    let request = request_of(alloc, check_of(is_quiet, names, b""))?;
+    let mut written = Vec::new(alloc);
+    let mut said = Vec::new(alloc);
+    let folder = Watched {
+        folder: FOLDER,
+        asked: Cell::new(0),
+    };
+    execute(
+        alloc,
+        &request,
+        &folder,
+        NO_TERMINALS,
+        b"".as_slice(),
+        Narrow::new(&mut written, room),
+        &mut said,
+    );
+    Ok(folder.asked.get())
+}
+
+/// No file is opened after the failed write. A line of `pixel` takes 20 bytes.
+#[test]
+fn files_after_a_failed_write(rt: HostRuntime) -> Result<(), Fail> {
+    let names = ["pixel", "text", "none", "pixel", "text", "none"];
+    assert_eq!(rt; opened(rt.alloc(), false, &names, 0)?, 1);
+    assert_eq!(rt; opened(rt.alloc(), false, &names, 19)?, 1);
+    assert_eq!(rt; opened(rt.alloc(), false, &names, 20)?, 4);
+    assert_eq!(rt; opened(rt.alloc(), false, &names, 39)?, 4);
+    assert_eq!(rt; opened(rt.alloc(), false, &names, 40)?, 6);
+    assert_eq!(rt; opened(rt.alloc(), true, &names, 0)?, 6);
     Ok(())
 }

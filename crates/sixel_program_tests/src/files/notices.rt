@@ -3,15 +3,18 @@
 ghost use Rattle.sixel_run.specs.Outputs.{HasSides};
 
 use super::{Asked, Ended, PIXEL, RED, STREAMS, Streams, asked_of, check_of, ends_over};
-use crate::ends::{ENCODE, RENDER, SHOW, SHOW_BOX};
-use sixel_program::Exit;
+use crate::ends::{ENCODE, NO_TERMINALS, RENDER, SHOW, SHOW_BOX};
+use sixel_program::{Exit, Terminals};
 use sixel_run::Task;
 use std::alloc::{AllocError, Global};
 use std::test::Fail;
 
 /// Standard input is a terminal.
 const TERMINAL: Streams = Streams {
-    is_terminal: true,
+    terminals: Terminals {
+        input: true,
+        ..NO_TERMINALS
+    },
     ..STREAMS
 };
 

@@ -1,13 +1,25 @@
 //! Files of the system.
 
 use super::{check_of, request_of};
+use crate::ends::NO_TERMINALS;
 use sixel_program::{Exit, System, execute};
 use std::test::Fail;
 
-/// An empty file, a directory, which can be opened but not read, and a name without a file.
+/// An empty file; a folder, which the system opens like a file; a file as if it were a folder; names without a file,
+/// of which two are that of a file between blanks; and a name that isn't valid UTF-8.
 #[test]
 fn files_of_the_system(rt: HostRuntime) -> Result<(), Fail> {
-    let names = ["/dev/null", "/", "/no such file", "/dev/null"];
+    let names = [
+        "/dev/null",
+        "/",
+        "/dev/null/",
+        "/no such file",
+        "",
+        " /dev/null",
+        "/dev/null ",
+        "/dev/\u{FFFD}",
+        "/dev/null",
+    ];
     let request = request_of(rt.alloc(), check_of(false, &names, b""))?;
     let mut written = Vec::new(rt.alloc());
     let mut said = Vec::new(rt.alloc());
@@ -15,13 +27,15 @@ fn files_of_the_system(rt: HostRuntime) -> Result<(), Fail> {
         rt.alloc(),
         &request,
         &System::new(&rt),
-        false,
+        NO_TERMINALS,
         b"".as_slice(),
         &mut written,
         &mut said,
     );
     let lines =
-        b"sixel: /dev/null: Truncated at 0\nsixel: /: read failed\nsixel: /no such file: read failed\n\
+        b"sixel: /dev/null: Truncated at 0\nsixel: /: is a folder\nsixel: /dev/null/: read failed\n\
+        sixel: /no such file: no such file\nsixel: : no such file\nsixel:  /dev/null: no such file\n\
+        sixel: /dev/null : no such file\nsixel: /dev/\xef\xbf\xbd: name is not valid UTF-8\n\
         sixel: /dev/null: Truncated at 0\n";
     assert_eq!(rt; exit, Exit::Refused);
     assert_eq!(rt; written.as_slice(), b"".as_slice());

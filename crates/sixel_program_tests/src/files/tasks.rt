@@ -95,7 +95,7 @@ fn a_file_that_is_refused(rt: HostRuntime) -> Result<(), Fail> {
     assert!(rt; ends_so(rt.alloc(), RENDER, "text", Exit::Refused, b"", text)?);
     assert!(rt; ends_so(rt.alloc(), SHOW, "text", Exit::Refused, b"", text)?);
     assert!(rt; ends_so(rt.alloc(), Task::List, "text", Exit::Refused, b"", text)?);
-    let none = b"sixel: none: read failed\n";
+    let none = b"sixel: none: no such file\n";
     assert!(rt; ends_so(rt.alloc(), Task::List, "none", Exit::Refused, b"", none)?);
     assert!(rt; ends_so(rt.alloc(), RENDER, "none", Exit::Refused, b"", none)?);
     assert!(rt; ends_so(rt.alloc(), ENCODE, "none", Exit::Refused, b"", none)?);

@@ -1,12 +1,15 @@
-use Rattle.std.proofs.Common.{List, map, take}
+use Rattle.std.proofs.Common.{◌≡◌, List, map, take}
 use Rattle.std.specs.String.{string_bytes}
 use Rattle.sixel_io.specs.Devices.{change}
-use Rattle.sixel_program.specs.Files.{AreChecked, FileEnd}
+use Rattle.sixel_program.specs.Files.{AreChecked, FileEnd, first_broken}
+use Rattle.sixel_program.specs.Openings.{folder_view}
 use Rattle.sixel_program.proofs.checks.check_files.Given as goal
 
 abbrev pub invariant-loop-name : goal.invariant-loop-name
-invariant-loop-name g l = (ends : List FileEnd) × AreChecked l.profile l.is_quiet (g.F.Folder.contents l.folder) ends
+invariant-loop-name g l = (ends : List FileEnd) × AreChecked l.profile l.is_quiet
+    (folder_view (g.F.Folder.opening l.folder) g.F.Opened.Source.state) ends
     (map string_bytes (take l.name-index l.names)) l.exit
     (change (g.S.Source.state l.fn.input) (g.S.Source.state l.input))
     (change (g.K.Sink.state l.fn.output) (g.K.Sink.state l.output))
     (change (g.E.Sink.state l.fn.errors) (g.E.Sink.state l.errors))
+    × (l.broken ≡ first_broken ends)

@@ -8,8 +8,9 @@ returns g c = record {
   line = line_of c.judge-judged.result;
   wrote = c.judge-judged.ensures.judged;
   memory = c.judge-judged.ensures.memory;
+  reads = c.judge-judged.ensures.left;
   read = c.judge-judged.ensures.reads;
   written = c.judge-judged.ensures.unwritten;
-  ends = c.say_judged.ensures.exit;
+  ends = rw c.say_judged.ensures.answer at c.exit_of.ensures;
   said = said_quietly c.args.profile (answer_of c.judge-judged.result) _ _ c.say_judged.ensures.said;
 }

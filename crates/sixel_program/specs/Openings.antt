@@ -1,0 +1,79 @@
+-- Files opened by their names: what a folder tells of them, and why one can't be opened.
+use Rattle.std.specs.Prelude.{◌≡◌, ℕ, ◌∷◌, ◌++◌, List, [], codes, Option, Some, None, Result, Ok, Err, ⊤}
+use Rattle.std.specs.declared.io.ErrorKind.{ErrorKind}
+use Rattle.std.specs.declared.io.ErrorKind.TheVariants as kind
+use Rattle.sixel_io.specs.Devices.{Change, SourceState}
+use Rattle.sixel_program.specs.declared.folder.Unopened.{Unopened}
+use Rattle.sixel_program.specs.declared.folder.Unopened.TheVariants.{NotFound, PermissionDenied, IsFolder, NotText}
+use Rattle.sixel_program.specs.declared.folder.Unopened.TheVariants.{Failed}
+use Rattle.sixel_run.specs.Texts.{Text}
+use Rattle.sixel_run.specs.declared.fault.RunFault.{RunFault}
+use Rattle.sixel_run.specs.declared.fault.RunFault.TheVariants.{Read}
+use Rattle.sixel_run.specs.Outputs.{failures_by}
+
+-- the reason for an error of the system
+abbrev pub reason_of : ErrorKind → Unopened
+reason_of kind.NotFound = NotFound
+reason_of kind.PermissionDenied = PermissionDenied
+reason_of kind.IsADirectory = IsFolder
+reason_of _ = Failed
+
+-- how a reason is printed
+abbrev pub reason_text : Unopened → Text
+reason_text NotFound = codes "no such file"
+reason_text PermissionDenied = codes "permission denied"
+reason_text IsFolder = codes "is a folder"
+reason_text NotText = codes "name is not valid UTF-8"
+reason_text Failed = codes "read failed"
+
+-- ---- folders
+
+-- what opening a file gives, if that is told: the file's bytes, or why it can't be opened
+abbrev pub Told : Type 0
+Told = Option (Result (List ℕ) Unopened)
+
+-- the bytes of the file, if they are told
+abbrev pub bytes_told : Told → Option (List ℕ)
+bytes_told (Some (Ok bytes)) = Some bytes
+bytes_told _ = None
+
+-- a folder as contracts see it: what it tells of each name, and the state of each file that it opened
+pub record FolderView (O : Type 0) : Type 0 where
+  pub opening : Text → Told
+  pub state : O → SourceState
+
+abbrev pub folder_view : {O : Type 0} → (Text → Told) → (O → SourceState) → FolderView O
+folder_view opening state = record { opening = opening; state = state }
+
+-- the bytes of the file with this name, if they are told
+abbrev pub bytes_of : (Text → Told) → Text → Option (List ℕ)
+bytes_of opening name = bytes_told (opening name)
+
+-- ---- one file
+
+-- the name isn't valid UTF-8: it has the character U+FFFD, which stands for whatever isn't
+abbrev pub IsNotText : Text → Type 0
+IsNotText name = (before after : Text) × (name ≡ before ++ (0xEF ∷ 0xBF ∷ 0xBD ∷ []) ++ after)
+
+-- as far as is told, the file opens (`None`), or can't be opened for this reason
+abbrev pub OpensAs : Told → Option Unopened → Type 0
+OpensAs None end = ⊤
+OpensAs (Some (Ok bytes)) end = end ≡ None
+OpensAs (Some (Err reason)) end = end ≡ Some reason
+
+-- the file with this name was opened (`None`), or couldn't be for this reason. No file is opened by a name that isn't
+-- valid UTF-8
+pub record IsOpening (told : Told) (name : Text) (end : Option Unopened) : Type 0 where
+  pub not_text : IsNotText name → end ≡ Some NotText
+  pub as_told : (IsNotText name → ⊥) → OpensAs told end
+
+-- the failed calls on an input are those on a file that the folder opened
+abbrev pub CountsOf : {O : Type 0} → FolderView O → Change SourceState → Type 0
+CountsOf {O} folder input =
+    (first last : O) × (input.old.failures ≡ (folder.state first).failures)
+    × (input.new.failures ≡ (folder.state last).failures)
+
+-- the answer is that a read failed exactly if a call on a file that the folder opened failed
+abbrev pub FailsWith : {O A : Type 0} → FolderView O → Result A RunFault → Type 0
+FailsWith {O} folder answer =
+    (first last : O) × ((folder.state last).failures ≡ failures_by Read answer (folder.state first).failures)

@@ -1,0 +1,158 @@
+//! The hint after a check that found a broken rule, where standard error is a terminal.
+
+ghost use Rattle.sixel_run.specs.Outputs.{HasSides};
+
+use super::{Asked, Ended, PIXEL, RATIO, STREAMS, Streams, WIDE, asked_of, check_of, ends_over};
+use crate::ends::{NO_TERMINALS, RENDER};
+use sixel_model::Profile;
+use sixel_program::{Exit, Terminals};
+use sixel_run::Task;
+use std::alloc::{AllocError, Global};
+use std::test::Fail;
+
+/// Standard error is a terminal.
+const TERMINAL: Streams = Streams {
+    terminals: Terminals {
+        errors: true,
+        ..NO_TERMINALS
+    },
+    ..STREAMS
+};
+
+const EXPLAIN_RATIO: &[u8] = b"sixel: 'sixel explain Ratio' tells how to fix it\n";
+
+/// Whether a check writes this, and then this hint where standard error is a terminal, and none where it isn't.
+fn hints(
+    alloc: Global,
+    asked: Asked<'_>,
+    exit: Exit,
+    written: &[u8],
+    is_read: bool,
+    hint: &[u8],
+) -> Result<bool, AllocError>
+    requires { HasSides asked.task }
+{
+    let ended = Ended {
+        exit,
+        written,
+        said: hint,
+        is_read,
+    };
+    let silent = Ended { said: b"", ..ended };
+    Ok(ends_over(alloc, asked, TERMINAL, ended)? && ends_over(alloc, asked, STREAMS, silent)?)
+}
+
+#[test]
+fn a_broken_picture(rt: HostRuntime) -> Result<(), Fail> {
+    let alloc = rt.alloc();
+    let plain = check_of(false, &[], RATIO);
+    let broken = b"broken Ratio 3\n";
+    assert!(rt; hints(alloc, plain, Exit::Broken, broken, true, EXPLAIN_RATIO)?);
+    let named = check_of(false, &["ratio"], PIXEL);
+    let broken = b"ratio: broken Ratio 3\n";
+    assert!(rt; hints(alloc, named, Exit::Broken, broken, false, EXPLAIN_RATIO)?);
+    let portable = check_of(false, &["pixel"], RATIO);
+    let line = b"pixel: portable 1 1\n";
+    assert!(rt; hints(alloc, portable, Exit::Done, line, false, b"")?);
+    Ok(())
+}
+
+/// A quiet check gives no hint, and no other task does.
+#[test]
+fn no_hint(rt: HostRuntime) -> Result<(), Fail> {
+    let alloc = rt.alloc();
+    assert!(rt;
+        hints(
+            alloc,
+            check_of(true, &[], RATIO),
+            Exit::Broken,
+            b"",
+            true,
+            b""
+        )?
+    );
+    assert!(rt;
+        hints(
+            alloc,
+            check_of(true, &["ratio"], PIXEL),
+            Exit::Broken,
+            b"",
+            false,
+            b""
+        )?
+    );
+    let ended = Ended {
+        exit: Exit::Broken,
+        written: b"",
+        said: b"broken Ratio 3\n",
+        is_read: true,
+    };
+    assert!(rt; ends_over(alloc, asked_of(RENDER, &[], RATIO), TERMINAL, ended)?);
+    Ok(())
+}
+
+/// A register above 15 has an option too, but not where it is already given.
+#[test]
+fn a_register(rt: HostRuntime) -> Result<(), Fail> {
+    let alloc = rt.alloc();
+    let narrow = check_of(false, &[], WIDE);
+    let hint =
+        b"sixel: 'sixel explain Register' tells how to fix it; '--wide' checks for 256 registers\n";
+    assert!(rt;
+        hints(
+            alloc,
+            narrow,
+            Exit::Broken,
+            b"broken Register 11\n",
+            true,
+            hint
+        )?
+    );
+    let profile = Profile::Registers256;
+    let wide = asked_of(Task::Check { profile }, &[], b"\x1bPq\"1;1;2;1#256\x1b\\");
+    let hint = b"sixel: 'sixel explain Register' tells how to fix it\n";
+    assert!(rt;
+        hints(
+            alloc,
+            wide,
+            Exit::Broken,
+            b"broken Register 11\n",
+            true,
+            hint
+        )?
+    );
+    Ok(())
+}
+
+/// The hint comes once, after the lines of all files, and is on the first broken verdict.
+#[test]
+fn several_files(rt: HostRuntime) -> Result<(), Fail> {
+    let names = ["text", "pixel", "ratio", "wide", "none"];
+    let ended = Ended {
+        exit: Exit::Refused,
+        written: b"pixel: portable 1 1\nratio: broken Ratio 3\nwide: broken Register 11\n",
+        said: b"sixel: text: NotSixel at 0\nsixel: none: no such file\n\
+            sixel: 'sixel explain Ratio' tells how to fix it\n",
+        is_read: false,
+    };
+    assert!(rt; ends_over(rt.alloc(), check_of(false, &names, PIXEL), TERMINAL, ended)?);
+    Ok(())
+}
+
+/// No hint follows a failed write.
+#[test]
+fn an_output_that_fails(rt: HostRuntime) -> Result<(), Fail> {
+    let ended = Ended {
+        exit: Exit::Refused,
+        written: b"ratio: broken Ratio 3\n",
+        said: b"sixel: write failed\n",
+        is_read: false,
+    };
+    let full = Streams {
+        room: 22,
+        ..TERMINAL
+    };
+    let asked = check_of(false, &["ratio", "pixel"], PIXEL);
+    assert!(rt; ends_over(rt.alloc(), asked, full, ended)?);
+    Ok(())
+}

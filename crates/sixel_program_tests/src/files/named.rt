@@ -1,0 +1,174 @@
+//! Names of files, and the lines that they are in.
+
+ghost use Rattle.sixel_run.specs.Outputs.{HasSides};
+
+use super::{Ended, PIXEL, STREAMS, asked_of, check_of, checks, ends_over, request_of};
+use crate::ends::{ENCODE, NO_FILES, NO_TERMINALS, RENDER};
+use crate::memory_folder::MemoryFolder;
+use sixel_program::{Exit, execute};
+use sixel_run::Task;
+use std::alloc::{AllocError, Global};
+use std::io;
+use std::io::Write;
+use std::test::Fail;
+
+/// A file that can't be opened says why. The files after it are still checked.
+#[test]
+fn files_that_cannot_be_opened(rt: HostRuntime) -> Result<(), Fail> {
+    let names = ["none", "locked", "folder", "\u{FFFD}.six", "lost", "pixel"];
+    let said =
+        b"sixel: none: no such file\nsixel: locked: permission denied\nsixel: folder: is a folder\n\
+        sixel: \xef\xbf\xbd.six: name is not valid UTF-8\nsixel: lost: read failed\n";
+    assert!(rt;
+        checks(
+            rt.alloc(),
+            &names,
+            Exit::Refused,
+            b"pixel: portable 1 1\n",
+            said
+        )?
+    );
+    Ok(())
+}
+
+/// Whether the task on the file with this name is refused with this line, and writes nothing else.
+fn refuses(alloc: Global, task: Task, name: &str, said: &[u8]) -> Result<bool, AllocError>
+    requires { HasSides task }
+{
+    let ended = Ended {
+        exit: Exit::Refused,
+        written: b"",
+        said,
+        is_read: false,
+    };
+    ends_over(alloc, asked_of(task, &[name], PIXEL), STREAMS, ended)
+}
+
+#[test]
+fn a_file_that_cannot_be_opened(rt: HostRuntime) -> Result<(), Fail> {
+    let locked = b"sixel: locked: permission denied\n";
+    assert!(rt; refuses(rt.alloc(), Task::List, "locked", locked)?);
+    assert!(rt;
+        refuses(
+            rt.alloc(),
+            RENDER,
+            "folder",
+            b"sixel: folder: is a folder\n"
+        )?
+    );
+    assert!(rt; refuses(rt.alloc(), ENCODE, "lost", b"sixel: lost: read failed\n")?);
+    let name = b"sixel: a\xef\xbf\xbd: name is not valid UTF-8\n";
+    assert!(rt; refuses(rt.alloc(), ENCODE, "a\u{FFFD}", name)?);
+    Ok(())
+}
+
+/// A name is opened as it is given, with the blanks around it.
+#[test]
+fn names_between_blanks(rt: HostRuntime) -> Result<(), Fail> {
+    let said =
+        b"sixel:  pixel: no such file\nsixel: pixel : no such file\nsixel: \\x09pixel\\x0A: no such file\n";
+    let names = [" pixel", "pixel ", "\tpixel\n"];
+    assert!(rt; checks(rt.alloc(), &names, Exit::Refused, b"", said)?);
+    Ok(())
+}
+
+/// Takes everything, and counts the calls.
+#[derive(Drop)]
+struct Takes<'a> {
+    taken: &'a mut Vec<u8>,
+    calls: &'a mut u64,
+}
+
+impl Write for Takes<'_> {
+    fn write(&mut self, buf: &[u8]) -> io::Result<usize> {
+        *self.calls = self.calls.saturating_add(1);
+        self.taken.write(buf)
+    }
+
+    fn flush(&mut self) -> io::Result<()> {
+        Ok(())
+    }
+}
+
+/// This text, so many times.
+fn repeated(alloc: Global, text: &str, count: u32) -> Result<String, AllocError> {
+    let mut all = String::new(alloc);
+    for _ in 0..count {
+        all.push_str(text)?;
+    }
+    Ok(all)
+}
+
+/// Whether a check of a file with this name, which is printed so, writes its verdict in at most so many calls. If there
+/// is no such file, the message must be written so.
+fn goes_out_in(alloc: Global, name: &str, printed: &str, most: u64) -> Result<bool, AllocError> {
+    let folder = MemoryFolder {
+        files: &[(name, PIXEL)],
+        cut: &[],
+        refused: &[],
+    };
+    let is_whole = goes_so(alloc, name, folder, "", printed, ": portable 1 1\n", most)?;
+    let is_said = goes_so(
+        alloc,
+        name,
+        NO_FILES,
+        "sixel: ",
+        printed,
+        ": no such file\n",
+        most,
+    )?;
+    Ok(is_whole && is_said)
+}
+
+/// Whether a check of the file with this name writes only this, in at most so many calls.
+fn goes_so(
+    alloc: Global,
+    name: &str,
+    folder: MemoryFolder<'_>,
+    before: &str,
+    printed: &str,
+    after: &str,
+    most: u64,
+) -> Result<bool, AllocError> {
+    let request = request_of(alloc, check_of(false, &[name], b""))?;
+    let mut taken = Vec::new(alloc);
+    let mut said = Vec::new(alloc);
+    let mut writes: u64 = 0;
+    let mut sayings: u64 = 0;
+    let output = Takes {
+        taken: &mut taken,
+        calls: &mut writes,
+    };
+    let errors = Takes {
+        taken: &mut said,
+        calls: &mut sayings,
+    };
+    execute(
+        alloc,
+        &request,
+        &folder,
+        NO_TERMINALS,
+        b"".as_slice(),
+        output,
+        errors,
+    );
+    let line = format!(in alloc; "{before}{printed}{after}")?;
+    taken.extend_from_slice(said.as_slice())?;
+    Ok(taken.as_slice() == line.as_bytes() && writes.saturating_add(sayings) <= most)
+}
+
+/// A line with the longest name that a file can have goes out in one call, and one with a longer name in few.
+#[test]
+fn lines_with_long_names(rt: HostRuntime) -> Result<(), Fail> {
+    let alloc = rt.alloc();
+    assert!(rt; goes_out_in(alloc, "a b", "a b", 1)?);
+    let long = repeated(alloc, "n", 4_095)?;
+    assert!(rt; goes_out_in(alloc, long.as_str(), long.as_str(), 1)?);
+    let control = repeated(alloc, "\x01", 4_095)?;
+    let printed = repeated(alloc, "\\x01", 4_095)?;
+    assert!(rt; goes_out_in(alloc, control.as_str(), printed.as_str(), 1)?);
+    let longer = repeated(alloc, "\x01", 9_000)?;
+    let printed = repeated(alloc, "\\x01", 9_000)?;
+    assert!(rt; goes_out_in(alloc, longer.as_str(), printed.as_str(), 6)?);
+    Ok(())
+}
