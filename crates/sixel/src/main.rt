@@ -3,13 +3,12 @@
 
 use sixel_io::ToWrite;
 use sixel_program::{Input, System, Terminals, code_of, execute, tell};
-use sixel_words::task_in;
-use std::env;
+use sixel_words::{arguments_of, task_in};
 use std::io::IsTerminal;
 use std::process::ExitCode;
 
 fn main(rt: HostRuntime) -> ExitCode {
-    let exit = match task_in(rt.alloc(), env::args(&rt)) {
+    let exit = match task_in(rt.alloc(), arguments_of(rt.alloc(), &rt)) {
         Ok(request) => {
             let folder = System::new(&rt);
             let terminals = Terminals {

@@ -1,6 +1,7 @@
 -- How a run ends: exit statuses and messages.
 use Rattle.std.specs.Prelude.{◌≡◌, ◌≢◌, ◌⊎◌, ◌++◌, ℕ, List, [], Bool, false, true, take, IfSome, Result, Ok}
-use Rattle.std.specs.Prelude.{Err, None, Option, Some, if◌then◌else◌}
+use Rattle.std.specs.Prelude.{Err, None, Option, Some, codes, if◌then◌else◌}
+use Rattle.std.specs.Io.{StartsWith}
 use Rattle.std.specs.Io.KnownBytes.{Appends}
 use Rattle.sixel_io.specs.Devices.{Change, SinkState, SourceState, change, one_more}
 use Rattle.sixel_program.specs.declared.exit.Exit.{Exit}
@@ -89,6 +90,10 @@ IsLeft sink = sink.new ≡ sink.old
 abbrev pub IsShown : Change SinkState → Type 0
 IsShown sink = (text : Text) × IsPut text sink
 
+-- a usage error was put: its text begins with `sixel: `, and the rest isn't specified here
+abbrev pub IsUsageSaid : Change SinkState → Type 0
+IsUsageSaid sink = (text : Text) × StartsWith text (codes "sixel: ") × IsPut text sink
+
 -- the text was written to the output and flushed; or the output failed, a prefix of the text was written, and the
 -- errors got the line of a failed write
 abbrev pub ExplanationEnds : Text → Exit → Change SinkState → Change SinkState → Type 0
@@ -104,6 +109,6 @@ abbrev pub WordsEnd : WordsFault → Exit → Change SinkState → Change SinkSt
 WordsEnd (fault.Help text) exit output errors = (exit ≡ Done) × IsShown output × IsLeft errors
 WordsEnd (fault.Explanation topic) exit output errors =
     (text : Text) × IsExplanation topic text × ExplanationEnds text exit output errors
-WordsEnd (fault.Usage text) exit output errors = (exit ≡ Usage) × IsLeft output × IsShown errors
+WordsEnd (fault.Usage text) exit output errors = (exit ≡ Usage) × IsLeft output × IsUsageSaid errors
 WordsEnd fault.OutOfMemory exit output errors =
     (exit ≡ Refused) × IsLeft output × IsPut (fault_line run.OutOfMemory) errors

@@ -1,8 +1,10 @@
 //! How the program ends.
 
-ghost use Rattle.std.specs.Prelude.{◌≡◌, OnOk, true};
+ghost use Rattle.std.specs.Prelude.{◌≡◌, IfOk, OnOk, codes, true};
+ghost use Rattle.std.specs.Io.{StartsWith};
+ghost use Rattle.std.specs.String.{string_bytes};
 ghost use Rattle.sixel_io.specs.Devices.{CountsFailure, Puts, change};
-ghost use Rattle.sixel_program.specs.Exits.{IsShown, WordsEnd, exit_code, exit_for_answer};
+ghost use Rattle.sixel_program.specs.Exits.{IsShown, IsUsageSaid, WordsEnd, exit_code, exit_for_answer};
 ghost use Rattle.sixel_words.specs.Explanations.{IsExplanation};
 ghost use Rattle.sixel_run.specs.Texts.{Text};
 
@@ -10,7 +12,7 @@ use clap::Error;
 use sixel_io::{DeviceFault, Sink, put_all};
 use sixel_run::{RunFault, Status, write_fault};
 use sixel_words::{Topic, WordsFault, explanation};
-use std::alloc::Global;
+use std::alloc::{AllocError, Global};
 
 /// The exit status.
 #[derive(Clone, Copy, Debug, PartialEq, Eq)]
@@ -72,7 +74,7 @@ pub fn tell<K: Sink, E: Sink>(
             }
         },
         WordsFault::Usage(text) => {
-            show(alloc, &text, errors);
+            say_usage(alloc, &text, errors);
             Exit::Usage
         }
         WordsFault::OutOfMemory => {
@@ -82,7 +84,34 @@ pub fn tell<K: Sink, E: Sink>(
     }
 }
 
-/// Writes a text of help or usage, if there is enough memory to make it.
+/// What clap's text of a usage error begins with.
+const ERROR: &str = "error: ";
+
+/// Writes a usage error. Without enough memory to make its text, it writes that.
+fn say_usage<E: Sink>(alloc: Global, error: &Error, errors: &mut E)
+    ensures { IsUsageSaid (change (E.state errors.old) (E.state errors.new)) }
+{
+    match usage_text(alloc, error) {
+        Ok(text) => {
+            let _ = put_all(errors, text.as_bytes());
+        }
+        Err(_) => {
+            let _ = write_fault(&RunFault::OutOfMemory, errors);
+        }
+    }
+}
+
+/// The text of a usage error. It begins with `sixel: `, like every other message, instead of clap's `error: `.
+fn usage_text(alloc: Global, error: &Error) -> Result<String, AllocError>
+    ensures { IfOk result (λ text. StartsWith (string_bytes text) (codes "sixel: ")) }
+{
+    let told = format!(in alloc; "{error}")?;
+    let mut text = String::from_str(alloc, "sixel: ")?;
+    text.push_str(told.as_str().strip_prefix(ERROR).unwrap_or(told.as_str()))?;
+    Ok(text)
+}
+
+/// Writes a text of help, if there is enough memory to make it.
 fn show<K: Sink>(alloc: Global, text: &Error, out: &mut K)
     ensures { IsShown (change (K.state out.old) (K.state out.new)) }
 {

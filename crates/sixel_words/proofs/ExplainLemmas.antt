@@ -1,21 +1,33 @@
 -- What the arguments of `explain` ask for.
-use Rattle.std.proofs.Common.{◌≡◌, ◌∙◌, Option, Some, None, ap, codes, subst, sym, List}
+use Rattle.std.proofs.Common.{◌≡◌, ◌∙◌, Option, Some, None, ap, codes, refl, subst, sym, List}
 use Rattle.std.specs.Prelude.{option_map}
 use Rattle.clap.specs.Simple.{subcommand_of}
-use Rattle.clap.specs.Walk.{Row, first_of}
+use Rattle.clap.specs.Walk.{Row, all_of}
 use Rattle.sixel_words.specs.declared.explanations.Topic.{Topic}
 use Rattle.sixel_words.specs.declared.words.WordsFault.{WordsFault}
 use Rattle.sixel_words.specs.declared.words.WordsFault.TheVariants as fault
-use Rattle.sixel_words.specs.Explanations.{topic_name}
+use Rattle.sixel_words.specs.Explanations.{Asks, line_of, name_in, topic_name}
 use Rattle.sixel_run.specs.Texts.{Text}
 use Rattle.sixel_words.proofs.MatchLemmas.{same_parts}
 use Rattle.sixel_words.specs.Words.{AsksFor, IsAskedBy, IsAskedIn, IsNoHelp, IsRefusal, IsUnexplained, sixel_app}
 
--- a topic has this name, so it can't be that none has
-pub by_name : (topic : Option Topic) (name : Text) → Some name ≡ option_map topic_name topic
-    → ((t : Topic) → topic_name t ≡ name → ⊥) → ⊥
-by_name None name is none = cc
-by_name (Some t) name is none = none t (let same : topic_name t ≡ name = cc in same)
+-- nothing was said, and this is asked
+pub none_said : (topic : Option Topic) → Asks None (option_map topic_name topic) → None ≡ option_map topic_name topic
+none_said None is = refl
+none_said (Some t) is = absurd is
+
+-- this topic was found, so no other name is asked
+pub one_asked : (said : List Text) (found : Topic) (topic : Option Topic)
+    → name_in (line_of said) ≡ Some (topic_name found) → Asks (Some said) (option_map topic_name topic)
+    → Some (topic_name found) ≡ option_map topic_name topic
+one_asked said found None is asks = absurd asks
+one_asked said found (Some t) is asks = sym is ∙ asks
+
+-- no name was found, so none is asked
+pub none_asked : (said : List Text) (topic : Option Topic) → name_in (line_of said) ≡ None
+    → Asks (Some said) (option_map topic_name topic) → ⊥
+none_asked said None is asks = asks
+none_asked said (Some t) is asks = let bad : None ≡ Some (topic_name t) = sym is ∙ asks in cc
 
 pub asked_by : (words : List Text) (name : Text) (rows : List Row) (f : WordsFault)
     → subcommand_of sixel_app words ≡ Some (name, rows) → IsAskedIn name rows f → IsAskedBy words f
@@ -41,10 +53,10 @@ refused_unasked words fault.OutOfMemory is = tt
 -- arguments that ask for a name have the subcommand `explain`, with this name
 pub same_wish : (words : List Text) (wanted : Option Text) (name : Text) (rows : List Row) → AsksFor words wanted
     → subcommand_of sixel_app words ≡ Some (name, rows)
-    → (name ≡ codes "explain") × (first_of (codes "name") rows ≡ wanted)
+    → (name ≡ codes "explain") × Asks (all_of (codes "name") rows) wanted
 same_wish words wanted name rows asks is =
     let same = same_parts (subcommand_of sixel_app words) (codes "explain") name asks.0 rows asks.1 is in
-    (sym same.0, subst (λ (r : List Row). first_of (codes "name") r ≡ wanted) same.1 asks.2)
+    (sym same.0, subst (λ (r : List Row). Asks (all_of (codes "name") r) wanted) same.1 asks.2)
 
 -- a refusal isn't help
 pub refused_unhelped : (f : WordsFault) → IsRefusal f → IsNoHelp f

@@ -1,9 +1,10 @@
 -- What words that give no task come to.
-use Rattle.std.proofs.Common.{◌≡◌, List, [], Option, inl, inr, refl, subst, sym}
+use Rattle.std.proofs.Common.{◌≡◌, List, [], Option, ap, inl, inr, refl, subst, sym}
 use Rattle.std.specs.Prelude.{option_map}
 use Rattle.clap.specs.Kinds.{HasKind, IsAmong}
 use Rattle.clap.specs.Values.{kind_of}
 use Rattle.clap.specs.declared.error.Error.{Error}
+use Rattle.clap.specs.declared.error.kind.ErrorKind.{ErrorKind}
 use Rattle.clap.specs.declared.error.kind.ErrorKind.TheVariants as kind
 use Rattle.sixel_words.specs.declared.explanations.Topic.{Topic}
 use Rattle.sixel_words.specs.declared.words.WordsFault.{WordsFault}
@@ -26,12 +27,12 @@ memory_is_wanted words = record {
 }
 
 -- an error that is shown isn't out of memory, so its kind is one of the other kinds that it may have
-shown_kind : (words : List Text) (error held : Error) (f : WordsFault) → held ≡ error
+shown_kind : (words : List Text) (error held : Error) (f : WordsFault) → kind_of held ≡ kind_of error
     → (kind_of error ≡ kind.OutOfMemory → f ≡ fault.OutOfMemory) → (f ≡ fault.OutOfMemory → ⊥)
     → HasKind (kinds_of words) error → IsAmong (kind_of held) (kinds_of words)
 shown_kind words error held f kept memory shown (inl wanted) = absurd (shown (memory wanted))
 shown_kind words error held f kept memory shown (inr among) =
-    subst (λ (e : Error). IsAmong (kind_of e) (kinds_of words)) (sym kept) among
+    subst (λ (k : ErrorKind). IsAmong k (kinds_of words)) (sym kept) among
 
 pub found_by_clap : (words : List Text) (error : Error) (f : WordsFault) → HasKind (kinds_of words) error
     → HoldsError error f → IsUnexplained f → (kind_of error ≡ kind.OutOfMemory → f ≡ fault.OutOfMemory)
@@ -39,7 +40,7 @@ pub found_by_clap : (words : List Text) (error : Error) (f : WordsFault) → Has
 found_by_clap words error (fault.Usage held) has kept unexplained memory =
     inl (shown_kind words error held (fault.Usage held) kept memory (λ is. cc) has)
 found_by_clap words error (fault.Help held) has kept unexplained memory =
-    shown_kind words error held (fault.Help held) kept memory (λ is. cc) has
+    shown_kind words error held (fault.Help held) (ap kind_of kept) memory (λ is. cc) has
 found_by_clap words error (fault.Explanation topic) has kept unexplained memory = absurd unexplained
 found_by_clap words error fault.OutOfMemory has kept unexplained memory = tt
 

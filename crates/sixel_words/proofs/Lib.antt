@@ -4,3 +4,4 @@ pub mod ExplainLemmas
 pub mod FaultLemmas
 pub mod NameLemmas
 pub mod WishLemmas
+pub mod LineLemmas

@@ -1,19 +1,20 @@
 -- Arguments that ask for a name to be explained.
-use Rattle.std.proofs.Common.{◌≡◌, ◌∷◌, List, [], Option, Some, codes, map, refl, true}
+use Rattle.std.proofs.Common.{◌≡◌, ◌∷◌, List, [], None, Option, Some, codes, map, refl, true}
 use Rattle.std.specs.List.{All}
+use Rattle.std.specs.Option.{option_and_then}
 use Rattle.std.proofs.lemmas.List.Elements.{All-cons, All-contains, All-nil}
 use Rattle.clap.specs.Simple.{subcommand_of}
 use Rattle.clap.specs.Takes.{takes, walk_passes}
-use Rattle.clap.specs.Walk.{first_of, walked}
+use Rattle.clap.specs.Walk.{all_of, walked}
 use Rattle.sixel_words.specs.declared.explanations.Topic.{Topic}
-use Rattle.sixel_words.specs.Explanations.{listed_names, topic_name}
+use Rattle.sixel_words.specs.Explanations.{Asks, line_of, listed_names, name_in, topic_name}
 use Rattle.sixel_run.specs.Texts.{Text}
 use Rattle.sixel_words.proofs.MatchLemmas.{rows_in}
 use Rattle.sixel_words.proofs.NameLemmas.{name_listed}
 use Rattle.sixel_words.specs.Words.{AsksFor, sixel_app}
 
 -- two functions that agree on a list agree on each item
-each : {X Y : Type 0} (f g : X → Y) (xs : List X) → map f xs ≡ map g xs → All (λ x. f x ≡ g x) xs
+pub each : {X Y : Type 0} (f g : X → Y) (xs : List X) → map f xs ≡ map g xs → All (λ x. f x ≡ g x) xs
 each f g [] e = All-nil (λ x. f x ≡ g x)
 each f g (x ∷ xs) e =
     let here : f x ≡ g x = cc in
@@ -23,8 +24,17 @@ each f g (x ∷ xs) e =
 abbrev explain : Text → Text → List Text
 explain program name = program ∷ codes "explain" ∷ name ∷ []
 
-abbrev named : Text → Text → Option Text
-named program name = first_of (codes "name") (rows_in (subcommand_of sixel_app (explain program name)))
+-- the name that the program reads in the words after `explain`
+abbrev asked : Text → Text → Option Text
+asked program name =
+    option_and_then (λ said. name_in (line_of said))
+    (all_of (codes "name") (rows_in (subcommand_of sixel_app (explain program name))))
+
+-- what was said asks for the name that is read in it
+asks : (said : Option (List Text)) (name : Text) → option_and_then (λ s. name_in (line_of s)) said ≡ Some name
+    → Asks said (Some name)
+asks None name is = let bad : None ≡ Some name = is in cc
+asks (Some s) name is = is
 
 pub name_taken : (program : Text) (t : Topic)
     → takes sixel_app (program ∷ codes "explain" ∷ topic_name t ∷ []) ≡ true
@@ -39,6 +49,7 @@ unfolding walked
 name_asked program t = (
   rows_in (subcommand_of sixel_app (explain program (topic_name t))),
   refl,
-  All-contains (λ (name : Text). named program name ≡ Some name) listed_names (topic_name t)
-      (each (named program) (λ (name : Text). Some name) listed_names refl) (name_listed t),
+  asks (all_of (codes "name") (rows_in (subcommand_of sixel_app (explain program (topic_name t))))) (topic_name t)
+      (All-contains (λ (name : Text). asked program name ≡ Some name) listed_names (topic_name t)
+      (each (asked program) (λ (name : Text). Some name) listed_names refl) (name_listed t)),
 )

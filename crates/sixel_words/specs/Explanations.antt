@@ -1,7 +1,10 @@
 -- What `explain` says, and of which topics.
-use Rattle.std.specs.Prelude.{◌≡◌, ◌∷◌, ◌++◌, ℕ, Bool, List, [], Option, Some, None, codes, map, nat_eq}
+use Rattle.std.specs.Prelude.{◌≡◌, ◌∷◌, ◌++◌, ◌==◌, ◌||◌, ℕ, Bool, List, [], Option, Some, None, codes, find, map}
+use Rattle.std.specs.Prelude.{if◌then◌else◌, nat_eq, ⊤}
 use Rattle.std.specs.Io.{StartsWith}
-use Rattle.std.specs.List.{after_first}
+use Rattle.std.specs.List.{after_first, concat, ends_with, slice_split}
+use Rattle.std.specs.Option.{option_or}
+use Rattle.std.specs.Str.{bytes_eq, str_to_ascii_lowercase}
 use Rattle.sixel_check.specs.declared.rule.Rule.TheVariants.{RasterFirst, RasterTwice, Ratio, BoxSize, Register}
 use Rattle.sixel_check.specs.declared.rule.Rule.TheVariants.{ColourValue, RepeatZero, Unselected, Undefined, Redefined}
 use Rattle.sixel_check.specs.declared.rule.Rule.TheVariants.{Outside, Uncovered, EightBit}
@@ -72,3 +75,44 @@ ListsNames (name ∷ more) text =
 abbrev pub IsExplanation : Option Topic → Text → Type 0
 IsExplanation None text = ListsNames listed_names text
 IsExplanation (Some topic) text = StartsWith text (topic_name topic ++ codes ": ")
+
+-- ---- which name a line asks for
+
+-- the words after `explain` as one line, in small letters and with a space before each word
+abbrev pub line_of : List Text → Text
+line_of said = str_to_ascii_lowercase (concat (map (λ word. codes " " ++ word) said))
+
+-- the listed name that is this word in small letters
+abbrev pub name_called : Text → Option Text
+name_called word = find (λ name. bytes_eq (str_to_ascii_lowercase name) word) listed_names
+
+-- the last of these words that is a name. In a line of the program only numbers and `at` follow the name, and before it
+-- there may be words of a file's name
+abbrev pub last_name : List Text → Option Text
+last_name [] = None
+last_name (word ∷ more) = option_or (last_name more) (name_called word)
+
+abbrev pub ends_in : Text → Text → Bool
+ends_in line text = ends_with (λ a b. a == b) line text
+
+-- the line says why a file couldn't be opened
+abbrev pub is_unopened : Text → Bool
+is_unopened line = ends_in line (codes " no such file") || (ends_in line (codes " permission denied")
+    || (ends_in line (codes " is a folder") || ends_in line (codes " name is not valid utf-8")))
+
+-- the name that explains the end of a line without a name
+abbrev pub name_of_end : Text → Option Text
+name_of_end line =
+    if ends_in line (codes " out of memory") then Some (topic_name OutOfMemory)
+    else if is_unopened line then Some (topic_name Read) else None
+
+-- the name that the line asks for: the one that explains its end, or else the last of its words that is a name
+abbrev pub name_in : Text → Option Text
+name_in line = option_or (name_of_end line) (last_name (slice_split (λ byte. byte == 32) line))
+
+-- these words after `explain` ask for this name; no words ask for the list of names
+abbrev pub Asks : Option (List Text) → Option Text → Type 0
+Asks None None = ⊤
+Asks None (Some name) = ⊥
+Asks (Some said) None = ⊥
+Asks (Some said) (Some name) = name_in (line_of said) ≡ Some name

@@ -24,7 +24,7 @@ use Rattle.sixel_run.specs.declared.task.Task.TheVariants as task
 use Rattle.sixel_words.specs.declared.explanations.Topic.{Topic}
 use Rattle.sixel_words.specs.declared.words.WordsFault.{WordsFault}
 use Rattle.sixel_words.specs.declared.words.WordsFault.TheVariants as fault
-use Rattle.sixel_words.specs.Explanations.{topic_name}
+use Rattle.sixel_words.specs.Explanations.{Asks, topic_name}
 
 -- ---- the commands
 
@@ -36,9 +36,9 @@ file = new_rule (codes "FILE")
 abbrev pub files : Rule
 files = record (new_rule (codes "FILE")) { action = Some Append }
 
--- the command with one more subcommand, which has no options
-abbrev pub with_file_only : App → Text → App
-with_file_only a name = with_subcommand a (with_rule (new_app name) file).top
+-- a subcommand without options
+abbrev pub plain_app : Text → App
+plain_app name = with_rule (new_app name) file
 
 -- `--name`, without a value
 abbrev pub flag : Text → Rule
@@ -57,9 +57,9 @@ side name fallback = record (new_rule name) {
   parser = Some (parser.Signed (pos 1) (pos most_screen_side));
 }
 
--- the command with one more subcommand, which has the option `--wide`
-abbrev pub with_profile : App → Text → App
-with_profile a name = with_subcommand a (with_rule (with_rule (new_app name) (flag (codes "wide"))) file).top
+-- a subcommand with the option `--wide`
+abbrev pub profiled_app : Text → App
+profiled_app name = with_rule (with_rule (new_app name) (flag (codes "wide"))) file
 
 -- `check`
 abbrev pub check_app : App
@@ -78,18 +78,19 @@ show_app =
     (flag (codes "box")))
     file
 
--- `explain`, with an optional name
+-- `explain`, with any number of words
 abbrev pub explain_app : App
-explain_app = with_rule (new_app (codes "explain")) (record (new_rule (codes "name")) { value_names = 1 })
+explain_app =
+    with_rule (new_app (codes "explain")) (record (new_rule (codes "name")) { action = Some Append; value_names = 1 })
 
--- `sixel`, with a version, and with a required subcommand
+-- `sixel`, with a version, and with a required subcommand; an option may be given again, and its last value counts
 abbrev pub sixel_app : App
 sixel_app =
-    with_subcommand (with_subcommand
-    (with_profile (with_profile (with_subcommand (with_file_only
-    (on_top (λ s. record s { has_version = true; subcommand_required = true }) (new_app (codes "sixel")))
-    (codes "list")) check_app.top) (codes "render")) (codes "encode"))
-    show_app.top) explain_app.top
+    with_subcommand (with_subcommand (with_subcommand (with_subcommand (with_subcommand (with_subcommand
+    (on_top (λ s. record s { has_version = true; subcommand_required = true; args_override_self = true })
+    (new_app (codes "sixel")))
+    (plain_app (codes "list")).top) check_app.top) (profiled_app (codes "render")).top)
+    (profiled_app (codes "encode")).top) show_app.top) explain_app.top
 
 -- the names of the subcommands
 abbrev pub subcommands : List Text
@@ -171,12 +172,12 @@ IsRequestOf words t is_quiet names = (name : Text) × (rows : List Row)
 -- the arguments ask for the explanation of this name, or without one for the list of names
 abbrev pub AsksFor : List Text → Option Text → Type 0
 AsksFor words name = (rows : List Row)
-    × (subcommand_of sixel_app words ≡ Some (codes "explain", rows)) × (first_of (codes "name") rows ≡ name)
+    × (subcommand_of sixel_app words ≡ Some (codes "explain", rows)) × Asks (all_of (codes "name") rows) name
 
 -- an explanation is the one that a subcommand with this name and these options asks for
 abbrev pub IsAskedIn : Text → List Row → WordsFault → Type 0
 IsAskedIn name rows (fault.Explanation topic) =
-    (name ≡ codes "explain") × (first_of (codes "name") rows ≡ option_map topic_name topic)
+    (name ≡ codes "explain") × Asks (all_of (codes "name") rows) (option_map topic_name topic)
 IsAskedIn name rows _ = ⊤
 
 -- an explanation is the one that these arguments ask for
@@ -200,9 +201,9 @@ IsSortedOut (fault.Help error) = (kind_of error ≡ kind.DisplayHelp) ⊎ (kind_
 IsSortedOut (fault.Explanation topic) = ⊤
 IsSortedOut fault.OutOfMemory = ⊤
 
--- an error that is shown is this one
+-- an error that is shown is of the same kind as this one, and help is this one
 abbrev pub HoldsError : Error → WordsFault → Type 0
-HoldsError error (fault.Usage held) = held ≡ error
+HoldsError error (fault.Usage held) = kind_of held ≡ kind_of error
 HoldsError error (fault.Help held) = held ≡ error
 HoldsError error _ = ⊤
 

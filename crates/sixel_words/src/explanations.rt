@@ -1,12 +1,15 @@
 //! What `explain` prints about rules and refusals.
 
 ghost use Rattle.std.specs.Prelude.{◌≡◌, IfSome, IsNone};
+ghost use Rattle.std.specs.Str.{str_to_ascii_lowercase};
 ghost use Rattle.sixel_words.specs.Explanations.{IsExplanation, topic_name};
 ghost use Rattle.sixel_words.specs.declared.explanations.Topic.{Topic as ATopic};
 
+mod lines;
 mod refusals;
 mod rules;
 
+pub use lines::{nearest, topic_asked};
 use refusals::{of_ppm_reason, of_reason, ppm_reason_named, reason_named};
 use rules::{of_rule, rule_named};
 use sixel_check::Rule;
@@ -28,10 +31,11 @@ pub enum Topic {
     Write,
 }
 
-/// The topic of this name. `Trailing` gives the one of sixel text; a PPM's has the same explanation.
-pub fn topic_named(name: &str) -> Option<Topic>
-    ensures found { IfSome result (λ topic. topic_name topic ≡ name.now) }
-    ensures none { IsNone result → (topic : ATopic) → topic_name topic ≡ name.now → ⊥ }
+/// The topic whose name this is in small letters. `trailing` gives the one of sixel text; a PPM's has the same
+/// explanation.
+fn topic_named(name: &str) -> Option<Topic>
+    ensures found { IfSome result (λ topic. str_to_ascii_lowercase (topic_name topic) ≡ name.now) }
+    ensures none { IsNone result → (topic : ATopic) → str_to_ascii_lowercase (topic_name topic) ≡ name.now → ⊥ }
 {
     match rule_named(name) {
         Some(rule) => Some(Topic::Rule(rule)),
@@ -40,11 +44,11 @@ pub fn topic_named(name: &str) -> Option<Topic>
             None => match ppm_reason_named(name) {
                 Some(reason) => Some(Topic::Ppm(reason)),
                 None => match name {
-                    "NotRgb" => Some(Topic::NotRgb),
-                    "NoBox" => Some(Topic::NoBox),
-                    "OutOfMemory" => Some(Topic::OutOfMemory),
-                    "Read" => Some(Topic::Read),
-                    "Write" => Some(Topic::Write),
+                    "notrgb" => Some(Topic::NotRgb),
+                    "nobox" => Some(Topic::NoBox),
+                    "outofmemory" => Some(Topic::OutOfMemory),
+                    "read" => Some(Topic::Read),
+                    "write" => Some(Topic::Write),
                     _ => None,
                 },
             },

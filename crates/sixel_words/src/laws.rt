@@ -1,8 +1,9 @@
 //! Laws about the definitions. Each function's contract is the law.
 
-ghost use Rattle.std.specs.Prelude.{◌≡◌, ◌∷◌, [], Contains, None, Some};
+ghost use Rattle.std.specs.Prelude.{◌≡◌, ◌∷◌, [], Contains, List, None, Some};
 ghost use Rattle.std.specs.Prelude.{codes, false, map, true};
-ghost use Rattle.sixel_model.specs.declared.profile.Profile.TheVariants.{Registers16};
+ghost use Rattle.std.specs.Str.{str_to_ascii_lowercase};
+ghost use Rattle.sixel_model.specs.declared.profile.Profile.TheVariants.{Registers16, Registers256};
 ghost use Rattle.sixel_check.specs.declared.rule.Rule.{Rule};
 ghost use Rattle.clap.specs.Takes.{takes};
 ghost use Rattle.clap.specs.declared.error.kind.ErrorKind.TheVariants.{DisplayHelp, DisplayVersion, MissingSubcommand};
@@ -10,10 +11,10 @@ ghost use Rattle.clap.specs.declared.error.kind.ErrorKind.TheVariants.{UnknownAr
 ghost use Rattle.sixel_words.specs.declared.explanations.Topic.{Topic};
 ghost use Rattle.sixel_run.specs.declared.fault.RunFault.{RunFault};
 ghost use Rattle.sixel_run.specs.declared.task.Task.{Task};
-ghost use Rattle.sixel_run.specs.declared.task.Task.TheVariants.{List as Listing, Show, ShowBox};
-ghost use Rattle.sixel_words.specs.Explanations.{listed_names, topic_name, topic_of};
+ghost use Rattle.sixel_run.specs.declared.task.Task.TheVariants.{Check, List as Listing, Show, ShowBox};
+ghost use Rattle.sixel_words.specs.Explanations.{line_of, listed_names, name_in, topic_name, topic_of};
 ghost use Rattle.sixel_run.specs.Texts.{Text, rule_name};
-ghost use Rattle.sixel_words.specs.Words.{AsksFor, IsTaskOf, kinds_of, sixel_app, subcommands};
+ghost use Rattle.sixel_words.specs.Words.{AsksFor, IsRequestOf, IsTaskOf, kinds_of, sixel_app, subcommands};
 
 /// The command line `sixel list` is accepted, and asks for the task `List`.
 pub fn the_word_list_gives_a_list()
@@ -52,12 +53,27 @@ pub fn the_word_help_asks_for_help()
 {}
 
 /// Without arguments, with an unknown option and with a side of 0, clap finds a usage error and no request for help.
+/// That `list --wide` names the task `List` doesn't help it.
 pub fn wrong_words_ask_for_no_help()
     ensures none { (program : Text) → kinds_of (program ∷ []) ≡ MissingSubcommand ∷ [] }
     ensures unknown { (program : Text) →
         kinds_of (program ∷ codes "list" ∷ codes "--wide" ∷ []) ≡ UnknownArgument ∷ [] }
+    ensures named { (words : List Text) (program : Text) →
+        words ≡ program ∷ codes "list" ∷ codes "--wide" ∷ [] → IsTaskOf words Listing }
     ensures side { (program : Text) →
         kinds_of (program ∷ codes "show" ∷ codes "--width" ∷ codes "0" ∷ []) ≡ ValueValidation ∷ [] }
+{}
+
+/// A flag may be given again. Of a number that is given again, the last counts.
+pub fn an_option_may_come_again()
+    ensures taken { (program : Text) → takes sixel_app (program ∷ codes "check" ∷ codes "-q" ∷ codes "--wide"
+        ∷ codes "--quiet" ∷ codes "--wide" ∷ []) ≡ true }
+    ensures request { (program : Text) → IsRequestOf (program ∷ codes "check" ∷ codes "-q" ∷ codes "--wide"
+        ∷ codes "--quiet" ∷ codes "--wide" ∷ []) (Check Registers256) true [] }
+    ensures number_taken { (program : Text) → takes sixel_app (program ∷ codes "show" ∷ codes "--width" ∷ codes "3"
+        ∷ codes "--width" ∷ codes "2" ∷ []) ≡ true }
+    ensures number { (program : Text) → IsTaskOf (program ∷ codes "show" ∷ codes "--width" ∷ codes "3"
+        ∷ codes "--width" ∷ codes "2" ∷ []) (Show Registers16 false false false 2 480) }
 {}
 
 /// `explain` lists the name of each rule and of each fault of a run.
@@ -78,4 +94,11 @@ pub fn each_name_can_be_asked_for()
         takes sixel_app (program ∷ codes "explain" ∷ topic_name topic ∷ []) ≡ true }
     ensures asked { (program : Text) (topic : Topic) →
         AsksFor (program ∷ codes "explain" ∷ topic_name topic ∷ []) (Some (topic_name topic)) }
+{}
+
+/// `explain` takes a name in any case of letters.
+pub fn a_name_may_be_in_any_case()
+    ensures { (topic : Topic) (word : Text) →
+        str_to_ascii_lowercase word ≡ str_to_ascii_lowercase (topic_name topic) →
+        name_in (line_of (word ∷ [])) ≡ Some (topic_name topic) }
 {}

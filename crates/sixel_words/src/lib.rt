@@ -2,12 +2,14 @@
 #![tactic(auto)]
 
 mod arguments;
+mod commands;
 mod explanations;
 pub mod laws;
 mod request;
+mod usage_errors;
 mod words;
 
-pub use arguments::task_in;
+pub use arguments::{arguments_of, task_in};
 pub use explanations::{Topic, explanation};
 pub use request::Request;
 pub use words::{WordsFault, parse_request, parse_words};

@@ -2,4 +2,8 @@
 #![tactic(auto)]
 
 #[cfg(test)]
+mod arguments;
+#[cfg(test)]
+mod explain;
+#[cfg(test)]
 mod words;

@@ -22,7 +22,7 @@ fn told(alloc: Global, fault: WordsFault) -> Result<String, AllocError> {
     }
 }
 
-fn answered(alloc: Global, answer: Result<Request, WordsFault>) -> Result<String, AllocError> {
+pub fn answered(alloc: Global, answer: Result<Request, WordsFault>) -> Result<String, AllocError> {
     match answer {
         Ok(request) => format!(in alloc; "{request:?}"),
         Err(fault) => told(alloc, fault),
@@ -38,7 +38,7 @@ fn said(alloc: Global, line: &str) -> Result<String, AllocError> {
 /// What they come to as the arguments of the process.
 fn said_in(alloc: Global, line: &str) -> Result<String, AllocError> {
     let words = words_of(alloc, line)?;
-    answered(alloc, task_in(alloc, Ok(words.into_iter())))
+    answered(alloc, task_in(alloc, Ok(words)))
 }
 
 /// The text of the answer of `parse_words`, which is only the task.
@@ -51,7 +51,7 @@ fn task_said(alloc: Global, line: &str) -> Result<String, AllocError> {
 }
 
 /// Whether the words come to this text, as arguments too.
-fn says(rt: &HostRuntime, line: &str, text: &str) -> Result<bool, Fail> {
+pub fn says(rt: &HostRuntime, line: &str, text: &str) -> Result<bool, Fail> {
     Ok(said(rt.alloc(), line)?.as_str() == text && said_in(rt.alloc(), line)?.as_str() == text)
 }
 
@@ -71,7 +71,7 @@ fn asks(
 }
 
 /// Whether the command line is refused with this text and clap's last sentence.
-fn refuses(rt: &HostRuntime, line: &str, text: &str) -> Result<bool, Fail> {
+pub fn refuses(rt: &HostRuntime, line: &str, text: &str) -> Result<bool, Fail> {
     let more = "\n\nFor more information, try '--help'.\n";
     let whole = format!(in rt.alloc(); "{text}{more}")?;
     Ok(says(rt, line, whole.as_str())? && task_said(rt.alloc(), line)? == whole)
@@ -87,6 +87,18 @@ fn names_the_task(rt: HostRuntime) -> Result<(), Fail> {
         ("sixel render --wide", "Render { profile: Registers256 }"),
         ("sixel encode", "Encode { profile: Registers16 }"),
         ("sixel encode --wide", "Encode { profile: Registers256 }"),
+        (
+            "sixel check --wide --wide",
+            "Check { profile: Registers256 }",
+        ),
+        (
+            "sixel show --width 3 --height 1 --fill --width 2 --fill",
+            "Show { profile: Registers16, showing: false, fill: true, selects: false, width: 2, height: 1 }",
+        ),
+        (
+            "sixel show --box --box",
+            "ShowBox { profile: Registers16, showing: false, fill: false, selects: false }",
+        ),
         (
             "sixel show --width 2 --height 1",
             "Show { profile: Registers16, showing: false, fill: false, selects: false, width: 2, height: 1 }",
@@ -158,6 +170,9 @@ fn names_the_files_to_check(rt: HostRuntime) -> Result<(), Fail> {
         ),
         ("sixel check -q", true, "[]"),
         ("sixel check --quiet", true, "[]"),
+        ("sixel check -q -q", true, "[]"),
+        ("sixel check -qq", true, "[]"),
+        ("sixel check -q a --quiet", true, "[\"a\"]"),
         ("sixel check -q a", true, "[\"a\"]"),
         ("sixel check --quiet a b", true, "[\"a\", \"b\"]"),
         ("sixel check a -q -", true, "[\"a\", \"-\"]"),
@@ -252,27 +267,31 @@ fn refuses_other_words(rt: HostRuntime) -> Result<(), Fail> {
         ("sixel list -q a", NOT_QUIET),
         (
             "sixel list a b",
-            "usage error: unexpected argument 'b' found\n\nUsage: sixel list [FILE]",
+            "usage error: unexpected argument 'b' found\n\n  tip: 'list' reads one file; only 'check' reads several\n\nUsage: sixel list [FILE]",
         ),
         (
             "sixel render a b",
-            "usage error: unexpected argument 'b' found\n\nUsage: sixel render [OPTIONS] [FILE]",
+            "usage error: unexpected argument 'b' found\n\n  tip: 'render' reads one file; only 'check' reads several\n\nUsage: sixel render [OPTIONS] [FILE]",
         ),
         (
             "sixel encode --wide a b",
-            "usage error: unexpected argument 'b' found\n\nUsage: sixel encode [OPTIONS] [FILE]",
+            "usage error: unexpected argument 'b' found\n\n  tip: 'encode' reads one file; only 'check' reads several\n\nUsage: sixel encode [OPTIONS] [FILE]",
         ),
         (
             "sixel show a b",
-            "usage error: unexpected argument 'b' found\n\nUsage: sixel show [OPTIONS] [FILE]",
+            "usage error: unexpected argument 'b' found\n\n  tip: 'show' reads one file; only 'check' reads several\n\nUsage: sixel show [OPTIONS] [FILE]",
         ),
         (
-            "sixel explain ratio",
-            "usage error: no rule or refusal has this name; 'sixel explain' lists the names\n\nUsage: sixel explain [NAME]",
+            "sixel list a -x",
+            "usage error: unexpected argument '-x' found\n\n  tip: to pass '-x' as a value, use '-- -x'\n\nUsage: sixel list [FILE]",
         ),
         (
-            "sixel explain Ratio BoxSize",
-            "usage error: unexpected argument 'BoxSize' found\n\nUsage: sixel explain [NAME]",
+            "sixel hi.six",
+            "usage error: unrecognized subcommand 'hi.six'\n\n  tip: to check a file, use 'sixel check hi.six'\n\nUsage: sixel <COMMAND>",
+        ),
+        (
+            "sixel plots/hi --wide",
+            "usage error: unrecognized subcommand 'plots/hi'\n\n  tip: to check a file, use 'sixel check plots/hi'\n\nUsage: sixel <COMMAND>",
         ),
         (
             "sixel show --width 0",
@@ -471,51 +490,6 @@ Example: sixel show --wide --box plot.six > plot.ppm
 ";
     for line in ["sixel show --help", "sixel help show"] {
         assert!(rt; says(&rt, line, show)?, "{line}");
-    }
-    Ok(())
-}
-
-/// A name in the line of `check` or of a fault is also the name of its explanation.
-#[test]
-fn asks_for_an_explanation(rt: HostRuntime) -> Result<(), Fail> {
-    let rows = [
-        ("sixel explain", "explain None"),
-        ("sixel explain Ratio", "explain Some(Rule(Ratio))"),
-        ("sixel explain EightBit", "explain Some(Rule(EightBit))"),
-        ("sixel explain BadByte", "explain Some(Grammar(BadByte))"),
-        ("sixel explain Trailing", "explain Some(Grammar(Trailing))"),
-        ("sixel explain Short", "explain Some(Ppm(Short))"),
-        ("sixel explain OutOfMemory", "explain Some(OutOfMemory)"),
-    ];
-    for (line, asked) in rows {
-        assert!(rt; says(&rt, line, asked)?, "{line}");
-    }
-    Ok(())
-}
-
-#[test]
-fn shows_the_name_of_explain(rt: HostRuntime) -> Result<(), Fail> {
-    let explain = "help Explains a rule or a refusal by its name, or lists all names
-
-Usage: sixel explain [NAME]
-
-Arguments:
-  [NAME]  The name in the verdict or the error line, such as Uncovered or FieldCount
-
-Options:
-  -h, --help  Print help
-
-Reads nothing. Writes to standard output what the rule or the refusal means,
-what breaks it and how to fix it; without NAME, one line for each name. For
-`out of memory`, `read failed` and `write failed` the names are OutOfMemory,
-Read and Write.
-
-Exit status: 0 done, 2 output failed, 3 usage error or unknown name.
-
-Example: sixel explain Uncovered
-";
-    for line in ["sixel explain --help", "sixel help explain"] {
-        assert!(rt; says(&rt, line, explain)?, "{line}");
     }
     Ok(())
 }

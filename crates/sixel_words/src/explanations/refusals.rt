@@ -2,6 +2,7 @@
 
 ghost use Rattle.std.specs.Prelude.{◌≡◌, ◌++◌, IfSome, IsNone, codes};
 ghost use Rattle.std.specs.Io.{StartsWith};
+ghost use Rattle.std.specs.Str.{str_to_ascii_lowercase};
 ghost use Rattle.sixel_grammar.specs.declared.fault.Reason.{Reason as AReason};
 ghost use Rattle.sixel_ppm.specs.declared.ppm.PpmReason.{PpmReason as APpmReason};
 ghost use Rattle.sixel_run.specs.Texts.{ppm_reason_name, reason_name};
@@ -9,38 +10,38 @@ ghost use Rattle.sixel_run.specs.Texts.{ppm_reason_name, reason_name};
 use sixel_grammar::Reason;
 use sixel_ppm::PpmReason;
 
-/// The reason of this name for refusing sixel text.
+/// The reason for refusing sixel text whose name this is in small letters.
 pub fn reason_named(name: &str) -> Option<Reason>
-    ensures found { IfSome result (λ reason. reason_name reason ≡ name.now) }
-    ensures none { IsNone result → (reason : AReason) → reason_name reason ≡ name.now → ⊥ }
+    ensures found { IfSome result (λ reason. str_to_ascii_lowercase (reason_name reason) ≡ name.now) }
+    ensures none { IsNone result → (reason : AReason) → str_to_ascii_lowercase (reason_name reason) ≡ name.now → ⊥ }
 {
     match name {
-        "NotSixel" => Some(Reason::NotSixel),
-        "BadByte" => Some(Reason::BadByte),
-        "NumberTooLarge" => Some(Reason::NumberTooLarge),
-        "FieldCount" => Some(Reason::FieldCount),
-        "BadRepeat" => Some(Reason::BadRepeat),
-        "BadTerminator" => Some(Reason::BadTerminator),
-        "Truncated" => Some(Reason::Truncated),
-        "TooLong" => Some(Reason::TooLong),
-        "Trailing" => Some(Reason::Trailing),
+        "notsixel" => Some(Reason::NotSixel),
+        "badbyte" => Some(Reason::BadByte),
+        "numbertoolarge" => Some(Reason::NumberTooLarge),
+        "fieldcount" => Some(Reason::FieldCount),
+        "badrepeat" => Some(Reason::BadRepeat),
+        "badterminator" => Some(Reason::BadTerminator),
+        "truncated" => Some(Reason::Truncated),
+        "toolong" => Some(Reason::TooLong),
+        "trailing" => Some(Reason::Trailing),
         _ => None,
     }
 }
 
-/// The reason of this name for refusing a PPM.
+/// The reason for refusing a PPM whose name this is in small letters.
 pub fn ppm_reason_named(name: &str) -> Option<PpmReason>
-    ensures found { IfSome result (λ reason. ppm_reason_name reason ≡ name.now) }
-    ensures none { IsNone result → (reason : APpmReason) → ppm_reason_name reason ≡ name.now → ⊥ }
+    ensures found { IfSome result (λ reason. str_to_ascii_lowercase (ppm_reason_name reason) ≡ name.now) }
+    ensures none { IsNone result → (reason : APpmReason) → str_to_ascii_lowercase (ppm_reason_name reason) ≡ name.now → ⊥ }
 {
     match name {
-        "Header" => Some(PpmReason::Header),
-        "Size" => Some(PpmReason::Size),
-        "Maxval" => Some(PpmReason::Maxval),
-        "Sample" => Some(PpmReason::Sample),
-        "Short" => Some(PpmReason::Short),
-        "Trailing" => Some(PpmReason::Trailing),
-        "TooManyColours" => Some(PpmReason::TooManyColours),
+        "header" => Some(PpmReason::Header),
+        "size" => Some(PpmReason::Size),
+        "maxval" => Some(PpmReason::Maxval),
+        "sample" => Some(PpmReason::Sample),
+        "short" => Some(PpmReason::Short),
+        "trailing" => Some(PpmReason::Trailing),
+        "toomanycolours" => Some(PpmReason::TooManyColours),
         _ => None,
     }
 }
@@ -79,14 +80,18 @@ pub fn of_ppm_reason(reason: PpmReason) -> &'static str
 
 const NOT_SIXEL: &str = "NotSixel: input that doesn't start like a sixel string
 
-Refused: input that doesn't start with ESC P (or the byte 90), at most three
-numbers and q. TAB, LF, CR and SP may come first.
+Refused: input that doesn't start with ESC P (or the byte 90, in hexadecimal),
+at most three numbers and q. TAB, LF, CR and SP may come first.
 
 String: ESC P p ESC \\
 Output of check: sixel: NotSixel at 2
 
 Fix: remove what comes before the string. It starts with its ESC P, and q
 follows its numbers.
+
+Programs: img2sixel without -P, and with -S for an animation; gnuplot's sixelgd
+without animate. mpv always writes other escape sequences first. More:
+docs/RECIPES.md.
 ";
 
 const BAD_BYTE: &str = "BadByte: unexpected byte
@@ -108,7 +113,8 @@ Refused: a number above 65,535.
 String: ESC P q !65536~ ESC \\
 Output of check: sixel: NumberTooLarge at 8
 
-Fix: split a long repeat into several.
+Fix: split a long repeat into several. A picture needs no such number elsewhere:
+registers go up to 255, and widths and heights up to 2,048.
 ";
 
 const FIELD_COUNT: &str = "FieldCount: too many or too few numbers in a command
@@ -171,6 +177,10 @@ String: ESC P q ESC \\ x
 Output of check: sixel: Trailing at 5
 
 Fix: pass one string, or one PPM, at a time.
+
+Programs: pass one file to img2sixel or chafa, and one plot to gnuplot. Of an
+animation, img2sixel -S, chafa --animate off and ImageMagick FILE[0] write one
+picture. More: docs/RECIPES.md.
 ";
 
 const HEADER: &str = "Header: not a valid P6 header
@@ -229,8 +239,9 @@ percentages. The offset is that of the first sample of the first pixel in the
 String: P6 17 1 100 000111222333444555666777888999:::;;;<<<===>>>???@@@
 Output of encode: sixel: TooManyColours at 60
 
-Fix: reduce the picture to 16 colours first, for example by pnmquant 16; or to
-256, and use --wide.
+Fix: reduce the picture to 16 colours first, for example by pnmquant 16. With
+--wide, pnmquant 256 is enough: then the text is for terminals with 256
+registers or more, and check needs --wide too.
 ";
 
 const SHORT: &str = "Short: a PPM that ends before its last sample
@@ -278,10 +289,13 @@ Fix: try again when other programs have freed memory.
 pub const READ: &str = "Read: input that couldn't be opened or read
 
 Refused: the input, or a named file, couldn't be opened or read. The line is
-sixel: read failed; with a file, it has the name too.
+sixel: read failed; with a file, it has the name too. If a file can't be opened,
+the line may say why in place of read failed: no such file, permission denied,
+is a folder, or name is not valid UTF-8.
 
 Fix: check that the file exists under that name, that you may read it, and that
-it is no folder.
+it is no folder. If its name isn't valid UTF-8, rename it or pass the file to
+standard input.
 ";
 
 pub const WRITE: &str = "Write: output that couldn't be written

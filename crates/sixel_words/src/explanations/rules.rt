@@ -2,30 +2,31 @@
 
 ghost use Rattle.std.specs.Prelude.{◌≡◌, ◌++◌, IfSome, IsNone, codes};
 ghost use Rattle.std.specs.Io.{StartsWith};
+ghost use Rattle.std.specs.Str.{str_to_ascii_lowercase};
 ghost use Rattle.sixel_check.specs.declared.rule.Rule.{Rule as ARule};
 ghost use Rattle.sixel_run.specs.Texts.{rule_name};
 
 use sixel_check::Rule;
 
-/// The rule with this name.
+/// The rule whose name this is in small letters.
 pub fn rule_named(name: &str) -> Option<Rule>
-    ensures found { IfSome result (λ rule. rule_name rule ≡ name.now) }
-    ensures none { IsNone result → (rule : ARule) → rule_name rule ≡ name.now → ⊥ }
+    ensures found { IfSome result (λ rule. str_to_ascii_lowercase (rule_name rule) ≡ name.now) }
+    ensures none { IsNone result → (rule : ARule) → str_to_ascii_lowercase (rule_name rule) ≡ name.now → ⊥ }
 {
     match name {
-        "RasterFirst" => Some(Rule::RasterFirst),
-        "RasterTwice" => Some(Rule::RasterTwice),
-        "Ratio" => Some(Rule::Ratio),
-        "BoxSize" => Some(Rule::BoxSize),
-        "Register" => Some(Rule::Register),
-        "ColourValue" => Some(Rule::ColourValue),
-        "RepeatZero" => Some(Rule::RepeatZero),
-        "Unselected" => Some(Rule::Unselected),
-        "Undefined" => Some(Rule::Undefined),
-        "Redefined" => Some(Rule::Redefined),
-        "Outside" => Some(Rule::Outside),
-        "Uncovered" => Some(Rule::Uncovered),
-        "EightBit" => Some(Rule::EightBit),
+        "rasterfirst" => Some(Rule::RasterFirst),
+        "rastertwice" => Some(Rule::RasterTwice),
+        "ratio" => Some(Rule::Ratio),
+        "boxsize" => Some(Rule::BoxSize),
+        "register" => Some(Rule::Register),
+        "colourvalue" => Some(Rule::ColourValue),
+        "repeatzero" => Some(Rule::RepeatZero),
+        "unselected" => Some(Rule::Unselected),
+        "undefined" => Some(Rule::Undefined),
+        "redefined" => Some(Rule::Redefined),
+        "outside" => Some(Rule::Outside),
+        "uncovered" => Some(Rule::Uncovered),
+        "eightbit" => Some(Rule::EightBit),
         _ => None,
     }
 }
@@ -105,6 +106,9 @@ Output of check: broken BoxSize 3
 
 Fix: declare the size. Scale a larger picture down, or cut it into several
 strings.
+
+Programs: gnuplot's sixeltek and ppmtosixel declare no size. Use gnuplot's
+sixelgd, and sixel encode in place of ppmtosixel. More: docs/RECIPES.md.
 ";
 
 const REGISTER: &str = "Register: a register above 15, or above 255 with --wide
@@ -122,6 +126,9 @@ Output of check: broken Register 3
 Fix: reduce the picture to 16 colours and number them from 0. Or check with
 --wide, if the picture is meant only for terminals with 256 registers or more:
 the promise then covers only these.
+
+Programs: img2sixel -p 16, chafa -c 16, ImageMagick -colors 16, and gnuplot's
+sixelgd without truecolor. More: docs/RECIPES.md.
 ";
 
 const COLOUR_VALUE: &str =
@@ -167,6 +174,8 @@ Output of check: broken Unselected 11
 
 Fix: select a register after the last definition, and again after each later
 one.
+
+Programs: img2sixel breaks it with -e. Use -p 2 instead. More: docs/RECIPES.md.
 ";
 
 const UNDEFINED: &str = "Undefined: painting in a register that is not defined yet
@@ -195,6 +204,8 @@ Output of check: broken Redefined 24
 
 Fix: give the second colour its own register. A picture has at most 16 colours,
 or 256 with --wide.
+
+Programs: img2sixel breaks it with -I. Use -p 16 instead. More: docs/RECIPES.md.
 ";
 
 const OUTSIDE: &str = "Outside: a set bit outside the box
@@ -212,6 +223,9 @@ Output of check: broken Outside 23 0 1
 Fix: declare the true size. If the height is no multiple of six, clear the bits
 below the last row: here ~ sets six rows in a box of one, and @ sets only the
 first.
+
+Programs: img2sixel paints below a picture of fewer than six rows. Use sixel
+encode or ImageMagick. More: docs/RECIPES.md.
 ";
 
 const UNCOVERED: &str = "Uncovered: a pixel of the box that no set bit covers, at the terminator
@@ -227,14 +241,18 @@ Output of check: broken Uncovered 11 0 0
 
 Fix: paint the background too, in a colour of its own. A picture with
 transparent pixels can't be portable.
+
+Programs: chafa -t 1, and gnuplot's sixelgd without transparent. ImageMagick
+puts a colour under the picture by -background white -flatten. More:
+docs/RECIPES.md.
 ";
 
 const EIGHT_BIT: &str = "EightBit: the byte 90 as the introducer, or 9C as the terminator
 
 Broken by an introducer that is the byte 90, and by a terminator that is the
-byte 9C. These are the 8-bit controls for ESC P and ESC \\. No pixel is named.
-This is the last rule, so RasterFirst and Uncovered come before it at a
-terminator.
+byte 9C, both in hexadecimal. These are the 8-bit controls for ESC P and ESC \\.
+No pixel is named. This is the last rule, so RasterFirst and Uncovered come
+before it at a terminator.
 
 Terminals without 8-bit controls don't see where the string starts, or where it
 ends, and show nothing of it. In UTF-8 these bytes are parts of characters, and
@@ -246,4 +264,7 @@ String: 90 q ESC \\
 Output of check: broken EightBit 0
 
 Fix: write ESC P and ESC \\.
+
+Programs: img2sixel without -8. ppmtosixel has no option for it: use sixel
+encode. More: docs/RECIPES.md.
 ";

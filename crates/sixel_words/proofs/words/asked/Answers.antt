@@ -1,41 +1,50 @@
-use Rattle.std.proofs.Common.{◌≡◌, ◌∙◌, Some, None, codes, refl, sym}
-use Rattle.clap.specs.Walk.{first_of, rows_of}
+use Rattle.std.proofs.Common.{◌≡◌, ◌∙◌, List, Option, Some, None, codes, map, refl, subst, sym}
+use Rattle.std.specs.Prelude.{option_map}
+use Rattle.clap.specs.Walk.{Text, all_of, rows_of}
 use Rattle.clap.specs.Matches.{found_of}
-use Rattle.clap.proofs.WalkLemmas.{first_value-rows}
-use Rattle.sixel_words.proofs.ExplainLemmas.{by_name, refused_unhelped}
+use Rattle.clap.proofs.WalkLemmas.{raw_values-rows}
+use Rattle.sixel_words.specs.Explanations.{Asks, topic_name}
+use Rattle.sixel_words.proofs.ExplainLemmas.{none_asked, none_said, one_asked, refused_unhelped}
 use Rattle.sixel_words.proofs.words.asked.Goals as goal
 use Rattle.sixel_words.proofs.words.asked.Goals.{In-None, In-Some}
 
-unnamed : (c : In-None) → first_of (codes "name") (rows_of (found_of c.args.matches.now)) ≡ None
-unnamed c = sym (first_value-rows (found_of c.args.matches.now) (codes "name")) ∙ sym c.in-None.ensures
+unsaid : (c : In-None) → all_of (codes "name") (rows_of (found_of c.args.matches.now)) ≡ None
+unsaid c = sym (raw_values-rows (found_of c.args.matches.now) (codes "name")) ∙ sym c.in-None.ensures
 
-named : (c : In-Some) → first_of (codes "name") (rows_of (found_of c.args.matches.now)) ≡ Some c.in-Some.name.now
-named c = sym (first_value-rows (found_of c.args.matches.now) (codes "name")) ∙ sym c.in-Some.ensures
+said : (c : In-Some) → all_of (codes "name") (rows_of (found_of c.args.matches.now))
+    ≡ Some (map (λ word. word.now) c.in-Some.said.now)
+said c = sym (raw_values-rows (found_of c.args.matches.now) (codes "name")) ∙ sym c.in-Some.ensures
 
 pub returns-in-None-clause-asked : goal.returns-in-None-clause-asked
-returns-in-None-clause-asked c = (refl, unnamed (goal.at.returns-in-None-clause-asked c).In-None)
+returns-in-None-clause-asked c =
+    (refl, rw (unsaid (goal.at.returns-in-None-clause-asked c).In-None) tt)
 
 pub returns-in-None-clause-explained : goal.returns-in-None-clause-explained
-returns-in-None-clause-explained c = λ topic is. sym (unnamed (goal.at.returns-in-None-clause-explained c).In-None) ∙ is
+returns-in-None-clause-explained c = λ topic is.
+    none_said topic (subst (λ (o : Option (List Text)). Asks o (option_map topic_name topic))
+    (unsaid (goal.at.returns-in-None-clause-explained c).In-None) is)
 
-pub returns-in-Some-topic_named-clause-asked : goal.returns-in-Some-topic_named-clause-asked
-returns-in-Some-topic_named-clause-asked c =
-    rw c.in-Some-topic_named.ensures.found (refl, named (goal.at.returns-in-Some-topic_named-clause-asked c).In-Some)
+pub returns-in-Ok-Some-clause-asked : goal.returns-in-Ok-Some-clause-asked
+returns-in-Ok-Some-clause-asked c = (
+  refl,
+  subst (λ (o : Option (List Text)). Asks o (Some (topic_name c.in-Ok-Some.topic)))
+      (sym (said (goal.at.returns-in-Ok-Some-clause-asked c).In-Some))
+      (rw c.in-Ok-Some.field-0-is at c.in-Ok-Some.ensures),
+)
 
-pub returns-in-Some-topic_named-clause-explained :
-    goal.returns-in-Some-topic_named-clause-explained
-returns-in-Some-topic_named-clause-explained c = λ topic is.
-    rw c.in-Some-topic_named.ensures.found
-    (sym (named (goal.at.returns-in-Some-topic_named-clause-explained c).In-Some) ∙ is)
+pub returns-in-Ok-Some-clause-explained : goal.returns-in-Ok-Some-clause-explained
+returns-in-Ok-Some-clause-explained c = λ topic is.
+    one_asked (map (λ word. word.now) c.in-Some.said.now) c.in-Ok-Some.topic topic
+    (rw c.in-Ok-Some.field-0-is at c.in-Ok-Some.ensures)
+    (subst (λ (o : Option (List Text)). Asks o (option_map topic_name topic))
+    (said (goal.at.returns-in-Ok-Some-clause-explained c).In-Some) is)
 
-pub returns-in-None-topic_named-clause-explained :
-    goal.returns-in-None-topic_named-clause-explained
-returns-in-None-topic_named-clause-explained c = λ topic is.
-    absurd (by_name topic c.in-Some.name.now
-    (sym (named (goal.at.returns-in-None-topic_named-clause-explained c).In-Some) ∙ is)
-    (c.in-None-topic_named.ensures.none refl))
+pub returns-in-Ok-None-clause-explained : goal.returns-in-Ok-None-clause-explained
+returns-in-Ok-None-clause-explained c = λ topic is.
+    absurd (none_asked (map (λ word. word.now) c.in-Some.said.now) topic
+    (rw c.in-Ok-None.field-0-is at c.in-Ok-None.ensures)
+    (subst (λ (o : Option (List Text)). Asks o (option_map topic_name topic))
+    (said (goal.at.returns-in-Ok-None-clause-explained c).In-Some) is))
 
-pub returns-in-None-topic_named-clause-unhelped :
-    goal.returns-in-None-topic_named-clause-unhelped
-returns-in-None-topic_named-clause-unhelped c =
-    refused_unhelped c.unexplained.result c.unexplained.ensures.refusal
+pub returns-in-Ok-None-clause-unhelped : goal.returns-in-Ok-None-clause-unhelped
+returns-in-Ok-None-clause-unhelped c = refused_unhelped c.unexplained.result c.unexplained.ensures.refusal

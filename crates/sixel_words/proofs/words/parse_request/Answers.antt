@@ -119,18 +119,18 @@ returns c =
     let none : (t : Task) → IsTaskOf words t → ⊥ = λ t is. not_some _ (is.0, is.1) unmet is.2 in
     let unwished : (topic : Option Topic) → AsksFor words (option_map topic_name topic) → ⊥ =
     λ topic asks. not_some _ (codes "explain", asks.0) unmet asks.1 in
-    let unhelped = refused_unhelped c.usage.result c.usage.ensures.refusal in
+    let unhelped = refused_unhelped c.unnamed.result c.unnamed.ensures.refusal in
     record {
       task = tt;
       request = tt;
       sides = tt;
       taken = tt;
       fault = record {
-        sorted = c.usage.ensures.sorted;
-        found = found_in_taken words c.usage.result (taken_by (goal.at.returns c).In-Ok-try_get_matches_from) unhelped
+        sorted = c.unnamed.ensures.sorted;
+        found = found_in_taken words c.unnamed.result (taken_by (goal.at.returns c).In-Ok-try_get_matches_from) unhelped
             none (λ topic asks. absurd (unwished topic asks));
         accepted = λ taken t is. absurd (none t is);
-        asked = refused_unasked words c.usage.result c.usage.ensures.refusal;
+        asked = refused_unasked words c.unnamed.result c.unnamed.ensures.refusal;
         explained = λ taken topic asks. absurd (unwished topic asks);
         unhelped = λ taken. unhelped;
       };

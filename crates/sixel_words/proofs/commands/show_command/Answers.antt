@@ -1,0 +1,20 @@
+use Rattle.std.proofs.Common.{codes}
+use Rattle.std.proofs.lemmas.Result.{IfOk-weaker}
+use Rattle.sixel_words.specs.Words.{show_app}
+use Rattle.sixel_words.proofs.CommandLemmas.{ReadsAs, app_says, begun, local_says, with_arg}
+use Rattle.sixel_words.proofs.commands.show_command.Goals as goal
+
+pub returns : goal.returns
+returns c =
+    let new = begun (codes "show") c.new.result c.about.result c.after_help.result _ _ c.new.ensures.app
+    c.new.ensures.local c.about.ensures c.after_help.ensures in
+    let wide = with_arg new c.wide_arg.ensures.rule c.wide_arg.ensures.local c.in_ok-arg.ensures in
+    let showing = with_arg wide c.flag_arg.ensures.rule c.flag_arg.ensures.local c.in_ok-arg-2.ensures in
+    let fill = with_arg showing c.flag_arg-2.ensures.rule c.flag_arg-2.ensures.local c.in_ok-arg-3.ensures in
+    let selects = with_arg fill c.flag_arg-3.ensures.rule c.flag_arg-3.ensures.local c.in_ok-arg-4.ensures in
+    let width = with_arg selects c.side_arg.ensures.rule c.side_arg.ensures.local c.in_ok-arg-5.ensures in
+    let height = with_arg width c.side_arg-2.ensures.rule c.side_arg-2.ensures.local c.in_ok-arg-6.ensures in
+    let box = with_arg height c.flag_arg-4.ensures.rule c.flag_arg-4.ensures.local c.in_ok-arg-7.ensures in
+    let whole = IfOk-weaker c.arg-8.result _ (ReadsAs show_app)
+    (λ r h. with_arg box c.file_arg.ensures.rule c.file_arg.ensures.local h) c.arg-8.ensures in
+    record { app = app_says show_app c.arg-8.result whole; local = local_says show_app c.arg-8.result whole }

@@ -1,0 +1,40 @@
+use Rattle.std.proofs.Common.{arith, codes, refl}
+use Rattle.clap.proofs.OnLiterals.{clap_on_literals}
+use Rattle.clap.specs.Takes.{walk_passes}
+use Rattle.clap.specs.Walk.{walked}
+use Rattle.sixel_words.specs.Words.{IsSideText}
+use Rattle.sixel_words.proofs.laws.an_option_may_come_again.Goals as goal
+
+-- the number that is given last
+two : IsSideText (codes "2") 2
+two = record { numeral = (omega arith, (omega arith, tt)); value = refl; least = omega arith; most = omega arith }
+
+-- the default
+high : IsSideText (codes "480") 480
+high = record {
+  numeral = (omega arith, (omega arith, (omega arith, (omega arith, tt))));
+  value = refl;
+  least = omega arith;
+  most = omega arith;
+}
+
+pub returns-clause-taken : goal.returns-clause-taken
+unfolding clap_on_literals
+returns-clause-taken c = λ program. refl
+
+pub returns-clause-request : goal.returns-clause-request
+unfolding clap_on_literals
+returns-clause-request c = λ program. (codes "check", _, refl, (refl, refl), refl, refl)
+
+pub returns-clause-number_taken : goal.returns-clause-number_taken
+unfolding walked walk_passes
+returns-clause-number_taken c = λ program. refl
+
+pub returns-clause-number : goal.returns-clause-number
+unfolding walked
+returns-clause-number c = λ program. (
+  codes "show",
+  _,
+  refl,
+  (refl, refl, refl, refl, refl, refl, (codes "2", refl, two), (codes "480", refl, high)),
+)

@@ -1,0 +1,192 @@
+//! The subcommands and their options, as clap's commands.
+
+ghost use Rattle.std.specs.Prelude.{◌≡◌, IfOk, codes, false};
+ghost use Rattle.clap.specs.Walk.{rule_of};
+ghost use Rattle.clap.specs.Simple.{app_of};
+ghost use Rattle.clap.specs.declared.builder.command.Command.TheViews.{out-Command as fields_of};
+ghost use Rattle.sixel_words.specs.Words.{check_app, explain_app, file, files, flag, plain_app, profiled_app, quiet};
+ghost use Rattle.sixel_words.specs.Words.{show_app, side, sixel_app};
+
+mod help;
+
+use clap::{Arg, ArgAction, Command};
+use sixel_run::MOST_SCREEN_SIDE;
+use std::alloc::{AllocError, Global};
+
+/// What `--version` prints after the program's name.
+const VERSION: &str = "1.0.0";
+
+/// Each task is a subcommand, and so is `explain`. An option may be given again, and its last value counts.
+pub fn sixel_command<'a>(alloc: Global) -> Result<Command<'a>, AllocError>
+    ensures { IfOk result (λ c. app_of c ≡ sixel_app) }
+{
+    Command::new(alloc, "sixel")
+        .about("Checks, lists, draws and writes sixel pictures, from files or standard input")
+        .version(VERSION)
+        .subcommand_required(true)
+        .args_override_self(true)
+        .subcommand(list_command(alloc)?)?
+        .subcommand(check_command(alloc)?)?
+        .subcommand(render_command(alloc)?)?
+        .subcommand(encode_command(alloc)?)?
+        .subcommand(show_command(alloc)?)?
+        .subcommand(explain_command(alloc)?)
+}
+
+/// `list`, with an optional file.
+pub fn list_command<'a>(alloc: Global) -> Result<Command<'a>, AllocError>
+    ensures app { IfOk result (λ c. app_of c ≡ plain_app (codes "list")) }
+    ensures local { IfOk result (λ c. (fields_of c).has_globals ≡ false) }
+{
+    Command::new(alloc, "list")
+        .about("Lists the commands of the picture, one per line")
+        .after_help(help::LIST)
+        .arg(file_arg(alloc))
+}
+
+/// `render`, with `--wide` and an optional file.
+pub fn render_command<'a>(alloc: Global) -> Result<Command<'a>, AllocError>
+    ensures app { IfOk result (λ c. app_of c ≡ profiled_app (codes "render")) }
+    ensures local { IfOk result (λ c. (fields_of c).has_globals ≡ false) }
+{
+    Command::new(alloc, "render")
+        .about("Converts a portable picture to a PPM")
+        .after_help(help::RENDER)
+        .arg(wide_arg(alloc))?
+        .arg(file_arg(alloc))
+}
+
+/// `encode`, with `--wide` and an optional file.
+pub fn encode_command<'a>(alloc: Global) -> Result<Command<'a>, AllocError>
+    ensures app { IfOk result (λ c. app_of c ≡ profiled_app (codes "encode")) }
+    ensures local { IfOk result (λ c. (fields_of c).has_globals ≡ false) }
+{
+    Command::new(alloc, "encode")
+        .about("Converts a PPM to portable sixel text")
+        .after_help(help::ENCODE)
+        .arg(wide_arg(alloc))?
+        .arg(file_arg(alloc))
+}
+
+/// `explain`, with any number of words.
+pub fn explain_command<'a>(alloc: Global) -> Result<Command<'a>, AllocError>
+    ensures app { IfOk result (λ c. app_of c ≡ explain_app) }
+    ensures local { IfOk result (λ c. (fields_of c).has_globals ≡ false) }
+{
+    Command::new(alloc, "explain")
+        .about("Explains a rule or a refusal by its name, or lists all names")
+        .after_help(help::EXPLAIN)
+        .arg(
+            Arg::new(alloc, "name")
+                .action(ArgAction::Append)
+                .value_name("NAME")
+                .help("A name such as Uncovered or FieldCount, or a line that contains one"),
+        )
+}
+
+/// `check`, with any number of files.
+fn check_command<'a>(alloc: Global) -> Result<Command<'a>, AllocError>
+    ensures app { IfOk result (λ c. app_of c ≡ check_app) }
+    ensures local { IfOk result (λ c. (fields_of c).has_globals ≡ false) }
+{
+    Command::new(alloc, "check")
+        .about("Says whether the picture is portable, or which rule it breaks first")
+        .after_help(help::CHECK)
+        .arg(wide_arg(alloc))?
+        .arg(quiet_arg(alloc))?
+        .arg(files_arg(alloc))
+}
+
+/// `show`, with seven options and an optional file.
+pub fn show_command<'a>(alloc: Global) -> Result<Command<'a>, AllocError>
+    ensures app { IfOk result (λ c. app_of c ≡ show_app) }
+    ensures local { IfOk result (λ c. (fields_of c).has_globals ≡ false) }
+{
+    Command::new(alloc, "show")
+        .about("Draws the picture as one terminal would, and writes its screen as a PPM")
+        .after_help(help::SHOW)
+        .arg(wide_arg(alloc))?
+        .arg(flag_arg(
+            alloc,
+            "showing",
+            "Show each pixel in the final colour of its register",
+        ))?
+        .arg(flag_arg(alloc, "fill", "Fill the declared box with register 0"))?
+        .arg(flag_arg(
+            alloc,
+            "define-selects",
+            "Let a colour definition also select its register",
+        ))?
+        .arg(side_arg(
+            alloc,
+            "width",
+            "800",
+            "The screen's width in pixels, 1 to 4096",
+        ))?
+        .arg(side_arg(
+            alloc,
+            "height",
+            "480",
+            "The screen's height in pixels, 1 to 4096",
+        ))?
+        .arg(flag_arg(alloc, "box", "Make the screen as large as the declared box"))?
+        .arg(file_arg(alloc))
+}
+
+/// `--name`, without a value.
+fn flag_arg<'a>(alloc: Global, name: &'a str, help: &'a str) -> Arg<'a>
+    ensures rule { rule_of result ≡ flag name.entry.now }
+    ensures local { result.global ≡ false }
+{
+    Arg::new(alloc, name)
+        .long(name)
+        .action(ArgAction::SetTrue)
+        .help(help)
+}
+
+/// `--name N`, with a default.
+fn side_arg<'a>(alloc: Global, name: &'a str, fallback: &'a str, help: &'a str) -> Arg<'a>
+    ensures rule { rule_of result ≡ side name.entry.now fallback.entry.now }
+    ensures local { result.global ≡ false }
+{
+    Arg::new(alloc, name)
+        .long(name)
+        .value_name("N")
+        .value_parser(clap::value_parser!(u32).range(1..=MOST_SCREEN_SIDE as i64))
+        .default_value(fallback)
+        .help(help)
+}
+
+/// `--wide`, which selects the profile of 256 registers.
+fn wide_arg<'a>(alloc: Global) -> Arg<'a>
+    ensures rule { rule_of result ≡ flag (codes "wide") }
+    ensures local { result.global ≡ false }
+{
+    flag_arg(alloc, "wide", "Use 256 colour registers instead of 16")
+}
+
+/// `-q` or `--quiet`.
+fn quiet_arg<'a>(alloc: Global) -> Arg<'a>
+    ensures rule { rule_of result ≡ quiet }
+    ensures local { result.global ≡ false }
+{
+    flag_arg(alloc, "quiet", "Print no verdict; use the exit status").short('q')
+}
+
+/// `FILE`, optional.
+fn file_arg<'a>(alloc: Global) -> Arg<'a>
+    ensures rule { rule_of result ≡ file }
+    ensures local { result.global ≡ false }
+{
+    Arg::new(alloc, "FILE").help("The file to read; without it, or for `-`, standard input")
+}
+
+/// `FILE`, any number of times.
+fn files_arg<'a>(alloc: Global) -> Arg<'a>
+    ensures rule { rule_of result ≡ files }
+    ensures local { result.global ≡ false }
+{
+    Arg::new(alloc, "FILE").action(ArgAction::Append).help(
+        "Files to read in turn; without any, or for `-`, standard input",
+    )
+}

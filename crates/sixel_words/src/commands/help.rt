@@ -1,0 +1,56 @@
+//! What the help of each subcommand says below its options. A line has at most 80 columns.
+
+pub const LIST: &str = "Reads sixel text from FILE or, without one, from standard input. Writes to
+standard output one line for the start, for each command and for the end: its
+byte offset, its name and its numbers. Everything before a fault is listed too.
+
+Exit status: 0 done, 2 refused, 3 usage error.
+
+Example: sixel list plot.six";
+
+pub const CHECK: &str =
+    "Reads sixel text from each FILE in turn or, without one, from standard input.
+Writes one line for each to standard output: `portable` and the size, or
+`broken`, the rule, the byte offset and, for two rules, a pixel. With files,
+each line starts with `FILE: `. If a file is refused, the reason goes to
+standard error, and the files after it are still checked.
+
+Exit status: 0 portable, 1 broken, 2 refused, 3 usage error; with several files
+the greatest.
+
+Example: sixel check plots/*.six";
+
+pub const RENDER: &str = "Reads sixel text from FILE or, without one, from standard input. Writes a
+portable picture to standard output as a PPM. If the picture is broken, it
+writes the broken rule to standard error, and no PPM.
+
+Exit status: 0 done, 1 broken, 2 refused, 3 usage error.
+
+Example: sixel render plot.six > plot.ppm";
+
+pub const ENCODE: &str = "Reads a PPM (P6) of at most 16 colours, or 256 with --wide, from FILE or,
+without one, from standard input. Writes sixel text to standard output. Each
+sample becomes the nearest percentage.
+
+Exit status: 0 done, 2 refused, 3 usage error.
+
+Example: sixel encode plot.ppm > plot.six";
+
+pub const SHOW: &str = "Reads sixel text from FILE or, without one, from standard input. Writes the
+screen of one terminal, which the options choose, to standard output as a PPM.
+What is off the screen is left out. Without --wide, register 16 is register 0,
+17 is 1 and so on. --box can't be combined with --width or --height.
+
+Exit status: 0 done, 2 refused, 3 usage error.
+
+Example: sixel show --wide --box plot.six > plot.ppm";
+
+pub const EXPLAIN: &str =
+    "Reads nothing. Writes to standard output what the rule or the refusal means,
+what breaks it and how to fix it; without NAME, one line for each name. Letters
+may be in any case, and NAME may be a whole line that sixel wrote.
+
+Exit status: 0 done, 2 output failed, 3 usage error or unknown name.
+
+Examples: sixel explain Uncovered
+          sixel explain plot.six: broken Register 227";
