@@ -4,15 +4,17 @@ use Rattle.std.proofs.Common.{codes, drop, Option, Some, None, refl, sym, ap, ap
 use Rattle.std.proofs.Common.{fold, map}
 use Rattle.std.specs.Prelude.{◌≢◌, ◌⊎◌, Result, Ok, Err, IfSome, String, string_bytes, if◌then◌else◌}
 use Rattle.std.specs.Global.{Global}
-use Rattle.std.specs.Io.KnownBytes.{Appends, Keeps}
+use Rattle.std.specs.Io.KnownBytes.{Appends, Consumes, Keeps}
 use Rattle.std.proofs.KnownBytes.{Consumes-nil, Appends-trans}
-use Rattle.std.proofs.Common.{get_or}
+use Rattle.std.proofs.Common.{get_or, ◌||◌}
+use Rattle.std.specs.List.{list_any}
+use Rattle.std.proofs.lemmas.List.Folds.{list_any-append}
 use Rattle.std.proofs.lemmas.List.{append-nil, take-append-drop, take_more}
 use Rattle.std.proofs.lemmas.List.Elements.{All-cons, All-nil, All-push}
 use Rattle.std.proofs.lemmas.Grind.{flat_map-append}
 use Rattle.std.proofs.lemmas.List.{map-append}
 use Rattle.std.proofs.lemmas.List.Sums.{fold_push}
-use Rattle.sixel_io.specs.Devices.{Change, SinkState, SourceState, change, one_more}
+use Rattle.sixel_io.specs.Devices.{Change, ReadsToEnd, SinkState, SourceState, change, one_more}
 use Rattle.sixel_io.proofs.SinkLemmas.{Appends-keeps, Appends-none}
 use Rattle.sixel_io.proofs.DeviceLemmas.{Appends-then}
 use Rattle.sixel_model.specs.declared.profile.Profile.{Profile}
@@ -26,24 +28,32 @@ use Rattle.sixel_run.specs.declared.task.Task.{Task}
 use Rattle.sixel_run.specs.declared.task.Task.TheVariants as task
 use Rattle.sixel_run.specs.declared.task.Task.TheVariants.{Check}
 use Rattle.sixel_program.specs.Exits.{IsPut, RunEnds, complaint, exit_for_answer}
-use Rattle.sixel_program.specs.Files.{AreChecked, ArePut, AreCut, FileEnd, IsChecked, IsFileEnd, IsPrefix}
+use Rattle.sixel_program.specs.declared.formats.Format.{Format}
+use Rattle.sixel_program.specs.Formats.{IsFormat, advice_for, advice_on, format_of}
+use Rattle.sixel_program.specs.Files.{AreChecked, ArePut, AreCut, FileEnd, IsChecked, IsFileEnd}
 use Rattle.sixel_program.specs.Files.{FileEnds, FilesEnd, RequestEnds, Tells, SaysOfCheck, is_dash, complaints_of}
 use Rattle.sixel_program.specs.Files.{exit_of_end, failures_past, files_exit, files_text, worst, left_after}
 use Rattle.sixel_program.specs.Files.{names_of, names_read, said_of, said_of_check}
 use Rattle.sixel_program.specs.Files.{text_of_end, told_of, worse}
 use Rattle.sixel_program.specs.Names.{named_fault_line}
 use Rattle.sixel_run.specs.Outputs.{TakesMemory, Wrote}
-use Rattle.sixel_run.specs.Texts.{Text, fault_line, fault_parts}
+use Rattle.sixel_run.specs.Texts.{BeginsWith, Text, fault_line, fault_parts}
 use Rattle.sixel_program.proofs.EndLemmas.{kept}
+
+-- neither of two is true
+or_false : (a b : Bool) → (a || b) ≡ false → (a ≡ false) × (b ≡ false)
+or_false true b is = let no : true ≡ false = is in cc
+or_false false b is = (refl, is)
 
 -- ---- what is said of one file
 
 -- the message about a check of an input without a name is that about a run
-pub said_quietly : (profile : Profile) (answer : Result Status RunFault) (a b : SinkState)
-    → SaysOfCheck None answer (change a b) → IsPut (complaint (Check profile) None answer) (change a b)
-said_quietly profile (Ok status.Done) a b same = rw same (inl (Appends-none a.taken, refl))
-said_quietly profile (Ok (status.Broken finding)) a b same = rw same (inl (Appends-none a.taken, refl))
-said_quietly profile (Err fault) a b put = put
+pub said_quietly : (profile : Profile) (format : Option Format) (answer : Result Status RunFault) (a b : SinkState)
+    → SaysOfCheck None format answer (change a b)
+    → IsPut (complaint (Check profile) None answer ++ advice_for format answer) (change a b)
+said_quietly profile format (Ok status.Done) a b same = rw same (inl (Appends-none a.taken, refl))
+said_quietly profile format (Ok (status.Broken finding)) a b same = rw same (inl (Appends-none a.taken, refl))
+said_quietly profile format (Err fault) a b put = put
 
 -- ---- what is put
 
@@ -56,11 +66,12 @@ unfolding ArePut
 one_put text a b put = (b, put, refl)
 
 -- what is said of a check was put
-pub said_put : (name : Text) (answer : Result Status RunFault) (a b : SinkState)
-    → SaysOfCheck (Some name) answer (change a b) → ArePut (said_of_check name answer) (change a b)
+pub said_put : (name : Text) (format : Option Format) (answer : Result Status RunFault) (a b : SinkState)
+    → SaysOfCheck (Some name) format answer (change a b) → ArePut (said_of_check name format answer) (change a b)
 unfolding ArePut
-said_put name (Ok status) a b says = says
-said_put name (Err fault) a b says = one_put (named_fault_line name fault) a b says
+said_put name format (Ok status) a b says = says
+said_put name format (Err fault) a b says =
+    one_put (named_fault_line name fault ++ advice_on format fault) a b says
 
 -- texts were put, and then others
 pub put_then : (texts more : List Text) (a b c : SinkState) → ArePut texts (change a b) → ArePut more (change b c)
@@ -68,6 +79,21 @@ pub put_then : (texts more : List Text) (a b c : SinkState) → ArePut texts (ch
 unfolding ArePut
 put_then [] more a b c none are = rw (sym none) are
 put_then (text ∷ texts) more a b c before are = (before.0, before.1, put_then texts more before.0 b c before.2 are)
+
+-- ---- names
+
+-- if no name is that of standard input, then none of the first ones is, and not the last one
+pub no_dash_before : (names more : List Text) → list_any is_dash (names ++ more) ≡ false
+    → list_any is_dash names ≡ false
+no_dash_before names more none =
+    (or_false (list_any is_dash names) (list_any is_dash more) (sym (list_any-append is_dash names more) ∙ none)).0
+
+pub no_dash_last : (names : List Text) (name : Text) → list_any is_dash (names ++ name ∷ []) ≡ false
+    → is_dash name ≡ false
+no_dash_last names name none =
+    let last = (or_false (list_any is_dash names) (list_any is_dash (name ∷ []))
+    (sym (list_any-append is_dash names (name ∷ [])) ∙ none)).1 in
+    (or_false (is_dash name) false last).0
 
 -- ---- one file more
 
@@ -156,7 +182,7 @@ module _ (profile : Profile) (q : Bool) (contents : Text → Option (List ℕ)) 
       unfailed = one.outcome.2 ∙ before.unfailed;
       said = rw (text_more said_of ends one.e)
           (put_then (complaints_of ends) (said_of one.e) e₀ e₁ e₂ before.said
-          (said_put one.e.name one.e.answer e₁ e₂ (rw one.name_is one.outcome.3)));
+          (said_put one.e.name one.e.format one.e.answer e₁ e₂ (rw one.name_is one.outcome.3)));
     },
   )
 
@@ -194,11 +220,12 @@ module _ (profile : Profile) (q : Bool) (contents : Text → Option (List ℕ)) 
 
 -- ---- one file
 
-pub no_prefix : (told : Option (List ℕ)) → IsPrefix told []
-no_prefix None = tt
-no_prefix (Some bytes) = (bytes, refl)
+-- no format is that of no bytes
+pub no_format : (told : Option (List ℕ)) → IsFormat told None
+no_format None = tt
+no_format (Some bytes) = ([], (bytes, refl), refl)
 
-memory_kept : (t : Task) (told has : Option (List ℕ)) → Keeps told has → TakesMemory t has → TakesMemory t told
+pub memory_kept : (t : Task) (told has : Option (List ℕ)) → Keeps told has → TakesMemory t has → TakesMemory t told
 memory_kept task.List told has same takes = absurd takes
 memory_kept (task.Check profile) told has same takes = kept _ told has same takes
 memory_kept (task.Render profile) told has same takes = kept _ told has same takes
@@ -206,12 +233,41 @@ memory_kept (task.Encode profile) told has same takes = kept _ told has same tak
 memory_kept (task.Show profile showing fill selects width height) told has same takes = tt
 memory_kept (task.ShowBox profile showing fill selects) told has same takes = tt
 
+pub format_kept : (format : Option Format) (told has : Option (List ℕ)) → Keeps told has → IsFormat has format
+    → IsFormat told format
+format_kept format told has same is =
+    kept (λ (bytes : List ℕ). (prefix : List ℕ) × BeginsWith bytes prefix × (format ≡ format_of prefix)) told has same
+    is
+
+-- what was read of a source was read of the bytes that the source was made from
+pub read_kept : {A E : Type 0} (answer : Result A E) (told has left : Option (List ℕ)) → Keeps told has
+    → ReadsToEnd answer has left → ReadsToEnd answer told left
+read_kept answer told has left same reads = record {
+  read = (reads.read.0, consumed reads.read.0 told has left same reads.read.1);
+  ended = reads.ended;
+}
+  where
+    consumed : (bytes : List ℕ) (told has left : Option (List ℕ)) → Keeps told has → Consumes has left bytes
+        → Consumes told left bytes
+    consumed bytes None has left same all = tt
+    consumed bytes (Some had) None left same all = absurd same
+    consumed bytes (Some had) (Some more) None same all = absurd all
+    consumed bytes (Some had) (Some more) (Some rest) same all = let is : more ≡ had = same in sym is ∙ all
+
+pub wrote_kept : (t : Task) (told has left : Option (List ℕ)) (answer : Result Status RunFault)
+    (was is : Option (List ℕ)) → Keeps told has → IfSome has (λ bytes. Wrote t bytes left answer was is)
+    → IfSome told (λ bytes. Wrote t bytes left answer was is)
+wrote_kept t told has left answer was is same =
+    kept (λ (bytes : List ℕ). Wrote t bytes left answer was is) told has same
+
 -- a run over a source is one over the bytes that the source was made from
-pub run_kept : (t : Task) (name : Option Text) (prefix : List ℕ) (x : Exit) (told : Option (List ℕ))
-    (i : Change SourceState) (o e : Change SinkState) → Keeps told i.old.remaining → RunEnds t name prefix x i o e
-    → RunEnds t name prefix x (change (record { remaining = told; failures = i.old.failures }) i.new) o e
-run_kept t name prefix x told i o e same ended = record {
+pub run_kept : (t : Task) (name : Option Text) (x : Exit) (told : Option (List ℕ))
+    (i : Change SourceState) (o e : Change SinkState) → Keeps told i.old.remaining → RunEnds t name x i o e
+    → RunEnds t name x (change (record { remaining = told; failures = i.old.failures }) i.new) o e
+run_kept t name x told i o e same ended = record {
   answer = ended.answer;
+  format = ended.format;
+  is_format = format_kept ended.format told i.old.remaining same ended.is_format;
   wrote = kept (λ (bytes : List ℕ). Wrote t bytes i.new.remaining ended.answer o.old.taken o.new.taken) told
       i.old.remaining same ended.wrote;
   memory = λ is. memory_kept t told i.old.remaining same (ended.memory is);
@@ -227,6 +283,7 @@ pub unopened : (profile : Profile) (name : Text) (told : Option (List ℕ)) → 
   name = name;
   told = told;
   left = told;
+  format = None;
   line = [];
   answer = Err run.Read;
 })
@@ -235,6 +292,7 @@ unopened profile name told = record {
   memory = λ is. cc;
   written = λ is. cc;
   reads = record { read = ([], Consumes-nil told); ended = tt };
+  is_format = no_format told;
 }
   where
     nothing : (told : Option (List ℕ))
@@ -292,45 +350,36 @@ module _ (profile : Profile) (q : Bool) (contents : Text → Option (List ℕ)) 
 
 -- ---- a task over a file
 
-module _ (t : Task) (contents : Text → Option (List ℕ)) (name : Text) (given : List ℕ) (o e : Change SinkState) where
-  pub dash_ends : (x : Exit) (i : Change SourceState) → is_dash name ≡ true → RunEnds t (Some name) given x i o e
-      → FileEnds t contents name given x i o e
+module _ (t : Task) (contents : Text → Option (List ℕ)) (name : Text) (o e : Change SinkState) where
+  pub dash_ends : (x : Exit) (i : Change SourceState) → is_dash name ≡ true → RunEnds t (Some name) x i o e
+      → FileEnds t contents name x i o e
   dash_ends x i dash ended = record {
-    prefix = given;
     file = i;
-    given_prefix = λ is. refl;
-    own_prefix = λ is. let no : true ≡ false = sym dash ∙ is in cc;
     told = rw dash refl;
     is_input = λ is. refl;
     stays = λ is. let no : true ≡ false = sym dash ∙ is in cc;
     ended = inl ended;
   }
 
-  pub file_ends : (x : Exit) (i : SourceState) (file : Change SourceState) (prefix : List ℕ) → is_dash name ≡ false
-      → Keeps (contents name) file.old.remaining → IsPrefix (contents name) prefix
-      → RunEnds t (Some name) prefix x file o e → FileEnds t contents name given x (change i i) o e
-  file_ends x i file prefix other same begins ended = record {
-    prefix = prefix;
-    file = change (record { remaining = contents name; failures = file.old.failures }) file.new;
-    given_prefix = λ is. let no : true ≡ false = sym is ∙ other in cc;
-    own_prefix = λ is. begins;
-    told = rw other refl;
+  pub file_ends : (x : Exit) (i : SourceState) (file : Change SourceState) → is_dash name ≡ false
+      → file.old.remaining ≡ contents name → RunEnds t (Some name) x file o e
+      → FileEnds t contents name x (change i i) o e
+  file_ends x i file other told ended = record {
+    file = file;
+    told = rw other told;
     is_input = λ is. let no : true ≡ false = sym is ∙ other in cc;
     stays = λ is. refl;
-    ended = inl (run_kept t (Some name) prefix x (contents name) file o e same ended);
+    ended = inl ended;
   }
 
-pub unopened_ends : (t : Task) (contents : Text → Option (List ℕ)) (name : Text) (given : List ℕ) (i : SourceState)
+pub unopened_ends : (t : Task) (contents : Text → Option (List ℕ)) (name : Text) (i : SourceState)
     (o : SinkState) (e : Change SinkState) → is_dash name ≡ false → contents name ≡ None
     → IsPut (complaint t (Some name) (Err run.Read)) e
-    → FileEnds t contents name given exit.Refused (change i i) (change o o) e
-unopened_ends t contents name given i o e file none put =
+    → FileEnds t contents name exit.Refused (change i i) (change o o) e
+unopened_ends t contents name i o e file none put =
     let unread : SourceState = record { remaining = contents name; failures = 0 } in
     record {
-      prefix = [];
       file = change unread unread;
-      given_prefix = λ is. let no : true ≡ false = sym is ∙ file in cc;
-      own_prefix = λ is. no_prefix (contents name);
       told = rw file refl;
       is_input = λ is. let no : true ≡ false = sym is ∙ file in cc;
       stays = λ is. refl;
@@ -345,22 +394,21 @@ IsRunOver t x told = (answer : Result Status RunFault) × (x ≡ exit_for_answer
     × ((left : Option (List ℕ)) × (had : Option (List ℕ)) × (has : Option (List ℕ))
     × IfSome told (λ bytes. Wrote t bytes left answer had has))
 
-run_ends : (t : Task) (name : Option Text) (prefix : List ℕ) (x : Exit) (i : Change SourceState)
-    (o e : Change SinkState) → RunEnds t name prefix x i o e → IsRunOver t x i.old.remaining
-run_ends t name prefix x i o e ended =
+run_ends : (t : Task) (name : Option Text) (x : Exit) (i : Change SourceState) (o e : Change SinkState)
+    → RunEnds t name x i o e → IsRunOver t x i.old.remaining
+run_ends t name x i o e ended =
     (ended.answer, ended.ends, (i.new.remaining, o.old.taken, o.new.taken, ended.wrote))
 
-file_run : (contents : Text → Option (List ℕ)) (t : Task) (name : Text) (prefix : List ℕ) (x : Exit)
-    (i : Change SourceState) (o e : Change SinkState) → FileEnds t contents name prefix x i o e
+file_run : (contents : Text → Option (List ℕ)) (t : Task) (name : Text) (x : Exit) (i : Change SourceState)
+    (o e : Change SinkState) → FileEnds t contents name x i o e
     → IsRunOver t x (told_of contents i.old.remaining name)
-file_run contents t name prefix x i o e ended =
+file_run contents t name x i o e ended =
     subst (λ (told : Option (List ℕ)). IsRunOver t x told) ended.told (elim ended.ended [
-      | inl ran ↦ run_ends t (Some name) ended.prefix x ended.file o e ran
+      | inl ran ↦ run_ends t (Some name) x ended.file o e ran
       | inr unopened ↦ (Err run.Read, unopened.2, (None, None, None, rw unopened.1 tt))
     ])
 
-module _ (contents : Text → Option (List ℕ)) (prefix : List ℕ) (x : Exit) (i : Change SourceState)
-    (o e : Change SinkState) where
+module _ (contents : Text → Option (List ℕ)) (x : Exit) (i : Change SourceState) (o e : Change SinkState) where
   -- one input was read, or files were checked
   abbrev pub HasRead : Task → Bool → List Text → Type 0
   HasRead t q names =
@@ -369,7 +417,7 @@ module _ (contents : Text → Option (List ℕ)) (prefix : List ℕ) (x : Exit) 
       × FilesEnd profile q contents names x i o e)
 
   pub request_read : (t : Task) (q : Bool) (names : List Text)
-      → RequestEnds t q names contents prefix x i o e → HasRead t q names
+      → RequestEnds t q names contents x i o e → HasRead t q names
   request_read (task.Check profile) true [] ended =
       inl (
         codes "-",
@@ -386,33 +434,33 @@ module _ (contents : Text → Option (List ℕ)) (prefix : List ℕ) (x : Exit) 
         ),
       )
   request_read (task.Check profile) false [] ended =
-      inl (codes "-", refl, run_ends (Check profile) None prefix x i o e ended)
+      inl (codes "-", refl, run_ends (Check profile) None x i o e ended)
   request_read (task.Check profile) q (name ∷ more) ended = inr (profile, refl, refl, ended)
   request_read task.List q [] ended =
-      inl (codes "-", refl, run_ends task.List None prefix x i o e ended)
+      inl (codes "-", refl, run_ends task.List None x i o e ended)
   request_read task.List q (name ∷ more) ended =
-      inl (name, refl, file_run contents task.List name prefix x i o e ended)
+      inl (name, refl, file_run contents task.List name x i o e ended)
   request_read (task.Render profile) q [] ended =
-      inl (codes "-", refl, run_ends (task.Render profile) None prefix x i o e ended)
+      inl (codes "-", refl, run_ends (task.Render profile) None x i o e ended)
   request_read (task.Render profile) q (name ∷ more) ended =
-      inl (name, refl, file_run contents (task.Render profile) name prefix x i o e ended)
+      inl (name, refl, file_run contents (task.Render profile) name x i o e ended)
   request_read (task.Encode profile) q [] ended =
-      inl (codes "-", refl, run_ends (task.Encode profile) None prefix x i o e ended)
+      inl (codes "-", refl, run_ends (task.Encode profile) None x i o e ended)
   request_read (task.Encode profile) q (name ∷ more) ended =
-      inl (name, refl, file_run contents (task.Encode profile) name prefix x i o e ended)
+      inl (name, refl, file_run contents (task.Encode profile) name x i o e ended)
   request_read (task.Show profile showing fill selects width height) q [] ended =
-      inl (codes "-", refl, run_ends (task.Show profile showing fill selects width height) None prefix x i o e ended)
+      inl (codes "-", refl, run_ends (task.Show profile showing fill selects width height) None x i o e ended)
   request_read (task.Show profile showing fill selects width height) q (name ∷ more) ended =
       inl (
         name,
         refl,
-        file_run contents (task.Show profile showing fill selects width height) name prefix x i o e
+        file_run contents (task.Show profile showing fill selects width height) name x i o e
             ended,
       )
   request_read (task.ShowBox profile showing fill selects) q [] ended =
-      inl (codes "-", refl, run_ends (task.ShowBox profile showing fill selects) None prefix x i o e ended)
+      inl (codes "-", refl, run_ends (task.ShowBox profile showing fill selects) None x i o e ended)
   request_read (task.ShowBox profile showing fill selects) q (name ∷ more) ended =
-      inl (name, refl, file_run contents (task.ShowBox profile showing fill selects) name prefix x i o e ended)
+      inl (name, refl, file_run contents (task.ShowBox profile showing fill selects) name x i o e ended)
 
 answer_no_usage : (a : Result Status RunFault) → exit_for_answer a ≢ exit.Usage
 answer_no_usage (Ok status.Done) = λ (is : exit.Done ≡ exit.Usage). cc
@@ -436,11 +484,10 @@ files_no_usage profile q contents names x i o e (inl checked) is =
 files_no_usage profile q contents names x i o e (inr cut) is =
     let no : exit.Refused ≡ exit.Usage = sym cut.exits ∙ is in cc
 
-pub request_no_usage : (t : Task) (q : Bool) (names : List Text) (contents : Text → Option (List ℕ)) (prefix : List ℕ)
-    (x : Exit) (i : Change SourceState) (o e : Change SinkState) → RequestEnds t q names contents prefix x i o e
-    → x ≢ exit.Usage
-request_no_usage t q names contents prefix x i o e ended is =
-    elim (request_read contents prefix x i o e t q names ended) [
+pub request_no_usage : (t : Task) (q : Bool) (names : List Text) (contents : Text → Option (List ℕ)) (x : Exit)
+    (i : Change SourceState) (o e : Change SinkState) → RequestEnds t q names contents x i o e → x ≢ exit.Usage
+request_no_usage t q names contents x i o e ended is =
+    elim (request_read contents x i o e t q names ended) [
       | inl one ↦ answer_no_usage one.2.0 (sym one.2.1 ∙ is)
       | inr checked ↦ files_no_usage checked.0 q contents names x i o e checked.3 is
     ]

@@ -172,9 +172,8 @@ module _ (profile : Profile) (q : Bool) (contents : Text → Option (List ℕ)) 
 
 -- ---- what is asked for
 
-module _ (t : Task) (q : Bool) (names : List Text) (contents : Text → Option (List ℕ)) (prefix : List ℕ) (x : Exit)
-    (i : Change SourceState) (o e : Change SinkState)
-    (ended : RequestEnds t q names contents prefix x i o e) where
+module _ (t : Task) (q : Bool) (names : List Text) (contents : Text → Option (List ℕ)) (x : Exit)
+    (i : Change SourceState) (o e : Change SinkState) (ended : RequestEnds t q names contents x i o e) where
   all_of_one : (P : Option (List ℕ) → Type 0) (name : Text) → P (told_of contents i.old.remaining name)
       → All (λ n. P (told_of contents i.old.remaining n)) (name ∷ [])
   all_of_one P name p =
@@ -183,7 +182,7 @@ module _ (t : Task) (q : Bool) (names : List Text) (contents : Text → Option (
 
   pub all_read_done : x ≡ exit.Done → All (λ name. IsDoneOver t (told_of contents i.old.remaining name))
       (names_read t names)
-  all_read_done is = elim (request_read contents prefix x i o e t q names ended) [
+  all_read_done is = elim (request_read contents x i o e t q names ended) [
     | inl one ↦
         let run = one.2.2 in
         rw one.1 (all_of_one (IsDoneOver t) one.0
@@ -194,7 +193,7 @@ module _ (t : Task) (q : Bool) (names : List Text) (contents : Text → Option (
 
   pub all_read_judged : x ≡ exit.Broken → All (λ name. IsJudgedOver t (told_of contents i.old.remaining name))
       (names_read t names)
-  all_read_judged is = elim (request_read contents prefix x i o e t q names ended) [
+  all_read_judged is = elim (request_read contents x i o e t q names ended) [
     | inl one ↦
         let run = one.2.2 in
         let ends : exit_for_answer one.2.0 ≡ exit.Broken = sym one.2.1 ∙ is in
@@ -206,7 +205,7 @@ module _ (t : Task) (q : Bool) (names : List Text) (contents : Text → Option (
 
   pub one_read_broken : x ≡ exit.Broken → (name : Text)
       × Contains (names_read t names) name × IsBrokenOver t (told_of contents i.old.remaining name)
-  one_read_broken is = elim (request_read contents prefix x i o e t q names ended) [
+  one_read_broken is = elim (request_read contents x i o e t q names ended) [
     | inl one ↦
         let run = one.2.2 in (
           one.0,
@@ -216,13 +215,3 @@ module _ (t : Task) (q : Bool) (names : List Text) (contents : Text → Option (
     | inr checked ↦
         rw (checked.2, checked.1) (files_broken checked.0 q contents names x i o e checked.3 is)
   ]
-
--- the same of the bytes that are read for a name
-pub told_kept : (P : List ℕ → Type 0) (contents : Text → Option (List ℕ)) (told has : Option (List ℕ)) (name : Text)
-    → Keeps told has → IfSome (told_of contents has name) P → IfSome (told_of contents told name) P
-told_kept P contents told has name same = either P (is_dash name) told has (contents name) same
-  where
-    either : (P : List ℕ → Type 0) (b : Bool) (told has other : Option (List ℕ)) → Keeps told has
-        → IfSome (if b then has else other) P → IfSome (if b then told else other) P
-    either P true told has other same h = kept P told has same h
-    either P false told has other same h = h

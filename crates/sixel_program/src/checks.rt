@@ -1,10 +1,13 @@
 //! Checks of files, and quiet checks of standard input.
 
-ghost use Rattle.std.specs.Prelude.{◌≡◌, Result, map, option_copied};
+ghost use Rattle.std.specs.Prelude.{◌≡◌, Option, Result, false, map, option_copied};
+ghost use Rattle.std.specs.List.{list_any};
 ghost use Rattle.std.specs.String.{string_bytes};
 ghost use Rattle.sixel_io.specs.Devices.{change};
 ghost use Rattle.sixel_program.specs.Exits.{IsPut, exit_for_answer};
-ghost use Rattle.sixel_program.specs.Files.{FilesEnd, IsChecked, IsFileEnd, IsOutcome, QuietEnds, SaysOfCheck, worse};
+ghost use Rattle.sixel_program.specs.Files.{FilesEnd, IsChecked, IsFileEnd, IsOutcome, QuietEnds, SaysOfCheck};
+ghost use Rattle.sixel_program.specs.Files.{is_dash, worse};
+ghost use Rattle.sixel_program.specs.declared.formats.Format.{Format as AFormat};
 ghost use Rattle.sixel_run.specs.Outputs.{answer_of, failures_by, line_of};
 ghost use Rattle.sixel_run.specs.Texts.{Text, fault_line};
 ghost use Rattle.sixel_run.specs.declared.fault.RunFault.{RunFault as AFault};
@@ -13,29 +16,32 @@ ghost use Rattle.sixel_run.specs.declared.task.Status.{Status as AStatus};
 
 use crate::exit::{Exit, code_of, exit_of};
 use crate::folder::Folder;
+use crate::formats::Format;
 use crate::names::put_named;
 use crate::peeked::Peeked;
-use crate::saying::put_fault;
+use crate::saying::put_refusal;
 use sixel_check::Verdict;
 use sixel_io::{DeviceFault, FromRead, Sink, Source};
 use sixel_model::Profile;
 use sixel_run::{RunFault, judge, status_of, verdict_line, write_fault};
 use std::alloc::Global;
 
-/// Writes why a checked input was refused, if it was. The input has this name or none. Returns the exit status.
+/// Writes why a checked input was refused, if it was. The input has this name or none, and this format. Returns the
+/// exit status.
 fn say_judged<E: Sink>(
     name: Option<&str>,
+    format: Option<Format>,
     judged: Result<Verdict, RunFault>,
     errors: &mut E,
 ) -> Exit
     ensures exit { result ≡ exit_for_answer (answer_of judged) }
-    ensures said { SaysOfCheck (option_copied name.entry) (answer_of judged)
+    ensures said { SaysOfCheck (option_copied name.entry) format (answer_of judged)
         (change (E.state errors.old) (E.state errors.new)) }
 {
     match judged {
         Ok(verdict) => exit_of(Ok(status_of(&verdict))),
         Err(fault) => {
-            let _ = put_fault(name, &fault, errors);
+            let _ = put_refusal(name, format, &fault, errors);
             Exit::Refused
         }
     }
@@ -45,14 +51,16 @@ fn say_judged<E: Sink>(
 pub fn check_quietly<S: Source, E: Sink>(
     alloc: Global,
     profile: Profile,
-    input: &mut S,
+    input: &mut Peeked<S>,
     errors: &mut E,
 ) -> Exit
     ensures { QuietEnds profile result
-        (change (S.state input.old) (S.state input.new)) (change (E.state errors.old) (E.state errors.new)) }
+        (change (⟦<Peeked<S> as Source>⟧.state input.old) (⟦<Peeked<S> as Source>⟧.state input.new))
+        (change (E.state errors.old) (E.state errors.new)) }
 {
+    let format = input.format();
     let judged = judge(alloc, profile, input);
-    say_judged(None, judged, errors)
+    say_judged(None, format, judged, errors)
 }
 
 /// Writes the verdict on a file, unless the check is quiet, or why the file was refused. An `Err` means that `output`
@@ -60,11 +68,12 @@ pub fn check_quietly<S: Source, E: Sink>(
 fn put_judged<K: Sink, E: Sink>(
     is_quiet: bool,
     name: &str,
+    format: Option<Format>,
     judged: Result<Verdict, RunFault>,
     output: &mut K,
     errors: &mut E,
 ) -> Result<Exit, DeviceFault>
-    ensures { IsOutcome is_quiet name.now (line_of judged) (answer_of judged) result
+    ensures { IsOutcome is_quiet name.now format (line_of judged) (answer_of judged) result
         (change (K.state output.old) (K.state output.new)) (change (E.state errors.old) (E.state errors.new)) }
 {
     if let Ok(verdict) = &judged {
@@ -72,7 +81,7 @@ fn put_judged<K: Sink, E: Sink>(
             put_named(output, b"", name, b": ", verdict_line(verdict).as_slice())?;
         }
     }
-    Ok(say_judged(Some(name), judged, errors))
+    Ok(say_judged(Some(name), format, judged, errors))
 }
 
 /// Checks an open file, or standard input by its name. An `Err` means that `output` failed.
@@ -81,24 +90,27 @@ fn check_named<S: Source, K: Sink, E: Sink>(
     profile: Profile,
     is_quiet: bool,
     name: &str,
-    input: &mut S,
+    input: &mut Peeked<S>,
     output: &mut K,
     errors: &mut E,
 ) -> Result<Exit, DeviceFault>
-    ensures { (line : Text) × (answer : Result AStatus AFault)
+    ensures { (format : Option AFormat) × (line : Text) × (answer : Result AStatus AFault)
         × IsFileEnd profile (record {
           name = name.now;
-          told = (S.state input.old).remaining;
-          left = (S.state input.new).remaining;
+          told = (⟦<Peeked<S> as Source>⟧.state input.old).remaining;
+          left = (⟦<Peeked<S> as Source>⟧.state input.new).remaining;
+          format = format;
           line = line;
           answer = answer;
         })
-        × ((S.state input.new).failures ≡ failures_by ReadFault answer (S.state input.old).failures)
-        × IsOutcome is_quiet name.now line answer result
+        × ((⟦<Peeked<S> as Source>⟧.state input.new).failures
+        ≡ failures_by ReadFault answer (⟦<Peeked<S> as Source>⟧.state input.old).failures)
+        × IsOutcome is_quiet name.now format line answer result
         (change (K.state output.old) (K.state output.new)) (change (E.state errors.old) (E.state errors.new)) }
 {
+    let format = input.format();
     let judged = judge(alloc, profile, input);
-    put_judged(is_quiet, name, judged, output, errors)
+    put_judged(is_quiet, name, format, judged, output, errors)
 }
 
 /// Checks the file with this name, or standard input if the name is `-`. An `Err` means that `output` failed.
@@ -108,23 +120,24 @@ fn check_file<F: Folder, S: Source, K: Sink, E: Sink>(
     is_quiet: bool,
     name: &str,
     folder: &F,
-    input: &mut S,
+    input: &mut Peeked<S>,
     output: &mut K,
     errors: &mut E,
 ) -> Result<Exit, DeviceFault>
-    ensures { IsChecked profile is_quiet (F.contents folder.now) name.now result
-        (change (S.state input.old) (S.state input.new)) (change (K.state output.old) (K.state output.new))
-        (change (E.state errors.old) (E.state errors.new)) }
+    ensures checked { IsChecked profile is_quiet (F.contents folder.now) name.now result
+        (change (⟦<Peeked<S> as Source>⟧.state input.old) (⟦<Peeked<S> as Source>⟧.state input.new))
+        (change (K.state output.old) (K.state output.new)) (change (E.state errors.old) (E.state errors.new)) }
+    ensures unread { is_dash name.now ≡ false → input.new ≡ input.old }
 {
     if name == "-" {
         return check_named(alloc, profile, is_quiet, name, input, output, errors);
     }
     match folder.open(name) {
         Ok(file) => {
-            let mut file = Peeked::unread(FromRead::new(file));
+            let mut file = Peeked::new(FromRead::new(file));
             check_named(alloc, profile, is_quiet, name, &mut file, output, errors)
         }
-        Err(_) => put_judged(is_quiet, name, Err(RunFault::Read), output, errors),
+        Err(_) => put_judged(is_quiet, name, None, Err(RunFault::Read), output, errors),
     }
 }
 
@@ -153,13 +166,14 @@ pub fn check_files<F: Folder, S: Source, K: Sink, E: Sink>(
     is_quiet: bool,
     names: &[String],
     folder: &F,
-    input: &mut S,
+    input: &mut Peeked<S>,
     output: &mut K,
     errors: &mut E,
 ) -> Exit
-    ensures { FilesEnd profile is_quiet (F.contents folder.now) (map string_bytes names.now) result
-        (change (S.state input.old) (S.state input.new)) (change (K.state output.old) (K.state output.new))
-        (change (E.state errors.old) (E.state errors.new)) }
+    ensures checked { FilesEnd profile is_quiet (F.contents folder.now) (map string_bytes names.now) result
+        (change (⟦<Peeked<S> as Source>⟧.state input.old) (⟦<Peeked<S> as Source>⟧.state input.new))
+        (change (K.state output.old) (K.state output.new)) (change (E.state errors.old) (E.state errors.new)) }
+    ensures unread { list_any is_dash (map string_bytes names.now) ≡ false → input.new ≡ input.old }
 {
     let mut exit = Exit::Done;
     for name in names {

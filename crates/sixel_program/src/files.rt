@@ -1,34 +1,22 @@
 //! Requests over standard input or files.
 
 ghost use Rattle.std.specs.Prelude.{◌≡◌, false, map, option_copied};
-ghost use Rattle.std.specs.Io.KnownBytes.{Keeps};
 ghost use Rattle.std.specs.List.{list_any};
 ghost use Rattle.std.specs.String.{string_bytes};
 ghost use Rattle.sixel_io.specs.Devices.{change};
-ghost use Rattle.sixel_program.specs.Exits.{IsPut, RunEnds};
-ghost use Rattle.sixel_program.specs.Files.{FileEnds, IsPrefix, RequestEnds, awaits_text, is_dash, notice, reads_input};
+ghost use Rattle.sixel_program.specs.Exits.{RunEnds};
+ghost use Rattle.sixel_program.specs.Files.{FileEnds, RequestEnds, is_dash, reads_input};
 ghost use Rattle.sixel_run.specs.Outputs.{HasSides};
 
 use crate::checks::{check_files, check_quietly};
 use crate::exit::{Exit, exit_of};
 use crate::folder::Folder;
-use crate::formats::format_of;
-use crate::peeked::{Peeked, peek};
+use crate::peeked::Peeked;
 use crate::saying::{put_fault, put_said};
-use sixel_io::{FromRead, Sink, Source, put_all};
+use sixel_io::{FromRead, Sink, Source};
 use sixel_run::{RunFault, Task, run};
 use sixel_words::Request;
 use std::alloc::Global;
-
-/// The notice before a check that reads a terminal.
-const WAITING: &[u8] = b"sixel: waiting for sixel text on standard input\n";
-
-/// Whether standard input is read: no file is named, or one of the names is `-`.
-fn reads_input(names: &[String]) -> bool
-    ensures { result ≡ reads_input (map string_bytes names.now) }
-{
-    names.is_empty() || names_input(names)
-}
 
 /// Whether one of the names is `-`.
 fn names_input(names: &[String]) -> bool
@@ -42,45 +30,14 @@ fn names_input(names: &[String]) -> bool
     false
 }
 
-/// Whether the request is a check that reads standard input.
-fn awaits_text(request: &Request) -> bool
-    ensures { result ≡ awaits_text request.now.task (map string_bytes request.now.files.items) }
+/// Whether the request reads standard input.
+pub fn reads_input(request: &Request) -> bool
+    ensures { result ≡ reads_input request.now.task (map string_bytes request.now.files.items) }
 {
-    match request.task {
-        Task::Check { .. } => reads_input(request.files.as_slice()),
-        _ => false,
-    }
-}
-
-/// The notice before a task: a check that reads a terminal says that it waits.
-fn notice(request: &Request, is_terminal: bool) -> &'static [u8]
-    ensures { result.now ≡ notice is_terminal request.now.task (map string_bytes request.now.files.items) }
-{
-    if is_terminal && awaits_text(request) {
-        WAITING
-    } else {
-        b""
-    }
-}
-
-/// Says that the program waits for sixel text, if a check reads standard input and that is a terminal.
-pub fn announce<E: Sink>(request: &Request, is_terminal: bool, errors: &mut E)
-    ensures { IsPut (notice is_terminal request.now.task (map string_bytes request.now.files.items))
-        (change (E.state errors.old) (E.state errors.new)) }
-{
-    let _ = put_all(errors, notice(request, is_terminal));
-}
-
-/// Standard input as the request's input. If the request doesn't read it, nothing is read here either.
-pub fn peek_input<S: Source>(request: &Request, source: S) -> Peeked<S>
-    ensures told { Keeps (S.state source).remaining (⟦<Peeked<S> as Source>⟧.state result).remaining }
-    ensures prefix { IsPrefix (S.state source).remaining result.prefix.items }
-    ensures unread { reads_input (map string_bytes request.now.files.items) ≡ false → result.rest ≡ source }
-{
-    if reads_input(request.files.as_slice()) {
-        peek(request.task, source)
-    } else {
-        Peeked::unread(source)
+    match (request.task, request.files.as_slice()) {
+        (_, []) => true,
+        (Task::Check { .. }, names) => names_input(names),
+        (_, [name, ..]) => name.as_str() == "-",
     }
 }
 
@@ -96,11 +53,11 @@ fn report<S: Source, K: Sink, E: Sink>(
     errors: &mut E,
 ) -> Exit
     requires { HasSides task }
-    ensures { RunEnds task (option_copied name.entry) input.old.prefix.items result
+    ensures { RunEnds task (option_copied name.entry) result
         (change (⟦<Peeked<S> as Source>⟧.state input.old) (⟦<Peeked<S> as Source>⟧.state input.new))
         (change (K.state output.old) (K.state output.new)) (change (E.state errors.old) (E.state errors.new)) }
 {
-    let format = format_of(input.prefix.as_slice());
+    let format = input.format();
     let answer = run(alloc, task, input, output);
     let _ = put_said(task, name, format, &answer, errors);
     exit_of(answer)
@@ -117,16 +74,17 @@ fn report_file<F: Folder, S: Source, K: Sink, E: Sink>(
     errors: &mut E,
 ) -> Exit
     requires { HasSides task }
-    ensures { FileEnds task (F.contents folder.now) name.now input.old.prefix.items result
+    ensures ends { FileEnds task (F.contents folder.now) name.now result
         (change (⟦<Peeked<S> as Source>⟧.state input.old) (⟦<Peeked<S> as Source>⟧.state input.new))
         (change (K.state output.old) (K.state output.new)) (change (E.state errors.old) (E.state errors.new)) }
+    ensures unread { is_dash name.now ≡ false → input.new ≡ input.old }
 {
     if name == "-" {
         return report(alloc, task, Some(name), input, output, errors);
     }
     match folder.open(name) {
         Ok(file) => {
-            let mut file = peek(task, FromRead::new(file));
+            let mut file = Peeked::new(FromRead::new(file));
             report(alloc, task, Some(name), &mut file, output, errors)
         }
         Err(_) => {
@@ -146,10 +104,12 @@ pub fn answer<F: Folder, S: Source, K: Sink, E: Sink>(
     errors: &mut E,
 ) -> Exit
     requires { HasSides request.now.task }
-    ensures { RequestEnds request.now.task request.now.is_quiet (map string_bytes request.now.files.items)
-        (F.contents folder.now) input.old.prefix.items result
+    ensures ends { RequestEnds request.now.task request.now.is_quiet (map string_bytes request.now.files.items)
+        (F.contents folder.now) result
         (change (⟦<Peeked<S> as Source>⟧.state input.old) (⟦<Peeked<S> as Source>⟧.state input.new))
         (change (K.state output.old) (K.state output.new)) (change (E.state errors.old) (E.state errors.new)) }
+    ensures unread { reads_input request.now.task (map string_bytes request.now.files.items) ≡ false →
+        input.new ≡ input.old }
 {
     let names = request.files.as_slice();
     let is_quiet = request.is_quiet;

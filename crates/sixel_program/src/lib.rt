@@ -16,4 +16,5 @@ mod terminals;
 pub use execution::execute;
 pub use exit::{Exit, code_of, tell};
 pub use folder::{Folder, Input, System};
+pub use peeked::Peeked;
 pub use terminals::Terminals;

@@ -2,7 +2,8 @@
 
 use super::{check_of, request_of};
 use crate::ends::NO_TERMINALS;
-use sixel_program::{Exit, System, execute};
+use sixel_io::{FromRead, ToWrite};
+use sixel_program::{Exit, Peeked, System, execute};
 use std::test::Fail;
 
 /// An empty file, a directory, which can be opened but not read, and a name without a file.
@@ -17,9 +18,9 @@ fn files_of_the_system(rt: HostRuntime) -> Result<(), Fail> {
         &request,
         &System::new(&rt),
         NO_TERMINALS,
-        b"".as_slice(),
-        &mut written,
-        &mut said,
+        &mut Peeked::new(FromRead::new(b"".as_slice())),
+        &mut ToWrite::new(&mut written),
+        &mut ToWrite::new(&mut said),
     );
     let lines =
         b"sixel: /dev/null: Truncated at 0\nsixel: /: read failed\nsixel: /no such file: read failed\n\
