@@ -3,8 +3,7 @@
 ghost use Rattle.sixel_run.specs.Outputs.{HasSides};
 
 use super::{Asked, Ended, PIXEL, RATIO, RED, STREAMS, Streams, asked_of, check_of, ends_over};
-use crate::ends::{ENCODE, NO_TERMINALS, RENDER, SHOW, SHOW_BOX};
-use crate::memory_folder::MemoryFolder;
+use crate::ends::{ENCODE, NO_FILES, NO_TERMINALS, RENDER, SHOW, SHOW_BOX};
 use sixel_io::{FromRead, ToWrite};
 use sixel_program::{Exit, Peeked, Terminals, execute};
 use sixel_run::Task;
@@ -205,15 +204,11 @@ fn heard_before(alloc: Global, task: Task) -> Option<usize>
         is_quiet: false,
         files: Vec::new(alloc),
     };
-    let folder = MemoryFolder {
-        files: &[],
-        cut: &[],
-    };
     let mut output = Vec::new(alloc);
     execute(
         alloc,
         &request,
-        &folder,
+        &NO_FILES,
         KEYBOARD,
         &mut Peeked::new(FromRead::new(input)),
         &mut ToWrite::new(&mut output),
