@@ -66,14 +66,14 @@ pub record IsOpening (told : Told) (name : Text) (end : Option Unopened) : Type 
   pub not_text : IsNotText name → end ≡ Some NotText
   pub as_told : (IsNotText name → ⊥) → OpensAs told end
 
--- a call on a file that the folder opened has failed: none had when it was opened
+-- a call on some file of the folder's own type has failed; none has on a file that was just opened
 abbrev pub HasFailedFile : {O : Type 0} → FolderView O → Type 0
 HasFailedFile {O} folder = (file : O) × (0 < (folder.state file).failures)
 
--- no call on an input had failed, and then one did only if a call on a file that the folder opened failed
+-- no call on an input had failed, and then one did only if a call on some file of the folder failed
 abbrev pub CountsOf : {O : Type 0} → FolderView O → Change SourceState → Type 0
 CountsOf folder input = (input.old.failures ≡ 0) × (0 < input.new.failures → HasFailedFile folder)
 
--- the answer is that a read failed only if a call on a file that the folder opened failed
+-- the answer is that a read failed only if a call on some file of the folder failed
 abbrev pub FailsWith : {O A : Type 0} → FolderView O → Result A RunFault → Type 0
 FailsWith folder answer = answer ≡ Err Read → HasFailedFile folder
