@@ -1,13 +1,15 @@
 //! The program `sixel`: checks, lists, draws and writes sixel pictures.
 #![tactic(auto)]
 
-use sixel_io::ToWrite;
-use sixel_program::{Input, System, Terminals, code_of, execute, tell};
+use sixel_io::{FromRead, ToWrite};
+use sixel_program::{Input, Peeked, System, Terminals, code_of, execute, tell};
 use sixel_words::{arguments_of, task_in};
 use std::io::IsTerminal;
 use std::process::ExitCode;
 
 fn main(rt: HostRuntime) -> ExitCode {
+    let mut output = ToWrite::new(rt.stdout());
+    let mut errors = ToWrite::new(rt.stderr());
     let exit = match task_in(rt.alloc(), arguments_of(rt.alloc(), &rt)) {
         Ok(request) => {
             let folder = System::new(&rt);
@@ -16,21 +18,18 @@ fn main(rt: HostRuntime) -> ExitCode {
                 output: rt.stdout().is_terminal(),
                 errors: rt.stderr().is_terminal(),
             };
+            let mut input = Peeked::new(FromRead::new(Input::Standard(rt.stdin())));
             execute(
                 rt.alloc(),
                 &request,
                 &folder,
                 terminals,
-                Input::Standard(rt.stdin()),
-                rt.stdout(),
-                rt.stderr(),
+                &mut input,
+                &mut output,
+                &mut errors,
             )
         }
-        Err(fault) => {
-            let mut output = ToWrite::new(rt.stdout());
-            let mut errors = ToWrite::new(rt.stderr());
-            tell(rt.alloc(), fault, &mut output, &mut errors)
-        }
+        Err(fault) => tell(rt.alloc(), fault, &mut output, &mut errors),
     };
     ExitCode::from(code_of(exit))
 }

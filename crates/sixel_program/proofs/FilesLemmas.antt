@@ -1,19 +1,21 @@
 -- On checks of several files.
 use Rattle.std.proofs.Common.{◌≡◌, ◌∙◌, ◌+◌, ◌<◌, ℕ, Bool, true, false, List, [], ◌∷◌, ◌++◌, length, take}
-use Rattle.std.proofs.Common.{codes, drop, Option, Some, None, refl, sym, ap, ap₂, subst, arith, inl, inr, flat_map}
+use Rattle.std.proofs.Common.{drop, Option, Some, None, refl, sym, ap, ap₂, subst, arith, inl, inr, flat_map}
 use Rattle.std.proofs.Common.{fold, map}
-use Rattle.std.specs.Prelude.{◌≢◌, ◌⊎◌, Result, Ok, Err, IfSome, String, string_bytes, if◌then◌else◌}
+use Rattle.std.specs.Prelude.{Result, Ok, Err, IfSome, String, string_bytes}
 use Rattle.std.specs.Global.{Global}
-use Rattle.std.specs.Io.KnownBytes.{Appends, Keeps}
+use Rattle.std.specs.Io.KnownBytes.{Appends, Consumes, Keeps}
 use Rattle.std.specs.Option.{option_or}
 use Rattle.std.proofs.KnownBytes.{Consumes-nil, Appends-trans}
-use Rattle.std.proofs.Common.{get_or}
+use Rattle.std.proofs.Common.{get_or, ◌||◌}
+use Rattle.std.specs.List.{list_any}
+use Rattle.std.proofs.lemmas.List.Folds.{list_any-append}
 use Rattle.std.proofs.lemmas.List.{append-nil, take-append-drop, take_more}
 use Rattle.std.proofs.lemmas.List.Elements.{All-cons, All-nil, All-push}
 use Rattle.std.proofs.lemmas.Grind.{flat_map-append}
 use Rattle.std.proofs.lemmas.List.{map-append}
 use Rattle.std.proofs.lemmas.List.Sums.{fold_push}
-use Rattle.sixel_io.specs.Devices.{Change, SinkState, SourceState, change, one_more}
+use Rattle.sixel_io.specs.Devices.{Change, ReadsToEnd, SinkState, SourceState, change, one_more}
 use Rattle.sixel_io.proofs.SinkLemmas.{Appends-keeps, Appends-none}
 use Rattle.sixel_io.proofs.DeviceLemmas.{Appends-then}
 use Rattle.sixel_model.specs.declared.profile.Profile.{Profile}
@@ -27,27 +29,36 @@ use Rattle.sixel_run.specs.declared.task.Task.{Task}
 use Rattle.sixel_run.specs.declared.task.Task.TheVariants as task
 use Rattle.sixel_run.specs.declared.task.Task.TheVariants.{Check}
 use Rattle.sixel_program.specs.Exits.{IsPut, RunEnds, complaint, exit_for_answer}
-use Rattle.sixel_program.specs.Files.{AreChecked, AreDone, ArePut, AreCut, FileEnd, IsChecked, IsFileEnd, IsFileOpening, IsPrefix}
-use Rattle.sixel_program.specs.Files.{FileEnds, FilesEnd, RequestEnds, Tells, SaysOfCheck, is_dash, complaints_of}
-use Rattle.sixel_program.specs.Files.{SaysOfFile, exit_of_end, first_broken, failures_past, files_exit, files_text, worst, left_after}
-use Rattle.sixel_program.specs.Files.{names_of, names_read, said_of, said_of_check, said_of_file}
+use Rattle.sixel_program.specs.declared.formats.Format.{Format}
+use Rattle.sixel_program.specs.Formats.{IsFormat, advice_for, advice_on, format_of}
+use Rattle.sixel_program.specs.Files.{AreChecked, AreDone, ArePut, AreCut, FileEnd, IsChecked, IsFileEnd, IsFileOpening}
+use Rattle.sixel_program.specs.Files.{FileEnds, Tells, SaysOfCheck, is_dash, complaints_of}
+use Rattle.sixel_program.specs.Files.{SaysOfFile, exit_of_end, first_broken, failures_past, files_exit, files_text}
+use Rattle.sixel_program.specs.Files.{worst, left_after}
+use Rattle.sixel_program.specs.Files.{names_of, said_of, said_of_check, said_of_file}
 use Rattle.sixel_program.specs.Files.{text_of_end, told_of, worse}
 use Rattle.sixel_program.specs.Hints.{first_rule, hint, rule_of}
 use Rattle.sixel_program.specs.Names.{named_fault_line, unopened_line}
-use Rattle.sixel_program.specs.Openings.{CountsOf, FolderView, IsOpening, bytes_of}
+use Rattle.sixel_program.specs.Openings.{CountsOf, FailsWith, FolderView, IsOpening, bytes_of}
 use Rattle.sixel_program.specs.declared.folder.Unopened.{Unopened}
-use Rattle.sixel_run.specs.Outputs.{TakesMemory, Wrote}
-use Rattle.sixel_run.specs.Texts.{Text, fault_line, fault_parts}
+use Rattle.sixel_run.specs.Outputs.{TakesMemory, Wrote, failures_by}
+use Rattle.sixel_run.specs.Texts.{BeginsWith, Text, fault_line, fault_parts}
 use Rattle.sixel_program.proofs.EndLemmas.{kept}
+
+-- neither of two is true
+or_false : (a b : Bool) → (a || b) ≡ false → (a ≡ false) × (b ≡ false)
+or_false true b is = let no : true ≡ false = is in cc
+or_false false b is = (refl, is)
 
 -- ---- what is said of one file
 
 -- the message about a check of an input without a name is that about a run
-pub said_quietly : (profile : Profile) (answer : Result Status RunFault) (a b : SinkState)
-    → SaysOfCheck None answer (change a b) → IsPut (complaint (Check profile) None answer) (change a b)
-said_quietly profile (Ok status.Done) a b same = rw same (inl (Appends-none a.taken, refl))
-said_quietly profile (Ok (status.Broken finding)) a b same = rw same (inl (Appends-none a.taken, refl))
-said_quietly profile (Err fault) a b put = put
+pub said_quietly : (profile : Profile) (format : Option Format) (answer : Result Status RunFault) (a b : SinkState)
+    → SaysOfCheck None format answer (change a b)
+    → IsPut (complaint (Check profile) None answer ++ advice_for format answer) (change a b)
+said_quietly profile format (Ok status.Done) a b same = rw same (inl (Appends-none a.taken, refl))
+said_quietly profile format (Ok (status.Broken finding)) a b same = rw same (inl (Appends-none a.taken, refl))
+said_quietly profile format (Err fault) a b put = put
 
 -- ---- what is put
 
@@ -60,17 +71,19 @@ unfolding ArePut
 one_put text a b put = (b, put, refl)
 
 -- what is said of a check was put
-pub said_put : (name : Text) (answer : Result Status RunFault) (a b : SinkState)
-    → SaysOfCheck (Some name) answer (change a b) → ArePut (said_of_check name answer) (change a b)
+pub said_put : (name : Text) (format : Option Format) (answer : Result Status RunFault) (a b : SinkState)
+    → SaysOfCheck (Some name) format answer (change a b) → ArePut (said_of_check name format answer) (change a b)
 unfolding ArePut
-said_put name (Ok status) a b says = says
-said_put name (Err fault) a b says = one_put (named_fault_line name fault) a b says
+said_put name format (Ok status) a b says = says
+said_put name format (Err fault) a b says =
+    one_put (named_fault_line name fault ++ advice_on format fault) a b says
 
 -- what is said of a file was put
-pub file_said_put : (name : Text) (unopened : Option Unopened) (answer : Result Status RunFault) (a b : SinkState)
-    → SaysOfFile name unopened answer (change a b) → ArePut (said_of_file name unopened answer) (change a b)
-file_said_put name None answer a b says = said_put name answer a b says
-file_said_put name (Some reason) answer a b says = one_put (unopened_line name reason) a b says
+pub file_said_put : (name : Text) (unopened : Option Unopened) (format : Option Format)
+    (answer : Result Status RunFault) (a b : SinkState) → SaysOfFile name unopened format answer (change a b)
+    → ArePut (said_of_file name unopened format answer) (change a b)
+file_said_put name None format answer a b says = said_put name format answer a b says
+file_said_put name (Some reason) format answer a b says = one_put (unopened_line name reason) a b says
 
 -- texts were put, and then others
 pub put_then : (texts more : List Text) (a b c : SinkState) → ArePut texts (change a b) → ArePut more (change b c)
@@ -78,6 +91,21 @@ pub put_then : (texts more : List Text) (a b c : SinkState) → ArePut texts (ch
 unfolding ArePut
 put_then [] more a b c none are = rw (sym none) are
 put_then (text ∷ texts) more a b c before are = (before.0, before.1, put_then texts more before.0 b c before.2 are)
+
+-- ---- names
+
+-- if no name is that of standard input, then none of the first ones is, and not the last one
+pub no_dash_before : (names more : List Text) → list_any is_dash (names ++ more) ≡ false
+    → list_any is_dash names ≡ false
+no_dash_before names more none =
+    (or_false (list_any is_dash names) (list_any is_dash more) (sym (list_any-append is_dash names more) ∙ none)).0
+
+pub no_dash_last : (names : List Text) (name : Text) → list_any is_dash (names ++ name ∷ []) ≡ false
+    → is_dash name ≡ false
+no_dash_last names name none =
+    let last = (or_false (list_any is_dash names) (list_any is_dash (name ∷ []))
+    (sym (list_any-append is_dash names (name ∷ [])) ∙ none)).1 in
+    (or_false (is_dash name) false last).0
 
 -- ---- one file more
 
@@ -169,7 +197,7 @@ module _ (profile : Profile) (q : Bool) {O : Type 0} (folder : FolderView O) (en
       unfailed = one.outcome.2 ∙ before.unfailed;
       said = rw (text_more said_of ends one.e)
           (put_then (complaints_of ends) (said_of one.e) e₀ e₁ e₂ before.said
-          (file_said_put one.e.name one.e.unopened one.e.answer e₁ e₂ (rw one.name_is one.outcome.3)));
+          (file_said_put one.e.name one.e.unopened one.e.format one.e.answer e₁ e₂ (rw one.name_is one.outcome.3)));
     },
     ap first_rule (map-append (λ e. e.answer) ends (one.e ∷ []))
         ∙ fold_push (λ found answer. option_or found (rule_of answer)) None (map (λ e. e.answer) ends) one.e.answer
@@ -211,11 +239,12 @@ module _ (profile : Profile) (q : Bool) {O : Type 0} (folder : FolderView O) (en
 
 -- ---- one file
 
-pub no_prefix : (told : Option (List ℕ)) → IsPrefix told []
-no_prefix None = tt
-no_prefix (Some bytes) = (bytes, refl)
+-- no format is that of no bytes
+pub no_format : (told : Option (List ℕ)) → IsFormat told None
+no_format None = tt
+no_format (Some bytes) = ([], (bytes, refl), refl)
 
-memory_kept : (t : Task) (told has : Option (List ℕ)) → Keeps told has → TakesMemory t has → TakesMemory t told
+pub memory_kept : (t : Task) (told has : Option (List ℕ)) → Keeps told has → TakesMemory t has → TakesMemory t told
 memory_kept task.List told has same takes = absurd takes
 memory_kept (task.Check profile) told has same takes = kept _ told has same takes
 memory_kept (task.Render profile) told has same takes = kept _ told has same takes
@@ -223,12 +252,41 @@ memory_kept (task.Encode profile) told has same takes = kept _ told has same tak
 memory_kept (task.Show profile showing fill selects width height) told has same takes = tt
 memory_kept (task.ShowBox profile showing fill selects) told has same takes = tt
 
+pub format_kept : (format : Option Format) (told has : Option (List ℕ)) → Keeps told has → IsFormat has format
+    → IsFormat told format
+format_kept format told has same is =
+    kept (λ (bytes : List ℕ). (prefix : List ℕ) × BeginsWith bytes prefix × (format ≡ format_of prefix)) told has same
+    is
+
+-- what was read of a source was read of the bytes that the source was made from
+pub read_kept : {A E : Type 0} (answer : Result A E) (told has left : Option (List ℕ)) → Keeps told has
+    → ReadsToEnd answer has left → ReadsToEnd answer told left
+read_kept answer told has left same reads = record {
+  read = (reads.read.0, consumed reads.read.0 told has left same reads.read.1);
+  ended = reads.ended;
+}
+  where
+    consumed : (bytes : List ℕ) (told has left : Option (List ℕ)) → Keeps told has → Consumes has left bytes
+        → Consumes told left bytes
+    consumed bytes None has left same all = tt
+    consumed bytes (Some had) None left same all = absurd same
+    consumed bytes (Some had) (Some more) None same all = absurd all
+    consumed bytes (Some had) (Some more) (Some rest) same all = let is : more ≡ had = same in sym is ∙ all
+
+pub wrote_kept : (t : Task) (told has left : Option (List ℕ)) (answer : Result Status RunFault)
+    (was is : Option (List ℕ)) → Keeps told has → IfSome has (λ bytes. Wrote t bytes left answer was is)
+    → IfSome told (λ bytes. Wrote t bytes left answer was is)
+wrote_kept t told has left answer was is same =
+    kept (λ (bytes : List ℕ). Wrote t bytes left answer was is) told has same
+
 -- a run over a source is one over the bytes that the source was made from
-pub run_kept : (t : Task) (h : Bool) (name : Option Text) (prefix : List ℕ) (x : Exit) (told : Option (List ℕ))
-    (i : Change SourceState) (o e : Change SinkState) → Keeps told i.old.remaining → RunEnds t h name prefix x i o e
-    → RunEnds t h name prefix x (change (record { remaining = told; failures = i.old.failures }) i.new) o e
-run_kept t h name prefix x told i o e same ended = record {
+pub run_kept : (t : Task) (h : Bool) (name : Option Text) (x : Exit) (told : Option (List ℕ))
+    (i : Change SourceState) (o e : Change SinkState) → Keeps told i.old.remaining → RunEnds t h name x i o e
+    → RunEnds t h name x (change (record { remaining = told; failures = i.old.failures }) i.new) o e
+run_kept t h name x told i o e same ended = record {
   answer = ended.answer;
+  format = ended.format;
+  is_format = format_kept ended.format told i.old.remaining same ended.is_format;
   wrote = kept (λ (bytes : List ℕ). Wrote t bytes i.new.remaining ended.answer o.old.taken o.new.taken) told
       i.old.remaining same ended.wrote;
   memory = λ is. memory_kept t told i.old.remaining same (ended.memory is);
@@ -241,6 +299,14 @@ run_kept t h name prefix x told i o e same ended = record {
   hinted = ended.hinted;
 }
 
+-- a file was opened without a failure; if calls on an input over it failed, calls on it did
+pub fails_with : {O : Type 0} (folder : FolderView O) (answer : Result Status RunFault) (file : O) (old new : ℕ)
+    → old ≡ 0 → new ≡ failures_by run.Read answer old → (0 < new → 0 < (folder.state file).failures)
+    → FailsWith folder answer
+fails_with folder answer file old new none counts failed = λ read.
+    let one : new ≡ 1 = rw (read, none) at counts in
+    (file, failed (omega (arith, one)))
+
 -- a file that couldn't be opened
 pub unopened : (profile : Profile) (name : Text) (reason : Unopened) (told : Option (List ℕ))
     → IsFileEnd profile (record {
@@ -248,6 +314,7 @@ pub unopened : (profile : Profile) (name : Text) (reason : Unopened) (told : Opt
       unopened = Some reason;
       told = told;
       left = told;
+      format = None;
       line = [];
       answer = Err run.Read;
     })
@@ -256,6 +323,7 @@ unopened profile name reason told = record {
   memory = λ is. cc;
   written = λ is. cc;
   reads = record { read = ([], Consumes-nil told); ended = tt };
+  is_format = no_format told;
 }
   where
     nothing : (told : Option (List ℕ))
@@ -338,14 +406,11 @@ module _ (profile : Profile) (q : Bool) {O : Type 0} (folder : FolderView O) (en
 
 -- ---- a task over a file
 
-module _ (t : Task) (h : Bool) {O : Type 0} (folder : FolderView O) (name : Text) (given : List ℕ) (o e : Change SinkState) where
-  pub dash_ends : (x : Exit) (i : Change SourceState) → is_dash name ≡ true → RunEnds t h (Some name) given x i o e
-      → FileEnds t h folder name given x i o e
+module _ (t : Task) (h : Bool) {O : Type 0} (folder : FolderView O) (name : Text) (o e : Change SinkState) where
+  pub dash_ends : (x : Exit) (i : Change SourceState) → is_dash name ≡ true → RunEnds t h (Some name) x i o e
+      → FileEnds t h folder name x i o e
   dash_ends x i dash ended = record {
-    prefix = given;
     file = i;
-    given_prefix = λ is. refl;
-    own_prefix = λ is. let no : true ≡ false = sym dash ∙ is in cc;
     told = rw dash refl;
     is_input = λ is. refl;
     stays = λ is. let no : true ≡ false = sym dash ∙ is in cc;
@@ -358,35 +423,25 @@ module _ (t : Task) (h : Bool) {O : Type 0} (folder : FolderView O) (name : Text
     );
   }
 
-  pub file_ends : (x : Exit) (i : SourceState) (file : Change SourceState) (prefix : List ℕ) → is_dash name ≡ false
-      → Keeps (bytes_of folder.opening name) file.old.remaining → IsPrefix (bytes_of folder.opening name) prefix
-      → IsOpening (folder.opening name) name None → CountsOf folder file
-      → RunEnds t h (Some name) prefix x file o e → FileEnds t h folder name given x (change i i) o e
-  file_ends x i file prefix other same begins opens counts ended = record {
-    prefix = prefix;
-    file = change (record { remaining = bytes_of folder.opening name; failures = file.old.failures }) file.new;
-    given_prefix = λ is. let no : true ≡ false = sym is ∙ other in cc;
-    own_prefix = λ is. begins;
-    told = rw other refl;
+  pub file_ends : (x : Exit) (i : SourceState) (file : Change SourceState) → is_dash name ≡ false
+      → file.old.remaining ≡ bytes_of folder.opening name → IsOpening (folder.opening name) name None
+      → CountsOf folder file → RunEnds t h (Some name) x file o e → FileEnds t h folder name x (change i i) o e
+  file_ends x i file other told opens counts ended = record {
+    file = file;
+    told = rw other told;
     is_input = λ is. let no : true ≡ false = sym is ∙ other in cc;
     stays = λ is. refl;
-    ended = inl (
-      run_kept t h (Some name) prefix x (bytes_of folder.opening name) file o e same ended,
-      record { opening = λ is. opens; counted = λ is. counts },
-    );
+    ended = inl (ended, record { opening = λ is. opens; counted = λ is. counts });
   }
 
-pub unopened_ends : (t : Task) (h : Bool) {O : Type 0} (folder : FolderView O) (name : Text) (given : List ℕ) (i : SourceState)
+pub unopened_ends : (t : Task) (h : Bool) {O : Type 0} (folder : FolderView O) (name : Text) (i : SourceState)
     (o : SinkState) (e : Change SinkState) (reason : Unopened) → is_dash name ≡ false
     → IsOpening (folder.opening name) name (Some reason) → IsPut (unopened_line name reason) e
-    → FileEnds t h folder name given exit.Refused (change i i) (change o o) e
-unopened_ends t h folder name given i o e reason file opens put =
+    → FileEnds t h folder name exit.Refused (change i i) (change o o) e
+unopened_ends t h folder name i o e reason file opens put =
     let unread : SourceState = record { remaining = bytes_of folder.opening name; failures = 0 } in
     record {
-      prefix = [];
       file = change unread unread;
-      given_prefix = λ is. let no : true ≡ false = sym is ∙ file in cc;
-      own_prefix = λ is. no_prefix (bytes_of folder.opening name);
       told = rw file refl;
       is_input = λ is. let no : true ≡ false = sym is ∙ file in cc;
       stays = λ is. refl;
@@ -399,112 +454,3 @@ unopened_ends t h folder name given i o e reason file opens put =
         said = put;
       });
     }
-
--- ---- what is asked for
-
--- a run of the task over these bytes, where they are told, had an answer, and the exit status is that of it; or the
--- input wasn't read, and the status is that of a refusal
-abbrev pub IsRunOver : Task → Exit → Option (List ℕ) → Type 0
-IsRunOver t x told = (answer : Result Status RunFault) × (x ≡ exit_for_answer answer)
-    × (x ≢ exit.Refused → (left : Option (List ℕ)) × (had : Option (List ℕ)) × (has : Option (List ℕ))
-    × IfSome told (λ bytes. Wrote t bytes left answer had has))
-
-run_ends : (t : Task) (h : Bool) (name : Option Text) (prefix : List ℕ) (x : Exit) (i : Change SourceState)
-    (o e : Change SinkState) → RunEnds t h name prefix x i o e → IsRunOver t x i.old.remaining
-run_ends t h name prefix x i o e ended =
-    (ended.answer, ended.ends, λ judged. (i.new.remaining, o.old.taken, o.new.taken, ended.wrote))
-
-file_run : {O : Type 0} (folder : FolderView O) (t : Task) (h : Bool) (name : Text) (prefix : List ℕ) (x : Exit)
-    (i : Change SourceState) (o e : Change SinkState) → FileEnds t h folder name prefix x i o e
-    → IsRunOver t x (told_of (bytes_of folder.opening) i.old.remaining name)
-file_run folder t h name prefix x i o e ended =
-    subst (λ (told : Option (List ℕ)). IsRunOver t x told) ended.told (elim ended.ended [
-      | inl ran ↦ run_ends t h (Some name) ended.prefix x ended.file o e ran.0
-      | inr unopened ↦ (Err run.Read, unopened.ends, λ judged. absurd (judged unopened.ends))
-    ])
-
-module _ {O : Type 0} (folder : FolderView O) (prefix : List ℕ) (x : Exit) (i : Change SourceState)
-    (o e : Change SinkState) where
-  -- one input was read, or files were checked
-  abbrev pub HasRead : Task → Bool → Bool → List Text → Type 0
-  HasRead t q h names =
-      ((name : Text) × (names_read t names ≡ name ∷ []) × IsRunOver t x (told_of (bytes_of folder.opening) i.old.remaining name))
-      ⊎ ((profile : Profile) × (t ≡ Check profile) × (names_read t names ≡ names)
-      × FilesEnd profile q h folder names x i o e)
-
-  pub request_read : (t : Task) (q h : Bool) (names : List Text)
-      → RequestEnds t q h names folder prefix x i o e → HasRead t q h names
-  request_read (task.Check profile) true h [] ended =
-      inl (
-        codes "-",
-        refl,
-        (
-          ended.0.answer,
-          ended.0.ends,
-          λ judged. (
-            i.new.remaining,
-            Some [],
-            Some ended.0.line,
-            ended.0.wrote,
-          ),
-        ),
-      )
-  request_read (task.Check profile) false h [] ended =
-      inl (codes "-", refl, run_ends (Check profile) h None prefix x i o e ended)
-  request_read (task.Check profile) q h (name ∷ more) ended = inr (profile, refl, refl, ended)
-  request_read task.List q h [] ended =
-      inl (codes "-", refl, run_ends task.List h None prefix x i o e ended)
-  request_read task.List q h (name ∷ more) ended =
-      inl (name, refl, file_run folder task.List h name prefix x i o e ended)
-  request_read (task.Render profile) q h [] ended =
-      inl (codes "-", refl, run_ends (task.Render profile) h None prefix x i o e ended)
-  request_read (task.Render profile) q h (name ∷ more) ended =
-      inl (name, refl, file_run folder (task.Render profile) h name prefix x i o e ended)
-  request_read (task.Encode profile) q h [] ended =
-      inl (codes "-", refl, run_ends (task.Encode profile) h None prefix x i o e ended)
-  request_read (task.Encode profile) q h (name ∷ more) ended =
-      inl (name, refl, file_run folder (task.Encode profile) h name prefix x i o e ended)
-  request_read (task.Show profile showing fill selects width height) q h [] ended =
-      inl (codes "-", refl, run_ends (task.Show profile showing fill selects width height) h None prefix x i o e ended)
-  request_read (task.Show profile showing fill selects width height) q h (name ∷ more) ended =
-      inl (
-        name,
-        refl,
-        file_run folder (task.Show profile showing fill selects width height) h name prefix x i o e
-            ended,
-      )
-  request_read (task.ShowBox profile showing fill selects) q h [] ended =
-      inl (codes "-", refl, run_ends (task.ShowBox profile showing fill selects) h None prefix x i o e ended)
-  request_read (task.ShowBox profile showing fill selects) q h (name ∷ more) ended =
-      inl (name, refl, file_run folder (task.ShowBox profile showing fill selects) h name prefix x i o e ended)
-
-answer_no_usage : (a : Result Status RunFault) → exit_for_answer a ≢ exit.Usage
-answer_no_usage (Ok status.Done) = λ (is : exit.Done ≡ exit.Usage). cc
-answer_no_usage (Ok (status.Broken finding)) = λ (is : exit.Broken ≡ exit.Usage). cc
-answer_no_usage (Err fault) = λ (is : exit.Refused ≡ exit.Usage). cc
-
-one_of_two : (b : Bool) (x y : Exit) → x ≢ exit.Usage → y ≢ exit.Usage → (if b then y else x) ≢ exit.Usage
-one_of_two true x y nx ny = ny
-one_of_two false x y nx ny = nx
-
-greatest_no_usage : (x : Exit) (ends : List FileEnd) → x ≢ exit.Usage
-    → fold worse x (map exit_of_end ends) ≢ exit.Usage
-greatest_no_usage x [] other = other
-greatest_no_usage x (e ∷ ends) other =
-    greatest_no_usage (worse x (exit_of_end e)) ends (one_of_two _ x (exit_of_end e) other (answer_no_usage e.answer))
-
-files_no_usage : (profile : Profile) (q h : Bool) {O : Type 0} (folder : FolderView O) (names : List Text) (x : Exit)
-    (i : Change SourceState) (o e : Change SinkState) → FilesEnd profile q h folder names x i o e → x ≢ exit.Usage
-files_no_usage profile q h folder names x i o e (inl done) is =
-    greatest_no_usage exit.Done done.ends (λ (none : exit.Done ≡ exit.Usage). cc) (sym done.checked.exits ∙ is)
-files_no_usage profile q h folder names x i o e (inr cut) is =
-    let no : exit.Refused ≡ exit.Usage = sym cut.exits ∙ is in cc
-
-pub request_no_usage : (t : Task) (q h : Bool) (names : List Text) {O : Type 0} (folder : FolderView O) (prefix : List ℕ)
-    (x : Exit) (i : Change SourceState) (o e : Change SinkState) → RequestEnds t q h names folder prefix x i o e
-    → x ≢ exit.Usage
-request_no_usage t q h names folder prefix x i o e ended is =
-    elim (request_read folder prefix x i o e t q h names ended) [
-      | inl one ↦ answer_no_usage one.2.0 (sym one.2.1 ∙ is)
-      | inr checked ↦ files_no_usage checked.0 q h folder names x i o e checked.3 is
-    ]

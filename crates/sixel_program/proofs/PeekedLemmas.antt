@@ -2,7 +2,9 @@
 use Rattle.std.proofs.Common.{◌≡◌, ◌∙◌, ◌≤◌, ◌<◌, ◌+◌, ◌++◌, ℕ, List, Option, Some, None, ap, append_assoc, arith, drop}
 use Rattle.std.proofs.Common.{[], ◌∷◌, false, length, min, subst, sym, take, true}
 use Rattle.std.specs.Prelude.{◌==◌}
-use Rattle.std.specs.Io.KnownBytes.{Consumes, IsAtEnd, prepend_known}
+use Rattle.std.specs.Io.KnownBytes.{Consumes, IsAtEnd, Keeps, prepend_known}
+use Rattle.sixel_program.specs.declared.formats.Format.{Format}
+use Rattle.sixel_program.specs.Formats.{IsFormat, format_of}
 use Rattle.std.proofs.Math.Seq.{drop-drop, take-append_seam}
 use Rattle.std.proofs.lemmas.List.{length-take-le, take-append-drop}
 
@@ -38,3 +40,11 @@ prefix_given prefix waits new piece rest given n waiting some room count is =
 pub some_wait : (waits : List ℕ) → (length waits == 0) ≡ false → 0 < length waits
 some_wait [] is = let no : true ≡ false = is in cc
 some_wait (byte ∷ waits) is = omega arith
+
+-- a format that the waiting bytes tell is one of the input
+pub format_told : (told rest : Option (List ℕ)) (waits seen : List ℕ) (format : Option Format)
+    → Keeps told (prepend_known waits rest) → seen ≡ waits → format ≡ format_of seen → IsFormat told format
+format_told None rest waits seen format same are is = tt
+format_told (Some bytes) None waits seen format same are is = absurd same
+format_told (Some bytes) (Some more) waits seen format same are is =
+    (waits, (more, sym same), is ∙ ap format_of are)

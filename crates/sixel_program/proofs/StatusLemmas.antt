@@ -2,7 +2,6 @@
 use Rattle.std.proofs.Common.{◌≡◌, ◌∙◌, ◌≤◌, ◌∷◌, ℕ, Bool, true, false, List, [], Option, Some, None, arith, inl, inr}
 use Rattle.std.proofs.Common.{map, refl, subst, suc, sym, zero}
 use Rattle.std.specs.Prelude.{All, Contains, Err, IfSome, Ok, Result, if◌then◌else◌, slice_index_or}
-use Rattle.std.specs.Io.KnownBytes.{Keeps}
 use Rattle.std.proofs.lemmas.List.Elements.{All-cons, All-head, All-nil, All-tail, All-weaker}
 use Rattle.sixel_io.specs.Devices.{Change, ReadsToEnd, SinkState, SourceState}
 use Rattle.sixel_model.specs.declared.profile.Profile.{Profile}
@@ -23,8 +22,8 @@ use Rattle.sixel_program.specs.Files.{left_after, names_of, names_read}
 use Rattle.sixel_program.specs.Files.{told_of}
 use Rattle.sixel_program.specs.Openings.{FolderView, bytes_of}
 use Rattle.sixel_run.specs.Texts.{Text}
-use Rattle.sixel_program.proofs.EndLemmas.{broken_gives, done_gives, kept}
-use Rattle.sixel_program.proofs.FilesLemmas.{request_read}
+use Rattle.sixel_program.proofs.EndLemmas.{broken_gives, done_gives}
+use Rattle.sixel_program.proofs.RequestLemmas.{request_read}
 use Rattle.sixel_program.proofs.SeveralLemmas.{contains_later, greatest_of, reached}
 
 -- ---- checks of several files
@@ -147,22 +146,25 @@ module _ (profile : Profile) (q h : Bool) {O : Type 0} (folder : FolderView O) (
       → All (λ name. IsDoneOver (Check profile) (told_of (bytes_of folder.opening) i.old.remaining name)) names
   files_done (inl done) is =
       let are = done.checked in
-      subst (All (λ name. IsDoneOver (Check profile) (told_of (bytes_of folder.opening) i.old.remaining name))) (sym are.names_are)
-      (told_each (IsDoneOver (Check profile)) (bytes_of folder.opening) i.old.remaining i.new.remaining done.ends are.tells
-      (each_done profile done.ends are.each (sym are.exits ∙ is)))
+      subst (All (λ name. IsDoneOver (Check profile) (told_of (bytes_of folder.opening) i.old.remaining name)))
+      (sym are.names_are)
+      (told_each (IsDoneOver (Check profile)) (bytes_of folder.opening) i.old.remaining i.new.remaining done.ends
+      are.tells (each_done profile done.ends are.each (sym are.exits ∙ is)))
   files_done (inr cut) is = let no : exit.Refused ≡ exit.Done = sym cut.exits ∙ is in cc
 
   files_judged : FilesEnd profile q h folder names x i o e → x ≡ exit.Broken
       → All (λ name. IsJudgedOver (Check profile) (told_of (bytes_of folder.opening) i.old.remaining name)) names
   files_judged (inl done) is =
       let are = done.checked in
-      subst (All (λ name. IsJudgedOver (Check profile) (told_of (bytes_of folder.opening) i.old.remaining name))) (sym are.names_are)
-      (told_each (IsJudgedOver (Check profile)) (bytes_of folder.opening) i.old.remaining i.new.remaining done.ends are.tells
-      (each_judged profile done.ends are.each (sym are.exits ∙ is)))
+      subst (All (λ name. IsJudgedOver (Check profile) (told_of (bytes_of folder.opening) i.old.remaining name)))
+      (sym are.names_are)
+      (told_each (IsJudgedOver (Check profile)) (bytes_of folder.opening) i.old.remaining i.new.remaining done.ends
+      are.tells (each_judged profile done.ends are.each (sym are.exits ∙ is)))
   files_judged (inr cut) is = let no : exit.Refused ≡ exit.Broken = sym cut.exits ∙ is in cc
 
   files_broken : FilesEnd profile q h folder names x i o e → x ≡ exit.Broken
-      → (name : Text) × Contains names name × IsBrokenOver (Check profile) (told_of (bytes_of folder.opening) i.old.remaining name)
+      → (name : Text) × Contains names name
+      × IsBrokenOver (Check profile) (told_of (bytes_of folder.opening) i.old.remaining name)
   files_broken (inl done) is =
       let are = done.checked in
       subst (λ (ns : List Text). (name : Text) × Contains ns name
@@ -173,18 +175,18 @@ module _ (profile : Profile) (q h : Bool) {O : Type 0} (folder : FolderView O) (
 
 -- ---- what is asked for
 
-module _ (t : Task) (q h : Bool) (names : List Text) {O : Type 0} (folder : FolderView O) (prefix : List ℕ) (x : Exit)
+module _ (t : Task) (q h : Bool) (names : List Text) {O : Type 0} (folder : FolderView O) (x : Exit)
     (i : Change SourceState) (o e : Change SinkState)
-    (ended : RequestEnds t q h names folder prefix x i o e) where
+    (ended : RequestEnds t q h names folder x i o e) where
   all_of_one : (P : Option (List ℕ) → Type 0) (name : Text) → P (told_of (bytes_of folder.opening) i.old.remaining name)
       → All (λ n. P (told_of (bytes_of folder.opening) i.old.remaining n)) (name ∷ [])
   all_of_one P name p =
       All-cons (λ n. P (told_of (bytes_of folder.opening) i.old.remaining n)) name [] p
       (All-nil (λ n. P (told_of (bytes_of folder.opening) i.old.remaining n)))
 
-  pub all_read_done : x ≡ exit.Done → All (λ name. IsDoneOver t (told_of (bytes_of folder.opening) i.old.remaining name))
-      (names_read t names)
-  all_read_done is = elim (request_read folder prefix x i o e t q h names ended) [
+  pub all_read_done : x ≡ exit.Done
+      → All (λ name. IsDoneOver t (told_of (bytes_of folder.opening) i.old.remaining name)) (names_read t names)
+  all_read_done is = elim (request_read folder x i o e t q h names ended) [
     | inl one ↦
         let run = one.2.2 (λ refused. let no : exit.Done ≡ exit.Refused = sym is ∙ refused in cc) in
         rw one.1 (all_of_one (IsDoneOver t) one.0
@@ -193,9 +195,9 @@ module _ (t : Task) (q h : Bool) (names : List Text) {O : Type 0} (folder : Fold
         rw (checked.2, checked.1) (files_done checked.0 q h folder names x i o e checked.3 is)
   ]
 
-  pub all_read_judged : x ≡ exit.Broken → All (λ name. IsJudgedOver t (told_of (bytes_of folder.opening) i.old.remaining name))
-      (names_read t names)
-  all_read_judged is = elim (request_read folder prefix x i o e t q h names ended) [
+  pub all_read_judged : x ≡ exit.Broken
+      → All (λ name. IsJudgedOver t (told_of (bytes_of folder.opening) i.old.remaining name)) (names_read t names)
+  all_read_judged is = elim (request_read folder x i o e t q h names ended) [
     | inl one ↦
         let run = one.2.2 (λ refused. let no : exit.Broken ≡ exit.Refused = sym is ∙ refused in cc) in
         let ends : exit_for_answer one.2.0 ≡ exit.Broken = sym one.2.1 ∙ is in
@@ -207,7 +209,7 @@ module _ (t : Task) (q h : Bool) (names : List Text) {O : Type 0} (folder : Fold
 
   pub one_read_broken : x ≡ exit.Broken → (name : Text)
       × Contains (names_read t names) name × IsBrokenOver t (told_of (bytes_of folder.opening) i.old.remaining name)
-  one_read_broken is = elim (request_read folder prefix x i o e t q h names ended) [
+  one_read_broken is = elim (request_read folder x i o e t q h names ended) [
     | inl one ↦
         let run = one.2.2 (λ refused. let no : exit.Broken ≡ exit.Refused = sym is ∙ refused in cc) in (
           one.0,
@@ -217,13 +219,3 @@ module _ (t : Task) (q h : Bool) (names : List Text) {O : Type 0} (folder : Fold
     | inr checked ↦
         rw (checked.2, checked.1) (files_broken checked.0 q h folder names x i o e checked.3 is)
   ]
-
--- the same of the bytes that are read for a name
-pub told_kept : (P : List ℕ → Type 0) (contents : Text → Option (List ℕ)) (told has : Option (List ℕ)) (name : Text)
-    → Keeps told has → IfSome (told_of contents has name) P → IfSome (told_of contents told name) P
-told_kept P contents told has name same = either P (is_dash name) told has (contents name) same
-  where
-    either : (P : List ℕ → Type 0) (b : Bool) (told has other : Option (List ℕ)) → Keeps told has
-        → IfSome (if b then has else other) P → IfSome (if b then told else other) P
-    either P true told has other same h = kept P told has same h
-    either P false told has other same h = h

@@ -1,5 +1,5 @@
 -- How a run ends: exit statuses and messages.
-use Rattle.std.specs.Prelude.{◌≡◌, ◌≢◌, ◌⊎◌, ◌++◌, ℕ, List, [], Bool, false, true, take, IfSome, Result, Ok}
+use Rattle.std.specs.Prelude.{◌≡◌, ◌≢◌, ◌⊎◌, ◌++◌, ℕ, [], Bool, false, true, take, IfSome, Result, Ok}
 use Rattle.std.specs.Prelude.{Err, None, Option, Some, codes, if◌then◌else◌}
 use Rattle.std.specs.Io.{StartsWith}
 use Rattle.std.specs.Io.KnownBytes.{Appends}
@@ -15,7 +15,8 @@ use Rattle.sixel_words.specs.declared.words.WordsFault.{WordsFault}
 use Rattle.sixel_words.specs.declared.words.WordsFault.TheVariants as fault
 use Rattle.sixel_run.specs.declared.fault.RunFault.TheVariants as run
 use Rattle.sixel_words.specs.Explanations.{IsExplanation}
-use Rattle.sixel_program.specs.Formats.{advice}
+use Rattle.sixel_program.specs.declared.formats.Format.{Format}
+use Rattle.sixel_program.specs.Formats.{IsFormat, advice_for}
 use Rattle.sixel_program.specs.Hints.{hint_after}
 use Rattle.sixel_program.specs.Names.{named, named_fault_line}
 use Rattle.sixel_run.specs.Outputs.{CountsReads, CountsWrites, TakesMemory, Wrote}
@@ -62,14 +63,15 @@ IsPut text sink =
     (Appends sink.old.taken sink.new.taken text × (sink.new.failures ≡ sink.old.failures))
     ⊎ ((n : ℕ) × Appends sink.old.taken sink.new.taken (take n text) × (sink.new.failures ≡ one_more sink.old.failures))
 
--- how a run of the task ended, over an input that has this name or none and that begins with `prefix` as far as that
--- is known. The run had some answer. The input and the output are as after a run with this answer, the exit status is
--- that of the answer, and the errors got the message about it and the advice on an input of another format, and then
--- the hint, if hints are shown
-pub record RunEnds (t : Task) (is_shown : Bool) (name : Option Text) (prefix : List ℕ) (exit : Exit)
-    (input : Change SourceState) (output errors : Change SinkState) : Type 0 where
+-- how a run of the task ended, over an input that has this name or none. The run had some answer. The input and the
+-- output are as after a run with this answer, the exit status is that of the answer, and the errors got the message
+-- about it and the advice on an input of this format, and then the hint, if hints are shown
+pub record RunEnds (t : Task) (is_shown : Bool) (name : Option Text) (exit : Exit) (input : Change SourceState)
+    (output errors : Change SinkState) : Type 0 where
   pub answer : Result Status RunFault
   pub between : SinkState
+  pub format : Option Format
+  pub is_format : IsFormat input.old.remaining format
   pub wrote : IfSome input.old.remaining
       (λ bytes. Wrote t bytes input.new.remaining answer output.old.taken output.new.taken)
   pub memory : answer ≡ Err run.OutOfMemory → TakesMemory t input.old.remaining
@@ -77,7 +79,7 @@ pub record RunEnds (t : Task) (is_shown : Bool) (name : Option Text) (prefix : L
   pub written : CountsWrites answer output.old.failures output.new.failures
   pub flushed : answer ≢ Err run.Write → output.new.is_flushed ≡ true
   pub ends : exit ≡ exit_for_answer answer
-  pub said : IsPut (complaint t name answer ++ advice prefix answer) (change errors.old between)
+  pub said : IsPut (complaint t name answer ++ advice_for format answer) (change errors.old between)
   pub hinted : IsPut (hint_after is_shown t answer) (change between errors.new)
 
 -- ---- if the arguments name no task

@@ -1,11 +1,11 @@
 -- How requests end: over standard input or files, quiet or not.
-use Rattle.std.specs.Prelude.{◌≡◌, ◌≢◌, ◌⊎◌, ◌-◌, ◌^◌, ◌<◌, ◌==◌, ◌&&◌, ◌||◌, ℕ, Bool, length, not, true, false}
+use Rattle.std.specs.Prelude.{◌≡◌, ◌≢◌, ◌⊎◌, ◌-◌, ◌^◌, ◌<◌, ◌&&◌, ℕ, Bool, not, true, false}
 use Rattle.std.specs.Prelude.{List}
 use Rattle.std.specs.Prelude.{[]}
 use Rattle.std.specs.Prelude.{◌∷◌, ◌++◌, codes, flat_map, fold, map, take, nat_lt, Option, Some, None, IfSome, Result}
 use Rattle.std.specs.Prelude.{Ok}
 use Rattle.std.specs.Prelude.{Err, if◌then◌else◌}
-use Rattle.std.specs.Prelude.{option_to_list}
+use Rattle.std.specs.Prelude.{not, option_to_list}
 use Rattle.std.specs.Io.KnownBytes.{Appends}
 use Rattle.std.specs.List.{All, list_any}
 use Rattle.std.specs.Str.{bytes_eq}
@@ -21,13 +21,16 @@ use Rattle.sixel_run.specs.declared.fault.RunFault.TheVariants as run
 use Rattle.sixel_run.specs.declared.task.Status.{Status}
 use Rattle.sixel_run.specs.declared.task.Status.TheVariants as status
 use Rattle.sixel_run.specs.declared.task.Task.{Task}
-use Rattle.sixel_run.specs.declared.task.Task.TheVariants.{Check}
+use Rattle.sixel_run.specs.declared.task.Task.TheVariants.{Check, Encode, Render, Show, ShowBox}
+use Rattle.sixel_program.specs.declared.formats.Format.{Format}
+use Rattle.sixel_program.specs.declared.terminals.Terminals.{Terminals}
+use Rattle.sixel_program.specs.Formats.{IsFormat, advice_for, advice_on}
 use Rattle.sixel_program.specs.Exits.{IsPut, RunEnds, complaint, exit_code, exit_for_answer, fault_said}
 use Rattle.sixel_run.specs.Outputs.{Gives, TakesMemory, Wrote, failures_by}
 use Rattle.sixel_program.specs.Hints.{first_rule, hint}
 use Rattle.sixel_program.specs.Names.{named, named_fault_line, unopened_line}
 use Rattle.sixel_program.specs.Openings.{CountsOf, FailsWith, FolderView, IsOpening, Told, bytes_of}
-use Rattle.sixel_run.specs.Texts.{BeginsWith, Text, fault_line, line}
+use Rattle.sixel_run.specs.Texts.{Text, fault_line, line}
 
 -- ---- names
 
@@ -39,15 +42,15 @@ is_dash name = bytes_eq name (codes "-")
 abbrev pub told_of : (Text → Option (List ℕ)) → Option (List ℕ) → Text → Option (List ℕ)
 told_of contents input name = if is_dash name then input else contents name
 
--- whether standard input is read: no file is named, or one of the names is `-`
-abbrev pub reads_input : List Text → Bool
-reads_input names = length names == 0 || list_any is_dash names
-
 -- the names of what a task reads: `-` if there are none; for a check all of them, and for any other task the first
 abbrev pub names_read : Task → List Text → List Text
 names_read t [] = codes "-" ∷ []
 names_read (Check profile) (name ∷ more) = name ∷ more
 names_read t (name ∷ more) = name ∷ []
+
+-- whether the task reads standard input
+abbrev pub reads_input : Task → List Text → Bool
+reads_input t names = list_any is_dash (names_read t names)
 
 -- for these bytes, if they are known, the task is done
 abbrev pub IsDoneOver : Task → Option (List ℕ) → Type 0
@@ -62,27 +65,37 @@ IsBrokenOver t told =
 abbrev pub IsJudgedOver : Task → Option (List ℕ) → Type 0
 IsJudgedOver t told = IfSome told (λ bytes. (text : Text) × (status : Status) × Gives t bytes text (Ok status))
 
--- whether the task is a check that reads standard input
-abbrev pub awaits_text : Task → List Text → Bool
-awaits_text (Check profile) names = reads_input names
-awaits_text t names = false
+-- ---- terminals
 
--- the notice before a task: a check that reads a terminal says that it waits
-abbrev pub notice : Bool → Task → List Text → Text
-notice is_terminal t names =
-    if is_terminal && awaits_text t names
-    then codes "sixel: waiting for sixel text on standard input" ++ 10 ∷ []
-    else []
+-- what the task says if it waits for a terminal
+abbrev pub waiting_line : Task → Text
+waiting_line (Encode profile) = codes "sixel: waiting for a PPM on standard input" ++ 10 ∷ []
+waiting_line t = codes "sixel: waiting for sixel text on standard input" ++ 10 ∷ []
+
+-- the notice before a task: one that reads standard input says that it waits, if that is a terminal and it isn't quiet
+abbrev pub notice : Terminals → Task → Bool → List Text → Text
+notice terminals t is_quiet names =
+    if terminals.input && not is_quiet && reads_input t names then waiting_line t else []
+
+-- whether the task writes a PPM
+abbrev pub writes_ppm : Task → Bool
+writes_ppm (Render profile) = true
+writes_ppm (Show profile showing fill selects width height) = true
+writes_ppm (ShowBox profile showing fill selects) = true
+writes_ppm t = false
+
+-- whether the task would write a PPM to a terminal
+abbrev pub is_misdirected : Terminals → Task → Bool
+is_misdirected terminals t = terminals.output && writes_ppm t
+
+abbrev pub redirection : Text
+redirection = codes "sixel: a terminal can't show a PPM; redirect the output, as in `> picture.ppm`" ++ 10 ∷ []
 
 -- ---- one file
 
 -- what standard input has left after the file with this name, which left `left`
 abbrev pub left_after : Option (List ℕ) → Text → Option (List ℕ) → Option (List ℕ)
 left_after input name left = if is_dash name then left else input
-
--- the bytes begin with this prefix, if they are known
-abbrev pub IsPrefix : Option (List ℕ) → List ℕ → Type 0
-IsPrefix told prefix = IfSome told (λ bytes. BeginsWith bytes prefix)
 
 -- the file with this name, which isn't that of standard input, couldn't be opened for this reason: the output is
 -- unchanged, and the errors got the line of that reason
@@ -99,30 +112,27 @@ pub record IsOpened {O : Type 0} (folder : FolderView O) (name : Text) (input : 
   pub opening : is_dash name ≡ false → IsOpening (folder.opening name) name None
   pub counted : is_dash name ≡ false → CountsOf folder input
 
--- how a task over the file with this name ended. If the name is that of standard input, the file is `input`, which
--- begins with `given` as far as that is known. Otherwise `input` is unchanged, and the file was read or couldn't be
--- opened
-pub record FileEnds {O : Type 0} (t : Task) (is_shown : Bool) (folder : FolderView O) (name : Text) (given : List ℕ)
-    (exit : Exit) (input : Change SourceState) (output errors : Change SinkState) : Type 0 where
-  pub prefix : List ℕ
+-- how a task over the file with this name ended. If the name is that of standard input, the file is `input`. Otherwise
+-- `input` is unchanged, and the file was read or couldn't be opened
+pub record FileEnds {O : Type 0} (t : Task) (is_shown : Bool) (folder : FolderView O) (name : Text) (exit : Exit)
+    (input : Change SourceState) (output errors : Change SinkState) : Type 0 where
   pub file : Change SourceState
-  pub given_prefix : is_dash name ≡ true → prefix ≡ given
-  pub own_prefix : is_dash name ≡ false → IsPrefix (bytes_of folder.opening name) prefix
   pub told : file.old.remaining ≡ told_of (bytes_of folder.opening) input.old.remaining name
   pub is_input : is_dash name ≡ true → file ≡ input
   pub stays : is_dash name ≡ false → input.new ≡ input.old
-  pub ended : (RunEnds t is_shown (Some name) prefix exit file output errors × IsOpened folder name file)
+  pub ended : (RunEnds t is_shown (Some name) exit file output errors × IsOpened folder name file)
       ⊎ IsUnopened (folder.opening name) name exit output errors
 
 -- ---- checks of several files
 
 -- how the check of a file ended: why it couldn't be opened, if it couldn't; the file's bytes and what it had left, if
--- they are known; the verdict's line; and the answer
+-- they are known; its format; the verdict's line; and the answer
 pub record FileEnd : Type 0 where
   pub name : Text
   pub unopened : Option Unopened
   pub told : Option (List ℕ)
   pub left : Option (List ℕ)
+  pub format : Option Format
   pub line : Text
   pub answer : Result Status RunFault
 
@@ -132,6 +142,7 @@ pub record IsFileEnd (profile : Profile) (e : FileEnd) : Type 0 where
   pub memory : e.answer ≡ Err run.OutOfMemory → TakesMemory (Check profile) e.told
   pub written : e.answer ≢ Err run.Write
   pub reads : ReadsToEnd e.answer e.told e.left
+  pub is_format : IsFormat e.told e.format
 
 -- the file was opened, or couldn't be, which counts as a failed read. Standard input is never opened
 pub record IsFileOpening {O : Type 0} (folder : FolderView O) (e : FileEnd) : Type 0 where
@@ -152,18 +163,18 @@ text_of_end is_quiet e = file_text is_quiet e.name e.line e.answer
 abbrev pub files_text : Bool → List FileEnd → Text
 files_text is_quiet ends = flat_map (text_of_end is_quiet) ends
 
--- the messages about the check of the file with this name: one if it is refused
-abbrev pub said_of_check : Text → Result Status RunFault → List Text
-said_of_check name (Ok status) = []
-said_of_check name (Err fault) = named_fault_line name fault ∷ []
+-- the messages about the check of the file with this name and this format: if it is refused one, with the advice on it
+abbrev pub said_of_check : Text → Option Format → Result Status RunFault → List Text
+said_of_check name format (Ok status) = []
+said_of_check name format (Err fault) = (named_fault_line name fault ++ advice_on format fault) ∷ []
 
--- the messages about the file with this name: one if it couldn't be opened or is refused
-abbrev pub said_of_file : Text → Option Unopened → Result Status RunFault → List Text
-said_of_file name None answer = said_of_check name answer
-said_of_file name (Some reason) answer = unopened_line name reason ∷ []
+-- the messages about the file with this name and this format: one if it couldn't be opened or is refused
+abbrev pub said_of_file : Text → Option Unopened → Option Format → Result Status RunFault → List Text
+said_of_file name None format answer = said_of_check name format answer
+said_of_file name (Some reason) format answer = unopened_line name reason ∷ []
 
 abbrev pub said_of : FileEnd → List Text
-said_of e = said_of_file e.name e.unopened e.answer
+said_of e = said_of_file e.name e.unopened e.format e.answer
 
 -- the messages about several files
 abbrev pub complaints_of : List FileEnd → List Text
@@ -197,29 +208,30 @@ ArePut [] sink = sink.new ≡ sink.old
 ArePut (text ∷ rest) sink =
     (between : SinkState) × IsPut text (change sink.old between) × ArePut rest (change between sink.new)
 
--- the message about the check of an input, which has this name or none, was put to a sink
-abbrev pub SaysOfCheck : Option Text → Result Status RunFault → Change SinkState → Type 0
-SaysOfCheck name (Ok status) errors = errors.new ≡ errors.old
-SaysOfCheck name (Err fault) errors = IsPut (fault_said name fault) errors
+-- the message about the check of an input, which has this name or none and this format, was put to a sink
+abbrev pub SaysOfCheck : Option Text → Option Format → Result Status RunFault → Change SinkState → Type 0
+SaysOfCheck name format (Ok status) errors = errors.new ≡ errors.old
+SaysOfCheck name format (Err fault) errors = IsPut (fault_said name fault ++ advice_on format fault) errors
 
--- the message about the file with this name was put to a sink
-abbrev pub SaysOfFile : Text → Option Unopened → Result Status RunFault → Change SinkState → Type 0
-SaysOfFile name None answer errors = SaysOfCheck (Some name) answer errors
-SaysOfFile name (Some reason) answer errors = IsPut (unopened_line name reason) errors
+-- the message about the file with this name and this format was put to a sink
+abbrev pub SaysOfFile : Text → Option Unopened → Option Format → Result Status RunFault → Change SinkState → Type 0
+SaysOfFile name None format answer errors = SaysOfCheck (Some name) format answer errors
+SaysOfFile name (Some reason) format answer errors = IsPut (unopened_line name reason) errors
 
--- what the check of the file with this name did to the two sinks, given the verdict's line and the answer. `Ok`: the
--- text for the file was appended to the output, and the message about it was put to the errors. `Err`: the output
--- failed after a prefix of that text, and nothing was put to the errors. This can't happen if the check is quiet
-abbrev pub IsOutcome : {E : Type 0} → Bool → Text → Option Unopened → Text → Result Status RunFault
+-- what the check of the file with this name and this format did to the two sinks, given the verdict's line and the
+-- answer. `Ok`: the text for the file was appended to the output, and the message about it was put to the errors.
+-- `Err`: the output failed after a prefix of that text, and nothing was put to the errors. This can't happen if the
+-- check is quiet
+abbrev pub IsOutcome : {E : Type 0} → Bool → Text → Option Unopened → Option Format → Text → Result Status RunFault
     → Result (Result Status RunFault) E → Change SinkState → Change SinkState → Type 0
-IsOutcome is_quiet name unopened line answer (Ok answered) output errors =
+IsOutcome is_quiet name unopened format line answer (Ok answered) output errors =
     (answered ≡ answer)
     × Appends output.old.taken output.new.taken (file_text is_quiet name line answer)
-    × (output.new.failures ≡ output.old.failures) × SaysOfFile name unopened answer errors
-IsOutcome is_quiet name unopened line answer (Err fault) output errors =
+    × (output.new.failures ≡ output.old.failures) × SaysOfFile name unopened format answer errors
+IsOutcome is_quiet name unopened format line answer (Err fault) output errors =
     ((count : ℕ) × Appends output.old.taken output.new.taken (take count (file_text is_quiet name line answer)))
     × (is_quiet ≡ false) × (output.new.failures ≡ one_more output.old.failures)
-    × (said_of_file name unopened answer ≡ []) × (errors.new ≡ errors.old)
+    × (said_of_file name unopened format answer ≡ []) × (errors.new ≡ errors.old)
 
 -- the bytes of each file in turn, if they are known; standard input had `had` before them and has `has` after them
 unfoldable pub Tells : (Text → Option (List ℕ)) → Option (List ℕ) → List FileEnd → Option (List ℕ) → Type 0
@@ -234,8 +246,8 @@ failures_past count e = if is_dash e.name then failures_by run.Read e.answer cou
 
 -- how the check of the file with this name ended, beside standard input, and what it did to the two sinks
 pub record IsChecked {O E : Type 0} (profile : Profile) (is_quiet : Bool) (folder : FolderView O)
-    (name : Text) (result : Result (Result Status RunFault) E) (input : Change SourceState) (output errors : Change SinkState)
-    : Type 0 where
+    (name : Text) (result : Result (Result Status RunFault) E) (input : Change SourceState)
+    (output errors : Change SinkState) : Type 0 where
   pub e : FileEnd
   pub name_is : e.name ≡ name
   pub told : e.told ≡ told_of (bytes_of folder.opening) input.old.remaining name
@@ -243,7 +255,7 @@ pub record IsChecked {O E : Type 0} (profile : Profile) (is_quiet : Bool) (folde
   pub is_end : IsFileEnd profile e
   pub opening : IsFileOpening folder e
   pub counted : input.new.failures ≡ failures_past input.old.failures e
-  pub outcome : IsOutcome is_quiet name e.unopened e.line e.answer result output errors
+  pub outcome : IsOutcome is_quiet name e.unopened e.format e.line e.answer result output errors
 
 -- a call on a sink failed: its count of failures rose, or is the greatest `u64`
 abbrev pub HasFailed : Change SinkState → Type 0
@@ -309,10 +321,12 @@ FilesEnd profile is_quiet is_shown folder names exit input output errors =
 
 -- ---- requests
 
--- how a quiet check of standard input ended. `line` is the verdict's line, which isn't written
+-- how a quiet check of standard input ended, which has this format. `line` is the verdict's line, which isn't written
 pub record QuietEnds (profile : Profile) (exit : Exit) (input : Change SourceState) (errors : Change SinkState)
     : Type 0 where
   pub answer : Result Status RunFault
+  pub format : Option Format
+  pub is_format : IsFormat input.old.remaining format
   pub line : Text
   pub wrote : IfSome input.old.remaining
       (λ bytes. Wrote (Check profile) bytes input.new.remaining answer (Some []) (Some line))
@@ -321,17 +335,23 @@ pub record QuietEnds (profile : Profile) (exit : Exit) (input : Change SourceSta
   pub read : input.new.failures ≡ failures_by run.Read answer input.old.failures
   pub written : answer ≢ Err run.Write
   pub ends : exit ≡ exit_for_answer answer
-  pub said : IsPut (complaint (Check profile) None answer) errors
+  pub said : IsPut (complaint (Check profile) None answer ++ advice_for format answer) errors
 
--- how a request ended, over standard input that begins with `prefix` as far as that is known. Without names the task
--- is over standard input. Otherwise a check is of all files that are named, and any other task is over the first
-abbrev pub RequestEnds : {O : Type 0} → Task → Bool → Bool → List Text → FolderView O → List ℕ → Exit → Change SourceState
+-- how a request ended. Without names the task is over standard input. Otherwise a check is of all files that are named,
+-- and any other task is over the first
+abbrev pub RequestEnds : {O : Type 0} → Task → Bool → Bool → List Text → FolderView O → Exit → Change SourceState
     → Change SinkState → Change SinkState → Type 0
-RequestEnds (Check profile) true is_shown [] folder prefix exit input output errors =
+RequestEnds (Check profile) true is_shown [] folder exit input output errors =
     QuietEnds profile exit input errors × (output.new ≡ output.old)  -- nothing was written
-RequestEnds t is_quiet is_shown [] folder prefix exit input output errors =
-    RunEnds t is_shown None prefix exit input output errors
-RequestEnds (Check profile) is_quiet is_shown (name ∷ more) folder prefix exit input output errors =
+RequestEnds t is_quiet is_shown [] folder exit input output errors = RunEnds t is_shown None exit input output errors
+RequestEnds (Check profile) is_quiet is_shown (name ∷ more) folder exit input output errors =
     FilesEnd profile is_quiet is_shown folder (name ∷ more) exit input output errors
-RequestEnds t is_quiet is_shown (name ∷ more) folder prefix exit input output errors =
-    FileEnds t is_shown folder name prefix exit input output errors
+RequestEnds t is_quiet is_shown (name ∷ more) folder exit input output errors =
+    FileEnds t is_shown folder name exit input output errors
+
+-- a request ended so, after its notice
+abbrev pub NoticedEnds : {O : Type 0} → Text → Task → Bool → Bool → List Text → FolderView O → Exit
+    → Change SourceState → Change SinkState → Change SinkState → Type 0
+NoticedEnds text t is_quiet is_shown names folder exit input output errors =
+    (noticed : SinkState) × IsPut text (change errors.old noticed)
+    × RequestEnds t is_quiet is_shown names folder exit input output (change noticed errors.new)

@@ -1,4 +1,5 @@
 pub mod Formats
+pub mod Peeked
 pub mod Exits
 pub mod Names
 pub mod Hints

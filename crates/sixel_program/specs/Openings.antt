@@ -1,5 +1,5 @@
 -- Files opened by their names: what a folder tells of them, and why one can't be opened.
-use Rattle.std.specs.Prelude.{◌≡◌, ℕ, ◌∷◌, ◌++◌, List, [], codes, Option, Some, None, Result, Ok, Err, ⊤}
+use Rattle.std.specs.Prelude.{◌≡◌, ◌<◌, ℕ, ◌∷◌, ◌++◌, List, [], codes, Option, Some, None, Result, Ok, Err, ⊤}
 use Rattle.std.specs.declared.io.ErrorKind.{ErrorKind}
 use Rattle.std.specs.declared.io.ErrorKind.TheVariants as kind
 use Rattle.sixel_io.specs.Devices.{Change, SourceState}
@@ -9,7 +9,6 @@ use Rattle.sixel_program.specs.declared.folder.Unopened.TheVariants.{Failed}
 use Rattle.sixel_run.specs.Texts.{Text}
 use Rattle.sixel_run.specs.declared.fault.RunFault.{RunFault}
 use Rattle.sixel_run.specs.declared.fault.RunFault.TheVariants.{Read}
-use Rattle.sixel_run.specs.Outputs.{failures_by}
 
 -- the reason for an error of the system
 abbrev pub reason_of : ErrorKind → Unopened
@@ -67,13 +66,14 @@ pub record IsOpening (told : Told) (name : Text) (end : Option Unopened) : Type 
   pub not_text : IsNotText name → end ≡ Some NotText
   pub as_told : (IsNotText name → ⊥) → OpensAs told end
 
--- the failed calls on an input are those on a file that the folder opened
-abbrev pub CountsOf : {O : Type 0} → FolderView O → Change SourceState → Type 0
-CountsOf {O} folder input =
-    (first last : O) × (input.old.failures ≡ (folder.state first).failures)
-    × (input.new.failures ≡ (folder.state last).failures)
+-- a call on some file of the folder's own type has failed; none has on a file that was just opened
+abbrev pub HasFailedFile : {O : Type 0} → FolderView O → Type 0
+HasFailedFile {O} folder = (file : O) × (0 < (folder.state file).failures)
 
--- the answer is that a read failed exactly if a call on a file that the folder opened failed
+-- no call on an input had failed, and then one did only if a call on some file of the folder failed
+abbrev pub CountsOf : {O : Type 0} → FolderView O → Change SourceState → Type 0
+CountsOf folder input = (input.old.failures ≡ 0) × (0 < input.new.failures → HasFailedFile folder)
+
+-- the answer is that a read failed only if a call on some file of the folder failed
 abbrev pub FailsWith : {O A : Type 0} → FolderView O → Result A RunFault → Type 0
-FailsWith {O} folder answer =
-    (first last : O) × ((folder.state last).failures ≡ failures_by Read answer (folder.state first).failures)
+FailsWith folder answer = answer ≡ Err Read → HasFailedFile folder

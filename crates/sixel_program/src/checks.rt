@@ -1,10 +1,13 @@
 //! Checks of files, and quiet checks of standard input.
 
-ghost use Rattle.std.specs.Prelude.{◌≡◌, None, Result, map, option_copied};
+ghost use Rattle.std.specs.Prelude.{◌≡◌, None, Option, Result, false, map, option_copied};
+ghost use Rattle.std.specs.List.{list_any};
 ghost use Rattle.std.specs.String.{string_bytes};
 ghost use Rattle.sixel_io.specs.Devices.{change};
 ghost use Rattle.sixel_program.specs.Exits.{IsPut};
-ghost use Rattle.sixel_program.specs.Files.{FilesEnd, IsChecked, IsFileEnd, IsOutcome, QuietEnds, SaysOfCheck, worse};
+ghost use Rattle.sixel_program.specs.Files.{FilesEnd, IsChecked, IsFileEnd, IsOutcome, QuietEnds, SaysOfCheck};
+ghost use Rattle.sixel_program.specs.Files.{is_dash, worse};
+ghost use Rattle.sixel_program.specs.declared.formats.Format.{Format as AFormat};
 ghost use Rattle.sixel_program.specs.Openings.{folder_view};
 ghost use Rattle.sixel_run.specs.Outputs.{answer_of, failures_by, line_of};
 ghost use Rattle.sixel_run.specs.Texts.{Text, fault_line};
@@ -14,30 +17,33 @@ ghost use Rattle.sixel_run.specs.declared.task.Status.{Status as AStatus};
 
 use crate::exit::{Exit, code_of, exit_of};
 use crate::folder::{Folder, open_file};
+use crate::formats::Format;
 use crate::hints::{put_hint, rule_of};
 use crate::names::put_named;
 use crate::peeked::Peeked;
-use crate::saying::{put_fault, put_unopened};
+use crate::saying::{put_refusal, put_unopened};
 use sixel_check::Verdict;
 use sixel_io::{DeviceFault, Sink, Source};
 use sixel_model::Profile;
 use sixel_run::{RunFault, Status, judge, status_of, verdict_line, write_fault};
 use std::alloc::Global;
 
-/// Writes why a checked input was refused, if it was. The input has this name or none. Returns the answer of the check.
+/// Writes why a checked input was refused, if it was. The input has this name or none, and this format. Returns the
+/// answer of the check.
 fn say_judged<E: Sink>(
     name: Option<&str>,
+    format: Option<Format>,
     judged: Result<Verdict, RunFault>,
     errors: &mut E,
 ) -> Result<Status, RunFault>
     ensures answer { result ≡ answer_of judged }
-    ensures said { SaysOfCheck (option_copied name.entry) (answer_of judged)
+    ensures said { SaysOfCheck (option_copied name.entry) format (answer_of judged)
         (change (E.state errors.old) (E.state errors.new)) }
 {
     match judged {
         Ok(verdict) => Ok(status_of(&verdict)),
         Err(fault) => {
-            let _ = put_fault(name, &fault, errors);
+            let _ = put_refusal(name, format, &fault, errors);
             Err(fault)
         }
     }
@@ -47,14 +53,16 @@ fn say_judged<E: Sink>(
 pub fn check_quietly<S: Source, E: Sink>(
     alloc: Global,
     profile: Profile,
-    input: &mut S,
+    input: &mut Peeked<S>,
     errors: &mut E,
 ) -> Exit
     ensures { QuietEnds profile result
-        (change (S.state input.old) (S.state input.new)) (change (E.state errors.old) (E.state errors.new)) }
+        (change (⟦<Peeked<S> as Source>⟧.state input.old) (⟦<Peeked<S> as Source>⟧.state input.new))
+        (change (E.state errors.old) (E.state errors.new)) }
 {
+    let format = input.format();
     let judged = judge(alloc, profile, input);
-    exit_of(say_judged(None, judged, errors))
+    exit_of(say_judged(None, format, judged, errors))
 }
 
 /// Writes the verdict on a file, unless the check is quiet, or why the file was refused. Returns the answer of the
@@ -62,11 +70,12 @@ pub fn check_quietly<S: Source, E: Sink>(
 fn put_judged<K: Sink, E: Sink>(
     is_quiet: bool,
     name: &str,
+    format: Option<Format>,
     judged: Result<Verdict, RunFault>,
     output: &mut K,
     errors: &mut E,
 ) -> Result<Result<Status, RunFault>, DeviceFault>
-    ensures { IsOutcome is_quiet name.now None (line_of judged) (answer_of judged) result
+    ensures { IsOutcome is_quiet name.now None format (line_of judged) (answer_of judged) result
         (change (K.state output.old) (K.state output.new)) (change (E.state errors.old) (E.state errors.new)) }
 {
     if let Ok(verdict) = &judged {
@@ -74,7 +83,7 @@ fn put_judged<K: Sink, E: Sink>(
             put_named(output, b"", name, b": ", verdict_line(verdict).as_slice())?;
         }
     }
-    Ok(say_judged(Some(name), judged, errors))
+    Ok(say_judged(Some(name), format, judged, errors))
 }
 
 /// Checks an open file, or standard input by its name. Returns the answer, or an `Err` if `output` failed.
@@ -83,25 +92,28 @@ fn check_named<S: Source, K: Sink, E: Sink>(
     profile: Profile,
     is_quiet: bool,
     name: &str,
-    input: &mut S,
+    input: &mut Peeked<S>,
     output: &mut K,
     errors: &mut E,
 ) -> Result<Result<Status, RunFault>, DeviceFault>
-    ensures { (line : Text) × (answer : Result AStatus AFault)
+    ensures { (format : Option AFormat) × (line : Text) × (answer : Result AStatus AFault)
         × IsFileEnd profile (record {
           name = name.now;
           unopened = None;
-          told = (S.state input.old).remaining;
-          left = (S.state input.new).remaining;
+          told = (⟦<Peeked<S> as Source>⟧.state input.old).remaining;
+          left = (⟦<Peeked<S> as Source>⟧.state input.new).remaining;
+          format = format;
           line = line;
           answer = answer;
         })
-        × ((S.state input.new).failures ≡ failures_by ReadFault answer (S.state input.old).failures)
-        × IsOutcome is_quiet name.now None line answer result
+        × ((⟦<Peeked<S> as Source>⟧.state input.new).failures
+        ≡ failures_by ReadFault answer (⟦<Peeked<S> as Source>⟧.state input.old).failures)
+        × IsOutcome is_quiet name.now None format line answer result
         (change (K.state output.old) (K.state output.new)) (change (E.state errors.old) (E.state errors.new)) }
 {
+    let format = input.format();
     let judged = judge(alloc, profile, input);
-    put_judged(is_quiet, name, judged, output, errors)
+    put_judged(is_quiet, name, format, judged, output, errors)
 }
 
 /// Checks the file with this name, or standard input if the name is `-`. Returns the answer, or an `Err` if `output`
@@ -112,20 +124,21 @@ fn check_file<F: Folder, S: Source, K: Sink, E: Sink>(
     is_quiet: bool,
     name: &str,
     folder: &F,
-    input: &mut S,
+    input: &mut Peeked<S>,
     output: &mut K,
     errors: &mut E,
 ) -> Result<Result<Status, RunFault>, DeviceFault>
-    ensures { IsChecked profile is_quiet (folder_view (F.opening folder.now) F.Opened.state) name.now result
-        (change (S.state input.old) (S.state input.new)) (change (K.state output.old) (K.state output.new))
-        (change (E.state errors.old) (E.state errors.new)) }
+    ensures checked { IsChecked profile is_quiet (folder_view (F.opening folder.now) F.Opened.state) name.now result
+        (change (⟦<Peeked<S> as Source>⟧.state input.old) (⟦<Peeked<S> as Source>⟧.state input.new))
+        (change (K.state output.old) (K.state output.new)) (change (E.state errors.old) (E.state errors.new)) }
+    ensures unread { is_dash name.now ≡ false → input.new ≡ input.old }
 {
     if name == "-" {
         return check_named(alloc, profile, is_quiet, name, input, output, errors);
     }
     match open_file(folder, name) {
         Ok(file) => {
-            let mut file = Peeked::unread(file);
+            let mut file = Peeked::new(file);
             check_named(alloc, profile, is_quiet, name, &mut file, output, errors)
         }
         Err(reason) => {
@@ -153,8 +166,8 @@ fn unwritten<E: Sink>(errors: &mut E) -> Exit
 }
 
 /// Checks the files with these names in turn. A refused file doesn't end this, but a failed write does. The exit status
-/// is the greatest of theirs. If hints are shown (`is_shown`) and the check isn't quiet, one on the first broken verdict
-/// comes last.
+/// is the greatest of theirs. If hints are shown (`is_shown`) and the check isn't quiet, one on the first broken
+/// verdict comes last.
 pub fn check_files<F: Folder, S: Source, K: Sink, E: Sink>(
     alloc: Global,
     profile: Profile,
@@ -162,14 +175,15 @@ pub fn check_files<F: Folder, S: Source, K: Sink, E: Sink>(
     is_shown: bool,
     names: &[String],
     folder: &F,
-    input: &mut S,
+    input: &mut Peeked<S>,
     output: &mut K,
     errors: &mut E,
 ) -> Exit
-    ensures { FilesEnd profile is_quiet is_shown (folder_view (F.opening folder.now) F.Opened.state)
+    ensures checked { FilesEnd profile is_quiet is_shown (folder_view (F.opening folder.now) F.Opened.state)
         (map string_bytes names.now) result
-        (change (S.state input.old) (S.state input.new)) (change (K.state output.old) (K.state output.new))
-        (change (E.state errors.old) (E.state errors.new)) }
+        (change (⟦<Peeked<S> as Source>⟧.state input.old) (⟦<Peeked<S> as Source>⟧.state input.new))
+        (change (K.state output.old) (K.state output.new)) (change (E.state errors.old) (E.state errors.new)) }
+    ensures unread { list_any is_dash (map string_bytes names.now) ≡ false → input.new ≡ input.old }
 {
     let mut exit = Exit::Done;
     let mut broken = None;

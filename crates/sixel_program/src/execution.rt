@@ -1,57 +1,67 @@
 //! Carries out a request over streams and a folder.
 
-ghost use Rattle.std.specs.Prelude.{◌≡◌, ◌≢◌, All, Contains, map};
+ghost use Rattle.std.specs.Prelude.{◌≡◌, All, Contains, false, map, true};
 ghost use Rattle.std.specs.String.{string_bytes};
-ghost use Rattle.sixel_program.specs.Files.{IsBrokenOver, IsDoneOver, IsJudgedOver, names_read};
-ghost use Rattle.sixel_program.specs.Files.{told_of};
-ghost use Rattle.sixel_program.specs.Openings.{bytes_of};
+ghost use Rattle.sixel_io.specs.Devices.{change};
+ghost use Rattle.sixel_program.specs.Exits.{IsPut};
+ghost use Rattle.sixel_program.specs.Files.{IsBrokenOver, IsDoneOver, IsJudgedOver, NoticedEnds, names_read};
+ghost use Rattle.sixel_program.specs.Files.{is_misdirected, notice, reads_input, redirection, told_of};
+ghost use Rattle.sixel_program.specs.Openings.{bytes_of, folder_view};
 ghost use Rattle.sixel_run.specs.Outputs.{HasSides};
 ghost use Rattle.sixel_run.specs.Texts.{Text};
 
 use crate::exit::Exit;
-use crate::files::{announce, answer, peek_input};
+use crate::files::answer;
 use crate::folder::Folder;
-use crate::terminals::Terminals;
-use sixel_io::{FromRead, ToWrite};
+use crate::peeked::Peeked;
+use crate::terminals::{Terminals, announce, is_misdirected, put_redirection};
+use sixel_io::{Sink, Source};
 use sixel_words::Request;
 use std::alloc::Global;
-use std::io::{Read, Write};
 
-/// Carries out a request over `input` and the files of `folder`. Results go to `output`, messages to `errors`. If
-/// `input` is a terminal (`terminals`), a check that reads it first says that it waits. If `errors` is one, a check
-/// ends with a hint on the first broken rule, unless it is quiet. Never returns `Usage`.
-pub fn execute<F: Folder, R: Read + Drop, W: Write + Drop, E: Write + Drop>(
+/// Carries out a request over `input` and the files of `folder`. Results go to `output`, messages to `errors`. A task
+/// that is to read a terminal says first that it waits. If `errors` is a terminal, a check ends with a hint on the
+/// first broken rule, unless it is quiet. A PPM isn't written to a terminal; only this is `Usage`.
+pub fn execute<F: Folder, S: Source, K: Sink, E: Sink>(
     alloc: Global,
     request: &Request,
     folder: &F,
     terminals: Terminals,
-    input: R,
-    output: W,
-    errors: E,
+    input: &mut Peeked<S>,
+    output: &mut K,
+    errors: &mut E,
 ) -> Exit
     requires { HasSides request.now.task }
+    ensures ends { is_misdirected terminals request.now.task ≡ false →
+        NoticedEnds (notice terminals request.now.task request.now.is_quiet (map string_bytes request.now.files.items))
+        request.now.task request.now.is_quiet terminals.errors (map string_bytes request.now.files.items)
+        (folder_view (F.opening folder.now) F.Opened.state) result
+        (change (⟦<Peeked<S> as Source>⟧.state input.old) (⟦<Peeked<S> as Source>⟧.state input.new))
+        (change (K.state output.old) (K.state output.new)) (change (E.state errors.old) (E.state errors.new)) }
+    ensures misdirected { is_misdirected terminals request.now.task ≡ true → result ≡ Exit.Usage }
+    ensures redirected { result ≡ Exit.Usage → IsPut redirection (change (E.state errors.old) (E.state errors.new)) }
+    ensures usage { result ≡ Exit.Usage → is_misdirected terminals request.now.task ≡ true }
+    ensures untouched { result ≡ Exit.Usage → input.new ≡ input.old }
+    ensures unwritten { result ≡ Exit.Usage → output.new ≡ output.old }
+    ensures unread { reads_input request.now.task (map string_bytes request.now.files.items) ≡ false →
+        input.new ≡ input.old }
     ensures done { result ≡ Exit.Done → All (λ name.
-        IsDoneOver request.now.task (told_of (bytes_of (F.opening folder.now)) (R.remaining input) name))
+        IsDoneOver request.now.task
+        (told_of (bytes_of (F.opening folder.now)) (⟦<Peeked<S> as Source>⟧.state input.old).remaining name))
         (names_read request.now.task (map string_bytes request.now.files.items)) }
     ensures broken { result ≡ Exit.Broken → (name : Text)
         × Contains (names_read request.now.task (map string_bytes request.now.files.items)) name
-        × IsBrokenOver request.now.task (told_of (bytes_of (F.opening folder.now)) (R.remaining input) name) }
+        × IsBrokenOver request.now.task
+        (told_of (bytes_of (F.opening folder.now)) (⟦<Peeked<S> as Source>⟧.state input.old).remaining name) }
     ensures judged { result ≡ Exit.Broken → All (λ name.
-        IsJudgedOver request.now.task (told_of (bytes_of (F.opening folder.now)) (R.remaining input) name))
+        IsJudgedOver request.now.task
+        (told_of (bytes_of (F.opening folder.now)) (⟦<Peeked<S> as Source>⟧.state input.old).remaining name))
         (names_read request.now.task (map string_bytes request.now.files.items)) }
-    ensures no_usage { result ≢ Exit.Usage }
 {
-    let mut input = peek_input(request, FromRead::new(input));
-    let mut output = ToWrite::new(output);
-    let mut errors = ToWrite::new(errors);
-    announce(request, terminals.input, &mut errors);
-    answer(
-        alloc,
-        request,
-        terminals.errors,
-        folder,
-        &mut input,
-        &mut output,
-        &mut errors,
-    )
+    if is_misdirected(terminals, request.task) {
+        put_redirection(errors);
+        return Exit::Usage;
+    }
+    announce(terminals, request, errors);
+    answer(alloc, request, terminals, folder, input, output, errors)
 }

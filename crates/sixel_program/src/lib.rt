@@ -17,4 +17,5 @@ mod terminals;
 pub use execution::execute;
 pub use exit::{Exit, code_of, tell};
 pub use folder::{Folder, Input, System, Unopened};
+pub use peeked::Peeked;
 pub use terminals::Terminals;

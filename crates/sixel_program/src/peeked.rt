@@ -1,61 +1,135 @@
 //! Inputs whose first bytes can be looked at before they are read.
 
-ghost use Rattle.std.specs.Prelude.{◌≡◌, ◌<◌, ◌≤◌, ◌+◌, ◌++◌, [], ◌⊎◌, ℕ, List, drop, false, length};
-ghost use Rattle.std.specs.Io.KnownBytes.{Consumes, Keeps, prepend_known};
-ghost use Rattle.sixel_program.specs.Files.{IsPrefix};
+ghost use Rattle.std.specs.Prelude.{◌≡◌, ◌<◌, ◌≤◌, ◌+◌, ◌++◌, [], ℕ, IfOk, List, drop, length};
+ghost use Rattle.std.specs.Io.KnownBytes.{Consumes, Keeps, ReadConsumes};
+ghost use Rattle.sixel_io.specs.Devices.{CountsFailure};
+ghost use Rattle.sixel_program.specs.Formats.{IsFormat};
+ghost use Rattle.sixel_program.specs.Peeked.{after_prefix, peeked_state};
+ghost use Rattle.sixel_program.specs.declared.peeked.After.TheVariants.{Failure};
 
-use crate::formats::PREFIX_LENGTH;
+use crate::formats::{Format, PREFIX_LENGTH, format_of, is_undecided};
 use arrayvec::ArrayVec;
 use sixel_io::{DeviceFault, Source};
-use sixel_run::Task;
 
-/// An input and its first bytes, as far as they are known. They have been read from the source, and the input gives
-/// them again before the rest.
+/// The first bytes of an input.
+type Prefix = ArrayVec<u8, PREFIX_LENGTH>;
+
+/// What an input gives after its prefix.
+#[derive(Clone, Copy, Debug, PartialEq, Eq)]
+enum After {
+    /// What its source gives.
+    Rest,
+    /// A failure, which the source has had, and then what the source gives.
+    Failure,
+    /// The end, at which the source was.
+    End,
+}
+
+/// An input and its first bytes, as far as they were looked at. They have been read from the source, and the input
+/// gives them again before the rest; so it does with a failure and with the end, if a look met them. Who reads it
+/// can't tell that it was looked at.
 #[derive(Drop)]
-pub struct Peeked<S> {
-    pub prefix: ArrayVec<u8, PREFIX_LENGTH>,
+pub struct Peeked<S: Source> {
+    prefix: Prefix,
     /// How many bytes of the prefix the input has given again.
     given: usize,
+    /// What follows the prefix.
+    after: After,
+    /// How many calls on the input failed.
+    failures: u64,
     /// The source, which gives what follows the prefix.
     rest: S,
+    /// A failure that waits is one of the source.
+    ghost waits: { after ≡ Failure → 0 < (S.state rest).failures },
+    /// The input has a failure only if its source has had one.
+    ghost failed: { 0 < failures → 0 < (S.state rest).failures },
 }
 
 impl<S: Source> Peeked<S> {
     /// An input of which nothing has been read.
-    pub fn unread(source: S) -> Peeked<S>
-        ensures state { ⟦<Peeked<S> as Source>⟧.state result ≡ S.state source }
-        ensures rest { result.rest ≡ source }
-        ensures prefix { result.prefix.items ≡ [] }
+    pub fn new(source: S) -> Peeked<S>
+        ensures { ⟦<Peeked<S> as Source>⟧.state result ≡ S.state source }
     {
         Peeked {
             prefix: ArrayVec::new(),
             given: 0,
+            after: After::Rest,
+            failures: source.failures(),
             rest: source,
+        }
+    }
+
+    /// The format of the input, told by its first bytes. If some of it has been read already, it has none.
+    pub fn format(&mut self) -> Option<Format>
+        ensures told { Keeps (⟦<Peeked<S> as Source>⟧.state self.old).remaining
+            (⟦<Peeked<S> as Source>⟧.state self.new).remaining }
+        ensures failures { (⟦<Peeked<S> as Source>⟧.state self.new).failures
+            ≡ (⟦<Peeked<S> as Source>⟧.state self.old).failures }
+        ensures format { IsFormat (⟦<Peeked<S> as Source>⟧.state self.old).remaining result }
+    {
+        self.look();
+        format_of(self.waiting())
+    }
+
+    /// Reads the first bytes, if nothing has been read yet.
+    fn look(&mut self)
+        ensures told { Keeps (⟦<Peeked<S> as Source>⟧.state self.old).remaining
+            (⟦<Peeked<S> as Source>⟧.state self.new).remaining }
+        ensures failures { self.new.failures ≡ self.old.failures }
+    {
+        match self.after {
+            After::Rest if self.prefix.is_empty() => {
+                let mut prefix = ArrayVec::new();
+                self.after = first_bytes(&mut self.rest, &mut prefix);
+                self.prefix = prefix;
+                self.given = 0;
+            }
+            _ => {}
         }
     }
 
     /// What the input has yet to give of the prefix.
     fn waiting(&self) -> &[u8]
         ensures bytes { result.now ≡ drop self.now.given self.now.prefix.items }
-        ensures bound { 0 < length result.now → self.now.given + length result.now ≤ 4 }
+        ensures bound { 0 < length result.now → self.now.given + length result.now ≤ 12 }
     {
         match self.prefix.as_slice().get(self.given..) {
             Some(waiting) => waiting,
             None => &[],
         }
     }
+
+    /// Fills the piece with what follows the prefix.
+    fn fill_after(&mut self, piece: &mut [u8]) -> Result<usize, DeviceFault>
+        requires { 0 < length piece.old }
+        ensures bound { IfOk result (λ n. n ≤ length piece.new) }
+        ensures bytes { ReadConsumes (after_prefix self.old.after (S.state self.old.rest).remaining)
+            (after_prefix self.new.after (S.state self.new.rest).remaining) result piece.new }
+        ensures failures { CountsFailure result self.old.failures self.new.failures }
+        ensures kept { (self.new.given ≡ self.old.given) × (self.new.prefix ≡ self.old.prefix) }
+    {
+        let filled = match self.after {
+            After::Rest => self.rest.fill(piece),
+            After::Failure => {
+                self.after = After::Rest;
+                Err(DeviceFault)
+            }
+            After::End => Ok(0),
+        };
+        if filled.is_err() {
+            self.failures = self.failures.saturating_add(1);
+        }
+        filled
+    }
 }
 
 impl<S: Source> Source for Peeked<S> {
-    ghost state = { λ p. record {
-      remaining = prepend_known (drop p.given p.prefix.items) (S.state p.rest).remaining;
-      failures = (S.state p.rest).failures;
-    } };
+    ghost state = { λ p. peeked_state (drop p.given p.prefix.items) p.after (S.state p.rest) p.failures };
 
     fn fill(&mut self, piece: &mut [u8]) -> Result<usize, DeviceFault> {
         let waiting = self.waiting();
         if waiting.is_empty() {
-            return self.rest.fill(piece);
+            return self.fill_after(piece);
         }
         let count = waiting.len().min(piece.len());
         piece[..count].copy_from_slice(&waiting[..count]);
@@ -64,57 +138,50 @@ impl<S: Source> Source for Peeked<S> {
     }
 
     fn failures(&self) -> u64 {
-        self.rest.failures()
+        self.failures
     }
 }
 
-/// The input of a task over this source. Only `encode` looks at its first bytes, to say what an input of another format
-/// is; for any other task nothing is read here.
-#[tactic(auto, using(crate::proofs::FilesLemmas::no_prefix))]
-pub fn peek<S: Source>(task: Task, source: S) -> Peeked<S>
-    ensures told { Keeps (S.state source).remaining (⟦<Peeked<S> as Source>⟧.state result).remaining }
-    ensures prefix { IsPrefix (S.state source).remaining result.prefix.items }
+/// Reads the first bytes of a source, until they tell its format or tell that it is unknown, or a read gives none or
+/// fails. Returns what follows them.
+fn first_bytes<S: Source>(source: &mut S, prefix: &mut Prefix) -> After
+    requires { prefix.old.items ≡ [] }
+    ensures read { Consumes (S.state source.old).remaining (after_prefix result (S.state source.new).remaining)
+        prefix.new.items }
+    ensures counted { 0 < (S.state source.old).failures → 0 < (S.state source.new).failures }
+    ensures failed { result ≡ After.Failure → 0 < (S.state source.new).failures }
 {
-    match task {
-        Task::Encode { .. } => {
-            let mut rest = source;
-            let prefix = first_bytes(&mut rest);
-            Peeked {
-                prefix,
-                given: 0,
-                rest,
-            }
-        }
-        _ => Peeked::unread(source),
-    }
-}
-
-/// The first bytes of a source: reads until there are enough, or a read gives none or fails. If the failure lasts, the
-/// next read meets it again; otherwise it is ignored.
-fn first_bytes<S: Source>(source: &mut S) -> ArrayVec<u8, PREFIX_LENGTH>
-    ensures { Consumes (S.state source.old).remaining (S.state source.new).remaining result.items }
-{
-    let mut prefix = ArrayVec::new();
     for _ in 0..PREFIX_LENGTH {
-        if !read_more(source, &mut prefix) {
+        if !is_undecided(prefix.as_slice()) {
             break;
         }
+        match read_more(source, prefix) {
+            After::Rest => {}
+            after => return after,
+        }
     }
-    prefix
+    After::Rest
 }
 
-/// Reads once, as much as there is room for, and appends it to `prefix`. Whether anything was read.
-fn read_more<S: Source>(source: &mut S, prefix: &mut ArrayVec<u8, PREFIX_LENGTH>) -> bool
-    ensures stops { result ≡ false → (length prefix.new.items ≡ 4) ⊎ (prefix.new.items ≡ prefix.old.items) }
-    ensures kept { (more : List ℕ) × Consumes (S.state source.old).remaining (S.state source.new).remaining more
+/// Reads once, as much as there is room for, and appends it to `prefix`. Returns what follows it.
+fn read_more<S: Source>(source: &mut S, prefix: &mut Prefix) -> After
+    ensures read { (more : List ℕ)
+        × Consumes (S.state source.old).remaining (after_prefix result (S.state source.new).remaining) more
         × (prefix.new.items ≡ prefix.old.items ++ more) }
+    ensures counted { 0 < (S.state source.old).failures → 0 < (S.state source.new).failures }
+    ensures failed { result ≡ After.Failure → 0 < (S.state source.new).failures }
 {
     let mut piece = [0; PREFIX_LENGTH];
     let room = prefix.remaining_capacity();
     if room == 0 {
-        return false;
+        return After::Rest;
     }
-    let count = source.fill(&mut piece[..room]).unwrap_or(0);
-    let _ = prefix.try_extend_from_slice(&piece[..count]);
-    count > 0
+    match source.fill(&mut piece[..room]) {
+        Ok(0) => After::End,
+        Ok(count) => {
+            let _ = prefix.try_extend_from_slice(&piece[..count]);
+            After::Rest
+        }
+        Err(_) => After::Failure,
+    }
 }

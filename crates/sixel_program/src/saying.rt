@@ -1,14 +1,15 @@
 //! Messages about a run: why the input was refused, and how to convert an input of another format.
 
-ghost use Rattle.std.specs.Prelude.{◌≡◌, ◌≤◌, ◌++◌, length, option_copied};
+ghost use Rattle.std.specs.Prelude.{◌≡◌, ◌≤◌, ◌++◌, Ok, length, option_copied};
 ghost use Rattle.sixel_io.specs.Devices.{Writes};
 ghost use Rattle.sixel_program.specs.Exits.{complaint, fault_said, labelled};
-ghost use Rattle.sixel_program.specs.Formats.{advice_for};
+ghost use Rattle.sixel_program.specs.Formats.{advice_for, advice_on};
 ghost use Rattle.sixel_program.specs.Names.{unopened_line};
 
 use crate::folder::{Unopened, reason_text};
-use crate::formats::{Format, advice_on};
+use crate::formats::{Format, ppm_advice, sixel_advice};
 use crate::names::put_named;
+use sixel_grammar::{Fault, Reason};
 use sixel_io::{DeviceFault, Sink, put_all};
 use sixel_ppm::PpmReason;
 use sixel_run::{RunFault, Status, Task, fault_line, finding_line, write_fault};
@@ -16,21 +17,28 @@ use sixel_run::{RunFault, Status, Task, fault_line, finding_line, write_fault};
 /// The length of `sixel:`, after which the line of a fault has the input's name.
 const MARK: usize = 6;
 
-/// How to convert an input of this format, if its header was refused within the magic number; otherwise nothing.
-fn advice(format: Option<Format>, answer: &Result<Status, RunFault>) -> &'static str
-    ensures text { result.now ≡ advice_for format answer.now }
-    ensures short { length result.now ≤ 96 }
+/// How to convert an input of this format, if it was refused within the magic number; otherwise nothing.
+fn advice(format: Option<Format>, fault: &RunFault) -> &'static str
+    ensures text { result.now ≡ advice_on format fault.now }
+    ensures short { length result.now ≤ 112 }
 {
-    match answer {
-        Err(
+    match (format, fault) {
+        (
+            Some(format),
             RunFault::Ppm {
                 reason: PpmReason::Header,
                 place,
             },
-        ) if *place <= 1 => match format {
-            Some(format) => advice_on(format),
-            None => "",
-        },
+        ) if *place <= 1 => ppm_advice(format),
+        (
+            Some(format),
+            RunFault::Grammar(
+                Fault {
+                    reason: Reason::NotSixel,
+                    place,
+                },
+            ),
+        ) if *place <= 1 => sixel_advice(format),
         _ => "",
     }
 }
@@ -74,25 +82,40 @@ pub fn put_unopened<K: Sink>(name: &str, reason: Unopened, out: &mut K) -> Resul
     put_named(out, b"sixel: ", name, b":", reason_text(reason).as_bytes())
 }
 
-/// Writes why a run was refused, or which rule kept its picture from being rendered.
-fn put_complaint<K: Sink>(
-    task: Task,
+/// Writes why an input of this format was refused, and then how to convert it to what the task reads.
+pub fn put_refusal<K: Sink>(
     name: Option<&str>,
-    answer: &Result<Status, RunFault>,
+    format: Option<Format>,
+    fault: &RunFault,
     out: &mut K,
 ) -> Result<(), DeviceFault>
-    ensures { Writes result (K.state out.old) (K.state out.new) (complaint task (option_copied name.entry) answer.now) }
+    ensures { Writes result (K.state out.old) (K.state out.new)
+        (fault_said (option_copied name.entry) fault.now ++ advice_on format fault.now) }
 {
-    match answer {
-        Ok(Status::Broken(finding)) if matches!(task, Task::Render { .. }) => {
+    put_fault(name, fault, out)?;
+    put_all(out, advice(format, fault).as_bytes())
+}
+
+/// Writes which rule kept a picture from being rendered.
+fn put_finding<K: Sink>(
+    task: Task,
+    name: Option<&str>,
+    status: &Status,
+    out: &mut K,
+) -> Result<(), DeviceFault>
+    ensures { Writes result (K.state out.old) (K.state out.new)
+        (complaint task (option_copied name.entry) (Ok status.now)) }
+{
+    match (status, task) {
+        (Status::Broken(finding), Task::Render { .. }) => {
             put_labelled(name, finding_line(finding).as_slice(), out)
         }
-        Ok(_) => Ok(()),
-        Err(fault) => put_fault(name, fault, out),
+        _ => Ok(()),
     }
 }
 
-/// Writes the same, and then how to convert an input of this format, which `encode` doesn't read.
+/// Writes what is said of a run over an input of this format: why it was refused, or which rule kept its picture from
+/// being rendered.
 pub fn put_said<K: Sink>(
     task: Task,
     name: Option<&str>,
@@ -103,6 +126,8 @@ pub fn put_said<K: Sink>(
     ensures { Writes result (K.state out.old) (K.state out.new)
         (complaint task (option_copied name.entry) answer.now ++ advice_for format answer.now) }
 {
-    put_complaint(task, name, answer, out)?;
-    put_all(out, advice(format, answer).as_bytes())
+    match answer {
+        Ok(status) => put_finding(task, name, status, out),
+        Err(fault) => put_refusal(name, format, fault, out),
+    }
 }

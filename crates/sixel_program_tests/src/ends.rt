@@ -3,12 +3,13 @@
 ghost use Rattle.sixel_run.specs.Outputs.{HasSides};
 
 use crate::memory_folder::MemoryFolder;
+use sixel_io::{FromRead, ToWrite};
 use sixel_model::Profile;
-use sixel_program::{Exit, Terminals, execute};
+use sixel_program::{Exit, Peeked, Terminals, execute};
 use sixel_run::Task;
 use sixel_words::Request;
 use std::alloc::Global;
-use std::io::Write;
+use std::io::{Read, Write};
 
 pub const CHECK: Task = Task::Check {
     profile: Profile::Registers16,
@@ -54,10 +55,10 @@ pub const NO_TERMINALS: Terminals = Terminals {
 };
 
 /// How a task on the bytes ends over these streams.
-pub fn exit_over<W: Write + Drop, E: Write + Drop>(
+pub fn exit_over<R: Read + Drop, W: Write + Drop, E: Write + Drop>(
     alloc: Global,
     task: Task,
-    bytes: &[u8],
+    input: R,
     output: W,
     errors: E,
 ) -> Exit
@@ -73,9 +74,9 @@ pub fn exit_over<W: Write + Drop, E: Write + Drop>(
         &request,
         &NO_FILES,
         NO_TERMINALS,
-        bytes,
-        output,
-        errors,
+        &mut Peeked::new(FromRead::new(input)),
+        &mut ToWrite::new(output),
+        &mut ToWrite::new(errors),
     )
 }
 

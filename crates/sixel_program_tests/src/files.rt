@@ -7,14 +7,16 @@ mod faults;
 mod hints;
 mod named;
 mod notices;
+mod redirection;
 mod system;
 mod tasks;
 
 use crate::ends::{CHECK, NO_TERMINALS};
 use crate::memory_folder::MemoryFolder;
 use crate::streams::Narrow;
+use sixel_io::{FromRead, ToWrite};
 use sixel_model::Profile;
-use sixel_program::{Exit, Terminals, Unopened, execute};
+use sixel_program::{Exit, Peeked, Terminals, Unopened, execute};
 use sixel_run::Task;
 use sixel_words::Request;
 use std::alloc::{AllocError, Global};
@@ -149,9 +151,9 @@ fn ends_over(
         &request,
         &FOLDER,
         streams.terminals,
-        input,
-        output,
-        errors,
+        &mut Peeked::new(FromRead::new(input)),
+        &mut ToWrite::new(output),
+        &mut ToWrite::new(errors),
     );
     Ok(
         exit == ended.exit
@@ -294,6 +296,28 @@ fn reads(
         is_read: true,
     };
     check_ends(alloc, names, input, ended)
+}
+
+/// The advice on a file goes by its own first bytes. A second `-` has none: what it reads isn't the start of a file.
+#[test]
+fn files_of_other_formats(rt: HostRuntime) -> Result<(), Fail> {
+    let said = b"sixel: text: NotSixel at 0\nsixel: png: NotSixel at 0\n\
+        sixel: this is a PNG; `pngtopnm | ppmtoppm | pnmquant 16 | sixel encode` makes sixel text of it\n";
+    let names = ["text", "png", "pixel"];
+    assert!(rt;
+        checks(
+            rt.alloc(),
+            &names,
+            Exit::Refused,
+            b"pixel: portable 1 1\n",
+            said
+        )?
+    );
+    let twice = b"sixel: -: NotSixel at 0\n\
+        sixel: this is a PNG; `pngtopnm | ppmtoppm | pnmquant 16 | sixel encode` makes sixel text of it\n\
+        sixel: -: NotSixel at 0\n";
+    assert!(rt; reads(rt.alloc(), &["-", "-"], PNG, Exit::Refused, b"", twice)?);
+    Ok(())
 }
 
 /// `-` is standard input. It is read to its end, so a second `-` finds nothing.

@@ -1,7 +1,8 @@
-//! What `encode` says about files of other formats, worked out by hand.
+//! What is said about files of other formats, worked out by hand.
 
-use crate::ends::{CHECK, ENCODE, ends};
+use crate::ends::{CHECK, ENCODE, RENDER, SHOW, SHOW_BOX, ends};
 use sixel_program::Exit;
+use sixel_run::Task;
 
 /// Whether `encode` refuses the bytes with these lines, and writes nothing.
 fn refuses(rt: &impl AllocGlobal, bytes: &[u8], lines: &[u8]) -> bool {
@@ -55,6 +56,32 @@ fn formats_of_netpbm(rt: HostRuntime) {
     assert!(rt; refuses(&rt, b"P8", b"sixel: Header at 1\n"));
 }
 
+/// So have WebP, BMP, TIFF and sixel text.
+#[test]
+fn more_formats(rt: HostRuntime) {
+    assert!(rt;
+        refuses(
+            &rt,
+            b"RIFF\x24\0\0\0WEBPVP8 ",
+            b"sixel: Header at 0\nsixel: this is a WebP; `dwebp -ppm - -o -` makes a PPM (P6) of it\n",
+        )
+    );
+    assert!(rt;
+        refuses(
+            &rt,
+            b"BM\x3a\0",
+            b"sixel: Header at 0\nsixel: this is a BMP; `bmptopnm | ppmtoppm` makes a PPM (P6) of it\n",
+        )
+    );
+    let tiff =
+        b"sixel: Header at 0\nsixel: this is a TIFF; `tifftopnm | ppmtoppm` makes a PPM (P6) of it\n";
+    assert!(rt; refuses(&rt, b"II*\0\x08\0", tiff));
+    assert!(rt; refuses(&rt, b"MM\0*\0\0", tiff));
+    let text = b"sixel: Header at 0\nsixel: this is sixel text; `sixel check` reads it\n";
+    assert!(rt; refuses(&rt, b"\x1bPq\x1b\\", text));
+    assert!(rt; refuses(&rt, b"\x90q\x9c", text));
+}
+
 /// Bytes without such a mark, or with only a prefix of one, have only the line of the fault; so does a PPM with another
 /// fault.
 #[test]
@@ -64,24 +91,104 @@ fn bytes_of_no_format(rt: HostRuntime) {
     assert!(rt; refuses(&rt, b"\xff\xd8", b"sixel: Header at 0\n"));
     assert!(rt; refuses(&rt, b"GIF", b"sixel: Header at 0\n"));
     assert!(rt; refuses(&rt, b"P", b"sixel: Short at 1\n"));
-    assert!(rt; refuses(&rt, b"BM", b"sixel: Header at 0\n"));
+    assert!(rt; refuses(&rt, b"RIFF\x24\0\0\0WAVEfmt ", b"sixel: Header at 0\n"));
+    assert!(rt; refuses(&rt, b"II+\0", b"sixel: Header at 0\n"));
+    assert!(rt; refuses(&rt, b"\x1b[", b"sixel: Header at 0\n"));
     assert!(rt; refuses(&rt, b"P6x", b"sixel: Header at 2\n"));
     assert!(rt; refuses(&rt, b"P6 1 1 255\n\0\0\0P5", b"sixel: Trailing at 14\n"));
 }
 
-/// Other tasks say nothing about formats, and a picture is encoded from its first byte although its mark was looked at.
+/// Whether a check, a list, a render and a show refuse the bytes with these lines, and write nothing.
+fn are_no_text(rt: &impl AllocGlobal, bytes: &[u8], lines: &[u8]) -> bool {
+    ends(rt.alloc(), CHECK, bytes, Exit::Refused, b"", lines)
+        && ends(rt.alloc(), Task::List, bytes, Exit::Refused, b"", lines)
+        && ends(rt.alloc(), RENDER, bytes, Exit::Refused, b"", lines)
+        && ends(rt.alloc(), SHOW, bytes, Exit::Refused, b"", lines)
+        && ends(rt.alloc(), SHOW_BOX, bytes, Exit::Refused, b"", lines)
+}
+
+/// Other tasks say how to make sixel text of such a file.
 #[test]
-fn other_inputs(rt: HostRuntime) {
+fn files_that_are_no_text(rt: HostRuntime) {
     assert!(rt;
-        ends(
-            rt.alloc(),
-            CHECK,
+        are_no_text(
+            &rt,
             b"\x89PNG\r\n\x1a\n",
-            Exit::Refused,
-            b"",
-            b"sixel: NotSixel at 0\n",
+            b"sixel: NotSixel at 0\n\
+            sixel: this is a PNG; `pngtopnm | ppmtoppm | pnmquant 16 | sixel encode` makes sixel text of it\n",
         )
     );
+    assert!(rt;
+        are_no_text(
+            &rt,
+            b"P6 1 1 100\n\x64\0\0",
+            b"sixel: NotSixel at 0\nsixel: this is a PPM; `pnmquant 16 | sixel encode` makes sixel text of it\n",
+        )
+    );
+    assert!(rt;
+        are_no_text(
+            &rt,
+            b"RIFF\x24\0\0\0WEBPVP8 ",
+            b"sixel: NotSixel at 0\n\
+            sixel: this is a WebP; `dwebp -ppm - -o - | pnmquant 16 | sixel encode` makes sixel text of it\n",
+        )
+    );
+    assert!(rt;
+        are_no_text(
+            &rt,
+            b"P4\n1 1\n\0",
+            b"sixel: NotSixel at 0\n\
+            sixel: this is a Netpbm file; `ppmtoppm | pnmquant 16 | sixel encode` makes sixel text of it\n",
+        )
+    );
+}
+
+/// Each format that Netpbm reads has a program of its own.
+#[test]
+fn programs_of_netpbm(rt: HostRuntime) {
+    assert!(rt;
+        are_no_text(
+            &rt,
+            b"\xff\xd8\xff\xe0",
+            b"sixel: NotSixel at 0\n\
+            sixel: this is a JPEG; `jpegtopnm | ppmtoppm | pnmquant 16 | sixel encode` makes sixel text of it\n",
+        )
+    );
+    assert!(rt;
+        are_no_text(
+            &rt,
+            b"GIF87a",
+            b"sixel: NotSixel at 0\n\
+            sixel: this is a GIF; `giftopnm | ppmtoppm | pnmquant 16 | sixel encode` makes sixel text of it\n",
+        )
+    );
+    assert!(rt;
+        are_no_text(
+            &rt,
+            b"BM\x3a\0",
+            b"sixel: NotSixel at 0\n\
+            sixel: this is a BMP; `bmptopnm | ppmtoppm | pnmquant 16 | sixel encode` makes sixel text of it\n",
+        )
+    );
+    assert!(rt;
+        are_no_text(
+            &rt,
+            b"MM\0*",
+            b"sixel: NotSixel at 0\n\
+            sixel: this is a TIFF; `tifftopnm | ppmtoppm | pnmquant 16 | sixel encode` makes sixel text of it\n",
+        )
+    );
+}
+
+/// Text that is refused at its first bytes has no second line, even if it has an introducer; nor has any other fault.
+/// A picture is encoded from its first byte although its mark was looked at.
+#[test]
+fn other_inputs(rt: HostRuntime) {
+    assert!(rt; are_no_text(&rt, b"x", b"sixel: NotSixel at 0\n"));
+    assert!(rt; are_no_text(&rt, b"\x90x", b"sixel: NotSixel at 1\n"));
+    assert!(rt; are_no_text(&rt, b"\x1b[", b"sixel: NotSixel at 1\n"));
+    assert!(rt; are_no_text(&rt, b"\x1bP", b"sixel: Truncated at 2\n"));
+    assert!(rt; are_no_text(&rt, b"\nGIF89a", b"sixel: NotSixel at 1\n"));
     assert!(rt;
         ends(
             rt.alloc(),

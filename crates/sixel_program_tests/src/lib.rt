@@ -6,6 +6,8 @@ mod ends;
 #[cfg(test)]
 mod files;
 #[cfg(test)]
+mod first_bytes;
+#[cfg(test)]
 mod formats;
 #[cfg(test)]
 mod memory_folder;

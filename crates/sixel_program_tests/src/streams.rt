@@ -188,7 +188,7 @@ fn refuses_with(alloc: Global, room: usize, line: &[u8]) -> bool {
     let output = Narrow::new(&mut written, 5);
     let errors = Narrow::new(&mut said, room);
     let bytes = b"\x1bPq\"1;1;1;1#0;2;0;0;0#0@\x1b\\";
-    let ended = exit_over(alloc, CHECK, bytes, output, errors);
+    let ended = exit_over(alloc, CHECK, bytes.as_slice(), output, errors);
     ended == Exit::Refused && written.as_slice() == b"porta".as_slice() && said.as_slice() == line
 }
 

@@ -117,33 +117,37 @@ fn all_memory(alloc: Global) -> Result<Option<Vec<Vec<u8>>>, AllocError> {
     Ok(Some(held))
 }
 
-/// Whether the call fails when no memory is left, and gives its result when enough blocks are freed. The first calls
-/// make the stack grow as far as later ones need: it can't grow when no memory is left.
-fn waits_for_memory(alloc: Global, call: Call) -> Result<bool, AllocError> {
+/// Whether the call fails when no memory is left, and gives its result when enough blocks are freed; `None` if not all
+/// memory could be taken. The first calls make the stack grow as far as later ones need: it can't grow when no memory
+/// is left.
+fn waits_for_memory(alloc: Global, call: Call) -> Result<Option<bool>, AllocError> {
     for first in CALLS {
         if answer(alloc, first) != Some(true) {
-            return Ok(false);
+            return Ok(Some(false));
         }
     }
     let Some(mut held) = all_memory(alloc)? else {
-        return Ok(true);
+        return Ok(None);
     };
     if answer(alloc, call).is_some() {
-        return Ok(false);
+        return Ok(Some(false));
     }
     for _ in 0..MOST {
         let _ = held.pop();
         if let Some(is_right) = answer(alloc, call) {
-            return Ok(is_right);
+            return Ok(Some(is_right));
         }
     }
-    Ok(false)
+    Ok(Some(false))
 }
 
 #[test]
 fn calls_wait_for_memory(rt: HostRuntime) -> Result<(), Fail> {
     for call in CALLS {
-        assert!(rt; waits_for_memory(rt.alloc(), call)?);
+        match waits_for_memory(rt.alloc(), call)? {
+            Some(is_right) => assert!(rt; is_right),
+            None => println!(rt; "{MOST} blocks don't hold all memory: nothing was shown")?,
+        }
     }
     Ok(())
 }

@@ -4,7 +4,8 @@ use super::{Ended, FOLDER, PIXEL, RATIO, STREAMS, Streams, check_of, ends_over, 
 use crate::ends::NO_TERMINALS;
 use crate::memory_folder::Watched;
 use crate::streams::Narrow;
-use sixel_program::{Exit, execute};
+use sixel_io::{FromRead, ToWrite};
+use sixel_program::{Exit, Peeked, execute};
 use std::alloc::{AllocError, Global};
 use std::cell::Cell;
 use std::test::Fail;
@@ -122,9 +123,9 @@ fn opened(alloc: Global, is_quiet: bool, names: &[&str], room: usize) -> Result<
         &request,
         &folder,
         NO_TERMINALS,
-        b"".as_slice(),
-        Narrow::new(&mut written, room),
-        &mut said,
+        &mut Peeked::new(FromRead::new(b"".as_slice())),
+        &mut ToWrite::new(Narrow::new(&mut written, room)),
+        &mut ToWrite::new(&mut said),
     );
     Ok(folder.asked.get())
 }

@@ -5,7 +5,8 @@ ghost use Rattle.sixel_run.specs.Outputs.{HasSides};
 use super::{Ended, PIXEL, STREAMS, asked_of, check_of, checks, ends_over, request_of};
 use crate::ends::{ENCODE, NO_FILES, NO_TERMINALS, RENDER};
 use crate::memory_folder::MemoryFolder;
-use sixel_program::{Exit, execute};
+use sixel_io::{FromRead, ToWrite};
+use sixel_program::{Exit, Peeked, execute};
 use sixel_run::Task;
 use std::alloc::{AllocError, Global};
 use std::io;
@@ -148,9 +149,9 @@ fn goes_so(
         &request,
         &folder,
         NO_TERMINALS,
-        b"".as_slice(),
-        output,
-        errors,
+        &mut Peeked::new(FromRead::new(b"".as_slice())),
+        &mut ToWrite::new(output),
+        &mut ToWrite::new(errors),
     );
     let line = format!(in alloc; "{before}{printed}{after}")?;
     taken.extend_from_slice(said.as_slice())?;

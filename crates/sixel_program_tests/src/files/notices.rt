@@ -1,24 +1,33 @@
-//! The notice before a check that reads a terminal.
+//! What is said if standard input is a terminal.
 
 ghost use Rattle.sixel_run.specs.Outputs.{HasSides};
 
-use super::{Asked, Ended, PIXEL, RED, STREAMS, Streams, asked_of, check_of, ends_over};
-use crate::ends::{ENCODE, NO_TERMINALS, RENDER, SHOW, SHOW_BOX};
-use sixel_program::{Exit, Terminals};
+use super::{Asked, Ended, PIXEL, RATIO, RED, STREAMS, Streams, asked_of, check_of, ends_over};
+use crate::ends::{ENCODE, NO_FILES, NO_TERMINALS, RENDER, SHOW, SHOW_BOX};
+use sixel_io::{FromRead, ToWrite};
+use sixel_program::{Exit, Peeked, Terminals, execute};
 use sixel_run::Task;
+use sixel_words::Request;
 use std::alloc::{AllocError, Global};
+use std::cell::Cell;
+use std::io;
+use std::io::{Read, Write};
 use std::test::Fail;
+
+const KEYBOARD: Terminals = Terminals {
+    input: true,
+    ..NO_TERMINALS
+};
 
 /// Standard input is a terminal.
 const TERMINAL: Streams = Streams {
-    terminals: Terminals {
-        input: true,
-        ..NO_TERMINALS
-    },
+    terminals: KEYBOARD,
     ..STREAMS
 };
 
 const WAITING: &[u8] = b"sixel: waiting for sixel text on standard input\n";
+
+const WAITING_FOR_PPM: &[u8] = b"sixel: waiting for a PPM on standard input\n";
 
 /// Whether the request is done with this notice if standard input is a terminal, and without one if not.
 fn says(
@@ -44,15 +53,20 @@ fn says(
 fn a_check_that_reads_a_terminal(rt: HostRuntime) -> Result<(), Fail> {
     let plain = check_of(false, &[], PIXEL);
     assert!(rt; says(rt.alloc(), plain, b"portable 1 1\n", true, WAITING)?);
-    let quiet = check_of(true, &[], PIXEL);
-    assert!(rt; says(rt.alloc(), quiet, b"", true, WAITING)?);
     let named = check_of(false, &["-"], PIXEL);
     assert!(rt; says(rt.alloc(), named, b"-: portable 1 1\n", true, WAITING)?);
     let last = check_of(false, &["pixel", "-"], PIXEL);
     let written = b"pixel: portable 1 1\n-: portable 1 1\n";
     assert!(rt; says(rt.alloc(), last, written, true, WAITING)?);
+    Ok(())
+}
+
+#[test]
+fn a_quiet_check(rt: HostRuntime) -> Result<(), Fail> {
+    let plain = check_of(true, &[], PIXEL);
+    assert!(rt; says(rt.alloc(), plain, b"", true, b"")?);
     let first = check_of(true, &["-", "pixel"], PIXEL);
-    assert!(rt; says(rt.alloc(), first, b"", true, WAITING)?);
+    assert!(rt; says(rt.alloc(), first, b"", true, b"")?);
     Ok(())
 }
 
@@ -80,28 +94,44 @@ fn files_alone(rt: HostRuntime) -> Result<(), Fail> {
     assert!(rt; says(rt.alloc(), two, written, false, b"")?);
     let quiet = check_of(true, &["pixel"], PIXEL);
     assert!(rt; says(rt.alloc(), quiet, b"", false, b"")?);
+    let black = b"P6\n1 1\n100\n\0\0\0";
+    assert!(rt;
+        says(
+            rt.alloc(),
+            asked_of(RENDER, &["pixel"], RATIO),
+            black,
+            false,
+            b""
+        )?
+    );
     Ok(())
 }
 
-/// Whether the task on standard input, without a name and as `-`, writes this and gives no notice.
-fn says_nothing(alloc: Global, task: Task, input: &[u8], written: &[u8]) -> Result<bool, AllocError>
+/// Whether the task on standard input, without a name and as `-`, writes this and gives this notice.
+fn waits(
+    alloc: Global,
+    task: Task,
+    input: &[u8],
+    written: &[u8],
+    said: &[u8],
+) -> Result<bool, AllocError>
     requires { HasSides task }
 {
     let plain = asked_of(task, &[], input);
     let named = asked_of(task, &["-"], input);
-    Ok(says(alloc, plain, written, true, b"")? && says(alloc, named, written, true, b"")?)
+    Ok(says(alloc, plain, written, true, said)? && says(alloc, named, written, true, said)?)
 }
 
 #[test]
 fn other_tasks(rt: HostRuntime) -> Result<(), Fail> {
     let empty = b"0 start 7bit 0\n3 end 7bit\n";
-    assert!(rt; says_nothing(rt.alloc(), Task::List, b"\x1bPq\x1b\\", empty)?);
+    assert!(rt; waits(rt.alloc(), Task::List, b"\x1bPq\x1b\\", empty, WAITING)?);
     let black = b"P6\n1 1\n100\n\0\0\0";
-    assert!(rt; says_nothing(rt.alloc(), RENDER, PIXEL, black)?);
-    assert!(rt; says_nothing(rt.alloc(), SHOW, PIXEL, black)?);
-    assert!(rt; says_nothing(rt.alloc(), SHOW_BOX, PIXEL, black)?);
+    assert!(rt; waits(rt.alloc(), RENDER, PIXEL, black, WAITING)?);
+    assert!(rt; waits(rt.alloc(), SHOW, PIXEL, black, WAITING)?);
+    assert!(rt; waits(rt.alloc(), SHOW_BOX, PIXEL, black, WAITING)?);
     let red = b"\x1bP0;1q\"1;1;1;1#0;2;100;0;0#0@\x1b\\";
-    assert!(rt; says_nothing(rt.alloc(), ENCODE, RED, red)?);
+    assert!(rt; waits(rt.alloc(), ENCODE, RED, red, WAITING_FOR_PPM)?);
     Ok(())
 }
 
@@ -122,4 +152,75 @@ fn errors_that_fail(rt: HostRuntime) -> Result<(), Fail> {
         assert!(rt; ends_over(rt.alloc(), check_of(false, &[], PIXEL), streams, ended)?);
     }
     Ok(())
+}
+
+/// Standard error, which counts the bytes that it takes.
+#[derive(Drop)]
+struct Heard<'a> {
+    count: &'a Cell<usize>,
+}
+
+impl Write for Heard<'_> {
+    fn write(&mut self, buf: &[u8]) -> io::Result<usize> {
+        self.count.set(self.count.get().saturating_add(buf.len()));
+        Ok(buf.len())
+    }
+
+    fn flush(&mut self) -> io::Result<()> {
+        Ok(())
+    }
+}
+
+/// Bytes as standard input, which notes how many bytes were on standard error at the first read.
+#[derive(Drop)]
+struct Typed<'a> {
+    rest: &'a [u8],
+    heard: &'a Cell<usize>,
+    at_first: &'a mut Option<usize>,
+}
+
+impl Read for Typed<'_> {
+    fn read(&mut self, buf: &mut [u8]) -> io::Result<usize> {
+        if self.at_first.is_none() {
+            *self.at_first = Some(self.heard.get());
+        }
+        self.rest.read(buf)
+    }
+}
+
+/// How many bytes were on standard error when the task first read the terminal.
+fn heard_before(alloc: Global, task: Task) -> Option<usize>
+    requires { HasSides task }
+{
+    let heard = Cell::new(0);
+    let mut at_first = None;
+    let input = Typed {
+        rest: PIXEL,
+        heard: &heard,
+        at_first: &mut at_first,
+    };
+    let request = Request {
+        task,
+        is_quiet: false,
+        files: Vec::new(alloc),
+    };
+    let mut output = Vec::new(alloc);
+    execute(
+        alloc,
+        &request,
+        &NO_FILES,
+        KEYBOARD,
+        &mut Peeked::new(FromRead::new(input)),
+        &mut ToWrite::new(&mut output),
+        &mut ToWrite::new(Heard { count: &heard }),
+    );
+    at_first
+}
+
+/// All of the notice is there before anything is read.
+#[test]
+fn the_notice_comes_before_the_first_read(rt: HostRuntime) {
+    assert!(rt; heard_before(rt.alloc(), Task::List) == Some(WAITING.len()));
+    assert!(rt; heard_before(rt.alloc(), RENDER) == Some(WAITING.len()));
+    assert!(rt; heard_before(rt.alloc(), ENCODE) == Some(WAITING_FOR_PPM.len()));
 }

@@ -2,7 +2,8 @@
 
 use super::{check_of, request_of};
 use crate::ends::NO_TERMINALS;
-use sixel_program::{Exit, System, execute};
+use sixel_io::{FromRead, ToWrite};
+use sixel_program::{Exit, Peeked, System, execute};
 use std::test::Fail;
 
 /// An empty file; a folder, which the system opens like a file; a file as if it were a folder; names without a file,
@@ -28,9 +29,9 @@ fn files_of_the_system(rt: HostRuntime) -> Result<(), Fail> {
         &request,
         &System::new(&rt),
         NO_TERMINALS,
-        b"".as_slice(),
-        &mut written,
-        &mut said,
+        &mut Peeked::new(FromRead::new(b"".as_slice())),
+        &mut ToWrite::new(&mut written),
+        &mut ToWrite::new(&mut said),
     );
     let lines =
         b"sixel: /dev/null: Truncated at 0\nsixel: /: is a folder\nsixel: /dev/null/: read failed\n\

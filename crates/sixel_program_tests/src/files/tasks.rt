@@ -113,9 +113,11 @@ fn files_of_other_formats(rt: HostRuntime) -> Result<(), Fail> {
     let png =
         b"sixel: png: Header at 0\nsixel: this is a PNG; `pngtopnm | ppmtoppm` makes a PPM (P6) of it\n";
     assert!(rt; ends_so(rt.alloc(), ENCODE, "png", Exit::Refused, b"", png)?);
-    let bitmap = b"sixel: bitmap: Header at 0\n";
+    let bitmap =
+        b"sixel: bitmap: Header at 0\nsixel: this is a BMP; `bmptopnm | ppmtoppm` makes a PPM (P6) of it\n";
     assert!(rt; ends_so(rt.alloc(), ENCODE, "bitmap", Exit::Refused, b"", bitmap)?);
-    let other = b"sixel: png: NotSixel at 0\n";
+    let other = b"sixel: png: NotSixel at 0\n\
+        sixel: this is a PNG; `pngtopnm | ppmtoppm | pnmquant 16 | sixel encode` makes sixel text of it\n";
     assert!(rt; ends_so(rt.alloc(), RENDER, "png", Exit::Refused, b"", other)?);
     let input = Ended {
         exit: Exit::Refused,

@@ -5,12 +5,12 @@ use Rattle.std.specs.Prelude.{Err}
 use Rattle.sixel_io.specs.Devices.{SourceState}
 use Rattle.sixel_run.specs.declared.fault.RunFault.TheVariants.{Read}
 use Rattle.sixel_program.specs.Files.{is_dash}
-use Rattle.sixel_program.specs.Openings.{bytes_of}
-use Rattle.sixel_program.proofs.FilesLemmas.{unopened}
+use Rattle.sixel_program.specs.Openings.{bytes_of, folder_view}
+use Rattle.sixel_program.proofs.FilesLemmas.{fails_with, unopened}
 use Rattle.sixel_program.proofs.checks.check_file.Goals as goal
 
-pub returns-in-Err : goal.returns-in-Err
-returns-in-Err g c =
+pub returns-in-Err-clause-checked : goal.returns-in-Err-clause-checked
+returns-in-Err-clause-checked g c =
     let file : is_dash c.args.name.now ≡ false = sym c.eq.ensures ∙ c.if-eq.false in
     record {
       e = record {
@@ -18,6 +18,7 @@ returns-in-Err g c =
         unopened = Some _;
         told = bytes_of (g.F.Folder.opening c.args.folder.now) c.args.name.now;
         left = bytes_of (g.F.Folder.opening c.args.folder.now) c.args.name.now;
+        format = None;
         line = [];
         answer = Err Read;
       };
@@ -35,8 +36,8 @@ returns-in-Err g c =
       outcome = (refl, Appends-none _, refl, is_put c.put_unopened.result _ _ _ c.put_unopened.ensures);
     }
 
-pub returns-in-Ok : goal.returns-in-Ok
-returns-in-Ok g c =
+pub returns-in-Ok-clause-checked : goal.returns-in-Ok-clause-checked
+returns-in-Ok-clause-checked g c =
     let file : is_dash c.args.name.now ≡ false = sym c.eq.ensures ∙ c.if-eq.false in
     let checked = c.check_named-in-Ok.ensures in
     record {
@@ -45,27 +46,31 @@ returns-in-Ok g c =
         unopened = None;
         told = _;
         left = _;
-        line = checked.0;
-        answer = checked.1;
+        format = checked.0;
+        line = checked.1;
+        answer = checked.2;
       };
       name_is = refl;
       told = rw file
-          (ap (λ (s : SourceState). s.remaining) c.unread-file.ensures.state
+          (ap (λ (s : SourceState). s.remaining) c.new-file.ensures
           ∙ ap (λ (s : SourceState). s.remaining) c.in-Ok.ensures.bytes);
       left = rw file refl;
-      is_end = checked.2;
+      is_end = checked.3;
       opening = record {
         input = λ is. refl;
         opening = λ is. c.in-Ok.ensures.ended;
         unread = λ reason is. cc;
-        counted = λ is none. (_, _, checked.3);
+        counted = λ is none.
+            fails_with (folder_view (g.F.Folder.opening c.args.folder.now) g.F.Opened.Source.state) checked.2 _ _ _
+            (ap (λ (s : SourceState). s.failures) (c.new-file.ensures ∙ c.in-Ok.ensures.bytes)) checked.4
+            c.check_named-in-Ok.new.input.failed;
       };
       counted = rw file refl;
-      outcome = checked.4;
+      outcome = checked.5;
     }
 
-pub returns-then-eq : goal.returns-then-eq
-returns-then-eq g c =
+pub returns-then-eq-clause-checked : goal.returns-then-eq-clause-checked
+returns-then-eq-clause-checked g c =
     let dash : is_dash c.args.name.now ≡ true = sym c.eq.ensures ∙ c.if-eq.true in
     let checked = c.check_named.ensures in
     record {
@@ -74,19 +79,20 @@ returns-then-eq g c =
         unopened = None;
         told = _;
         left = _;
-        line = checked.0;
-        answer = checked.1;
+        format = checked.0;
+        line = checked.1;
+        answer = checked.2;
       };
       name_is = refl;
       told = rw dash refl;
       left = rw dash refl;
-      is_end = checked.2;
+      is_end = checked.3;
       opening = record {
         input = λ is. refl;
         opening = λ is. let no : true ≡ false = sym dash ∙ is in cc;
         unread = λ reason is. cc;
         counted = λ is none. let no : true ≡ false = sym dash ∙ is in cc;
       };
-      counted = rw dash checked.3;
-      outcome = checked.4;
+      counted = rw dash checked.4;
+      outcome = checked.5;
     }

@@ -1,17 +1,20 @@
+use Rattle.sixel_program.proofs.FilesLemmas.{memory_kept, wrote_kept}
 use Rattle.sixel_program.proofs.PutLemmas.{is_put}
 use Rattle.sixel_program.proofs.files.report.Goals as goal
 
 pub returns : goal.returns
 returns g c = record {
   answer = c.run-answer.result;
-  wrote = c.run-answer.ensures.wrote;
-  memory = c.run-answer.ensures.memory;
-  read = c.run-answer.ensures.reads;
+  format = c.format-format.result;
+  is_format = c.format-format.ensures.format;
+  wrote = wrote_kept c.args.task _ _ _ c.run-answer.result _ _ c.format-format.ensures.told
+      c.run-answer.ensures.wrote;
+  memory = λ is. memory_kept c.args.task _ _ c.format-format.ensures.told (c.run-answer.ensures.memory is);
+  read = rw c.format-format.ensures.failures at c.run-answer.ensures.reads;
   written = c.run-answer.ensures.writes;
   flushed = c.run-answer.ensures.flushed;
   between = g.E.Sink.state c.put_said.new.out;
   ends = c.exit_of.ensures;
-  said = rw (c.format_of-format.ensures, c.as_slice.ensures.value)
-      at (is_put c.put_said.result _ _ _ c.put_said.ensures);
+  said = is_put c.put_said.result _ _ _ c.put_said.ensures;
   hinted = c.put_hint_after.ensures;
 }

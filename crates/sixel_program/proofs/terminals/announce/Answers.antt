@@ -1,5 +1,5 @@
 use Rattle.sixel_program.proofs.PutLemmas.{is_put}
-use Rattle.sixel_program.proofs.files.announce.Goals as goal
+use Rattle.sixel_program.proofs.terminals.announce.Goals as goal
 
 pub returns : goal.returns
 returns g c = is_put c.put_all.result _ _ _ (rw c.notice.ensures at c.put_all.ensures)
