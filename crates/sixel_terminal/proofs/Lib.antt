@@ -1,4 +1,5 @@
 pub mod RoomLemmas
+pub mod PixelCodeLemmas
 pub mod CanvasLemmas
 pub mod PaintLemmas
 pub mod SelectLemmas

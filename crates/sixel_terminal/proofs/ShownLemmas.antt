@@ -15,8 +15,8 @@ use Rattle.sixel_model.specs.declared.colour.Parts.TheVariants.{Rgb}
 use Rattle.sixel_model.specs.Positions.{at_position, last_at, last_below}
 use Rattle.sixel_model.proofs.PositionLemmas.{last_below_same}
 use Rattle.sixel_model.proofs.GridLemmas.{rows_from_index}
-use Rattle.sixel_terminal.specs.declared.canvas.Ink.{Ink}
-use Rattle.sixel_terminal.specs.declared.canvas.Ink.TheVariants.{Fixed, Bound}
+use Rattle.sixel_terminal.specs.declared.pixel.Ink.{Ink}
+use Rattle.sixel_terminal.specs.declared.pixel.Ink.TheVariants.{Fixed, Bound}
 use Rattle.sixel_terminal.specs.declared.pen.Pen.{Pen}
 use Rattle.sixel_terminal.specs.Canvases.{black}
 use Rattle.sixel_terminal.specs.Displays.{Display, registers_of}

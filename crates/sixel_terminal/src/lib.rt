@@ -5,6 +5,7 @@ mod canvas;
 mod choices;
 pub mod laws;
 mod pen;
+mod pixel;
 mod terminal;
 
 pub use choices::{Choices, Ground};

@@ -5,47 +5,47 @@ ghost use Rattle.sixel_grammar.specs.declared.command.Event.{Event};
 ghost use Rattle.std.specs.List.{list_any};
 ghost use Rattle.sixel_grammar.specs.Document.{events_of};
 ghost use Rattle.sixel_model.specs.Events.{is_eight_bit};
-ghost use Rattle.sixel_terminal.specs.declared.canvas.Ink.TheVariants.{Fixed};
+ghost use Rattle.sixel_terminal.specs.declared.pixel.Ink.TheVariants.{Fixed};
 ghost use Rattle.sixel_terminal.specs.Drawing.{is_seen_on, screen_on};
 ghost use Rattle.sixel_terminal.specs.Standing.{IsPenAfter, StandsAfter, shown_in};
 
-use crate::canvas::Ink;
 use crate::pen::Pen;
+use crate::pixel::{Ink, Pixel};
 use crate::terminal::Terminal;
 use sixel_grammar::{Event, Placed};
 use sixel_model::Colour;
 use std::alloc::{AllocError, Global};
 
 /// The inks of a screen with these colours.
-fn inks_of(alloc: Global, screen: &[Colour]) -> Result<Vec<Ink>, AllocError>
+fn inks_of(alloc: Global, screen: &[Colour]) -> Result<Vec<Pixel>, AllocError>
     ensures { IfOk result (λ inks. inks.items ≡ map (λ c. Fixed c) screen.now) }
 {
     let mut inks = Vec::with_capacity(alloc, screen.len())?;
     for colour in screen {
-        inks.push(Ink::Fixed(*colour))?;
+        inks.push(Pixel::fixed(*colour))?;
     }
     Ok(inks)
 }
 
 /// The colour that the ink shows if the registers have these colours.
-fn colour_of(colours: &[Colour], ink: Ink) -> Colour
+fn colour_of(colours: &[Colour], ink: &Pixel) -> Colour
     requires { 0 < length colours.now }
-    ensures { result ≡ shown_in colours.now ink }
+    ensures { result ≡ shown_in colours.now ink.now }
 {
-    match ink {
+    match ink.ink() {
         Ink::Fixed(colour) => colour,
         Ink::Bound(register) => colours[register as usize % colours.len()],
     }
 }
 
 /// The colours that the inks show if the registers have these colours.
-fn colours_of(alloc: Global, colours: &[Colour], inks: &[Ink]) -> Result<Vec<Colour>, AllocError>
+fn colours_of(alloc: Global, colours: &[Colour], inks: &[Pixel]) -> Result<Vec<Colour>, AllocError>
     requires { 0 < length colours.now }
     ensures { IfOk result (λ shown. shown.items ≡ map (shown_in colours.now) inks.now) }
 {
     let mut shown = Vec::with_capacity(alloc, inks.len())?;
     for ink in inks {
-        shown.push(colour_of(colours, *ink))?;
+        shown.push(colour_of(colours, ink))?;
     }
     Ok(shown)
 }
@@ -83,7 +83,7 @@ impl Terminal {
     }
 
     /// Draws one more event.
-    fn draw(&self, pen: Pen, colours: &mut [Colour], inks: &mut [Ink], event: &Event) -> Pen
+    fn draw(&self, pen: Pen, colours: &mut [Colour], inks: &mut [Pixel], event: &Event) -> Pen
         requires { (before : List Event) × StandsAfter self.now before pen colours.old inks.old }
         ensures { (before : List Event) → StandsAfter self.now before pen colours.old inks.old
             → StandsAfter self.now (before ++ event.now ∷ []) result colours.new inks.new }

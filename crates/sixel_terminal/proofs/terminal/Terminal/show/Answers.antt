@@ -1,7 +1,7 @@
 use Rattle.std.proofs.Common.{◌≡◌, ◌∙◌, ◌++◌, length, take, drop, map, sym, ap, arith}
 use Rattle.std.proofs.lemmas.List.{take_at}
 use Rattle.sixel_grammar.specs.Document.{events_of}
-use Rattle.sixel_terminal.specs.declared.canvas.Ink.TheVariants.{Fixed}
+use Rattle.sixel_terminal.specs.declared.pixel.Ink.TheVariants.{Fixed}
 use Rattle.sixel_terminal.specs.Displays.{Display}
 use Rattle.sixel_terminal.specs.Drawing.{screen_on}
 use Rattle.sixel_terminal.specs.Standing.{StandsAfter}

@@ -1,5 +1,5 @@
 use Rattle.std.proofs.Common.{◌≡◌, map, take}
-use Rattle.sixel_terminal.specs.declared.canvas.Ink.TheVariants.{Fixed}
+use Rattle.sixel_terminal.specs.declared.pixel.Ink.TheVariants.{Fixed}
 use Rattle.sixel_terminal.proofs.terminal.drawing.inks_of.Given as goal
 
 abbrev pub invariant-loop-colour : goal.invariant-loop-colour
