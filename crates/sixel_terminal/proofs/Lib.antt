@@ -9,5 +9,6 @@ pub mod RunLemmas
 pub mod InkLemmas
 pub mod ShownLemmas
 pub mod DrawLemmas
+pub mod DrawnLemmas
 pub mod PlainLemmas
 pub mod ClipLemmas
