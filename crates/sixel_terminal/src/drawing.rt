@@ -1,6 +1,6 @@
 //! Draws events one by one.
 
-ghost use Rattle.std.specs.Prelude.{◌≡◌, ◌++◌, ◌∷◌, [], List, IfOk};
+ghost use Rattle.std.specs.Prelude.{◌≡◌, ◌*◌, ◌++◌, ◌∷◌, [], List, IfOk, length};
 ghost use Rattle.sixel_grammar.specs.declared.command.Event.{Event as AnEvent};
 ghost use Rattle.sixel_model.specs.Events.{is_eight_bit};
 ghost use Rattle.sixel_terminal.specs.Drawing.{screen_on};
@@ -93,6 +93,8 @@ impl Drawing {
     pub fn finish(self) -> Screen
         ensures width { result.width ≡ self.terminal.choices.screen_width }
         ensures height { result.height ≡ self.terminal.choices.screen_height }
+        ensures whole { length result.colours
+            ≡ self.terminal.choices.screen_width * self.terminal.choices.screen_height }
         ensures shown { (events : List AnEvent) → HasDrawn self events
             → result.colours ≡ screen_on self.terminal events }
     {
