@@ -16,8 +16,8 @@ use Rattle.sixel_model.specs.Events.{columns_of, is_next_line, is_return, named_
 use Rattle.sixel_model.specs.Geometry.{band, column}
 use Rattle.sixel_model.specs.Positions.{earliest, last_at, last_below, latest, since}
 use Rattle.sixel_model.specs.Rules.{raster_before}
-use Rattle.sixel_terminal.specs.declared.canvas.Ink.{Ink}
-use Rattle.sixel_terminal.specs.declared.canvas.Ink.TheVariants.{Fixed}
+use Rattle.sixel_terminal.specs.declared.pixel.Ink.{Ink}
+use Rattle.sixel_terminal.specs.declared.pixel.Ink.TheVariants.{Fixed}
 use Rattle.sixel_terminal.specs.declared.pen.Pen.{Pen}
 use Rattle.sixel_terminal.specs.Canvases.{black}
 use Rattle.sixel_terminal.specs.Displays.{Display, registers_of}

@@ -3,9 +3,14 @@
 
 mod canvas;
 mod choices;
+mod drawing;
 pub mod laws;
 mod pen;
+mod pixel;
+mod screen;
 mod terminal;
 
 pub use choices::{Choices, Ground};
+pub use drawing::Drawing;
+pub use screen::Screen;
 pub use terminal::{Terminal, TerminalFault, TerminalReason};

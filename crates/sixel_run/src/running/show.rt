@@ -1,8 +1,9 @@
 //! Shows a sixel picture as one terminal would draw it, as a PPM.
 
-ghost use Rattle.std.specs.Prelude.{◌≡◌, ◌≢◌, ◌*◌, ◌≤◌, ◌<◌, ℕ, Err, IfOk, IfSome, IsTrue, List, None, length};
+ghost use Rattle.std.specs.Prelude.{◌≡◌, ◌≢◌, ◌*◌, ◌≤◌, ◌<◌, ℕ, Err, IfErr, IfOk, IfSome, IsTrue, List, None, length};
 ghost use Rattle.sixel_grammar.specs.declared.command.Placed.{Placed as Place};
 ghost use Rattle.sixel_grammar.specs.Document.{Document, events_of};
+ghost use Rattle.sixel_grammar.specs.Reading.{Explains, failures_after};
 ghost use Rattle.sixel_ppm.specs.Ppm.{is_file_side};
 ghost use Rattle.sixel_model.specs.Profiles.{count_of};
 ghost use Rattle.sixel_model.specs.declared.profile.Profile.{Profile as AProfile};
@@ -13,13 +14,14 @@ ghost use Rattle.sixel_run.specs.declared.fault.RunFault.TheVariants.{Read};
 ghost use Rattle.sixel_run.specs.Outputs.{CountsWrites, ShowGives, WroteBy, WroteNothing, failures_by};
 ghost use Rattle.sixel_run.specs.Screens.{greys, percent_at, show_choices, show_terminal, white_screen};
 
+use super::draw::draw;
 use crate::fault::RunFault;
 use crate::task::Status;
-use sixel_grammar::{Placed, read_all};
+use sixel_grammar::{InputFault, Placed};
 use sixel_io::{Sink, Source};
 use sixel_model::{Colour, Profile};
 use sixel_ppm::write_ppm_colours;
-use sixel_terminal::{Choices, Ground, Terminal};
+use sixel_terminal::{Choices, Drawing, Ground, Terminal};
 use std::alloc::{AllocError, Global};
 
 /// The choices of the terminal: the given ones, a screen of this width and height in pixels with the picture at its top
@@ -48,7 +50,7 @@ pub fn show_choices(showing: bool, fill: bool, selects: bool, width: u32, height
     }
 }
 
-/// Reads the whole document, draws it on the terminal of these choices, and writes the screen. It doesn't flush.
+/// Draws the document on the terminal of these choices while it reads it, and writes the screen. It doesn't flush.
 pub fn show<S: Source, K: Sink>(
     alloc: Global,
     profile: Profile,
@@ -63,9 +65,29 @@ pub fn show<S: Source, K: Sink>(
     ensures reads { (S.state input.new).failures ≡ failures_by Read result (S.state input.old).failures }
     ensures writes { CountsWrites result (K.state output.old).failures (K.state output.new).failures }
 {
-    let events = read_all(alloc, input)?;
-    let shown = screen_after(alloc, profile, choices, &events)?;
+    let shown = read_screen(alloc, profile, choices, input)?;
     write_screen(choices, &shown, output)
+}
+
+/// The colours of the whole screen after the document, row by row.
+fn read_screen<S: Source>(
+    alloc: Global,
+    profile: Profile,
+    choices: Choices,
+    input: &mut S,
+) -> Result<Vec<Colour>, InputFault>
+    requires { terminal_fault choices (greys profile) (white_screen choices) ≡ None }
+    ensures shown { IfOk result (λ shown. IfSome (S.state input.old).remaining (λ bytes.
+        (events : List Place) × Document events bytes
+        × (shown.items ≡ screen_on (show_terminal profile choices) (events_of events)))) }
+    ensures whole { IfOk result (λ shown. length shown.items ≡ choices.screen_width * choices.screen_height) }
+    ensures refused { IfErr result (λ fault. IfSome (S.state input.old).remaining (Explains fault)) }
+    ensures failures { (S.state input.new).failures ≡ failures_after result (S.state input.old).failures }
+{
+    let terminal = terminal_of(alloc, profile, choices)?;
+    let mut drawing = Drawing::new(alloc, terminal)?;
+    draw(input, &mut drawing)?;
+    Ok(drawing.finish().colours(alloc)?)
 }
 
 /// Writes these colours of a screen, row by row, as a PPM.
@@ -88,8 +110,19 @@ pub fn write_screen<K: Sink>(
     Ok(Status::Done)
 }
 
-/// The colours of the whole screen after the events, row by row.
+/// The terminal of `show` with these choices.
 #[tactic(auto, unfolding(crate::specs::Screens::show_terminal))]
+fn terminal_of(alloc: Global, profile: Profile, choices: Choices) -> Result<Terminal, AllocError>
+    requires { terminal_fault choices (greys profile) (white_screen choices) ≡ None }
+    ensures { IfOk result (λ terminal. terminal ≡ show_terminal profile choices) }
+{
+    match Terminal::plain(choices, greys(alloc, profile)?, grey(100)) {
+        Ok(terminal) => Ok(terminal),
+        Err(_) => unreachable!(),
+    }
+}
+
+/// The colours of the whole screen after the events, row by row.
 pub fn screen_after(
     alloc: Global,
     profile: Profile,
@@ -99,12 +132,11 @@ pub fn screen_after(
     requires { terminal_fault choices (greys profile) (white_screen choices) ≡ None }
     ensures { IfOk result (λ shown. shown.items ≡ screen_on (show_terminal profile choices) (events_of events.now)) }
 {
-    let pixels = (choices.screen_width * choices.screen_height) as usize;
-    let screen = vec![in alloc; grey(100); pixels]?;
-    match Terminal::new(choices, greys(alloc, profile)?, screen) {
-        Ok(terminal) => terminal.show(alloc, events),
-        Err(_) => unreachable!(),
+    let mut drawing = Drawing::new(alloc, terminal_of(alloc, profile, choices)?)?;
+    for placed in events {
+        drawing.push(&placed.event);
     }
+    drawing.finish().colours(alloc)
 }
 
 fn grey(percent: u8) -> Colour

@@ -6,8 +6,9 @@ ghost use Rattle.sixel_model.specs.Geometry.{band_rows};
 ghost use Rattle.sixel_terminal.specs.Canvases.{black, span_of};
 ghost use Rattle.sixel_terminal.specs.Steps.{bottom_edge, box_covers, pen_covers, right_edge};
 
-use crate::canvas::{Ink, Span, fill};
+use crate::canvas::{Span, fill};
 use crate::pen::Pen;
+use crate::pixel::Pixel;
 use crate::terminal::Terminal;
 use sixel_model::{BAND_ROWS, is_set};
 
@@ -53,7 +54,14 @@ impl Terminal {
     }
 
     /// Paints the set bits of `count` columns, from the pen on, with the ink.
-    pub(crate) fn paint_columns(&self, pen: Pen, count: u16, bits: u8, ink: &Ink, inks: &mut [Ink])
+    pub(crate) fn paint_columns(
+        &self,
+        pen: Pen,
+        count: u16,
+        bits: u8,
+        ink: &Pixel,
+        inks: &mut [Pixel],
+    )
         requires { length inks.old ≡ self.now.choices.screen_width * self.now.choices.screen_height }
         ensures { EachIndex inks.old (λ i. slice_index_or inks.new i black
             ≡ (if pen_covers self.now pen count bits (i % self.now.choices.screen_width)
@@ -74,7 +82,7 @@ impl Terminal {
     }
 
     /// Paints a box at the origin with the ink.
-    pub(crate) fn paint_box(&self, width: u16, height: u16, ink: &Ink, inks: &mut [Ink])
+    pub(crate) fn paint_box(&self, width: u16, height: u16, ink: &Pixel, inks: &mut [Pixel])
         requires { length inks.old ≡ self.now.choices.screen_width * self.now.choices.screen_height }
         ensures { EachIndex inks.old (λ i. slice_index_or inks.new i black
             ≡ (if box_covers self.now width height (i % self.now.choices.screen_width)
