@@ -38,7 +38,7 @@ pub found_by_clap : (words : List Text) (error : Error) (f : WordsFault) → Has
     → HoldsError error f → IsUnexplained f → (kind_of error ≡ kind.OutOfMemory → f ≡ fault.OutOfMemory)
     → IsFoundIn words f
 found_by_clap words error (fault.Usage held) has kept unexplained memory =
-    inl (shown_kind words error held (fault.Usage held) kept memory (λ is. cc) has)
+    inl (shown_kind words error held (fault.Usage held) kept.0 memory (λ is. cc) has)
 found_by_clap words error (fault.Help held) has kept unexplained memory =
     shown_kind words error held (fault.Help held) (ap kind_of kept) memory (λ is. cc) has
 found_by_clap words error (fault.Explanation topic) has kept unexplained memory = absurd unexplained

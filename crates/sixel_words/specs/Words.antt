@@ -16,6 +16,7 @@ use Rattle.clap.specs.Walk.{Row, Rule, Text, all_of, first_of, one_of}
 use Rattle.clap.specs.declared.builder.action.ArgAction.TheVariants.{Append, SetTrue}
 use Rattle.clap.specs.declared.builder.value_parser.ValueParser.TheVariants as parser
 use Rattle.clap.specs.declared.error.Error.{Error}
+use Rattle.clap.specs.declared.error.kind.ErrorKind.{ErrorKind}
 use Rattle.clap.specs.declared.error.kind.ErrorKind.TheVariants as kind
 use Rattle.clap.specs.declared.parser.matches.ValueSource.{ValueSource}
 use Rattle.clap.specs.declared.parser.matches.ValueSource.TheVariants.{CommandLine}
@@ -201,9 +202,16 @@ IsSortedOut (fault.Help error) = (kind_of error ≡ kind.DisplayHelp) ⊎ (kind_
 IsSortedOut (fault.Explanation topic) = ⊤
 IsSortedOut fault.OutOfMemory = ⊤
 
--- an error that is shown is of the same kind as this one, and help is this one
+-- the kinds of clap's errors that may get a tip: a subcommand that there isn't, and an argument that isn't expected
+abbrev pub may_get_a_tip : ErrorKind → Bool
+may_get_a_tip kind.InvalidSubcommand = true
+may_get_a_tip kind.UnknownArgument = true
+may_get_a_tip _ = false
+
+-- an error that is shown is this one, or this one with a tip, which is of the same kind
 abbrev pub HoldsError : Error → WordsFault → Type 0
-HoldsError error (fault.Usage held) = kind_of held ≡ kind_of error
+HoldsError error (fault.Usage held) =
+    (kind_of held ≡ kind_of error) × (may_get_a_tip (kind_of error) ≡ false → held ≡ error)
 HoldsError error (fault.Help held) = held ≡ error
 HoldsError error _ = ⊤
 

@@ -53,13 +53,13 @@ pub fn the_word_help_asks_for_help()
 {}
 
 /// Without arguments, with an unknown option and with a side of 0, clap finds a usage error and no request for help.
-/// That `list --wide` names the task `List` doesn't help it.
+/// `list --wide` is refused, although it names the task `List`.
 pub fn wrong_words_ask_for_no_help()
     ensures none { (program : Text) → kinds_of (program ∷ []) ≡ MissingSubcommand ∷ [] }
     ensures unknown { (program : Text) →
         kinds_of (program ∷ codes "list" ∷ codes "--wide" ∷ []) ≡ UnknownArgument ∷ [] }
-    ensures named { (words : List Text) (program : Text) →
-        words ≡ program ∷ codes "list" ∷ codes "--wide" ∷ [] → IsTaskOf words Listing }
+    ensures named { (program : Text) →
+        IsTaskOf (program ∷ codes "list" ∷ codes "--wide" ∷ []) Listing }
     ensures side { (program : Text) →
         kinds_of (program ∷ codes "show" ∷ codes "--width" ∷ codes "0" ∷ []) ≡ ValueValidation ∷ [] }
 {}

@@ -1,7 +1,8 @@
 //! Usage errors of our own, and tips for clap's.
 
-ghost use Rattle.std.specs.Prelude.{◌≡◌, IfOk, IfSome};
+ghost use Rattle.std.specs.Prelude.{◌≡◌, IfOk, IfSome, IsNone, false};
 ghost use Rattle.clap.specs.Values.{kind_of};
+ghost use Rattle.sixel_words.specs.Words.{may_get_a_tip};
 
 use crate::commands::{
     encode_command, explain_command, list_command, render_command, show_command, sixel_command,
@@ -78,7 +79,8 @@ fn unnamed_reason(alloc: Global, said: &[&str]) -> Result<String, AllocError> {
 
 /// This usage error of clap, with a tip if a file was named that can't be read there. The kind stays.
 pub fn with_tip(alloc: Global, words: &[String], error: Error) -> Error
-    ensures { kind_of result ≡ kind_of error }
+    ensures kind { kind_of result ≡ kind_of error }
+    ensures kept { may_get_a_tip (kind_of error) ≡ false → result ≡ error }
 {
     match tipped(alloc, words, &error) {
         Ok(Some(tipped)) => tipped,
@@ -89,7 +91,8 @@ pub fn with_tip(alloc: Global, words: &[String], error: Error) -> Error
 
 /// The usage error with a tip, if there is one for it.
 fn tipped(alloc: Global, words: &[String], error: &Error) -> Result<Option<Error>, AllocError>
-    ensures { IfOk result (λ tipped. IfSome tipped (λ e. kind_of e ≡ kind_of error.now)) }
+    ensures kind { IfOk result (λ tipped. IfSome tipped (λ e. kind_of e ≡ kind_of error.now)) }
+    ensures none { may_get_a_tip (kind_of error.now) ≡ false → IfOk result IsNone }
 {
     let [_, name, ..] = words else {
         return Ok(None);

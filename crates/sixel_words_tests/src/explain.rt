@@ -110,7 +110,8 @@ Options:
 
 Reads nothing. Writes to standard output what the rule or the refusal means,
 what breaks it and how to fix it; without NAME, one line for each name. Letters
-may be in any case, and NAME may be a whole line that sixel wrote.
+may be in any case, and NAME may be a line of check that has broken, or one that
+says why an input was refused; put -- before a line that starts with -.
 
 Exit status: 0 done, 2 output failed, 3 usage error or unknown name.
 

@@ -1,4 +1,4 @@
-use Rattle.std.proofs.Common.{◌∷◌, [], List, codes, refl, subst, sym}
+use Rattle.std.proofs.Common.{◌∷◌, [], codes, refl}
 use Rattle.clap.proofs.OnLiterals.{clap_on_literals}
 use Rattle.clap.specs.Walk.{walked}
 use Rattle.sixel_run.specs.Texts.{Text}
@@ -24,5 +24,4 @@ unfolding walked
 named program = (codes "list", _, refl, refl)
 
 pub returns-clause-named : goal.returns-clause-named
-returns-clause-named c = λ words program is.
-    subst (λ (ws : List Text). IsTaskOf ws Listing) (sym is) (named program)
+returns-clause-named c = named
