@@ -12,5 +12,6 @@ mod terminal;
 
 pub use choices::{Choices, Ground};
 pub use drawing::Drawing;
+pub use pixel::{Ink, Pixel};
 pub use screen::Screen;
 pub use terminal::{Terminal, TerminalFault, TerminalReason};
