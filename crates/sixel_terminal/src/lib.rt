@@ -8,6 +8,7 @@ pub mod laws;
 mod pen;
 mod pixel;
 mod screen;
+mod stretch;
 mod terminal;
 
 pub use choices::{Choices, Ground};

@@ -1,0 +1,32 @@
+-- Painting many sixels at once. Only contracts of private functions cite these.
+use Rattle.std.specs.Prelude.{◌≡◌, ◌==◌, ◌&&◌, ◌+◌, ◌-◌, ◌/◌, ◌%◌, ◌<◌, ℕ, Bool, List, length, nat_le, nat_lt}
+use Rattle.std.specs.Prelude.{slice_index, slice_index_or}
+use Rattle.std.specs.Prelude.{if◌then◌else◌}
+use Rattle.std.specs.Int.{bit_at}
+use Rattle.sixel_terminal.specs.declared.pixel.Ink.{Ink}
+use Rattle.sixel_terminal.specs.Canvases.{black}
+
+-- the sixel of a data byte has this bit
+abbrev pub has_bit : ℕ → ℕ → Bool
+has_bit byte bit = bit_at (byte - 63) bit == 1
+
+-- the pixels of a row below the column n are painted where the bytes have the bit
+pub record IsRowPainted (n bit : ℕ) (bytes : List ℕ) (ink : Ink) (old new : List Ink) : Type 0 where
+  pub long : length new ≡ length old
+  pub pixels : (j : ℕ) → j < length old
+      → slice_index_or new j black
+      ≡ (if nat_lt j n && has_bit (slice_index bytes j) bit then ink else slice_index_or old j black)
+
+-- the pixel is in the columns of the bytes, which begin at `left`, and in the first n rows from `top` on, and the byte
+-- of its column has the bit of its row
+abbrev pub is_stretched : ℕ → ℕ → ℕ → List ℕ → ℕ → ℕ → Bool
+is_stretched left top n bytes x y =
+    (nat_le left x && nat_lt x (left + length bytes))
+    && ((nat_le top y && nat_lt y (top + n)) && has_bit (slice_index bytes (x - left)) (y - top))
+
+-- the first n rows of a stretch were painted
+pub record IsStretchPainted (n w left top : ℕ) (bytes : List ℕ) (ink : Ink) (old new : List Ink) : Type 0 where
+  pub long : length new ≡ length old
+  pub pixels : (i : ℕ) → i < length old
+      → slice_index_or new i black
+      ≡ (if is_stretched left top n bytes (i % w) (i / w) then ink else slice_index_or old i black)
