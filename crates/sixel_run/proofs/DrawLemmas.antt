@@ -4,6 +4,11 @@ use Rattle.std.proofs.Common.{◌≡◌, ◌++◌, ℕ, Option, Some, None, List
 use Rattle.sixel_grammar.specs.declared.command.Event.{Event}
 use Rattle.sixel_grammar.specs.declared.command.Placed.{Placed}
 use Rattle.sixel_grammar.specs.Document.{events_of}
+use Rattle.sixel_grammar.specs.Stretches.{sixels_from}
+use Rattle.sixel_grammar.specs.declared.command.Command.TheVariants.{Sixel}
+use Rattle.sixel_grammar.specs.declared.command.Event.TheVariants.{Step}
+use Rattle.sixel_terminal.specs.Stretches.{sixels_of}
+use Rattle.std.proofs.Common.{◌+◌, ◌-◌}
 use Rattle.sixel_terminal.specs.Drawings.{Drawn, HasDrawn}
 use Rattle.sixel_run.specs.Draw.{Draws}
 
@@ -28,3 +33,13 @@ draws_both a b c first second one two = record {
       ∙ ap (λ (es : List Event). before ++ es) (sym (events-then first second)))
       (two.drawn (before ++ events_of first) (one.drawn before h));
 }
+
+sixels_are : (place : ℕ) (bytes : List ℕ) → events_of (sixels_from place bytes) ≡ sixels_of bytes
+sixels_are place [] = refl
+sixels_are place (b ∷ rest) = ap (λ (es : List Event). Step (Sixel (b - 63)) ∷ es) (sixels_are (place + 1) rest)
+
+pub sixels_then : (events : List Placed) (place : ℕ) (bytes : List ℕ)
+    → events_of (events ++ sixels_from place bytes) ≡ events_of events ++ sixels_of bytes
+sixels_then events place bytes =
+    events-then events (sixels_from place bytes)
+    ∙ ap (λ (es : List Event). events_of events ++ es) (sixels_are place bytes)

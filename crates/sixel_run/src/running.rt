@@ -8,6 +8,7 @@ mod draw;
 mod encode;
 mod list;
 mod render;
+mod screen;
 mod show;
 mod show_box;
 

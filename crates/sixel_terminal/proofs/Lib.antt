@@ -10,5 +10,6 @@ pub mod InkLemmas
 pub mod ShownLemmas
 pub mod DrawLemmas
 pub mod DrawnLemmas
+pub mod StretchLemmas
 pub mod PlainLemmas
 pub mod ClipLemmas

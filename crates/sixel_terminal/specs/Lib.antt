@@ -7,5 +7,6 @@ pub mod Canvases
 pub mod Steps
 pub mod Standing
 pub mod Screens
+pub mod Stretches
 pub mod Drawings
 pub mod Laws

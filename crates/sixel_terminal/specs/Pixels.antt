@@ -1,5 +1,6 @@
--- The pixels of a screen during drawing, as numbers. Only contracts of private functions cite these.
-use Rattle.std.specs.Prelude.{◌≡◌, ◌==◌, ◌<◌, ◌^◌, ◌+◌, ◌-◌, ◌*◌, ◌/◌, ◌%◌, ℕ, if◌then◌else◌}
+-- The pixels of a screen as numbers of four bytes.
+use Rattle.std.specs.Prelude.{◌≡◌, ◌==◌, ◌<◌, ◌^◌, ◌+◌, ◌-◌, ◌*◌, ◌/◌, ◌%◌, ◌∷◌, [], ℕ, Bool, true, false, List}
+use Rattle.std.specs.Prelude.{if◌then◌else◌}
 use Rattle.sixel_model.specs.declared.colour.Parts.TheVariants.{Rgb, Hls}
 use Rattle.sixel_model.specs.Colours.{IsColour}
 use Rattle.sixel_terminal.specs.declared.pixel.Ink.{Ink}
@@ -25,6 +26,18 @@ ink_of_bytes a b c highest =
 -- the ink with this number
 unfoldable pub ink_of : ℕ → Ink
 ink_of code = ink_of_bytes (code % 256) (code / 256 % 256) (code / 65536 % 256) (code / 16777216)
+
+-- the bytes of an ink, the lowest first
+abbrev pub bytes_of : Ink → List ℕ
+bytes_of (Fixed (Rgb red green blue)) = red ∷ green ∷ blue ∷ 0 ∷ []
+bytes_of (Fixed (Hls hue lightness saturation)) = (hue % 256) ∷ lightness ∷ saturation ∷ (1 + hue / 256) ∷ []
+bytes_of (Bound register) = (register % 256) ∷ (register / 256) ∷ 0 ∷ 3 ∷ []
+
+-- the ink is an RGB colour
+abbrev pub is_rgb_ink : Ink → Bool
+is_rgb_ink (Fixed (Rgb red green blue)) = true
+is_rgb_ink (Fixed (Hls hue lightness saturation)) = false
+is_rgb_ink (Bound register) = false
 
 -- the colour is in range, and the register a `u16`
 abbrev pub IsInk : Ink → Type 0

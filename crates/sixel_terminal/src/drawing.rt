@@ -1,16 +1,18 @@
 //! Draws events one by one.
 
-ghost use Rattle.std.specs.Prelude.{◌≡◌, ◌*◌, ◌++◌, ◌∷◌, [], List, IfOk, length};
+ghost use Rattle.std.specs.Prelude.{◌≡◌, ◌<◌, ◌*◌, ◌++◌, ◌∷◌, [], ℕ, List, IfOk, IsTrue, length, slice_index};
 ghost use Rattle.sixel_grammar.specs.declared.command.Event.{Event as AnEvent};
+ghost use Rattle.sixel_grammar.specs.Bytes.{is_data};
 ghost use Rattle.sixel_model.specs.Events.{is_eight_bit};
 ghost use Rattle.sixel_terminal.specs.Drawing.{screen_on};
 ghost use Rattle.sixel_terminal.specs.Drawings.{HasDrawn};
+ghost use Rattle.sixel_terminal.specs.Stretches.{sixels_of};
 
 use crate::pen::Pen;
 use crate::pixel::Pixel;
 use crate::screen::Screen;
 use crate::terminal::Terminal;
-use sixel_grammar::Event;
+use sixel_grammar::{Command, Event};
 use sixel_model::Colour;
 use std::alloc::{AllocError, Global};
 use std::marker::Model;
@@ -86,6 +88,34 @@ impl Drawing {
             .terminal
             .draw(self.pen, &mut self.colours, &mut self.pixels, event);
         self.has_eight_bit |= is_eight_bit(event);
+    }
+
+    /// Draws the sixels of these data bytes, in order. It is faster than `push` with one after the other.
+    pub fn push_stretch(&mut self, bytes: &[u8])
+        requires { (k : ℕ) → k < length bytes.now → IsTrue (is_data (slice_index bytes.now k)) }
+        ensures terminal { self.new.terminal ≡ self.old.terminal }
+        ensures drawn { (before : List AnEvent) → HasDrawn self.old before
+            → HasDrawn self.new (before ++ sixels_of bytes.now) }
+    {
+        match self
+            .terminal
+            .try_draw_stretch(self.pen, &self.colours, &mut self.pixels, bytes)
+        {
+            Some(pen) => self.pen = pen,
+            None => self.push_each(bytes),
+        }
+    }
+
+    /// The same, sixel by sixel.
+    fn push_each(&mut self, bytes: &[u8])
+        requires { (k : ℕ) → k < length bytes.now → IsTrue (is_data (slice_index bytes.now k)) }
+        ensures terminal { self.new.terminal ≡ self.old.terminal }
+        ensures drawn { (before : List AnEvent) → HasDrawn self.old before
+            → HasDrawn self.new (before ++ sixels_of bytes.now) }
+    {
+        for byte in bytes {
+            self.push(&Event::Step(Command::Sixel(byte - b'?')));
+        }
     }
 
     /// The screen after the events. A terminal without 8-bit controls shows nothing of a list with an 8-bit start or

@@ -1,7 +1,7 @@
 //! The pixels of a screen during drawing, in four bytes each.
 
 ghost use Rattle.std.specs.Prelude.{◌≡◌, ◌≤◌};
-ghost use Rattle.sixel_terminal.specs.Pixels.{packed};
+ghost use Rattle.sixel_terminal.specs.Pixels.{bytes_of, is_rgb_ink, packed};
 ghost use Rattle.sixel_terminal.specs.declared.pixel.Ink.TheVariants.{Fixed as FixedInk, Bound as BoundInk};
 
 use sixel_model::{Colour, Parts};
@@ -9,7 +9,7 @@ use std::marker::Model;
 
 /// What a pixel shows.
 #[derive(Clone, Copy, Debug)]
-pub(crate) enum Ink {
+pub enum Ink {
     /// This colour.
     Fixed(Colour),
     /// The colour that this register has at the end.
@@ -24,7 +24,7 @@ const BOUND: u8 = 3;
 /// The bytes of its code, the lowest first: of an RGB colour the percentages and 0; of an HLS colour the hue modulo 256,
 /// lightness, saturation, and 1 or 2 for the rest of the hue; of a register two for its number, then 0 and 3.
 #[derive(Clone, Copy, Debug)]
-pub(crate) struct Pixel {
+pub struct Pixel {
     code: u32,
 }
 
@@ -79,6 +79,26 @@ impl Pixel {
         Pixel {
             code: packed((register % 256) as u8, (register / 256) as u8, 0, BOUND),
         }
+    }
+
+    /// Four bytes: of an RGB colour its percentages of red, green and blue, and 0.
+    pub fn bytes(&self) -> [u8; 4]
+        ensures { result ≡ bytes_of self.now }
+    {
+        let code = self.code;
+        [
+            (code % 256) as u8,
+            (code / 256 % 256) as u8,
+            (code / 65_536 % 256) as u8,
+            (code / 16_777_216) as u8,
+        ]
+    }
+
+    /// Whether the pixel shows an RGB colour.
+    pub fn is_rgb(&self) -> bool
+        ensures { result ≡ is_rgb_ink self.now }
+    {
+        self.code < 16_777_216
     }
 
     /// What the pixel shows.

@@ -1,7 +1,7 @@
 //! What a terminal shows after a drawing.
 
 ghost use Rattle.std.specs.Prelude.{◌≡◌, IfOk, map};
-ghost use Rattle.sixel_terminal.specs.Screens.{colour_in_ink};
+ghost use Rattle.sixel_terminal.specs.Screens.{IsAllFixed, colour_in_ink};
 
 use crate::pixel::{Ink, Pixel};
 use sixel_model::Colour;
@@ -56,6 +56,14 @@ impl Screen {
         ensures { result ≡ self.now.height }
     {
         self.height
+    }
+
+    /// The pixels, row by row. Each shows a colour.
+    pub fn pixels(&self) -> &[Pixel]
+        ensures pixels { map colour_in_ink result.now ≡ self.now.colours }
+        ensures fixed { IsAllFixed result.now }
+    {
+        &self.pixels
     }
 
     /// The colours of all pixels, row by row. `AllocError`: an allocation failed.

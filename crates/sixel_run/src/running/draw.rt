@@ -1,6 +1,6 @@
 //! Draws a document while it is read.
 
-ghost use Rattle.std.specs.Prelude.{◌≡◌, [], ◌∷◌, IfErr, IfSome, List, OnOk};
+ghost use Rattle.std.specs.Prelude.{◌≡◌, ◌<◌, ◌≤◌, [], ◌∷◌, IfErr, IfOk, IfSome, List, OnOk, length, take};
 ghost use Rattle.std.specs.Option.{option_to_list};
 ghost use Rattle.sixel_grammar.specs.declared.command.Placed.{Placed as Place};
 ghost use Rattle.sixel_grammar.specs.Document.{Document, events_of};
@@ -41,13 +41,38 @@ fn draw_byte(reader: &mut Reader, drawing: &mut Drawing, byte: u8) -> Result<(),
     Ok(())
 }
 
+/// Reads the data bytes that `feed_stretch` takes at the beginning of `bytes`, or else one byte, and draws what they
+/// complete. Returns how many it read.
+#[inline(always)]
+fn draw_stretch_or_byte(
+    reader: &mut Reader,
+    drawing: &mut Drawing,
+    bytes: &[u8],
+) -> Result<usize, InputFault>
+    requires { 0 < length bytes.now }
+    ensures some { IfOk result (λ count. 0 < count) }
+    ensures within { IfOk result (λ count. count ≤ length bytes.now) }
+    ensures drawn { IfOk result (λ count.
+        DrawsBytes reader.old drawing.old reader.new drawing.new (take count bytes.now)) }
+    ensures refused { IfErr result (RefusesBytes reader.old drawing.old (take 1 bytes.now)) }
+{
+    let stretch = reader.feed_stretch(bytes);
+    if stretch.count == 0 {
+        draw_byte(reader, drawing, bytes[0])?;
+        return Ok(1);
+    }
+    drawing.push_stretch(&bytes[..stretch.count]);
+    Ok(stretch.count)
+}
+
 /// Reads the bytes of a piece, and draws the events that they complete.
 fn draw_piece(reader: &mut Reader, drawing: &mut Drawing, piece: &[u8]) -> Result<(), InputFault>
     ensures drawn { OnOk result (DrawsBytes reader.old drawing.old reader.new drawing.new piece.now) }
     ensures refused { IfErr result (RefusesBytes reader.old drawing.old piece.now) }
 {
-    for byte in piece {
-        draw_byte(reader, drawing, *byte)?;
+    let mut read = 0;
+    while read < piece.len() {
+        read += draw_stretch_or_byte(reader, drawing, &piece[read..])?;
     }
     Ok(())
 }

@@ -15,13 +15,13 @@ ghost use Rattle.sixel_run.specs.Outputs.{CountsWrites, ShowGives, WroteBy, Wrot
 ghost use Rattle.sixel_run.specs.Screens.{greys, percent_at, show_choices, show_terminal, white_screen};
 
 use super::draw::draw;
+use super::screen::write_screen;
 use crate::fault::RunFault;
 use crate::task::Status;
 use sixel_grammar::{InputFault, Placed};
 use sixel_io::{Sink, Source};
 use sixel_model::{Colour, Profile};
-use sixel_ppm::write_ppm_colours;
-use sixel_terminal::{Choices, Drawing, Ground, Terminal};
+use sixel_terminal::{Choices, Drawing, Ground, Screen, Terminal};
 use std::alloc::{AllocError, Global};
 
 /// The choices of the terminal: the given ones, a screen of this width and height in pixels with the picture at its top
@@ -65,49 +65,30 @@ pub fn show<S: Source, K: Sink>(
     ensures reads { (S.state input.new).failures ≡ failures_by Read result (S.state input.old).failures }
     ensures writes { CountsWrites result (K.state output.old).failures (K.state output.new).failures }
 {
-    let shown = read_screen(alloc, profile, choices, input)?;
-    write_screen(choices, &shown, output)
+    let screen = read_screen(alloc, profile, choices, input)?;
+    write_screen(choices, &screen, output)
 }
 
-/// The colours of the whole screen after the document, row by row.
+/// The screen after the document.
 fn read_screen<S: Source>(
     alloc: Global,
     profile: Profile,
     choices: Choices,
     input: &mut S,
-) -> Result<Vec<Colour>, InputFault>
+) -> Result<Screen, InputFault>
     requires { terminal_fault choices (greys profile) (white_screen choices) ≡ None }
-    ensures shown { IfOk result (λ shown. IfSome (S.state input.old).remaining (λ bytes.
+    ensures shown { IfOk result (λ screen. IfSome (S.state input.old).remaining (λ bytes.
         (events : List Place) × Document events bytes
-        × (shown.items ≡ screen_on (show_terminal profile choices) (events_of events)))) }
-    ensures whole { IfOk result (λ shown. length shown.items ≡ choices.screen_width * choices.screen_height) }
+        × (screen.colours ≡ screen_on (show_terminal profile choices) (events_of events)))) }
+    ensures width { IfOk result (λ screen. screen.width ≡ choices.screen_width) }
+    ensures height { IfOk result (λ screen. screen.height ≡ choices.screen_height) }
     ensures refused { IfErr result (λ fault. IfSome (S.state input.old).remaining (Explains fault)) }
     ensures failures { (S.state input.new).failures ≡ failures_after result (S.state input.old).failures }
 {
     let terminal = terminal_of(alloc, profile, choices)?;
     let mut drawing = Drawing::new(alloc, terminal)?;
     draw(input, &mut drawing)?;
-    Ok(drawing.finish().colours(alloc)?)
-}
-
-/// Writes these colours of a screen, row by row, as a PPM.
-pub fn write_screen<K: Sink>(
-    choices: Choices,
-    shown: &[Colour],
-    output: &mut K,
-) -> Result<Status, RunFault>
-    requires width { IsTrue (is_file_side choices.screen_width) }
-    requires height { IsTrue (is_file_side choices.screen_height) }
-    requires whole { length shown.now ≡ choices.screen_width * choices.screen_height }
-    ensures wrote { (profile : AProfile) (events : List Place) (bytes : List ℕ) → Document events bytes →
-        shown.now ≡ screen_on (show_terminal profile choices) (events_of events) →
-        WroteBy (ShowGives (show_terminal profile choices) bytes) WroteNothing result
-        (K.state output.old).taken (K.state output.new).taken }
-    ensures unread { result ≢ Err Read }
-    ensures writes { CountsWrites result (K.state output.old).failures (K.state output.new).failures }
-{
-    write_ppm_colours(choices.screen_width, choices.screen_height, shown, output)?;
-    Ok(Status::Done)
+    Ok(drawing.finish())
 }
 
 /// The terminal of `show` with these choices.
@@ -122,21 +103,24 @@ fn terminal_of(alloc: Global, profile: Profile, choices: Choices) -> Result<Term
     }
 }
 
-/// The colours of the whole screen after the events, row by row.
+/// The screen after the events.
 pub fn screen_after(
     alloc: Global,
     profile: Profile,
     choices: Choices,
     events: &[Placed],
-) -> Result<Vec<Colour>, AllocError>
+) -> Result<Screen, AllocError>
     requires { terminal_fault choices (greys profile) (white_screen choices) ≡ None }
-    ensures { IfOk result (λ shown. shown.items ≡ screen_on (show_terminal profile choices) (events_of events.now)) }
+    ensures shown { IfOk result (λ screen.
+        screen.colours ≡ screen_on (show_terminal profile choices) (events_of events.now)) }
+    ensures width { IfOk result (λ screen. screen.width ≡ choices.screen_width) }
+    ensures height { IfOk result (λ screen. screen.height ≡ choices.screen_height) }
 {
     let mut drawing = Drawing::new(alloc, terminal_of(alloc, profile, choices)?)?;
     for placed in events {
         drawing.push(&placed.event);
     }
-    drawing.finish().colours(alloc)
+    Ok(drawing.finish())
 }
 
 fn grey(percent: u8) -> Colour

@@ -1,9 +1,10 @@
 //! What a drawing does on its terminal, and drawing a whole list.
 
-ghost use Rattle.std.specs.Prelude.{◌≡◌, ◌<◌, ◌*◌, ◌++◌, ◌∷◌, [], EachIndex, List, IfOk, length, map};
-ghost use Rattle.std.specs.Prelude.{slice_index_or};
+ghost use Rattle.std.specs.Prelude.{◌≡◌, ◌<◌, ◌*◌, ◌++◌, ◌∷◌, [], ℕ, EachIndex, List, IfOk, IfSome, IsNone};
+ghost use Rattle.std.specs.Prelude.{IsTrue, length, map, slice_index, slice_index_or};
 ghost use Rattle.std.specs.List.{list_any};
 ghost use Rattle.sixel_grammar.specs.declared.command.Event.{Event};
+ghost use Rattle.sixel_grammar.specs.Bytes.{is_data};
 ghost use Rattle.sixel_grammar.specs.Document.{events_of};
 ghost use Rattle.sixel_model.specs.Events.{is_eight_bit};
 ghost use Rattle.sixel_terminal.specs.declared.pen.Pen.{Pen as APen};
@@ -11,6 +12,7 @@ ghost use Rattle.sixel_terminal.specs.declared.pixel.Ink.TheVariants.{Fixed};
 ghost use Rattle.sixel_terminal.specs.Canvases.{black};
 ghost use Rattle.sixel_terminal.specs.Drawing.{screen_on};
 ghost use Rattle.sixel_terminal.specs.Screens.{IsAllFixed, colour_in_ink};
+ghost use Rattle.sixel_terminal.specs.Stretches.{sixels_of};
 ghost use Rattle.sixel_terminal.specs.Standing.{IsPenAfter, StandsAfter, shown_in};
 
 use crate::drawing::Drawing;
@@ -123,6 +125,32 @@ impl Terminal {
             }
             _ => pen,
         }
+    }
+
+    /// Draws the sixels of these data bytes, if they can be painted at once. Returns the pen after them.
+    pub(crate) fn try_draw_stretch(
+        &self,
+        pen: Pen,
+        colours: &[Colour],
+        inks: &mut [Pixel],
+        bytes: &[u8],
+    ) -> Option<Pen>
+        requires stands { (before : List Event) × StandsAfter self.now before pen colours.now inks.old }
+        requires data { (k : ℕ) → k < length bytes.now → IsTrue (is_data (slice_index bytes.now k)) }
+        ensures drawn { IfSome result (λ p. (before : List Event)
+            → StandsAfter self.now before pen colours.now inks.old
+            → StandsAfter self.now (before ++ sixels_of bytes.now) p colours.now inks.new) }
+        ensures kept { IsNone result → inks.new ≡ inks.old }
+    {
+        let _ = &self.choices;
+        let ink = self.ink(colours, pen.selected);
+        if !self.try_paint_stretch(pen, bytes, &ink, inks) {
+            return None;
+        }
+        Some(Pen {
+            column: pen.column + bytes.len() as u32,
+            ..pen
+        })
     }
 
     /// Gives each pixel the colour that it shows after the events. `has_eight_bit` says whether one of them is an 8-bit

@@ -159,7 +159,7 @@ impl Terminal {
     }
 
     /// The ink for painting in this register.
-    fn ink(&self, colours: &[Colour], register: u16) -> Pixel
+    pub(crate) fn ink(&self, colours: &[Colour], register: u16) -> Pixel
         requires { register < length colours.now }
         ensures { result ≡ ink_by_colours self.now colours.now register }
     {

@@ -1,4 +1,4 @@
-use Rattle.std.proofs.Common.{◌≡◌, ◌∙◌, ◌*◌, ap, length}
+use Rattle.std.proofs.Common.{◌≡◌, ◌∙◌, ap}
 use Rattle.sixel_grammar.specs.Document.{events_of}
 use Rattle.sixel_terminal.specs.Displays.{Display}
 use Rattle.sixel_terminal.specs.Drawing.{screen_on}
@@ -14,14 +14,19 @@ returns-clause-shown g c =
     (λ bytes d. (
       d.0,
       d.1,
-      c.in_ok-colours.ensures ∙ c.finish.ensures.shown (events_of d.0) d.2
-          ∙ ap (λ (t : Display). screen_on t (events_of d.0)) terminal,
+      c.finish.ensures.shown (events_of d.0) d.2 ∙ ap (λ (t : Display). screen_on t (events_of d.0)) terminal,
     )) c.in_ok-draw.ensures.drawn
 
-pub returns-clause-whole : goal.returns-clause-whole
+pub returns-clause-width : goal.returns-clause-width
 unfolding show_terminal
-returns-clause-whole g c =
+returns-clause-width g c =
     let terminal : c.draw.new.drawing.terminal ≡ show_terminal c.args.profile c.args.choices =
     c.in_ok-draw.ensures.terminal ∙ c.in_ok-drawing.ensures.terminal ∙ c.in_ok-terminal.ensures in
-    ap length c.in_ok-colours.ensures ∙ c.finish.ensures.whole
-    ∙ ap (λ (t : Display). t.choices.screen_width * t.choices.screen_height) terminal
+    c.finish.ensures.width ∙ ap (λ (t : Display). t.choices.screen_width) terminal
+
+pub returns-clause-height : goal.returns-clause-height
+unfolding show_terminal
+returns-clause-height g c =
+    let terminal : c.draw.new.drawing.terminal ≡ show_terminal c.args.profile c.args.choices =
+    c.in_ok-draw.ensures.terminal ∙ c.in_ok-drawing.ensures.terminal ∙ c.in_ok-terminal.ensures in
+    c.finish.ensures.height ∙ ap (λ (t : Display). t.choices.screen_height) terminal

@@ -15,12 +15,20 @@ loop-placed-preserved c =
       rw pushed (c.push.ensures.drawn (events_of (take i events)) c.loop-placed.invariant.1),
     )
 
-pub returns : goal.returns
-returns c =
+pub returns-clause-shown : goal.returns-clause-shown
+returns-clause-shown c =
     let events = events_of c.args.events.now in
     let all : take c.loop-placed.placed-index c.args.events.now ≡ c.args.events.now =
     all_taken c.loop-placed.placed-index c.args.events.now (omega arith) in
-    let shown : c.finish.result.colours ≡ screen_on (show_terminal c.args.profile c.args.choices) events =
     c.finish.ensures.shown events (rw all at c.loop-placed.invariant.1)
-    ∙ ap (λ (t : Display). screen_on t events) c.loop-placed.invariant.0 in
-    rw shown at c.colours-2.ensures
+    ∙ ap (λ (t : Display). screen_on t events) c.loop-placed.invariant.0
+
+pub returns-clause-width : goal.returns-clause-width
+unfolding show_terminal
+returns-clause-width c =
+    c.finish.ensures.width ∙ ap (λ (t : Display). t.choices.screen_width) c.loop-placed.invariant.0
+
+pub returns-clause-height : goal.returns-clause-height
+unfolding show_terminal
+returns-clause-height c =
+    c.finish.ensures.height ∙ ap (λ (t : Display). t.choices.screen_height) c.loop-placed.invariant.0
