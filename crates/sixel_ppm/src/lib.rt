@@ -4,4 +4,6 @@
 pub mod laws;
 mod ppm;
 
-pub use ppm::{PpmFault, PpmReason, read_ppm, write_ppm, write_ppm_colours};
+pub use ppm::{
+    PpmFault, PpmReason, ToRgbx, read_ppm, write_ppm, write_ppm_colours, write_ppm_pixels,
+};

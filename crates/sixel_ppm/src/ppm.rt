@@ -10,7 +10,8 @@ mod write;
 
 pub use read::read_ppm;
 use std::alloc::AllocError;
-pub use write::{write_ppm, write_ppm_colours};
+pub use table::ToRgbx;
+pub use write::{write_ppm, write_ppm_colours, write_ppm_pixels};
 
 /// What is wrong at the first invalid byte of a picture file.
 ///

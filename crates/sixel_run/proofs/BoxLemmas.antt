@@ -20,7 +20,7 @@ use Rattle.sixel_model.proofs.LatestLemmas.{take_one_more}
 use Rattle.sixel_model.proofs.PositionLemmas.{earliest_push}
 use Rattle.sixel_terminal.specs.Displays.{Display}
 use Rattle.sixel_run.specs.declared.fault.RunFault.{RunFault}
-use Rattle.sixel_run.specs.declared.fault.RunFault.TheVariants.{Grammar, Ppm, NotRgb, NoBox, OutOfMemory, Read, Write}
+use Rattle.sixel_run.specs.declared.fault.RunFault.TheVariants.{Grammar, NotRgb, NoBox, OutOfMemory, Read, Write}
 use Rattle.sixel_run.specs.declared.task.Status.{Status}
 use Rattle.sixel_run.specs.Outputs.{ShowBoxGives, ShowGives, WroteBy, WroteNothing}
 use Rattle.sixel_run.specs.Screens.{declared_screen, sides_of_box}

@@ -5,6 +5,7 @@ pub mod CheckLemmas
 pub mod PictureLemmas
 pub mod FileLemmas
 pub mod ScreenLemmas
+pub mod DrawLemmas
 pub mod BoxLemmas
 pub mod RunLemmas
 pub mod RoundTripLemmas

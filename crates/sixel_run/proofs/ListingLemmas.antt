@@ -13,7 +13,7 @@ use Rattle.sixel_io.specs.Devices.{SinkState}
 use Rattle.sixel_grammar.specs.Faults.{IsFaultOf}
 use Rattle.sixel_grammar.specs.Standing.{Refuses, StandsAfter, Takes}
 use Rattle.sixel_run.specs.declared.fault.RunFault.{RunFault}
-use Rattle.sixel_run.specs.declared.fault.RunFault.TheVariants.{Grammar, Ppm, NotRgb, NoBox, OutOfMemory, Read, Write}
+use Rattle.sixel_run.specs.declared.fault.RunFault.TheVariants.{Grammar, Write}
 use Rattle.sixel_run.specs.Feeding.{Feeds, RefusesAt, StopsIn}
 use Rattle.sixel_run.specs.Texts.{BeginsWith, event_line, list_text}
 use Rattle.sixel_io.proofs.DeviceLemmas.{Appends-then}

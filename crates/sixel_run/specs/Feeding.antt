@@ -7,7 +7,7 @@ use Rattle.sixel_grammar.specs.declared.reader.Reader.{Reader}
 use Rattle.sixel_grammar.specs.Faults.{IsFaultOf}
 use Rattle.sixel_grammar.specs.Standing.{StandsAfter}
 use Rattle.sixel_run.specs.declared.fault.RunFault.{RunFault}
-use Rattle.sixel_run.specs.declared.fault.RunFault.TheVariants.{Grammar, Ppm, NotRgb, NoBox, OutOfMemory, Read, Write}
+use Rattle.sixel_run.specs.declared.fault.RunFault.TheVariants.{Grammar, Write}
 use Rattle.sixel_run.specs.Texts.{Text, BeginsWith, list_text}
 
 -- a reader met the fault at a byte of the piece: it is that of the bytes, the prefix of the piece and this byte, and

@@ -21,7 +21,7 @@ use Rattle.sixel_check.specs.Verdicts.{IsVerdict}
 use Rattle.sixel_encode.specs.Canon.{canon_text}
 use Rattle.sixel_run.specs.Conversions.{of_ppm}
 use Rattle.sixel_run.specs.declared.fault.RunFault.{RunFault}
-use Rattle.sixel_run.specs.declared.fault.RunFault.TheVariants.{Grammar, Ppm, NotRgb, NoBox, OutOfMemory, Read, Write}
+use Rattle.sixel_run.specs.declared.fault.RunFault.TheVariants.{Grammar, NotRgb, NoBox, OutOfMemory, Read, Write}
 use Rattle.sixel_run.specs.declared.task.Status.{Status}
 use Rattle.sixel_run.specs.declared.task.Status.TheVariants as status
 use Rattle.sixel_run.specs.declared.task.Status.TheVariants.{Done}

@@ -4,9 +4,11 @@ ghost use Rattle.std.specs.Prelude.{◌≡◌, ◌≢◌, Err, IfSome, true};
 ghost use Rattle.sixel_run.specs.Outputs.{CountsReads, CountsWrites, HasSides, TakesMemory, Wrote, failures_by};
 
 pub mod check;
+mod draw;
 mod encode;
 mod list;
 mod render;
+mod screen;
 mod show;
 mod show_box;
 

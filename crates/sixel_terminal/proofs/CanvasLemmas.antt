@@ -5,7 +5,7 @@ use Rattle.std.proofs.Math.Bool.{and-false}
 use Rattle.std.proofs.lemmas.Bool.Decides.{nat_tests}
 use Rattle.sixel_model.proofs.RunLemmas.{in_row}
 use Rattle.sixel_model.proofs.PaintLemmas.{on_top}
-use Rattle.sixel_terminal.specs.declared.canvas.Ink.{Ink}
+use Rattle.sixel_terminal.specs.declared.pixel.Ink.{Ink}
 use Rattle.sixel_terminal.specs.declared.canvas.Span.{Span}
 use Rattle.sixel_terminal.specs.Canvases.{black, is_in_span}
 

@@ -16,8 +16,8 @@ use Rattle.sixel_model.specs.Events.{columns_of, is_next_line, is_return, named_
 use Rattle.sixel_model.specs.Geometry.{band, column}
 use Rattle.sixel_model.specs.Positions.{earliest, last_at, last_below, latest, since}
 use Rattle.sixel_model.specs.Rules.{raster_before}
-use Rattle.sixel_terminal.specs.declared.canvas.Ink.{Ink}
-use Rattle.sixel_terminal.specs.declared.canvas.Ink.TheVariants.{Fixed}
+use Rattle.sixel_terminal.specs.declared.pixel.Ink.{Ink}
+use Rattle.sixel_terminal.specs.declared.pixel.Ink.TheVariants.{Fixed}
 use Rattle.sixel_terminal.specs.declared.pen.Pen.{Pen}
 use Rattle.sixel_terminal.specs.Canvases.{black}
 use Rattle.sixel_terminal.specs.Displays.{Display, registers_of}
@@ -53,11 +53,11 @@ stands_start t p inks runs pen same = record {
       ∙ ap (λ n. Fixed (get_or t.screen n (Rgb 0 0 0))) (sym (div-add-mod' i t.choices.screen_width));
 }
 
-or_none : {A : Type 0} (o : Option A) → o ≡ option_or o None
+pub or_none : {A : Type 0} (o : Option A) → o ≡ option_or o None
 or_none None = refl
 or_none (Some a) = refl
 
-none_chosen : (b : Bool) (e : Event) (n d : ℕ) → named_by e ≡ None → select_of e ≡ None
+pub none_chosen : (b : Bool) (e : Event) (n d : ℕ) → named_by e ≡ None → select_of e ≡ None
     → d ≡ option_map_or (λ r. r % n) ((if b then named_by else select_of) e) d
 none_chosen true e n d h g = rw h refl
 none_chosen false e n d h g = rw g refl

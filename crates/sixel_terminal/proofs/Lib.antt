@@ -1,4 +1,5 @@
 pub mod RoomLemmas
+pub mod PixelCodeLemmas
 pub mod CanvasLemmas
 pub mod PaintLemmas
 pub mod SelectLemmas
@@ -8,5 +9,7 @@ pub mod RunLemmas
 pub mod InkLemmas
 pub mod ShownLemmas
 pub mod DrawLemmas
+pub mod DrawnLemmas
+pub mod StretchLemmas
 pub mod PlainLemmas
 pub mod ClipLemmas

@@ -21,7 +21,7 @@ use Rattle.sixel_model.specs.Events.{bits_of, columns_of, raster_of}
 use Rattle.sixel_terminal.specs.declared.choices.Ground.{Ground}
 use Rattle.sixel_terminal.specs.declared.choices.Ground.TheVariants.{Kept, Filled}
 use Rattle.sixel_terminal.specs.Drawing.{filled_on}
-use Rattle.sixel_terminal.specs.declared.canvas.Ink.{Ink}
+use Rattle.sixel_terminal.specs.declared.pixel.Ink.{Ink}
 use Rattle.sixel_terminal.specs.declared.canvas.Span.{Span}
 use Rattle.sixel_terminal.specs.declared.pen.Pen.{Pen}
 use Rattle.sixel_terminal.specs.Canvases.{black, is_in_span, span_of}

@@ -15,8 +15,8 @@ use Rattle.sixel_model.specs.declared.colour.Parts.TheVariants.{Rgb}
 use Rattle.sixel_model.specs.Positions.{at_position, last_at, last_below}
 use Rattle.sixel_model.proofs.PositionLemmas.{last_below_same}
 use Rattle.sixel_model.proofs.GridLemmas.{rows_from_index}
-use Rattle.sixel_terminal.specs.declared.canvas.Ink.{Ink}
-use Rattle.sixel_terminal.specs.declared.canvas.Ink.TheVariants.{Fixed, Bound}
+use Rattle.sixel_terminal.specs.declared.pixel.Ink.{Ink}
+use Rattle.sixel_terminal.specs.declared.pixel.Ink.TheVariants.{Fixed, Bound}
 use Rattle.sixel_terminal.specs.declared.pen.Pen.{Pen}
 use Rattle.sixel_terminal.specs.Canvases.{black}
 use Rattle.sixel_terminal.specs.Displays.{Display, registers_of}
@@ -46,7 +46,7 @@ map_then f g None = refl
 map_then f g (Some x) = refl
 
 -- f of the last result of g is the last result of h, if h is f after g
-map_last : {X A B : Type 0} (f : A → B) (g : List X → X → Option A) (h : List X → X → Option B) (xs : List X)
+pub map_last : {X A B : Type 0} (f : A → B) (g : List X → X → Option A) (h : List X → X → Option B) (xs : List X)
     → ((before : List X) (x : X) → option_map f (g before x) ≡ h before x)
     → option_map f (last_at g xs) ≡ last_at h xs
 unfolding last_at at_position
@@ -56,12 +56,12 @@ map_last f g h xs each =
     map_then f (g (take i xs)) (slice_get xs i)
     ∙ same_there (λ x. option_map f (g (take i xs) x)) (h (take i xs)) (slice_get xs i) (each (take i xs)))
 
-map_map : {A B C : Type 0} (f : B → C) (g : A → B) (o : Option A)
+pub map_map : {A B C : Type 0} (f : B → C) (g : A → B) (o : Option A)
     → option_map f (option_map g o) ≡ option_map (λ a. f (g a)) o
 map_map f g None = refl
 map_map f g (Some a) = refl
 
-unwrap_map : {A B : Type 0} (f : A → B) (o : Option A) (d : A) → f (unwrap_or o d) ≡ unwrap_or (option_map f o) (f d)
+pub unwrap_map : {A B : Type 0} (f : A → B) (o : Option A) (d : A) → f (unwrap_or o d) ≡ unwrap_or (option_map f o) (f d)
 unwrap_map f None d = refl
 unwrap_map f (Some a) d = refl
 

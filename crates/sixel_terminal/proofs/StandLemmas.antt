@@ -13,7 +13,7 @@ use Rattle.sixel_model.specs.Rules.{raster_before}
 use Rattle.sixel_model.proofs.PositionLemmas.{earliest_push, latest_push, last_at_push}
 use Rattle.sixel_model.proofs.StepLemmas.{band_push, column_push}
 use Rattle.sixel_model.specs.declared.colour.Parts.TheVariants.{Rgb}
-use Rattle.sixel_terminal.specs.declared.canvas.Ink.TheVariants.{Fixed}
+use Rattle.sixel_terminal.specs.declared.pixel.Ink.TheVariants.{Fixed}
 use Rattle.sixel_terminal.specs.declared.pen.Pen.{Pen}
 use Rattle.sixel_terminal.specs.Displays.{Display, registers_of}
 use Rattle.sixel_terminal.specs.Drawing.{defined_on, height_of, map_on, selected_on}

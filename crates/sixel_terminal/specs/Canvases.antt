@@ -1,8 +1,8 @@
 -- The pixels of a screen during drawing. Only contracts of private functions cite these.
 use Rattle.std.specs.Prelude.{◌&&◌, ℕ, ◌+◌, Bool, min, nat_le, nat_lt}
 use Rattle.sixel_model.specs.declared.colour.Parts.TheVariants.{Rgb}
-use Rattle.sixel_terminal.specs.declared.canvas.Ink.{Ink}
-use Rattle.sixel_terminal.specs.declared.canvas.Ink.TheVariants.{Fixed}
+use Rattle.sixel_terminal.specs.declared.pixel.Ink.{Ink}
+use Rattle.sixel_terminal.specs.declared.pixel.Ink.TheVariants.{Fixed}
 use Rattle.sixel_terminal.specs.declared.canvas.Span.{Span}
 
 -- the default ink, for an index past the screen

@@ -1,7 +1,12 @@
 pub mod Displays
 pub mod Limits
+pub mod Backdrops
 pub mod Drawing
+pub mod Pixels
 pub mod Canvases
 pub mod Steps
 pub mod Standing
+pub mod Screens
+pub mod Stretches
+pub mod Drawings
 pub mod Laws

@@ -1,5 +1,5 @@
 -- The parts of a `Terminal`. Its limits on the screen and on the registers aren't limits of the class.
-use Rattle.std.specs.Prelude.{◌==◌, ◌&&◌, ℕ, ◌*◌, Bool, true, not, nat_le, nat_lt, Option, Some, None, List, length}
+use Rattle.std.specs.Prelude.{◌==◌, ◌&&◌, ℕ, ◌*◌, Bool, true, not, nat_le, nat_lt, Option, Some, None, List, length, replicate}
 use Rattle.std.specs.Prelude.{if◌then◌else◌}
 use Rattle.sixel_model.specs.declared.colour.Parts.{Parts}
 use Rattle.sixel_terminal.specs.declared.choices.Choices.{Choices}
@@ -31,6 +31,10 @@ abbrev pub is_screen : Choices → List Parts → Bool
 is_screen choices screen =
     is_screen_side choices.screen_width && is_screen_side choices.screen_height
     && (length screen == choices.screen_width * choices.screen_height)
+
+-- a screen of these sides, all of one colour
+abbrev pub plain_screen : Choices → Parts → List Parts
+plain_screen choices colour = replicate (choices.screen_width * choices.screen_height) colour
 
 -- the first reason why the parts don't make a terminal
 abbrev pub terminal_fault : Choices → List Parts → List Parts → Option TerminalReason

@@ -9,8 +9,8 @@ use Rattle.sixel_model.specs.declared.colour.Parts.TheVariants.{Rgb}
 use Rattle.sixel_model.specs.Geometry.{band, column}
 use Rattle.sixel_model.specs.Positions.{last_at}
 use Rattle.sixel_model.specs.Rules.{raster_before}
-use Rattle.sixel_terminal.specs.declared.canvas.Ink.{Ink}
-use Rattle.sixel_terminal.specs.declared.canvas.Ink.TheVariants.{Fixed, Bound}
+use Rattle.sixel_terminal.specs.declared.pixel.Ink.{Ink}
+use Rattle.sixel_terminal.specs.declared.pixel.Ink.TheVariants.{Fixed, Bound}
 use Rattle.sixel_terminal.specs.declared.pen.Pen.{Pen}
 use Rattle.sixel_terminal.specs.Canvases.{black}
 use Rattle.sixel_terminal.specs.Displays.{Display, registers_of}

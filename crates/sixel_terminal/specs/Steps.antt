@@ -9,8 +9,8 @@ use Rattle.sixel_model.specs.declared.colour.Parts.TheVariants.{Rgb}
 use Rattle.sixel_model.specs.Events.{Attributes, bits_of, columns_of, is_next_line, is_return, is_square, named_by}
 use Rattle.sixel_model.specs.Events.{raster_of, select_of}
 use Rattle.sixel_model.specs.Geometry.{covers}
-use Rattle.sixel_terminal.specs.declared.canvas.Ink.{Ink}
-use Rattle.sixel_terminal.specs.declared.canvas.Ink.TheVariants.{Fixed, Bound}
+use Rattle.sixel_terminal.specs.declared.pixel.Ink.{Ink}
+use Rattle.sixel_terminal.specs.declared.pixel.Ink.TheVariants.{Fixed, Bound}
 use Rattle.sixel_terminal.specs.declared.pen.Pen.{Pen}
 use Rattle.sixel_terminal.specs.declared.pen.Sides.{Sides}
 use Rattle.sixel_terminal.specs.Displays.{Display, registers_of}

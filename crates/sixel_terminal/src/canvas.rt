@@ -4,16 +4,7 @@ ghost use Rattle.std.specs.Prelude.{◌≡◌, ◌≤◌, ◌<◌, ◌+◌, ◌*
 ghost use Rattle.std.specs.Prelude.{slice_index_or, if◌then◌else◌};
 ghost use Rattle.sixel_terminal.specs.Canvases.{black, is_in_span, span_of};
 
-use sixel_model::Colour;
-
-/// What a pixel shows.
-#[derive(Clone, Copy, Debug, PartialEq, Eq)]
-pub(crate) enum Ink {
-    /// This colour.
-    Fixed(Colour),
-    /// The colour that this register has at the end.
-    Bound(u16),
-}
+use crate::pixel::Pixel;
 
 /// Adjacent columns or rows of the screen, from `start` up to `end`.
 #[derive(Clone, Copy, Debug)]
@@ -36,7 +27,7 @@ impl Span {
 }
 
 /// Sets the pixels in these columns of these rows to the ink.
-pub(crate) fn fill(inks: &mut [Ink], width: usize, columns: Span, rows: Span, ink: &Ink)
+pub(crate) fn fill(inks: &mut [Pixel], width: usize, columns: Span, rows: Span, ink: &Pixel)
     requires some { 0 < width }
     requires columns_are { (columns.start ≤ columns.end) × (columns.end ≤ width) }
     requires rows_are { (rows.start ≤ rows.end) × (rows.end * width ≤ length inks.old) }
@@ -51,7 +42,7 @@ pub(crate) fn fill(inks: &mut [Ink], width: usize, columns: Span, rows: Span, in
 }
 
 /// Sets `count` pixels from `start` on to the ink.
-fn fill_row(inks: &mut [Ink], start: usize, count: usize, ink: &Ink)
+fn fill_row(inks: &mut [Pixel], start: usize, count: usize, ink: &Pixel)
     requires { start + count ≤ length inks.old }
     ensures { EachIndex inks.old (λ i. slice_index_or inks.new i black
         ≡ (if nat_le start i && nat_lt i (start + count)

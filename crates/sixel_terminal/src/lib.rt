@@ -3,9 +3,16 @@
 
 mod canvas;
 mod choices;
+mod drawing;
 pub mod laws;
 mod pen;
+mod pixel;
+mod screen;
+mod stretch;
 mod terminal;
 
 pub use choices::{Choices, Ground};
+pub use drawing::Drawing;
+pub use pixel::{Ink, Pixel};
+pub use screen::Screen;
 pub use terminal::{Terminal, TerminalFault, TerminalReason};

@@ -4,9 +4,10 @@ mod drawing;
 mod painting;
 mod steps;
 
-ghost use Rattle.std.specs.Prelude.{◌≡◌, ◌↔◌, None, Some, IfErr, IfOk, IsTrue, MatchResult};
+ghost use Rattle.std.specs.Prelude.{◌≡◌, ◌↔◌, ◌*◌, List, None, Some, IfErr, IfOk, IsTrue, MatchResult, length};
+ghost use Rattle.sixel_model.specs.declared.colour.Parts.{Parts};
 ghost use Rattle.sixel_terminal.specs.Displays.{HasRoom, IsInClass};
-ghost use Rattle.sixel_terminal.specs.Limits.{display_of, is_ground_below, terminal_fault};
+ghost use Rattle.sixel_terminal.specs.Limits.{display_of, is_ground_below, plain_screen, terminal_fault};
 
 use crate::choices::{Choices, Ground};
 use sixel_model::{Colour, LEAST_REGISTERS, MOST_REGISTERS};
@@ -42,12 +43,19 @@ pub struct TerminalFault {
     pub screen: Vec<Colour>,
 }
 
+/// A screen before the drawing: all of one colour, or with a colour for each pixel, row by row.
+#[derive(Debug, Drop)]
+enum Backdrop {
+    Plain(Colour),
+    Pixels(Vec<Colour>),
+}
+
 /// A terminal of the class. Contracts see its choices, its starting colours and its screen.
 #[derive(Debug, Drop)]
 pub struct Terminal {
     choices: Choices,
     colours: Vec<Colour>,
-    screen: Vec<Colour>,
+    backdrop: Backdrop,
 }
 
 impl Model for Terminal {
@@ -56,11 +64,12 @@ impl Model for Terminal {
 
     ghost Value = { Display };
 
+    ghost use Rattle.sixel_terminal.specs.Backdrops.{screen_of};
     ghost use Rattle.sixel_terminal.specs.Limits.{display_of, terminal_fault};
 
-    ghost view = { λ t. display_of t.choices t.colours.items t.screen.items };
+    ghost view = { λ t. display_of t.choices t.colours.items (screen_of t.choices t.backdrop) };
 
-    ghost invariant = { λ t. terminal_fault t.choices t.colours.items t.screen.items ≡ None };
+    ghost invariant = { λ t. terminal_fault t.choices t.colours.items (screen_of t.choices t.backdrop) ≡ None };
 }
 
 /// Whether the register of a filled ground is below `registers`.
@@ -73,11 +82,19 @@ fn is_below(ground: Ground, registers: usize) -> bool
     }
 }
 
-/// The first reason why the parts don't make a terminal.
-fn fault_of(choices: Choices, colours: &[Colour], screen: &[Colour]) -> Option<TerminalReason>
-    ensures { result ≡ terminal_fault choices colours.now screen.now }
+/// How many pixels a screen of these sides has.
+fn pixels_of(choices: Choices) -> u64
+    ensures { result ≡ choices.screen_width * choices.screen_height }
 {
-    let registers = colours.len();
+    choices.screen_width as u64 * choices.screen_height as u64
+}
+
+/// The first reason why these choices don't make a terminal with so many registers, and with a list of so many colours
+/// for its screen.
+fn fault_of(choices: Choices, registers: usize, pixels: u64) -> Option<TerminalReason>
+    ensures { (colours screen : List Parts) → length colours ≡ registers → length screen ≡ pixels
+        → result ≡ terminal_fault choices colours screen }
+{
     if registers < LEAST_REGISTERS || registers > MOST_REGISTERS {
         return Some(TerminalReason::Registers);
     }
@@ -97,7 +114,7 @@ fn fault_of(choices: Choices, colours: &[Colour], screen: &[Colour]) -> Option<T
         && choices.screen_width <= MOST_SCREEN_SIDE
         && choices.screen_height >= 1
         && choices.screen_height <= MOST_SCREEN_SIDE;
-    if !sides || screen.len() != (choices.screen_width * choices.screen_height) as usize {
+    if !sides || pixels != pixels_of(choices) {
         return Some(TerminalReason::Screen);
     }
     if choices.origin_x >= choices.screen_width || choices.origin_y >= choices.screen_height {
@@ -120,7 +137,7 @@ impl Terminal {
         ensures made { IfOk result (λ t. t ≡ display_of choices colours.items screen.items) }
         ensures parts { IfErr result (λ f. (f.colours ≡ colours) × (f.screen ≡ screen)) }
     {
-        if let Some(reason) = fault_of(choices, &colours, &screen) {
+        if let Some(reason) = fault_of(choices, colours.len(), screen.len() as u64) {
             return Err(TerminalFault {
                 reason,
                 colours,
@@ -130,8 +147,30 @@ impl Terminal {
         Ok(Terminal {
             choices,
             colours,
-            screen,
+            backdrop: Backdrop::Pixels(screen),
         })
+    }
+
+    /// Makes a terminal of these choices and one starting colour for each register, whose whole screen has this colour.
+    /// It keeps no list of pixels. On an `Err` the parts don't make a terminal; it has the first reason.
+    pub fn plain(
+        choices: Choices,
+        colours: Vec<Colour>,
+        background: Colour,
+    ) -> Result<Terminal, TerminalReason>
+        ensures reason { MatchResult result
+            (λ t. terminal_fault choices colours.items (plain_screen choices background) ≡ None)
+            (λ reason. terminal_fault choices colours.items (plain_screen choices background) ≡ Some reason) }
+        ensures made { IfOk result (λ t. t ≡ display_of choices colours.items (plain_screen choices background)) }
+    {
+        match fault_of(choices, colours.len(), pixels_of(choices)) {
+            Some(reason) => Err(reason),
+            None => Ok(Terminal {
+                choices,
+                colours,
+                backdrop: Backdrop::Plain(background),
+            }),
+        }
     }
 
     /// Whether a box of this width and height in pixels, which begins at the origin, fits on the screen.

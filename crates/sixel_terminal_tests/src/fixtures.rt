@@ -3,7 +3,7 @@
 use sixel_grammar::{InputFault, Placed, read_all};
 use sixel_io::SliceSource;
 use sixel_model::{Colour, Parts};
-use sixel_terminal::{Choices, Ground, Terminal};
+use sixel_terminal::{Choices, Drawing, Ground, Terminal};
 use std::alloc::Global;
 use std::test::Fail;
 
@@ -96,6 +96,26 @@ pub(crate) fn shown_after(
     parts_of(alloc, colours.as_slice())
 }
 
+/// The same, of a terminal that keeps no list of its screen, event by event; `None` if the screen has other sides.
+fn drawn_after(
+    alloc: Global,
+    choices: Choices,
+    registers: u16,
+    events: &[Placed],
+) -> Result<Option<Vec<Parts>>, Fail> {
+    let white = Colour::rgb(100, 100, 100).ok_or("white")?;
+    let made = Terminal::plain(choices, grey_colours(alloc, registers)?, white);
+    let mut drawing = Drawing::new(alloc, made.or(Err("a terminal"))?)?;
+    for placed in events {
+        drawing.push(&placed.event);
+    }
+    let screen = drawing.finish();
+    if (screen.width(), screen.height()) != (choices.screen_width, choices.screen_height) {
+        return Ok(None);
+    }
+    Ok(Some(parts_of(alloc, screen.colours(alloc)?.as_slice())?))
+}
+
 /// Whether a terminal with this many registers shows this after a document.
 pub(crate) fn is_shown(
     alloc: Global,
@@ -105,7 +125,9 @@ pub(crate) fn is_shown(
     expected: &[Parts],
 ) -> Result<bool, Fail> {
     let events = events_of(alloc, text)?;
-    Ok(shown_after(alloc, choices, registers, events.as_slice())?.as_slice() == expected)
+    let shown = shown_after(alloc, choices, registers, events.as_slice())?;
+    let drawn = drawn_after(alloc, choices, registers, events.as_slice())?;
+    Ok(shown.as_slice() == expected && drawn.is_some_and(|drawn| drawn.as_slice() == expected))
 }
 
 /// So many white pixels, of which these have another colour.

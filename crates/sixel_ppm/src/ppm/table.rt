@@ -14,7 +14,7 @@ pub(crate) const ROOM: usize = 29 + 3 * PIXELS + 1;
 
 /// Turns a pixel into red, green, blue and one more byte. One store writes the four, and the next pixel's overwrite the
 /// fourth. They are a vector: LLVM takes an array apart, and then doesn't unroll the loop.
-pub(crate) trait ToRgbx<P> {
+pub trait ToRgbx<P> {
     /// The four bytes of a pixel.
     ghost rgbx: { Self → P → List ℕ };
 

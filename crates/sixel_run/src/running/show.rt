@@ -1,8 +1,9 @@
 //! Shows a sixel picture as one terminal would draw it, as a PPM.
 
-ghost use Rattle.std.specs.Prelude.{◌≡◌, ◌≢◌, ◌*◌, ◌≤◌, ◌<◌, ℕ, Err, IfOk, IfSome, IsTrue, List, None, length};
+ghost use Rattle.std.specs.Prelude.{◌≡◌, ◌≢◌, ◌*◌, ◌≤◌, ◌<◌, ℕ, Err, IfErr, IfOk, IfSome, IsTrue, List, None, length};
 ghost use Rattle.sixel_grammar.specs.declared.command.Placed.{Placed as Place};
 ghost use Rattle.sixel_grammar.specs.Document.{Document, events_of};
+ghost use Rattle.sixel_grammar.specs.Reading.{Explains, failures_after};
 ghost use Rattle.sixel_ppm.specs.Ppm.{is_file_side};
 ghost use Rattle.sixel_model.specs.Profiles.{count_of};
 ghost use Rattle.sixel_model.specs.declared.profile.Profile.{Profile as AProfile};
@@ -13,13 +14,14 @@ ghost use Rattle.sixel_run.specs.declared.fault.RunFault.TheVariants.{Read};
 ghost use Rattle.sixel_run.specs.Outputs.{CountsWrites, ShowGives, WroteBy, WroteNothing, failures_by};
 ghost use Rattle.sixel_run.specs.Screens.{greys, percent_at, show_choices, show_terminal, white_screen};
 
+use super::draw::draw;
+use super::screen::write_screen;
 use crate::fault::RunFault;
 use crate::task::Status;
-use sixel_grammar::{Placed, read_all};
+use sixel_grammar::{InputFault, Placed};
 use sixel_io::{Sink, Source};
 use sixel_model::{Colour, Profile};
-use sixel_ppm::write_ppm_colours;
-use sixel_terminal::{Choices, Ground, Terminal};
+use sixel_terminal::{Choices, Drawing, Ground, Screen, Terminal};
 use std::alloc::{AllocError, Global};
 
 /// The choices of the terminal: the given ones, a screen of this width and height in pixels with the picture at its top
@@ -48,7 +50,7 @@ pub fn show_choices(showing: bool, fill: bool, selects: bool, width: u32, height
     }
 }
 
-/// Reads the whole document, draws it on the terminal of these choices, and writes the screen. It doesn't flush.
+/// Draws the document on the terminal of these choices while it reads it, and writes the screen. It doesn't flush.
 pub fn show<S: Source, K: Sink>(
     alloc: Global,
     profile: Profile,
@@ -63,48 +65,62 @@ pub fn show<S: Source, K: Sink>(
     ensures reads { (S.state input.new).failures ≡ failures_by Read result (S.state input.old).failures }
     ensures writes { CountsWrites result (K.state output.old).failures (K.state output.new).failures }
 {
-    let events = read_all(alloc, input)?;
-    let shown = screen_after(alloc, profile, choices, &events)?;
-    write_screen(choices, &shown, output)
+    let screen = read_screen(alloc, profile, choices, input)?;
+    write_screen(choices, &screen, output)
 }
 
-/// Writes these colours of a screen, row by row, as a PPM.
-pub fn write_screen<K: Sink>(
+/// The screen after the document.
+fn read_screen<S: Source>(
+    alloc: Global,
+    profile: Profile,
     choices: Choices,
-    shown: &[Colour],
-    output: &mut K,
-) -> Result<Status, RunFault>
-    requires width { IsTrue (is_file_side choices.screen_width) }
-    requires height { IsTrue (is_file_side choices.screen_height) }
-    requires whole { length shown.now ≡ choices.screen_width * choices.screen_height }
-    ensures wrote { (profile : AProfile) (events : List Place) (bytes : List ℕ) → Document events bytes →
-        shown.now ≡ screen_on (show_terminal profile choices) (events_of events) →
-        WroteBy (ShowGives (show_terminal profile choices) bytes) WroteNothing result
-        (K.state output.old).taken (K.state output.new).taken }
-    ensures unread { result ≢ Err Read }
-    ensures writes { CountsWrites result (K.state output.old).failures (K.state output.new).failures }
+    input: &mut S,
+) -> Result<Screen, InputFault>
+    requires { terminal_fault choices (greys profile) (white_screen choices) ≡ None }
+    ensures shown { IfOk result (λ screen. IfSome (S.state input.old).remaining (λ bytes.
+        (events : List Place) × Document events bytes
+        × (screen.colours ≡ screen_on (show_terminal profile choices) (events_of events)))) }
+    ensures width { IfOk result (λ screen. screen.width ≡ choices.screen_width) }
+    ensures height { IfOk result (λ screen. screen.height ≡ choices.screen_height) }
+    ensures refused { IfErr result (λ fault. IfSome (S.state input.old).remaining (Explains fault)) }
+    ensures failures { (S.state input.new).failures ≡ failures_after result (S.state input.old).failures }
 {
-    write_ppm_colours(choices.screen_width, choices.screen_height, shown, output)?;
-    Ok(Status::Done)
+    let terminal = terminal_of(alloc, profile, choices)?;
+    let mut drawing = Drawing::new(alloc, terminal)?;
+    draw(input, &mut drawing)?;
+    Ok(drawing.finish())
 }
 
-/// The colours of the whole screen after the events, row by row.
+/// The terminal of `show` with these choices.
 #[tactic(auto, unfolding(crate::specs::Screens::show_terminal))]
+fn terminal_of(alloc: Global, profile: Profile, choices: Choices) -> Result<Terminal, AllocError>
+    requires { terminal_fault choices (greys profile) (white_screen choices) ≡ None }
+    ensures { IfOk result (λ terminal. terminal ≡ show_terminal profile choices) }
+{
+    match Terminal::plain(choices, greys(alloc, profile)?, grey(100)) {
+        Ok(terminal) => Ok(terminal),
+        Err(_) => unreachable!(),
+    }
+}
+
+/// The screen after the events.
 pub fn screen_after(
     alloc: Global,
     profile: Profile,
     choices: Choices,
     events: &[Placed],
-) -> Result<Vec<Colour>, AllocError>
+) -> Result<Screen, AllocError>
     requires { terminal_fault choices (greys profile) (white_screen choices) ≡ None }
-    ensures { IfOk result (λ shown. shown.items ≡ screen_on (show_terminal profile choices) (events_of events.now)) }
+    ensures shown { IfOk result (λ screen.
+        screen.colours ≡ screen_on (show_terminal profile choices) (events_of events.now)) }
+    ensures width { IfOk result (λ screen. screen.width ≡ choices.screen_width) }
+    ensures height { IfOk result (λ screen. screen.height ≡ choices.screen_height) }
 {
-    let pixels = (choices.screen_width * choices.screen_height) as usize;
-    let screen = vec![in alloc; grey(100); pixels]?;
-    match Terminal::new(choices, greys(alloc, profile)?, screen) {
-        Ok(terminal) => terminal.show(alloc, events),
-        Err(_) => unreachable!(),
+    let mut drawing = Drawing::new(alloc, terminal_of(alloc, profile, choices)?)?;
+    for placed in events {
+        drawing.push(&placed.event);
     }
+    Ok(drawing.finish())
 }
 
 fn grey(percent: u8) -> Colour

@@ -8,7 +8,8 @@ ghost use Rattle.sixel_run.specs.declared.fault.RunFault.TheVariants.{Read};
 ghost use Rattle.sixel_run.specs.Outputs.{CountsWrites, ShowBoxGives, WroteBy, WroteNothing, failures_by};
 ghost use Rattle.sixel_run.specs.Screens.{declared_screen, screen_terminal, sides_of_box};
 
-use super::show::{screen_after, show_choices, write_screen};
+use super::screen::write_screen;
+use super::show::{screen_after, show_choices};
 use crate::fault::RunFault;
 use crate::task::{MOST_SCREEN_SIDE, Status};
 use sixel_grammar::{Command, Event, Placed, read_all};
@@ -38,8 +39,8 @@ pub fn show_box<S: Source, K: Sink>(
         return Err(RunFault::NoBox);
     };
     let choices = show_choices(showing, fill, selects, width, height);
-    let shown = screen_after(alloc, profile, choices, &events)?;
-    write_screen(choices, &shown, output)
+    let screen = screen_after(alloc, profile, choices, &events)?;
+    write_screen(choices, &screen, output)
 }
 
 /// The width and the height of the declared box in pixels, if a screen can have them.

@@ -1,76 +1,69 @@
-//! Draws a list of events in one pass.
+//! What a drawing does on its terminal, and drawing a whole list.
 
-ghost use Rattle.std.specs.Prelude.{◌≡◌, ◌<◌, ◌++◌, ◌∷◌, [], List, IfOk, length, map};
-ghost use Rattle.sixel_grammar.specs.declared.command.Event.{Event};
+ghost use Rattle.std.specs.Prelude.{◌≡◌, ◌<◌, ◌*◌, ◌++◌, ◌∷◌, [], ℕ, EachIndex, List, IfOk, IfSome, IsNone};
+ghost use Rattle.std.specs.Prelude.{IsTrue, length, map, slice_index, slice_index_or};
 ghost use Rattle.std.specs.List.{list_any};
+ghost use Rattle.sixel_grammar.specs.declared.command.Event.{Event};
+ghost use Rattle.sixel_grammar.specs.Bytes.{is_data};
 ghost use Rattle.sixel_grammar.specs.Document.{events_of};
 ghost use Rattle.sixel_model.specs.Events.{is_eight_bit};
-ghost use Rattle.sixel_terminal.specs.declared.canvas.Ink.TheVariants.{Fixed};
-ghost use Rattle.sixel_terminal.specs.Drawing.{is_seen_on, screen_on};
+ghost use Rattle.sixel_terminal.specs.declared.pen.Pen.{Pen as APen};
+ghost use Rattle.sixel_terminal.specs.declared.pixel.Ink.TheVariants.{Fixed};
+ghost use Rattle.sixel_terminal.specs.Canvases.{black};
+ghost use Rattle.sixel_terminal.specs.Drawing.{screen_on};
+ghost use Rattle.sixel_terminal.specs.Screens.{IsAllFixed, colour_in_ink};
+ghost use Rattle.sixel_terminal.specs.Stretches.{sixels_of};
 ghost use Rattle.sixel_terminal.specs.Standing.{IsPenAfter, StandsAfter, shown_in};
 
-use crate::canvas::Ink;
+use crate::drawing::Drawing;
 use crate::pen::Pen;
-use crate::terminal::Terminal;
+use crate::pixel::{Ink, Pixel};
+use crate::terminal::{Backdrop, Terminal};
 use sixel_grammar::{Event, Placed};
 use sixel_model::Colour;
 use std::alloc::{AllocError, Global};
 
-/// The inks of a screen with these colours.
-fn inks_of(alloc: Global, screen: &[Colour]) -> Result<Vec<Ink>, AllocError>
-    ensures { IfOk result (λ inks. inks.items ≡ map (λ c. Fixed c) screen.now) }
+/// Makes all pixels the same.
+fn lay_plain(pixels: &mut [Pixel], ground: &Pixel)
+    ensures { EachIndex pixels.old (λ i. slice_index_or pixels.new i black ≡ ground.now) }
 {
-    let mut inks = Vec::with_capacity(alloc, screen.len())?;
-    for colour in screen {
-        inks.push(Ink::Fixed(*colour))?;
-    }
-    Ok(inks)
+    pixels.fill(*ground);
 }
 
-/// The colour that the ink shows if the registers have these colours.
-fn colour_of(colours: &[Colour], ink: Ink) -> Colour
+/// Gives each pixel its colour in the list.
+fn lay_colours(pixels: &mut [Pixel], colours: &[Colour])
+    requires { length pixels.old ≡ length colours.now }
+    ensures { pixels.new ≡ map (λ c. Fixed c) colours.now }
+{
+    for index in 0..pixels.len() {
+        pixels[index] = Pixel::fixed(colours[index]);
+    }
+}
+
+/// Gives each pixel the colour that it shows if the registers have these colours.
+fn fix(pixels: &mut [Pixel], colours: &[Colour])
     requires { 0 < length colours.now }
-    ensures { result ≡ shown_in colours.now ink }
+    ensures { pixels.new ≡ map (λ ink. Fixed (shown_in colours.now ink)) pixels.old }
 {
-    match ink {
-        Ink::Fixed(colour) => colour,
-        Ink::Bound(register) => colours[register as usize % colours.len()],
+    for index in 0..pixels.len() {
+        pixels[index] = fixed(&pixels[index], colours);
     }
 }
 
-/// The colours that the inks show if the registers have these colours.
-fn colours_of(alloc: Global, colours: &[Colour], inks: &[Ink]) -> Result<Vec<Colour>, AllocError>
+/// The pixel in the colour that it shows if the registers have these colours.
+fn fixed(pixel: &Pixel, colours: &[Colour]) -> Pixel
     requires { 0 < length colours.now }
-    ensures { IfOk result (λ shown. shown.items ≡ map (shown_in colours.now) inks.now) }
+    ensures { result ≡ Fixed (shown_in colours.now pixel.now) }
 {
-    let mut shown = Vec::with_capacity(alloc, inks.len())?;
-    for ink in inks {
-        shown.push(colour_of(colours, *ink))?;
+    match pixel.ink() {
+        Ink::Fixed(colour) => Pixel::fixed(colour),
+        Ink::Bound(register) => Pixel::fixed(colours[register as usize % colours.len()]),
     }
-    Ok(shown)
-}
-
-/// Whether the event is an 8-bit start or finish.
-fn is_eight_bit(event: &Event) -> bool
-    ensures { result ≡ is_eight_bit event.now }
-{
-    match event {
-        Event::Start { eight, .. } => *eight,
-        Event::Step(_) => false,
-        Event::Finish { eight } => *eight,
-    }
-}
-
-/// Whether one of the events is an 8-bit start or finish.
-fn has_eight_bit(events: &[Placed]) -> bool
-    ensures { result ≡ list_any (λ p. is_eight_bit p.event) events.now }
-{
-    events.iter().any(|placed| is_eight_bit(&placed.event))
 }
 
 impl Terminal {
     /// The state before any event.
-    fn first_pen(&self) -> Pen
+    pub(crate) fn first_pen(&self) -> Pen
         ensures { IsPenAfter self.now [] result }
     {
         Pen {
@@ -82,8 +75,43 @@ impl Terminal {
         }
     }
 
+    /// Gives each pixel the colour that it has before the drawing.
+    fn lay(&self, pixels: &mut [Pixel])
+        requires { length pixels.old ≡ self.now.choices.screen_width * self.now.choices.screen_height }
+        ensures { pixels.new ≡ map (λ c. Fixed c) self.now.screen }
+    {
+        match &self.backdrop {
+            Backdrop::Plain(colour) => lay_plain(pixels, &Pixel::fixed(*colour)),
+            Backdrop::Pixels(colours) => lay_colours(pixels, colours),
+        }
+    }
+
+    /// The colours of the registers before the drawing.
+    pub(crate) fn first_colours(&self, alloc: Global) -> Result<Vec<Colour>, AllocError>
+        ensures { IfOk result (λ colours. colours.items ≡ self.now.colours) }
+    {
+        Vec::from_slice(alloc, &self.colours)
+    }
+
+    /// The pixels before the drawing.
+    pub(crate) fn first_pixels(&self, alloc: Global) -> Result<Vec<Pixel>, AllocError>
+        ensures { IfOk result (λ pixels. pixels.items ≡ map (λ c. Fixed c) self.now.screen) }
+    {
+        let count = (self.choices.screen_width * self.choices.screen_height) as usize;
+        let black = Pixel::fixed(Colour::of_percentages(0, 0, 0));
+        let mut pixels = vec![in alloc; black; count]?;
+        self.lay(&mut pixels);
+        Ok(pixels)
+    }
+
     /// Draws one more event.
-    fn draw(&self, pen: Pen, colours: &mut [Colour], inks: &mut [Ink], event: &Event) -> Pen
+    pub(crate) fn draw(
+        &self,
+        pen: Pen,
+        colours: &mut [Colour],
+        inks: &mut [Pixel],
+        event: &Event,
+    ) -> Pen
         requires { (before : List Event) × StandsAfter self.now before pen colours.old inks.old }
         ensures { (before : List Event) → StandsAfter self.now before pen colours.old inks.old
             → StandsAfter self.now (before ++ event.now ∷ []) result colours.new inks.new }
@@ -99,33 +127,78 @@ impl Terminal {
         }
     }
 
-    /// Whether the terminal sees the string of these events: it has 8-bit controls, or no start or finish is 8-bit.
-    #[tactic(auto, unfolding(crate::specs::Drawing::is_seen_on))]
-    fn sees(&self, events: &[Placed]) -> bool
-        ensures { result ≡ is_seen_on self.now (events_of events.now) }
+    /// Draws the sixels of these data bytes, if they can be painted at once. Returns the pen after them.
+    pub(crate) fn try_draw_stretch(
+        &self,
+        pen: Pen,
+        colours: &[Colour],
+        inks: &mut [Pixel],
+        bytes: &[u8],
+    ) -> Option<Pen>
+        requires stands { (before : List Event) × StandsAfter self.now before pen colours.now inks.old }
+        requires data { (k : ℕ) → k < length bytes.now → IsTrue (is_data (slice_index bytes.now k)) }
+        ensures drawn { IfSome result (λ p. (before : List Event)
+            → StandsAfter self.now before pen colours.now inks.old
+            → StandsAfter self.now (before ++ sixels_of bytes.now) p colours.now inks.new) }
+        ensures kept { IsNone result → inks.new ≡ inks.old }
     {
-        self.choices.eight_bit || !has_eight_bit(events)
+        let _ = &self.choices;
+        let ink = self.ink(colours, pen.selected);
+        if !self.try_paint_stretch(pen, bytes, &ink, inks) {
+            return None;
+        }
+        Some(Pen {
+            column: pen.column + bytes.len() as u32,
+            ..pen
+        })
     }
 
-    /// The colours of the whole screen after the events, row by row.
-    ///
-    /// Any list of events is allowed, even one that no text spells. Bits above the six of a sixel paint nothing, and
-    /// neither do a start and a finish. Pixels off the screen are dropped. A terminal without 8-bit controls shows
-    /// nothing of a list with an 8-bit start or finish, wherever it is.
+    /// Gives each pixel the colour that it shows after the events. `has_eight_bit` says whether one of them is an 8-bit
+    /// start or finish.
+    pub(crate) fn settle(&self, has_eight_bit: bool, colours: &[Colour], inks: &mut [Pixel])
+        requires { (pen : APen) × (events : List Event) × StandsAfter self.now events pen colours.now inks.old }
+        ensures fixed { IsAllFixed inks.new }
+        ensures shown { (pen : APen) (events : List Event) → StandsAfter self.now events pen colours.now inks.old
+            → has_eight_bit ≡ list_any is_eight_bit events
+            → map colour_in_ink inks.new ≡ screen_on self.now events }
+    {
+        if has_eight_bit && !self.choices.eight_bit {
+            self.lay(inks);
+        } else if self.choices.binds_at_showing {
+            fix(inks, colours);
+        }
+    }
+
+    /// The colours of the whole screen after the events, row by row, as a `Drawing` gives them.
     ///
     /// `AllocError`: an allocation failed.
     pub fn show(&self, alloc: Global, events: &[Placed]) -> Result<Vec<Colour>, AllocError>
         ensures { IfOk result (λ shown. shown.items ≡ screen_on self.now (events_of events.now)) }
     {
-        if !self.sees(events) {
-            return Vec::from_slice(alloc, &self.screen);
-        }
-        let mut colours = Vec::from_slice(alloc, &self.colours)?;
-        let mut inks = inks_of(alloc, &self.screen)?;
-        let mut pen = self.first_pen();
+        let mut drawing = Drawing::new(alloc, self.copied()?)?;
         for placed in events {
-            pen = self.draw(pen, &mut colours, &mut inks, &placed.event);
+            drawing.push(&placed.event);
         }
-        colours_of(alloc, &colours, &inks)
+        drawing.finish().colours(alloc)
+    }
+
+    /// The sides of the screen, in pixels.
+    pub(crate) fn sides(&self) -> (u32, u32)
+        ensures { result ≡ (self.now.choices.screen_width, self.now.choices.screen_height) }
+    {
+        (self.choices.screen_width, self.choices.screen_height)
+    }
+
+    fn copied(&self) -> Result<Terminal, AllocError>
+        ensures { IfOk result (λ t. t ≡ self.now) }
+    {
+        Ok(Terminal {
+            choices: self.choices,
+            colours: self.colours.clone()?,
+            backdrop: match &self.backdrop {
+                Backdrop::Plain(colour) => Backdrop::Plain(*colour),
+                Backdrop::Pixels(colours) => Backdrop::Pixels(colours.clone()?),
+            },
+        })
     }
 }

@@ -1,13 +1,17 @@
 //! Painting on the screen.
 
-ghost use Rattle.std.specs.Prelude.{◌≡◌, ◌<◌, ◌≤◌, ◌+◌, ◌*◌, ◌/◌, ◌%◌, EachIndex, length, slice_index_or};
-ghost use Rattle.std.specs.Prelude.{if◌then◌else◌};
+ghost use Rattle.std.specs.Prelude.{◌≡◌, ◌<◌, ◌≤◌, ◌+◌, ◌*◌, ◌/◌, ◌%◌, ℕ, EachIndex, IsTrue, false, length};
+ghost use Rattle.std.specs.Prelude.{slice_index, slice_index_or, true, if◌then◌else◌};
 ghost use Rattle.sixel_model.specs.Geometry.{band_rows};
 ghost use Rattle.sixel_terminal.specs.Canvases.{black, span_of};
-ghost use Rattle.sixel_terminal.specs.Steps.{bottom_edge, box_covers, pen_covers, right_edge};
+ghost use Rattle.sixel_grammar.specs.Bytes.{is_data};
+ghost use Rattle.sixel_terminal.specs.Steps.{bottom_edge, box_covers, most, pen_covers, right_edge};
+ghost use Rattle.sixel_terminal.specs.Stretches.{stretch_covers};
 
-use crate::canvas::{Ink, Span, fill};
+use crate::canvas::{Span, fill};
 use crate::pen::Pen;
+use crate::pixel::Pixel;
+use crate::stretch::paint_rows;
 use crate::terminal::Terminal;
 use sixel_model::{BAND_ROWS, is_set};
 
@@ -53,7 +57,14 @@ impl Terminal {
     }
 
     /// Paints the set bits of `count` columns, from the pen on, with the ink.
-    pub(crate) fn paint_columns(&self, pen: Pen, count: u16, bits: u8, ink: &Ink, inks: &mut [Ink])
+    pub(crate) fn paint_columns(
+        &self,
+        pen: Pen,
+        count: u16,
+        bits: u8,
+        ink: &Pixel,
+        inks: &mut [Pixel],
+    )
         requires { length inks.old ≡ self.now.choices.screen_width * self.now.choices.screen_height }
         ensures { EachIndex inks.old (λ i. slice_index_or inks.new i black
             ≡ (if pen_covers self.now pen count bits (i % self.now.choices.screen_width)
@@ -73,8 +84,38 @@ impl Terminal {
         }
     }
 
+    /// Paints the sixels of these data bytes, from the pen on, if a sixel pixel is one pixel high and all of them are
+    /// before the edges. Returns whether it did.
+    pub(crate) fn try_paint_stretch(
+        &self,
+        pen: Pen,
+        bytes: &[u8],
+        ink: &Pixel,
+        inks: &mut [Pixel],
+    ) -> bool
+        requires screen { length inks.old ≡ self.now.choices.screen_width * self.now.choices.screen_height }
+        requires data { (k : ℕ) → k < length bytes.now → IsTrue (is_data (slice_index bytes.now k)) }
+        ensures painted { result ≡ true → EachIndex inks.old (λ i. slice_index_or inks.new i black
+            ≡ (if stretch_covers self.now pen bytes.now (i % self.now.choices.screen_width)
+            (i / self.now.choices.screen_width) then ink.now else slice_index_or inks.old i black)) }
+        ensures room { result ≡ true → pen.column + length bytes.now ≤ most }
+        ensures kept { result ≡ false → inks.new ≡ inks.old }
+    {
+        let left = self.choices.origin_x as u64 + pen.column as u64;
+        let top = self.choices.origin_y as u64 + BAND_ROWS as u64 * pen.band as u64;
+        if pen.height != 1
+            || left + bytes.len() as u64 > self.right_edge(pen) as u64
+            || top + BAND_ROWS as u64 > self.bottom_edge(pen) as u64
+        {
+            return false;
+        }
+        let width = self.choices.screen_width as usize;
+        paint_rows(inks, width, left as usize, top as usize, bytes, ink);
+        true
+    }
+
     /// Paints a box at the origin with the ink.
-    pub(crate) fn paint_box(&self, width: u16, height: u16, ink: &Ink, inks: &mut [Ink])
+    pub(crate) fn paint_box(&self, width: u16, height: u16, ink: &Pixel, inks: &mut [Pixel])
         requires { length inks.old ≡ self.now.choices.screen_width * self.now.choices.screen_height }
         ensures { EachIndex inks.old (λ i. slice_index_or inks.new i black
             ≡ (if box_covers self.now width height (i % self.now.choices.screen_width)

@@ -13,9 +13,9 @@ ghost use Rattle.sixel_terminal.specs.Drawing.{defined_on, taken_on};
 ghost use Rattle.sixel_terminal.specs.Steps.{ink_after_event, ink_by_colours, next_band, next_column, next_declared};
 ghost use Rattle.sixel_terminal.specs.Steps.{next_height, next_selected};
 
-use crate::canvas::Ink;
 use crate::choices::Ground;
 use crate::pen::{Pen, Sides};
+use crate::pixel::Pixel;
 use crate::terminal::Terminal;
 use sixel_grammar::Command;
 use sixel_model::Colour;
@@ -159,19 +159,19 @@ impl Terminal {
     }
 
     /// The ink for painting in this register.
-    fn ink(&self, colours: &[Colour], register: u16) -> Ink
+    pub(crate) fn ink(&self, colours: &[Colour], register: u16) -> Pixel
         requires { register < length colours.now }
         ensures { result ≡ ink_by_colours self.now colours.now register }
     {
         if self.choices.binds_at_showing {
-            Ink::Bound(register)
+            Pixel::bound(register)
         } else {
-            Ink::Fixed(colours[register as usize])
+            Pixel::fixed(colours[register as usize])
         }
     }
 
     /// Paints what the command paints, with the pen and the colours before the command.
-    pub(crate) fn paint(&self, pen: Pen, colours: &[Colour], inks: &mut [Ink], command: Command)
+    pub(crate) fn paint(&self, pen: Pen, colours: &[Colour], inks: &mut [Pixel], command: Command)
         requires selected { pen.selected < length colours.now }
         requires colours_are { length colours.now ≡ registers_of self.now }
         requires screen { length inks.old ≡ self.now.choices.screen_width * self.now.choices.screen_height }

@@ -1,11 +1,7 @@
-use Rattle.std.proofs.Common.{◌∙◌, ap, length}
-use Rattle.sixel_grammar.specs.Document.{events_of}
-use Rattle.sixel_run.specs.Screens.{show_terminal}
-use Rattle.sixel_run.proofs.ScreenLemmas.{screen_length}
+use Rattle.sixel_run.proofs.DrawLemmas.{told}
 use Rattle.sixel_run.proofs.running.show.show.Goals as goal
 
-pub write_screen-requires-clause-whole : goal.write_screen-requires-clause-whole
-unfolding show_terminal
-write_screen-requires-clause-whole g c =
-    ap length (c.deref-2.ensures.value ∙ c.in_ok-shown.ensures)
-    ∙ screen_length (show_terminal c.args.profile c.args.choices) (events_of c.deref.result.now)
+pub returns-clause-wrote : goal.returns-clause-wrote
+returns-clause-wrote g c =
+    told (g.S.Source.state c.args.input.now).remaining _ _
+    (λ bytes d. c.write_screen.ensures.wrote c.args.profile d.0 bytes d.1 d.2) c.in_ok-screen.ensures.shown

@@ -15,15 +15,9 @@ use Rattle.sixel_run.proofs.BoxLemmas.{shown-boxed}
 use Rattle.sixel_run.proofs.ScreenLemmas.{screen_length}
 use Rattle.sixel_run.proofs.running.show_box.show_box.Goals as goal
 
-pub write_screen-requires-clause-whole : goal.write_screen-requires-clause-whole
-unfolding show_terminal
-write_screen-requires-clause-whole g c =
-    ap length (c.deref-3.ensures.value ∙ c.in_ok-shown.ensures)
-    ∙ screen_length (show_terminal c.args.profile c.show_choices-choices.result) (events_of c.deref-2.result.now)
-
-same_colours : (colours drawn : List Parts) (t : Display) (ds es : List Placed) → colours ≡ drawn
-    → drawn ≡ screen_on t (events_of ds) → ds ≡ es → colours ≡ screen_on t (events_of es)
-same_colours colours drawn t ds es a b c = a ∙ b ∙ ap (λ (ps : List Placed). screen_on t (events_of ps)) c
+same_colours : (colours : List Parts) (t : Display) (ds es : List Placed) → colours ≡ screen_on t (events_of ds)
+    → ds ≡ es → colours ≡ screen_on t (events_of es)
+same_colours colours t ds es a b = a ∙ ap (λ (ps : List Placed). screen_on t (events_of ps)) b
 
 chosen : (profile : Profile) (x y : Choices) (bytes : List ℕ) (answer : Result Status RunFault)
     (had has : Option (List ℕ)) → x ≡ y
@@ -37,10 +31,9 @@ returns-clause-wrote g c =
     let profile = c.args.profile in let events = c.in_ok-events.events.items in
     let had = (g.K.Sink.state c.args.output.now).taken in let has = (g.K.Sink.state c.write_screen.new.output).taken in
     let choices = c.show_choices-choices.result in
-    let shown : c.deref-3.result.now ≡ screen_on (show_terminal profile choices) (events_of events) =
-    same_colours c.deref-3.result.now c.in_ok-shown.shown.items
-    (show_terminal profile choices) c.deref-2.result.now events
-    c.deref-3.ensures.value c.in_ok-shown.ensures c.deref-2.ensures.value in
+    let shown : c.in_ok-screen.screen.colours ≡ screen_on (show_terminal profile choices) (events_of events) =
+    same_colours c.in_ok-screen.screen.colours (show_terminal profile choices) c.deref-2.result.now events
+    c.in_ok-screen.ensures.shown c.deref-2.ensures.value in
     shown-boxed (screen_terminal profile c.args.showing c.args.fill c.args.selects)
     (g.S.Source.state c.args.input.now).remaining events (c.in-Some.width, c.in-Some.height) c.write_screen.result had
     has

@@ -1,0 +1,85 @@
+//! Writes what a terminal shows after a drawing.
+
+ghost use Rattle.std.specs.Prelude.{◌≡◌, ◌≢◌, Err, IsTrue, List, ℕ};
+ghost use Rattle.sixel_grammar.specs.declared.command.Placed.{Placed as Place};
+ghost use Rattle.sixel_grammar.specs.Document.{Document, events_of};
+ghost use Rattle.sixel_model.specs.declared.profile.Profile.{Profile as AProfile};
+ghost use Rattle.std.specs.List.{list_all};
+ghost use Rattle.sixel_io.specs.Devices.{Writes};
+ghost use Rattle.sixel_ppm.specs.Ppm.{WritesPpm, are_rgb, ppm_text};
+ghost use Rattle.sixel_terminal.specs.Drawing.{screen_on};
+ghost use Rattle.sixel_terminal.specs.Pixels.{bytes_of, is_rgb_ink};
+ghost use Rattle.sixel_run.specs.declared.fault.RunFault.TheVariants.{Read};
+ghost use Rattle.sixel_run.specs.Outputs.{CountsWrites, ShowGives, WroteBy, WroteNothing};
+ghost use Rattle.sixel_run.specs.Screens.{show_terminal};
+
+use crate::fault::RunFault;
+use crate::task::Status;
+use sixel_io::{DeviceFault, Sink};
+use sixel_ppm::{PpmFault, ToRgbx, write_ppm_pixels};
+use sixel_terminal::{Choices, Pixel, Screen};
+use std::simd::prelude::*;
+
+/// The pixels of a screen, whose bytes begin with the percentages if they are RGB.
+struct ScreenPixels;
+
+impl ToRgbx<Pixel> for ScreenPixels {
+    ghost rgbx = { λ _ ink. bytes_of ink };
+
+    fn to_rgbx(&self, pixel: Pixel) -> u8x4 {
+        u8x4::from_array(pixel.bytes())
+    }
+}
+
+/// Whether each pixel is RGB.
+fn are_rgb(pixels: &[Pixel]) -> bool
+    ensures { result ≡ list_all is_rgb_ink pixels.now }
+{
+    pixels.iter().all(|pixel| pixel.is_rgb())
+}
+
+/// Whether the colour of each pixel is RGB.
+fn is_rgb_alone(screen: &Screen) -> bool
+    ensures { result ≡ are_rgb screen.now.colours }
+{
+    are_rgb(screen.pixels())
+}
+
+fn write_rgb<K: Sink>(screen: &Screen, out: &mut K) -> Result<(), DeviceFault>
+    requires { IsTrue (are_rgb screen.now.colours) }
+    ensures { Writes result (K.state out.old) (K.state out.new)
+        (ppm_text screen.now.width screen.now.height screen.now.colours) }
+{
+    let pixels = screen.pixels();
+    write_ppm_pixels(screen.width(), screen.height(), &ScreenPixels, pixels, out)
+}
+
+/// Writes a screen as a PPM. `NotRgb`: the colour of some pixel is HLS, and nothing was written.
+fn write_ppm_screen<K: Sink>(screen: &Screen, out: &mut K) -> Result<(), PpmFault>
+    ensures { WritesPpm result (K.state out.old) (K.state out.new) screen.now.width screen.now.height
+        screen.now.colours }
+{
+    if !is_rgb_alone(screen) {
+        return Err(PpmFault::NotRgb);
+    }
+    write_rgb(screen, out).map_err(|_| PpmFault::Write)
+}
+
+/// Writes the screen of a terminal with these choices as a PPM.
+pub fn write_screen<K: Sink>(
+    choices: Choices,
+    screen: &Screen,
+    output: &mut K,
+) -> Result<Status, RunFault>
+    requires width { screen.now.width ≡ choices.screen_width }
+    requires height { screen.now.height ≡ choices.screen_height }
+    ensures wrote { (profile : AProfile) (events : List Place) (bytes : List ℕ) → Document events bytes →
+        screen.now.colours ≡ screen_on (show_terminal profile choices) (events_of events) →
+        WroteBy (ShowGives (show_terminal profile choices) bytes) WroteNothing result
+        (K.state output.old).taken (K.state output.new).taken }
+    ensures unread { result ≢ Err Read }
+    ensures writes { CountsWrites result (K.state output.old).failures (K.state output.new).failures }
+{
+    write_ppm_screen(screen, output)?;
+    Ok(Status::Done)
+}

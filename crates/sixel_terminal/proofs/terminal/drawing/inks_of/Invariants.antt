@@ -1,6 +1,0 @@
-use Rattle.std.proofs.Common.{◌≡◌, map, take}
-use Rattle.sixel_terminal.specs.declared.canvas.Ink.TheVariants.{Fixed}
-use Rattle.sixel_terminal.proofs.terminal.drawing.inks_of.Given as goal
-
-abbrev pub invariant-loop-colour : goal.invariant-loop-colour
-invariant-loop-colour l = l.inks.items ≡ map (λ c. Fixed c) (take l.colour-index l.screen)

@@ -1,0 +1,25 @@
+-- The screen after a drawing.
+use Rattle.std.specs.Prelude.{ℕ, List}
+use Rattle.std.specs.List.{All}
+use Rattle.sixel_model.specs.declared.colour.Parts.{Parts}
+use Rattle.sixel_model.specs.declared.colour.Parts.TheVariants.{Rgb}
+use Rattle.sixel_terminal.specs.declared.pixel.Ink.{Ink}
+use Rattle.sixel_terminal.specs.declared.pixel.Ink.TheVariants.{Fixed, Bound}
+
+-- the width and the height in pixels, and the colours, row by row
+pub record Shown : Type 0 where
+  pub width : ℕ
+  pub height : ℕ
+  pub colours : List Parts
+
+-- the colour of an ink; black for a register, which no pixel has after a drawing
+abbrev pub colour_in_ink : Ink → Parts
+colour_in_ink (Fixed colour) = colour
+colour_in_ink (Bound register) = Rgb 0 0 0
+
+abbrev pub IsFixed : Ink → Type 0
+IsFixed (Fixed colour) = Unit {0}
+IsFixed (Bound register) = ⊥
+
+abbrev pub IsAllFixed : List Ink → Type 0
+IsAllFixed inks = All IsFixed inks

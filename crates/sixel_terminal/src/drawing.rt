@@ -1,0 +1,157 @@
+//! Draws events one by one.
+
+ghost use Rattle.std.specs.Prelude.{◌≡◌, ◌<◌, ◌*◌, ◌++◌, ◌∷◌, [], ℕ, List, IfOk, IsTrue, length, slice_index};
+ghost use Rattle.sixel_grammar.specs.declared.command.Event.{Event as AnEvent};
+ghost use Rattle.sixel_grammar.specs.Bytes.{is_data};
+ghost use Rattle.sixel_model.specs.Events.{is_eight_bit};
+ghost use Rattle.sixel_terminal.specs.Drawing.{screen_on};
+ghost use Rattle.sixel_terminal.specs.Drawings.{HasDrawn};
+ghost use Rattle.sixel_terminal.specs.Stretches.{sixels_of};
+
+use crate::pen::Pen;
+use crate::pixel::Pixel;
+use crate::screen::Screen;
+use crate::terminal::Terminal;
+use sixel_grammar::{Command, Event};
+use sixel_model::Colour;
+use std::alloc::{AllocError, Global};
+use std::marker::Model;
+
+/// A drawing on a terminal's screen.
+///
+/// It keeps the terminal, the pen, the colours of the registers and four bytes for each pixel of the screen, and no
+/// event.
+#[derive(Debug, Drop)]
+pub struct Drawing {
+    terminal: Terminal,
+    pen: Pen,
+    colours: Vec<Colour>,
+    pixels: Vec<Pixel>,
+    /// Whether a start or a finish was 8-bit.
+    has_eight_bit: bool,
+}
+
+impl Model for Drawing {
+    ghost use Rattle.sixel_terminal.specs.Drawings.{Drawn};
+
+    ghost Value = { Drawn };
+
+    ghost use Rattle.std.specs.Prelude.{List};
+    ghost use Rattle.sixel_grammar.specs.declared.command.Event.{Event as AnEvent};
+    ghost use Rattle.sixel_terminal.specs.Drawings.{HasDrawn};
+
+    ghost view = { λ d. record {
+      terminal = d.terminal;
+      pen = d.pen;
+      colours = d.colours.items;
+      inks = d.pixels.items;
+      has_eight_bit = d.has_eight_bit;
+    } };
+
+    ghost invariant = { λ d. (events : List AnEvent) × HasDrawn (record {
+      terminal = d.terminal;
+      pen = d.pen;
+      colours = d.colours.items;
+      inks = d.pixels.items;
+      has_eight_bit = d.has_eight_bit;
+    }) events };
+}
+
+impl Drawing {
+    /// A drawing on this terminal before any event. `AllocError`: an allocation failed.
+    pub fn new(alloc: Global, terminal: Terminal) -> Result<Drawing, AllocError>
+        ensures terminal { IfOk result (λ d. d.terminal ≡ terminal) }
+        ensures drawn { IfOk result (λ d. HasDrawn d []) }
+    {
+        let pen = terminal.first_pen();
+        let colours = terminal.first_colours(alloc)?;
+        let pixels = terminal.first_pixels(alloc)?;
+        Ok(Drawing {
+            terminal,
+            pen,
+            colours,
+            pixels,
+            has_eight_bit: false,
+        })
+    }
+
+    /// Draws one more event.
+    ///
+    /// Any list of events is allowed, even one that no text spells. Bits above the six of a sixel paint nothing, and
+    /// neither do a start and a finish. Pixels off the screen are dropped.
+    pub fn push(&mut self, event: &Event)
+        ensures terminal { self.new.terminal ≡ self.old.terminal }
+        ensures drawn { (before : List AnEvent) → HasDrawn self.old before
+            → HasDrawn self.new (before ++ event.now ∷ []) }
+    {
+        self.pen = self
+            .terminal
+            .draw(self.pen, &mut self.colours, &mut self.pixels, event);
+        self.has_eight_bit |= is_eight_bit(event);
+    }
+
+    /// Draws the sixels of these data bytes, in order. It is faster than `push` with one after the other.
+    pub fn push_stretch(&mut self, bytes: &[u8])
+        requires { (k : ℕ) → k < length bytes.now → IsTrue (is_data (slice_index bytes.now k)) }
+        ensures terminal { self.new.terminal ≡ self.old.terminal }
+        ensures drawn { (before : List AnEvent) → HasDrawn self.old before
+            → HasDrawn self.new (before ++ sixels_of bytes.now) }
+    {
+        match self
+            .terminal
+            .try_draw_stretch(self.pen, &self.colours, &mut self.pixels, bytes)
+        {
+            Some(pen) => self.pen = pen,
+            None => self.push_each(bytes),
+        }
+    }
+
+    /// The same, sixel by sixel.
+    fn push_each(&mut self, bytes: &[u8])
+        requires { (k : ℕ) → k < length bytes.now → IsTrue (is_data (slice_index bytes.now k)) }
+        ensures terminal { self.new.terminal ≡ self.old.terminal }
+        ensures drawn { (before : List AnEvent) → HasDrawn self.old before
+            → HasDrawn self.new (before ++ sixels_of bytes.now) }
+    {
+        for byte in bytes {
+            self.push(&Event::Step(Command::Sixel(byte - b'?')));
+        }
+    }
+
+    /// The screen after the events. A terminal without 8-bit controls shows nothing of a list with an 8-bit start or
+    /// finish, wherever it is.
+    pub fn finish(self) -> Screen
+        ensures width { result.width ≡ self.terminal.choices.screen_width }
+        ensures height { result.height ≡ self.terminal.choices.screen_height }
+        ensures whole { length result.colours
+            ≡ self.terminal.choices.screen_width * self.terminal.choices.screen_height }
+        ensures shown { (events : List AnEvent) → HasDrawn self events
+            → result.colours ≡ screen_on self.terminal events }
+    {
+        let Drawing {
+            terminal,
+            pen: _,
+            colours,
+            mut pixels,
+            has_eight_bit,
+        } = self;
+        terminal.settle(has_eight_bit, &colours, &mut pixels);
+        let (width, height) = terminal.sides();
+        Screen {
+            width,
+            height,
+            pixels,
+        }
+    }
+}
+
+/// Whether the event is an 8-bit start or finish.
+fn is_eight_bit(event: &Event) -> bool
+    ensures { result ≡ is_eight_bit event.now }
+{
+    match event {
+        Event::Start { eight, .. } => *eight,
+        Event::Step(_) => false,
+        Event::Finish { eight } => *eight,
+    }
+}

@@ -1,0 +1,64 @@
+//! Paints many sixels at once.
+
+ghost use Rattle.std.specs.Prelude.{◌≡◌, ◌&&◌, ◌<◌, ◌≤◌, ◌+◌, ◌-◌, ◌*◌, ◌/◌, ◌%◌, ℕ, EachIndex, IsTrue, length, nat_le, nat_lt};
+ghost use Rattle.std.specs.Prelude.{slice_index, slice_index_or, if◌then◌else◌};
+ghost use Rattle.sixel_grammar.specs.Bytes.{is_data};
+ghost use Rattle.sixel_model.specs.Geometry.{band_rows};
+ghost use Rattle.sixel_terminal.specs.Canvases.{black};
+ghost use Rattle.sixel_terminal.specs.Stretches.{has_bit, is_stretched};
+
+use crate::pixel::Pixel;
+use sixel_model::{BAND_ROWS, is_set};
+
+/// Paints the pixels of a row whose data bytes have the bit. The loop has no branch, so that the compiler uses lanes.
+fn paint_row(row: &mut [Pixel], bytes: &[u8], bit: u32, ink: &Pixel)
+    requires bit { bit < band_rows }
+    requires long { length bytes.now ≡ length row.old }
+    requires data { (k : ℕ) → k < length bytes.now → IsTrue (is_data (slice_index bytes.now k)) }
+    ensures { EachIndex row.old (λ j. slice_index_or row.new j black
+        ≡ (if has_bit (slice_index bytes.now j) bit then ink.now else slice_index_or row.old j black)) }
+{
+    for index in 0..row.len() {
+        let old = row[index];
+        row[index] = if is_set(bytes[index] - b'?', bit) {
+            *ink
+        } else {
+            old
+        };
+    }
+}
+
+/// Paints a row of the screen from the pixel `at` on.
+fn paint_row_at(pixels: &mut [Pixel], at: usize, bytes: &[u8], bit: u32, ink: &Pixel)
+    requires bit { bit < band_rows }
+    requires within { at + length bytes.now ≤ length pixels.old }
+    requires data { (k : ℕ) → k < length bytes.now → IsTrue (is_data (slice_index bytes.now k)) }
+    ensures { EachIndex pixels.old (λ i. slice_index_or pixels.new i black
+        ≡ (if (nat_le at i && nat_lt i (at + length bytes.now)) && has_bit (slice_index bytes.now (i - at)) bit
+        then ink.now else slice_index_or pixels.old i black)) }
+{
+    paint_row(&mut pixels[at..at + bytes.len()], bytes, bit, ink);
+}
+
+/// Paints six rows of the screen, from the row `top` on, in the columns of the bytes, from `left` on.
+pub(crate) fn paint_rows(
+    pixels: &mut [Pixel],
+    width: usize,
+    left: usize,
+    top: usize,
+    bytes: &[u8],
+    ink: &Pixel,
+)
+    requires some { 0 < width }
+    requires columns { left + length bytes.now ≤ width }
+    requires rows { (top + band_rows) * width ≤ length pixels.old }
+    requires data { (k : ℕ) → k < length bytes.now → IsTrue (is_data (slice_index bytes.now k)) }
+    ensures { EachIndex pixels.old (λ i. slice_index_or pixels.new i black
+        ≡ (if is_stretched left top band_rows bytes.now (i % width) (i / width)
+        then ink.now else slice_index_or pixels.old i black)) }
+{
+    for bit in 0..BAND_ROWS {
+        let at = (top + bit as usize) * width + left;
+        paint_row_at(pixels, at, bytes, bit, ink);
+    }
+}
