@@ -5,6 +5,7 @@
     flat.ppm    boxes and lines in 16 colours: long runs
     blank-*     a box of one pixel, and then blank data: single sixels, or repeats of nine bytes each, so that as many
                 bytes make a ninth of the events
+    each-*      a box of one pixel, and then one command or filler again and again
 """
 
 import math
@@ -14,6 +15,20 @@ from pathlib import Path
 SIDE = 2048
 # What each long document is made of, and how many million bytes it has.
 BLANKS = {f"blank-{len(item)}-{size}.six": (item, size) for item in (b"?", b"!0000001?") for size in (10, 40)}
+# The commands and the filler of which such a document can have most, and how many million bytes each document has.
+EACH_SIZE = 4
+EACH = {
+    f"each-{name}.six": item
+    for name, item in {
+        "return": b"$",
+        "next-line": b"-",
+        "line-feed": b"\n",
+        "select": b"#0",
+        "definition": b"#0;2;0;0;0",
+        "repeat": b"!1?",
+        "select-return": b"#0$",
+    }.items()
+}
 
 # The colours of noisy.ppm: of the gradients from one end to the other, and of the square.
 GRADIENT = [bytes((20 + 15 * place, 240 - 15 * place, 130)) for place in range(14)]
@@ -80,7 +95,7 @@ def flat():
     return ppm(b"".join(row) for row in rows)
 
 
-def blank(item, size):
+def again(item, size):
     return b'\x1bPq"1;1;1;1#0;2;0;0;0#0@' + item * (size * 1_000_000 // len(item)) + b"\x1b\\"
 
 
@@ -90,4 +105,6 @@ def make(folder):
     (folder / "noisy.ppm").write_bytes(noisy())
     (folder / "flat.ppm").write_bytes(flat())
     for name, (item, size) in BLANKS.items():
-        (folder / name).write_bytes(blank(item, size))
+        (folder / name).write_bytes(again(item, size))
+    for name, item in EACH.items():
+        (folder / name).write_bytes(again(item, EACH_SIZE))

@@ -68,7 +68,7 @@ fn push_command<P: Plane>(
     checker.push(&Placed { place, event })
 }
 
-/// Pushes a command that one byte completed. Sixels and repeats, the common kinds, each get their own inlined call.
+/// Pushes a command that one byte completed. All kinds but raster attributes get their own inlined call.
 #[inline(always)]
 fn keep_command<P: Plane>(
     checker: &mut Checker<P>,
@@ -85,6 +85,9 @@ fn keep_command<P: Plane>(
         Command::Repeat { count, bits } => {
             push_command(checker, place, Command::Repeat { count, bits })
         }
+        Command::CarriageReturn => push_command(checker, place, Command::CarriageReturn),
+        Command::NextLine => push_command(checker, place, Command::NextLine),
+        Command::Select(register) => push_command(checker, place, Command::Select(register)),
         _ => push_rarely(checker, place, command),
     }
 }
@@ -116,7 +119,7 @@ fn read_byte<P: Plane>(
     ensures refused { IfErr result (RefusesBytes reader.old checker.old (byte ∷ [])) }
     ensures memory { IfErr result (GrowsForBytes reader.old checker.old (byte ∷ [])) }
 {
-    match reader.feed_plain(byte) {
+    match reader.feed_command(byte) {
         Some(Plain::Nothing) => Ok(()),
         Some(Plain::Command { place, command }) => Ok(keep_command(checker, place, command)?),
         None => feed_and_keep(reader, checker, byte),

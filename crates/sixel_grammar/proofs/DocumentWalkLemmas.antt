@@ -44,7 +44,7 @@ start = Some (state NothingYet 0 [])
 filler_not_data : (b : ℕ) → is_filler b ≡ true → is_data b ≡ false
 filler_not_data b h = grind (arith, nat_tests)
 
-begin-filler : (b : ℕ) → is_filler b ≡ true → begin b ≡ Some (NoCommand, None)
+pub begin-filler : (b : ℕ) → is_filler b ≡ true → begin b ≡ Some (NoCommand, None)
 begin-filler b h = cond-false (is_data b) _ _ (filler_not_data b h) ∙ cond-true (is_filler b) _ _ h
 
 -- filler keeps a form in which nothing is open; the next thing opens after the filler

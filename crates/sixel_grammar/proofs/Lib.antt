@@ -12,6 +12,7 @@ pub mod StandLemmas
 pub mod PrefixLemmas
 pub mod UniqueLemmas
 pub mod NotPlainLemmas
+pub mod OneCommandLemmas
 pub mod NotSixelLemmas
 pub mod DataByteLemmas
 pub mod SixelLemmas

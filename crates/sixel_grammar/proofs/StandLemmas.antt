@@ -21,6 +21,7 @@ use Rattle.sixel_grammar.specs.Faults.{RepeatNumber, RasterFields, ColourFields,
 use Rattle.sixel_grammar.specs.Faults.{refusal, is_idle}
 use Rattle.sixel_grammar.specs.Next.{begin, within, chosen, next_of}
 use Rattle.sixel_grammar.specs.Bytes.{is_data}
+use Rattle.sixel_grammar.specs.declared.command.Command.{Command}
 use Rattle.sixel_grammar.specs.declared.command.Command.TheVariants.{Sixel}
 use Rattle.sixel_grammar.specs.declared.command.Event.TheVariants.{Step}
 use Rattle.sixel_grammar.specs.Pending.{form_of}
@@ -151,6 +152,21 @@ shut r q events bytes b o event c s lt w form at is fault left =
     (w ∙ ap (λ (f : Form). Some (f, Some event)) (sym form)) at is fault left
     (λ i. absurd (let n = ap is_idle form in cc))
 
+-- a byte that is a whole command, when no command is open
+pub alone : (r q : Reader) (events : List Placed) (bytes : List ℕ) (b : ℕ) (command : Command) (c : Completed)
+    → StandsAfter r events bytes → 0 < r.left → begin b ≡ Some (NoCommand, Some (Step command))
+    → form_of r.pending ≡ NoCommand → q.pending ≡ r.pending
+    → c ≡ record { first = Some (record { place = most_bytes - r.left; event = Step command }); second = None }
+    → q.fault ≡ r.fault → q.left ≡ r.left - 1
+    → StandsAfter q (events ++ completions c) (bytes ++ b ∷ [])
+alone r q events bytes b command c s lt begins form same is fault left =
+    let place : most_bytes - r.left ≡ length bytes = omega (arith, s.left) in
+    shut r q events bytes b (length bytes) (Step command) c s lt
+    (ap (λ (f : Form). within f b) form ∙ begins) (ap form_of same ∙ form)
+    (ap (λ (i : Bool). cond i (length bytes) r.opened) (sym (ap is_idle form)))
+    (is ∙ ap (λ (n : ℕ). record { first = Some (record { place = n; event = Step command }); second = None }) place)
+    fault left
+
 -- a single sixel when no command is open
 pub sixel : (r q : Reader) (events : List Placed) (bytes : List ℕ) (b : ℕ) (c : Completed)
     → StandsAfter r events bytes → 0 < r.left → is_data b ≡ true
@@ -159,13 +175,21 @@ pub sixel : (r q : Reader) (events : List Placed) (bytes : List ℕ) (b : ℕ) (
     → q.fault ≡ r.fault → q.left ≡ r.left - 1
     → StandsAfter q (events ++ completions c) (bytes ++ b ∷ [])
 sixel r q events bytes b c s lt t form same is fault left =
-    let place : most_bytes - r.left ≡ length bytes = omega (arith, s.left) in
-    shut r q events bytes b (length bytes) (Step (Sixel (b - 63))) c s lt
-    (ap (λ (f : Form). within f b) form ∙ cond-true (is_data b) _ _ t) (ap form_of same ∙ form)
-    (ap (λ (i : Bool). cond i (length bytes) r.opened) (sym (ap is_idle form)))
-    (is ∙ ap
-    (λ (n : ℕ). record { first = Some (record { place = n; event = Step (Sixel (b - 63)) }); second = None }) place)
-    fault left
+    alone r q events bytes b (Sixel (b - 63)) c s lt (cond-true (is_data b) _ _ t) form same is fault left
+
+-- a byte that changes nothing, when no command is open
+pub passed : (r q : Reader) (events : List Placed) (bytes : List ℕ) (b : ℕ) (c : Completed)
+    → StandsAfter r events bytes → 0 < r.left → begin b ≡ Some (NoCommand, None)
+    → form_of r.pending ≡ NoCommand → q.pending ≡ r.pending → c ≡ record { first = None; second = None }
+    → q.fault ≡ r.fault → q.left ≡ r.left - 1
+    → StandsAfter q (events ++ completions c) (bytes ++ b ∷ [])
+passed r q events bytes b c s lt begins form same none fault left =
+    let between : form_of q.pending ≡ NoCommand = ap form_of same ∙ form in
+    accepted r q events bytes b (length bytes) None None c s lt
+    (goes-on (form_of r.pending) (form_of q.pending) b None
+    (ap (λ (f : Form). within f b) form ∙ begins ∙ ap (λ (f : Form). Some (f, None)) (sym between)))
+    (ap (λ (i : Bool). cond i (length bytes) r.opened) (sym (ap is_idle form))) (ap completions none) fault left
+    (λ i. absurd (let n = ap is_idle between in cc))
 
 -- when no command is open, a byte ends none
 chosen-none : (w y : Option (Form × Option Event)) (e : Event) (g : Form) (d : Option Event)

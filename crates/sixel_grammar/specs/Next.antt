@@ -1,6 +1,6 @@
 -- What one byte does to what is open, as functions. Only contracts of private functions cite these.
 use Rattle.std.specs.Prelude.{ℕ, ◌+◌, ◌-◌, ◌*◌, Bool, true, false, List, [], ◌∷◌, ◌++◌, length, Option, Some, None}
-use Rattle.std.specs.Prelude.{◌==◌, ◌&&◌, nat_le, nat_lt, if◌then◌else◌}
+use Rattle.std.specs.Prelude.{◌==◌, ◌&&◌, ◌||◌, nat_le, nat_lt, if◌then◌else◌}
 use Rattle.sixel_grammar.specs.declared.command.Command.TheVariants.{Sixel, Repeat, Raster, Select, Define}
 use Rattle.sixel_grammar.specs.declared.command.Command.TheVariants.{CarriageReturn, NextLine}
 use Rattle.sixel_grammar.specs.declared.command.Event.{Event}
@@ -95,6 +95,11 @@ ends_repeat _ b = false
 abbrev pub makes_columns : Form → ℕ → Bool
 makes_columns NoCommand b = is_data b
 makes_columns f b = ends_repeat f b
+
+-- whether the byte is `$` or `-`, and no command is open
+abbrev pub makes_move : Form → ℕ → Bool
+makes_move NoCommand b = (b == 36) || (b == 45)
+makes_move _ b = false
 
 -- the command that the byte ends, what is open after it, and the event that it completes
 abbrev pub chosen : Option (Form × Option Event) → Option Event → Option (Form × Option Event)

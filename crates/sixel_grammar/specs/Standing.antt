@@ -46,6 +46,10 @@ is_columns (Step (Sixel bits)) = true
 is_columns (Step (Repeat count bits)) = true
 is_columns _ = false
 
+abbrev pub is_command : Event → Bool
+is_command (Step command) = true
+is_command _ = false
+
 -- no event, or only a sixel or a repeat
 abbrev pub are_plain : List Placed → Bool
 are_plain [] = true
@@ -57,6 +61,18 @@ abbrev pub IsNotPlain : Reader → ℕ → Type 0
 IsNotPlain old byte =
     (after : Reader) (events done : List Placed) (bytes : List ℕ) → StandsAfter old events bytes →
     are_plain done ≡ true → StandsAfter after (events ++ done) (bytes ++ byte ∷ []) → ⊥
+
+-- no event, or one command
+abbrev pub are_one_command : List Placed → Bool
+are_one_command [] = true
+are_one_command (p ∷ []) = is_command p.event
+are_one_command _ = false
+
+-- whatever the reader had read, no reader can take the byte and complete nothing or one command
+abbrev pub IsNotOneCommand : Reader → ℕ → Type 0
+IsNotOneCommand old byte =
+    (after : Reader) (events done : List Placed) (bytes : List ℕ) → StandsAfter old events bytes →
+    are_one_command done ≡ true → StandsAfter after (events ++ done) (bytes ++ byte ∷ []) → ⊥
 
 -- whatever the reader had read, this is the fault of those bytes with the next one.
 -- Its offset is that of the next byte, and the reader keeps it

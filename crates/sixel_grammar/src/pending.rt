@@ -61,7 +61,7 @@ pub(crate) struct Both {
 }
 
 #[inline]
-fn is_filler(byte: u8) -> bool
+pub(crate) fn is_filler(byte: u8) -> bool
     ensures { result ≡ filler_test byte }
 {
     matches!(byte, b'\t' | b'\n' | b'\r' | b' ')
@@ -156,8 +156,8 @@ impl Pending {
     }
 
     /// The command that the byte ends, if the byte is filler, ESC or another command's introducer.
+    #[inline(always)]
     pub(crate) fn end_command(&mut self, byte: u8) -> Option<Command>
-        requires { only_grown (within_of (form_of self.old) byte) ≡ None }
         ensures ended { IfSome result (λ command.
             next_of (form_of self.old) byte ≡ Some (Some (step_of command), form_of self.new, None)) }
         ensures not_ended { IsNone result → OnSome (settled_of (form_of self.old)) (only_grown (begin_of byte) ≡ None) }

@@ -8,14 +8,14 @@ ghost use Rattle.sixel_grammar.specs.Bytes.{is_data as data_test, is_digit as di
 ghost use Rattle.sixel_grammar.specs.Document.{Document, most_bytes};
 ghost use Rattle.sixel_grammar.specs.Faults.{IsFaultOf, NoCommand as NoCommandForm};
 ghost use Rattle.sixel_grammar.specs.Next.{begin as begin_of, settled as settled_of, within as within_of, only_grown};
-ghost use Rattle.sixel_grammar.specs.Next.{ends_repeat, makes_columns};
+ghost use Rattle.sixel_grammar.specs.Next.{ends_repeat, makes_columns, makes_move};
 ghost use Rattle.sixel_grammar.specs.Pending.{form_of};
 ghost use Rattle.sixel_grammar.specs.Plain.{plain_of};
 ghost use Rattle.sixel_grammar.specs.declared.command.Plain.TheVariants.{Command as plain_command};
 
 use crate::command::{Command, Completed, Event, Placed, Plain, Stretch};
 use crate::fault::{Fault, Reason};
-use crate::pending::Pending;
+use crate::pending::{Pending, is_filler};
 use crate::stretch::data_bytes_in;
 
 /// The greatest length of a document.
@@ -42,7 +42,8 @@ pub struct Reader {
 }
 
 impl Reader {
-    ghost use Rattle.sixel_grammar.specs.Standing.{IsNotPlain, Refuses, StandsAfter, Takes, are_plain, completions};
+    ghost use Rattle.sixel_grammar.specs.Standing.{IsNotOneCommand, IsNotPlain, Refuses, StandsAfter, Takes};
+    ghost use Rattle.sixel_grammar.specs.Standing.{are_plain, completions};
     ghost use Rattle.sixel_grammar.specs.Standing.{fault_of, opened_after};
     ghost use Rattle.sixel_grammar.specs.Stretches.{IsNoSixel, TakesSixels};
 
@@ -98,6 +99,33 @@ impl Reader {
         Some(Plain::Nothing)
     }
 
+    /// Reads one byte as `feed` does, if the byte completes nothing or one command.
+    ///
+    /// `None` means that it completes the start, the finish or two commands, or is invalid. Then it wasn't read, and
+    /// nothing has changed: give it to `feed`, which takes every byte. This method is faster.
+    #[inline(always)]
+    pub fn feed_command(&mut self, byte: u8) -> Option<Plain>
+        ensures accepted { IfSome result (λ p. Takes self.old self.new byte (completions (plain_of p))) }
+        ensures kept { IsNone result → self.new ≡ self.old }
+        ensures stopped { IsSome (fault_of self.old) → IsNone result }
+        ensures refused { IsNone result → IsNotOneCommand self.old byte }
+    {
+        if let Some(quick) = self.feed_quickly(byte) {
+            return Some(quick);
+        }
+        if let Some(moved) = self.take_move(byte) {
+            return Some(moved);
+        }
+        if let Some(ended) = self.end_command(byte) {
+            return Some(ended);
+        }
+        if self.try_grow(byte) {
+            Some(Plain::Nothing)
+        } else {
+            None
+        }
+    }
+
     /// The fast paths, which take nearly all bytes: a single sixel, a digit, a separator of colour fields, a repeat
     /// from its introducer to its data byte.
     #[inline(always)]
@@ -109,7 +137,7 @@ impl Reader {
         ensures refused { IsNone result → 0 < self.old.left → makes_columns (form_of self.old.pending) byte ≡ false }
     {
         if self.is_sixel(byte) {
-            Some(self.take_sixel(byte))
+            Some(self.take_alone(Command::Sixel(byte - b'?')))
         } else if byte.is_ascii_digit() {
             self.take_digit(byte)
         } else if byte == b';' {
@@ -229,22 +257,54 @@ impl Reader {
         byte.wrapping_sub(b'?') < self.sixels
     }
 
+    /// Takes `$`, `-` or filler, if no command is open.
+    #[inline(always)]
+    fn take_move(&mut self, byte: u8) -> Option<Plain>
+        ensures accepted { IfSome result (λ p. Takes self.old self.new byte (completions (plain_of p))) }
+        ensures kept { IsNone result → self.new ≡ self.old }
+        ensures stopped { IsSome (fault_of self.old) → IsNone result }
+        ensures refused { IsNone result → 0 < self.old.left → makes_move (form_of self.old.pending) byte ≡ false }
+    {
+        if self.sixels == 0 {
+            return None;
+        }
+        match byte {
+            b'$' => Some(self.take_alone(Command::CarriageReturn)),
+            b'-' => Some(self.take_alone(Command::NextLine)),
+            _ if is_filler(byte) => {
+                self.pass();
+                Some(Plain::Nothing)
+            }
+            _ => None,
+        }
+    }
+
+    /// Takes a byte that is a whole command, while no command is open.
     #[inline]
-    fn take_sixel(&mut self, byte: u8) -> Plain
-        requires data { IsTrue (data_test byte) }
-        requires left { 0 < self.old.left }
-        ensures completed { result ≡ plain_command (most_bytes - self.old.left) (Command.Sixel (byte - 63)) }
+    fn take_alone(&mut self, command: Command) -> Plain
+        requires { 0 < self.old.left }
+        ensures completed { result ≡ plain_command (most_bytes - self.old.left) command }
         ensures pending { self.new.pending ≡ self.old.pending }
         ensures fault { self.new.fault ≡ self.old.fault }
         ensures left { self.new.left ≡ self.old.left - 1 }
     {
         let place = MOST_BYTES - self.left;
+        self.pass();
+        Plain::Command { place, command }
+    }
+
+    /// Takes a byte, and keeps what is open.
+    #[inline]
+    fn pass(&mut self)
+        requires { 0 < self.old.left }
+        ensures pending { self.new.pending ≡ self.old.pending }
+        ensures fault { self.new.fault ≡ self.old.fault }
+        ensures left { self.new.left ≡ self.old.left - 1 }
+    {
         self.left -= 1;
         if self.left == 0 {
             self.sixels = 0;
         }
-        let command = Command::Sixel(byte - b'?');
-        Plain::Command { place, command }
     }
 
     /// Takes a byte that continues what is open and completes nothing. Returns whether it did.
@@ -270,9 +330,8 @@ impl Reader {
     }
 
     /// The command that the byte ends, if it completes nothing else.
-    #[inline(never)]
+    #[inline(always)]
     fn end_command(&mut self, byte: u8) -> Option<Plain>
-        requires { 0 < self.old.left → only_grown (within_of (form_of self.old.pending) byte) ≡ None }
         ensures accepted { IfSome result (λ p. Takes self.old self.new byte (completions (plain_of p))) }
         ensures kept { IsNone result → self.new ≡ self.old }
         ensures stopped { IsSome (fault_of self.old) → IsNone result }

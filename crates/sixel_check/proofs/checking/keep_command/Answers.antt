@@ -22,3 +22,27 @@ returns-in-Repeat-clause-grows g c =
     → StandsAfter registers c.args.checker.now seen
     → MayGrowAmong registers (seen ++ record { place = c.args.place; event = Step k } ∷ [])))
     (sym c.in-Repeat.is) c.push_command-in-Repeat.ensures.grows
+
+pub returns-in-CarriageReturn-clause-grows : goal.returns-in-CarriageReturn-clause-grows
+returns-in-CarriageReturn-clause-grows g c =
+    subst
+    (λ (k : Command). OnErr c.push_command-in-CarriageReturn.result ((registers : ℕ) (seen : List Placed)
+    → StandsAfter registers c.args.checker.now seen
+    → MayGrowAmong registers (seen ++ record { place = c.args.place; event = Step k } ∷ [])))
+    (sym c.in-CarriageReturn.is) c.push_command-in-CarriageReturn.ensures.grows
+
+pub returns-in-NextLine-clause-grows : goal.returns-in-NextLine-clause-grows
+returns-in-NextLine-clause-grows g c =
+    subst
+    (λ (k : Command). OnErr c.push_command-in-NextLine.result ((registers : ℕ) (seen : List Placed)
+    → StandsAfter registers c.args.checker.now seen
+    → MayGrowAmong registers (seen ++ record { place = c.args.place; event = Step k } ∷ [])))
+    (sym c.in-NextLine.is) c.push_command-in-NextLine.ensures.grows
+
+pub returns-in-Select-clause-grows : goal.returns-in-Select-clause-grows
+returns-in-Select-clause-grows g c =
+    subst
+    (λ (k : Command). OnErr c.push_command-in-Select.result ((registers : ℕ) (seen : List Placed)
+    → StandsAfter registers c.args.checker.now seen
+    → MayGrowAmong registers (seen ++ record { place = c.args.place; event = Step k } ∷ [])))
+    (sym c.in-Select.is) c.push_command-in-Select.ensures.grows

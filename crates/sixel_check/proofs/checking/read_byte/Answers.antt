@@ -14,25 +14,25 @@ pub keep_command-requires : goal.keep_command-requires
 keep_command-requires g c =
     let a = c.requires.2 in
     let plain = Command c.in-Some-Command.place c.in-Some-Command.command in
-    let takes = λ (p : Plain). Takes c.args.reader.now c.feed_plain.new.self c.args.byte (completions (plain_of p)) in
+    let takes = λ (p : Plain). Takes c.args.reader.now c.feed_command.new.self c.args.byte (completions (plain_of p)) in
     let accepted : takes plain = subst takes c.in-Some-Command.field-0-is c.in-Some-Command.ensures.accepted in
-    let may = read_may c.feed_plain.new.self a.events (plain_of plain) (c.requires.1 ++ c.args.byte ∷ [])
+    let may = read_may c.feed_command.new.self a.events (plain_of plain) (c.requires.1 ++ c.args.byte ∷ [])
     (accepted a.events c.requires.1 a.read) in
     (c.requires.0, a.events, a.checked, may.0)
 
 pub returns-in-Some-Nothing-clause-read : goal.returns-in-Some-Nothing-clause-read
 returns-in-Some-Nothing-clause-read g c = λ registers prefix a.
-    let takes = λ (p : Plain). Takes c.args.reader.now c.feed_plain.new.self c.args.byte (completions (plain_of p)) in
+    let takes = λ (p : Plain). Takes c.args.reader.now c.feed_command.new.self c.args.byte (completions (plain_of p)) in
     let accepted : takes Nothing = subst takes c.in-Some-Nothing.field-0-is c.in-Some-Nothing.ensures.accepted in
-    after_byte c.args.reader.now c.feed_plain.new.self c.args.checker.now c.args.checker.now (plain_of Nothing) prefix
+    after_byte c.args.reader.now c.feed_command.new.self c.args.checker.now c.args.checker.now (plain_of Nothing) prefix
     c.args.byte accepted (λ seen s. subst (StandsAfter registers c.args.checker.now) (sym (append-nil seen)) s) a
 
 pub returns-in_ok-keep_command-in-Some-Command-clause-read : goal.returns-in_ok-keep_command-in-Some-Command-clause-read
 returns-in_ok-keep_command-in-Some-Command-clause-read g c = λ registers prefix a.
     let plain = Command c.in-Some-Command.place c.in-Some-Command.command in
-    let takes = λ (p : Plain). Takes c.args.reader.now c.feed_plain.new.self c.args.byte (completions (plain_of p)) in
+    let takes = λ (p : Plain). Takes c.args.reader.now c.feed_command.new.self c.args.byte (completions (plain_of p)) in
     let accepted : takes plain = subst takes c.in-Some-Command.field-0-is c.in-Some-Command.ensures.accepted in
-    after_byte c.args.reader.now c.feed_plain.new.self c.args.checker.now c.keep_command.new.checker
+    after_byte c.args.reader.now c.feed_command.new.self c.args.checker.now c.keep_command.new.checker
     (plain_of plain) prefix
     c.args.byte accepted (c.in_ok-keep_command-in-Some-Command.ensures.kept registers) a
 
@@ -43,7 +43,7 @@ returns-in_err-keep_command-in-Some-Command-clause-memory g c =
     rw (failed.1, failed.2)
     (λ registers prefix a.
     let plain = Command c.in-Some-Command.place c.in-Some-Command.command in
-    let takes = λ (p : Plain). Takes c.args.reader.now c.feed_plain.new.self c.args.byte (completions (plain_of p)) in
+    let takes = λ (p : Plain). Takes c.args.reader.now c.feed_command.new.self c.args.byte (completions (plain_of p)) in
     let accepted : takes plain = subst takes c.in-Some-Command.field-0-is c.in-Some-Command.ensures.accepted in
-    grows_byte c.args.reader.now c.feed_plain.new.self c.args.checker.now (plain_of plain) c.args.byte prefix accepted
+    grows_byte c.args.reader.now c.feed_command.new.self c.args.checker.now (plain_of plain) c.args.byte prefix accepted
     (c.in_err-keep_command-in-Some-Command.ensures.grows registers) a)
