@@ -10,7 +10,7 @@ use Rattle.sixel_grammar.specs.Bytes.{is_filler, is_data, is_digit}
 use Rattle.sixel_grammar.specs.Faults.{Form, NothingYet, Introducing, Parameters, LastSeparator, NoCommand}
 use Rattle.sixel_grammar.specs.Faults.{RepeatNumber, RasterFields, ColourFields, Terminating, Ended}
 use Rattle.sixel_grammar.specs.Next.{with_digit, number_next, begin, within, settled, chosen, only_grown}
-use Rattle.sixel_grammar.specs.Next.{makes_columns, makes_move}
+use Rattle.sixel_grammar.specs.Next.{ends_repeat, makes_command}
 use Rattle.sixel_grammar.specs.Pending.{form_of}
 use Rattle.sixel_grammar.specs.Standing.{StandsAfter, are_one_command, is_command, opened_after}
 use Rattle.sixel_grammar.proofs.NotPlainLemmas.{Completes, completed}
@@ -23,12 +23,13 @@ whole_command (Some (f, Some e)) = is_command e
 abbrev No : Option (Form × Option Event) → Type 0
 No w = whole_command w ≡ false
 
-or_parts : (a b : Bool) → (a || b) ≡ false → (a ≡ false) × (b ≡ false)
-or_parts true b h = cc
-or_parts false b h = (refl, h)
+none_of : (a b c : Bool) → (a || b || c) ≡ false → (a ≡ false) × (b ≡ false) × (c ≡ false)
+none_of true b c h = cc
+none_of false true c h = cc
+none_of false false c h = (refl, refl, h)
 
-begins_none : (b : ℕ) → is_data b ≡ false → eqb b 36 ≡ false → eqb b 45 ≡ false → No (begin b)
-begins_none b other return line =
+begins_none : (b : ℕ) → eqb b 36 ≡ false → eqb b 45 ≡ false → is_data b ≡ false → No (begin b)
+begins_none b return line other =
     cond_both (is_data b) _ _ No (λ t. absurd (both_ways (is_data b) other t))
     (λ _. cond_both (is_filler b) _ _ No (λ _. refl)
     (λ _. cond_both (eqb b 33) _ _ No (λ _. refl)
@@ -43,7 +44,7 @@ digit_none : (form : ℕ → Form) (n b : ℕ) → No (number_next form n b)
 digit_none form n b = cond_both (leb (with_digit n b) 65535) _ _ No (λ _. refl) (λ _. refl)
 
 -- a byte that continues what is open
-whole_none : (f : Form) (b : ℕ) → makes_columns f b ≡ false → makes_move f b ≡ false → No (within f b)
+whole_none : (f : Form) (b : ℕ) → ends_repeat f b ≡ false → makes_command f b ≡ false → No (within f b)
 whole_none NothingYet b other still =
     cond_both (is_filler b) _ _ No (λ _. refl)
     (λ _. cond_both (eqb b 27) _ _ No (λ _. refl)
@@ -58,7 +59,7 @@ whole_none (Parameters eight ns n) b other still =
     (λ _. refl))
 whole_none (LastSeparator eight ns) b other still = cond_both (eqb b 113) _ _ No (λ _. refl) (λ _. refl)
 whole_none NoCommand b other still =
-    let both = or_parts (eqb b 36) (eqb b 45) still in begins_none b other both.0 both.1
+    let none = none_of (eqb b 36) (eqb b 45) (is_data b) still in begins_none b none.0 none.1 none.2
 whole_none (RepeatNumber n) b other still =
     cond_both (is_digit b) _ _ No (λ _. digit_none RepeatNumber n b)
     (λ _. cond_both (is_data b) _ _ No (λ t. absurd (both_ways (is_data b) other t)) (λ _. refl))
@@ -83,12 +84,12 @@ none_one opened n done (Some (f, Some d)) s y g h e few c = cc (ap are_one_comma
 
 pub not_one_command : (r q : Reader) (events done : List Placed) (bytes : List ℕ) (b : ℕ)
     → (0 < r.left → only_grown (within (form_of r.pending) b) ≡ None)
-    → (0 < r.left → makes_columns (form_of r.pending) b ≡ false)
-    → (0 < r.left → makes_move (form_of r.pending) b ≡ false)
+    → (0 < r.left → ends_repeat (form_of r.pending) b ≡ false)
+    → (0 < r.left → makes_command (form_of r.pending) b ≡ false)
     → (0 < r.left → OnSome (settled (form_of r.pending)) (only_grown (begin b) ≡ None))
     → StandsAfter r events bytes → are_one_command done ≡ true → StandsAfter q (events ++ done) (bytes ++ b ∷ []) → ⊥
-not_one_command r q events done bytes b grown columns move ends_none s few t =
+not_one_command r q events done bytes b grown repeat whole ends_none s few t =
     let f = form_of r.pending in
     let c = completed r q events done bytes b s t in
     none_one (opened_after (length bytes) r) (length bytes) done (within f b) (settled f) (begin b) (grown c.0)
-    (whole_none f b (columns c.0) (move c.0)) (ends_none c.0) few c.1
+    (whole_none f b (repeat c.0) (whole c.0)) (ends_none c.0) few c.1

@@ -96,10 +96,10 @@ abbrev pub makes_columns : Form → ℕ → Bool
 makes_columns NoCommand b = is_data b
 makes_columns f b = ends_repeat f b
 
--- whether the byte is `$` or `-`, and no command is open
-abbrev pub makes_move : Form → ℕ → Bool
-makes_move NoCommand b = (b == 36) || (b == 45)
-makes_move _ b = false
+-- whether the byte is a single sixel, `$` or `-`
+abbrev pub makes_command : Form → ℕ → Bool
+makes_command NoCommand b = (b == 36) || (b == 45) || is_data b
+makes_command _ b = false
 
 -- the command that the byte ends, what is open after it, and the event that it completes
 abbrev pub chosen : Option (Form × Option Event) → Option Event → Option (Form × Option Event)

@@ -68,7 +68,7 @@ pub(crate) fn is_filler(byte: u8) -> bool
 }
 
 #[inline]
-fn is_data(byte: u8) -> bool
+pub(crate) fn is_data(byte: u8) -> bool
     ensures { result ≡ data_test byte }
 {
     b'?' <= byte && byte <= b'~'
@@ -138,10 +138,7 @@ impl Pending {
     pub(crate) fn is_between_commands(&self) -> bool
         ensures { IsTrue result ↔ (form_of self.now ≡ NoCommandForm) }
     {
-        match self.form {
-            Open::NoCommand => true,
-            _ => false,
-        }
+        matches!(self.form, Open::NoCommand)
     }
 
     /// The open command, if it has all its fields, so that the next byte may end it.
@@ -595,10 +592,7 @@ impl Pending {
     pub(crate) fn has_ended(&self) -> bool
         ensures { IsTrue result ↔ (form_of self.now ≡ EndedForm) }
     {
-        match self.form {
-            Open::Ended => true,
-            _ => false,
-        }
+        matches!(self.form, Open::Ended)
     }
 
     /// The fault's reason, if the byte can't follow.

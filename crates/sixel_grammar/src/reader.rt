@@ -8,14 +8,14 @@ ghost use Rattle.sixel_grammar.specs.Bytes.{is_data as data_test, is_digit as di
 ghost use Rattle.sixel_grammar.specs.Document.{Document, most_bytes};
 ghost use Rattle.sixel_grammar.specs.Faults.{IsFaultOf, NoCommand as NoCommandForm};
 ghost use Rattle.sixel_grammar.specs.Next.{begin as begin_of, settled as settled_of, within as within_of, only_grown};
-ghost use Rattle.sixel_grammar.specs.Next.{ends_repeat, makes_columns, makes_move};
+ghost use Rattle.sixel_grammar.specs.Next.{ends_repeat, makes_columns, makes_command};
 ghost use Rattle.sixel_grammar.specs.Pending.{form_of};
 ghost use Rattle.sixel_grammar.specs.Plain.{plain_of};
 ghost use Rattle.sixel_grammar.specs.declared.command.Plain.TheVariants.{Command as plain_command};
 
 use crate::command::{Command, Completed, Event, Placed, Plain, Stretch};
 use crate::fault::{Fault, Reason};
-use crate::pending::{Pending, is_filler};
+use crate::pending::{Pending, is_data, is_filler};
 use crate::stretch::data_bytes_in;
 
 /// The greatest length of a document.
@@ -110,11 +110,11 @@ impl Reader {
         ensures stopped { IsSome (fault_of self.old) → IsNone result }
         ensures refused { IsNone result → IsNotOneCommand self.old byte }
     {
-        if let Some(quick) = self.feed_quickly(byte) {
-            return Some(quick);
+        if let Some(inside) = self.feed_inside(byte) {
+            return Some(inside);
         }
-        if let Some(moved) = self.take_move(byte) {
-            return Some(moved);
+        if let Some(whole) = self.take_whole(byte) {
+            return Some(whole);
         }
         if let Some(ended) = self.end_command(byte) {
             return Some(ended);
@@ -138,7 +138,21 @@ impl Reader {
     {
         if self.is_sixel(byte) {
             Some(self.take_alone(Command::Sixel(byte - b'?')))
-        } else if byte.is_ascii_digit() {
+        } else {
+            self.feed_inside(byte)
+        }
+    }
+
+    /// The fast paths but that of a single sixel.
+    #[inline(always)]
+    fn feed_inside(&mut self, byte: u8) -> Option<Plain>
+        ensures accepted { IfSome result (λ p. Takes self.old self.new byte (completions (plain_of p))) }
+        ensures plain { IfSome result (λ p. are_plain (completions (plain_of p)) ≡ true) }
+        ensures kept { IsNone result → self.new ≡ self.old }
+        ensures stopped { IsSome (fault_of self.old) → IsNone result }
+        ensures refused { IsNone result → 0 < self.old.left → ends_repeat (form_of self.old.pending) byte ≡ false }
+    {
+        if byte.is_ascii_digit() {
             self.take_digit(byte)
         } else if byte == b';' {
             self.take_separator()
@@ -257,13 +271,13 @@ impl Reader {
         byte.wrapping_sub(b'?') < self.sixels
     }
 
-    /// Takes `$`, `-` or filler, if no command is open.
+    /// Takes a sixel, `$`, `-` or filler, if no command is open.
     #[inline(always)]
-    fn take_move(&mut self, byte: u8) -> Option<Plain>
+    fn take_whole(&mut self, byte: u8) -> Option<Plain>
         ensures accepted { IfSome result (λ p. Takes self.old self.new byte (completions (plain_of p))) }
         ensures kept { IsNone result → self.new ≡ self.old }
         ensures stopped { IsSome (fault_of self.old) → IsNone result }
-        ensures refused { IsNone result → 0 < self.old.left → makes_move (form_of self.old.pending) byte ≡ false }
+        ensures refused { IsNone result → 0 < self.old.left → makes_command (form_of self.old.pending) byte ≡ false }
     {
         if self.sixels == 0 {
             return None;
@@ -271,6 +285,7 @@ impl Reader {
         match byte {
             b'$' => Some(self.take_alone(Command::CarriageReturn)),
             b'-' => Some(self.take_alone(Command::NextLine)),
+            _ if is_data(byte) => Some(self.take_alone(Command::Sixel(byte - b'?'))),
             _ if is_filler(byte) => {
                 self.pass();
                 Some(Plain::Nothing)

@@ -1,7 +1,5 @@
-use Rattle.std.proofs.Common.{ℕ, refl, sym, ap, subst}
-use Rattle.std.specs.Prelude.{IfSome}
+use Rattle.std.proofs.Common.{refl, ap}
 use Rattle.sixel_grammar.specs.Plain.{plain_of}
-use Rattle.sixel_grammar.specs.Standing.{Takes, completions}
 use Rattle.sixel_grammar.proofs.StandLemmas.{sixel}
 use Rattle.sixel_grammar.proofs.reader.Reader.feed_quickly.Goals as goal
 
@@ -11,15 +9,3 @@ returns-then-is_sixel-clause-accepted c = λ events bytes s.
     sixel c.args.self.now c.take_alone.new.self events bytes c.args.byte (plain_of c.take_alone.result) s is.1 is.0 is.2
     c.take_alone.ensures.pending
     (ap plain_of c.take_alone.ensures.completed) c.take_alone.ensures.fault c.take_alone.ensures.left
-
-pub returns-then-byte-eq59-clause-accepted : goal.returns-then-byte-eq59-clause-accepted
-returns-then-byte-eq59-clause-accepted c =
-    subst (λ (b : ℕ).
-    IfSome c.take_separator.result (λ p. Takes c.args.self.now c.take_separator.new.self b (completions (plain_of p))))
-    (sym c.if-byte-eq59.true) c.take_separator.ensures.accepted
-
-pub returns-then-byte-eq33-clause-accepted : goal.returns-then-byte-eq33-clause-accepted
-returns-then-byte-eq33-clause-accepted c =
-    subst (λ (b : ℕ).
-    IfSome c.begin_repeat.result (λ p. Takes c.args.self.now c.begin_repeat.new.self b (completions (plain_of p))))
-    (sym c.if-byte-eq33.true) c.begin_repeat.ensures.accepted
