@@ -36,7 +36,10 @@ fn keep_one<P: Plane>(checker: &mut Checker<P>, placed: Option<Placed>) -> Resul
 {
     match placed {
         None => Ok(()),
-        Some(placed) => checker.push(&placed),
+        Some(placed) => match placed.event {
+            Event::Step(command) => keep_command(checker, placed.place, command),
+            _ => checker.push(&placed),
+        },
     }
 }
 
@@ -88,11 +91,40 @@ fn keep_command<P: Plane>(
         Command::CarriageReturn => push_command(checker, place, Command::CarriageReturn),
         Command::NextLine => push_command(checker, place, Command::NextLine),
         Command::Select(register) => push_command(checker, place, Command::Select(register)),
-        _ => push_rarely(checker, place, command),
+        Command::Define {
+            register,
+            system,
+            x,
+            y,
+            z,
+        } => {
+            let definition = Command::Define {
+                register,
+                system,
+                x,
+                y,
+                z,
+            };
+            push_command(checker, place, definition)
+        }
+        Command::Raster {
+            pan,
+            pad,
+            width,
+            height,
+        } => {
+            let raster = Command::Raster {
+                pan,
+                pad,
+                width,
+                height,
+            };
+            push_rarely(checker, place, raster)
+        }
     }
 }
 
-/// Pushes a command of any kind.
+/// Pushes a command. It isn't inlined.
 #[inline(never)]
 fn push_rarely<P: Plane>(
     checker: &mut Checker<P>,
@@ -122,8 +154,23 @@ fn read_byte<P: Plane>(
     match reader.feed_command(byte) {
         Some(Plain::Nothing) => Ok(()),
         Some(Plain::Command { place, command }) => Ok(keep_command(checker, place, command)?),
-        None => feed_and_keep(reader, checker, byte),
+        None => read_otherwise(reader, checker, byte),
     }
+}
+
+/// As `read_byte`, for any byte. The result has a local of its own here, so that the fast paths write no memory for it.
+#[inline(always)]
+fn read_otherwise<P: Plane>(
+    reader: &mut Reader,
+    checker: &mut Checker<P>,
+    byte: u8,
+) -> Result<(), InputFault>
+    requires { (registers : ℕ) × (prefix : List ℕ) × AreAfter registers reader.old checker.old prefix }
+    ensures read { OnOk result (TakesBytes reader.old checker.old reader.new checker.new (byte ∷ [])) }
+    ensures refused { IfErr result (RefusesBytes reader.old checker.old (byte ∷ [])) }
+    ensures memory { IfErr result (GrowsForBytes reader.old checker.old (byte ∷ [])) }
+{
+    feed_and_keep(reader, checker, byte)
 }
 
 /// As `read_byte`, for any byte.
@@ -206,6 +253,11 @@ fn read_stretch_or_byte<P: Plane>(
     ensures refused { IfErr result (RefusesBytes reader.old checker.old (take 1 bytes.now)) }
     ensures memory { IfErr result (GrowsForBytes reader.old checker.old (take 1 bytes.now)) }
 {
+    // No byte below `?` is data, so the compiler drops the code for data from this branch.
+    if bytes[0] < b'?' {
+        read_byte(reader, checker, bytes[0])?;
+        return Ok(1);
+    }
     let stretch = reader.feed_stretch(bytes);
     if stretch.count == 0 {
         read_byte(reader, checker, bytes[0])?;

@@ -46,3 +46,19 @@ returns-in-Select-clause-grows g c =
     → StandsAfter registers c.args.checker.now seen
     → MayGrowAmong registers (seen ++ record { place = c.args.place; event = Step k } ∷ [])))
     (sym c.in-Select.is) c.push_command-in-Select.ensures.grows
+
+pub returns-in-Define-clause-grows : goal.returns-in-Define-clause-grows
+returns-in-Define-clause-grows g c =
+    subst
+    (λ (k : Command). OnErr c.push_command-in-Define.result ((registers : ℕ) (seen : List Placed)
+    → StandsAfter registers c.args.checker.now seen
+    → MayGrowAmong registers (seen ++ record { place = c.args.place; event = Step k } ∷ [])))
+    (sym c.in-Define.is) c.push_command-in-Define.ensures.grows
+
+pub returns-in-Raster-clause-grows : goal.returns-in-Raster-clause-grows
+returns-in-Raster-clause-grows g c =
+    subst
+    (λ (k : Command). OnErr c.push_rarely.result ((registers : ℕ) (seen : List Placed)
+    → StandsAfter registers c.args.checker.now seen
+    → MayGrowAmong registers (seen ++ record { place = c.args.place; event = Step k } ∷ [])))
+    (sym c.in-Raster.is) c.push_rarely.ensures.grows

@@ -1,15 +1,16 @@
-use Rattle.std.proofs.Common.{◌++◌, Option, subst, sym}
-use Rattle.std.proofs.lemmas.Result.{on_err_weaker}
+use Rattle.std.proofs.Common.{◌≡◌, ◌∙◌, Option, Some, ap, subst, sym}
+use Rattle.std.specs.Prelude.{OnErr}
 use Rattle.std.specs.Option.{option_to_list}
+use Rattle.sixel_grammar.specs.declared.command.Event.{Event}
 use Rattle.sixel_grammar.specs.declared.command.Placed.{Placed}
-use Rattle.sixel_check.specs.Growth.{MayGrowAmong}
-use Rattle.sixel_check.proofs.GrowthLemmas.{grows_end}
+use Rattle.sixel_check.specs.Checking.{MayGrowOver, command_at}
 use Rattle.sixel_check.proofs.checking.keep_one.Goals as goal
 
-pub returns-in-Some-clause-grows : goal.returns-in-Some-clause-grows
-returns-in-Some-clause-grows g c =
-    on_err_weaker c.push.result
-    (λ grows registers seen s.
-    subst (λ (o : Option Placed). MayGrowAmong registers (seen ++ option_to_list o)) (sym c.in-Some.is)
-    (grows_end seen c.in-Some.placed (grows registers seen s)))
-    c.push.ensures.grows
+pub returns-in-Step-clause-grows : goal.returns-in-Step-clause-grows
+returns-in-Step-clause-grows g c =
+    let placed : Placed = c.in-Some.placed in
+    let is : command_at placed.place c.in-Step.command ≡ placed =
+    ap (λ (e : Event). record { place = placed.place; event = e }) (sym c.in-Step.is) in
+    let here : Some (command_at placed.place c.in-Step.command) ≡ c.args.placed = ap Some is ∙ sym c.in-Some.is in
+    subst (λ (o : Option Placed). OnErr c.keep_command.result (MayGrowOver c.args.checker.now (option_to_list o))) here
+    c.keep_command.ensures.grows

@@ -1,7 +1,6 @@
 use Rattle.std.proofs.Common.{◌≡◌, ◌<◌, ◌++◌, ℕ, List, [], ◌∷◌, arith, false, get_or, length, refl, take, true}
 use Rattle.sixel_grammar.specs.Stretches.{sixels_from}
 use Rattle.std.proofs.lemmas.List.{length-take-le}
-use Rattle.std.proofs.lemmas.Result.{err_from_is_err_and}
 use Rattle.sixel_check.proofs.ReadLemmas.{stretch_may}
 use Rattle.sixel_check.proofs.checking.read_stretch_or_byte.Goals as goal
 
@@ -48,37 +47,3 @@ returns g c =
 
 pub returns-in_err-push_stretch : goal.returns-in_err-push_stretch
 returns-in_err-push_stretch g c = absurd (let bad : false ≡ true = c.in_err-push_stretch.ensures.always in cc)
-
-pub read_byte-requires : goal.read_byte-requires
-read_byte-requires g c = (
-  c.requires.stands.0,
-  c.requires.stands.1,
-  rw (c.feed_stretch-stretch.ensures.kept c.if-stretch-eq0.true) c.requires.stands.2,
-)
-
-pub returns-then-stretch-eq0 : goal.returns-then-stretch-eq0
-returns-then-stretch-eq0 g c = record {
-  some = omega arith;
-  within = omega arith;
-  read = λ registers prefix a.
-      rw (first_byte c.args.bytes.now c.requires.some)
-      (c.in_ok-read_byte.ensures.read registers prefix
-      (rw (c.feed_stretch-stretch.ensures.kept c.if-stretch-eq0.true) a));
-  refused = tt;
-  memory = tt;
-}
-
-pub returns-in_err-read_byte : goal.returns-in_err-read_byte
-returns-in_err-read_byte g c =
-    let failed = err_from_is_err_and c.from_residual.result c.from_residual.ensures.1 in
-    let same = c.feed_stretch-stretch.ensures.kept c.if-stretch-eq0.true in
-    let first = first_byte c.args.bytes.now c.requires.some in
-    record {
-      some = rw failed.1 tt;
-      within = rw failed.1 tt;
-      read = rw failed.1 tt;
-      refused = rw (failed.1, failed.2)
-          (λ registers prefix a. rw first (c.in_err-read_byte.ensures.refused registers prefix (rw same a)));
-      memory = rw (failed.1, failed.2)
-          (λ registers prefix a. rw first (c.in_err-read_byte.ensures.memory registers prefix (rw same a)));
-    }
