@@ -1,8 +1,7 @@
 -- Lemmas for a run of `show --box`.
-use Rattle.std.proofs.Common.{◌≡◌, ◌∙◌, ℕ, Bool, true, false, List, [], ◌∷◌, ◌++◌, take, Option, Some, None, refl, sym}
-use Rattle.std.proofs.Common.{ap, ap₂, subst, inl, inr, ◌+◌, add-one}
-use Rattle.std.specs.Prelude.{◌&&◌, option_and_then, option_map, slice_get, IfSome, IsTrue, Result, Ok, Err}
-use Rattle.std.specs.Option.{option_or}
+use Rattle.std.proofs.Common.{◌≡◌, ◌∙◌, ℕ, Bool, true, false, List, [], Option, Some, None, refl, sym}
+use Rattle.std.proofs.Common.{ap, subst, inl, inr}
+use Rattle.std.specs.Prelude.{◌&&◌, option_and_then, IsTrue, Result, Ok, Err}
 use Rattle.std.specs.Bool.{then_some}
 use Rattle.sixel_grammar.specs.declared.command.Event.{Event}
 use Rattle.sixel_grammar.specs.declared.command.Placed.{Placed}
@@ -11,13 +10,9 @@ use Rattle.sixel_grammar.specs.Document.{Document, events_of}
 use Rattle.sixel_grammar.specs.Faults.{IsFaultOf}
 use Rattle.sixel_grammar.proofs.TotalLemmas.{judged}
 use Rattle.sixel_grammar.proofs.UniqueLemmas.{document_once, fault_no_document, fault_once}
-use Rattle.sixel_model.specs.Events.{Attributes, raster_of}
+use Rattle.sixel_model.specs.Events.{Attributes}
 use Rattle.sixel_ppm.specs.Ppm.{is_file_side}
-use Rattle.sixel_model.specs.Positions.{earliest}
 use Rattle.sixel_model.specs.Rules.{raster_before}
-use Rattle.sixel_model.proofs.FirstLemmas.{earliest_there}
-use Rattle.sixel_model.proofs.LatestLemmas.{take_one_more}
-use Rattle.sixel_model.proofs.PositionLemmas.{earliest_push}
 use Rattle.sixel_terminal.specs.Displays.{Display}
 use Rattle.sixel_run.specs.declared.fault.RunFault.{RunFault}
 use Rattle.sixel_run.specs.declared.fault.RunFault.TheVariants.{Grammar, NotRgb, NoBox, OutOfMemory, Read, Write}
@@ -29,61 +24,6 @@ use Rattle.sixel_run.proofs.ScreenLemmas.{show-gives, show-once}
 
 abbrev Sides : Type 0
 Sides = ℕ × ℕ
-
--- ---- the first raster attributes
-
-abbrev size_of : Attributes → Sides
-size_of a = (a.width, a.height)
-
-abbrev pub raster_at : Placed → Option Attributes
-raster_at p = raster_of p.event
-
-first-raster : (xs : List Placed) → raster_before (events_of xs) ≡ earliest raster_at xs
-unfolding raster_before earliest
-first-raster [] = refl
-first-raster (p ∷ ps) = ap (option_or (raster_at p)) (first-raster ps)
-
-none-in : (o : Option Attributes) → None ≡ option_map size_of o → o ≡ None
-none-in None e = refl
-none-in (Some a) e = cc
-
--- no raster attributes before the event or in it
-none-later : (xs : List Placed) (p : Placed) → earliest raster_at xs ≡ None
-    → None ≡ option_map size_of (raster_of p.event)
-    → earliest raster_at (xs ++ p ∷ []) ≡ None
-none-later xs p before here =
-    earliest_push raster_at xs p ∙ ap₂ (λ a b. option_or a b) before (none-in (raster_at p) here)
-
-pub none-yet : (xs : List Placed) (p : Placed) (i : ℕ) → slice_get xs i ≡ Some p → earliest raster_at (take i xs) ≡ None
-    → None ≡ option_map size_of (raster_of p.event) → earliest raster_at (take (i + 1) xs) ≡ None
-none-yet xs p i there before here =
-    rw add-one (ap (earliest raster_at) (take_one_more xs i p there) ∙ none-later (take i xs) p before here)
-
--- the first raster attributes are those of the first event that has any
-sides-at : (events : List Placed) (o : Option Attributes) (p : Placed) (i width height : ℕ) → raster_at p ≡ o
-    → slice_get events i ≡ Some p → earliest raster_at (take i events) ≡ None
-    → Some (width, height) ≡ option_map size_of o
-    → declared_screen (events_of events) ≡ sides_of_box width height
-unfolding declared_screen
-sides-at events None p i width height is here before e = cc
-sides-at events (Some a) p i width height is here before e =
-    let same : (width, height) ≡ (a.width, a.height) = cc in
-    let first : raster_before (events_of events) ≡ Some a = first-raster events
-    ∙ earliest_there raster_at i events p a here before is in
-    ap (option_and_then (λ (b : Attributes). sides_of_box b.width b.height)) first
-    ∙ ap (λ (s : Sides). sides_of_box s.0 s.1) (sym same)
-
-pub declared-there : (events : List Placed) (p : Placed) (i width height : ℕ) → slice_get events i ≡ Some p
-    → earliest raster_at (take i events) ≡ None
-    → Some (width, height) ≡ option_map size_of (raster_of p.event)
-    → declared_screen (events_of events) ≡ sides_of_box width height
-declared-there events p i width height = sides-at events (raster_at p) p i width height refl
-
-pub declared-nowhere : (events : List Placed) → earliest raster_at events ≡ None
-    → declared_screen (events_of events) ≡ None
-unfolding declared_screen
-declared-nowhere events none =
-    ap (option_and_then (λ (b : Attributes). sides_of_box b.width b.height)) (first-raster events ∙ none)
 
 -- ---- a document with a box
 
@@ -251,12 +191,3 @@ written-boxed terminal bytes d sides (Err Write) had has doc is w =
     (w.0, w.1, λ text answer g. w.2 text answer (unboxed terminal bytes d sides doc is text answer g))
 written-boxed terminal bytes d sides answer had has doc is w =
     (w.0, boxed terminal bytes d sides doc is w.0 answer w.1, w.2)
-
-pub shown-boxed : (terminal : Sides → Display) (told : Option (List ℕ)) (d : List Placed) (sides : Sides)
-    (answer : Result Status RunFault) (had has : Option (List ℕ)) → IfSome told (Document d)
-    → declared_screen (events_of d) ≡ Some sides
-    → ((bytes : List ℕ) → Document d bytes → WroteBy (ShowGives (terminal sides) bytes) WroteNothing answer had has)
-    → IfSome told (λ (bytes : List ℕ). WroteBy (ShowBoxGives terminal bytes) WroteNothing answer had has)
-shown-boxed terminal None d sides answer had has doc is w = tt
-shown-boxed terminal (Some bytes) d sides answer had has doc is w =
-    written-boxed terminal bytes d sides answer had has doc is (w bytes doc)

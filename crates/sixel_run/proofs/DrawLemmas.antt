@@ -8,7 +8,7 @@ use Rattle.sixel_grammar.specs.Stretches.{sixels_from}
 use Rattle.sixel_grammar.specs.declared.command.Command.TheVariants.{Sixel}
 use Rattle.sixel_grammar.specs.declared.command.Event.TheVariants.{Step}
 use Rattle.sixel_terminal.specs.Stretches.{sixels_of}
-use Rattle.std.proofs.Common.{◌+◌, ◌-◌}
+use Rattle.std.proofs.Common.{◌+◌, ◌-◌, ◌<◌, arith, get_or, length, take}
 use Rattle.sixel_terminal.specs.Drawings.{Drawn, HasDrawn}
 use Rattle.sixel_run.specs.Draw.{Draws}
 
@@ -43,3 +43,7 @@ pub sixels_then : (events : List Placed) (place : ℕ) (bytes : List ℕ)
 sixels_then events place bytes =
     events-then events (sixels_from place bytes)
     ∙ ap (λ (es : List Event). events_of events ++ es) (sixels_are place bytes)
+
+pub first_byte : (bytes : List ℕ) → 0 < length bytes → take 1 bytes ≡ get_or bytes 0 0 ∷ []
+first_byte [] some = absurd (omega arith)
+first_byte (b ∷ rest) some = refl

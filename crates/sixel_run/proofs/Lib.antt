@@ -6,6 +6,7 @@ pub mod PictureLemmas
 pub mod FileLemmas
 pub mod ScreenLemmas
 pub mod DrawLemmas
+pub mod StageLemmas
 pub mod BoxLemmas
 pub mod RunLemmas
 pub mod RoundTripLemmas

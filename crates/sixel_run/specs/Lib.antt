@@ -4,5 +4,6 @@ pub mod Conversions
 pub mod Screens
 pub mod Outputs
 pub mod Draw
+pub mod Boxes
 pub mod Feeding
 pub mod Laws

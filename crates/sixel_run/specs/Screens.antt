@@ -1,5 +1,5 @@
 -- The terminal that shows a picture, and the PPM of its screen.
-use Rattle.std.specs.Prelude.{ℕ, ◌*◌, ◌%◌, ◌&&◌, Bool, true, false, List, Option, map, replicate, if◌then◌else◌}
+use Rattle.std.specs.Prelude.{◌≡◌, ℕ, ◌*◌, ◌%◌, ◌&&◌, Bool, true, false, List, Option, map, replicate, if◌then◌else◌}
 use Rattle.std.specs.Bool.{then_some}
 use Rattle.std.specs.List.{range_with_len}
 use Rattle.std.specs.Option.{option_and_then}
@@ -17,6 +17,7 @@ use Rattle.sixel_terminal.specs.declared.choices.Ground.TheVariants.{Kept, Fille
 use Rattle.sixel_terminal.specs.Displays.{Display}
 use Rattle.sixel_terminal.specs.Drawing.{screen_on}
 use Rattle.sixel_terminal.specs.Limits.{display_of}
+use Rattle.sixel_terminal.specs.Screens.{Shown}
 use Rattle.sixel_run.specs.Texts.{Text}
 
 -- showing, fill (with register 0), selects and the size are asked for; the other choices are fixed
@@ -69,6 +70,12 @@ declared_screen events = option_and_then (λ a. sides_of_box a.width a.height) (
 abbrev pub screen_terminal : Profile → Bool → Bool → Bool → ℕ × ℕ → Display
 screen_terminal profile showing fill selects sides =
     show_terminal profile (show_choices showing fill selects sides.0 sides.1)
+
+-- the screen is that of the terminal after the events
+pub record IsScreenAfter (t : Display) (screen : Shown) (events : List Event) : Type 0 where
+  pub width : screen.width ≡ t.choices.screen_width
+  pub height : screen.height ≡ t.choices.screen_height
+  pub colours : screen.colours ≡ screen_on t events
 
 -- the PPM of the terminal's screen after the events
 unfoldable pub screen_text : Display → List Event → Text

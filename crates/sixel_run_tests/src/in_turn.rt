@@ -169,6 +169,15 @@ const BOXED: Case = Case {
     ..RENDERED
 };
 
+/// A column painted in register 1, the grey of 6 percent, and then the box: 19 bytes.
+const BOXED_LATE: Case = Case {
+    task: SHOW_BOX,
+    bytes: b"\x1bPq#1@\"1;1;1;1#2@\x1b\\",
+    text: b"P6\n1 1\n100\n\x06\x06\x06",
+    answer: Ok(Status::Done),
+    calls: [(1, 20, 14), (5, 5, 3), (64, 2, 1)],
+};
+
 /// A document of 5 bytes without a box: no screen.
 const UNBOXED: Case = Case {
     task: SHOW_BOX,
@@ -392,6 +401,7 @@ fn each_call_of_a_device_fails(rt: HostRuntime) {
     assert!(rt; stops(rt.alloc(), SHOWN));
     assert!(rt; stops(rt.alloc(), SHOWN_FAULT));
     assert!(rt; stops(rt.alloc(), BOXED));
+    assert!(rt; stops(rt.alloc(), BOXED_LATE));
     assert!(rt; stops(rt.alloc(), UNBOXED));
     assert!(rt; stops(rt.alloc(), BOXED_FAULT));
 }

@@ -59,6 +59,11 @@ laid_plain n colour inks long each =
     (omega (arith, lt, long, length-replicate n colour))
     ∙ ap (λ c. Fixed c) (get_or-same n colour i)))
 
+-- the pixels of a plain screen
+pub plain_inks : (n : ℕ) (colour : Parts) → replicate n (Fixed colour) ≡ map (λ c. Fixed c) (replicate n colour)
+plain_inks zero colour = refl
+plain_inks (suc n) colour = ap (λ (inks : List Ink). Fixed colour ∷ inks) (plain_inks n colour)
+
 -- ---- one more event
 
 pub drawn_push : (d : Drawn) (before : List Event) (e : Event) (p : Pen) (colours : List Parts) (inks : List Ink)

@@ -2,6 +2,7 @@
 use Rattle.std.proofs.Common.{◌≡◌, ◌+◌, ◌*◌, ◌/◌, ◌%◌, ◌<◌, ◌≤◌, ◌∙◌, ℕ, zero, suc, refl, sym, ap, arith}
 use Rattle.std.proofs.Common.{[], ◌∷◌, false, nat_lt}
 use Rattle.std.proofs.lemmas.Bool.{lt-ltb}
+use Rattle.std.specs.Int.{to_le_bytes, w32}
 use Rattle.sixel_model.specs.declared.colour.Parts.TheVariants.{Rgb, Hls}
 use Rattle.sixel_terminal.specs.declared.pixel.Ink.{Ink}
 use Rattle.sixel_terminal.specs.declared.pixel.Ink.TheVariants.{Fixed, Bound}
@@ -47,28 +48,27 @@ is_code ink code is same =
     let back : ink_of code ≡ ink = ap ink_of same ∙ ink_back ink is in
     record { same = same ∙ ap code_of (sym back); ink = rw back is }
 
-four : (code a b c highest : ℕ) → code ≡ packed a b c highest → a < 256 → b < 256 → c < 256
-    → (code % 256) ∷ (code / 256 % 256) ∷ (code / 65536 % 256) ∷ (code / 16777216) ∷ [] ≡ a ∷ b ∷ c ∷ highest ∷ []
-four code a b c highest same first second third =
+four : (code a b c highest : ℕ) → code ≡ packed a b c highest → a < 256 → b < 256 → c < 256 → highest < 256
+    → to_le_bytes w32 code ≡ a ∷ b ∷ c ∷ highest ∷ []
+four code a b c highest same first second third last =
     let one : code % 256 ≡ a = omega (arith, same, first) in
     let two : code / 256 % 256 ≡ b = omega (arith, same, first, second) in
     let three : code / 65536 % 256 ≡ c = omega (arith, same, first, second, third) in
-    let four : code / 16777216 ≡ highest = omega (arith, same, first, second, third) in
+    let four : code / 16777216 % 256 ≡ highest = omega (arith, same, first, second, third, last) in
     rw (one, two, three, four) refl
 
 not_below : (n m : ℕ) → m ≤ n → nat_lt n m ≡ false
 not_below n m le = grind (arith, le)
 
 -- the bytes of an ink, from its number
-pub bytes_back : (ink : Ink) (code : ℕ) → IsInk ink → code ≡ code_of ink
-    → (code % 256) ∷ (code / 256 % 256) ∷ (code / 65536 % 256) ∷ (code / 16777216) ∷ [] ≡ bytes_of ink
+pub bytes_back : (ink : Ink) (code : ℕ) → IsInk ink → code ≡ code_of ink → to_le_bytes w32 code ≡ bytes_of ink
 bytes_back (Fixed (Rgb red green blue)) code is same =
-    four code red green blue 0 same (omega (arith, is.0)) (omega (arith, is.1)) (omega (arith, is.2))
+    four code red green blue 0 same (omega (arith, is.0)) (omega (arith, is.1)) (omega (arith, is.2)) (omega arith)
 bytes_back (Fixed (Hls hue lightness saturation)) code is same =
     four code (hue % 256) lightness saturation (1 + hue / 256) same (omega arith) (omega (arith, is.1))
-    (omega (arith, is.2))
+    (omega (arith, is.2)) (omega (arith, is.0))
 bytes_back (Bound register) code is same =
-    four code (register % 256) (register / 256) 0 3 same (omega arith) (omega (arith, is)) (omega arith)
+    four code (register % 256) (register / 256) 0 3 same (omega arith) (omega (arith, is)) (omega arith) (omega arith)
 
 -- the numbers of RGB colours are the least
 pub small_is_rgb : (ink : Ink) (code : ℕ) → IsInk ink → code ≡ code_of ink → nat_lt code 16777216 ≡ is_rgb_ink ink

@@ -1,6 +1,6 @@
 -- Painting many sixels at once.
 use Rattle.std.proofs.Common.{◌≡◌, ℕ, ◌+◌, ◌-◌, ◌*◌, ◌/◌, ◌%◌, ◌<◌, ◌≤◌, Bool, true, false, ◌&&◌, ◌||◌, cond, List}
-use Rattle.std.proofs.Common.{length, get_or, nat_le, nat_lt, refl, sym, ap, ap₂, ◌∙◌, arith}
+use Rattle.std.proofs.Common.{length, get_or, nat_le, nat_lt, refl, sym, ap, ap₂, ◌∙◌, arith, inl, inr}
 use Rattle.std.proofs.Common.{[], ◌∷◌, ◌++◌, ◌==◌, append_assoc, map, min, subst, suc, zero, take, add-one}
 use Rattle.std.specs.List.{list_any}
 use Rattle.std.proofs.lemmas.List.Folds.{list_any-append}
@@ -10,9 +10,9 @@ use Rattle.std.specs.Int.{bit_at}
 use Rattle.sixel_model.specs.Positions.{any_below}
 use Rattle.std.specs.Prelude.{slice_index}
 use Rattle.std.specs.List.{range_with_len}
-use Rattle.std.proofs.lemmas.List.{append-nil, ext_get_or}
+use Rattle.std.proofs.lemmas.List.{append-nil, ext_get_or, get_or-take, length-take-le}
 use Rattle.std.proofs.lemmas.List.FromFn.{get_or-map-range_with_len, length-map-range_with_len}
-use Rattle.std.proofs.lemmas.Bool.{and_parts, leb-true, ltb-true}
+use Rattle.std.proofs.lemmas.Bool.{and_parts, cases_lt, leb-true, ltb-true}
 use Rattle.std.proofs.lemmas.Bool.Decides.{nat_tests}
 use Rattle.std.proofs.lemmas.Nat.{div-add-mod'}
 use Rattle.sixel_model.proofs.RunLemmas.{in_row}
@@ -161,16 +161,14 @@ stands_stretch t (b ∷ rest) before p colours inks new runs s long painted =
     ∙ both_over (pen_covers t p 1 (b - 63) x y) (stretch_covers t (moved_on p) rest x y) ink (get_or inks i black)
     ∙ ap (λ o. cond (stretch_covers t (moved_on p) rest x y) ink o) (sym (written i below))))
 
-pub pen_moved : (p : Pen) (bytes : List ℕ) → p.column + length bytes ≤ most
-    → pen_after p bytes ≡ record p { column = p.column + length bytes }
+pub pen_moved : (p : Pen) (bytes : List ℕ) → p.column ≤ most
+    → pen_after p bytes ≡ record p { column = min (p.column + length bytes) most }
 unfolding pen_after
-pen_moved p [] few = ap (λ n. record p { column = n }) (omega arith)
+pen_moved p [] few = ap (λ n. record p { column = n }) (omega (arith, few))
 pen_moved p (b ∷ rest) few =
-    let one : min (p.column + 1) most ≡ p.column + 1 = omega (arith, few) in
-    pen_moved (moved_on p) rest (omega (arith, few, one))
-    ∙ ap (λ n. record p { column = n }) (omega (arith, one))
+    pen_moved (moved_on p) rest (omega arith) ∙ ap (λ n. record p { column = n }) (omega (arith, few))
 
--- ---- a stretch within the edges
+-- ---- a stretch before the edges
 
 and_three : (b l t : Bool) → (b && l && t) ≡ ((l && t) && b)
 and_three true true true = refl
@@ -217,67 +215,50 @@ row_bits bits base y (suc n) =
     ap₂ (λ a b. a || b) here (row_bits bits base y n) ∙ or_and r p h
     ∙ ap (λ (t : Bool). t && h) (next_row base n y)
 
-shuffle : (a b c t h g f : Bool)
-    → ((a && b) && ((c && (t && h)) && (g && f))) ≡ (((a && c) && g) && (((b && t) && f) && h))
-shuffle true true true true h true true = and_true h
-  where
-    and_true : (h : Bool) → (h && true) ≡ h
-    and_true true = refl
-    and_true false = refl
-shuffle true true true true h true false = none h
-  where
-    none : (h : Bool) → (h && false) ≡ false
-    none true = refl
-    none false = refl
-shuffle true true true true h false f = none h
-  where
-    none : (h : Bool) → (h && false) ≡ false
-    none true = refl
-    none false = refl
-shuffle true true true false h true f = refl
-shuffle true true true false h false f = refl
-shuffle true true false t h true f = refl
-shuffle true true false t h false f = refl
-shuffle true false true t h true f = refl
-shuffle true false true t h false f = refl
-shuffle true false false t h g f = refl
-shuffle false b c t h g f = refl
+and_none : (b : Bool) → (b && false) ≡ false
+and_none true = refl
+and_none false = refl
 
-column_part : (o l edge x : ℕ) → o + l + 1 ≤ edge
-    → ((nat_le o x && (nat_le l (x - o) && nat_lt (x - o) (l + 1))) && nat_lt x edge)
-    ≡ (nat_le (o + l) x && nat_lt x (o + l + 1))
-column_part o l edge x fits = grind (arith, nat_tests, fits)
+and_true : (b : Bool) → (b && true) ≡ b
+and_true true = refl
+and_true false = refl
 
-row_part : (o base edge y : ℕ) → o + base + 6 ≤ edge
-    → ((nat_le o y && (nat_le base (y - o) && nat_lt (y - o) (base + 6))) && nat_lt y edge)
+shuffle : (a b c t h e : Bool) → ((a && b) && ((c && (t && h)) && e)) ≡ (((a && c) && ((b && t) && h)) && e)
+shuffle true true c t h e = refl
+shuffle true false true t h e = refl
+shuffle true false false t h e = refl
+shuffle false b c t h e = refl
+
+column_part : (o l x : ℕ)
+    → (nat_le o x && (nat_le l (x - o) && nat_lt (x - o) (l + 1))) ≡ (nat_le (o + l) x && nat_lt x (o + l + 1))
+column_part o l x = grind (arith, nat_tests)
+
+row_part : (o base y : ℕ)
+    → (nat_le o y && (nat_le base (y - o) && nat_lt (y - o) (base + 6)))
     ≡ (nat_le (o + base) y && nat_lt y (o + base + 6))
-row_part o base edge y fits = grind (arith, nat_tests, fits)
+row_part o base y = grind (arith, nat_tests)
 
--- one sixel within the edges
+-- one sixel
 pen_rect : (t : Display) (p : Pen) (b x y : ℕ) → p.height ≡ 1
-    → t.choices.origin_x + p.column + 1 ≤ right_edge t p.declared
-    → t.choices.origin_y + 6 * p.band + 6 ≤ bottom_edge t p.declared
     → pen_covers t p 1 (b - 63) x y
-    ≡ ((nat_le (t.choices.origin_x + p.column) x && nat_lt x (t.choices.origin_x + p.column + 1))
+    ≡ (((nat_le (t.choices.origin_x + p.column) x && nat_lt x (t.choices.origin_x + p.column + 1))
     && ((nat_le (t.choices.origin_y + 6 * p.band) y && nat_lt y (t.choices.origin_y + 6 * p.band + 6))
-    && has_bit b (y - (t.choices.origin_y + 6 * p.band))))
+    && has_bit b (y - (t.choices.origin_y + 6 * p.band)))) && is_before_edges t p.declared x y)
 unfolding covers
-pen_rect t p b x y one across down =
+pen_rect t p b x y one =
     let ox = t.choices.origin_x in
     let oy = t.choices.origin_y in
     let c = nat_le p.column (x - ox) && nat_lt (x - ox) (p.column + 1) in
     let rows = nat_le (6 * p.band) (y - oy) && nat_lt (y - oy) (6 * p.band + 6) in
     let h = bit_at (b - 63) ((y - oy) - 6 * p.band) == 1 in
+    let e = is_before_edges t p.declared x y in
     let bit : (y - oy) - 6 * p.band ≡ y - (oy + 6 * p.band) = omega arith in
     rw one
-    (ap (λ (r : Bool). is_from_origin t x y && ((c && r) && is_before_edges t p.declared x y))
-    (row_bits (b - 63) (6 * p.band) (y - oy) 6)
-    ∙ shuffle (nat_le ox x) (nat_le oy y) c rows h (nat_lt x (right_edge t p.declared))
-    (nat_lt y (bottom_edge t p.declared))
-    ∙ ap₂ (λ u v. u && (v && h)) (column_part ox p.column (right_edge t p.declared) x across)
-    (row_part oy (6 * p.band) (bottom_edge t p.declared) y down)
-    ∙ ap (λ k. (nat_le (ox + p.column) x && nat_lt x (ox + p.column + 1))
-    && ((nat_le (oy + 6 * p.band) y && nat_lt y (oy + 6 * p.band + 6)) && (bit_at (b - 63) k == 1))) bit)
+    (ap (λ (r : Bool). is_from_origin t x y && ((c && r) && e)) (row_bits (b - 63) (6 * p.band) (y - oy) 6)
+    ∙ shuffle (nat_le ox x) (nat_le oy y) c rows h e
+    ∙ ap₂ (λ u v. (u && (v && h)) && e) (column_part ox p.column x) (row_part oy (6 * p.band) y)
+    ∙ ap (λ k. ((nat_le (ox + p.column) x && nat_lt x (ox + p.column + 1))
+    && ((nat_le (oy + 6 * p.band) y && nat_lt y (oy + 6 * p.band + 6)) && (bit_at (b - 63) k == 1))) && e) bit)
 
 first_or_later : (left n x : ℕ)
     → ((nat_le left x && nat_lt x (left + 1)) || (nat_le (left + 1) x && nat_lt x (left + 1 + n)))
@@ -308,22 +289,114 @@ byte_more left x n b rest rows =
     ap₂ (λ u v. u || v) first later ∙ or_and e a th
     ∙ ap (λ (t : Bool). t && th) (first_or_later left (length rest) x)
 
+apart : (left right x : ℕ) → right ≤ left → (nat_le left x && nat_lt x right) ≡ false
+apart left right x past = grind (arith, nat_tests, past)
+
+off_columns : (a b r g f : Bool) → (a && g) ≡ false → (((a && b) && r) && (g && f)) ≡ false
+off_columns true b r true f h = cc
+off_columns true b r false f h = and_none (b && r)
+off_columns false b r g f h = refl
+
+off_rows : (a t u h g f : Bool) → (t && f) ≡ false → ((a && ((t && u) && h)) && (g && f)) ≡ false
+off_rows true true u h g true n = cc
+off_rows true true u h true false n = and_none (u && h)
+off_rows true true u h false false n = and_none (u && h)
+off_rows true false u h g f n = refl
+off_rows false t u h g f n = refl
+
+-- no column of a stretch from an edge on is before it
+pub past_right : (left top n right bottom : ℕ) (bytes : List ℕ) (x y : ℕ) → right ≤ left
+    → (is_stretched left top n bytes x y && (nat_lt x right && nat_lt y bottom)) ≡ false
+past_right left top n right bottom bytes x y past =
+    off_columns (nat_le left x) (nat_lt x (left + length bytes)) _ (nat_lt x right) (nat_lt y bottom)
+    (apart left right x past)
+
+-- nor is a row
+pub past_bottom : (left top n right bottom : ℕ) (bytes : List ℕ) (x y : ℕ) → bottom ≤ top
+    → (is_stretched left top n bytes x y && (nat_lt x right && nat_lt y bottom)) ≡ false
+past_bottom left top n right bottom bytes x y past =
+    off_rows _ (nat_le top y) (nat_lt y (top + n)) _ (nat_lt x right) (nat_lt y bottom) (apart top bottom y past)
+
 pub stretch_rect : (t : Display) (bytes : List ℕ) (p : Pen) (x y : ℕ) → p.height ≡ 1
-    → t.choices.origin_x + p.column + length bytes ≤ right_edge t p.declared
-    → t.choices.origin_y + 6 * p.band + 6 ≤ bottom_edge t p.declared → p.column + length bytes ≤ most
+    → right_edge t p.declared ≤ most
     → stretch_covers t p bytes x y
-    ≡ is_stretched (t.choices.origin_x + p.column) (t.choices.origin_y + 6 * p.band) 6 bytes x y
+    ≡ (is_stretched (t.choices.origin_x + p.column) (t.choices.origin_y + 6 * p.band) 6 bytes x y
+    && is_before_edges t p.declared x y)
 unfolding stretch_covers
-stretch_rect t [] p x y one across down few = sym (no_row (t.choices.origin_x + p.column) x _)
-stretch_rect t (b ∷ rest) p x y one across down few =
+stretch_rect t [] p x y one small =
+    sym (ap (λ (v : Bool). v && is_before_edges t p.declared x y) (no_row (t.choices.origin_x + p.column) x _))
+stretch_rect t (b ∷ rest) p x y one small =
     let left = t.choices.origin_x + p.column in
     let top = t.choices.origin_y + 6 * p.band in
-    let next : t.choices.origin_x + min (p.column + 1) most ≡ left + 1 = omega (arith, few) in
-    let later : stretch_covers t (moved_on p) rest x y ≡ is_stretched (left + 1) top 6 rest x y =
-    stretch_rect t rest (moved_on p) x y one (omega (arith, across, next)) down (omega (arith, few))
-    ∙ ap (λ l. is_stretched l top 6 rest x y) next in
-    ap₂ (λ u v. u || v) (pen_rect t p b x y one (omega (arith, across)) down) later
-    ∙ byte_more left x (y - top) b rest (nat_le top y && nat_lt y (top + 6))
+    let right = right_edge t p.declared in
+    let bottom = bottom_edge t p.declared in
+    let e = is_before_edges t p.declared x y in
+    let moved = stretch_rect t rest (moved_on p) x y one small in
+    let later : stretch_covers t (moved_on p) rest x y ≡ (is_stretched (left + 1) top 6 rest x y && e) =
+    elim (cases_lt p.column most) [
+      | inl below ↦
+          let next : t.choices.origin_x + min (p.column + 1) most ≡ left + 1 = omega (arith, below) in
+          moved ∙ ap (λ l. is_stretched l top 6 rest x y && e) next
+      | inr far ↦
+          moved
+          ∙ past_right (t.choices.origin_x + min (p.column + 1) most) top 6 right bottom rest x y
+          (omega (arith, far, small))
+          ∙ sym (past_right (left + 1) top 6 right bottom rest x y (omega (arith, far, small)))
+    ] in
+    ap₂ (λ u v. u || v) (pen_rect t p b x y one) later
+    ∙ or_and ((nat_le left x && nat_lt x (left + 1)) && ((nat_le top y && nat_lt y (top + 6)) && has_bit b (y - top)))
+    (is_stretched (left + 1) top 6 rest x y) e
+    ∙ ap (λ (v : Bool). v && e) (byte_more left x (y - top) b rest (nat_le top y && nat_lt y (top + 6)))
+
+-- the columns, or the rows, from `start` on and before the edge
+cut : (start n edge x : ℕ) → start < edge
+    → (nat_le start x && nat_lt x (start + min n (edge - start)))
+    ≡ ((nat_le start x && nat_lt x (start + n)) && nat_lt x edge)
+cut start n edge x before =
+    elim (cases_lt n (edge - start)) [
+      | inl few ↦
+          let all : start + min n (edge - start) ≡ start + n = omega (arith, few) in
+          ap (λ k. nat_le start x && nat_lt x k) all ∙ within start n edge x (omega (arith, few))
+      | inr many ↦
+          let some : start + min n (edge - start) ≡ edge = omega (arith, many, before) in
+          ap (λ k. nat_le start x && nat_lt x k) some ∙ beyond start n edge x (omega (arith, many))
+    ]
+  where
+    within : (start n edge x : ℕ) → start + n ≤ edge
+        → (nat_le start x && nat_lt x (start + n)) ≡ ((nat_le start x && nat_lt x (start + n)) && nat_lt x edge)
+    within start n edge x few = grind (arith, nat_tests, few)
+
+    beyond : (start n edge x : ℕ) → edge ≤ start + n
+        → (nat_le start x && nat_lt x edge) ≡ ((nat_le start x && nat_lt x (start + n)) && nat_lt x edge)
+    beyond start n edge x many = grind (arith, nat_tests, many)
+
+mixed : (a g r f h : Bool) → ((a && g) && ((r && f) && h)) ≡ ((a && (r && h)) && (g && f))
+mixed true true true true h = sym (and_true h)
+mixed true true true false h = sym (and_none h)
+mixed true true false f h = refl
+mixed true false r f h = sym (and_none (r && h))
+mixed false g r f h = refl
+
+-- the bytes and the rows of a stretch before the edges are what is before them of all of it
+pub before_edges : (left top right bottom : ℕ) (bytes : List ℕ) (x y : ℕ) → left < right → top < bottom
+    → is_stretched left top (min 6 (bottom - top)) (take (min (length bytes) (right - left)) bytes) x y
+    ≡ (is_stretched left top 6 bytes x y && (nat_lt x right && nat_lt y bottom))
+before_edges left top right bottom bytes x y across down =
+    let count = min (length bytes) (right - left) in
+    let first = take count bytes in
+    let long : length first ≡ count = length-take-le count bytes (omega arith) in
+    let a = nat_le left x && nat_lt x (left + length bytes) in
+    let r = nat_le top y && nat_lt y (top + 6) in
+    let rows = nat_le top y && nat_lt y (top + min 6 (bottom - top)) in
+    let h = has_bit (slice_index bytes (x - left)) (y - top) in
+    ap (λ (k : ℕ). (nat_le left x && nat_lt x (left + k))
+    && (rows && has_bit (slice_index first (x - left)) (y - top))) long
+    ∙ and_when (nat_le left x && nat_lt x (left + count)) _ _ (λ t.
+    let parts = and_parts (nat_le left x) (nat_lt x (left + count)) t in
+    ap (λ b. rows && has_bit b (y - top))
+    (get_or-take count bytes (x - left) 0 (omega (arith, leb-true _ _ parts.0, ltb-true _ _ parts.1))))
+    ∙ ap₂ (λ u v. u && (v && h)) (cut left (length bytes) right x across) (cut top 6 bottom y down)
+    ∙ mixed a (nat_lt x right) r (nat_lt y bottom) h
 
 -- ---- drawings
 

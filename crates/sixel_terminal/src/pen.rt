@@ -27,11 +27,12 @@ pub(crate) struct Pen {
 
 impl Pen {
     /// Moves to the right by `columns` columns.
-    pub(crate) fn moved(self, columns: u16) -> Pen
+    pub(crate) fn moved(self, columns: usize) -> Pen
         ensures { result ≡ record self { column = min (self.column + columns) most } }
     {
+        let column = (self.column as usize).saturating_add(columns);
         Pen {
-            column: self.column.saturating_add(columns as u32),
+            column: column.min(u32::MAX as usize) as u32,
             ..self
         }
     }

@@ -85,13 +85,7 @@ impl Pixel {
     pub fn bytes(&self) -> [u8; 4]
         ensures { result ≡ bytes_of self.now }
     {
-        let code = self.code;
-        [
-            (code % 256) as u8,
-            (code / 256 % 256) as u8,
-            (code / 65_536 % 256) as u8,
-            (code / 16_777_216) as u8,
-        ]
+        self.code.to_le_bytes()
     }
 
     /// Whether the pixel shows an RGB colour.

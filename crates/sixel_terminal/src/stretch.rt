@@ -8,7 +8,7 @@ ghost use Rattle.sixel_terminal.specs.Canvases.{black};
 ghost use Rattle.sixel_terminal.specs.Stretches.{has_bit, is_stretched};
 
 use crate::pixel::Pixel;
-use sixel_model::{BAND_ROWS, is_set};
+use sixel_model::is_set;
 
 /// Paints the pixels of a row whose data bytes have the bit. The loop has no branch, so that the compiler uses lanes.
 fn paint_row(row: &mut [Pixel], bytes: &[u8], bit: u32, ink: &Pixel)
@@ -40,24 +40,27 @@ fn paint_row_at(pixels: &mut [Pixel], at: usize, bytes: &[u8], bit: u32, ink: &P
     paint_row(&mut pixels[at..at + bytes.len()], bytes, bit, ink);
 }
 
-/// Paints six rows of the screen, from the row `top` on, in the columns of the bytes, from `left` on.
+/// Paints the first `count` rows of a band, from the row `top` of the screen on, in the columns of the bytes, from `left`
+/// on.
 pub(crate) fn paint_rows(
     pixels: &mut [Pixel],
     width: usize,
     left: usize,
     top: usize,
+    count: u32,
     bytes: &[u8],
     ink: &Pixel,
 )
     requires some { 0 < width }
     requires columns { left + length bytes.now ≤ width }
-    requires rows { (top + band_rows) * width ≤ length pixels.old }
+    requires band { count ≤ band_rows }
+    requires rows { (top + count) * width ≤ length pixels.old }
     requires data { (k : ℕ) → k < length bytes.now → IsTrue (is_data (slice_index bytes.now k)) }
     ensures { EachIndex pixels.old (λ i. slice_index_or pixels.new i black
-        ≡ (if is_stretched left top band_rows bytes.now (i % width) (i / width)
+        ≡ (if is_stretched left top count bytes.now (i % width) (i / width)
         then ink.now else slice_index_or pixels.old i black)) }
 {
-    for bit in 0..BAND_ROWS {
+    for bit in 0..count {
         let at = (top + bit as usize) * width + left;
         paint_row_at(pixels, at, bytes, bit, ink);
     }

@@ -15,3 +15,5 @@ mod eight_bits;
 mod fixtures;
 #[cfg(test)]
 mod making;
+#[cfg(test)]
+mod stretches;

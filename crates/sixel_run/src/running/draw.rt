@@ -66,7 +66,11 @@ fn draw_stretch_or_byte(
 }
 
 /// Reads the bytes of a piece, and draws the events that they complete.
-fn draw_piece(reader: &mut Reader, drawing: &mut Drawing, piece: &[u8]) -> Result<(), InputFault>
+pub fn draw_piece(
+    reader: &mut Reader,
+    drawing: &mut Drawing,
+    piece: &[u8],
+) -> Result<(), InputFault>
     ensures drawn { OnOk result (DrawsBytes reader.old drawing.old reader.new drawing.new piece.now) }
     ensures refused { IfErr result (RefusesBytes reader.old drawing.old piece.now) }
 {

@@ -3,21 +3,20 @@
 ghost use Rattle.std.specs.Prelude.{◌≡◌, ◌≢◌, Err, IsTrue, List, ℕ};
 ghost use Rattle.sixel_grammar.specs.declared.command.Placed.{Placed as Place};
 ghost use Rattle.sixel_grammar.specs.Document.{Document, events_of};
-ghost use Rattle.sixel_model.specs.declared.profile.Profile.{Profile as AProfile};
 ghost use Rattle.std.specs.List.{list_all};
 ghost use Rattle.sixel_io.specs.Devices.{Writes};
 ghost use Rattle.sixel_ppm.specs.Ppm.{WritesPpm, are_rgb, ppm_text};
-ghost use Rattle.sixel_terminal.specs.Drawing.{screen_on};
+ghost use Rattle.sixel_terminal.specs.Displays.{Display};
 ghost use Rattle.sixel_terminal.specs.Pixels.{bytes_of, is_rgb_ink};
 ghost use Rattle.sixel_run.specs.declared.fault.RunFault.TheVariants.{Read};
 ghost use Rattle.sixel_run.specs.Outputs.{CountsWrites, ShowGives, WroteBy, WroteNothing};
-ghost use Rattle.sixel_run.specs.Screens.{show_terminal};
+ghost use Rattle.sixel_run.specs.Screens.{IsScreenAfter};
 
 use crate::fault::RunFault;
 use crate::task::Status;
 use sixel_io::{DeviceFault, Sink};
 use sixel_ppm::{PpmFault, ToRgbx, write_ppm_pixels};
-use sixel_terminal::{Choices, Pixel, Screen};
+use sixel_terminal::{Pixel, Screen};
 use std::simd::prelude::*;
 
 /// The pixels of a screen, whose bytes begin with the percentages if they are RGB.
@@ -31,11 +30,15 @@ impl ToRgbx<Pixel> for ScreenPixels {
     }
 }
 
-/// Whether each pixel is RGB.
+/// Whether each pixel is RGB. It looks at all of them, so that the compiler uses lanes.
 fn are_rgb(pixels: &[Pixel]) -> bool
     ensures { result ≡ list_all is_rgb_ink pixels.now }
 {
-    pixels.iter().all(|pixel| pixel.is_rgb())
+    let mut all = true;
+    for pixel in pixels {
+        all &= pixel.is_rgb();
+    }
+    all
 }
 
 /// Whether the colour of each pixel is RGB.
@@ -65,18 +68,11 @@ fn write_ppm_screen<K: Sink>(screen: &Screen, out: &mut K) -> Result<(), PpmFaul
     write_rgb(screen, out).map_err(|_| PpmFault::Write)
 }
 
-/// Writes the screen of a terminal with these choices as a PPM.
-pub fn write_screen<K: Sink>(
-    choices: Choices,
-    screen: &Screen,
-    output: &mut K,
-) -> Result<Status, RunFault>
-    requires width { screen.now.width ≡ choices.screen_width }
-    requires height { screen.now.height ≡ choices.screen_height }
-    ensures wrote { (profile : AProfile) (events : List Place) (bytes : List ℕ) → Document events bytes →
-        screen.now.colours ≡ screen_on (show_terminal profile choices) (events_of events) →
-        WroteBy (ShowGives (show_terminal profile choices) bytes) WroteNothing result
-        (K.state output.old).taken (K.state output.new).taken }
+/// Writes the screen of a terminal as a PPM.
+pub fn write_screen<K: Sink>(screen: &Screen, output: &mut K) -> Result<Status, RunFault>
+    ensures wrote { (t : Display) (events : List Place) (bytes : List ℕ) → Document events bytes →
+        IsScreenAfter t screen.now (events_of events) →
+        WroteBy (ShowGives t bytes) WroteNothing result (K.state output.old).taken (K.state output.new).taken }
     ensures unread { result ≢ Err Read }
     ensures writes { CountsWrites result (K.state output.old).failures (K.state output.new).failures }
 {

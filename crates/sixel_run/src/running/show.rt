@@ -8,17 +8,16 @@ ghost use Rattle.sixel_ppm.specs.Ppm.{is_file_side};
 ghost use Rattle.sixel_model.specs.Profiles.{count_of};
 ghost use Rattle.sixel_model.specs.declared.profile.Profile.{Profile as AProfile};
 ghost use Rattle.sixel_model.specs.declared.colour.Parts.TheVariants.{Rgb};
-ghost use Rattle.sixel_terminal.specs.Drawing.{screen_on};
 ghost use Rattle.sixel_terminal.specs.Limits.{terminal_fault};
 ghost use Rattle.sixel_run.specs.declared.fault.RunFault.TheVariants.{Read};
 ghost use Rattle.sixel_run.specs.Outputs.{CountsWrites, ShowGives, WroteBy, WroteNothing, failures_by};
-ghost use Rattle.sixel_run.specs.Screens.{greys, percent_at, show_choices, show_terminal, white_screen};
+ghost use Rattle.sixel_run.specs.Screens.{IsScreenAfter, greys, percent_at, show_choices, show_terminal, white_screen};
 
 use super::draw::draw;
 use super::screen::write_screen;
 use crate::fault::RunFault;
 use crate::task::Status;
-use sixel_grammar::{InputFault, Placed};
+use sixel_grammar::InputFault;
 use sixel_io::{Sink, Source};
 use sixel_model::{Colour, Profile};
 use sixel_terminal::{Choices, Drawing, Ground, Screen, Terminal};
@@ -66,7 +65,7 @@ pub fn show<S: Source, K: Sink>(
     ensures writes { CountsWrites result (K.state output.old).failures (K.state output.new).failures }
 {
     let screen = read_screen(alloc, profile, choices, input)?;
-    write_screen(choices, &screen, output)
+    write_screen(&screen, output)
 }
 
 /// The screen after the document.
@@ -79,9 +78,7 @@ fn read_screen<S: Source>(
     requires { terminal_fault choices (greys profile) (white_screen choices) ≡ None }
     ensures shown { IfOk result (λ screen. IfSome (S.state input.old).remaining (λ bytes.
         (events : List Place) × Document events bytes
-        × (screen.colours ≡ screen_on (show_terminal profile choices) (events_of events)))) }
-    ensures width { IfOk result (λ screen. screen.width ≡ choices.screen_width) }
-    ensures height { IfOk result (λ screen. screen.height ≡ choices.screen_height) }
+        × IsScreenAfter (show_terminal profile choices) screen (events_of events))) }
     ensures refused { IfErr result (λ fault. IfSome (S.state input.old).remaining (Explains fault)) }
     ensures failures { (S.state input.new).failures ≡ failures_after result (S.state input.old).failures }
 {
@@ -93,7 +90,11 @@ fn read_screen<S: Source>(
 
 /// The terminal of `show` with these choices.
 #[tactic(auto, unfolding(crate::specs::Screens::show_terminal))]
-fn terminal_of(alloc: Global, profile: Profile, choices: Choices) -> Result<Terminal, AllocError>
+pub fn terminal_of(
+    alloc: Global,
+    profile: Profile,
+    choices: Choices,
+) -> Result<Terminal, AllocError>
     requires { terminal_fault choices (greys profile) (white_screen choices) ≡ None }
     ensures { IfOk result (λ terminal. terminal ≡ show_terminal profile choices) }
 {
@@ -101,26 +102,6 @@ fn terminal_of(alloc: Global, profile: Profile, choices: Choices) -> Result<Term
         Ok(terminal) => Ok(terminal),
         Err(_) => unreachable!(),
     }
-}
-
-/// The screen after the events.
-pub fn screen_after(
-    alloc: Global,
-    profile: Profile,
-    choices: Choices,
-    events: &[Placed],
-) -> Result<Screen, AllocError>
-    requires { terminal_fault choices (greys profile) (white_screen choices) ≡ None }
-    ensures shown { IfOk result (λ screen.
-        screen.colours ≡ screen_on (show_terminal profile choices) (events_of events.now)) }
-    ensures width { IfOk result (λ screen. screen.width ≡ choices.screen_width) }
-    ensures height { IfOk result (λ screen. screen.height ≡ choices.screen_height) }
-{
-    let mut drawing = Drawing::new(alloc, terminal_of(alloc, profile, choices)?)?;
-    for placed in events {
-        drawing.push(&placed.event);
-    }
-    Ok(drawing.finish())
 }
 
 fn grey(percent: u8) -> Colour

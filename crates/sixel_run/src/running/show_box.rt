@@ -1,23 +1,55 @@
 //! Shows a sixel picture on a screen as large as its declared box, as a PPM.
 
-ghost use Rattle.std.specs.Prelude.{◌≡◌, IfSome, IsTrue, option_map};
-ghost use Rattle.sixel_grammar.specs.Document.{events_of};
+ghost use Rattle.std.specs.Prelude.{◌≡◌, ◌++◌, ◌∷◌, [], ◌<◌, ◌≤◌, ℕ, List, IfErr, IfOk, IfSome, IsTrue, length};
+ghost use Rattle.std.specs.Prelude.{option_map, take};
+ghost use Rattle.std.specs.Option.{option_to_list};
+ghost use Rattle.sixel_grammar.specs.declared.command.Event.{Event as AnEvent};
+ghost use Rattle.sixel_grammar.specs.declared.command.Placed.{Placed as Place};
+ghost use Rattle.sixel_grammar.specs.Document.{Document, events_of};
+ghost use Rattle.sixel_grammar.specs.Prefixes.{CompleteIn};
+ghost use Rattle.sixel_grammar.specs.Reading.{Explains, ExplainsAlways, failures_after};
+ghost use Rattle.sixel_grammar.specs.Standing.{completions};
 ghost use Rattle.sixel_ppm.specs.Ppm.{is_file_side};
 ghost use Rattle.sixel_model.specs.Events.{raster_of};
+ghost use Rattle.sixel_terminal.specs.Displays.{Display};
+ghost use Rattle.sixel_terminal.specs.Drawings.{HasDrawn};
+ghost use Rattle.sixel_run.specs.Boxes.{Finds, HasRead, IsShownInBox, IsStageAfter, Refuses, box_in, terminal_of_kind};
 ghost use Rattle.sixel_run.specs.declared.fault.RunFault.TheVariants.{Read};
 ghost use Rattle.sixel_run.specs.Outputs.{CountsWrites, ShowBoxGives, WroteBy, WroteNothing, failures_by};
-ghost use Rattle.sixel_run.specs.Screens.{declared_screen, screen_terminal, sides_of_box};
+ghost use Rattle.sixel_run.specs.Screens.{screen_terminal, sides_of_box};
 
+use super::draw::draw_piece;
 use super::screen::write_screen;
-use super::show::{screen_after, show_choices};
+use super::show::{show_choices, terminal_of};
 use crate::fault::RunFault;
 use crate::task::{MOST_SCREEN_SIDE, Status};
-use sixel_grammar::{Command, Event, Placed, read_all};
-use sixel_io::{Sink, Source};
+use sixel_grammar::{Command, Completed, Event, InputFault, Placed, Reader};
+use sixel_io::{PIECE, Sink, Source};
 use sixel_model::Profile;
+use sixel_terminal::{Drawing, Screen};
 use std::alloc::Global;
 
-/// Reads the whole document, draws it on a terminal with a screen of the size of the declared box, and writes the
+/// A terminal of `show`, whose screen may have any sides.
+#[derive(Clone, Copy, Debug)]
+struct Kind {
+    profile: Profile,
+    showing: bool,
+    fill: bool,
+    selects: bool,
+}
+
+/// What is known of the screen after a part of a document.
+#[derive(Debug, Drop)]
+enum Stage {
+    /// No box is declared yet. All bytes so far are kept, since the box may come after painting.
+    Undeclared(Vec<u8>),
+    /// The events so far are drawn on a screen with the sides of the declared box.
+    Drawn(Drawing),
+    /// No screen can have the sides of the declared box.
+    Unshowable,
+}
+
+/// Draws the document on a terminal with a screen of the size of the declared box while it reads it, and writes the
 /// screen. It doesn't flush. The terminal is that of `show` with these choices.
 pub fn show_box<S: Source, K: Sink>(
     alloc: Global,
@@ -34,30 +66,201 @@ pub fn show_box<S: Source, K: Sink>(
     ensures reads { (S.state input.new).failures ≡ failures_by Read result (S.state input.old).failures }
     ensures writes { CountsWrites result (K.state output.old).failures (K.state output.new).failures }
 {
-    let events = read_all(alloc, input)?;
-    let Some((width, height)) = declared_screen(&events) else {
-        return Err(RunFault::NoBox);
+    let kind = Kind {
+        profile,
+        showing,
+        fill,
+        selects,
     };
-    let choices = show_choices(showing, fill, selects, width, height);
-    let screen = screen_after(alloc, profile, choices, &events)?;
-    write_screen(choices, &screen, output)
+    match read_box_screen(alloc, kind, input)? {
+        Some(screen) => write_screen(&screen, output),
+        None => Err(RunFault::NoBox),
+    }
 }
 
-/// The width and the height of the declared box in pixels, if a screen can have them.
-fn declared_screen(events: &[Placed]) -> Option<(u32, u32)>
-    ensures value { result ≡ declared_screen (events_of events.now) }
-    ensures sides { IfSome result (λ sides. IsTrue (is_file_side sides.0) × IsTrue (is_file_side sides.1)) }
+/// The screen after the document, if a screen can have the sides of its declared box.
+fn read_box_screen<S: Source>(
+    alloc: Global,
+    kind: Kind,
+    input: &mut S,
+) -> Result<Option<Screen>, InputFault>
+    ensures shown { IfOk result (λ screen. IfSome (S.state input.old).remaining (λ bytes.
+        (events : List Place) × Document events bytes
+        × IsShownInBox (terminal_of_kind kind) screen (events_of events))) }
+    ensures refused { IfErr result (λ fault. IfSome (S.state input.old).remaining (Explains fault)) }
+    ensures failures { (S.state input.new).failures ≡ failures_after result (S.state input.old).failures }
 {
-    for placed in events {
-        if let Some((width, height)) = box_in(&placed.event) {
-            return sides_of_box(width, height);
+    let mut reader = Reader::new();
+    let mut stage = Stage::Undeclared(Vec::new(alloc));
+    let mut piece = [0u8; PIECE];
+    loop {
+        let count = input.fill(&mut piece)?;
+        if count == 0 {
+            reader.finish()?;
+            return Ok(stage.screen());
+        }
+        stage = stage.after(alloc, kind, &mut reader, &piece[..count])?;
+    }
+}
+
+impl Stage {
+    /// Reads one more piece, and draws it if there is a screen.
+    fn after(
+        self,
+        alloc: Global,
+        kind: Kind,
+        reader: &mut Reader,
+        piece: &[u8],
+    ) -> Result<Stage, InputFault>
+        ensures read { IfOk result (λ stage. (bytes : List ℕ) →
+            HasRead (terminal_of_kind kind) reader.old self bytes →
+            HasRead (terminal_of_kind kind) reader.new stage (bytes ++ piece.now)) }
+        ensures refused { IfErr result (λ fault. (bytes : List ℕ) →
+            HasRead (terminal_of_kind kind) reader.old self bytes → ExplainsAlways fault (bytes ++ piece.now)) }
+    {
+        match self {
+            Stage::Undeclared(kept) => look_for_box(alloc, kind, kept, reader, piece),
+            Stage::Drawn(mut drawing) => {
+                draw_piece(reader, &mut drawing, piece)?;
+                Ok(Stage::Drawn(drawing))
+            }
+            Stage::Unshowable => {
+                find_box(reader, piece)?;
+                Ok(Stage::Unshowable)
+            }
         }
     }
-    None
+
+    /// The screen, if there is one.
+    fn screen(self) -> Option<Screen>
+        ensures { (terminal : ℕ × ℕ → Display) (events : List AnEvent) (bytes : List ℕ) →
+            IsStageAfter terminal self events bytes → IsShownInBox terminal result events }
+    {
+        match self {
+            Stage::Drawn(drawing) => Some(drawing.finish()),
+            _ => None,
+        }
+    }
 }
 
-/// The declared box of raster attributes: its width and its height.
-fn box_in(event: &Event) -> Option<(u16, u16)>
+/// Reads one more piece after these bytes, in which no box is declared. If the piece declares the box, draws all of
+/// them.
+fn look_for_box(
+    alloc: Global,
+    kind: Kind,
+    mut kept: Vec<u8>,
+    reader: &mut Reader,
+    piece: &[u8],
+) -> Result<Stage, InputFault>
+    ensures read { IfOk result (λ stage. (bytes : List ℕ) →
+        HasRead (terminal_of_kind kind) reader.old (Stage.Undeclared kept) bytes →
+        HasRead (terminal_of_kind kind) reader.new stage (bytes ++ piece.now)) }
+    ensures refused { IfErr result (λ fault. (bytes : List ℕ) →
+        HasRead (terminal_of_kind kind) reader.old (Stage.Undeclared kept) bytes →
+        ExplainsAlways fault (bytes ++ piece.now)) }
+{
+    match find_box(reader, piece)? {
+        None => {
+            kept.extend_from_slice(piece)?;
+            Ok(Stage::Undeclared(kept))
+        }
+        Some((width, height)) => match sides_of_box(width, height) {
+            None => Ok(Stage::Unshowable),
+            Some((width, height)) => Ok(Stage::Drawn(draw_bytes(
+                alloc, kind, width, height, &kept, piece,
+            )?)),
+        },
+    }
+}
+
+/// Draws the events that are complete in these bytes and the piece after them, on a screen of these sides.
+fn draw_bytes(
+    alloc: Global,
+    kind: Kind,
+    width: u32,
+    height: u32,
+    bytes: &[u8],
+    piece: &[u8],
+) -> Result<Drawing, InputFault>
+    requires width { IsTrue (is_file_side width) }
+    requires height { IsTrue (is_file_side height) }
+    ensures terminal { IfOk result (λ drawing. drawing.terminal ≡ terminal_of_kind kind (width, height)) }
+    ensures drawn { IfOk result (λ drawing. (events : List Place) → CompleteIn events (bytes.now ++ piece.now) →
+        HasDrawn drawing (events_of events)) }
+    ensures refused { IfErr result (λ fault. ExplainsAlways fault (bytes.now ++ piece.now)) }
+{
+    let choices = show_choices(kind.showing, kind.fill, kind.selects, width, height);
+    let mut drawing = Drawing::new(alloc, terminal_of(alloc, kind.profile, choices)?)?;
+    let mut reader = Reader::new();
+    draw_piece(&mut reader, &mut drawing, bytes)?;
+    draw_piece(&mut reader, &mut drawing, piece)?;
+    Ok(drawing)
+}
+
+/// Reads the bytes of a piece. Returns the first box that they declare: its width and its height.
+fn find_box(reader: &mut Reader, piece: &[u8]) -> Result<Option<(u16, u16)>, InputFault>
+    ensures found { IfOk result (λ found. Finds reader.old reader.new found piece.now) }
+    ensures refused { IfErr result (Refuses reader.old piece.now) }
+{
+    let mut found = None;
+    let mut read = 0;
+    while read < piece.len() {
+        let (count, later) = find_in_part(reader, &piece[read..])?;
+        found = found.or(later);
+        read += count;
+    }
+    Ok(found)
+}
+
+/// Reads the data bytes at the beginning of `bytes`, or else one byte. Returns how many it read, and the box that they
+/// declare.
+#[inline(always)]
+fn find_in_part(
+    reader: &mut Reader,
+    bytes: &[u8],
+) -> Result<(usize, Option<(u16, u16)>), InputFault>
+    requires { 0 < length bytes.now }
+    ensures some { IfOk result (λ part. 0 < part.0) }
+    ensures within { IfOk result (λ part. part.0 ≤ length bytes.now) }
+    ensures found { IfOk result (λ part. Finds reader.old reader.new part.1 (take part.0 bytes.now)) }
+    ensures refused { IfErr result (Refuses reader.old (take 1 bytes.now)) }
+{
+    let stretch = reader.feed_stretch(bytes);
+    if stretch.count > 0 {
+        return Ok((stretch.count, None));
+    }
+    Ok((1, find_in_byte(reader, bytes[0])?))
+}
+
+/// Reads one byte, and returns the first box that it declares.
+fn find_in_byte(reader: &mut Reader, byte: u8) -> Result<Option<(u16, u16)>, InputFault>
+    ensures found { IfOk result (λ found. Finds reader.old reader.new found (byte ∷ [])) }
+    ensures refused { IfErr result (Refuses reader.old (byte ∷ [])) }
+{
+    let completed = reader.feed(byte)?;
+    Ok(box_in(completed))
+}
+
+/// The first box that the events declare.
+fn box_in(completed: Completed) -> Option<(u16, u16)>
+    ensures { result ≡ box_in (events_of (completions completed)) }
+{
+    let Completed { first, second } = completed;
+    box_of(first).or(box_of(second))
+}
+
+/// The box that the event declares, if there is an event.
+fn box_of(placed: Option<Placed>) -> Option<(u16, u16)>
+    ensures { result ≡ box_in (events_of (option_to_list placed)) }
+{
+    match placed {
+        Some(placed) => box_in_raster(&placed.event),
+        None => None,
+    }
+}
+
+/// The box of raster attributes: its width and its height.
+fn box_in_raster(event: &Event) -> Option<(u16, u16)>
     ensures { result ≡ option_map (λ a. (a.width, a.height)) (raster_of event.now) }
 {
     match event {

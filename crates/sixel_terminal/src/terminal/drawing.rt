@@ -1,7 +1,7 @@
 //! What a drawing does on its terminal, and drawing a whole list.
 
 ghost use Rattle.std.specs.Prelude.{◌≡◌, ◌<◌, ◌*◌, ◌++◌, ◌∷◌, [], ℕ, EachIndex, List, IfOk, IfSome, IsNone};
-ghost use Rattle.std.specs.Prelude.{IsTrue, length, map, slice_index, slice_index_or};
+ghost use Rattle.std.specs.Prelude.{IsTrue, length, map, replicate, slice_index, slice_index_or};
 ghost use Rattle.std.specs.List.{list_any};
 ghost use Rattle.sixel_grammar.specs.declared.command.Event.{Event};
 ghost use Rattle.sixel_grammar.specs.Bytes.{is_data};
@@ -38,6 +38,24 @@ fn lay_colours(pixels: &mut [Pixel], colours: &[Colour])
     for index in 0..pixels.len() {
         pixels[index] = Pixel::fixed(colours[index]);
     }
+}
+
+/// Pixels of this colour.
+fn plain_pixels(alloc: Global, count: usize, colour: Colour) -> Result<Vec<Pixel>, AllocError>
+    ensures { IfOk result (λ pixels. pixels.items ≡ replicate count (Fixed colour)) }
+{
+    vec![in alloc; Pixel::fixed(colour); count]
+}
+
+/// Pixels of these colours.
+fn fixed_pixels(alloc: Global, colours: &[Colour]) -> Result<Vec<Pixel>, AllocError>
+    ensures { IfOk result (λ pixels. pixels.items ≡ map (λ c. Fixed c) colours.now) }
+{
+    let mut pixels = Vec::with_capacity(alloc, colours.len())?;
+    for colour in colours {
+        pixels.push(Pixel::fixed(*colour))?;
+    }
+    Ok(pixels)
 }
 
 /// Gives each pixel the colour that it shows if the registers have these colours.
@@ -97,11 +115,13 @@ impl Terminal {
     pub(crate) fn first_pixels(&self, alloc: Global) -> Result<Vec<Pixel>, AllocError>
         ensures { IfOk result (λ pixels. pixels.items ≡ map (λ c. Fixed c) self.now.screen) }
     {
-        let count = (self.choices.screen_width * self.choices.screen_height) as usize;
-        let black = Pixel::fixed(Colour::of_percentages(0, 0, 0));
-        let mut pixels = vec![in alloc; black; count]?;
-        self.lay(&mut pixels);
-        Ok(pixels)
+        match &self.backdrop {
+            Backdrop::Plain(colour) => {
+                let count = (self.choices.screen_width * self.choices.screen_height) as usize;
+                plain_pixels(alloc, count, *colour)
+            }
+            Backdrop::Pixels(colours) => fixed_pixels(alloc, colours),
+        }
     }
 
     /// Draws one more event.
@@ -127,7 +147,7 @@ impl Terminal {
         }
     }
 
-    /// Draws the sixels of these data bytes, if they can be painted at once. Returns the pen after them.
+    /// Draws the sixels of these data bytes, if a sixel pixel is one pixel high. Returns the pen after them.
     pub(crate) fn try_draw_stretch(
         &self,
         pen: Pen,
@@ -143,14 +163,12 @@ impl Terminal {
         ensures kept { IsNone result → inks.new ≡ inks.old }
     {
         let _ = &self.choices;
-        let ink = self.ink(colours, pen.selected);
-        if !self.try_paint_stretch(pen, bytes, &ink, inks) {
+        if pen.height != 1 {
             return None;
         }
-        Some(Pen {
-            column: pen.column + bytes.len() as u32,
-            ..pen
-        })
+        let ink = self.ink(colours, pen.selected);
+        self.paint_stretch(pen, bytes, &ink, inks);
+        Some(pen.moved(bytes.len()))
     }
 
     /// Gives each pixel the colour that it shows after the events. `has_eight_bit` says whether one of them is an 8-bit

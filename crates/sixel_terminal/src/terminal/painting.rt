@@ -84,34 +84,34 @@ impl Terminal {
         }
     }
 
-    /// Paints the sixels of these data bytes, from the pen on, if a sixel pixel is one pixel high and all of them are
-    /// before the edges. Returns whether it did.
-    pub(crate) fn try_paint_stretch(
-        &self,
-        pen: Pen,
-        bytes: &[u8],
-        ink: &Pixel,
-        inks: &mut [Pixel],
-    ) -> bool
+    /// Paints the sixels of these data bytes, from the pen on, as far as they are before the edges.
+    pub(crate) fn paint_stretch(&self, pen: Pen, bytes: &[u8], ink: &Pixel, inks: &mut [Pixel])
         requires screen { length inks.old ≡ self.now.choices.screen_width * self.now.choices.screen_height }
         requires data { (k : ℕ) → k < length bytes.now → IsTrue (is_data (slice_index bytes.now k)) }
-        ensures painted { result ≡ true → EachIndex inks.old (λ i. slice_index_or inks.new i black
+        requires height { pen.height ≡ 1 }
+        ensures { EachIndex inks.old (λ i. slice_index_or inks.new i black
             ≡ (if stretch_covers self.now pen bytes.now (i % self.now.choices.screen_width)
             (i / self.now.choices.screen_width) then ink.now else slice_index_or inks.old i black)) }
-        ensures room { result ≡ true → pen.column + length bytes.now ≤ most }
-        ensures kept { result ≡ false → inks.new ≡ inks.old }
     {
         let left = self.choices.origin_x as u64 + pen.column as u64;
         let top = self.choices.origin_y as u64 + BAND_ROWS as u64 * pen.band as u64;
-        if pen.height != 1
-            || left + bytes.len() as u64 > self.right_edge(pen) as u64
-            || top + BAND_ROWS as u64 > self.bottom_edge(pen) as u64
-        {
-            return false;
+        let right = self.right_edge(pen) as u64;
+        let bottom = self.bottom_edge(pen) as u64;
+        if left >= right || top >= bottom {
+            return;
         }
         let width = self.choices.screen_width as usize;
-        paint_rows(inks, width, left as usize, top as usize, bytes, ink);
-        true
+        let count = bytes.len().min((right - left) as usize);
+        let rows = BAND_ROWS.min((bottom - top) as u32);
+        paint_rows(
+            inks,
+            width,
+            left as usize,
+            top as usize,
+            rows,
+            &bytes[..count],
+            ink,
+        );
     }
 
     /// Paints a box at the origin with the ink.

@@ -114,7 +114,7 @@ impl Terminal {
     {
         match command {
             Command::Sixel(_) => pen.moved(1),
-            Command::Repeat { count, .. } => pen.moved(self.columns_of(count)),
+            Command::Repeat { count, .. } => pen.moved(self.columns_of(count) as usize),
             Command::Raster {
                 pan,
                 pad,

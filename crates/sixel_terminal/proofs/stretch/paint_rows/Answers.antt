@@ -13,5 +13,5 @@ loop-bit-preserved c =
 
 pub returns : goal.returns
 returns c =
-    let done : c.loop-bit.bit ≡ 6 = omega arith in
+    let done : c.loop-bit.bit ≡ c.args.count = omega arith in
     (rw done at c.loop-bit.invariant).pixels

@@ -1,13 +1,9 @@
-use Rattle.std.proofs.Common.{◌≡◌, ◌<◌, ◌++◌, ℕ, List, [], ◌∷◌, arith, get_or, length, refl, subst, sym, take}
+use Rattle.std.proofs.Common.{◌++◌, arith, subst, sym, take}
 use Rattle.std.proofs.lemmas.Result.{err_from_is_err_and}
 use Rattle.sixel_grammar.specs.Stretches.{sixels_from}
 use Rattle.sixel_terminal.specs.Drawings.{HasDrawn}
-use Rattle.sixel_run.proofs.DrawLemmas.{sixels_then}
+use Rattle.sixel_run.proofs.DrawLemmas.{first_byte, sixels_then}
 use Rattle.sixel_run.proofs.running.draw.draw_stretch_or_byte.Goals as goal
-
-first_byte : (bytes : List ℕ) → 0 < length bytes → take 1 bytes ≡ get_or bytes 0 0 ∷ []
-first_byte [] some = absurd (omega arith)
-first_byte (b ∷ rest) some = refl
 
 pub returns : goal.returns
 returns c =

@@ -1,6 +1,5 @@
-use Rattle.std.proofs.Common.{◌≡◌, ◌∙◌, ◌++◌, List, ℕ, ap, sym}
+use Rattle.std.proofs.Common.{◌≡◌, ◌∙◌, List, ap}
 use Rattle.std.specs.List.{flat_map}
-use Rattle.sixel_io.specs.Devices.{Writes}
 use Rattle.sixel_model.specs.declared.colour.Parts.{Parts}
 use Rattle.sixel_ppm.specs.Ppm.{are_rgb, ppm_header, samples_of}
 use Rattle.sixel_ppm.specs.PpmTables.{samples_from}

@@ -14,19 +14,10 @@ returns-clause-shown g c =
     (λ bytes d. (
       d.0,
       d.1,
-      c.finish.ensures.shown (events_of d.0) d.2 ∙ ap (λ (t : Display). screen_on t (events_of d.0)) terminal,
+      record {
+        width = c.finish.ensures.width ∙ ap (λ (t : Display). t.choices.screen_width) terminal;
+        height = c.finish.ensures.height ∙ ap (λ (t : Display). t.choices.screen_height) terminal;
+        colours = c.finish.ensures.shown (events_of d.0) d.2
+            ∙ ap (λ (t : Display). screen_on t (events_of d.0)) terminal;
+      },
     )) c.in_ok-draw.ensures.drawn
-
-pub returns-clause-width : goal.returns-clause-width
-unfolding show_terminal
-returns-clause-width g c =
-    let terminal : c.draw.new.drawing.terminal ≡ show_terminal c.args.profile c.args.choices =
-    c.in_ok-draw.ensures.terminal ∙ c.in_ok-drawing.ensures.terminal ∙ c.in_ok-terminal.ensures in
-    c.finish.ensures.width ∙ ap (λ (t : Display). t.choices.screen_width) terminal
-
-pub returns-clause-height : goal.returns-clause-height
-unfolding show_terminal
-returns-clause-height g c =
-    let terminal : c.draw.new.drawing.terminal ≡ show_terminal c.args.profile c.args.choices =
-    c.in_ok-draw.ensures.terminal ∙ c.in_ok-drawing.ensures.terminal ∙ c.in_ok-terminal.ensures in
-    c.finish.ensures.height ∙ ap (λ (t : Display). t.choices.screen_height) terminal

@@ -1,7 +1,9 @@
+use Rattle.sixel_run.specs.Screens.{show_terminal}
 use Rattle.sixel_run.proofs.DrawLemmas.{told}
 use Rattle.sixel_run.proofs.running.show.show.Goals as goal
 
 pub returns-clause-wrote : goal.returns-clause-wrote
 returns-clause-wrote g c =
     told (g.S.Source.state c.args.input.now).remaining _ _
-    (λ bytes d. c.write_screen.ensures.wrote c.args.profile d.0 bytes d.1 d.2) c.in_ok-screen.ensures.shown
+    (λ bytes d. c.write_screen.ensures.wrote (show_terminal c.args.profile c.args.choices) d.0 bytes d.1 d.2)
+    c.in_ok-screen.ensures.shown

@@ -1,6 +1,7 @@
-use Rattle.std.proofs.Common.{◌≡◌, ◌+◌, ◌++◌, List, length, sym, subst}
+use Rattle.std.proofs.Common.{◌≡◌, ◌≤◌, ◌∙◌, ◌++◌, List, length, sym, subst, arith}
 use Rattle.sixel_terminal.specs.declared.pen.Pen.{Pen}
 use Rattle.sixel_terminal.specs.Standing.{StandsAfter}
+use Rattle.sixel_terminal.specs.Steps.{most}
 use Rattle.sixel_terminal.specs.Stretches.{sixels_of}
 use Rattle.sixel_terminal.proofs.RunLemmas.{Runs, runs_seen}
 use Rattle.sixel_terminal.proofs.StretchLemmas.{pen_moved, stands_stretch}
@@ -11,9 +12,9 @@ returns-clause-drawn c = λ before s.
     let t = c.args.self.now in
     let pen = c.args.pen in
     let bytes = c.args.bytes.now in
-    let did = c.if-not-try_paint_stretch.false in
     let known : Runs t = runs_seen _ _ _ _ c.self.view_is c.self.invariant in
-    subst (λ (p : Pen). StandsAfter t (before ++ sixels_of bytes) p c.args.colours.now c.try_paint_stretch.new.inks)
-    (pen_moved pen bytes (c.try_paint_stretch.ensures.room did))
-    (stands_stretch t bytes before pen c.args.colours.now c.args.inks.now c.try_paint_stretch.new.inks known s
-    c.try_paint_stretch.auto.inks (rw c.ink-ink.ensures at c.try_paint_stretch.ensures.painted did))
+    let few : pen.column ≤ most = omega (arith, s.pen.column_is) in
+    subst (λ (p : Pen). StandsAfter t (before ++ sixels_of bytes) p c.args.colours.now c.paint_stretch.new.inks)
+    (pen_moved pen bytes few ∙ sym c.moved.ensures)
+    (stands_stretch t bytes before pen c.args.colours.now c.args.inks.now c.paint_stretch.new.inks known s
+    c.paint_stretch.auto.inks (rw c.ink-ink.ensures at c.paint_stretch.ensures))

@@ -1,0 +1,106 @@
+use Rattle.std.proofs.Common.{◌≡◌, ◌+◌, ◌<◌, ◌≤◌, ◌++◌, List, [], length, length-append, take, refl, sym, ap, subst, ◌∙◌}
+use Rattle.std.proofs.Common.{arith}
+use Rattle.std.proofs.lemmas.List.{append-nil, length-take-le}
+use Rattle.std.proofs.lemmas.Result.{err_from_is_err_and}
+use Rattle.sixel_grammar.specs.declared.command.Placed.{Placed}
+use Rattle.sixel_grammar.specs.Document.{Document, events_of, most_bytes}
+use Rattle.sixel_grammar.specs.Faults.{IsFaultOf}
+use Rattle.sixel_grammar.specs.Reading.{Explains}
+use Rattle.sixel_grammar.specs.Standing.{left_of}
+use Rattle.sixel_grammar.specs.declared.fault.InputFault.TheVariants.{Grammar}
+use Rattle.sixel_grammar.proofs.SourceLemmas.{all_read, consumes-then, refused_early, take_none}
+use Rattle.sixel_check.proofs.ReadLemmas.{not_failed}
+use Rattle.sixel_run.specs.Boxes.{IsShownInBox, terminal_of_kind}
+use Rattle.sixel_run.proofs.StageLemmas.{box-of-none, nothing-taken}
+use Rattle.sixel_run.proofs.running.show_box.read_box_screen.Goals as goal
+
+pub loop-stage-init : goal.loop-stage-init
+loop-stage-init g c = (
+  [],
+  record {
+    events = [];
+    read = c.new-reader.ensures;
+    stands = (c.new.ensures.items, sym box-of-none);
+  },
+  nothing-taken (g.S.Source.state c.args.input.now).remaining,
+  refl,
+)
+
+pub returns-in_err-finish-clause-refused : goal.returns-in_err-finish-clause-refused
+returns-in_err-finish-clause-refused g c =
+    let i = c.loop-stage.invariant in
+    let b = c.in_ok-count.ensures.bytes in
+    let z : c.in_ok-count.count ≡ 0 = omega arith in
+    let none = take_none c.in_ok-count.count c.fill.new.piece z in
+    let some : 0 < length c.fill.new.piece = omega arith in
+    let failed = err_from_is_err_and c.from_residual-in_err-finish.result c.from_residual-in_err-finish.ensures.1 in
+    rw (failed.1, failed.2)
+    (all_read _ _ (i.0 ++ take c.in_ok-count.count c.fill.new.piece)
+    (Explains (Grammar c.in_err-finish.field-0.0))
+    (consumes-then _ _ _ i.0 (take c.in_ok-count.count c.fill.new.piece) i.2 b.0) (b.1 z some)
+    (subst (λ t. IsFaultOf t c.in_err-finish.field-0.0) (sym (ap (λ t. i.0 ++ t) none ∙ append-nil i.0))
+    (c.in_err-finish.ensures.answer i.1.events i.0 i.1.read).0))
+
+pub returns-in_err-stage-clause-refused : goal.returns-in_err-stage-clause-refused
+returns-in_err-stage-clause-refused g c =
+    let i = c.loop-stage.invariant in
+    let exit = c.from_residual-in_err-stage in
+    let failed = err_from_is_err_and exit.result exit.ensures.1 in
+    rw (failed.1, failed.2)
+    (refused_early _ _ _ (i.0 ++ take c.in_ok-count.count c.fill.new.piece)
+    (consumes-then _ _ _ i.0 (take c.in_ok-count.count c.fill.new.piece) i.2 c.in_ok-count.ensures.bytes.0)
+    (c.in_err-stage.ensures.refused i.0 i.1))
+
+pub loop-stage-preserved : goal.loop-stage-preserved
+loop-stage-preserved g c =
+    let i = c.loop-stage.invariant in (
+      i.0 ++ take c.in_ok-count.count c.fill.new.piece,
+      c.in_ok-stage.ensures.read i.0 i.1,
+      consumes-then _ _ _ i.0 (take c.in_ok-count.count c.fill.new.piece) i.2 c.in_ok-count.ensures.bytes.0,
+      cc (c.in_ok-count.ensures.failures, i.3),
+    )
+
+pub returns-then-count-eq0-clause-shown : goal.returns-then-count-eq0-clause-shown
+returns-then-count-eq0-clause-shown g c =
+    let i = c.loop-stage.invariant in
+    let b = c.in_ok-count.ensures.bytes in
+    let z : c.in_ok-count.count ≡ 0 = omega arith in
+    let none = take_none c.in_ok-count.count c.fill.new.piece z in
+    let some : 0 < length c.fill.new.piece = omega arith in
+    all_read _ _ (i.0 ++ take c.in_ok-count.count c.fill.new.piece)
+    (λ bytes. (events : List Placed) × Document events bytes
+    × IsShownInBox (terminal_of_kind c.args.kind) c.screen.result (events_of events))
+    (consumes-then _ _ _ i.0 (take c.in_ok-count.count c.fill.new.piece) i.2 b.0) (b.1 z some) (
+      i.1.events,
+      subst (Document i.1.events) (sym (ap (λ t. i.0 ++ t) none ∙ append-nil i.0))
+          (c.in_ok-finish.ensures.answer i.1.events i.0 i.1.read),
+      c.screen.ensures (terminal_of_kind c.args.kind) (events_of i.1.events) i.0 i.1.stands,
+    )
+
+pub loop-stage-smaller : goal.loop-stage-smaller
+loop-stage-smaller g c =
+    let i = c.loop-stage.invariant in
+    let old : left_of c.loop-stage.reader + length i.0 ≡ most_bytes = i.1.read.left in
+    let new : left_of c.after.new.reader + length (i.0 ++ take c.in_ok-count.count c.fill.new.piece) ≡ most_bytes =
+    (c.in_ok-stage.ensures.read i.0 i.1).read.left in
+    let some : 0 < c.in_ok-count.count = omega arith in
+    let long : c.in_ok-count.count ≤ length c.fill.new.piece =
+    omega (arith, c.in_ok-count.ensures.bound, c.fill.auto.piece) in
+    omega (
+      arith,
+      old,
+      new,
+      some,
+      length-append i.0 (take c.in_ok-count.count c.fill.new.piece),
+      length-take-le c.in_ok-count.count c.fill.new.piece long,
+    )
+
+pub returns-in_err-stage-clause-failures : goal.returns-in_err-stage-clause-failures
+returns-in_err-stage-clause-failures g c =
+    let i = c.loop-stage.invariant in
+    let exit = c.from_residual-in_err-stage in
+    let failed = err_from_is_err_and exit.result exit.ensures.1 in
+    let h = c.in_err-stage.ensures.refused i.0 i.1 in
+    rw (failed.1, failed.2)
+    (◌∙◌ {b = (g.S.Source.state c.loop-stage.input).failures} c.in_ok-count.ensures.failures i.3
+    ∙ not_failed (Unit {0}) c.in_err-stage.field-0.0 _ _ h)

@@ -1,0 +1,62 @@
+-- Reading a document whose declared box gives the sides of the screen. Only contracts of private functions cite these.
+use Rattle.std.specs.Prelude.{◌≡◌, ◌++◌, ℕ, List, Option, Some, None, IsSome, option_map}
+use Rattle.sixel_grammar.specs.declared.command.Event.{Event}
+use Rattle.sixel_grammar.specs.declared.command.Placed.{Placed}
+use Rattle.sixel_grammar.specs.declared.fault.InputFault.{InputFault}
+use Rattle.sixel_grammar.specs.declared.reader.Reader.{Reader}
+use Rattle.sixel_grammar.specs.Document.{events_of}
+use Rattle.sixel_grammar.specs.Reading.{ExplainsAlways}
+use Rattle.sixel_grammar.specs.Standing.{StandsAfter}
+use Rattle.sixel_model.specs.Events.{Attributes}
+use Rattle.sixel_model.specs.Rules.{raster_before}
+use Rattle.sixel_terminal.specs.Displays.{Display}
+use Rattle.sixel_terminal.specs.Drawings.{Drawn as DrawnValue, HasDrawn}
+use Rattle.sixel_terminal.specs.Screens.{Shown}
+use Rattle.sixel_run.specs.declared.running.show_box.Kind.{Kind}
+use Rattle.sixel_run.specs.declared.running.show_box.Stage.{Stage}
+use Rattle.sixel_run.specs.declared.running.show_box.Stage.TheVariants.{Undeclared, Drawn, Unshowable}
+use Rattle.sixel_run.specs.Screens.{IsScreenAfter, declared_screen, screen_terminal}
+
+-- the terminal of this kind with a screen of these sides
+abbrev pub terminal_of_kind : Kind → ℕ × ℕ → Display
+terminal_of_kind kind = screen_terminal kind.profile kind.showing kind.fill kind.selects
+
+-- the declared box, that of the first raster attributes: its width and its height
+unfoldable pub box_in : List Event → Option (ℕ × ℕ)
+box_in events = option_map (λ (a : Attributes). (a.width, a.height)) (raster_before events)
+
+-- a reader that had read some bytes has now (new) read those and `more`, and this is the first box that the events
+-- declare which `more` completes
+abbrev pub Finds : Reader → Reader → Option (ℕ × ℕ) → List ℕ → Type 0
+Finds old new found more = (events : List Placed) (bytes : List ℕ) → StandsAfter old events bytes
+    → (later : List Placed) × StandsAfter new (events ++ later) (bytes ++ more) × (found ≡ box_in (events_of later))
+
+-- after some bytes were read, the fault is that of any bytes that begin with those and `more`
+abbrev pub Refuses : Reader → List ℕ → InputFault → Type 0
+Refuses old more fault =
+    (events : List Placed) (bytes : List ℕ) → StandsAfter old events bytes → ExplainsAlways fault (bytes ++ more)
+
+-- the events are drawn on the terminal whose screen has the sides of the box that they declare
+pub record IsDrawnInBox (terminal : ℕ × ℕ → Display) (d : DrawnValue) (events : List Event) : Type 0 where
+  pub sides : ℕ × ℕ
+  pub declared : declared_screen events ≡ Some sides
+  pub on : d.terminal ≡ terminal sides
+  pub drawn : HasDrawn d events
+
+-- the stage after these bytes, in which these events are complete
+abbrev pub IsStageAfter : (ℕ × ℕ → Display) → Stage → List Event → List ℕ → Type 0
+IsStageAfter terminal (Undeclared kept) events bytes = (kept.items ≡ bytes) × (box_in events ≡ None)
+IsStageAfter terminal (Drawn d) events bytes = IsDrawnInBox terminal d events
+IsStageAfter terminal Unshowable events bytes = IsSome (box_in events) × (declared_screen events ≡ None)
+
+-- the reader has read these bytes, and the stage is the one after them
+pub record HasRead (terminal : ℕ × ℕ → Display) (reader : Reader) (stage : Stage) (bytes : List ℕ) : Type 0 where
+  pub events : List Placed
+  pub read : StandsAfter reader events bytes
+  pub stands : IsStageAfter terminal stage (events_of events) bytes
+
+-- the screen of a document with these events, or none if no screen can have the sides of its declared box
+abbrev pub IsShownInBox : (ℕ × ℕ → Display) → Option Shown → List Event → Type 0
+IsShownInBox terminal None events = declared_screen events ≡ None
+IsShownInBox terminal (Some screen) events =
+    (sides : ℕ × ℕ) × (declared_screen events ≡ Some sides) × IsScreenAfter (terminal sides) screen events
