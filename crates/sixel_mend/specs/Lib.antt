@@ -1,0 +1,4 @@
+pub mod Screens
+pub mod Sizes
+pub mod Mended
+pub mod Extents

@@ -1,0 +1,6 @@
+//! Makes a portable picture of a sixel string: what one terminal shows of it, without the pixels round it.
+#![tactic(auto)]
+
+mod mending;
+
+pub use mending::{MendFault, Mending};
