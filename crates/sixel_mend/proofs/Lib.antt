@@ -1,3 +1,5 @@
 pub mod ExtentLemmas
 pub mod SizeLemmas
 pub mod NumberLemmas
+pub mod MeasureLemmas
+pub mod FollowLemmas

@@ -2,3 +2,5 @@ pub mod Screens
 pub mod Sizes
 pub mod Mended
 pub mod Extents
+pub mod Measures
+pub mod Following

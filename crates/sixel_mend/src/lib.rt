@@ -1,6 +1,8 @@
 //! Makes a portable picture of a sixel string: what one terminal shows of it, without the pixels round it.
 #![tactic(auto)]
 
+mod extent;
+mod following;
 mod mending;
 
 pub use mending::{MendFault, Mending};
