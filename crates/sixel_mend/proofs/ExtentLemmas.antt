@@ -1,7 +1,6 @@
 -- The extent of a list, event by event.
 use Rattle.std.proofs.Common.{◌≡◌, ◌==◌, ℕ, zero, suc, ◌+◌, ◌-◌, ◌*◌, ◌<◌, ◌≤◌, ◌⊎◌, Bool, true, false, Option, Some}
-use Rattle.std.proofs.Common.{None, List, [], ◌∷◌, ◌++◌, length, max, inl, inr, refl, sym, ap, subst, ◌∙◌, arith}
-use Rattle.std.proofs.Common.{append_assoc, append-nil}
+use Rattle.std.proofs.Common.{None, List, [], ◌∷◌, ◌++◌, length, max, inl, inr, refl, sym, ap, ◌∙◌, arith}
 use Rattle.std.specs.Prelude.{IsTrue, if◌then◌else◌}
 use Rattle.std.specs.Int.{bit_at}
 use Rattle.std.specs.Option.{option_map_or}
@@ -11,8 +10,8 @@ use Rattle.sixel_grammar.specs.declared.command.Command.TheVariants.{Sixel, Repe
 use Rattle.sixel_grammar.specs.declared.command.Event.{Event}
 use Rattle.sixel_grammar.specs.declared.command.Event.TheVariants.{Step}
 use Rattle.sixel_model.specs.Events.{Attributes, bits_of, columns_of, is_square, raster_of}
-use Rattle.sixel_model.specs.Geometry.{band, band_rows, column, covers, touches}
-use Rattle.sixel_model.specs.Positions.{HoldsAtPosition, latest}
+use Rattle.sixel_model.specs.Geometry.{band, column, covers, touches}
+use Rattle.sixel_model.specs.Positions.{latest}
 use Rattle.sixel_model.proofs.CoverLemmas.{LiesUnder, covers_under, lies_under}
 use Rattle.sixel_model.proofs.PositionLemmas.{holds_before, holds_end, holds_push, holds_within}
 use Rattle.sixel_terminal.specs.Displays.{Display}
@@ -20,7 +19,7 @@ use Rattle.sixel_terminal.specs.Drawing.{height_of, touches_on}
 use Rattle.sixel_mend.specs.declared.mending.Mending.{Mending}
 use Rattle.sixel_mend.specs.Extents.{depth, depth_below, next_height, next_width, reached}
 use Rattle.sixel_mend.specs.Screens.{mending_terminal}
-use Rattle.sixel_mend.specs.Sizes.{Bounds, IsExtent, IsTouched}
+use Rattle.sixel_mend.specs.Sizes.{IsExtent, IsTouched}
 
 -- ---- the lowest set bit
 

@@ -1,17 +1,15 @@
 -- What an extent stores, event by event.
-use Rattle.std.proofs.Common.{◌≡◌, ◌==◌, ℕ, suc, ◌+◌, ◌-◌, ◌*◌, ◌<◌, ◌≤◌, Bool, true, false, cond, max, min, Option, Some}
+use Rattle.std.proofs.Common.{◌≡◌, ◌==◌, ℕ, ◌+◌, ◌-◌, ◌*◌, ◌≤◌, Bool, true, false, cond, max, min, Option}
 use Rattle.std.proofs.Common.{None, List, [], ◌∷◌, ◌++◌, length, refl, sym, ap, ap₂, subst, ◌∙◌, append_assoc, append-nil}
 use Rattle.std.proofs.Common.{arith}
 use Rattle.std.specs.Prelude.{if◌then◌else◌}
 use Rattle.std.specs.Int.{bit_at}
 use Rattle.std.specs.Option.{option_map, option_or}
-use Rattle.std.proofs.lemmas.Bool.{and_parts, ltb-false}
-use Rattle.std.proofs.lemmas.Bool.Decides.{nat_tests}
 use Rattle.sixel_grammar.specs.declared.command.Command.{Command}
 use Rattle.sixel_grammar.specs.declared.command.Command.TheVariants.{Sixel}
 use Rattle.sixel_grammar.specs.declared.command.Event.{Event}
 use Rattle.sixel_grammar.specs.declared.command.Event.TheVariants.{Start, Step, Finish}
-use Rattle.sixel_model.specs.Events.{Attributes, bits_of, columns_of, is_next_line, is_return, raster_of}
+use Rattle.sixel_model.specs.Events.{bits_of, columns_of, is_next_line, is_return, raster_of}
 use Rattle.sixel_model.specs.Geometry.{band, column}
 use Rattle.sixel_model.specs.Positions.{earliest, since}
 use Rattle.sixel_model.specs.Rules.{raster_before}
@@ -21,12 +19,11 @@ use Rattle.sixel_terminal.proofs.DrawLemmas.{or_none}
 use Rattle.sixel_terminal.proofs.StandLemmas.{map_or}
 use Rattle.sixel_mend.specs.declared.extent.Extent.{Extent}
 use Rattle.sixel_mend.specs.declared.extent.Sides.{Sides}
-use Rattle.sixel_mend.specs.declared.mending.Mending.{Mending}
 use Rattle.sixel_mend.specs.Extents.{depth, next_height, next_width, reached}
 use Rattle.sixel_mend.specs.Measures.{Measures, most, next_band, next_column, next_declared, reached_column, reached_row}
 use Rattle.sixel_mend.specs.Measures.{sides_of}
 use Rattle.sixel_mend.specs.Screens.{mending_terminal}
-use Rattle.sixel_mend.proofs.ExtentLemmas.{IsDepth, extent_none, extent_push, is_depth}
+use Rattle.sixel_mend.proofs.ExtentLemmas.{extent_none, extent_push, is_depth}
 
 -- ---- numbers that stop at the greatest one
 

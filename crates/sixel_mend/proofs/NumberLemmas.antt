@@ -1,23 +1,23 @@
 -- Pictures whose registers are numbered by their colours.
-use Rattle.std.proofs.Common.{◌≡◌, ◌==◌, ℕ, zero, suc, ◌+◌, ◌*◌, ◌<◌, ◌≤◌, Bool, true, false, ◌&&◌, ◌||◌, Option, Some}
-use Rattle.std.proofs.Common.{None, IfSome, List, [], ◌∷◌, ◌++◌, All, fold, length, map, get_or, refl, sym, ap, ◌∙◌}
+use Rattle.std.proofs.Common.{◌≡◌, ℕ, zero, suc, ◌+◌, ◌*◌, ◌<◌, ◌≤◌, Bool, true, false, ◌&&◌, ◌||◌, Option, Some}
+use Rattle.std.proofs.Common.{None, IfSome, List, [], ◌∷◌, ◌++◌, fold, length, map, get_or, refl, sym, ap, ◌∙◌}
 use Rattle.std.proofs.Common.{◌⊎◌, inl, inr, arith, length-append, subst, zero-add}
-use Rattle.std.specs.Prelude.{is_some, slice_index, unwrap_or, if◌then◌else◌}
-use Rattle.std.specs.List.{AllByRecursion, list_any, position_from}
+use Rattle.std.specs.Prelude.{slice_index, unwrap_or, if◌then◌else◌}
+use Rattle.std.specs.List.{AllByRecursion, list_any}
 use Rattle.std.proofs.lemmas.Bool.{and_parts, eqb-true, or_left, or_right}
-use Rattle.std.proofs.lemmas.List.{get_or-map, length-map}
+use Rattle.std.proofs.lemmas.List.{get_or-map}
 use Rattle.std.proofs.lemmas.List.Folds.{list_any-append}
 use Rattle.std.proofs.lemmas.List.Quantifiers.{position-Some}
 use Rattle.std.proofs.lemmas.Iterator.Adapters.{position_from-zero}
 use Rattle.sixel_model.specs.Colours.{IsColour, is_entry, is_same, palette_at}
-use Rattle.sixel_model.specs.Pictures.{IsPicture, PictureValue, is_side, register_of}
+use Rattle.sixel_model.specs.Pictures.{IsPicture, is_side, register_of}
 use Rattle.sixel_model.specs.Grids.{row_by_row}
 use Rattle.sixel_model.specs.declared.colour.Parts.{Parts}
 use Rattle.sixel_model.specs.declared.colour.Parts.TheVariants.{Rgb, Hls}
 use Rattle.sixel_model.proofs.GridLemmas.{get_rows, length_rows}
 use Rattle.std.proofs.lemmas.Nat.{mul-add-lt}
 use Rattle.sixel_ppm.specs.PpmReading.{distinct, palette_of, picture_of, register_among, with_colour}
-use Rattle.sixel_ppm.specs.PpmSamples.{AllSeen, HoldsPixels}
+use Rattle.sixel_ppm.specs.PpmSamples.{AllSeen}
 use Rattle.sixel_ppm.proofs.PpmColourLemmas.{any_then_position, same_as_itself}
 use Rattle.sixel_ppm.proofs.PpmSampleLemmas.{picture_accepted, seen_more, seen_with}
 
@@ -123,6 +123,7 @@ seen_in_range seen (c ∷ more) old new =
     at_end : (cs : List Parts) → AllByRecursion IsColour cs → AllByRecursion IsColour (cs ++ c ∷ [])
     at_end [] h = (new.0, tt)
     at_end (d ∷ cs) h = (h.0, at_end cs h.1)
+
     with_one : (b : Bool) → AllByRecursion IsColour (if b then seen else seen ++ c ∷ [])
     with_one true = old
     with_one false = at_end seen old

@@ -1,7 +1,6 @@
 -- Each list has one size.
-use Rattle.std.proofs.Common.{◌≡◌, ℕ, ◌≤◌, List, [], ◌∷◌, ◌++◌, append_assoc, append-nil, arith, refl, subst, sym, ap, ◌∙◌}
+use Rattle.std.proofs.Common.{◌≡◌, ℕ, List, [], ◌∷◌, ◌++◌, append_assoc, append-nil, arith, refl, subst, sym, ap, ◌∙◌}
 use Rattle.sixel_grammar.specs.declared.command.Event.{Event}
-use Rattle.sixel_model.specs.Events.{Attributes}
 use Rattle.sixel_terminal.specs.Displays.{Display}
 use Rattle.sixel_terminal.specs.Drawing.{height_of, touches_on}
 use Rattle.sixel_mend.specs.declared.mending.Mending.{Mending}
@@ -67,9 +66,11 @@ size_by m w h events a b is = record {
 
 pub some_size : (m : Mending) (events : List Event) → (width : ℕ) × (height : ℕ) × IsSize m events width height
 some_size m events =
-    let e = has_extent m 0 0 events in
-    (side_over events (λ s. s.width) e.width, side_over events (λ s. s.height) e.height,
-      size_by m 0 0 events e.width e.height e.is)
+    let e = has_extent m 0 0 events in (
+      side_over events (λ s. s.width) e.width,
+      side_over events (λ s. s.height) e.height,
+      size_by m 0 0 events e.width e.height e.is,
+    )
 
 pub one_size : (m : Mending) (events : List Event) (a b c d : ℕ) → IsSize m events a b → IsSize m events c d
     → (a ≡ c) × (b ≡ d)

@@ -1,4 +1,4 @@
-use Rattle.std.proofs.Common.{◌≡◌, ◌++◌, ◌∙◌, ◌+◌, List, ℕ, ap, append_assoc, arith, drop, subst, sym, take}
+use Rattle.std.proofs.Common.{◌++◌, ◌∙◌, List, ℕ, ap, append_assoc, arith, drop, subst, sym, take}
 use Rattle.std.proofs.lemmas.Result.{err_from_is_err_and}
 use Rattle.sixel_grammar.proofs.SourceLemmas.{take_past}
 use Rattle.sixel_grammar.specs.Faults.{IsFaultOf}
