@@ -3,3 +3,4 @@ pub mod SizeLemmas
 pub mod NumberLemmas
 pub mod MeasureLemmas
 pub mod FollowLemmas
+pub mod TerminalLemmas

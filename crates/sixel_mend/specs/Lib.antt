@@ -4,3 +4,4 @@ pub mod Mended
 pub mod Extents
 pub mod Measures
 pub mod Following
+pub mod Numbering

@@ -4,5 +4,7 @@
 mod extent;
 mod following;
 mod mending;
+mod numbering;
+mod terminal;
 
 pub use mending::{MendFault, Mending};
