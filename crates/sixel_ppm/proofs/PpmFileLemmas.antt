@@ -327,7 +327,7 @@ grows seen (c ∷ more) =
     le_trans (grows_by seen c (list_any (is_same c) seen) refl) (grows (with_colour seen c) more)
 
 -- a prefix of the colours has no more different ones
-distinct_grows : (colours more : List Parts) → length (distinct colours) ≤ length (distinct (colours ++ more))
+pub distinct_grows : (colours more : List Parts) → length (distinct colours) ≤ length (distinct (colours ++ more))
 distinct_grows colours more =
     subst (λ (seen : List Parts). length (distinct colours) ≤ length seen)
     (sym (fold-append with_colour [] colours more)) (grows (distinct colours) more)

@@ -1,4 +1,4 @@
--- Colours numbered in the order in which they first appear. Only contracts of private functions cite these.
+-- Colours numbered in the order in which they first appear.
 use Rattle.std.specs.Prelude.{◌≡◌, ◌<◌, ◌≤◌, ℕ, List, Option, None, Some, MatchOption, get_or, length, position}
 use Rattle.sixel_model.specs.Colours.{is_entry}
 use Rattle.sixel_ppm.specs.PpmReading.{palette_of, register_among}

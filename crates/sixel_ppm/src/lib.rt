@@ -5,5 +5,5 @@ pub mod laws;
 mod ppm;
 
 pub use ppm::{
-    PpmFault, PpmReason, ToRgbx, read_ppm, write_ppm, write_ppm_colours, write_ppm_pixels,
+    Colours, PpmFault, PpmReason, ToRgbx, read_ppm, write_ppm, write_ppm_colours, write_ppm_pixels,
 };

@@ -8,6 +8,7 @@ mod samples;
 mod table;
 mod write;
 
+pub use colours::Colours;
 pub use read::read_ppm;
 use std::alloc::AllocError;
 pub use table::ToRgbx;

@@ -1,0 +1,6 @@
+pub mod ExtentLemmas
+pub mod SizeLemmas
+pub mod NumberLemmas
+pub mod MeasureLemmas
+pub mod FollowLemmas
+pub mod TerminalLemmas

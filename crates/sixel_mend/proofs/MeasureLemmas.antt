@@ -1,0 +1,142 @@
+-- What an extent stores, event by event.
+use Rattle.std.proofs.Common.{◌≡◌, ◌==◌, ℕ, ◌+◌, ◌-◌, ◌*◌, ◌≤◌, Bool, true, false, cond, max, min, Option}
+use Rattle.std.proofs.Common.{None, List, [], ◌∷◌, ◌++◌, length, refl, sym, ap, ap₂, subst, ◌∙◌, append_assoc, append-nil}
+use Rattle.std.proofs.Common.{arith}
+use Rattle.std.specs.Prelude.{if◌then◌else◌}
+use Rattle.std.specs.Int.{bit_at}
+use Rattle.std.specs.Option.{option_map, option_or}
+use Rattle.sixel_grammar.specs.declared.command.Command.{Command}
+use Rattle.sixel_grammar.specs.declared.command.Command.TheVariants.{Sixel}
+use Rattle.sixel_grammar.specs.declared.command.Event.{Event}
+use Rattle.sixel_grammar.specs.declared.command.Event.TheVariants.{Start, Step, Finish}
+use Rattle.sixel_model.specs.Events.{bits_of, columns_of, is_next_line, is_return, raster_of}
+use Rattle.sixel_model.specs.Geometry.{band, column}
+use Rattle.sixel_model.specs.Positions.{earliest, since}
+use Rattle.sixel_model.specs.Rules.{raster_before}
+use Rattle.sixel_model.proofs.StepLemmas.{band_push, column_push, raster_push}
+use Rattle.sixel_terminal.specs.Stretches.{sixels_of}
+use Rattle.sixel_terminal.proofs.DrawLemmas.{or_none}
+use Rattle.sixel_terminal.proofs.StandLemmas.{map_or}
+use Rattle.sixel_mend.specs.declared.extent.Extent.{Extent}
+use Rattle.sixel_mend.specs.declared.extent.Sides.{Sides}
+use Rattle.sixel_mend.specs.Extents.{depth, next_height, next_width, reached}
+use Rattle.sixel_mend.specs.Measures.{Measures, most, next_band, next_column, next_declared, reached_column, reached_row}
+use Rattle.sixel_mend.specs.Measures.{sides_of}
+use Rattle.sixel_mend.specs.Screens.{mending_terminal}
+use Rattle.sixel_mend.proofs.ExtentLemmas.{extent_none, extent_push, is_depth}
+
+-- ---- numbers that stop at the greatest one
+
+capped_column : (b : Bool) (c n : ℕ) → cond b 0 (min (min c most + n) most) ≡ min (cond b 0 (c + n)) most
+capped_column true c n = omega arith
+capped_column false c n = omega arith
+
+capped_sum : (b n : ℕ) → min (min b most + n) most ≡ min (b + n) most
+capped_sum b n = omega arith
+
+capped_row : (b rows : ℕ) → min (6 * min b most + rows) most ≡ min (6 * b + rows) most
+capped_row b rows = omega arith
+
+capped_side : (side rows to : ℕ) → reached (min side most) rows (min to most) ≡ min (reached side rows to) most
+capped_side side rows to = by (rows == 0)
+  where
+    by : (b : Bool) → (if b then min side most else max (min side most) (min to most))
+        ≡ min (if b then side else max side to) most
+    by true = refl
+    by false = omega arith
+
+-- ---- one more event
+
+pub measures_push : (e f : Extent) (before : List Event) (event : Event) → Measures e before
+    → f.column ≡ next_column e event → f.band ≡ next_band e event → f.width ≡ reached_column e event
+    → f.height ≡ reached_row e event → f.declared ≡ next_declared e event → Measures f (before ++ event ∷ [])
+measures_push e f before event s c b w h d =
+    let rows = depth (bits_of event) in
+    let columns = columns_of 1 event in
+    record {
+      column_is =
+          c ∙ ap (λ (n : ℕ). cond (is_return event) 0 (min (n + columns) most)) s.column_is
+          ∙ capped_column (is_return event) (column 1 before) columns
+          ∙ ap (λ (n : ℕ). min n most) (sym (column_push 1 before event));
+      band_is =
+          b ∙ ap (λ (n : ℕ). min (n + cond (is_next_line event) 1 0) most) s.band_is
+          ∙ capped_sum (band before) (cond (is_next_line event) 1 0)
+          ∙ ap (λ (n : ℕ). min n most) (sym (band_push before event));
+      width = next_width s.width before event;
+      height = next_height s.height before event;
+      extent = λ m v u. extent_push m v u before event s.width s.height (s.extent m v u);
+      width_is =
+          w ∙ ap₂ (λ (a n : ℕ). reached a rows (min (n + columns) most)) s.width_is s.column_is
+          ∙ ap (reached (min s.width most) rows) (capped_sum (column 1 before) columns)
+          ∙ capped_side s.width rows (column 1 before + columns);
+      height_is =
+          h ∙ ap₂ (λ (a n : ℕ). reached a rows (min (6 * n + rows) most)) s.height_is s.band_is
+          ∙ ap (reached (min s.height most) rows) (capped_row (band before) rows)
+          ∙ capped_side s.height rows (6 * band before + rows);
+      declared_is =
+          d ∙ ap (λ (o : Option Sides). option_or o (option_map sides_of (raster_of event))) s.declared_is
+          ∙ sym (map_or sides_of (raster_before before) (raster_of event))
+          ∙ ap (option_map sides_of) (sym (raster_push before event));
+    }
+
+-- an event that is no command
+pub measures_idle : (e : Extent) (before : List Event) (event : Event)
+    → ((command : Command) → event ≡ Step command → ⊥) → Measures e before → Measures e (before ++ event ∷ [])
+measures_idle e before (Step command) no_step s = absurd (no_step command refl)
+measures_idle e before (Start eight parameters) no_step s =
+    measures_push e e before (Start eight parameters) s (omega (arith, s.column_is)) (omega (arith, s.band_is)) refl refl
+    (or_none e.declared)
+measures_idle e before (Finish eight) no_step s =
+    measures_push e e before (Finish eight) s (omega (arith, s.column_is)) (omega (arith, s.band_is)) refl refl
+    (or_none e.declared)
+
+pub measures_none : (e : Extent) → e.column ≡ 0 → e.band ≡ 0 → e.width ≡ 0 → e.height ≡ 0 → e.declared ≡ None
+    → Measures e []
+unfolding column band raster_before earliest since
+measures_none e c b w h d = record {
+  column_is = c;
+  band_is = b;
+  width = 0;
+  height = 0;
+  extent = λ m v u. extent_none (mending_terminal m v u);
+  width_is = w;
+  height_is = h;
+  declared_is = d;
+}
+
+-- ---- a stretch that reaches no further
+
+side_stays : (side rows to : ℕ) → to ≤ side → reached side rows (min to most) ≡ side
+side_stays side rows to le = by (rows == 0)
+  where
+    by : (b : Bool) → (if b then side else max side (min to most)) ≡ side
+    by true = refl
+    by false = omega (arith, le)
+
+abbrev moved : Extent → ℕ → Extent
+moved e n = record e { column = e.column + n }
+
+-- one of its sixels
+one_inside : (e : Extent) (before : List Event) (bits : ℕ) → Measures e before → e.column + 1 ≤ e.width
+    → 6 * e.band + 6 ≤ e.height → Measures (moved e 1) (before ++ Step (Sixel bits) ∷ [])
+one_inside e before bits s across down =
+    let few : depth bits ≤ 6 = (is_depth 6 (λ k. bit_at bits k == 1)).few in
+    measures_push e (moved e 1) before (Step (Sixel bits)) s (omega (arith, s.width_is, across))
+    (omega (arith, s.band_is)) (sym (side_stays e.width (depth bits) (e.column + 1) across))
+    (sym (side_stays e.height (depth bits) (6 * e.band + depth bits) (omega (arith, few, down)))) (or_none e.declared)
+
+pub measures_stretch : (bytes : List ℕ) (e : Extent) (before : List Event) → Measures e before
+    → e.column + length bytes ≤ e.width → 6 * e.band + 6 ≤ e.height
+    → Measures (moved e (length bytes)) (before ++ sixels_of bytes)
+measures_stretch [] e before s across down =
+    subst (Measures (moved e 0)) (sym (append-nil before)) (same_there (e.column + 0) (omega arith))
+  where
+    same_there : (n : ℕ) → n ≡ e.column → Measures (record e { column = n }) before
+    same_there n is = rw is s
+measures_stretch (b ∷ bytes) e before s across down =
+    let sixel = Step (Sixel (b - 63)) in
+    let one = one_inside e before (b - 63) s (omega (arith, across)) down in
+    let all = measures_stretch bytes (moved e 1) (before ++ sixel ∷ []) one (omega (arith, across)) down in
+    let count : e.column + 1 + length bytes ≡ e.column + length (b ∷ bytes) = omega arith in
+    subst (λ (n : ℕ). Measures (record e { column = n }) (before ++ sixels_of (b ∷ bytes))) count
+    (subst (Measures (moved (moved e 1) (length bytes))) (append_assoc before (sixel ∷ []) (sixels_of bytes)) all)

@@ -1,0 +1,163 @@
+//! How far the data commands of a string reach.
+
+ghost use Rattle.std.specs.Prelude.{◌≡◌, ◌++◌, ◌∷◌, [], ◌<◌, ◌≤◌, ◌+◌, ◌*◌, List, ℕ, IsTrue, length, max, min};
+ghost use Rattle.std.specs.Prelude.{slice_index};
+ghost use Rattle.sixel_grammar.specs.declared.command.Event.{Event as AnEvent};
+ghost use Rattle.sixel_grammar.specs.declared.command.Event.TheVariants.{Step};
+ghost use Rattle.sixel_grammar.specs.Bytes.{is_data};
+ghost use Rattle.sixel_model.specs.Geometry.{band_rows};
+ghost use Rattle.sixel_terminal.specs.Stretches.{sixels_of};
+ghost use Rattle.sixel_mend.specs.Extents.{depth, reached};
+ghost use Rattle.sixel_mend.specs.Measures.{Measures, most, next_band, next_column, next_declared, reached_column};
+ghost use Rattle.sixel_mend.specs.Measures.{reached_row};
+
+use crate::following::Follower;
+use sixel_grammar::{Command, Event};
+use sixel_model::{BAND_ROWS, is_set};
+
+/// The sides of a declared box, in pixels.
+#[derive(Clone, Copy, Debug, PartialEq, Eq)]
+pub(crate) struct Sides {
+    pub width: u16,
+    pub height: u16,
+}
+
+/// How far data commands reach, event by event. Numbers stop at `u32::MAX`, which is more than any picture has.
+#[derive(Clone, Copy, Debug, PartialEq, Eq)]
+pub(crate) struct Extent {
+    /// The column of the next sixel.
+    pub column: u32,
+    /// The band of the next sixel.
+    pub band: u32,
+    /// How many columns, from the first one, have all touched points.
+    pub width: u32,
+    /// How many rows, from the first one, have all touched points.
+    pub height: u32,
+    /// The box of the first raster attributes.
+    pub declared: Option<Sides>,
+}
+
+/// How many rows of its band a sixel reaches down.
+fn depth(bits: u8) -> u32
+    ensures value { result ≡ depth bits }
+    ensures few { result ≤ BAND_ROWS }
+{
+    let mut rows = 0;
+    for bit in 0..BAND_ROWS {
+        if is_set(bits, bit) {
+            rows = bit + 1;
+        }
+    }
+    rows
+}
+
+impl Extent {
+    /// The extent before any event.
+    pub(crate) fn new() -> Extent
+        ensures { Measures result [] }
+    {
+        Extent {
+            column: 0,
+            band: 0,
+            width: 0,
+            height: 0,
+            declared: None,
+        }
+    }
+
+    /// The extent after a data command of so many columns.
+    fn reaching(self, columns: u16, bits: u8) -> Extent
+        ensures { result ≡ record self {
+          column = min (self.column + columns) most;
+          width = reached self.width (depth bits) (min (self.column + columns) most);
+          height = reached self.height (depth bits) (min (band_rows * self.band + depth bits) most);
+        } }
+    {
+        let column = self.column.saturating_add(u32::from(columns));
+        let rows = depth(bits);
+        if rows == 0 {
+            return Extent { column, ..self };
+        }
+        let bottom = self.band.saturating_mul(BAND_ROWS).saturating_add(rows);
+        Extent {
+            column,
+            width: self.width.max(column),
+            height: self.height.max(bottom),
+            ..self
+        }
+    }
+
+    /// The extent after a command.
+    fn after(self, command: Command) -> Extent
+        ensures column { result.column ≡ next_column self (Step command) }
+        ensures band { result.band ≡ next_band self (Step command) }
+        ensures width { result.width ≡ reached_column self (Step command) }
+        ensures height { result.height ≡ reached_row self (Step command) }
+        ensures declared { result.declared ≡ next_declared self (Step command) }
+    {
+        match command {
+            Command::Sixel(bits) => self.reaching(1, bits),
+            Command::Repeat { count, bits } => self.reaching(count.max(1), bits),
+            Command::Raster { width, height, .. } => Extent {
+                declared: self.declared.or(Some(Sides { width, height })),
+                ..self
+            },
+            Command::CarriageReturn => Extent { column: 0, ..self },
+            Command::NextLine => Extent {
+                column: 0,
+                band: self.band.saturating_add(1),
+                ..self
+            },
+            _ => self,
+        }
+    }
+
+    /// The extent after one more event.
+    fn with(self, event: &Event) -> Extent
+        ensures { (before : List AnEvent) → Measures self before → Measures result (before ++ event.now ∷ []) }
+    {
+        match event {
+            Event::Step(command) => self.after(*command),
+            _ => self,
+        }
+    }
+
+    /// Whether a stretch of so many sixels reaches no further than the commands before.
+    fn has_room(&self, columns: usize) -> bool
+        ensures { IsTrue result → (self.now.column + columns ≤ self.now.width)
+            × (band_rows * self.now.band + band_rows ≤ self.now.height) }
+    {
+        self.column <= self.width
+            && columns <= (self.width - self.column) as usize
+            && u64::from(BAND_ROWS) * (u64::from(self.band) + 1) <= u64::from(self.height)
+    }
+}
+
+impl Extent {
+    /// Follows the sixels of these data bytes one by one.
+    fn follow_each(&mut self, bytes: &[u8])
+        requires { (k : ℕ) → k < length bytes.now → IsTrue (is_data (slice_index bytes.now k)) }
+        ensures { (before : List AnEvent) → Measures self.old before
+            → Measures self.new (before ++ sixels_of bytes.now) }
+    {
+        for byte in bytes {
+            *self = self.with(&Event::Step(Command::Sixel(byte - b'?')));
+        }
+    }
+}
+
+impl Follower for Extent {
+    ghost has_followed = { λ _ extent events. Measures extent events };
+
+    fn follow(&mut self, event: &Event) {
+        *self = self.with(event);
+    }
+
+    fn follow_stretch(&mut self, bytes: &[u8]) {
+        if self.has_room(bytes.len()) {
+            self.column += bytes.len() as u32;
+        } else {
+            self.follow_each(bytes);
+        }
+    }
+}

@@ -1,0 +1,10 @@
+//! Makes a portable picture of a sixel string: what one terminal shows of it, without the pixels round it.
+#![tactic(auto)]
+
+mod extent;
+mod following;
+mod mending;
+mod numbering;
+mod terminal;
+
+pub use mending::{MendFault, Mending};

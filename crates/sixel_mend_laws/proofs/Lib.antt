@@ -1,0 +1,4 @@
+pub mod RangeLemmas
+pub mod TouchedLemmas
+pub mod MendedLemmas
+pub mod StaysLemmas
