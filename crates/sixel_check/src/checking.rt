@@ -86,8 +86,9 @@ fn keep_command<P: Plane>(
 {
     match command {
         Command::CarriageReturn | Command::NextLine => push_command(checker, place, command),
-        Command::Select(_) | Command::Define { .. } => push_command(checker, place, command),
-        _ => push_rarely(checker, place, command),
+        Command::Select(_) => push_command(checker, place, command),
+        Command::Define { .. } => push_command(checker, place, command),
+        other => push_rarely(checker, place, other),
     }
 }
 
@@ -105,7 +106,7 @@ fn keep_repeat<P: Plane>(
 {
     match command {
         Command::Repeat { .. } => push_command(checker, place, command),
-        _ => push_rarely(checker, place, command),
+        other => push_rarely(checker, place, other),
     }
 }
 
