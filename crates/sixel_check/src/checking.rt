@@ -71,8 +71,10 @@ fn push_command<P: Plane>(
     checker.push(&Placed { place, event })
 }
 
-/// Pushes a command that a byte below `?` completed. The kinds of which a document can have most each get their own
-/// inlined call.
+/// Pushes a command that a byte below `?` completed: moves, selects and definitions each get their own inlined call.
+///
+/// The arms are no accident: each keeps only the code for its kinds. A copy is passed on where the call isn't inlined,
+/// so that the command itself needs no memory.
 #[inline(always)]
 fn keep_command<P: Plane>(
     checker: &mut Checker<P>,
@@ -92,7 +94,7 @@ fn keep_command<P: Plane>(
     }
 }
 
-/// As `keep_command`, for a data byte: a repeat gets its own inlined call.
+/// Pushes a command that a data byte completed: a repeat gets its own inlined call.
 #[inline(always)]
 fn keep_repeat<P: Plane>(
     checker: &mut Checker<P>,
@@ -110,7 +112,7 @@ fn keep_repeat<P: Plane>(
     }
 }
 
-/// Pushes a command. It isn't inlined.
+/// Pushes a command of any kind.
 #[inline(never)]
 fn push_rarely<P: Plane>(
     checker: &mut Checker<P>,
@@ -125,7 +127,7 @@ fn push_rarely<P: Plane>(
     push_command(checker, place, command)
 }
 
-/// Reads a byte below `?`, and pushes the events that it completes. Any other byte takes longer.
+/// Reads one byte, and pushes the events that it completes. It is for bytes below `?`.
 #[inline(always)]
 fn read_sign<P: Plane>(
     reader: &mut Reader,
@@ -144,7 +146,7 @@ fn read_sign<P: Plane>(
     }
 }
 
-/// Reads a data byte that begins no stretch, and pushes the events that it completes. Any other byte takes longer.
+/// Reads one byte, and pushes the events that it completes. It is for data bytes that begin no stretch.
 #[inline(always)]
 fn read_data<P: Plane>(
     reader: &mut Reader,
@@ -163,7 +165,7 @@ fn read_data<P: Plane>(
     }
 }
 
-/// Reads any byte, and pushes the events that it completes. The result has a local of its own here, so that the fast paths write no memory for it.
+/// As `feed_and_keep`. The result has a local of its own here, so that the fast paths write no memory for it.
 #[inline(always)]
 fn read_otherwise<P: Plane>(
     reader: &mut Reader,
@@ -178,7 +180,7 @@ fn read_otherwise<P: Plane>(
     feed_and_keep(reader, checker, byte)
 }
 
-/// Reads any byte, and pushes the events that it completes.
+/// Reads one byte of any kind, and pushes the events that it completes.
 #[inline(never)]
 fn feed_and_keep<P: Plane>(
     reader: &mut Reader,
