@@ -71,7 +71,10 @@ fn push_command<P: Plane>(
     checker.push(&Placed { place, event })
 }
 
-/// Pushes a command that one byte completed. All kinds but raster attributes get their own inlined call.
+/// Pushes a command that a byte below `?` completed: moves, selects and definitions each get their own inlined call.
+///
+/// The arms are no accident: each keeps only the code for its kinds. A copy is passed on where the call isn't inlined,
+/// so that the command itself needs no memory.
 #[inline(always)]
 fn keep_command<P: Plane>(
     checker: &mut Checker<P>,
@@ -84,47 +87,32 @@ fn keep_command<P: Plane>(
     ensures grows { OnErr result (MayGrowOver checker.old (command_at place command ∷ [])) }
 {
     match command {
-        Command::Sixel(bits) => push_command(checker, place, Command::Sixel(bits)),
-        Command::Repeat { count, bits } => {
-            push_command(checker, place, Command::Repeat { count, bits })
-        }
-        Command::CarriageReturn => push_command(checker, place, Command::CarriageReturn),
-        Command::NextLine => push_command(checker, place, Command::NextLine),
-        Command::Select(register) => push_command(checker, place, Command::Select(register)),
-        Command::Define {
-            register,
-            system,
-            x,
-            y,
-            z,
-        } => {
-            let definition = Command::Define {
-                register,
-                system,
-                x,
-                y,
-                z,
-            };
-            push_command(checker, place, definition)
-        }
-        Command::Raster {
-            pan,
-            pad,
-            width,
-            height,
-        } => {
-            let raster = Command::Raster {
-                pan,
-                pad,
-                width,
-                height,
-            };
-            push_rarely(checker, place, raster)
-        }
+        Command::CarriageReturn | Command::NextLine => push_command(checker, place, command),
+        Command::Select(_) => push_command(checker, place, command),
+        Command::Define { .. } => push_command(checker, place, command),
+        other => push_rarely(checker, place, other),
     }
 }
 
-/// Pushes a command. It isn't inlined.
+/// Pushes a command that a data byte completed: a repeat gets its own inlined call.
+#[inline(always)]
+fn keep_repeat<P: Plane>(
+    checker: &mut Checker<P>,
+    place: u64,
+    command: Command,
+) -> Result<(), AllocError>
+    requires { (registers : ℕ) × (seen : List PlacedValue) × StandsAfter registers checker.old seen
+        × MayCome seen (Some (command_at place command)) }
+    ensures kept { OnOk result (TakesEvents checker.old checker.new (command_at place command ∷ [])) }
+    ensures grows { OnErr result (MayGrowOver checker.old (command_at place command ∷ [])) }
+{
+    match command {
+        Command::Repeat { .. } => push_command(checker, place, command),
+        other => push_rarely(checker, place, other),
+    }
+}
+
+/// Pushes a command of any kind.
 #[inline(never)]
 fn push_rarely<P: Plane>(
     checker: &mut Checker<P>,
@@ -139,9 +127,9 @@ fn push_rarely<P: Plane>(
     push_command(checker, place, command)
 }
 
-/// Reads one byte, and pushes the events that it completes.
+/// Reads one byte, and pushes the events that it completes. It is for bytes below `?`.
 #[inline(always)]
-fn read_byte<P: Plane>(
+fn read_sign<P: Plane>(
     reader: &mut Reader,
     checker: &mut Checker<P>,
     byte: u8,
@@ -158,7 +146,26 @@ fn read_byte<P: Plane>(
     }
 }
 
-/// As `read_byte`, for any byte. The result has a local of its own here, so that the fast paths write no memory for it.
+/// Reads one byte, and pushes the events that it completes. It is for data bytes that begin no stretch.
+#[inline(always)]
+fn read_data<P: Plane>(
+    reader: &mut Reader,
+    checker: &mut Checker<P>,
+    byte: u8,
+) -> Result<(), InputFault>
+    requires { (registers : ℕ) × (prefix : List ℕ) × AreAfter registers reader.old checker.old prefix }
+    ensures read { OnOk result (TakesBytes reader.old checker.old reader.new checker.new (byte ∷ [])) }
+    ensures refused { IfErr result (RefusesBytes reader.old checker.old (byte ∷ [])) }
+    ensures memory { IfErr result (GrowsForBytes reader.old checker.old (byte ∷ [])) }
+{
+    match reader.feed_plain(byte) {
+        Some(Plain::Nothing) => Ok(()),
+        Some(Plain::Command { place, command }) => Ok(keep_repeat(checker, place, command)?),
+        None => read_otherwise(reader, checker, byte),
+    }
+}
+
+/// As `feed_and_keep`. The result has a local of its own here, so that the fast paths write no memory for it.
 #[inline(always)]
 fn read_otherwise<P: Plane>(
     reader: &mut Reader,
@@ -173,7 +180,7 @@ fn read_otherwise<P: Plane>(
     feed_and_keep(reader, checker, byte)
 }
 
-/// As `read_byte`, for any byte.
+/// Reads one byte of any kind, and pushes the events that it completes.
 #[inline(never)]
 fn feed_and_keep<P: Plane>(
     reader: &mut Reader,
@@ -255,12 +262,12 @@ fn read_stretch_or_byte<P: Plane>(
 {
     // No byte below `?` is data, so the compiler drops the code for data from this branch.
     if bytes[0] < b'?' {
-        read_byte(reader, checker, bytes[0])?;
+        read_sign(reader, checker, bytes[0])?;
         return Ok(1);
     }
     let stretch = reader.feed_stretch(bytes);
     if stretch.count == 0 {
-        read_byte(reader, checker, bytes[0])?;
+        read_data(reader, checker, bytes[0])?;
         return Ok(1);
     }
     push_stretch(checker, stretch.place, bytes, stretch.count)?;

@@ -7,6 +7,7 @@ ghost use Rattle.sixel_check.specs.DrawingState.{colour_within};
 use sixel_model::{Colour, Parts};
 
 /// The colour with these coordinates in this system (1 is HLS, 2 is RGB), if the system exists and all are in range.
+#[inline]
 pub(crate) fn colour_in(system: u16, x: u16, y: u16, z: u16) -> Option<Colour>
     ensures { result ≡ colour_within system x y z }
 {
@@ -21,6 +22,7 @@ pub(crate) fn colour_in(system: u16, x: u16, y: u16, z: u16) -> Option<Colour>
 }
 
 /// Whether the colour has these coordinates in this colour system.
+#[inline]
 pub(crate) fn is_colour_of(colour: Colour, system: u16, x: u16, y: u16, z: u16) -> bool
     ensures { result ≡ same_colour colour system x y z }
 {

@@ -94,8 +94,12 @@ impl DrawingState {
           named = next_named self.old event.now;
         } }
     {
-        self.selected = select_of(event).or(self.selected);
-        self.named = named_by(event).or(self.named);
+        if let Some(register) = select_of(event) {
+            self.selected = Some(register);
+        }
+        if let Some(register) = named_by(event) {
+            self.named = Some(register);
+        }
     }
 
     #[inline(always)]

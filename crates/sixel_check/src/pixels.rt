@@ -53,6 +53,7 @@ fn pixel_blank<P: Plane>(plane: &P) -> Option<(u64, u64)>
 }
 
 /// A violation of `EightBit`, the rule that is tested last.
+#[inline]
 fn violation_of_eight_bit(event: &Event) -> Option<Violation>
     ensures { (registers : ℕ) (before : List EventValue) → NoneBelow registers eight_bit_rule before event.now
         → IsViolationOf registers before event.now result }
@@ -68,6 +69,7 @@ fn violation_of_eight_bit(event: &Event) -> Option<Violation>
 }
 
 /// A violation of `Uncovered` or of `EightBit`, tested in this order.
+#[inline]
 fn violation_of_end<P: Plane>(plane: &P, event: &Event) -> Option<Violation>
     ensures { (registers : ℕ) (before : List EventValue) → IsDrawn (P.grid plane.now) before
         → NoneBelow registers uncovered_rule before event.now → IsViolationOf registers before event.now result }

@@ -18,6 +18,7 @@ use sixel_model::MOST_REGISTERS;
 const MOST_SIDE: u16 = 2048;
 
 /// A data command, a return or the finish before any raster attributes.
+#[inline]
 fn breaks_raster_first(has_box: bool, event: &Event) -> bool
     ensures { result ≡ by_state.raster_first_in has_box event.now }
 {
@@ -25,6 +26,7 @@ fn breaks_raster_first(has_box: bool, event: &Event) -> bool
 }
 
 /// Raster attributes after raster attributes.
+#[inline]
 fn breaks_raster_twice(has_box: bool, event: &Event) -> bool
     ensures { result ≡ by_state.raster_twice_in has_box event.now }
 {
@@ -33,6 +35,7 @@ fn breaks_raster_twice(has_box: bool, event: &Event) -> bool
 
 /// Raster attributes whose aspect ratio isn't written as 1 to 1.
 #[tactic(auto, unfolding(sixel_model::specs::Rules::breaks_ratio))]
+#[inline]
 fn breaks_ratio(event: &Event) -> bool
     ensures { result ≡ of.breaks_ratio event.now }
 {
@@ -44,6 +47,7 @@ fn breaks_ratio(event: &Event) -> bool
 
 /// Raster attributes with a side outside 1 to 2,048 pixels.
 #[tactic(auto, unfolding(sixel_model::specs::Rules::breaks_box_size))]
+#[inline]
 fn breaks_box_size(event: &Event) -> bool
     ensures { result ≡ of.breaks_box_size event.now }
 {
@@ -57,6 +61,7 @@ fn breaks_box_size(event: &Event) -> bool
 
 /// A register that the palette's profile doesn't have.
 #[tactic(auto, unfolding(sixel_model::specs::Rules::breaks_register))]
+#[inline]
 fn breaks_register(state: &DrawingState, event: &Event) -> bool
     ensures { result ≡ of.breaks_register (length state.now.palette) event.now }
 {
@@ -68,6 +73,7 @@ fn breaks_register(state: &DrawingState, event: &Event) -> bool
 
 /// A definition that gives no colour in range.
 #[tactic(auto, unfolding(sixel_model::specs::Rules::breaks_colour_value))]
+#[inline]
 fn breaks_colour_value(event: &Event) -> bool
     ensures { result ≡ of.breaks_colour_value event.now }
 {
@@ -87,6 +93,7 @@ fn breaks_colour_value(event: &Event) -> bool
 
 /// A repeat of 0.
 #[tactic(auto, unfolding(sixel_model::specs::Rules::breaks_repeat_zero))]
+#[inline]
 fn breaks_repeat_zero(event: &Event) -> bool
     ensures { result ≡ of.breaks_repeat_zero event.now }
 {

@@ -8,7 +8,7 @@ use Rattle.sixel_grammar.specs.Standing.{Takes, completions}
 use Rattle.sixel_check.specs.Standing.{StandsAfter}
 use Rattle.sixel_check.proofs.GrowthLemmas.{grows_byte}
 use Rattle.sixel_check.proofs.ReadLemmas.{after_byte, read_may}
-use Rattle.sixel_check.proofs.checking.read_byte.Goals as goal
+use Rattle.sixel_check.proofs.checking.read_sign.Goals as goal
 
 pub keep_command-requires : goal.keep_command-requires
 keep_command-requires g c =
