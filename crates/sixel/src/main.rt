@@ -3,14 +3,15 @@
 
 use sixel_io::{FromRead, ToWrite};
 use sixel_program::{Input, Peeked, System, Terminals, code_of, execute, tell};
-use sixel_words::{arguments_of, task_in};
+use sixel_words::{Process, arguments_of, task_in};
 use std::io::IsTerminal;
 use std::process::ExitCode;
 
 fn main(rt: HostRuntime) -> ExitCode {
     let mut output = ToWrite::new(rt.stdout());
     let mut errors = ToWrite::new(rt.stderr());
-    let exit = match task_in(rt.alloc(), arguments_of(rt.alloc(), &rt)) {
+    let arguments = arguments_of(rt.alloc(), &Process::new(&rt));
+    let exit = match task_in(rt.alloc(), arguments) {
         Ok(request) => {
             let folder = System::new(&rt);
             let terminals = Terminals {

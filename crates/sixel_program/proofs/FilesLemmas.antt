@@ -7,11 +7,11 @@ use Rattle.std.specs.Global.{Global}
 use Rattle.std.specs.Io.KnownBytes.{Appends, Consumes, Keeps}
 use Rattle.std.specs.Option.{option_or}
 use Rattle.std.proofs.KnownBytes.{Consumes-nil, Appends-trans}
-use Rattle.std.proofs.Common.{get_or, ◌||◌}
-use Rattle.std.specs.List.{list_any}
+use Rattle.std.proofs.Common.{get_or, ◌&&◌, ◌||◌, not, slice_get}
+use Rattle.std.specs.List.{cons_option, filter_map, list_any}
 use Rattle.std.proofs.lemmas.List.Folds.{list_any-append}
 use Rattle.std.proofs.lemmas.List.{append-nil, take-append-drop, take_more}
-use Rattle.std.proofs.lemmas.List.Elements.{All-cons, All-nil, All-push}
+use Rattle.std.proofs.lemmas.List.Elements.{All-cons, All-nil, All-push, filter_map-append}
 use Rattle.std.proofs.lemmas.Grind.{flat_map-append}
 use Rattle.std.proofs.lemmas.List.{map-append}
 use Rattle.std.proofs.lemmas.List.Sums.{fold_push}
@@ -19,6 +19,7 @@ use Rattle.sixel_io.specs.Devices.{Change, ReadsToEnd, SinkState, SourceState, c
 use Rattle.sixel_io.proofs.SinkLemmas.{Appends-keeps, Appends-none}
 use Rattle.sixel_io.proofs.DeviceLemmas.{Appends-then}
 use Rattle.sixel_model.specs.declared.profile.Profile.{Profile}
+use Rattle.sixel_check.specs.declared.rule.Rule.{Rule}
 use Rattle.sixel_program.specs.declared.exit.Exit.{Exit}
 use Rattle.sixel_program.specs.declared.exit.Exit.TheVariants as exit
 use Rattle.sixel_run.specs.declared.fault.RunFault.{RunFault}
@@ -173,6 +174,18 @@ counted_more ends e a b c before is =
 names_more : (ends : List FileEnd) (e : FileEnd) → names_of (ends ++ e ∷ []) ≡ names_of ends ++ e.name ∷ []
 names_more ends e = map-append (λ e. e.name) ends (e ∷ [])
 
+first_of_both : (rules : List Rule) (last : Option Rule)
+    → slice_get (rules ++ cons_option last []) 0 ≡ option_or (slice_get rules 0) last
+first_of_both [] None = refl
+first_of_both [] (Some r) = refl
+first_of_both (r ∷ rules) last = refl
+
+first_rule_more : (answers : List (Result Status RunFault)) (last : Result Status RunFault)
+    → first_rule (answers ++ last ∷ []) ≡ option_or (first_rule answers) (rule_of last)
+first_rule_more answers last =
+    ap (λ (rules : List Rule). slice_get rules 0) (filter_map-append rule_of answers (last ∷ []))
+    ∙ first_of_both (filter_map rule_of answers) (rule_of last)
+
 module _ (profile : Profile) (q : Bool) {O : Type 0} (folder : FolderView O) (ends : List FileEnd) (names : List Text)
     (name : Text) (x : Exit) (i₀ i₁ i₂ : SourceState) (o₀ o₁ o₂ e₀ e₁ e₂ : SinkState)
     (before : AreChecked profile q folder ends names x (change i₀ i₁) (change o₀ o₁) (change e₀ e₁)) where
@@ -200,7 +213,7 @@ module _ (profile : Profile) (q : Bool) {O : Type 0} (folder : FolderView O) (en
           (file_said_put one.e.name one.e.unopened one.e.format one.e.answer e₁ e₂ (rw one.name_is one.outcome.3)));
     },
     ap first_rule (map-append (λ e. e.answer) ends (one.e ∷ []))
-        ∙ fold_push (λ found answer. option_or found (rule_of answer)) None (map (λ e. e.answer) ends) one.e.answer
+        ∙ first_rule_more (map (λ e. e.answer) ends) one.e.answer
         ∙ ap (λ (a : Result Status RunFault). option_or (first_broken ends) (rule_of a)) (sym one.outcome.0),
   )
 
@@ -338,18 +351,6 @@ named_tail fault = refl
 
 -- ---- when all files are checked
 
--- quietly
-pub done_quietly : (profile : Profile) (q h : Bool) {O : Type 0} (folder : FolderView O) (ends : List FileEnd)
-    (names : List Text) (x : Exit) (i : Change SourceState) (o e : Change SinkState)
-    → AreChecked profile q folder ends names x i o e → q ≡ true → AreDone profile q h folder names x i o e
-done_quietly profile q h folder ends names x i o e are quiet = record {
-  ends = ends;
-  between = e.new;
-  checked = are;
-  flushed = λ is. let no : true ≡ false = sym quiet ∙ is in cc;
-  hinted = rw quiet (inl (Appends-none e.new.taken, refl));
-}
-
 module _ (profile : Profile) (q : Bool) {O : Type 0} (folder : FolderView O) (ends : List FileEnd) (names : List Text)
     (x : Exit) (i : Change SourceState) (o₀ o₁ o₂ e₀ e₁ : SinkState)
     (before : AreChecked profile q folder ends names x i (change o₀ o₁) (change e₀ e₁)) where
@@ -367,15 +368,15 @@ module _ (profile : Profile) (q : Bool) {O : Type 0} (folder : FolderView O) (en
     said = before.said;
   }
 
-  pub done_hinted : (h : Bool) (e₂ : SinkState) → q ≡ false → Keeps o₁.taken o₂.taken → o₂.failures ≡ o₁.failures
-      → o₂.is_flushed ≡ true → IsPut (hint h profile (first_broken ends)) (change e₁ e₂)
+  pub done_hinted : (h : Bool) (e₂ : SinkState) → Keeps o₁.taken o₂.taken → o₂.failures ≡ o₁.failures
+      → (q ≡ false → o₂.is_flushed ≡ true) → IsPut (hint (not q && h) profile (first_broken ends)) (change e₁ e₂)
       → AreDone profile q h folder names x i (change o₀ o₂) (change e₀ e₂)
-  done_hinted h e₂ loud kept same flushed put = record {
+  done_hinted h e₂ kept same flushed put = record {
     ends = ends;
     between = e₁;
     checked = checked_flushed kept same;
-    flushed = λ is. flushed;
-    hinted = rw loud put;
+    flushed = flushed;
+    hinted = put;
   }
 
   pub cut_at_flush : (e₂ : SinkState) → q ≡ false → Keeps o₁.taken o₂.taken → o₂.failures ≡ one_more o₁.failures

@@ -1,6 +1,6 @@
 -- The hint after a check that found a broken rule.
-use Rattle.std.specs.Prelude.{◌++◌, ◌∷◌, Bool, true, List, [], codes, fold, Option, Some, None, Result, Ok}
-use Rattle.std.specs.Option.{option_or}
+use Rattle.std.specs.Prelude.{◌++◌, ◌∷◌, Bool, true, List, [], codes, filter_map, slice_get, Option, Some, None, Result}
+use Rattle.std.specs.Prelude.{Ok}
 use Rattle.sixel_model.specs.declared.profile.Profile.{Profile}
 use Rattle.sixel_model.specs.declared.profile.Profile.TheVariants.{Registers16}
 use Rattle.sixel_check.specs.declared.rule.Rule.{Rule}
@@ -17,9 +17,9 @@ abbrev pub rule_of : Result Status RunFault → Option Rule
 rule_of (Ok (Broken finding)) = Some finding.rule
 rule_of _ = None
 
--- the rule of the first run that found one broken
+-- the first of the rules that the runs found broken
 abbrev pub first_rule : List (Result Status RunFault) → Option Rule
-first_rule answers = fold (λ found answer. option_or found (rule_of answer)) None answers
+first_rule answers = slice_get (filter_map rule_of answers) 0
 
 -- for a register above 15 there is an option
 abbrev pub option_hint : Rule → Profile → Text

@@ -50,7 +50,7 @@ bytes_of opening name = bytes_told (opening name)
 
 -- ---- one file
 
--- the name isn't valid UTF-8: it has the character U+FFFD, which stands for whatever isn't
+-- the name has the character U+FFFD, which stands for bytes that aren't valid UTF-8
 abbrev pub IsNotText : Text → Type 0
 IsNotText name = (before after : Text) × (name ≡ before ++ (0xEF ∷ 0xBF ∷ 0xBD ∷ []) ++ after)
 
@@ -60,10 +60,11 @@ OpensAs None end = ⊤
 OpensAs (Some (Ok bytes)) end = end ≡ None
 OpensAs (Some (Err reason)) end = end ≡ Some reason
 
--- the file with this name was opened (`None`), or couldn't be for this reason. No file is opened by a name that isn't
--- valid UTF-8
+-- the file with this name was opened (`None`), or couldn't be for this reason
 pub record IsOpening (told : Told) (name : Text) (end : Option Unopened) : Type 0 where
+  -- no file is opened by a name that isn't valid UTF-8
   pub not_text : IsNotText name → end ≡ Some NotText
+  -- for any other name it ends as the folder tells
   pub as_told : (IsNotText name → ⊥) → OpensAs told end
 
 -- a call on some file of the folder's own type has failed; none has on a file that was just opened

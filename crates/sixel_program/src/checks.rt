@@ -1,9 +1,10 @@
 //! Checks of files, and quiet checks of standard input.
 
-ghost use Rattle.std.specs.Prelude.{◌≡◌, None, Option, Result, false, map, option_copied};
+ghost use Rattle.std.specs.Prelude.{◌≡◌, IfErr, None, OnOk, Option, Result, false, map, option_copied, true};
+ghost use Rattle.std.specs.Io.KnownBytes.{Keeps};
 ghost use Rattle.std.specs.List.{list_any};
 ghost use Rattle.std.specs.String.{string_bytes};
-ghost use Rattle.sixel_io.specs.Devices.{change};
+ghost use Rattle.sixel_io.specs.Devices.{CountsFailure, change};
 ghost use Rattle.sixel_program.specs.Exits.{IsPut};
 ghost use Rattle.sixel_program.specs.Files.{FilesEnd, IsChecked, IsFileEnd, IsOutcome, QuietEnds, SaysOfCheck};
 ghost use Rattle.sixel_program.specs.Files.{is_dash, worse};
@@ -165,6 +166,16 @@ fn unwritten<E: Sink>(errors: &mut E) -> Exit
     Exit::Refused
 }
 
+/// Flushes the output, unless the check is quiet.
+fn flush_verdicts<K: Sink>(is_quiet: bool, output: &mut K) -> Result<(), DeviceFault>
+    ensures bytes { Keeps (K.state output.old).taken (K.state output.new).taken }
+    ensures failures { CountsFailure result (K.state output.old).failures (K.state output.new).failures }
+    ensures flushed { is_quiet ≡ false → OnOk result ((K.state output.new).is_flushed ≡ true) }
+    ensures loud { IfErr result (λ _. is_quiet ≡ false) }
+{
+    if is_quiet { Ok(()) } else { output.flush() }
+}
+
 /// Checks the files with these names in turn. A refused file doesn't end this, but a failed write does. The exit status
 /// is the greatest of theirs. If hints are shown (`is_shown`) and the check isn't quiet, one on the first broken
 /// verdict comes last.
@@ -205,12 +216,9 @@ pub fn check_files<F: Folder, S: Source, K: Sink, E: Sink>(
             Err(_) => return unwritten(errors),
         }
     }
-    if is_quiet {
-        return exit;
-    }
-    match output.flush() {
+    match flush_verdicts(is_quiet, output) {
         Ok(()) => {
-            put_hint(is_shown, profile, broken, errors);
+            put_hint(!is_quiet && is_shown, profile, broken, errors);
             exit
         }
         Err(_) => unwritten(errors),

@@ -10,11 +10,15 @@ ghost use Rattle.sixel_run.specs.declared.fault.RunFault.{RunFault};
 ghost use Rattle.sixel_run.specs.declared.fault.RunFault.TheVariants.{Grammar};
 ghost use Rattle.sixel_run.specs.declared.task.Status.{Status};
 ghost use Rattle.sixel_run.specs.declared.task.Task.TheVariants.{Check};
-ghost use Rattle.sixel_program.specs.Exits.{exit_code};
+ghost use Rattle.sixel_check.specs.declared.verdict.Finding.{Finding};
+ghost use Rattle.sixel_words.specs.Explanations.{ArePasted, Asks, topic_name, topic_of};
+ghost use Rattle.sixel_words.specs.declared.explanations.Topic.TheVariants.{Read};
+ghost use Rattle.sixel_program.specs.declared.folder.Unopened.{Unopened};
+ghost use Rattle.sixel_program.specs.Exits.{exit_code, fault_said, labelled};
 ghost use Rattle.sixel_program.specs.Files.{ArePut, FileEnd, IsFileEnd, IsSaid, exit_of_end, files_exit, files_text};
-ghost use Rattle.sixel_program.specs.Names.{is_control, printed};
+ghost use Rattle.sixel_program.specs.Names.{is_control, printed, unopened_line};
 ghost use Rattle.sixel_run.specs.Outputs.{Gives};
-ghost use Rattle.sixel_run.specs.Texts.{Text};
+ghost use Rattle.sixel_run.specs.Texts.{Text, finding_line, rule_name};
 
 /// The output of a check of several files is their lines joined. Each line begins with the file's name, and the rest is
 /// the line that a check of only this file's bytes writes. A refused file has no line, and a grammar fault is the one
@@ -45,4 +49,15 @@ pub fn names_are_printed_without_controls()
     ensures clean { (name : Text) → All (λ byte. byte < 256) name → All (λ byte. is_control byte ≡ false)
         (printed name) }
     ensures plain { (name : Text) → All (λ byte. is_control byte ≡ false) name → printed name ≡ name }
+{}
+
+/// Each line that the program writes about a broken rule, a fault or a file that can't be opened asks for its topic, if
+/// it is pasted after `explain`. This holds for lines with a file's name and for those without one.
+pub fn each_line_can_be_explained()
+    ensures broken { (name : Option Text) (finding : Finding) (said : List Text) →
+        ArePasted said (labelled name (finding_line finding)) → Asks (Some said) (Some (rule_name finding.rule)) }
+    ensures refused { (name : Option Text) (fault : RunFault) (said : List Text) →
+        ArePasted said (fault_said name fault) → Asks (Some said) (Some (topic_name (topic_of fault))) }
+    ensures unopened { (name : Text) (reason : Unopened) (said : List Text) →
+        ArePasted said (unopened_line name reason) → Asks (Some said) (Some (topic_name Read)) }
 {}

@@ -3,6 +3,7 @@
 use crate::ends::{CHECK, ENCODE, RENDER, SHOW, SHOW_BOX, ends};
 use sixel_program::Exit;
 use sixel_run::Task;
+use std::test::Fail;
 
 /// Whether `encode` refuses the bytes with these lines, and writes nothing.
 fn refuses(rt: &impl AllocGlobal, bytes: &[u8], lines: &[u8]) -> bool {
@@ -145,39 +146,21 @@ fn files_that_are_no_text(rt: HostRuntime) {
 
 /// Each format that Netpbm reads has a program of its own.
 #[test]
-fn programs_of_netpbm(rt: HostRuntime) {
-    assert!(rt;
-        are_no_text(
-            &rt,
-            b"\xff\xd8\xff\xe0",
-            b"sixel: NotSixel at 0\n\
-            sixel: this is a JPEG; `jpegtopnm | ppmtoppm | pnmquant 16 | sixel encode` makes sixel text of it\n",
-        )
-    );
-    assert!(rt;
-        are_no_text(
-            &rt,
-            b"GIF87a",
-            b"sixel: NotSixel at 0\n\
-            sixel: this is a GIF; `giftopnm | ppmtoppm | pnmquant 16 | sixel encode` makes sixel text of it\n",
-        )
-    );
-    assert!(rt;
-        are_no_text(
-            &rt,
-            b"BM\x3a\0",
-            b"sixel: NotSixel at 0\n\
-            sixel: this is a BMP; `bmptopnm | ppmtoppm | pnmquant 16 | sixel encode` makes sixel text of it\n",
-        )
-    );
-    assert!(rt;
-        are_no_text(
-            &rt,
-            b"MM\0*",
-            b"sixel: NotSixel at 0\n\
-            sixel: this is a TIFF; `tifftopnm | ppmtoppm | pnmquant 16 | sixel encode` makes sixel text of it\n",
-        )
-    );
+fn programs_of_netpbm(rt: HostRuntime) -> Result<(), Fail> {
+    let rows: [(&[u8], &str, &str); 4] = [
+        (b"\xff\xd8\xff\xe0", "JPEG", "jpegtopnm"),
+        (b"GIF87a", "GIF", "giftopnm"),
+        (b"BM\x3a\0", "BMP", "bmptopnm"),
+        (b"MM\0*", "TIFF", "tifftopnm"),
+    ];
+    for (bytes, format, program) in rows {
+        let said = format!(in rt.alloc();
+            "sixel: NotSixel at 0\nsixel: this is a {format}; \
+             `{program} | ppmtoppm | pnmquant 16 | sixel encode` makes sixel text of it\n"
+        )?;
+        assert!(rt; are_no_text(&rt, bytes, said.as_bytes()), "{format}");
+    }
+    Ok(())
 }
 
 /// Text that is refused at its first bytes has no second line, even if it has an introducer; nor has any other fault.

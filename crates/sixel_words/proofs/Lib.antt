@@ -5,3 +5,7 @@ pub mod FaultLemmas
 pub mod NameLemmas
 pub mod WishLemmas
 pub mod LineLemmas
+pub mod PastedLemmas
+pub mod NearLemmas
+pub mod FlagLemmas
+pub mod ArgumentLemmas

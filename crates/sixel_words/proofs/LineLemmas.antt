@@ -11,6 +11,7 @@ use Rattle.std.proofs.lemmas.List.Folds.{concat-append}
 use Rattle.std.proofs.lemmas.Slice.Eq.{bytes_eq-Decides}
 use Rattle.sixel_words.specs.declared.explanations.Topic.{Topic}
 use Rattle.sixel_words.specs.Explanations.{last_name, line_of, listed_names, name_called, name_in, topic_name}
+use Rattle.sixel_words.specs.Explanations.{topic_of_end, words_of}
 use Rattle.sixel_words.specs.Explanations.{refusals_of_pictures, refusals_of_runs, refusals_of_text, rules}
 use Rattle.sixel_run.specs.Texts.{Text}
 use Rattle.sixel_words.proofs.WishLemmas.{each}
@@ -24,7 +25,7 @@ called_itself t =
     (name_listed t)
 
 -- a word that is no topic's name in small letters is no name
-no_name : (word : Text) (topics : List Topic)
+pub no_name : (word : Text) (topics : List Topic)
     → ((t : Topic) → str_to_ascii_lowercase (topic_name t) ≡ word → ⊥)
     → find (λ name. bytes_eq (str_to_ascii_lowercase name) word) (map topic_name topics) ≡ None
 no_name word [] none = refl
@@ -47,20 +48,21 @@ called word None is none =
     no_name word (rules ++ refusals_of_text ++ refusals_of_pictures ++ refusals_of_runs) (none refl)
 called word (Some t) is none = subst (λ (w : Text). name_called w ≡ Some (topic_name t)) is (called_itself t)
 
-snoc_name : (words : List Text) (word : Text)
-    → last_name (words ++ word ∷ []) ≡ option_or (name_called word) (last_name words)
-snoc_name [] word = go (name_called word)
-  where
-    go : (o : Option Text) → option_or None o ≡ option_or o None
-    go None = refl
-    go (Some n) = refl
-snoc_name (w ∷ words) word =
-    ap (λ (o : Option Text). option_or o (name_called w)) (snoc_name words word)
-    ∙ go (name_called word) (last_name words) (name_called w)
-  where
-    go : (a b d : Option Text) → option_or (option_or a b) d ≡ option_or a (option_or b d)
-    go None b d = refl
-    go (Some n) b d = refl
+or_none : (o : Option Text) → o ≡ option_or o None
+or_none None = refl
+or_none (Some n) = refl
+
+or_assoc : (a b c : Option Text) → option_or (option_or a b) c ≡ option_or a (option_or b c)
+or_assoc None b c = refl
+or_assoc (Some n) b c = refl
+
+-- the last name of words is that of the later ones, if these have one
+pub last_of_both : (words more : List Text)
+    → last_name (words ++ more) ≡ option_or (last_name more) (last_name words)
+last_of_both [] more = or_none (last_name more)
+last_of_both (word ∷ words) more =
+    ap (λ (o : Option Text). option_or o (name_called word)) (last_of_both words more)
+    ∙ or_assoc (last_name more) (last_name words) (name_called word)
 
 or_names : (a b : Option Topic)
     → option_map topic_name (option_or a b) ≡ option_or (option_map topic_name a) (option_map topic_name b)
@@ -72,7 +74,7 @@ pub one_more : (words : List Text) (word : Text) (found last : Option Topic)
     → name_called word ≡ option_map topic_name found → last_name words ≡ option_map topic_name last
     → last_name (words ++ word ∷ []) ≡ option_map topic_name (option_or found last)
 one_more words word found last here before =
-    snoc_name words word ∙ ap₂ option_or here before ∙ sym (or_names found last)
+    last_of_both words (word ∷ []) ∙ ap₂ option_or here before ∙ sym (or_names found last)
 
 -- one more word of a line
 pub one_said : (words : List Text) (word : Text) → concat (map (λ w. codes " " ++ w) (words ++ word ∷ []))
@@ -95,3 +97,13 @@ pub any_case : (t : Topic) (word : Text) → str_to_ascii_lowercase word ≡ str
 any_case t word same =
     ap (λ (w : Text). name_in (32 ∷ str_to_ascii_lowercase w)) (append-nil word)
     ∙ ap (λ (w : Text). name_in (32 ∷ w)) same ∙ name_alone t
+
+-- a line that ends like one without a name asks for the topic of its end
+pub by_end : (line : Text) (t : Topic) → topic_of_end line ≡ Some t → name_in line ≡ Some (topic_name t)
+by_end line t is = ap (λ (o : Option Topic). option_or (option_map topic_name o) (last_name (words_of line))) is
+
+-- any other line asks for its last word that is a name
+pub by_word : (line : Text) (name : Option Text) → topic_of_end line ≡ None → last_name (words_of line) ≡ name
+    → name_in line ≡ name
+by_word line name none is =
+    ap (λ (o : Option Topic). option_or (option_map topic_name o) (last_name (words_of line))) none ∙ is

@@ -1,10 +1,11 @@
 -- What `explain` says, and of which topics.
-use Rattle.std.specs.Prelude.{◌≡◌, ◌∷◌, ◌++◌, ◌==◌, ◌||◌, ℕ, Bool, List, [], Option, Some, None, codes, find, map}
-use Rattle.std.specs.Prelude.{if◌then◌else◌, nat_eq, ⊤}
+use Rattle.std.specs.Prelude.{◌≡◌, ◌∷◌, ◌++◌, ◌==◌, ℕ, Bool, List, [], Option, Some, None, codes, find, map}
+use Rattle.std.specs.Prelude.{◌<◌, ◌≤◌, All, Contains, chars, length, nat_eq, option_map, ⊤}
 use Rattle.std.specs.Io.{StartsWith}
 use Rattle.std.specs.List.{after_first, concat, ends_with, slice_split}
 use Rattle.std.specs.Option.{option_or}
 use Rattle.std.specs.Str.{bytes_eq, str_to_ascii_lowercase}
+use Rattle.strsim.specs.Edits.{osa_table}
 use Rattle.sixel_check.specs.declared.rule.Rule.TheVariants.{RasterFirst, RasterTwice, Ratio, BoxSize, Register}
 use Rattle.sixel_check.specs.declared.rule.Rule.TheVariants.{ColourValue, RepeatZero, Unselected, Undefined, Redefined}
 use Rattle.sixel_check.specs.declared.rule.Rule.TheVariants.{Outside, Uncovered, EightBit}
@@ -92,23 +93,31 @@ abbrev pub last_name : List Text → Option Text
 last_name [] = None
 last_name (word ∷ more) = option_or (last_name more) (name_called word)
 
+-- how the program's lines without a name end, in small letters, and the topic of each
+abbrev pub endings : List (Text × Topic)
+endings =
+    (codes " out of memory", OutOfMemory) ∷ (codes " read failed", Read) ∷ (codes " no such file", Read)
+    ∷ (codes " permission denied", Read) ∷ (codes " is a folder", Read) ∷ (codes " name is not valid utf-8", Read)
+    ∷ (codes " write failed", Write) ∷ []
+
 abbrev pub ends_in : Text → Text → Bool
 ends_in line text = ends_with (λ a b. a == b) line text
 
--- the line says why a file couldn't be opened
-abbrev pub is_unopened : Text → Bool
-is_unopened line = ends_in line (codes " no such file") || (ends_in line (codes " permission denied")
-    || (ends_in line (codes " is a folder") || ends_in line (codes " name is not valid utf-8")))
+-- the topic of the ending that the line has, if it has one
+abbrev pub topic_of_end : Text → Option Topic
+topic_of_end line = option_map (λ ending. ending.1) (find (λ ending. ends_in line ending.0) endings)
 
--- the name that explains the end of a line without a name
-abbrev pub name_of_end : Text → Option Text
-name_of_end line =
-    if ends_in line (codes " out of memory") then Some (topic_name OutOfMemory)
-    else if is_unopened line then Some (topic_name Read) else None
+-- the words of a line, which spaces separate
+abbrev pub words_of : Text → List Text
+words_of line = slice_split (λ byte. byte == 32) line
 
 -- the name that the line asks for: the one that explains its end, or else the last of its words that is a name
 abbrev pub name_in : Text → Option Text
-name_in line = option_or (name_of_end line) (last_name (slice_split (λ byte. byte == 32) line))
+name_in line = option_or (option_map topic_name (topic_of_end line)) (last_name (words_of line))
+
+-- these words are a line of the program, which was cut at some of its spaces, without its line feed
+abbrev pub ArePasted : List Text → Text → Type 0
+ArePasted said line = concat (map (λ word. codes " " ++ word) said) ++ 10 ∷ [] ≡ codes " " ++ line
 
 -- these words after `explain` ask for this name; no words ask for the list of names
 abbrev pub Asks : Option (List Text) → Option Text → Type 0
@@ -116,3 +125,22 @@ Asks None None = ⊤
 Asks None (Some name) = ⊥
 Asks (Some said) None = ⊥
 Asks (Some said) (Some name) = name_in (line_of said) ≡ Some name
+
+-- ---- similar names
+
+-- how many edits lead from one text to the other, in any case of letters. An edit inserts, deletes or replaces a
+-- character, or swaps two neighbours
+abbrev pub edits : Text → Text → ℕ
+edits name word =
+    let spelled = chars (str_to_ascii_lowercase word) in
+    (osa_table (chars (str_to_ascii_lowercase name)) spelled).last_row (length spelled)
+
+-- how many edits a misspelled name may need
+abbrev pub most_edits : ℕ
+most_edits = 2
+
+-- among these names, the one that is fewest edits away from the word; none if each is too far
+abbrev pub IsNearest : List Text → Text → Option Text → Type 0
+IsNearest names word None = All (λ name. most_edits < edits name word) names
+IsNearest names word (Some name) =
+    Contains names name × (edits name word ≤ most_edits) × All (λ other. edits name word ≤ edits other word) names

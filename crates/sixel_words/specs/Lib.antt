@@ -1,2 +1,3 @@
+pub mod Arguments
 pub mod Explanations
 pub mod Words

@@ -1,6 +1,7 @@
 -- The command line: what the arguments ask for, in the terms of clap's contracts.
 use Rattle.std.specs.Prelude.{◌≡◌, ◌≢◌, ◌⊎◌, ◌≤◌, ℕ, Bool, false, true, List, [], ◌∷◌, Option, Some, codes, pos, ⊤}
 use Rattle.std.specs.Prelude.{find, map, if◌then◌else◌, option_map, unwrap_or}
+use Rattle.std.specs.List.{list_any}
 use Rattle.std.specs.Option.{option_and_then, option_map_or}
 use Rattle.std.specs.Str.{bytes_eq}
 use Rattle.std.specs.Str.Parse.{IsNumeral, digits_value, without_leading_plus}
@@ -92,6 +93,14 @@ sixel_app =
     (new_app (codes "sixel")))
     (plain_app (codes "list")).top) check_app.top) (profiled_app (codes "render")).top)
     (profiled_app (codes "encode")).top) show_app.top) explain_app.top
+
+-- the flags of `check`
+abbrev pub check_flags : List Text
+check_flags = codes "-q" ∷ codes "--quiet" ∷ codes "--wide" ∷ []
+
+-- whether this is one of the words
+abbrev pub is_among : List Text → Text → Bool
+is_among words word = list_any (bytes_eq word) words
 
 -- the names of the subcommands
 abbrev pub subcommands : List Text

@@ -49,11 +49,12 @@ pub fn render_command<'a>(alloc: Global) -> Result<Command<'a>, AllocError>
     ensures app { IfOk result (λ c. app_of c ≡ profiled_app (codes "render")) }
     ensures local { IfOk result (λ c. (fields_of c).has_globals ≡ false) }
 {
-    Command::new(alloc, "render")
-        .about("Converts a portable picture to a PPM")
-        .after_help(help::RENDER)
-        .arg(wide_arg(alloc))?
-        .arg(file_arg(alloc))
+    profiled_command(
+        alloc,
+        "render",
+        "Converts a portable picture to a PPM",
+        help::RENDER,
+    )
 }
 
 /// `encode`, with `--wide` and an optional file.
@@ -61,9 +62,27 @@ pub fn encode_command<'a>(alloc: Global) -> Result<Command<'a>, AllocError>
     ensures app { IfOk result (λ c. app_of c ≡ profiled_app (codes "encode")) }
     ensures local { IfOk result (λ c. (fields_of c).has_globals ≡ false) }
 {
-    Command::new(alloc, "encode")
-        .about("Converts a PPM to portable sixel text")
-        .after_help(help::ENCODE)
+    profiled_command(
+        alloc,
+        "encode",
+        "Converts a PPM to portable sixel text",
+        help::ENCODE,
+    )
+}
+
+/// A subcommand with `--wide` and an optional file.
+fn profiled_command<'a>(
+    alloc: Global,
+    name: &'a str,
+    about: &'a str,
+    help: &'a str,
+) -> Result<Command<'a>, AllocError>
+    ensures app { IfOk result (λ c. app_of c ≡ profiled_app name.entry.now) }
+    ensures local { IfOk result (λ c. (fields_of c).has_globals ≡ false) }
+{
+    Command::new(alloc, name)
+        .about(about)
+        .after_help(help)
         .arg(wide_arg(alloc))?
         .arg(file_arg(alloc))
 }

@@ -1,7 +1,7 @@
 //! Laws about the definitions. Each function's contract is the law.
 
-ghost use Rattle.std.specs.Prelude.{◌≡◌, ◌∷◌, [], Contains, List, None, Some};
-ghost use Rattle.std.specs.Prelude.{codes, false, map, true};
+ghost use Rattle.std.specs.Prelude.{◌≡◌, ◌∷◌, ◌||◌, [], All, Contains, List, None, Some};
+ghost use Rattle.std.specs.Prelude.{codes, false, if◌then◌else◌, map, true};
 ghost use Rattle.std.specs.Str.{str_to_ascii_lowercase};
 ghost use Rattle.sixel_model.specs.declared.profile.Profile.TheVariants.{Registers16, Registers256};
 ghost use Rattle.sixel_check.specs.declared.rule.Rule.{Rule};
@@ -14,7 +14,8 @@ ghost use Rattle.sixel_run.specs.declared.task.Task.{Task};
 ghost use Rattle.sixel_run.specs.declared.task.Task.TheVariants.{Check, List as Listing, Show, ShowBox};
 ghost use Rattle.sixel_words.specs.Explanations.{line_of, listed_names, name_in, topic_name, topic_of};
 ghost use Rattle.sixel_run.specs.Texts.{Text, rule_name};
-ghost use Rattle.sixel_words.specs.Words.{AsksFor, IsRequestOf, IsTaskOf, kinds_of, sixel_app, subcommands};
+ghost use Rattle.sixel_words.specs.Words.{AsksFor, IsRequestOf, IsTaskOf, check_flags, is_among, kinds_of};
+ghost use Rattle.sixel_words.specs.Words.{sixel_app, subcommands};
 
 /// The command line `sixel list` is accepted, and asks for the task `List`.
 pub fn the_word_list_gives_a_list()
@@ -64,12 +65,16 @@ pub fn wrong_words_ask_for_no_help()
         kinds_of (program ∷ codes "show" ∷ codes "--width" ∷ codes "0" ∷ []) ≡ ValueValidation ∷ [] }
 {}
 
-/// A flag may be given again. Of a number that is given again, the last counts.
+/// A check takes its flags in any order and as often as they are given. It has the profile of 256 registers exactly if
+/// `--wide` is among them, and it is quiet exactly if `-q` or `--quiet` is. Of a number that is given again, as in
+/// `show --width 3 --width 2`, the last counts.
 pub fn an_option_may_come_again()
-    ensures taken { (program : Text) → takes sixel_app (program ∷ codes "check" ∷ codes "-q" ∷ codes "--wide"
-        ∷ codes "--quiet" ∷ codes "--wide" ∷ []) ≡ true }
-    ensures request { (program : Text) → IsRequestOf (program ∷ codes "check" ∷ codes "-q" ∷ codes "--wide"
-        ∷ codes "--quiet" ∷ codes "--wide" ∷ []) (Check Registers256) true [] }
+    ensures taken { (program : Text) (flags : List Text) → All (Contains check_flags) flags →
+        takes sixel_app (program ∷ codes "check" ∷ flags) ≡ true }
+    ensures request { (program : Text) (flags : List Text) → All (Contains check_flags) flags →
+        IsRequestOf (program ∷ codes "check" ∷ flags)
+        (Check (if is_among flags (codes "--wide") then Registers256 else Registers16))
+        (is_among flags (codes "-q") || is_among flags (codes "--quiet")) [] }
     ensures number_taken { (program : Text) → takes sixel_app (program ∷ codes "show" ∷ codes "--width" ∷ codes "3"
         ∷ codes "--width" ∷ codes "2" ∷ []) ≡ true }
     ensures number { (program : Text) → IsTaskOf (program ∷ codes "show" ∷ codes "--width" ∷ codes "3"

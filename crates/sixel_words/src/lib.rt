@@ -9,7 +9,7 @@ mod request;
 mod usage_errors;
 mod words;
 
-pub use arguments::{arguments_of, task_in};
+pub use arguments::{Arguments, Process, arguments_of, task_in};
 pub use explanations::{Topic, explanation};
 pub use request::Request;
 pub use words::{WordsFault, parse_request, parse_words};

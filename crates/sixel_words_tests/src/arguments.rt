@@ -1,9 +1,11 @@
 //! How the arguments of the process are read.
 
+ghost use Rattle.std.specs.Prelude.{Some, map};
+
 use crate::words::answered;
-use sixel_words::{arguments_of, task_in};
+use sixel_words::{Arguments, arguments_of, task_in};
 use std::alloc::{AllocError, Global};
-use std::env::{Env, FillError};
+use std::env::FillError;
 use std::test::Fail;
 
 /// Arguments in memory.
@@ -12,26 +14,20 @@ struct Given<'a> {
     arguments: &'a [&'a [u8]],
 }
 
-impl Env for Given<'_> {
-    fn arg(&self, i: usize, buf: &mut [u8]) -> Result<usize, FillError> {
-        let Some(argument) = self.arguments.get(i) else {
+impl Arguments for Given<'_> {
+    ghost given = { λ g. Some (map (λ argument. argument.now) g.arguments.now) };
+
+    fn copy(&self, index: usize, room: &mut [u8]) -> Result<usize, FillError> {
+        let Some(argument) = self.arguments.get(index) else {
             return Err(FillError::NotPresent);
         };
-        match buf.get_mut(..argument.len()) {
-            Some(room) => {
-                room.copy_from_slice(argument);
+        match room.get_mut(..argument.len()) {
+            Some(front) => {
+                front.copy_from_slice(argument);
                 Ok(argument.len())
             }
             None => Err(FillError::TooLong),
         }
-    }
-
-    fn var(&self, _name: &str, _buf: &mut [u8]) -> Result<usize, FillError> {
-        Err(FillError::NotPresent)
-    }
-
-    fn var_at(&self, _i: usize, _buf: &mut [u8]) -> Result<usize, FillError> {
-        Err(FillError::NotPresent)
     }
 }
 
@@ -87,15 +83,26 @@ fn asks_with_arguments_that_are_no_text(rt: HostRuntime) -> Result<(), Fail> {
     let rows: [(&[&[u8]], &str); 3] = [
         (
             &[b"sixel", b"check", b"a.six", b"\xff.six", b"b.six"],
-            "Request { task: Check { profile: Registers16 }, is_quiet: false, files: [\"a.six\", \"\u{fffd}.six\", \"b.six\"] }",
+            "Request { task: Check { profile: Registers16 }, is_quiet: false, \
+             files: [\"a.six\", \"\u{fffd}.six\", \"b.six\"] }",
         ),
         (
             &[b"sixel", b"lis\xff"],
-            "usage error: unrecognized subcommand 'lis\u{fffd}'\n\n  tip: a similar subcommand exists: 'list'\n\nUsage: sixel <COMMAND>\n\nFor more information, try '--help'.\n",
+            "usage error: unrecognized subcommand 'lis\u{fffd}'
+
+  tip: a similar subcommand exists: 'list'
+
+Usage: sixel <COMMAND>
+
+For more information, try '--help'.
+",
         ),
         (
             &[b"sixel", b"show", b"--width", b"\xff"],
-            "usage error: invalid value '\u{fffd}' for '--width <N>': invalid digit found in string\n\nFor more information, try '--help'.\n",
+            "usage error: invalid value '\u{fffd}' for '--width <N>': invalid digit found in string
+
+For more information, try '--help'.
+",
         ),
     ];
     for (arguments, text) in rows {

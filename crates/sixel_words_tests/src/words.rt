@@ -254,6 +254,28 @@ const NOT_QUIET: &str = "usage error: unexpected argument '-q' found
 
 Usage: sixel list [FILE]";
 
+/// A second file. Only `check` reads several.
+#[test]
+fn refuses_a_second_file(rt: HostRuntime) -> Result<(), Fail> {
+    let rows = [
+        ("sixel list a b", "list", "[FILE]"),
+        ("sixel render a b", "render", "[OPTIONS] [FILE]"),
+        ("sixel encode --wide a b", "encode", "[OPTIONS] [FILE]"),
+        ("sixel show a b", "show", "[OPTIONS] [FILE]"),
+    ];
+    for (line, name, usage) in rows {
+        let text = format!(in rt.alloc();
+            "usage error: unexpected argument 'b' found
+
+  tip: '{name}' reads one file; only 'check' reads several
+
+Usage: sixel {name} {usage}"
+        )?;
+        assert!(rt; refuses(&rt, line, text.as_str())?, "{line}");
+    }
+    Ok(())
+}
+
 #[test]
 fn refuses_other_words(rt: HostRuntime) -> Result<(), Fail> {
     let rows = [
@@ -266,32 +288,28 @@ fn refuses_other_words(rt: HostRuntime) -> Result<(), Fail> {
         ("sixel list -q", NOT_QUIET),
         ("sixel list -q a", NOT_QUIET),
         (
-            "sixel list a b",
-            "usage error: unexpected argument 'b' found\n\n  tip: 'list' reads one file; only 'check' reads several\n\nUsage: sixel list [FILE]",
-        ),
-        (
-            "sixel render a b",
-            "usage error: unexpected argument 'b' found\n\n  tip: 'render' reads one file; only 'check' reads several\n\nUsage: sixel render [OPTIONS] [FILE]",
-        ),
-        (
-            "sixel encode --wide a b",
-            "usage error: unexpected argument 'b' found\n\n  tip: 'encode' reads one file; only 'check' reads several\n\nUsage: sixel encode [OPTIONS] [FILE]",
-        ),
-        (
-            "sixel show a b",
-            "usage error: unexpected argument 'b' found\n\n  tip: 'show' reads one file; only 'check' reads several\n\nUsage: sixel show [OPTIONS] [FILE]",
-        ),
-        (
             "sixel list a -x",
-            "usage error: unexpected argument '-x' found\n\n  tip: to pass '-x' as a value, use '-- -x'\n\nUsage: sixel list [FILE]",
+            "usage error: unexpected argument '-x' found
+
+  tip: to pass '-x' as a value, use '-- -x'
+
+Usage: sixel list [FILE]",
         ),
         (
             "sixel hi.six",
-            "usage error: unrecognized subcommand 'hi.six'\n\n  tip: to check a file, use 'sixel check hi.six'\n\nUsage: sixel <COMMAND>",
+            "usage error: unrecognized subcommand 'hi.six'
+
+  tip: to check a file, use 'sixel check hi.six'
+
+Usage: sixel <COMMAND>",
         ),
         (
             "sixel plots/hi --wide",
-            "usage error: unrecognized subcommand 'plots/hi'\n\n  tip: to check a file, use 'sixel check plots/hi'\n\nUsage: sixel <COMMAND>",
+            "usage error: unrecognized subcommand 'plots/hi'
+
+  tip: to check a file, use 'sixel check plots/hi'
+
+Usage: sixel <COMMAND>",
         ),
         (
             "sixel show --width 0",

@@ -81,7 +81,9 @@ pub fn of_ppm_reason(reason: PpmReason) -> &'static str
 const NOT_SIXEL: &str = "NotSixel: input that doesn't start like a sixel string
 
 Refused: input that doesn't start with ESC P (or the byte 90, in hexadecimal),
-at most three numbers and q. TAB, LF, CR and SP may come first.
+at most three numbers and q. TAB, LF, CR and SP may come first. If the input
+starts like another format, such as PNG or PPM, a second line names it and the
+programs that make sixel text of it.
 
 String: ESC P p ESC \\
 Output of check: sixel: NotSixel at 2
@@ -89,8 +91,8 @@ Output of check: sixel: NotSixel at 2
 Fix: remove what comes before the string. It starts with its ESC P, and q
 follows its numbers.
 
-Programs: img2sixel without -P, and with -S for an animation; gnuplot's sixelgd
-without animate. mpv always writes other escape sequences first. More:
+Programs: use img2sixel without -P, and with -S for an animation; and gnuplot's
+sixelgd without animate. mpv always writes other escape sequences first. More:
 docs/RECIPES.md.
 ";
 
@@ -178,17 +180,17 @@ Output of check: sixel: Trailing at 5
 
 Fix: pass one string, or one PPM, at a time.
 
-Programs: pass one file to img2sixel or chafa, and one plot to gnuplot. Of an
-animation, img2sixel -S, chafa --animate off and ImageMagick FILE[0] write one
-picture. More: docs/RECIPES.md.
+Programs: use img2sixel or chafa with one file, and gnuplot with one plot. For
+one picture of an animation, use img2sixel -S, chafa --animate off or
+ImageMagick FILE[0]. More: docs/RECIPES.md.
 ";
 
 const HEADER: &str = "Header: not a valid P6 header
 
 Refused: an unexpected byte in the header of a PPM, or a header of more than
-65,536 bytes. The offset is that of the byte. If the input starts like a PNG, a
-JPEG, a GIF or another format of Netpbm, a second line says so and names the
-programs that make a PPM of it.
+65,536 bytes. The offset is that of the byte. If the input starts like another
+format, such as PNG, JPEG, WebP or sixel text, a second line names it and the
+program that reads it.
 
 String: P6 1,1 255
 Output of encode: sixel: Header at 4
@@ -216,7 +218,8 @@ number's first digit.
 String: P6 1 1 256 LF
 Output of encode: sixel: Maxval at 7
 
-Fix: write samples of one byte, with the maxval 255.
+Fix: write samples of one byte, with the maxval 255, for example by pnmdepth
+255. ImageMagick writes them with -depth 8.
 ";
 
 const SAMPLE: &str = "Sample: a PPM sample above the maxval

@@ -107,8 +107,8 @@ Output of check: broken BoxSize 3
 Fix: declare the size. Scale a larger picture down, or cut it into several
 strings.
 
-Programs: gnuplot's sixeltek and ppmtosixel declare no size. Use gnuplot's
-sixelgd, and sixel encode in place of ppmtosixel. More: docs/RECIPES.md.
+Programs: use gnuplot's sixelgd instead of its sixeltek, and sixel encode
+instead of ppmtosixel: those two declare no size. More: docs/RECIPES.md.
 ";
 
 const REGISTER: &str = "Register: a register above 15, or above 255 with --wide
@@ -127,7 +127,7 @@ Fix: reduce the picture to 16 colours and number them from 0. Or check with
 --wide, if the picture is meant only for terminals with 256 registers or more:
 the promise then covers only these.
 
-Programs: img2sixel -p 16, chafa -c 16, ImageMagick -colors 16, and gnuplot's
+Programs: use img2sixel -p 16, chafa -c 16, ImageMagick -colors 16, or gnuplot's
 sixelgd without truecolor. More: docs/RECIPES.md.
 ";
 
@@ -175,7 +175,7 @@ Output of check: broken Unselected 11
 Fix: select a register after the last definition, and again after each later
 one.
 
-Programs: img2sixel breaks it with -e. Use -p 2 instead. More: docs/RECIPES.md.
+Programs: use img2sixel -p 2 instead of -e. More: docs/RECIPES.md.
 ";
 
 const UNDEFINED: &str = "Undefined: painting in a register that is not defined yet
@@ -205,7 +205,7 @@ Output of check: broken Redefined 24
 Fix: give the second colour its own register. A picture has at most 16 colours,
 or 256 with --wide.
 
-Programs: img2sixel breaks it with -I. Use -p 16 instead. More: docs/RECIPES.md.
+Programs: use img2sixel -p 16 instead of -I. More: docs/RECIPES.md.
 ";
 
 const OUTSIDE: &str = "Outside: a set bit outside the box
@@ -224,8 +224,8 @@ Fix: declare the true size. If the height is no multiple of six, clear the bits
 below the last row: here ~ sets six rows in a box of one, and @ sets only the
 first.
 
-Programs: img2sixel paints below a picture of fewer than six rows. Use sixel
-encode or ImageMagick. More: docs/RECIPES.md.
+Programs: use sixel encode or ImageMagick instead of img2sixel, which paints
+below a picture of fewer than six rows. More: docs/RECIPES.md.
 ";
 
 const UNCOVERED: &str = "Uncovered: a pixel of the box that no set bit covers, at the terminator
@@ -242,8 +242,8 @@ Output of check: broken Uncovered 11 0 0
 Fix: paint the background too, in a colour of its own. A picture with
 transparent pixels can't be portable.
 
-Programs: chafa -t 1, and gnuplot's sixelgd without transparent. ImageMagick
-puts a colour under the picture by -background white -flatten. More:
+Programs: use chafa -t 1, gnuplot's sixelgd without transparent, or ImageMagick
+-background white -flatten, which puts a colour under the picture. More:
 docs/RECIPES.md.
 ";
 
@@ -265,6 +265,6 @@ Output of check: broken EightBit 0
 
 Fix: write ESC P and ESC \\.
 
-Programs: img2sixel without -8. ppmtosixel has no option for it: use sixel
-encode. More: docs/RECIPES.md.
+Programs: use img2sixel without -8, and sixel encode instead of ppmtosixel,
+which has no option for it. More: docs/RECIPES.md.
 ";

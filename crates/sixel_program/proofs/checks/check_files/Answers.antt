@@ -3,7 +3,6 @@ use Rattle.std.specs.Option.{option_or}
 use Rattle.std.specs.String.{string_bytes}
 use Rattle.std.proofs.lemmas.List.{take_all}
 use Rattle.sixel_program.proofs.FilesLemmas.{all_names, checked_more, cut_after, cut_at_flush, done_hinted}
-use Rattle.sixel_program.proofs.FilesLemmas.{done_quietly}
 use Rattle.sixel_program.proofs.FilesLemmas.{more_names, no_dash_before, no_dash_last, none_checked}
 use Rattle.sixel_program.proofs.checks.check_files.Goals as goal
 
@@ -45,22 +44,10 @@ returns-in-Err-clause-unread g c = λ none.
     c.in-Err.ensures.unread (no_dash_last names name before)
     ∙ c.loop-name.invariant.1 (no_dash_before names (name ∷ []) before)
 
-pub returns-in-Err-flush-clause-checked : goal.returns-in-Err-flush-clause-checked
-returns-in-Err-flush-clause-checked g c =
-    rw c.unwritten-in-Err-flush.ensures.exit
+pub returns-in-Err-flush_verdicts-clause-checked : goal.returns-in-Err-flush_verdicts-clause-checked
+returns-in-Err-flush_verdicts-clause-checked g c =
+    rw c.unwritten-in-Err-flush_verdicts.ensures.exit
     (inr (cut_at_flush _ _ _ _ _ _ _ _ _ _ _ _
     (rw (take_all c.loop-name.name-index c.args.names.now c.loop-name-test.false) at c.loop-name.invariant.0.1) _
-    c.if-is_quiet.false c.flush.ensures.bytes c.in-Err-flush.ensures.failures c.unwritten-in-Err-flush.ensures.said))
-
-pub returns-then-is_quiet-clause-checked : goal.returns-then-is_quiet-clause-checked
-returns-then-is_quiet-clause-checked g c =
-    inl (done_quietly _ _ _ _ _ _ _ _ _ _
-    (rw (take_all c.loop-name.name-index c.args.names.now c.loop-name-test.false) at c.loop-name.invariant.0.1)
-    c.if-is_quiet.true)
-
-pub returns-in-Ok-flush-clause-checked : goal.returns-in-Ok-flush-clause-checked
-returns-in-Ok-flush-clause-checked g c =
-    inl (done_hinted _ _ _ _ _ _ _ _ _ _ _ _
-    (rw (take_all c.loop-name.name-index c.args.names.now c.loop-name-test.false) at c.loop-name.invariant.0.1) _ _
-    c.if-is_quiet.false c.flush.ensures.bytes c.in-Ok-flush.ensures.failures c.in-Ok-flush.ensures.flushed
-    (rw c.loop-name.invariant.0.2 at c.put_hint.ensures))
+    c.in-Err-flush_verdicts.ensures.loud c.flush_verdicts.ensures.bytes c.in-Err-flush_verdicts.ensures.failures
+    c.unwritten-in-Err-flush_verdicts.ensures.said))

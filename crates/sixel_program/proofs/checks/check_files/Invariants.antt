@@ -9,7 +9,8 @@ use Rattle.sixel_program.proofs.checks.check_files.Given as goal
 
 abbrev pub invariant-loop-name : goal.invariant-loop-name
 invariant-loop-name g l = ((ends : List FileEnd) × AreChecked l.profile l.is_quiet
-    (folder_view (g.F.Folder.opening l.folder) g.F.Opened.Source.state) ends (map string_bytes (take l.name-index l.names)) l.exit
+    (folder_view (g.F.Folder.opening l.folder) g.F.Opened.Source.state) ends
+    (map string_bytes (take l.name-index l.names)) l.exit
     (change (peeked_state (drop l.fn.input.given l.fn.input.prefix.items) l.fn.input.after
     (g.S.Source.state l.fn.input.rest) l.fn.input.failures)
     (peeked_state (drop l.input.given l.input.prefix.items) l.input.after (g.S.Source.state l.input.rest)

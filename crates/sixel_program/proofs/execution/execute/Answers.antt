@@ -1,4 +1,4 @@
-use Rattle.std.proofs.Common.{rules}
+use Rattle.std.proofs.Common.{refl, rules}
 use Rattle.sixel_program.proofs.RequestLemmas.{request_no_usage}
 use Rattle.sixel_program.proofs.StatusLemmas.{all_read_done, all_read_judged, one_read_broken}
 use Rattle.sixel_program.proofs.execution.execute.Goals as goal
@@ -29,3 +29,12 @@ returns-clause-untouched g c = λ is. absurd (request_no_usage _ _ _ _ _ _ _ _ _
 
 pub returns-clause-unwritten : goal.returns-clause-unwritten
 returns-clause-unwritten g c = λ is. absurd (request_no_usage _ _ _ _ _ _ _ _ _ c.answer.ensures.ends (search rules))
+
+pub returns-then-is_misdirected-clause-redirected : goal.returns-then-is_misdirected-clause-redirected
+returns-then-is_misdirected-clause-redirected g c = λ is. c.put_redirection.ensures
+
+pub returns-then-is_misdirected-clause-untouched : goal.returns-then-is_misdirected-clause-untouched
+returns-then-is_misdirected-clause-untouched g c = λ is. refl
+
+pub returns-then-is_misdirected-clause-unwritten : goal.returns-then-is_misdirected-clause-unwritten
+returns-then-is_misdirected-clause-unwritten g c = λ is. refl

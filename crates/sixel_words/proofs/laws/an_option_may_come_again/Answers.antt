@@ -1,8 +1,8 @@
 use Rattle.std.proofs.Common.{arith, codes, refl}
-use Rattle.clap.proofs.OnLiterals.{clap_on_literals}
 use Rattle.clap.specs.Takes.{walk_passes}
 use Rattle.clap.specs.Walk.{walked}
 use Rattle.sixel_words.specs.Words.{IsSideText}
+use Rattle.sixel_words.proofs.FlagLemmas.{are_flags, flags_ask, flags_taken}
 use Rattle.sixel_words.proofs.laws.an_option_may_come_again.Goals as goal
 
 -- the number that is given last
@@ -19,12 +19,10 @@ high = record {
 }
 
 pub returns-clause-taken : goal.returns-clause-taken
-unfolding clap_on_literals
-returns-clause-taken c = λ program. refl
+returns-clause-taken c = λ program flags are. flags_taken program flags (are_flags flags are)
 
 pub returns-clause-request : goal.returns-clause-request
-unfolding clap_on_literals
-returns-clause-request c = λ program. (codes "check", _, refl, (refl, refl), refl, refl)
+returns-clause-request c = λ program flags are. flags_ask program flags (are_flags flags are)
 
 pub returns-clause-number_taken : goal.returns-clause-number_taken
 unfolding walked walk_passes

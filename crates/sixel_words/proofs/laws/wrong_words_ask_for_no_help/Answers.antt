@@ -6,22 +6,11 @@ use Rattle.sixel_run.specs.declared.task.Task.TheVariants.{List as Listing}
 use Rattle.sixel_words.specs.Words.{IsTaskOf}
 use Rattle.sixel_words.proofs.laws.wrong_words_ask_for_no_help.Goals as goal
 
-pub returns-clause-none : goal.returns-clause-none
-unfolding clap_on_literals
-returns-clause-none c = λ program. refl
-
-pub returns-clause-unknown : goal.returns-clause-unknown
-unfolding clap_on_literals
-returns-clause-unknown c = λ program. refl
-
-pub returns-clause-side : goal.returns-clause-side
-unfolding clap_on_literals
-returns-clause-side c = λ program. refl
-
 -- the subcommand is `list`, whatever follows it
 named : (program : Text) → IsTaskOf (program ∷ codes "list" ∷ codes "--wide" ∷ []) Listing
 unfolding walked
 named program = (codes "list", _, refl, refl)
 
-pub returns-clause-named : goal.returns-clause-named
-returns-clause-named c = named
+pub returns : goal.returns
+unfolding clap_on_literals
+returns c = record { none = λ program. refl; unknown = λ program. refl; named = named; side = λ program. refl }

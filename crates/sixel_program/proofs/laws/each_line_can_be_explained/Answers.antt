@@ -1,0 +1,49 @@
+use Rattle.std.proofs.Common.{◌≡◌, ◌++◌, [], List, None, Option, Some, codes}
+use Rattle.sixel_check.specs.declared.verdict.Finding.{Finding}
+use Rattle.sixel_run.specs.declared.fault.RunFault.{RunFault}
+use Rattle.sixel_run.specs.declared.fault.RunFault.TheVariants as fault
+use Rattle.sixel_run.specs.Texts.{Text, finding_line, rule_name}
+use Rattle.sixel_words.specs.declared.explanations.Topic.TheVariants.{Read}
+use Rattle.sixel_words.specs.Explanations.{ArePasted, line_of, name_in, topic_name, topic_of}
+use Rattle.sixel_words.proofs.PastedLemmas.{ending_pasted, fault_pasted, finding_pasted, is_a_folder, no_such_file}
+use Rattle.sixel_words.proofs.PastedLemmas.{not_utf8, permission_denied, read_failed}
+use Rattle.sixel_program.specs.declared.folder.Unopened.{Unopened}
+use Rattle.sixel_program.specs.declared.folder.Unopened.TheVariants.{Failed, IsFolder, NotFound, NotText}
+use Rattle.sixel_program.specs.declared.folder.Unopened.TheVariants.{PermissionDenied}
+use Rattle.sixel_program.specs.Exits.{fault_said, labelled}
+use Rattle.sixel_program.specs.Names.{printed, unopened_line}
+use Rattle.sixel_program.specs.Openings.{reason_text}
+use Rattle.sixel_program.proofs.laws.each_line_can_be_explained.Goals as goal
+
+-- what is before the line of a file
+abbrev begun : Text → Text
+begun name = codes "sixel: " ++ printed name ++ codes ":"
+
+broken : (name : Option Text) (finding : Finding) (said : List Text)
+    → ArePasted said (labelled name (finding_line finding))
+    → name_in (line_of said) ≡ Some (rule_name finding.rule)
+broken None finding said are = finding_pasted [] finding said are
+broken (Some name) finding said are = finding_pasted (printed name ++ codes ": ") finding said are
+
+refused : (name : Option Text) (f : RunFault) (said : List Text) → ArePasted said (fault_said name f)
+    → name_in (line_of said) ≡ Some (topic_name (topic_of f))
+refused None f said are = fault_pasted (codes "sixel:") f said are
+refused (Some name) fault.Write said are = fault_pasted (codes "sixel:") fault.Write said are
+refused (Some name) (fault.Grammar f) said are = fault_pasted (begun name) (fault.Grammar f) said are
+refused (Some name) (fault.Ppm reason place) said are = fault_pasted (begun name) (fault.Ppm reason place) said are
+refused (Some name) fault.NotRgb said are = fault_pasted (begun name) fault.NotRgb said are
+refused (Some name) fault.NoBox said are = fault_pasted (begun name) fault.NoBox said are
+refused (Some name) fault.OutOfMemory said are = fault_pasted (begun name) fault.OutOfMemory said are
+refused (Some name) fault.Read said are = fault_pasted (begun name) fault.Read said are
+
+unopened : (name : Text) (reason : Unopened) (said : List Text) → ArePasted said (unopened_line name reason)
+    → name_in (line_of said) ≡ Some (topic_name Read)
+unopened name NotFound said are = ending_pasted (begun name) (reason_text NotFound) Read said no_such_file are
+unopened name PermissionDenied said are =
+    ending_pasted (begun name) (reason_text PermissionDenied) Read said permission_denied are
+unopened name IsFolder said are = ending_pasted (begun name) (reason_text IsFolder) Read said is_a_folder are
+unopened name NotText said are = ending_pasted (begun name) (reason_text NotText) Read said not_utf8 are
+unopened name Failed said are = ending_pasted (begun name) (reason_text Failed) Read said read_failed are
+
+pub returns : goal.returns
+returns c = record { broken = broken; refused = refused; unopened = unopened }
