@@ -4,3 +4,4 @@ pub mod NumberLemmas
 pub mod MeasureLemmas
 pub mod FollowLemmas
 pub mod TerminalLemmas
+pub mod MendLemmas

@@ -5,3 +5,4 @@ pub mod Extents
 pub mod Measures
 pub mod Following
 pub mod Numbering
+pub mod Judging

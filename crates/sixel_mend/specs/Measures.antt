@@ -10,7 +10,7 @@ use Rattle.sixel_mend.specs.declared.extent.Sides.{Sides}
 use Rattle.sixel_mend.specs.declared.mending.Mending.{Mending}
 use Rattle.sixel_mend.specs.Extents.{depth, reached}
 use Rattle.sixel_mend.specs.Screens.{mending_terminal}
-use Rattle.sixel_mend.specs.Sizes.{IsExtent}
+use Rattle.sixel_mend.specs.Sizes.{IsExtent, IsSize}
 
 -- the greatest number that an extent stores; greater ones are stored as this
 abbrev pub most : ℕ
@@ -46,3 +46,11 @@ pub record Measures (e : Extent) (events : List Event) : Type 0 where
   pub width_is : e.width ≡ min width most
   pub height_is : e.height ≡ min height most
   pub declared_is : e.declared ≡ option_map sides_of (raster_before events)
+
+-- the size of the picture of these events; a side above `most` is stored as that
+pub record IsSized (m : Mending) (events : List Event) (w h : ℕ) : Type 0 where
+  pub width : ℕ
+  pub height : ℕ
+  pub size : IsSize m events width height
+  pub width_is : w ≡ min width most
+  pub height_is : h ≡ min height most

@@ -8,7 +8,8 @@ ghost use Rattle.sixel_grammar.specs.Bytes.{is_data};
 ghost use Rattle.sixel_model.specs.Geometry.{band_rows};
 ghost use Rattle.sixel_terminal.specs.Stretches.{sixels_of};
 ghost use Rattle.sixel_mend.specs.Extents.{depth, reached};
-ghost use Rattle.sixel_mend.specs.Measures.{Measures, most, next_band, next_column, next_declared, reached_column};
+ghost use Rattle.sixel_mend.specs.declared.mending.Mending.{Mending as AMending};
+ghost use Rattle.sixel_mend.specs.Measures.{IsSized, Measures, most, next_band, next_column, next_declared, reached_column};
 ghost use Rattle.sixel_mend.specs.Measures.{reached_row};
 
 use crate::following::Follower;
@@ -142,6 +143,30 @@ impl Extent {
     {
         for byte in bytes {
             *self = self.with(&Event::Step(Command::Sixel(byte - b'?')));
+        }
+    }
+}
+
+/// The greater of a side and a declared one.
+fn greater(side: u32, declared: u16) -> u32
+    ensures value { result ≡ max side declared }
+    ensures small { declared ≤ most }
+{
+    side.max(u32::from(declared))
+}
+
+impl Extent {
+    /// The width and the height of the picture, in pixels.
+    pub(crate) fn size(self) -> (u32, u32)
+        ensures { (mending : AMending) (events : List AnEvent) → Measures self events
+            → IsSized mending events result.0 result.1 }
+    {
+        match self.declared {
+            None => (self.width, self.height),
+            Some(sides) => (
+                greater(self.width, sides.width),
+                greater(self.height, sides.height),
+            ),
         }
     }
 }

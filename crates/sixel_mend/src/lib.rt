@@ -3,8 +3,10 @@
 
 mod extent;
 mod following;
+mod making;
 mod mending;
 mod numbering;
 mod terminal;
 
+pub use making::mend;
 pub use mending::{MendFault, Mending};

@@ -54,6 +54,7 @@ impl Colours {
     pub fn into_palette(self) -> Palette
         ensures { result ≡ self.palette }
     {
-        self.palette
+        let Colours { palette, .. } = self;
+        palette
     }
 }

@@ -1,8 +1,8 @@
-use Rattle.std.proofs.Common.{◌≡◌, ◌≤◌, ◌<◌, ◌+◌, ◌-◌, ◌*◌, ◌++◌, ◌∷◌, [], ℕ, List, None, ap, ap₂, arith, drop, length}
-use Rattle.std.proofs.Common.{get_or, refl, subst, sym, take, ◌∙◌, Option}
+use Rattle.std.proofs.Common.{◌≡◌, ◌≤◌, ◌<◌, ◌+◌, ◌-◌, ◌++◌, ◌∷◌, [], ℕ, List, None, ap, ap₂, arith, drop, length}
+use Rattle.std.proofs.Common.{get_or, subst, sym, take, ◌∙◌, Option}
 use Rattle.std.proofs.lemmas.List.{take-append-drop, take_more}
 use Rattle.sixel_model.specs.declared.colour.Parts.{Parts}
-use Rattle.sixel_model.specs.Pictures.{PictureValue, picture_fault, picture_of_parts}
+use Rattle.sixel_model.specs.Pictures.{picture_of_parts}
 use Rattle.sixel_ppm.specs.PpmReading.{distinct, picture_of, with_colour}
 use Rattle.sixel_ppm.specs.PpmSamples.{HoldsPixels}
 use Rattle.sixel_ppm.proofs.PpmFileLemmas.{distinct_grows}

@@ -1,4 +1,4 @@
-use Rattle.std.proofs.Common.{◌≡◌, ◌∙◌, None, Some, sym}
+use Rattle.std.proofs.Common.{◌∙◌, sym}
 use Rattle.sixel_mend.proofs.TerminalLemmas.{no_fault}
 use Rattle.sixel_mend.proofs.terminal.terminal_of.Goals as goal
 

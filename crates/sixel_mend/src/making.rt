@@ -1,0 +1,110 @@
+//! Makes a portable picture of a string.
+
+ghost use Rattle.std.specs.Prelude.{◌≡◌, ◌&&◌, ℕ, Err, IfErr, IfOk, IsTrue, List};
+ghost use Rattle.sixel_grammar.specs.declared.command.Event.{Event as AnEvent};
+ghost use Rattle.sixel_grammar.specs.declared.command.Placed.{Placed as Place};
+ghost use Rattle.sixel_grammar.specs.Document.{Document, events_of};
+ghost use Rattle.sixel_grammar.specs.Faults.{IsFaultOf};
+ghost use Rattle.sixel_model.specs.Pictures.{is_side};
+ghost use Rattle.sixel_model.specs.Profiles.{count_of};
+ghost use Rattle.sixel_terminal.specs.Drawings.{HasDrawn};
+ghost use Rattle.sixel_mend.specs.declared.mending.Mending.{Mending as AMending};
+ghost use Rattle.sixel_mend.specs.Judging.{IsReadingFault, judged};
+ghost use Rattle.sixel_mend.specs.Measures.{Measures};
+ghost use Rattle.sixel_mend.specs.Mended.{Mends, mended_colours};
+ghost use Rattle.sixel_mend.specs.Sizes.{IsSize};
+
+use crate::extent::Extent;
+use crate::following::{Follower, follow_document};
+use crate::mending::{MendFault, Mending};
+use crate::numbering::picture_of;
+use crate::terminal::terminal_of;
+use sixel_grammar::{Event, Fault};
+use sixel_model::{MOST_SIDE, Picture, Profile};
+use sixel_terminal::{Drawing, Screen};
+use std::alloc::Global;
+
+impl Follower for Drawing {
+    ghost has_followed = { λ first drawing events. (drawing.terminal ≡ first.terminal) × HasDrawn drawing events };
+
+    fn follow(&mut self, event: &Event) {
+        self.push(event);
+    }
+
+    fn follow_stretch(&mut self, bytes: &[u8]) {
+        self.push_stretch(bytes);
+    }
+}
+
+/// Makes a portable picture of a sixel string: what a terminal shows of it, on a screen that has all of its paint and its
+/// declared box. `encode` writes it as text.
+///
+/// The string is read twice, first for its size. Nothing is allocated for a string whose size no picture may have.
+pub fn mend(
+    alloc: Global,
+    profile: Profile,
+    mending: &Mending,
+    bytes: &[u8],
+) -> Result<Picture, MendFault>
+    ensures { Mends (count_of profile) mending.now bytes.now result }
+{
+    let (width, height) = size_of(bytes)?;
+    let screen = screen_of(alloc, mending, width, height, bytes)?;
+    let colours = screen.colours(alloc)?;
+    picture_of(alloc, profile, width, height, &colours)
+}
+
+/// The extent of a document.
+fn extent_of(bytes: &[u8]) -> Result<Extent, Fault>
+    ensures measured { IfOk result (λ extent. (events : List Place) × Document events bytes.now
+        × Measures extent (events_of events)) }
+    ensures refused { IfErr result (IsFaultOf bytes.now) }
+{
+    let mut extent = Extent::new();
+    follow_document(&mut extent, bytes)?;
+    Ok(extent)
+}
+
+/// Refuses a size that no picture may have.
+fn judge(width: u32, height: u32) -> Result<(), MendFault>
+    ensures { result ≡ judged width height }
+{
+    if width == 0 || height == 0 {
+        return Err(MendFault::Empty);
+    }
+    if width > MOST_SIDE || height > MOST_SIDE {
+        return Err(MendFault::TooLarge);
+    }
+    Ok(())
+}
+
+/// The width and the height of the picture of a document, in pixels.
+fn size_of(bytes: &[u8]) -> Result<(u32, u32), MendFault>
+    ensures sides { IfOk result (λ sides. IsTrue (is_side sides.0 && is_side sides.1)) }
+    ensures sized { IfOk result (λ sides. (events : List Place) × Document events bytes.now
+        × ((mending : AMending) → IsSize mending (events_of events) sides.0 sides.1)) }
+    ensures refused { IfErr result (λ fault. (registers : ℕ) (mending : AMending) →
+        Mends registers mending bytes.now (Err fault)) }
+{
+    let (width, height) = extent_of(bytes)?.size();
+    judge(width, height)?;
+    Ok((width, height))
+}
+
+/// What the terminal shows of a document.
+fn screen_of(
+    alloc: Global,
+    mending: &Mending,
+    width: u32,
+    height: u32,
+    bytes: &[u8],
+) -> Result<Screen, MendFault>
+    requires { IsTrue (is_side width && is_side height) }
+    ensures shown { IfOk result (λ screen. (events : List Place) × Document events bytes.now
+        × (screen.colours ≡ mended_colours mending.now (events_of events) width height)) }
+    ensures refused { IfErr result (IsReadingFault bytes.now) }
+{
+    let mut drawing = Drawing::new(alloc, terminal_of(alloc, mending, width, height)?)?;
+    follow_document(&mut drawing, bytes)?;
+    Ok(drawing.finish())
+}
