@@ -265,6 +265,33 @@ fn plain_bytes_are_read_quickly(rt: HostRuntime) -> Result<(), Fail> {
     Ok(())
 }
 
+#[test]
+fn commands_are_read_quickly(rt: HostRuntime) -> Result<(), Fail> {
+    let mut reader = Reader::new();
+    let mut read = String::new(rt.alloc());
+    for byte in b"\x1bPq!3~?#1;2;0;0;0#1$$-\n#2\n\x1b\\" {
+        match reader.feed_command(*byte) {
+            Some(Plain::Nothing) => read.push('.')?,
+            Some(Plain::Command { place, command }) => {
+                let event = Event::Step(command);
+                read.push_str(in_words(&rt, &Placed { place, event })?.as_str())?;
+                read.push(' ')?;
+            }
+            None => {
+                assert!(rt; reader.feed(*byte).is_ok());
+                read.push('x')?;
+            }
+        }
+    }
+    // Left to `feed` are the last byte of the introducer, a return that ends a select, and the end.
+    assert_eq!(rt;
+        read.as_str(),
+        "..x..3 repeat 3 63 6 sixel 0 ..........7 define 1 2 0 0 0 .x20 return 21 newline ...23 select 2 .x"
+    );
+    assert!(rt; reader.finish().is_ok());
+    Ok(())
+}
+
 /// A prefix, one byte `count` times, and the rest.
 fn filled(
     rt: &impl AllocGlobal,

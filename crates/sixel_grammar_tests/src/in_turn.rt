@@ -36,6 +36,7 @@ fn is_refused_after(prefix: &[u8]) -> bool {
         && reader.feed(0x18).err() == Some(fault)
         && reader.feed(b'@').err() == Some(fault)
         && reader.feed_plain(b'@').is_none()
+        && reader.feed_command(b'@').is_none()
         && reader.finish() == Err(fault)
 }
 
