@@ -1,0 +1,4 @@
+pub mod FirstLemmas
+pub mod CanonLemmas
+pub mod LoadedLemmas
+pub mod SelectionLemmas
