@@ -15,9 +15,9 @@ use Rattle.sixel_model.specs.declared.colour.Parts.{Parts}
 use Rattle.sixel_model.specs.declared.colour.Parts.TheVariants.{Rgb, Hls}
 use Rattle.sixel_model.specs.Colours.{palette_at}
 use Rattle.sixel_model.specs.Pictures.{PictureValue}
-use Rattle.sixel_encode.specs.Canon.{Run, band_columns, band_commands, band_registers, bands, below, canon, canon_commands}
-use Rattle.sixel_encode.specs.Canon.{canon_start, define_command, define_commands, picture_commands, register_commands}
-use Rattle.sixel_encode.specs.Canon.{run_commands, runs}
+use Rattle.sixel_encode.specs.Canon.{Run, band_columns, band_commands, band_registers, bands, below, canon}
+use Rattle.sixel_encode.specs.Canon.{canon_commands, canon_start, define_command, define_commands, picture_commands}
+use Rattle.sixel_encode.specs.Canon.{register_commands, run_commands, runs}
 use Rattle.sixel_encode.proofs.LengthLemmas.{defines_from}
 use Rattle.sixel_encode.proofs.OpeningLemmas.{raster}
 use Rattle.sixel_field.specs.Laws.{CanonDefinesFirst, DefinesFirst}
@@ -44,7 +44,8 @@ run_defines r =
 runs_define : (rs : List Run) → AreSo IsNoDefinition (flat_map run_commands rs)
 runs_define [] = tt
 runs_define (r ∷ rs) =
-    all-append (λ c. IsNoDefinition (Step c)) (run_commands r) (flat_map run_commands rs) (run_defines r) (runs_define rs)
+    all-append (λ c. IsNoDefinition (Step c)) (run_commands r) (flat_map run_commands rs) (run_defines r)
+    (runs_define rs)
 
 register_defines : (p : PictureValue) (band r : ℕ) → AreSo IsNoDefinition (register_commands p band r)
 unfolding register_commands

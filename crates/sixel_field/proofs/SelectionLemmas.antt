@@ -17,7 +17,8 @@ use Rattle.sixel_model.proofs.KnownLemmas.{Known, known_is}
 use Rattle.sixel_model.proofs.LastLemmas.{at_there, item_there}
 use Rattle.sixel_model.proofs.PositionLemmas.{last_below_same}
 use Rattle.sixel_model.proofs.RuleLemmas.{Keeps, keeps_at, none_drawn}
-use Rattle.sixel_terminal.specs.Displays.{Display, registers_of}
+use Rattle.sixel_terminal.specs.Displays.{Display, HasRoom, IsInClass, registers_of}
+use Rattle.sixel_terminal.specs.Drawing.{height_of}
 use Rattle.sixel_terminal.specs.Drawing.{filled_on, inked_on, is_kept_on, is_seen_on, map_on, paint_at, paints_in}
 use Rattle.sixel_terminal.specs.Drawing.{paints_on, selected_on, shown_on, stood_on, touches_on}
 use Rattle.sixel_terminal.proofs.PaintLemmas.{none_filled}
@@ -31,7 +32,7 @@ use Rattle.sixel_check.proofs.WithinLemmas.{plain}
 use Rattle.sixel_encode.specs.Canon.{canon}
 use Rattle.sixel_encode.proofs.LeadsBackLemmas.{lists_break_no_rule, lists_leave_their_picture}
 use Rattle.sixel_encode.proofs.WrittenLemmas.{lists_are_whole}
-use Rattle.sixel_field.specs.AtSelection.{inked_at_selection, loaded_on, selects_on, shown_at_selection}
+use Rattle.sixel_field.specs.AtSelection.{at_painting, inked_at_selection, loaded_on, selects_on, shown_at_selection}
 use Rattle.sixel_field.specs.Laws.{CanonShownAtSelection, DefinesFirst, SameAtSelection}
 use Rattle.sixel_field.proofs.CanonLemmas.{canon_defines_first}
 use Rattle.sixel_field.proofs.FirstLemmas.{defines_taken}
@@ -151,21 +152,45 @@ at_same n t events x y i none first binds below =
     ∙ (ink_there n t events x y i (e.0) none first binds (e.1)
     ∙ sym (at_there (inked_on t events x y) events i (e.0) (e.1)))
 
-pub same_at_selection : (n : ℕ) → SameAtSelection n
+same_if : (n : ℕ) (t : Display) (events : List Event) (x y : ℕ) → BreaksNone n last_rule events → DefinesFirst events
+    → t.choices.binds_at_showing ≡ false → shown_at_selection t events x y ≡ shown_on t events x y
 unfolding shown_at_selection shown_on last_at
-same_at_selection n t events x y none first binds =
+same_if n t events x y none first binds =
     ap (λ (o : Option Parts). unwrap_or o (stood_on t x y))
     (last_below_same (length events) _ _ (λ i below. at_same n t events x y i none first binds below))
 
+-- how the terminal binds doesn't matter at selection
+any_binding : (t : Display) (events : List Event) (x y : ℕ)
+    → shown_at_selection t events x y ≡ shown_at_selection (at_painting t) events x y
+unfolding shown_at_selection loaded_on map_on is_seen_on paints_on is_kept_on touches_on height_of selected_on
+any_binding t events x y = refl
+
+pub same_at_selection : (n : ℕ) → SameAtSelection n
+same_at_selection n t events x y none first =
+    any_binding t events x y ∙ same_if n (at_painting t) events x y none first refl
+
 -- ---- the canonical list
 
+at_painting_in_class : (n : ℕ) (t : Display) → IsInClass n t → IsInClass n (at_painting t)
+at_painting_in_class n t class = record {
+  enough = class.enough;
+  selected = class.selected;
+  ground = class.ground;
+  zero = class.zero;
+  tall = class.tall;
+  screen = class.screen;
+  origin_x = class.origin_x;
+  origin_y = class.origin_y;
+}
+
 pub canon_shown_at_selection : (n : ℕ) → CanonShownAtSelection n
-canon_shown_at_selection n p t x y picture class room binds right below =
+canon_shown_at_selection n p t x y picture class room right below =
     let none : BreaksNone n last_rule (canon p) = lists_break_no_rule n p picture in
     let portable : IsPortable n (canon p) p
     = subst (IsPortable n (canon p)) (lists_leave_their_picture n p picture)
     (left_is_portable n (canon p) (lists_are_whole p) none) in
-    let shows : Shows t (canon p) p = portable.shown t class room in
+    let there : HasRoom (at_painting t) p.width p.height = record { across = room.across; down = room.down } in
+    let shows : Shows (at_painting t) (canon p) p
+    = portable.shown (at_painting t) (at_painting_in_class n t class) there in
     shows.inside x y right below
-    ∙ ap (λ (c : Parts). Some c)
-    (sym (same_at_selection n t (canon p) _ _ none (canon_defines_first p) binds))
+    ∙ ap (λ (c : Parts). Some c) (sym (same_at_selection n t (canon p) _ _ none (canon_defines_first p)))

@@ -1,11 +1,12 @@
 -- A third binding, which no terminal of the class has: a pixel keeps the colour that its register had when it was
 -- selected. A definition after the selection doesn't change it until the register is selected again.
-use Rattle.std.specs.Prelude.{ℕ, ◌%◌, ◌∷◌, ◌++◌, [], List, Option, unwrap_or, if◌then◌else◌}
+use Rattle.std.specs.Prelude.{false, ℕ, ◌%◌, ◌∷◌, ◌++◌, [], List, Option, unwrap_or, if◌then◌else◌}
 use Rattle.std.specs.Option.{option_map}
 use Rattle.sixel_grammar.specs.declared.command.Event.{Event}
 use Rattle.sixel_model.specs.declared.colour.Parts.{Parts}
 use Rattle.sixel_model.specs.Events.{is_data_command, named_by, select_of}
 use Rattle.sixel_model.specs.Positions.{last_at}
+use Rattle.sixel_terminal.specs.declared.choices.Choices.{Choices}
 use Rattle.sixel_terminal.specs.Displays.{Display, registers_of}
 use Rattle.sixel_terminal.specs.Drawing.{map_on, paints_in, stood_on}
 
@@ -31,3 +32,11 @@ inked_at_selection t events x y before e =
 -- the colour that a pixel of the screen shows: that of the last painting, or the one before the events
 unfoldable pub shown_at_selection : Display → List Event → ℕ → ℕ → Parts
 shown_at_selection t events x y = unwrap_or (last_at (inked_at_selection t events x y) events) (stood_on t x y)
+
+-- the same choices, but pixels keep the colour that their register had when they were painted
+abbrev pub with_painting : Choices → Choices
+with_painting c = record c { binds_at_showing = false }
+
+-- the same terminal, but it binds at painting. `shown_at_selection` doesn't depend on how the terminal itself binds
+abbrev pub at_painting : Display → Display
+at_painting t = record t { choices = with_painting t.choices }
