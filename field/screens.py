@@ -17,6 +17,8 @@ import tty
 
 WIDTH, HEIGHT = 1000, 2200
 BACKGROUND = "204060"
+# How long a terminal may take to start, in seconds.
+PATIENCE = 120
 HERE = pathlib.Path(__file__).resolve()
 
 
@@ -29,7 +31,7 @@ def say(path, answer):
         data = data[os.write(1, data):]
     os.write(1, b"\x1b[c")
     heard = b""
-    while select.select([0], [], [], 2)[0] and not heard.endswith(b"c"):
+    while select.select([0], [], [], 10)[0] and not heard.endswith(b"c"):
         heard += os.read(0, 4096)
     pathlib.Path(answer + ".new").write_bytes(heard)
     os.rename(answer + ".new", answer)
@@ -82,7 +84,8 @@ class Screen:
             ["weston", "--backend=x11-backend.so", "--use-pixman", "--shell=kiosk-shell.so", "--no-config",
              f"--width={self.width}", f"--height={self.height}", "--socket=field", "--idle-time=0"])
         self.environment["WAYLAND_DISPLAY"] = "field"
-        wait_for((self.folder / "run" / "field").exists, 20)
+        if not wait_for((self.folder / "run" / "field").exists, PATIENCE):
+            raise TimeoutError("weston didn't start")
         time.sleep(1)
 
     def picture(self):
@@ -157,19 +160,20 @@ class Terminal:
         sent.write_bytes(b"\x1b[?25l\x1b[2J\x1b[H" + data)
         program = [sys.executable, str(HERE), str(sent), str(answer)]
         self.process = screen.start(TERMINALS[name](screen, program, background, options))
-        self.ready = wait_for(lambda: answer.exists() or self.process.poll() is not None, 20) and answer.exists()
-        self.heard = answer.read_bytes() if self.ready else b""
+        if not wait_for(lambda: answer.exists() or self.process.poll() is not None, PATIENCE):
+            end(self.process)
+            raise TimeoutError(f"{name} didn't start within {PATIENCE} seconds")
+        self.heard = answer.read_bytes() if answer.exists() else b""
 
     def picture(self):
-        """The screen, once two pictures of it are the same."""
-        last = None
-        for _ in range(100):
+        """The screen, once three pictures of it are the same."""
+        seen = []
+        for _ in range(200):
             time.sleep(0.15)
-            now = self.screen.picture()
-            if last is not None and now.tobytes() == last.tobytes():
-                break
-            last = now
-        return now
+            seen = [*seen[-2:], self.screen.picture().tobytes()]
+            if len(seen) == 3 and len(set(seen)) == 1:
+                return self.screen.picture()
+        raise TimeoutError("the screen doesn't come to rest")
 
     def close(self):
         """Ends the terminal, and says with which status it ended by itself, if it did."""
