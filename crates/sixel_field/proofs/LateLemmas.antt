@@ -1,0 +1,105 @@
+-- A list in which a definition comes after a select.
+use Rattle.std.proofs.Common.{◌≡◌, ◌≢◌, ◌⊎◌, inl, inr, ℕ, Bool, true, false, refl, lit≤}
+use Rattle.sixel_model.specs.declared.colour.Parts.TheVariants.{Rgb}
+use Rattle.sixel_model.specs.Rules.{Breaks, BreaksNone, BreaksOutside, BreaksUncovered, breaks_box_size}
+use Rattle.sixel_model.specs.Rules.{breaks_eight_bit, breaks_colour_value, breaks_ratio, breaks_raster_first}
+use Rattle.sixel_model.specs.Rules.{breaks_raster_twice, breaks_redefined, breaks_register, breaks_repeat_zero}
+use Rattle.sixel_model.specs.Rules.{breaks_undefined, breaks_unselected, definition_of, is_covered, is_painted_in}
+use Rattle.sixel_model.specs.Rules.{known, raster_before}
+use Rattle.sixel_model.specs.Geometry.{band, column, covers, falls, touches}
+use Rattle.sixel_model.specs.Positions.{any_at, any_below, at_position, earliest, last_at, last_below, latest}
+use Rattle.sixel_model.specs.Positions.{passes_at, since}
+use Rattle.sixel_model.proofs.RuleLemmas.{by_number, by_test, each_rule}
+use Rattle.sixel_model.specs.RuleNumbers.{last_rule}
+use Rattle.sixel_model.specs.Profiles.{count_of}
+use Rattle.sixel_model.specs.declared.profile.Profile.{Profile}
+use Rattle.sixel_model.specs.declared.profile.Profile.TheVariants.{Registers16, Registers256}
+use Rattle.sixel_terminal.specs.Displays.{Display, IsInClass}
+use Rattle.sixel_terminal.specs.Drawing.{height_of, is_kept_on, is_seen_on, map_on, paints_on, selected_on, shown_on}
+use Rattle.sixel_terminal.specs.Drawing.{touches_on}
+use Rattle.sixel_check.specs.Differences.{white, witness_terminal}
+use Rattle.sixel_check.proofs.DecideLemmas.{decided_by, falls_searchable, blank_searchable, first_of, outside_first}
+use Rattle.sixel_check.proofs.DecideLemmas.{blank_first, outside_decided, blank_somewhere, both_decided}
+use Rattle.sixel_check.proofs.DecideLemmas.{uncovered_decided, rule_decided, held_decided, position_decided}
+use Rattle.sixel_check.proofs.DecideLemmas.{broken_decided, broken_or_none}
+use Rattle.sixel_check.proofs.SearchLemmas.{decide_true, least_here, least_more, least_below, in_row}
+use Rattle.sixel_check.proofs.SearchLemmas.{row_decided, first_point}
+use Rattle.sixel_field.specs.AtSelection.{loaded_on, shown_at_selection}
+use Rattle.sixel_field.specs.Laws.{LateDefinitionsCanDiffer, late_red}
+
+abbrev is_second : {A B : Type 0} → A ⊎ B → Bool
+is_second (inl a) = false
+is_second (inr b) = true
+
+second_of : {A B : Type 0} (s : A ⊎ B) → is_second s ≡ true → B
+second_of (inl a) h = cc
+second_of (inr b) h = b
+
+-- by computation, each rule is tested at each event
+unbroken : (profile : Profile) → BreaksNone (count_of profile) last_rule late_red
+unfolding decided_by falls_searchable blank_searchable first_of outside_first blank_first outside_decided
+    blank_somewhere both_decided uncovered_decided rule_decided held_decided position_decided broken_decided
+    broken_or_none decide_true by_test by_number each_rule least_here least_more least_below in_row row_decided
+    first_point Breaks
+    BreaksOutside BreaksUncovered breaks_box_size breaks_colour_value breaks_eight_bit breaks_ratio
+    breaks_raster_first breaks_raster_twice breaks_redefined breaks_register breaks_repeat_zero breaks_undefined
+    breaks_unselected definition_of is_covered is_painted_in known raster_before band column covers falls touches any_at
+    any_below earliest latest passes_at since
+unbroken Registers16 = second_of (broken_or_none 16 late_red) refl
+unbroken Registers256 = second_of (broken_or_none 256 late_red) refl
+
+-- a terminal with one white pixel, whose registers are black at the start
+abbrev one_white : ℕ → Display
+one_white registers = witness_terminal registers 1 1 white
+
+in_class : (profile : Profile) → IsInClass (count_of profile) (one_white (count_of profile))
+in_class Registers16 = record {
+  enough = lit≤ tt;
+  selected = lit≤ tt;
+  ground = tt;
+  zero = lit≤ tt;
+  tall = lit≤ tt;
+  screen = refl;
+  origin_x = lit≤ tt;
+  origin_y = lit≤ tt;
+}
+in_class Registers256 = record {
+  enough = lit≤ tt;
+  selected = lit≤ tt;
+  ground = tt;
+  zero = lit≤ tt;
+  tall = lit≤ tt;
+  screen = refl;
+  origin_x = lit≤ tt;
+  origin_y = lit≤ tt;
+}
+
+red_at_painting : (profile : Profile) → shown_on (one_white (count_of profile)) late_red 0 0 ≡ Rgb 100 0 0
+unfolding shown_on last_at last_below at_position is_seen_on paints_on is_kept_on touches_on touches covers any_below
+    height_of selected_on map_on latest earliest raster_before band column since
+red_at_painting Registers16 = refl
+red_at_painting Registers256 = refl
+
+black_at_selection : (profile : Profile) → shown_at_selection (one_white (count_of profile)) late_red 0 0 ≡ Rgb 0 0 0
+unfolding shown_at_selection loaded_on last_at last_below at_position is_seen_on paints_on is_kept_on touches_on touches
+    covers any_below height_of selected_on map_on latest earliest raster_before band column since
+black_at_selection Registers16 = refl
+black_at_selection Registers256 = refl
+
+not_red : (profile : Profile) → shown_at_selection (one_white (count_of profile)) late_red 0 0 ≢ Rgb 100 0 0
+not_red profile red =
+    let black : shown_at_selection (one_white (count_of profile)) late_red 0 0 ≡ Rgb 0 0 0
+    = black_at_selection profile in
+    cc
+
+pub late_definitions_can_differ : (profile : Profile) → LateDefinitionsCanDiffer (count_of profile)
+late_definitions_can_differ profile = (
+  one_white (count_of profile),
+  record {
+    unbroken = unbroken profile;
+    class = in_class profile;
+    room = record { across = lit≤ tt; down = lit≤ tt };
+    red = red_at_painting profile;
+    other = not_red profile;
+  },
+)

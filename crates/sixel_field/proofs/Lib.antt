@@ -1,0 +1,5 @@
+pub mod FirstLemmas
+pub mod CanonLemmas
+pub mod LoadedLemmas
+pub mod SelectionLemmas
+pub mod LateLemmas

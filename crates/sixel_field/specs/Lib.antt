@@ -1,0 +1,2 @@
+pub mod AtSelection
+pub mod Laws

@@ -1,0 +1,4 @@
+//! Laws about terminals outside the class.
+#![tactic(auto)]
+
+pub mod laws;
