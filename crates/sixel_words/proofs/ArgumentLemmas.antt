@@ -4,7 +4,6 @@ use Rattle.std.proofs.Common.{map, option_map, refl, slice_get, string_bytes, sy
 use Rattle.std.specs.Prelude.{Err, IfSome, String}
 use Rattle.std.specs.Global.{Global}
 use Rattle.std.specs.Str.Lossy.{utf8_lossy}
-use Rattle.std.specs.declared.env.FillError.{FillError}
 use Rattle.std.specs.declared.env.FillError.TheVariants.{NotPresent}
 use Rattle.std.proofs.lemmas.List.{map-append}
 use Rattle.sixel_run.specs.Texts.{Text}

@@ -1,14 +1,14 @@
 -- Checks with any of their flags, in any order and as often as one likes.
-use Rattle.std.proofs.Common.{◌≡◌, ◌∙◌, ◌∷◌, ◌++◌, ◌<◌, ◌⊎◌, ◌&&◌, ◌||◌, ℕ, zero, suc, [], Bool, List, Option, Some}
+use Rattle.std.proofs.Common.{◌≡◌, ◌∙◌, ◌∷◌, ◌++◌, ◌⊎◌, ◌&&◌, ◌||◌, zero, suc, [], Bool, List, Some}
 use Rattle.std.proofs.Common.{ap, append-nil, append_assoc, arith, codes, false, fold, inl, inr, refl, subst, sym, true}
-use Rattle.std.specs.Prelude.{All, Contains, find, if◌then◌else◌, is_some, unwrap_or}
-use Rattle.std.specs.List.{list_all, list_any}
+use Rattle.std.specs.Prelude.{All, Contains, find, if◌then◌else◌, unwrap_or}
+use Rattle.std.specs.List.{list_all}
 use Rattle.std.specs.Str.{bytes_eq}
 use Rattle.std.proofs.lemmas.Bool.{and_from}
 use Rattle.std.proofs.lemmas.List.Elements.{All-head, All-tail}
 use Rattle.clap.proofs.OnLiterals.{clap_on_literals}
 use Rattle.clap.specs.Simple.{App, Shape, built, entered, label_of, names_of, subcommand_of}
-use Rattle.clap.specs.Takes.{built_takes, default_passes, is_valid, settle_passes, takes, turn_passes, walk_passes}
+use Rattle.clap.specs.Takes.{default_passes, is_valid, settle_passes, takes, turn_passes, walk_passes}
 use Rattle.clap.specs.Walk.{Row, Text, Walk, answers_to, finished, nothing_held, walk, walk_from, walked}
 use Rattle.sixel_model.specs.declared.profile.Profile.TheVariants.{Registers16, Registers256}
 use Rattle.sixel_run.specs.declared.task.Task.TheVariants.{Check}

@@ -1,5 +1,5 @@
 -- The name that is most like a word.
-use Rattle.std.proofs.Common.{◌≡◌, ◌∙◌, ◌∷◌, ◌++◌, ◌<◌, ◌≤◌, ℕ, zero, suc, [], List, None, Option, Some}
+use Rattle.std.proofs.Common.{◌≡◌, ◌∷◌, ◌++◌, ◌<◌, ◌≤◌, ℕ, zero, suc, [], List, None, Option, Some}
 use Rattle.std.proofs.Common.{arith, get_or, length, map, refl, sym}
 use Rattle.std.specs.Borrow.{Bor}
 use Rattle.std.specs.Prelude.{All, Contains}

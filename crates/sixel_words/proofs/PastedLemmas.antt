@@ -1,13 +1,13 @@
 -- A line of the program asks for its topic.
 use Rattle.std.proofs.Common.{◌≡◌, ◌≢◌, ◌∙◌, ◌∷◌, ◌++◌, ◌==◌, ◌+◌, ◌-◌, ◌/◌, ◌%◌, ◌<◌, ◌≤◌, ◌⊎◌, ℕ, zero, suc, []}
 use Rattle.std.proofs.Common.{Bool, List, None, Option, Some, ap, append-nil, append_assoc, arith, codes, cond, drop}
-use Rattle.std.proofs.Common.{eqb, false, inl, inr, le-ltb, length, length-append, lt-ltb, map, nat_lt, ne_eqb, refl}
+use Rattle.std.proofs.Common.{false, inl, inr, le-ltb, length, length-append, lt-ltb, map, nat_lt, ne_eqb, refl}
 use Rattle.std.proofs.Common.{subst, sym, take, true}
-use Rattle.std.specs.Prelude.{decimal, option_map}
+use Rattle.std.specs.Prelude.{decimal}
 use Rattle.std.specs.Char.{to_ascii_lowercase}
 use Rattle.std.specs.Cmp.Lexicographic.{pointwise}
 use Rattle.std.specs.Fmt.{digits, digits_onto, digit_glyph}
-use Rattle.std.specs.List.{concat, onto_first}
+use Rattle.std.specs.List.{onto_first}
 use Rattle.std.specs.Option.{option_or}
 use Rattle.std.specs.Str.{str_to_ascii_lowercase}
 use Rattle.std.proofs.lemmas.Bool.{false_from_ne_true, true≢false}

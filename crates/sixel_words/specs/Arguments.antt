@@ -1,5 +1,5 @@
 -- The arguments of a process.
-use Rattle.std.specs.Prelude.{◌≡◌, ◌<◌, ℕ, List, None, Option, Result, Ok, Err, Some, length, slice_get, take}
+use Rattle.std.specs.Prelude.{◌≡◌, ◌<◌, ℕ, List, None, Result, Ok, Err, Some, length, slice_get, take}
 use Rattle.std.specs.declared.env.FillError.{FillError}
 use Rattle.std.specs.declared.env.FillError.TheVariants.{NotPresent, TooLong}
 use Rattle.sixel_run.specs.Texts.{Text}
