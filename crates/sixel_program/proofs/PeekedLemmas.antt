@@ -4,7 +4,10 @@ use Rattle.std.proofs.Common.{[], ◌∷◌, false, length, min, subst, sym, tak
 use Rattle.std.specs.Prelude.{◌==◌}
 use Rattle.std.specs.Io.KnownBytes.{Consumes, IsAtEnd, Keeps, prepend_known}
 use Rattle.sixel_program.specs.declared.formats.Format.{Format}
+use Rattle.sixel_program.specs.declared.peeked.After.{After}
+use Rattle.sixel_program.specs.declared.peeked.After.TheVariants.{Rest, Failure, End}
 use Rattle.sixel_program.specs.Formats.{IsFormat, format_of}
+use Rattle.sixel_program.specs.Peeked.{failures_of_source}
 use Rattle.std.proofs.Math.Seq.{drop-drop, take-append_seam}
 use Rattle.std.proofs.lemmas.List.{length-take-le, take-append-drop}
 
@@ -48,3 +51,10 @@ format_told None rest waits seen format same are is = tt
 format_told (Some bytes) None waits seen format same are is = absurd same
 format_told (Some bytes) (Some more) waits seen format same are is =
     (waits, (more, sym same), is ∙ ap format_of are)
+
+-- if the input has had a failure, so has its source
+pub source_failed : (after : After) (failures of_source : ℕ) → of_source ≡ failures_of_source after failures
+    → 0 < failures → 0 < of_source
+source_failed Rest failures of_source is some = omega (arith, is, some)
+source_failed Failure failures of_source is some = omega (arith, is)
+source_failed End failures of_source is some = omega (arith, is, some)

@@ -4,8 +4,7 @@ ghost use Rattle.std.specs.Prelude.{◌≡◌, ◌<◌, ◌≤◌, ◌+◌, ◌+
 ghost use Rattle.std.specs.Io.KnownBytes.{Consumes, Keeps, ReadConsumes};
 ghost use Rattle.sixel_io.specs.Devices.{CountsFailure};
 ghost use Rattle.sixel_program.specs.Formats.{IsFormat};
-ghost use Rattle.sixel_program.specs.Peeked.{after_prefix, peeked_state};
-ghost use Rattle.sixel_program.specs.declared.peeked.After.TheVariants.{Failure};
+ghost use Rattle.sixel_program.specs.Peeked.{after_prefix, failures_of_source, peeked_state};
 
 use crate::formats::{Format, PREFIX_LENGTH, format_of, is_undecided};
 use arrayvec::ArrayVec;
@@ -39,10 +38,8 @@ pub struct Peeked<S: Source> {
     failures: u64,
     /// The source, which gives what follows the prefix.
     rest: S,
-    /// A failure that waits is one of the source.
-    ghost waits: { after ≡ Failure → 0 < (S.state rest).failures },
-    /// The input has a failure only if its source has had one.
-    ghost failed: { 0 < failures → 0 < (S.state rest).failures },
+    /// The input's failures are those of its source, but for one that waits.
+    ghost counted: { (S.state rest).failures ≡ failures_of_source after failures },
 }
 
 impl<S: Source> Peeked<S> {
@@ -148,8 +145,7 @@ fn first_bytes<S: Source>(source: &mut S, prefix: &mut Prefix) -> After
     requires { prefix.old.items ≡ [] }
     ensures read { Consumes (S.state source.old).remaining (after_prefix result (S.state source.new).remaining)
         prefix.new.items }
-    ensures counted { 0 < (S.state source.old).failures → 0 < (S.state source.new).failures }
-    ensures failed { result ≡ After.Failure → 0 < (S.state source.new).failures }
+    ensures counted { (S.state source.new).failures ≡ failures_of_source result (S.state source.old).failures }
 {
     for _ in 0..PREFIX_LENGTH {
         if !is_undecided(prefix.as_slice()) {
@@ -168,8 +164,7 @@ fn read_more<S: Source>(source: &mut S, prefix: &mut Prefix) -> After
     ensures read { (more : List ℕ)
         × Consumes (S.state source.old).remaining (after_prefix result (S.state source.new).remaining) more
         × (prefix.new.items ≡ prefix.old.items ++ more) }
-    ensures counted { 0 < (S.state source.old).failures → 0 < (S.state source.new).failures }
-    ensures failed { result ≡ After.Failure → 0 < (S.state source.new).failures }
+    ensures counted { (S.state source.new).failures ≡ failures_of_source result (S.state source.old).failures }
 {
     let mut piece = [0; PREFIX_LENGTH];
     let room = prefix.remaining_capacity();

@@ -1,6 +1,6 @@
 //! How the arguments of the process are read.
 
-ghost use Rattle.std.specs.Prelude.{Some, map};
+ghost use Rattle.std.specs.Prelude.{None};
 
 use crate::words::answered;
 use sixel_words::{Arguments, arguments_of, task_in};
@@ -15,7 +15,7 @@ struct Given<'a> {
 }
 
 impl Arguments for Given<'_> {
-    ghost given = { λ g. Some (map (λ argument. argument.now) g.arguments.now) };
+    ghost given = { λ g. None };
 
     fn copy(&self, index: usize, room: &mut [u8]) -> Result<usize, FillError> {
         let Some(argument) = self.arguments.get(index) else {

@@ -7,6 +7,7 @@ use Rattle.sixel_run.specs.declared.fault.RunFault.TheVariants.{Read}
 use Rattle.sixel_program.specs.Files.{is_dash}
 use Rattle.sixel_program.specs.Openings.{bytes_of, folder_view}
 use Rattle.sixel_program.proofs.FilesLemmas.{fails_with, unopened}
+use Rattle.sixel_program.proofs.PeekedLemmas.{source_failed}
 use Rattle.sixel_program.proofs.checks.check_file.Goals as goal
 
 pub returns-in-Err-clause-checked : goal.returns-in-Err-clause-checked
@@ -63,7 +64,7 @@ returns-in-Ok-clause-checked g c =
         counted = λ is none.
             fails_with (folder_view (g.F.Folder.opening c.args.folder.now) g.F.Opened.Source.state) checked.2 _ _ _
             (ap (λ (s : SourceState). s.failures) (c.new-file.ensures ∙ c.in-Ok.ensures.bytes)) checked.4
-            c.check_named-in-Ok.new.input.failed;
+            (source_failed _ _ _ c.check_named-in-Ok.new.input.counted);
       };
       counted = rw file refl;
       outcome = checked.5;

@@ -1,6 +1,7 @@
 use Rattle.std.proofs.Common.{◌∙◌, ap, sym}
 use Rattle.sixel_io.specs.Devices.{SourceState}
 use Rattle.sixel_program.proofs.FilesLemmas.{dash_ends, file_ends, unopened_ends}
+use Rattle.sixel_program.proofs.PeekedLemmas.{source_failed}
 use Rattle.sixel_program.proofs.PutLemmas.{is_put}
 use Rattle.sixel_program.proofs.files.report_file.Goals as goal
 
@@ -12,7 +13,8 @@ returns-in-Ok-clause-ends g c =
     let opened = c.new-file.ensures ∙ c.in-Ok.ensures.bytes in
     file_ends _ _ _ _ _ _ _ _ _ (sym c.eq.ensures ∙ c.if-eq.false) (ap (λ (s : SourceState). s.remaining) opened)
     c.in-Ok.ensures.ended
-    (ap (λ (s : SourceState). s.failures) opened, λ some. (_, c.report-in-Ok.new.input.failed some))
+    (ap (λ (s : SourceState). s.failures) opened, λ some.
+    (_, source_failed _ _ _ c.report-in-Ok.new.input.counted some))
     c.report-in-Ok.ensures
 
 pub returns-in-Err-clause-ends : goal.returns-in-Err-clause-ends
