@@ -289,7 +289,8 @@ number's first digit.
 String: P6 1 1 256 LF
 Output of encode: sixel: Maxval at 7
 
-Fix: write samples of one byte, with the maxval 255.
+Fix: write samples of one byte, with the maxval 255, for example by pnmdepth
+255. ImageMagick writes them with -depth 8.
 ";
 
 /// An explanation goes to standard output. If it can't be written whole, the program ends as a task would.
