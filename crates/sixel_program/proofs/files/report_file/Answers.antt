@@ -12,9 +12,11 @@ pub returns-in-Ok-clause-ends : goal.returns-in-Ok-clause-ends
 returns-in-Ok-clause-ends g c =
     let opened = c.new-file.ensures ∙ c.in-Ok.ensures.bytes in
     file_ends _ _ _ _ _ _ _ _ _ (sym c.eq.ensures ∙ c.if-eq.false) (ap (λ (s : SourceState). s.remaining) opened)
-    c.in-Ok.ensures.ended
-    (ap (λ (s : SourceState). s.failures) opened, λ some.
-    (_, source_failed _ _ _ c.report-in-Ok.new.input.counted some))
+    c.in-Ok.ensures.ended (
+      ap (λ (s : SourceState). s.failures) opened,
+      λ some.
+          (_, source_failed _ _ _ c.report-in-Ok.new.input.counted some),
+    )
     c.report-in-Ok.ensures
 
 pub returns-in-Err-clause-ends : goal.returns-in-Err-clause-ends
