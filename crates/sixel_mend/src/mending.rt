@@ -21,7 +21,7 @@ pub struct Mending {
 pub enum MendFault {
     /// The bytes aren't a document.
     Grammar(Fault),
-    /// The picture has no column or no row: the string paints nothing, and declares no size.
+    /// A side of the picture is 0: the string paints nothing, and declares no box, or one with a side of 0.
     Empty,
     /// The picture has more than 2,048 columns or rows.
     TooLarge,

@@ -50,7 +50,7 @@ bytes_of opening name = bytes_told (opening name)
 
 -- ---- one file
 
--- the name has the character U+FFFD, which stands for bytes that aren't valid UTF-8
+-- the name has the character U+FFFD. Whatever isn't valid UTF-8 is replaced by it
 abbrev pub IsNotText : Text → Type 0
 IsNotText name = (before after : Text) × (name ≡ before ++ (0xEF ∷ 0xBF ∷ 0xBD ∷ []) ++ after)
 

@@ -114,8 +114,8 @@ fn put_finding<K: Sink>(
     }
 }
 
-/// Writes what is said of a run over an input of this format: why it was refused, or which rule kept its picture from
-/// being rendered.
+/// Writes the line of a run that didn't do its task: why the input was refused, or which rule its picture breaks. Advice
+/// on an input of this format follows.
 pub fn put_said<K: Sink>(
     task: Task,
     name: Option<&str>,
