@@ -69,8 +69,15 @@ pub cell_at : (s : Grid) (x y : ℕ) → y * s.width + x < length s.cells
 unfolding cell
 cell_at s x y lt = ap option_flatten (slice_get-get_or s.cells (y * s.width + x) None lt)
 
+-- the sides of the grid are in range, and its pixels that aren't blank are those that an event covers
+pub record Covers (s : Grid) (before : List Event) : Type 0 where
+  pub width : IsTrue (is_side s.width)
+  pub height : IsTrue (is_side s.height)
+  pub pixels : length s.cells ≡ s.width * s.height
+  pub covered : (x y : ℕ) → x < s.width → y < s.height → is_some (cell s x y) ≡ is_covered before x y
+
 -- the pixel at this index has a register exactly if an event paints it
-painted_there : (s : Grid) (before : List Event) (x y : ℕ) → IsDrawn s before → x < s.width → y < s.height
+painted_there : (s : Grid) (before : List Event) (x y : ℕ) → Covers s before → x < s.width → y < s.height
     → is_none (get_or s.cells (y * s.width + x) None) ≡ not (is_covered before x y)
 painted_there s before x y d p q =
     let place : y * s.width + x < s.width * s.height = mul-add-lt y s.width x s.height q p in
@@ -81,7 +88,7 @@ painted_there s before x y d p q =
     opposite None = refl
     opposite (Some r) = refl
 
-not_blank : (s : Grid) (before : List Event) (x y : ℕ) → IsDrawn s before → x < s.width → y < s.height
+not_blank : (s : Grid) (before : List Event) (x y : ℕ) → Covers s before → x < s.width → y < s.height
     → is_none (get_or s.cells (y * s.width + x) None) ≡ false → is_covered before x y ≡ false → ⊥
 not_blank s before x y d p q has bare =
     both_ways (is_covered before x y) bare (not-false _ (sym (painted_there s before x y d p q) ∙ has))
@@ -102,7 +109,7 @@ place_before w u v x y in_row h = elim (or_cases (nat_lt v y) ((v == y) && nat_l
 ]
 
 -- if no index is blank, each pixel of the box is painted
-no_blank_place : (s : Grid) (before : List Event) → IsDrawn s before → position_from is_none 0 s.cells ≡ None
+no_blank_place : (s : Grid) (before : List Event) → Covers s before → position_from is_none 0 s.cells ≡ None
     → (x y : ℕ) → StaysBlank before (box_of s) x y → ⊥
 no_blank_place s before d none x y blank =
     let at = in_box_place (box_of s) x y blank.inside in
@@ -110,7 +117,7 @@ no_blank_place s before d none x y blank =
     (none_passes is_none 0 s.cells None none (y * s.width + x) (omega (arith, at.2, d.pixels))) blank.blank
 
 -- the first blank index is that of the first point of the box that no event paints
-blank_place : (s : Grid) (before : List Event) (i : ℕ) → IsDrawn s before → position_from is_none 0 s.cells ≡ Some i
+blank_place : (s : Grid) (before : List Event) (i : ℕ) → Covers s before → position_from is_none 0 s.cells ≡ Some i
     → (i % s.width < s.width) × (i / s.width < s.height)
     × IsFirstPoint (StaysBlank before (box_of s)) (i % s.width) (i / s.width)
 blank_place s before i d found =
@@ -138,10 +145,10 @@ small n h = let le : n ≤ most_side = leb-true n most_side
     (and_parts (nat_le 1 n) (nat_le n most_side) h).1 in omega arith
 
 -- the first blank pixel is the first point of the box that no event paints, if there is any
-pub first_blank_drawn : (s : Grid) (before : List Event) → IsDrawn s before
+pub first_blank_covered : (s : Grid) (before : List Event) → Covers s before
     → IsFirstIfAny (StaysBlank before (box_of s)) (first_blank s)
 unfolding first_blank
-first_blank_drawn s before d = of_place (position_from is_none 0 s.cells) refl
+first_blank_covered s before d = of_place (position_from is_none 0 s.cells) refl
   where
     of_place : (o : Option ℕ) → position_from is_none 0 s.cells ≡ o
         → IsFirstIfAny (StaysBlank before (box_of s)) (option_map (λ i. (i % s.width, i / s.width)) o)
@@ -155,6 +162,13 @@ first_blank_drawn s before d = of_place (position_from is_none 0 s.cells) refl
         let x_is : i % s.width ≡ capped (i % s.width) = omega arith in
         let y_is : i / s.width ≡ capped (i / s.width) = omega arith in
         (i % s.width, i / s.width, found.2, ap₂ (λ (x y : ℕ). Some (x, y)) x_is y_is)
+
+-- the same for a grid that is drawn
+pub first_blank_drawn : (s : Grid) (before : List Event) → IsDrawn s before
+    → IsFirstIfAny (StaysBlank before (box_of s)) (first_blank s)
+first_blank_drawn s before d =
+    first_blank_covered s before
+    (record { width = d.width; height = d.height; pixels = d.pixels; covered = d.covered })
 
 -- ---- the registers of a grid without a blank pixel
 

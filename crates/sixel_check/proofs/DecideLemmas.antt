@@ -128,7 +128,7 @@ no_rule_zero : (registers : ℕ) (before : List Event) (e : Event) → ¬ Breaks
 unfolding Breaks
 no_rule_zero registers before e h = h
 
-pixel_of : (registers : ℕ) (r : Rule) (before : List Event) (e : Event) → Breaks registers (number_of r) before e
+pub pixel_of : (registers : ℕ) (r : Rule) (before : List Event) (e : Event) → Breaks registers (number_of r) before e
     → (pixel : Option (ℕ × ℕ)) × IsPixel r pixel before e
 unfolding Breaks BreaksOutside BreaksUncovered
 pixel_of registers Outside before e h = elim (outside_first before e) [
@@ -199,7 +199,7 @@ least_rule registers events i f =
     (subst (λ (n : ℕ). Breaks registers n (take i events) f.holds.item) e f.holds.holds) in
     rule_of f.number (omega (arith, not_zero)) (omega (arith, below))
 
-place_of : (placed : List Placed) (i : ℕ) → i < length placed
+pub place_of : (placed : List Placed) (i : ℕ) → i < length placed
     → (place : ℕ) × (option_map (λ (p : Placed). p.place) (slice_get placed i) ≡ Some place)
 place_of placed i lt =
     let p = item_there placed i lt in (p.0.place, ap (option_map (λ (p : Placed). p.place)) p.1)

@@ -43,11 +43,11 @@ unfolding Breaks breaks_eight_bit
 seven_bits registers before e none = is_false (is_eight_bit e) (none eight_bit_rule (omega arith))
 
 -- a column that is capped at each step is the capped column
-stopped : (b : Bool) (c w : ℕ) → cond b 0 (capped (capped c + w)) ≡ capped (cond b 0 (c + w))
+pub stopped : (b : Bool) (c w : ℕ) → cond b 0 (capped (capped c + w)) ≡ capped (cond b 0 (c + w))
 stopped true c w = omega arith
 stopped false c w = omega arith
 
-stopped_band : (b : Bool) (n : ℕ) → cond b (capped (capped n + 1)) (capped n) ≡ capped (n + cond b 1 0)
+pub stopped_band : (b : Bool) (n : ℕ) → cond b (capped (capped n + 1)) (capped n) ≡ capped (n + cond b 1 0)
 stopped_band true n = omega arith
 stopped_band false n = omega arith
 
@@ -106,7 +106,7 @@ length_painted true (Some r) xs = length-set xs r true
 length_painted true None xs = refl
 length_painted false o xs = refl
 
-set_is : (b : Bool) (q r : ℕ) (xs : List Bool) → (q == r) ≡ b → q < length xs
+pub set_is : (b : Bool) (q r : ℕ) (xs : List Bool) → (q == r) ≡ b → q < length xs
     → get_or (set xs q true) r false ≡ (b || get_or xs r false)
 set_is true q r xs e lt =
     let same : q ≡ r = eqb-true q r e in

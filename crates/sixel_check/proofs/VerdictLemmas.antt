@@ -31,7 +31,7 @@ numbered_is : (r : Rule) → numbered (number_of r) ≡ r
 numbered_is RasterFirst = refl
 numbered_is _ = refl
 
-same_rule : (r q : Rule) → number_of r ≡ number_of q → r ≡ q
+pub same_rule : (r q : Rule) → number_of r ≡ number_of q → r ≡ q
 same_rule r q e = sym (numbered_is r) ∙ ap numbered e ∙ numbered_is q
 
 -- ---- one pixel
@@ -68,7 +68,7 @@ pixel_once _ p q before e f g = f ∙ sym g
 -- ---- one finding
 
 -- two findings of the same rule at the same event have the same pixel
-pixel_at : (r : Rule) (p q : Option (ℕ × ℕ)) (events : List Event) (i : ℕ) → HoldsAtPosition (IsPixel r p) events i
+pub pixel_at : (r : Rule) (p q : Option (ℕ × ℕ)) (events : List Event) (i : ℕ) → HoldsAtPosition (IsPixel r p) events i
     → HoldsAtPosition (IsPixel r q) events i → p ≡ q
 pixel_at r p q events i f g =
     let same : f.item ≡ g.item = same_value (slice_get events i) f.item g.item f.here g.here in

@@ -9,7 +9,7 @@ ghost use Rattle.sixel_check.specs.Standing.{is_start as start_test};
 use sixel_grammar::{Command, Event};
 
 /// The bits of a sixel or repeat; 0 for any other event.
-pub(crate) fn bits_of(event: &Event) -> u8
+pub fn bits_of(event: &Event) -> u8
     ensures value { result ≡ said.bits_of event.now }
     ensures below { IsSpellable event.now → result ≤ 63 }
 {
@@ -21,7 +21,7 @@ pub(crate) fn bits_of(event: &Event) -> u8
 }
 
 /// The number of columns of a sixel or repeat; 0 for any other event.
-pub(crate) fn columns_of(event: &Event) -> u16
+pub fn columns_of(event: &Event) -> u16
     ensures { result ≡ said.columns_of 0 event.now }
 {
     match event {
@@ -32,13 +32,13 @@ pub(crate) fn columns_of(event: &Event) -> u16
 }
 
 /// Whether it is a sixel or repeat with at least one of the six bits set.
-pub(crate) fn is_painting(event: &Event) -> bool
+pub fn is_painting(event: &Event) -> bool
     ensures { result ≡ said.is_painting event.now }
 {
     bits_of(event) % 64 != 0
 }
 
-pub(crate) fn is_data_command(event: &Event) -> bool
+pub fn is_data_command(event: &Event) -> bool
     ensures { result ≡ said.is_data_command event.now }
 {
     matches!(
@@ -47,7 +47,7 @@ pub(crate) fn is_data_command(event: &Event) -> bool
     )
 }
 
-pub(crate) fn is_repeat_of_zero(event: &Event) -> bool
+pub fn is_repeat_of_zero(event: &Event) -> bool
     ensures { result ≡ said.is_repeat_of_zero event.now }
 {
     match event {
@@ -56,14 +56,14 @@ pub(crate) fn is_repeat_of_zero(event: &Event) -> bool
     }
 }
 
-pub(crate) fn is_next_line(event: &Event) -> bool
+pub fn is_next_line(event: &Event) -> bool
     ensures { result ≡ said.is_next_line event.now }
 {
     matches!(event, Event::Step(Command::NextLine))
 }
 
 /// Whether it goes to the left margin.
-pub(crate) fn is_return(event: &Event) -> bool
+pub fn is_return(event: &Event) -> bool
     ensures { result ≡ said.is_return event.now }
 {
     matches!(
@@ -72,14 +72,14 @@ pub(crate) fn is_return(event: &Event) -> bool
     )
 }
 
-pub(crate) fn is_finish(event: &Event) -> bool
+pub fn is_finish(event: &Event) -> bool
     ensures { result ≡ said.is_finish event.now }
 {
     matches!(event, Event::Finish { .. })
 }
 
 /// Whether it is a start or a finish written as an 8-bit control.
-pub(crate) fn is_eight_bit(event: &Event) -> bool
+pub fn is_eight_bit(event: &Event) -> bool
     ensures { result ≡ said.is_eight_bit event.now }
 {
     matches!(
@@ -89,7 +89,7 @@ pub(crate) fn is_eight_bit(event: &Event) -> bool
 }
 
 /// The register that a select names.
-pub(crate) fn select_of(event: &Event) -> Option<u16>
+pub fn select_of(event: &Event) -> Option<u16>
     ensures { result ≡ said.select_of event.now }
 {
     match event {
@@ -99,7 +99,7 @@ pub(crate) fn select_of(event: &Event) -> Option<u16>
 }
 
 /// The register that a select or a definition names.
-pub(crate) fn named_by(event: &Event) -> Option<u16>
+pub fn named_by(event: &Event) -> Option<u16>
     ensures { result ≡ said.named_by event.now }
 {
     match event {
@@ -109,14 +109,14 @@ pub(crate) fn named_by(event: &Event) -> Option<u16>
     }
 }
 
-pub(crate) fn is_raster(event: &Event) -> bool
+pub fn is_raster(event: &Event) -> bool
     ensures { result ≡ is_some (said.raster_of event.now) }
 {
     matches!(event, Event::Step(Command::Raster { .. }))
 }
 
 /// The width and the height of the box that raster attributes declare.
-pub(crate) fn sides_of(event: &Event) -> Option<(u32, u32)>
+pub fn sides_of(event: &Event) -> Option<(u32, u32)>
     ensures { result ≡ option_map (λ a. (a.width, a.height)) (said.raster_of event.now) }
 {
     match event {
@@ -125,7 +125,7 @@ pub(crate) fn sides_of(event: &Event) -> Option<(u32, u32)>
     }
 }
 
-pub(crate) fn is_start(event: &Event) -> bool
+pub fn is_start(event: &Event) -> bool
     ensures { result ≡ start_test event.now }
 {
     matches!(event, Event::Start { .. })

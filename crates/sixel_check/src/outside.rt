@@ -33,7 +33,7 @@ fn outside_column(column: u64, count: u16, row: u64, width: u32, height: u32) ->
 /// The run has `count` columns from `column` on, in the rows of the set bits of its band. A column, band or result
 /// coordinate of `u64::MAX` means that number or any greater one.
 #[inline(always)]
-pub(crate) fn outside_pixel(
+pub fn outside_pixel(
     column: u64,
     band: u64,
     count: u16,

@@ -19,7 +19,7 @@ const MOST_SIDE: u16 = 2048;
 
 /// A data command, a return or the finish before any raster attributes.
 #[inline]
-fn breaks_raster_first(has_box: bool, event: &Event) -> bool
+pub fn breaks_raster_first(has_box: bool, event: &Event) -> bool
     ensures { result ≡ by_state.raster_first_in has_box event.now }
 {
     !has_box && (is_data_command(event) || is_return(event) || is_finish(event))
@@ -27,7 +27,7 @@ fn breaks_raster_first(has_box: bool, event: &Event) -> bool
 
 /// Raster attributes after raster attributes.
 #[inline]
-fn breaks_raster_twice(has_box: bool, event: &Event) -> bool
+pub fn breaks_raster_twice(has_box: bool, event: &Event) -> bool
     ensures { result ≡ by_state.raster_twice_in has_box event.now }
 {
     has_box && is_raster(event)
@@ -36,7 +36,7 @@ fn breaks_raster_twice(has_box: bool, event: &Event) -> bool
 /// Raster attributes whose aspect ratio isn't written as 1 to 1.
 #[tactic(auto, unfolding(sixel_model::specs::Rules::breaks_ratio))]
 #[inline]
-fn breaks_ratio(event: &Event) -> bool
+pub fn breaks_ratio(event: &Event) -> bool
     ensures { result ≡ of.breaks_ratio event.now }
 {
     match event {
@@ -48,7 +48,7 @@ fn breaks_ratio(event: &Event) -> bool
 /// Raster attributes with a side outside 1 to 2,048 pixels.
 #[tactic(auto, unfolding(sixel_model::specs::Rules::breaks_box_size))]
 #[inline]
-fn breaks_box_size(event: &Event) -> bool
+pub fn breaks_box_size(event: &Event) -> bool
     ensures { result ≡ of.breaks_box_size event.now }
 {
     match event {
@@ -74,7 +74,7 @@ fn breaks_register(state: &DrawingState, event: &Event) -> bool
 /// A definition that gives no colour in range.
 #[tactic(auto, unfolding(sixel_model::specs::Rules::breaks_colour_value))]
 #[inline]
-fn breaks_colour_value(event: &Event) -> bool
+pub fn breaks_colour_value(event: &Event) -> bool
     ensures { result ≡ of.breaks_colour_value event.now }
 {
     match event {
@@ -94,7 +94,7 @@ fn breaks_colour_value(event: &Event) -> bool
 /// A repeat of 0.
 #[tactic(auto, unfolding(sixel_model::specs::Rules::breaks_repeat_zero))]
 #[inline]
-fn breaks_repeat_zero(event: &Event) -> bool
+pub fn breaks_repeat_zero(event: &Event) -> bool
     ensures { result ≡ of.breaks_repeat_zero event.now }
 {
     is_repeat_of_zero(event)

@@ -1,0 +1,11 @@
+pub mod TellLemmas
+pub mod PlaceLemmas
+pub mod FirstEntryLemmas
+pub mod OneSurveyLemmas
+pub mod NotesLemmas
+pub mod TallyLemmas
+pub mod CoverLemmas
+pub mod HitLemmas
+pub mod DeclareLemmas
+pub mod AnswerLemmas
+pub mod SurveyorLemmas

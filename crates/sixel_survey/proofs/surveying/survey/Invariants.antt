@@ -1,0 +1,14 @@
+use Rattle.std.proofs.Common.{◌≡◌, ℕ, List}
+use Rattle.std.specs.Io.KnownBytes.{Consumes}
+use Rattle.sixel_grammar.specs.Standing.{left_of}
+use Rattle.sixel_model.specs.Profiles.{count_of}
+use Rattle.sixel_survey.specs.Surveying.{AreAfter}
+use Rattle.sixel_survey.proofs.surveying.survey.Given as goal
+
+abbrev pub invariant-loop-surveyor : goal.invariant-loop-surveyor
+invariant-loop-surveyor g l = (prefix : List ℕ) × AreAfter (count_of l.fn.profile) l.reader l.surveyor prefix
+    × Consumes (g.S.Source.state l.fn.input).remaining (g.S.Source.state l.input).remaining prefix
+    × ((g.S.Source.state l.input).failures ≡ (g.S.Source.state l.fn.input).failures)
+
+abbrev pub decreases-loop-surveyor : goal.decreases-loop-surveyor
+decreases-loop-surveyor g l = left_of l.reader

@@ -1,0 +1,9 @@
+pub mod Counting
+pub mod Surveys
+pub mod Laws
+pub mod Answers
+pub mod Declaring
+pub mod Notes
+pub mod Covering
+pub mod Tallies
+pub mod Surveying

@@ -1,0 +1,14 @@
+//! Surveys of sixel pictures: every broken rule of a portable picture, how often it's broken, and where first.
+#![tactic(auto)]
+
+mod cover;
+mod entry;
+mod hits;
+pub mod laws;
+mod notes;
+mod surveying;
+mod surveyor;
+mod tally;
+
+pub use entry::{Entry, RULES, Survey};
+pub use surveying::survey;

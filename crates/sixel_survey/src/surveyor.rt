@@ -1,0 +1,217 @@
+//! Surveying events one by one.
+
+ghost use Rattle.std.specs.Prelude.{◌≡◌, ◌<◌, ◌++◌, ◌∷◌, [], ℕ, List, None, OnErr, OnOk, filter_map, get_or};
+ghost use Rattle.sixel_check.specs.declared.rule.Rule.TheVariants.{EightBit};
+ghost use Rattle.std.specs.Option.{option_map, option_map_or};
+ghost use Rattle.sixel_grammar.specs.declared.command.Placed.{Placed as PlacedValue};
+ghost use Rattle.sixel_grammar.specs.Document.{Document, events_of};
+ghost use Rattle.sixel_model.specs.Profiles.{count_of};
+ghost use Rattle.sixel_survey.specs.Covering.{IsCoverAfter, blank_cells, size_in};
+ghost use Rattle.sixel_survey.specs.Declaring.{DeclaresBox};
+ghost use Rattle.sixel_survey.specs.Notes.{IsNotesAfter};
+ghost use Rattle.sixel_survey.specs.Surveying.{AreTallies, HasSurveyed};
+ghost use Rattle.sixel_survey.specs.Surveys.{IsSurvey, all_rules as rules_in_order};
+ghost use Rattle.sixel_survey.specs.Tallies.{entry_from as entry_made, entry_in};
+
+use crate::cover::{count_blank, draw};
+use crate::entry::{Entry, RULES, Survey};
+use crate::hits::hit_of;
+use crate::notes::Notes;
+use crate::tally::with_event;
+use arrayvec::ArrayVec;
+use sixel_check::Rule;
+use sixel_grammar::Placed;
+use sixel_model::Profile;
+use sixel_plane::Plane;
+use std::alloc::{AllocError, Global};
+use std::marker::Model;
+
+/// The rules, in order of number.
+fn all_rules() -> [Rule; RULES]
+    ensures { result ≡ rules_in_order }
+{
+    [
+        Rule::RasterFirst,
+        Rule::RasterTwice,
+        Rule::Ratio,
+        Rule::BoxSize,
+        Rule::Register,
+        Rule::ColourValue,
+        Rule::RepeatZero,
+        Rule::Unselected,
+        Rule::Undefined,
+        Rule::Redefined,
+        Rule::Outside,
+        Rule::Uncovered,
+        Rule::EightBit,
+    ]
+}
+
+/// The rule at this place in the order, counted from 0.
+fn rule_at(index: usize) -> Rule
+    requires { index < 13 }
+    ensures { result ≡ get_or rules_in_order index EightBit }
+{
+    all_rules()[index]
+}
+
+/// The tally of the rule at this place in the order.
+fn tally_at(tallies: &[Option<Entry>; RULES], index: usize) -> Option<Entry>
+    requires { index < 13 }
+    ensures { result ≡ get_or tallies.now index None }
+{
+    tallies[index]
+}
+
+/// Counts an event for each rule.
+fn tally<P: Plane>(
+    tallies: &mut [Option<Entry>; RULES],
+    profile: Profile,
+    notes: &Notes,
+    plane: &Option<P>,
+    placed: &Placed,
+)
+    ensures { (seen : List PlacedValue) → IsNotesAfter notes.now (events_of seen)
+        → IsCoverAfter (option_map P.grid plane.now) (events_of seen)
+        → AreTallies (count_of profile) seen tallies.old
+        → AreTallies (count_of profile) (seen ++ placed.now ∷ []) tallies.new }
+{
+    for index in 0..RULES {
+        let rule = rule_at(index);
+        let hit = hit_of(profile, notes, plane, &placed.event, rule);
+        let tally = tally_at(tallies, index);
+        tallies[index] = with_event(tally, rule, placed.place, hit);
+    }
+}
+
+/// The entry that a tally makes. For `Uncovered` it has the number of blank pixels.
+fn entry_from(blank: u64, rule: Rule, tally: Entry) -> Entry
+    ensures { result ≡ entry_made blank rule tally }
+{
+    match rule {
+        Rule::Uncovered => Entry {
+            count: blank,
+            ..tally
+        },
+        _ => tally,
+    }
+}
+
+/// The entry of the rule at this place in the order, if the rule counted.
+fn entry_at(tallies: &[Option<Entry>; RULES], blank: u64, index: usize) -> Option<Entry>
+    requires { index < 13 }
+    ensures { result ≡ entry_in tallies.now blank (get_or rules_in_order index EightBit) }
+{
+    match tally_at(tallies, index) {
+        Some(tally) => Some(entry_from(blank, rule_at(index), tally)),
+        None => None,
+    }
+}
+
+/// The entries of the rules that counted, in order of number.
+fn entries_of(tallies: &[Option<Entry>; RULES], blank: u64) -> ArrayVec<Entry, RULES>
+    ensures { result.items ≡ filter_map (entry_in tallies.now blank) rules_in_order }
+{
+    let mut entries = ArrayVec::new();
+    for index in 0..RULES {
+        match entry_at(tallies, blank, index) {
+            Some(entry) => entries.push(entry),
+            None => {}
+        }
+    }
+    entries
+}
+
+/// How many pixels of the box are blank; 0 without a plane.
+fn blank_in<P: Plane>(plane: &Option<P>) -> u64
+    ensures { result ≡ option_map_or blank_cells (option_map P.grid plane.now) 0 }
+{
+    match plane {
+        Some(plane) => count_blank(plane),
+        None => 0,
+    }
+}
+
+/// The size of the box in pixels.
+fn size_of<P: Plane>(plane: &Option<P>) -> Option<(u32, u32)>
+    ensures { result ≡ size_in (option_map P.grid plane.now) }
+{
+    match plane {
+        Some(plane) => Some((plane.width(), plane.height())),
+        None => None,
+    }
+}
+
+/// What a survey knows after some events.
+#[derive(Drop)]
+pub(crate) struct Surveyor<P: Plane> {
+    profile: Profile,
+    notes: Notes,
+    /// The pixels of the box, from the first raster attributes on, if both sides are in range.
+    plane: Option<P>,
+    /// For each rule, in order of number: where it counted first, and how often it counted.
+    tallies: [Option<Entry>; RULES],
+}
+
+impl<P: Plane> Model for Surveyor<P> {
+    ghost use Rattle.std.specs.Option.{option_map};
+    ghost use Rattle.sixel_survey.specs.Surveying.{SurveyorValue};
+
+    ghost Value = { SurveyorValue };
+
+    ghost view = { λ s. record {
+      profile = s.profile;
+      notes = s.notes;
+      grid = option_map P.grid s.plane;
+      tallies = s.tallies;
+    } };
+}
+
+impl<P: Plane> Surveyor<P> {
+    /// A surveyor that has seen no event.
+    pub(crate) fn new(profile: Profile) -> Surveyor<P>
+        ensures { HasSurveyed (count_of profile) result [] }
+    {
+        Surveyor {
+            profile,
+            notes: Notes::new(),
+            plane: None,
+            tallies: [None; RULES],
+        }
+    }
+
+    /// Takes the next event. Only the plane is allocated.
+    pub(crate) fn take(&mut self, alloc: Global, placed: &Placed) -> Result<(), AllocError>
+        ensures ok { OnOk result ((registers : ℕ) (seen : List PlacedValue) → HasSurveyed registers self.old seen
+            → HasSurveyed registers self.new (seen ++ placed.now ∷ [])) }
+        ensures declares { OnErr result ((registers : ℕ) (seen : List PlacedValue)
+            → HasSurveyed registers self.old seen → DeclaresBox (events_of seen) placed.now.event) }
+    {
+        tally(
+            &mut self.tallies,
+            self.profile,
+            &self.notes,
+            &self.plane,
+            placed,
+        );
+        draw(alloc, &self.notes, &mut self.plane, &placed.event)?;
+        self.notes.take(&placed.event);
+        Ok(())
+    }
+
+    /// The survey of a document.
+    pub(crate) fn finish(self) -> Survey
+        requires { (registers : ℕ) × (seen : List PlacedValue) × (bytes : List ℕ) × HasSurveyed registers self seen
+            × Document seen bytes }
+        ensures { (registers : ℕ) (seen : List PlacedValue) (bytes : List ℕ) → HasSurveyed registers self seen
+            → Document seen bytes → IsSurvey registers seen result }
+    {
+        let entries = entries_of(&self.tallies, blank_in(&self.plane));
+        let size = if entries.is_empty() {
+            size_of(&self.plane)
+        } else {
+            None
+        };
+        Survey { entries, size }
+    }
+}

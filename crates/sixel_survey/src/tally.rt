@@ -1,0 +1,47 @@
+//! How often a rule has counted so far, and where first.
+
+ghost use Rattle.std.specs.Prelude.{◌≡◌, Some};
+ghost use Rattle.sixel_survey.specs.Tallies.{next_tally};
+
+use crate::entry::Entry;
+use sixel_check::Rule;
+
+/// A rule counts at an event.
+#[derive(Clone, Copy, Debug)]
+pub(crate) struct Hit {
+    /// The pixel of the event, as in `Entry`.
+    pub pixel: Option<(u64, u64)>,
+}
+
+/// The tally of a rule after an event at this offset, at which the rule counts. The count stops at `u64::MAX`.
+fn counted(tally: Option<Entry>, rule: Rule, place: u64, hit: Hit) -> Entry
+    ensures { Some result ≡ next_tally rule place (Some hit) tally }
+{
+    match tally {
+        None => Entry {
+            rule,
+            count: 1,
+            place,
+            pixel: hit.pixel,
+        },
+        Some(tally) => Entry {
+            count: tally.count.saturating_add(1),
+            ..tally
+        },
+    }
+}
+
+/// The tally of a rule after an event at this offset.
+pub(crate) fn with_event(
+    tally: Option<Entry>,
+    rule: Rule,
+    place: u64,
+    hit: Option<Hit>,
+) -> Option<Entry>
+    ensures { result ≡ next_tally rule place hit tally }
+{
+    match hit {
+        None => tally,
+        Some(hit) => Some(counted(tally, rule, place, hit)),
+    }
+}
