@@ -73,8 +73,8 @@ fn push_command<P: Plane>(
 
 /// Pushes a command that a byte below `?` completed: moves, selects and definitions each get their own inlined call.
 ///
-/// The arms are no accident: each keeps only the code for its kinds. A copy is passed on where the call isn't inlined,
-/// so that the command itself needs no memory.
+/// Each arm keeps only the code for its kinds of command. Where the call isn't inlined, it gets a copy, so that the
+/// command itself stays in registers.
 #[inline(always)]
 fn keep_command<P: Plane>(
     checker: &mut Checker<P>,

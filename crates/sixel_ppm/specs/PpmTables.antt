@@ -1,4 +1,4 @@
--- The samples of pixels, and a table of them by register. Only contracts of private functions cite these.
+-- The samples of pixels, which `ToRgbx` and `write_ppm_pixels` give, and a table of them by register.
 use Rattle.std.specs.Prelude.{◌≡◌, ◌<◌, ℕ, Option, Some, None, List, [], ◌∷◌, get_or, take}
 use Rattle.std.specs.List.{flat_map}
 use Rattle.sixel_model.specs.Colours.{palette_at}

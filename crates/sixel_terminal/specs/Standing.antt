@@ -1,4 +1,4 @@
--- What a terminal stores after a list of events. Only contracts of private functions cite these. Drawing defines what a
+-- What a terminal stores after a list of events. `HasDrawn` of `Drawings` builds on it; `Drawing` defines what a
 -- terminal shows.
 use Rattle.std.specs.Prelude.{◌≡◌, ◌<◌, ℕ, ◌+◌, ◌*◌, ◌/◌, ◌%◌, List, Option, length, min, slice_index_or, unwrap_or}
 use Rattle.std.specs.Prelude.{if◌then◌else◌}

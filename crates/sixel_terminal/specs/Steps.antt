@@ -1,5 +1,5 @@
--- What one event does to what a terminal stores. Only contracts of private functions cite these. Drawing defines what a
--- terminal shows, without steps.
+-- What one event does to what a terminal stores. Only contracts of private functions cite these. `Drawing` defines what
+-- a terminal shows, without steps.
 use Rattle.std.specs.Prelude.{◌&&◌, ℕ, ◌+◌, ◌-◌, ◌%◌, ◌^◌, Bool, List, Option, Some, None, min, nat_le, nat_lt}
 use Rattle.std.specs.Prelude.{slice_index_or, unwrap_or, if◌then◌else◌}
 use Rattle.std.specs.Option.{option_map, option_map_or, option_or}

@@ -1,4 +1,4 @@
--- Painting many sixels at once. Only contracts of private functions cite these.
+-- Painting many sixels at once. Public contracts cite only `sixels_of`, the events of a stretch.
 use Rattle.std.specs.Prelude.{◌≡◌, ◌==◌, ◌&&◌, ◌+◌, ◌-◌, ◌/◌, ◌%◌, ◌<◌, ℕ, Bool, List, length, nat_le, nat_lt}
 use Rattle.std.specs.Prelude.{slice_index, slice_index_or}
 use Rattle.std.specs.Prelude.{if◌then◌else◌}

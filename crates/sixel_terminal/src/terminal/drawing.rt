@@ -136,6 +136,7 @@ impl Terminal {
         ensures { (before : List Event) → StandsAfter self.now before pen colours.old inks.old
             → StandsAfter self.now (before ++ event.now ∷ []) result colours.new inks.new }
     {
+        // The contract speaks of the choices; this line tells the prover that they are those of the value.
         let _ = &self.choices;
         match event {
             Event::Step(command) => {
