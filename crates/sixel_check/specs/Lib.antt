@@ -11,6 +11,7 @@ pub use Rattle.sixel_judge.specs.Alarms
 pub use Rattle.sixel_survey.specs.Counting
 pub use Rattle.sixel_survey.specs.Surveys
 pub use Rattle.sixel_survey.specs.Declaring
+pub use Rattle.sixel_survey.specs.Answers as SurveyAnswers
 pub mod Answers
 pub mod Checking
 pub mod Differences

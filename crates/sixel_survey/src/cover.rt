@@ -13,9 +13,9 @@ ghost use Rattle.sixel_survey.specs.Covering.{IsCoverAfter, IsCoveredBy, blank_c
 ghost use Rattle.sixel_survey.specs.Notes.{IsNotesAfter};
 
 use crate::notes::Notes;
+use sixel_grammar::Event;
 use sixel_judge::events::{bits_of, columns_of, sides_of};
 use sixel_judge::rules::breaks_box_size;
-use sixel_grammar::Event;
 use sixel_model::BAND_ROWS;
 use sixel_plane::Plane;
 use std::alloc::{AllocError, Global};

@@ -16,6 +16,7 @@ ghost use Rattle.sixel_survey.specs.Tallies.{IsHit};
 
 use crate::notes::{Definition, Notes};
 use crate::tally::Hit;
+use sixel_grammar::{Command, Event};
 use sixel_judge::Rule;
 use sixel_judge::events::{bits_of, columns_of, is_eight_bit, is_finish, is_painting, named_by};
 use sixel_judge::outside::outside_pixel;
@@ -23,7 +24,6 @@ use sixel_judge::rules::{
     breaks_box_size, breaks_colour_value, breaks_raster_first, breaks_raster_twice, breaks_ratio,
     breaks_repeat_zero,
 };
-use sixel_grammar::{Command, Event};
 use sixel_model::Profile;
 use sixel_plane::Plane;
 
