@@ -1,18 +1,17 @@
 -- Lemmas for the result of a check of a source.
-use Rattle.std.proofs.Common.{◌≡◌, ◌≢◌, ◌++◌, ◌∙◌, ℕ, List, Option, Some, None, ap, sym, subst, take, refl}
+use Rattle.std.proofs.Common.{◌≡◌, ◌≢◌, ◌∙◌, ℕ, List, Option, Some, None, ap, sym, subst, refl}
 use Rattle.std.specs.Prelude.{Err, IfErr, IfSome, Ok, OnOk, Result}
-use Rattle.std.specs.Io.KnownBytes.{Consumes, IsAtEnd}
-use Rattle.std.proofs.lemmas.List.{append-nil}
+use Rattle.std.specs.Io.KnownBytes.{Consumes}
 use Rattle.sixel_io.specs.Devices.{one_more}
 use Rattle.sixel_grammar.specs.Reading.{ExplainsAlways, failures_after}
 use Rattle.sixel_grammar.specs.declared.fault.InputFault.{InputFault}
 use Rattle.sixel_grammar.specs.declared.fault.InputFault.TheVariants.{Grammar, OutOfMemory, Read}
-use Rattle.sixel_grammar.proofs.SourceLemmas.{all_read, consumes-then, refused_early, take_none}
+use Rattle.sixel_grammar.proofs.SourceLemmas.{refused_early}
 use Rattle.sixel_check.specs.Answers.{Answers}
-use Rattle.sixel_check.specs.Growth.{GrowsFor, MayGrowIn}
-use Rattle.sixel_check.specs.declared.verdict.Verdict.{Verdict}
-use Rattle.sixel_check.proofs.GrowthLemmas.{grows_told}
-use Rattle.sixel_check.proofs.ReadLemmas.{never_read, not_failed}
+use Rattle.sixel_judge.specs.Growth.{GrowsFor, MayGrowIn}
+use Rattle.sixel_judge.specs.declared.verdict.Verdict.{Verdict}
+use Rattle.sixel_check.proofs.MemoryLemmas.{grows_told}
+use Rattle.sixel_judge.proofs.PieceLemmas.{never_read, not_failed}
 
 -- ---- a failure of the source
 
@@ -36,13 +35,6 @@ read_grows registers (Some bytes) r is = λ e. absurd (other (sym is ∙ e))
     other e = cc
 
 -- ---- the end of the bytes
-
--- if the last piece is empty, what holds of the bytes before it holds of all bytes
-pub told_all : (a b c : Option (List ℕ)) (prefix piece : List ℕ) (n : ℕ) (P : List ℕ → Type 0) → Consumes a b prefix
-    → Consumes b c (take n piece) → n ≡ 0 → IsAtEnd c → P prefix → IfSome a P
-told_all a b c prefix piece n P before none zero end p =
-    all_read a c (prefix ++ take n piece) P (consumes-then a b c prefix (take n piece) before none) end
-    (subst P (sym (ap (λ (t : List ℕ). prefix ++ t) (take_none n piece zero) ∙ append-nil prefix)) p)
 
 pub end_counts : (old mid new : ℕ) (r : Result Verdict InputFault) → r ≢ Err Read → new ≡ mid → mid ≡ old
     → new ≡ failures_after r old

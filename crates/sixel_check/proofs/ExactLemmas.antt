@@ -19,12 +19,12 @@ use Rattle.sixel_model.specs.Geometry.{band, column, falls}
 use Rattle.sixel_model.specs.Positions.{HoldsAtPosition, since}
 use Rattle.sixel_model.specs.Rules.{FallsOutside, raster_before}
 use Rattle.sixel_model.proofs.KnownLemmas.{each_before, each_there}
-use Rattle.sixel_check.specs.declared.rule.Rule.{Rule}
-use Rattle.sixel_check.specs.declared.rule.Rule.TheVariants.{Outside}
+use Rattle.sixel_judge.specs.declared.rule.Rule.{Rule}
+use Rattle.sixel_judge.specs.declared.rule.Rule.TheVariants.{Outside}
 use Rattle.sixel_check.specs.Differences.{CoordinatesAreExact}
-use Rattle.sixel_check.specs.Verdicts.{IsPixel, capped, greatest}
-use Rattle.sixel_check.proofs.DecideLemmas.{falls_left}
-use Rattle.sixel_check.proofs.DifferenceLemmas.{and_some}
+use Rattle.sixel_judge.specs.Verdicts.{IsPixel, capped, greatest}
+use Rattle.sixel_judge.proofs.DecideLemmas.{falls_left}
+use Rattle.sixel_judge.proofs.DifferenceLemmas.{and_some}
 
 -- ---- a document has no more events than bytes, and an event at most 65,535 columns
 

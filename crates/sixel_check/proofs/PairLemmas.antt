@@ -8,14 +8,14 @@ use Rattle.sixel_model.specs.declared.colour.Parts.{Parts}
 use Rattle.sixel_model.specs.Rules.{raster_before}
 use Rattle.sixel_terminal.specs.Displays.{Display, HasRoom, IsInClass, clipping, with_controls}
 use Rattle.sixel_terminal.proofs.ShownLemmas.{unpainted}
-use Rattle.sixel_check.specs.declared.rule.Rule.{Rule}
-use Rattle.sixel_check.specs.declared.rule.Rule.TheVariants.{Outside, Uncovered, EightBit}
-use Rattle.sixel_check.specs.declared.verdict.Finding.{Finding}
-use Rattle.sixel_check.specs.Alarms.{HasRoomFor, IsPaintedUnlessClipped, IsTrueAlarm, IsUnseenWithoutEightBits}
-use Rattle.sixel_check.specs.Alarms.{StaysOnEach}
+use Rattle.sixel_judge.specs.declared.rule.Rule.{Rule}
+use Rattle.sixel_judge.specs.declared.rule.Rule.TheVariants.{Outside, Uncovered, EightBit}
+use Rattle.sixel_judge.specs.declared.verdict.Finding.{Finding}
+use Rattle.sixel_judge.specs.Alarms.{HasRoomFor, IsPaintedUnlessClipped, IsTrueAlarm, IsUnseenWithoutEightBits}
+use Rattle.sixel_judge.specs.Alarms.{StaysOnEach}
 use Rattle.sixel_check.specs.Differences.{EightBitDiffers, IsFound, OutsideDiffers, UncoveredDiffers}
-use Rattle.sixel_check.specs.Verdicts.{greatest}
-use Rattle.sixel_check.proofs.DifferenceLemmas.{found_truly}
+use Rattle.sixel_judge.specs.Verdicts.{greatest}
+use Rattle.sixel_judge.proofs.DifferenceLemmas.{found_truly}
 
 -- what we promise for the finding
 pub promised : (registers : ℕ) (placed : List Placed) (rule : Rule) (i : ℕ) (f : Finding)

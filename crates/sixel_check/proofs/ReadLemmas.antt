@@ -1,20 +1,16 @@
 -- On the events that bytes complete, one after another.
 use Rattle.std.proofs.Common.{◌≡◌, ℕ, true, false, not, Option, Some, None, IsTrue, ◌⊎◌, inl, inr, List, [], ◌∷◌, ◌++◌}
-use Rattle.std.proofs.Common.{sym, ◌∙◌, ap, ap₂, subst, refl, append_assoc, arith, drop, length, take, ◌+◌, ◌-◌, ◌<◌}
-use Rattle.std.specs.Prelude.{Err}
+use Rattle.std.proofs.Common.{sym, ◌∙◌, ap, subst, refl, append_assoc, arith, length, ◌+◌, ◌-◌, ◌<◌}
 use Rattle.std.specs.Option.{option_to_list}
 use Rattle.std.proofs.lemmas.Bool.{and_from}
-use Rattle.std.proofs.lemmas.List.{append-nil, drop-take, length-drop, map-append, take-append-drop, take-take}
+use Rattle.std.proofs.lemmas.List.{append-nil, map-append}
 use Rattle.sixel_grammar.specs.Stretches.{sixels_from}
 use Rattle.sixel_grammar.specs.declared.command.Command.{Command}
 use Rattle.sixel_grammar.specs.declared.command.Command.TheVariants.{Sixel}
-use Rattle.sixel_check.specs.Stretches.{MayStep}
+use Rattle.sixel_judge.specs.Stretches.{MayStep}
 use Rattle.sixel_grammar.specs.Document.{AreRest, AreWhole, events_of}
-use Rattle.sixel_grammar.specs.Faults.{AreBegun, ArePrefix, AreSteps, IsFaultOf}
+use Rattle.sixel_grammar.specs.Faults.{AreBegun, ArePrefix, AreSteps}
 use Rattle.sixel_grammar.specs.FixedText.{CanWriteAll}
-use Rattle.sixel_grammar.specs.Reading.{Explains, ExplainsAlways, failures_after}
-use Rattle.sixel_grammar.specs.declared.fault.InputFault.{InputFault}
-use Rattle.sixel_grammar.specs.declared.fault.InputFault.TheVariants.{Grammar, OutOfMemory, Read}
 use Rattle.sixel_grammar.specs.Prefixes.{CompleteIn}
 use Rattle.sixel_grammar.specs.Spelling.{IsSpellable}
 use Rattle.sixel_grammar.specs.Standing as grammar
@@ -23,13 +19,12 @@ use Rattle.sixel_grammar.specs.declared.command.Event.{Event}
 use Rattle.sixel_grammar.specs.declared.command.Event.TheVariants.{Start, Step, Finish}
 use Rattle.sixel_grammar.specs.declared.command.Placed.{Placed}
 use Rattle.sixel_grammar.specs.declared.reader.Reader.{Reader}
-use Rattle.sixel_grammar.proofs.SourceLemmas.{take_past}
 use Rattle.sixel_grammar.proofs.StandLemmas.{read_complete}
 use Rattle.sixel_grammar.proofs.TotalLemmas.{complete_prefix}
 use Rattle.sixel_grammar.proofs.WritableLemmas.{events_can}
 use Rattle.sixel_check.specs.Checking.{AreAfter, MayCome, MayComplete}
-use Rattle.sixel_check.specs.Standing.{CheckerValue, StandsAfter, expects, is_start, is_whole}
-use Rattle.sixel_check.proofs.StandLemmas.{begun_goes_on, whole_events}
+use Rattle.sixel_judge.specs.Standing.{CheckerValue, StandsAfter, expects, is_start, is_whole}
+use Rattle.sixel_judge.proofs.StandLemmas.{begun_goes_on, whole_events}
 
 -- ---- an event of a prefix may come next
 
@@ -136,35 +131,6 @@ stretch_may reader seen place bytes (b ∷ more) some s =
     any_step seen (Sixel (b - 63)) (may_come seen p (sixels_from (place + 1) more)
     (complete_prefix _ bytes complete) (events_can _ bytes complete)).0
 
-take_then : (k n : ℕ) (xs : List ℕ) → take (k + n) xs ≡ take k xs ++ take n (drop k xs)
-take_then k n xs =
-    sym (take-append-drop k (take (k + n) xs))
-    ∙ ap₂ (λ (a b : List ℕ). a ++ b) (take-take k (k + n) xs (omega arith)) (drop-take k n xs)
-
--- the rest of a piece
-abbrev pub rest_of : ℕ → List ℕ → List ℕ
-rest_of k xs = take (length xs - k) (drop k xs)
-
-rest_is : (k : ℕ) (xs : List ℕ) → rest_of k xs ≡ drop k xs
-rest_is k xs = take_past (length xs - k) (drop k xs) (omega (arith, length-drop k xs))
-
--- a part of a piece, and then the next part
-pub part_then : (prefix xs : List ℕ) (k n : ℕ) → (prefix ++ take k xs) ++ take n (rest_of k xs) ≡ prefix
-    ++ take (k + n) xs
-part_then prefix xs k n =
-    append_assoc prefix (take k xs) (take n (rest_of k xs))
-    ∙ ap (λ (t : List ℕ). prefix ++ t)
-    (ap (λ (t : List ℕ). take k xs ++ take n t) (rest_is k xs) ∙ sym (take_then k n xs))
-
-pub split_part : (prefix xs : List ℕ) (k n : ℕ)
-    → prefix ++ xs ≡ ((prefix ++ take k xs) ++ take n (rest_of k xs)) ++ drop n (rest_of k xs)
-split_part prefix xs k n =
-    ap (λ (t : List ℕ). prefix ++ t)
-    (sym (take-append-drop k xs) ∙ ap (λ (t : List ℕ). take k xs ++ t) (sym (rest_is k xs)))
-    ∙ sym (append_assoc prefix (take k xs) (rest_of k xs))
-    ∙ ap (λ (t : List ℕ). (prefix ++ take k xs) ++ t) (sym (take-append-drop n (rest_of k xs)))
-    ∙ sym (append_assoc (prefix ++ take k xs) (take n (rest_of k xs)) (drop n (rest_of k xs)))
-
 -- the reader and the checker after one more byte
 pub after_byte : {registers : ℕ} (old new : Reader) (kept more : CheckerValue) (c : Completed) (prefix : List ℕ)
     (byte : ℕ) → grammar.Takes old new byte (grammar.completions c)
@@ -176,22 +142,3 @@ after_byte old new kept more c prefix byte takes keeps a = record {
   read = takes a.events prefix a.read;
   checked = keeps a.events a.checked;
 }
-
--- a fault of all bytes with this prefix is a fault of the prefix
-pub explains_now : (fault : InputFault) (bytes : List ℕ) → ExplainsAlways fault bytes → Explains fault bytes
-explains_now (Grammar f) bytes h = subst (λ (t : List ℕ). IsFaultOf t f) (append-nil bytes) (h [])
-explains_now OutOfMemory bytes h = tt
-explains_now Read bytes h = tt
-
--- without a source, no Read
-pub never_read : (fault : InputFault) (bytes : List ℕ) → ExplainsAlways fault bytes → fault ≡ Read → ⊥
-never_read (Grammar f) bytes h e = cc
-never_read OutOfMemory bytes h e = cc
-never_read Read bytes h e = h
-
--- such a fault doesn't change the source's count of failures
-pub not_failed : (A : Type 0) (fault : InputFault) (bytes : List ℕ) (n : ℕ) → ExplainsAlways fault bytes
-    → n ≡ failures_after {A = A} (Err fault) n
-not_failed A (Grammar f) bytes n h = refl
-not_failed A OutOfMemory bytes n h = refl
-not_failed A Read bytes n h = absurd h

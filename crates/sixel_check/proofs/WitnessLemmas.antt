@@ -26,19 +26,19 @@ use Rattle.sixel_model.proofs.LastLemmas.{at_there, some_last}
 use Rattle.sixel_terminal.specs.Displays.{Display, IsInClass}
 use Rattle.sixel_terminal.specs.Drawing.{height_of, inked_on, is_kept_on, is_seen_on, map_on, paints_in, paints_on}
 use Rattle.sixel_terminal.specs.Drawing.{selected_on, shown_on, stood_on, touches_on}
-use Rattle.sixel_check.specs.declared.rule.Rule.{Rule}
-use Rattle.sixel_check.specs.declared.rule.Rule.TheVariants.{Outside, Uncovered}
-use Rattle.sixel_check.specs.declared.verdict.Finding.{Finding}
-use Rattle.sixel_check.specs.Alarms.{HasRoomFor, IsPaintedUnlessClipped}
+use Rattle.sixel_judge.specs.declared.rule.Rule.{Rule}
+use Rattle.sixel_judge.specs.declared.rule.Rule.TheVariants.{Outside, Uncovered}
+use Rattle.sixel_judge.specs.declared.verdict.Finding.{Finding}
+use Rattle.sixel_judge.specs.Alarms.{HasRoomFor, IsPaintedUnlessClipped}
 use Rattle.sixel_check.specs.Differences.{IsFound, SomeEightBitDiffer, SomeOutsideDiffer, SomeUncoveredDiffer, black}
 use Rattle.sixel_check.specs.Differences.{other_than, witness_terminal, shown_at, stood_at, white}
-use Rattle.sixel_check.specs.Verdicts.{IsPixel, capped, number_of, greatest}
-use Rattle.sixel_check.proofs.AlarmLemmas.{finish_last}
-use Rattle.sixel_check.proofs.CoverLemmas.{box_there}
-use Rattle.sixel_check.proofs.DifferenceLemmas.{and_some, box_of_prefix, box_sides, small_point, unbroken_but_last}
-use Rattle.sixel_check.proofs.OptionLemmas.{same_value, some_value}
+use Rattle.sixel_judge.specs.Verdicts.{IsPixel, capped, number_of, greatest}
+use Rattle.sixel_judge.proofs.AlarmLemmas.{finish_last}
+use Rattle.sixel_judge.proofs.CoverLemmas.{box_there}
+use Rattle.sixel_judge.proofs.DifferenceLemmas.{and_some, box_of_prefix, box_sides, small_point, unbroken_but_last}
+use Rattle.sixel_judge.proofs.OptionLemmas.{same_value, some_value}
 use Rattle.sixel_check.proofs.PairLemmas.{eight_bit_differs, outside_differs, promised, uncovered_differs}
-use Rattle.sixel_check.proofs.ShownLemmas.{size_left}
+use Rattle.sixel_judge.proofs.ShownLemmas.{size_left}
 
 some_registers : (profile : Profile) → 0 < count_of profile
 some_registers Registers16 = lit≤ tt

@@ -4,10 +4,10 @@ use Rattle.sixel_grammar.specs.Document.{Document, events_of}
 use Rattle.sixel_grammar.specs.Reading.{Explains}
 use Rattle.sixel_grammar.specs.declared.command.Placed.{Placed}
 use Rattle.sixel_grammar.specs.declared.fault.InputFault.{InputFault}
-use Rattle.sixel_check.specs.Alarms.{IsNoFalseAlarm}
-use Rattle.sixel_check.specs.Portable.{IsShownEverywhere}
-use Rattle.sixel_check.specs.Verdicts.{IsVerdict}
-use Rattle.sixel_check.specs.declared.verdict.Verdict.{Verdict}
+use Rattle.sixel_judge.specs.Alarms.{IsNoFalseAlarm}
+use Rattle.sixel_judge.specs.Portable.{IsShownEverywhere}
+use Rattle.sixel_judge.specs.Verdicts.{IsVerdict}
+use Rattle.sixel_judge.specs.declared.verdict.Verdict.{Verdict}
 
 -- Ok: the bytes are a document, the verdict is that on its events, a picture is portable, and a finding is no false
 -- alarm; Err: a grammar fault is the fault of these bytes

@@ -10,8 +10,8 @@ use Rattle.sixel_grammar.specs.declared.command.Event.TheVariants.{Step}
 use Rattle.sixel_grammar.specs.declared.command.Placed.{Placed}
 use Rattle.sixel_grammar.specs.declared.fault.InputFault.{InputFault}
 use Rattle.sixel_grammar.specs.declared.reader.Reader.{Reader}
-use Rattle.sixel_check.specs.Growth.{GrowsFor, MayGrowAmong}
-use Rattle.sixel_check.specs.Standing.{CheckerValue, StandsAfter, expects}
+use Rattle.sixel_judge.specs.Growth.{GrowsFor, MayGrowAmong}
+use Rattle.sixel_judge.specs.Standing.{CheckerValue, StandsAfter, expects}
 
 -- the reader has read these bytes, and the checker has seen the events that are complete in them
 pub record AreAfter (registers : ℕ) (reader : Reader) (checker : CheckerValue) (bytes : List ℕ) : Type 0 where

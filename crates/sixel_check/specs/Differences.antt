@@ -17,11 +17,11 @@ use Rattle.sixel_terminal.specs.declared.choices.Ground.{Ground}
 use Rattle.sixel_terminal.specs.declared.choices.Ground.TheVariants.{Kept}
 use Rattle.sixel_terminal.specs.Displays.{Display, IsInClass, clipping, with_controls}
 use Rattle.sixel_terminal.specs.Drawing.{shown_on, stood_on}
-use Rattle.sixel_check.specs.declared.rule.Rule.{Rule}
-use Rattle.sixel_check.specs.declared.rule.Rule.TheVariants.{Outside, Uncovered, EightBit}
-use Rattle.sixel_check.specs.declared.verdict.Finding.{Finding}
-use Rattle.sixel_check.specs.Alarms.{HasRoomFor}
-use Rattle.sixel_check.specs.Verdicts.{IsFinding, greatest}
+use Rattle.sixel_judge.specs.declared.rule.Rule.{Rule}
+use Rattle.sixel_judge.specs.declared.rule.Rule.TheVariants.{Outside, Uncovered, EightBit}
+use Rattle.sixel_judge.specs.declared.verdict.Finding.{Finding}
+use Rattle.sixel_judge.specs.Alarms.{HasRoomFor}
+use Rattle.sixel_judge.specs.Verdicts.{IsFinding, greatest}
 
 -- the finding on a whole list is of this rule, at position i
 pub record IsFound (registers : ℕ) (placed : List Placed) (rule : Rule) (i : ℕ) (f : Finding) : Type 0 where

@@ -1,25 +1,10 @@
-//! The rules of a portable picture, and verdicts on documents.
-//!
-//! The rules are this project's own, over the commands of DEC EK-VT3XX-GP, volume 2, the chapter on sixel graphics.
+//! Checks of the bytes of a document. With them come the rules, the verdicts and the checker of events of
+//! `sixel_judge`, and the surveys of `sixel_survey`.
 #![tactic(auto)]
 
-mod checker;
 mod checking;
-mod colours;
-mod drawing_state;
-pub mod events;
-mod judge;
 pub mod laws;
-pub mod outside;
-mod pixels;
-mod progress;
-mod rule;
-pub mod rules;
-mod stretch;
-mod verdict;
-mod violation;
 
-pub use checker::Checker;
 pub use checking::{check, check_bytes};
-pub use rule::Rule;
-pub use verdict::{Finding, Verdict};
+pub use sixel_judge::{Checker, Finding, Rule, Verdict};
+pub use sixel_survey::{Entry, RULES, Survey, survey};

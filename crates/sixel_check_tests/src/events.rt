@@ -2,7 +2,7 @@
 
 ghost use Rattle.std.specs.Prelude.{ℕ, List};
 ghost use Rattle.sixel_grammar.specs.declared.command.Placed.{Placed as PlacedValue};
-ghost use Rattle.sixel_check.specs.Standing.{StandsAfter};
+ghost use Rattle.sixel_judge.specs.Standing.{StandsAfter};
 
 use crate::documents::documents;
 use crate::fixtures::{bytes_of, events_of, in_words};

@@ -4,7 +4,7 @@
 ghost use Rattle.std.specs.Prelude.{◌++◌, ◌∷◌, [], ℕ, List, IfOk, IsTrue, OnOk};
 ghost use Rattle.sixel_grammar.specs.Spelling.{IsSpellable};
 ghost use Rattle.sixel_grammar.specs.declared.command.Placed.{Placed as PlacedValue};
-ghost use Rattle.sixel_check.specs.Standing.{StandsAfter, expects};
+ghost use Rattle.sixel_judge.specs.Standing.{StandsAfter, expects};
 
 use crate::fixtures::{black, is_left};
 use crate::steps::expects_so;

@@ -2,7 +2,7 @@
 
 ghost use Rattle.std.specs.Prelude.{ℕ, List, IfOk, OnOk};
 ghost use Rattle.sixel_grammar.specs.declared.command.Placed.{Placed as PlacedValue};
-ghost use Rattle.sixel_check.specs.Standing.{StandsAfter};
+ghost use Rattle.sixel_judge.specs.Standing.{StandsAfter};
 
 use crate::fixtures::events_of;
 use sixel_check::Checker;

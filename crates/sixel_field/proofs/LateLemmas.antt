@@ -18,12 +18,12 @@ use Rattle.sixel_terminal.specs.Displays.{Display, IsInClass}
 use Rattle.sixel_terminal.specs.Drawing.{height_of, is_kept_on, is_seen_on, map_on, paints_on, selected_on, shown_on}
 use Rattle.sixel_terminal.specs.Drawing.{touches_on}
 use Rattle.sixel_check.specs.Differences.{white, witness_terminal}
-use Rattle.sixel_check.proofs.DecideLemmas.{decided_by, falls_searchable, blank_searchable, first_of, outside_first}
-use Rattle.sixel_check.proofs.DecideLemmas.{blank_first, outside_decided, blank_somewhere, both_decided}
-use Rattle.sixel_check.proofs.DecideLemmas.{uncovered_decided, rule_decided, held_decided, position_decided}
-use Rattle.sixel_check.proofs.DecideLemmas.{broken_decided, broken_or_none}
-use Rattle.sixel_check.proofs.SearchLemmas.{decide_true, least_here, least_more, least_below, in_row}
-use Rattle.sixel_check.proofs.SearchLemmas.{row_decided, first_point}
+use Rattle.sixel_judge.proofs.DecideLemmas.{decided_by, falls_searchable, blank_searchable, first_of, outside_first}
+use Rattle.sixel_judge.proofs.DecideLemmas.{blank_first, outside_decided, blank_somewhere, both_decided}
+use Rattle.sixel_judge.proofs.DecideLemmas.{uncovered_decided, rule_decided, held_decided, position_decided}
+use Rattle.sixel_judge.proofs.DecideLemmas.{broken_decided, broken_or_none}
+use Rattle.sixel_judge.proofs.SearchLemmas.{decide_true, least_here, least_more, least_below, in_row}
+use Rattle.sixel_judge.proofs.SearchLemmas.{row_decided, first_point}
 use Rattle.sixel_field.specs.AtSelection.{loaded_on, shown_at_selection}
 use Rattle.sixel_field.specs.Laws.{LateDefinitionsCanDiffer, late_red}
 

@@ -23,12 +23,12 @@ use Rattle.sixel_terminal.specs.Drawing.{filled_on, inked_on, is_kept_on, is_see
 use Rattle.sixel_terminal.specs.Drawing.{paints_on, selected_on, shown_on, stood_on, touches_on}
 use Rattle.sixel_terminal.proofs.PaintLemmas.{none_filled}
 use Rattle.sixel_terminal.proofs.PlainLemmas.{same_points_on_each}
-use Rattle.sixel_check.specs.Portable.{IsPortable, Shows}
-use Rattle.sixel_check.proofs.CoverLemmas.{box_at_data}
-use Rattle.sixel_check.proofs.DrawLemmas.{falls_paints}
-use Rattle.sixel_check.proofs.OptionLemmas.{some_from, some_value}
-use Rattle.sixel_check.proofs.ShownLemmas.{left_is_portable}
-use Rattle.sixel_check.proofs.WithinLemmas.{plain}
+use Rattle.sixel_judge.specs.Portable.{IsPortable, Shows}
+use Rattle.sixel_judge.proofs.CoverLemmas.{box_at_data}
+use Rattle.sixel_judge.proofs.DrawLemmas.{falls_paints}
+use Rattle.sixel_judge.proofs.OptionLemmas.{some_from, some_value}
+use Rattle.sixel_judge.proofs.ShownLemmas.{left_is_portable}
+use Rattle.sixel_judge.proofs.WithinLemmas.{plain}
 use Rattle.sixel_encode.specs.Canon.{canon}
 use Rattle.sixel_encode.proofs.LeadsBackLemmas.{lists_break_no_rule, lists_leave_their_picture}
 use Rattle.sixel_encode.proofs.WrittenLemmas.{lists_are_whole}

@@ -22,8 +22,8 @@ use Rattle.sixel_model.proofs.GridLemmas.{length_rows}
 use Rattle.sixel_model.proofs.PictureLemmas.{at_most_256}
 use Rattle.sixel_ppm.specs.PpmReading.{distinct, picture_of}
 use Rattle.sixel_terminal.specs.Drawing.{screen_on, shown_on}
-use Rattle.sixel_check.specs.Portable.{IsPortable}
-use Rattle.sixel_check.proofs.ShownLemmas.{left_is_portable}
+use Rattle.sixel_judge.specs.Portable.{IsPortable}
+use Rattle.sixel_judge.proofs.ShownLemmas.{left_is_portable}
 use Rattle.sixel_encode.specs.Canon.{canon}
 use Rattle.sixel_encode.proofs.LengthLemmas.{texts_have_at_most}
 use Rattle.sixel_encode.proofs.LeadsBackLemmas.{lists_break_no_rule, lists_leave_their_picture}

@@ -29,10 +29,10 @@ use Rattle.sixel_model.proofs.RuleLemmas.{keeps_at, none_drawn}
 use Rattle.sixel_ppm.specs.PpmReading.{distinct, picture_of}
 use Rattle.sixel_terminal.specs.Displays.{HasRoom, IsInClass}
 use Rattle.sixel_terminal.specs.Drawing.{IsPainted, screen_on, shown_on}
-use Rattle.sixel_check.specs.Portable.{IsInBoxOn, IsPortable, Shows}
-use Rattle.sixel_check.proofs.CoverLemmas.{box_there}
-use Rattle.sixel_check.proofs.OptionLemmas.{some_value}
-use Rattle.sixel_check.proofs.ShownLemmas.{left_is_portable, size_left}
+use Rattle.sixel_judge.specs.Portable.{IsInBoxOn, IsPortable, Shows}
+use Rattle.sixel_judge.proofs.CoverLemmas.{box_there}
+use Rattle.sixel_judge.proofs.OptionLemmas.{some_value}
+use Rattle.sixel_judge.proofs.ShownLemmas.{left_is_portable, size_left}
 use Rattle.sixel_mend.specs.declared.mending.Mending.{Mending}
 use Rattle.sixel_mend.specs.Screens.{mending_terminal, starting_colour, starting_colours}
 use Rattle.sixel_mend.specs.Sizes.{Bounds, IsSize}

@@ -9,9 +9,9 @@ use Rattle.sixel_model.specs.Pictures.{PictureValue, register_of}
 use Rattle.sixel_model.specs.Rules.{BreaksNone, picture_left}
 use Rattle.sixel_model.specs.RuleNumbers.{last_rule}
 use Rattle.sixel_terminal.specs.Drawing.{shown_on}
-use Rattle.sixel_check.specs.declared.verdict.Verdict.TheVariants.{Portable}
-use Rattle.sixel_check.specs.Portable.{IsPortable}
-use Rattle.sixel_check.specs.Verdicts.{IsVerdict}
+use Rattle.sixel_judge.specs.declared.verdict.Verdict.TheVariants.{Portable}
+use Rattle.sixel_judge.specs.Portable.{IsPortable}
+use Rattle.sixel_judge.specs.Verdicts.{IsVerdict}
 use Rattle.sixel_encode.specs.Canon.{canon_text}
 use Rattle.sixel_mend.specs.declared.mending.Mending.{Mending}
 use Rattle.sixel_mend.specs.Screens.{mending_terminal}

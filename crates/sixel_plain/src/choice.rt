@@ -1,6 +1,6 @@
 //! The choices by which two terminals of the class may differ.
 
-use sixel_check::Rule;
+use sixel_judge::Rule;
 use sixel_terminal::{Choices, Ground};
 
 /// A choice of a terminal. Two terminals that differ only in it may show a document differently, if the document isn't

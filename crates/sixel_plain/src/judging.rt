@@ -3,7 +3,7 @@
 use crate::history::{box_of, command_of};
 use crate::pixels::{outside, painted};
 use crate::rules::plain_rule;
-use sixel_check::{Finding, Rule};
+use sixel_judge::{Finding, Rule};
 use sixel_grammar::{Event, InputFault, Placed, read_all};
 use sixel_io::SliceSource;
 use sixel_model::Profile;

@@ -5,7 +5,7 @@
 
 use crate::choice::{Choice, choices_of};
 use crate::history::box_of;
-use sixel_check::Finding;
+use sixel_judge::Finding;
 use sixel_grammar::Placed;
 use sixel_model::{Colour, Parts, Picture, Profile};
 use sixel_terminal::Terminal;

@@ -19,7 +19,7 @@ use Rattle.sixel_io.specs.Devices.{Change, ReadsToEnd, SinkState, SourceState, c
 use Rattle.sixel_io.proofs.SinkLemmas.{Appends-keeps, Appends-none}
 use Rattle.sixel_io.proofs.DeviceLemmas.{Appends-then}
 use Rattle.sixel_model.specs.declared.profile.Profile.{Profile}
-use Rattle.sixel_check.specs.declared.rule.Rule.{Rule}
+use Rattle.sixel_judge.specs.declared.rule.Rule.{Rule}
 use Rattle.sixel_program.specs.declared.exit.Exit.{Exit}
 use Rattle.sixel_program.specs.declared.exit.Exit.TheVariants as exit
 use Rattle.sixel_run.specs.declared.fault.RunFault.{RunFault}

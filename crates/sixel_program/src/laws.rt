@@ -10,7 +10,7 @@ ghost use Rattle.sixel_run.specs.declared.fault.RunFault.{RunFault};
 ghost use Rattle.sixel_run.specs.declared.fault.RunFault.TheVariants.{Grammar};
 ghost use Rattle.sixel_run.specs.declared.task.Status.{Status};
 ghost use Rattle.sixel_run.specs.declared.task.Task.TheVariants.{Check};
-ghost use Rattle.sixel_check.specs.declared.verdict.Finding.{Finding};
+ghost use Rattle.sixel_judge.specs.declared.verdict.Finding.{Finding};
 ghost use Rattle.sixel_words.specs.Explanations.{ArePasted, Asks, topic_name, topic_of};
 ghost use Rattle.sixel_words.specs.declared.explanations.Topic.TheVariants.{Read};
 ghost use Rattle.sixel_program.specs.declared.folder.Unopened.{Unopened};

@@ -2,7 +2,7 @@
 
 ghost use Rattle.std.specs.Prelude.{ℕ, List, OnOk};
 ghost use Rattle.sixel_grammar.specs.declared.command.Placed.{Placed as PlacedValue};
-ghost use Rattle.sixel_check.specs.Standing.{StandsAfter};
+ghost use Rattle.sixel_judge.specs.Standing.{StandsAfter};
 
 use sixel_check::{Checker, Verdict};
 use sixel_grammar::Placed;

@@ -12,12 +12,12 @@ use Rattle.sixel_grammar.specs.Document.{Document, Parses, Piece, bytes_of, join
 use Rattle.sixel_grammar.proofs.TotalLemmas.{judged}
 use Rattle.sixel_grammar.proofs.ViableLemmas.{spells-some}
 use Rattle.sixel_grammar.proofs.UniqueLemmas.{document_once, fault_no_document, fault_once}
-use Rattle.sixel_check.specs.declared.verdict.Verdict.{Verdict}
-use Rattle.sixel_check.specs.Growth.{MayGrowIn}
+use Rattle.sixel_judge.specs.declared.verdict.Verdict.{Verdict}
+use Rattle.sixel_judge.specs.Growth.{MayGrowIn}
 use Rattle.sixel_check.specs.Answers.{Answers as CheckAnswers}
-use Rattle.sixel_check.specs.Verdicts.{IsVerdict}
-use Rattle.sixel_check.proofs.DecideLemmas.{verdict_exists}
-use Rattle.sixel_check.proofs.VerdictLemmas.{verdict_once}
+use Rattle.sixel_judge.specs.Verdicts.{IsVerdict}
+use Rattle.sixel_judge.proofs.DecideLemmas.{verdict_exists}
+use Rattle.sixel_judge.proofs.VerdictLemmas.{verdict_once}
 use Rattle.sixel_run.specs.declared.fault.RunFault.{RunFault}
 use Rattle.sixel_run.specs.declared.fault.RunFault.TheVariants.{Grammar, Ppm, NotRgb, NoBox, OutOfMemory, Read, Write}
 use Rattle.sixel_run.specs.declared.task.Status.{Status}

@@ -10,9 +10,9 @@ use Rattle.sixel_grammar.specs.FixedText.{fixed_places}
 use Rattle.sixel_grammar.specs.Spelling.{fixed_spelling}
 use Rattle.sixel_model.specs.Rules.{BreaksNone, picture_left}
 use Rattle.sixel_model.specs.RuleNumbers.{last_rule}
-use Rattle.sixel_check.specs.declared.verdict.Verdict.TheVariants.{Portable}
-use Rattle.sixel_check.specs.Portable.{IsPortable}
-use Rattle.sixel_check.proofs.ShownLemmas.{left_is_portable}
+use Rattle.sixel_judge.specs.declared.verdict.Verdict.TheVariants.{Portable}
+use Rattle.sixel_judge.specs.Portable.{IsPortable}
+use Rattle.sixel_judge.proofs.ShownLemmas.{left_is_portable}
 use Rattle.sixel_encode.specs.Canon.{canon, canon_text}
 use Rattle.sixel_encode.proofs.LengthLemmas
 use Rattle.sixel_encode.proofs.LeadsBackLemmas

@@ -9,10 +9,10 @@ use Rattle.sixel_grammar.specs.Faults.{IsFaultOf}
 use Rattle.sixel_model.specs.Pictures.{IsPicture, PictureValue}
 use Rattle.sixel_model.specs.declared.profile.Profile.{Profile}
 use Rattle.sixel_check.specs.Answers.{Answers}
-use Rattle.sixel_check.specs.declared.verdict.Verdict.{Verdict}
-use Rattle.sixel_check.specs.declared.verdict.Verdict.TheVariants.{Portable}
-use Rattle.sixel_check.specs.Portable.{IsPortable}
-use Rattle.sixel_check.specs.Verdicts.{IsVerdict}
+use Rattle.sixel_judge.specs.declared.verdict.Verdict.{Verdict}
+use Rattle.sixel_judge.specs.declared.verdict.Verdict.TheVariants.{Portable}
+use Rattle.sixel_judge.specs.Portable.{IsPortable}
+use Rattle.sixel_judge.specs.Verdicts.{IsVerdict}
 use Rattle.sixel_encode.specs.Canon.{canon_text}
 use Rattle.sixel_run.specs.declared.fault.RunFault.{RunFault}
 use Rattle.sixel_run.specs.declared.fault.RunFault.TheVariants.{NoBox}

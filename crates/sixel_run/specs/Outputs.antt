@@ -14,10 +14,10 @@ use Rattle.sixel_ppm.specs.Ppm.{are_rgb, colours_of, is_file_side, ppm_text}
 use Rattle.sixel_ppm.specs.PpmReading.{HasWholeHeader, ppm_read}
 use Rattle.sixel_terminal.specs.Displays.{Display}
 use Rattle.sixel_terminal.specs.Drawing.{screen_on}
-use Rattle.sixel_check.specs.declared.verdict.Verdict.{Verdict}
-use Rattle.sixel_check.specs.declared.verdict.Verdict.TheVariants.{Portable, Broken}
-use Rattle.sixel_check.specs.Growth.{MayGrowIn}
-use Rattle.sixel_check.specs.Verdicts.{IsVerdict}
+use Rattle.sixel_judge.specs.declared.verdict.Verdict.{Verdict}
+use Rattle.sixel_judge.specs.declared.verdict.Verdict.TheVariants.{Portable, Broken}
+use Rattle.sixel_judge.specs.Growth.{MayGrowIn}
+use Rattle.sixel_judge.specs.Verdicts.{IsVerdict}
 use Rattle.sixel_encode.specs.Canon.{canon_text}
 use Rattle.sixel_run.specs.Conversions.{of_ppm}
 use Rattle.sixel_run.specs.declared.fault.RunFault.{RunFault}

@@ -14,11 +14,11 @@ use Rattle.sixel_grammar.specs.declared.fault.Reason.TheVariants.{Trailing}
 use Rattle.sixel_ppm.specs.declared.ppm.PpmReason.{PpmReason}
 use Rattle.sixel_ppm.specs.declared.ppm.PpmReason.TheVariants as ppm
 use Rattle.sixel_model.specs.Pictures.{PictureValue}
-use Rattle.sixel_check.specs.declared.rule.Rule.{Rule}
-use Rattle.sixel_check.specs.declared.rule.Rule.TheVariants as rule
-use Rattle.sixel_check.specs.declared.verdict.Finding.{Finding}
-use Rattle.sixel_check.specs.declared.verdict.Verdict.{Verdict}
-use Rattle.sixel_check.specs.declared.verdict.Verdict.TheVariants.{Portable, Broken}
+use Rattle.sixel_judge.specs.declared.rule.Rule.{Rule}
+use Rattle.sixel_judge.specs.declared.rule.Rule.TheVariants as rule
+use Rattle.sixel_judge.specs.declared.verdict.Finding.{Finding}
+use Rattle.sixel_judge.specs.declared.verdict.Verdict.{Verdict}
+use Rattle.sixel_judge.specs.declared.verdict.Verdict.TheVariants.{Portable, Broken}
 use Rattle.sixel_run.specs.declared.fault.RunFault.{RunFault}
 use Rattle.sixel_run.specs.declared.fault.RunFault.TheVariants.{Grammar, Ppm, NotRgb, NoBox, OutOfMemory, Read, Write}
 

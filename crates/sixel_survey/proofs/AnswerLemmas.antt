@@ -7,7 +7,7 @@ use Rattle.sixel_grammar.specs.Reading.{ExplainsAlways, failures_after}
 use Rattle.sixel_grammar.specs.declared.fault.InputFault.{InputFault}
 use Rattle.sixel_grammar.specs.declared.fault.InputFault.TheVariants.{Grammar, OutOfMemory, Read}
 use Rattle.sixel_grammar.proofs.SourceLemmas.{refused_early}
-use Rattle.sixel_check.proofs.ReadLemmas.{never_read, not_failed}
+use Rattle.sixel_judge.proofs.PieceLemmas.{never_read, not_failed}
 use Rattle.sixel_survey.specs.Answers.{Answers}
 use Rattle.sixel_survey.specs.Declaring.{DeclareBoxIn, DeclaresFor}
 use Rattle.sixel_survey.specs.declared.entry.Survey.{Survey}

@@ -27,9 +27,9 @@ use Rattle.sixel_model.proofs.GridLemmas.{cell-blank_grid, cell-painted_grid, le
 use Rattle.sixel_model.proofs.LastLemmas.{passes_there}
 use Rattle.sixel_model.proofs.StepLemmas.{covered_push, raster_push}
 use Rattle.sixel_plane.proofs.PaintedLemmas.{row_below}
-use Rattle.sixel_check.specs.Verdicts.{capped}
-use Rattle.sixel_check.proofs.BlankLemmas.{Covers}
-use Rattle.sixel_check.proofs.DrawLemmas.{falls_paints, sides}
+use Rattle.sixel_judge.specs.Verdicts.{capped}
+use Rattle.sixel_judge.proofs.BlankLemmas.{Covers}
+use Rattle.sixel_judge.proofs.DrawLemmas.{falls_paints, sides}
 use Rattle.sixel_survey.specs.Counting.{blanks, has_box, paints_early}
 use Rattle.sixel_survey.specs.Covering.{IsCoverOf, IsCoveredBy, blank_cells}
 use Rattle.sixel_survey.proofs.NotesLemmas.{early_push}

@@ -13,7 +13,7 @@ use Rattle.sixel_grammar.specs.Prefixes.{CompleteIn}
 use Rattle.sixel_grammar.specs.Standing as grammar
 use Rattle.sixel_grammar.proofs.StandLemmas.{read_complete}
 use Rattle.sixel_model.proofs.PositionLemmas.{holds_before, holds_end, holds_within}
-use Rattle.sixel_check.proofs.JudgeLemmas.{events_push}
+use Rattle.sixel_judge.proofs.JudgeLemmas.{events_push}
 use Rattle.sixel_survey.specs.Declaring.{DeclareBox, DeclareBoxIn, DeclaresBox, DeclaresFor}
 use Rattle.sixel_survey.specs.Surveying.{AreAfter, HasSurveyed, SurveyorValue}
 

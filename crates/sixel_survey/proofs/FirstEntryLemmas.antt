@@ -12,15 +12,15 @@ use Rattle.sixel_model.specs.Positions.{HoldsAtPosition}
 use Rattle.sixel_model.specs.Rules.{Breaks, BreaksNone}
 use Rattle.sixel_model.specs.RuleNumbers.{last_rule}
 use Rattle.sixel_model.proofs.RuleLemmas.{nowhere}
-use Rattle.sixel_check.specs.declared.rule.Rule.{Rule}
-use Rattle.sixel_check.specs.declared.rule.Rule.TheVariants.{RasterFirst}
-use Rattle.sixel_check.specs.declared.verdict.Finding.{Finding}
-use Rattle.sixel_check.specs.declared.verdict.Verdict.{Verdict}
-use Rattle.sixel_check.specs.declared.verdict.Verdict.TheVariants.{Portable, Broken}
-use Rattle.sixel_check.specs.Verdicts.{IsFinding, IsPixel, IsVerdict, number_of}
-use Rattle.sixel_check.proofs.DecideLemmas.{verdict_exists}
-use Rattle.sixel_check.proofs.OptionLemmas.{same_value}
-use Rattle.sixel_check.proofs.VerdictLemmas.{pixel_at, same_rule}
+use Rattle.sixel_judge.specs.declared.rule.Rule.{Rule}
+use Rattle.sixel_judge.specs.declared.rule.Rule.TheVariants.{RasterFirst}
+use Rattle.sixel_judge.specs.declared.verdict.Finding.{Finding}
+use Rattle.sixel_judge.specs.declared.verdict.Verdict.{Verdict}
+use Rattle.sixel_judge.specs.declared.verdict.Verdict.TheVariants.{Portable, Broken}
+use Rattle.sixel_judge.specs.Verdicts.{IsFinding, IsPixel, IsVerdict, number_of}
+use Rattle.sixel_judge.proofs.DecideLemmas.{verdict_exists}
+use Rattle.sixel_judge.proofs.OptionLemmas.{same_value}
+use Rattle.sixel_judge.proofs.VerdictLemmas.{pixel_at, same_rule}
 use Rattle.sixel_survey.specs.declared.entry.Entry.{Entry}
 use Rattle.sixel_survey.specs.Counting.{Counts}
 use Rattle.sixel_survey.specs.Surveys.{AreEntries, IsEntryAt, IsEntryOf, all_rules}

@@ -17,16 +17,16 @@ use Rattle.sixel_model.specs.Rules.{breaks_box_size, breaks_colour_value, breaks
 use Rattle.sixel_model.specs.Rules.{breaks_repeat_zero, breaks_undefined, breaks_unselected, definition_of}
 use Rattle.sixel_model.specs.Rules.{is_painted_in, known}
 use Rattle.sixel_model.specs.Grids.{first_blank}
-use Rattle.sixel_check.specs.declared.rule.Rule.{Rule}
-use Rattle.sixel_check.specs.declared.rule.Rule.TheVariants.{RasterFirst, RasterTwice, Ratio, BoxSize, Register}
-use Rattle.sixel_check.specs.declared.rule.Rule.TheVariants.{ColourValue, RepeatZero, Unselected, Undefined, Redefined}
-use Rattle.sixel_check.specs.declared.rule.Rule.TheVariants.{Outside, Uncovered, EightBit}
-use Rattle.sixel_check.specs.Judging.{box_of}
-use Rattle.sixel_check.specs.Outside.{IsFirstIfAny}
-use Rattle.sixel_check.specs.Verdicts.{IsPixel, number_of}
-use Rattle.sixel_check.specs.Violations.{raster_first_in, raster_twice_in}
-use Rattle.sixel_check.proofs.BlankLemmas.{first_blank_covered}
-use Rattle.sixel_check.proofs.RunLemmas.{first_same}
+use Rattle.sixel_judge.specs.declared.rule.Rule.{Rule}
+use Rattle.sixel_judge.specs.declared.rule.Rule.TheVariants.{RasterFirst, RasterTwice, Ratio, BoxSize, Register}
+use Rattle.sixel_judge.specs.declared.rule.Rule.TheVariants.{ColourValue, RepeatZero, Unselected, Undefined, Redefined}
+use Rattle.sixel_judge.specs.declared.rule.Rule.TheVariants.{Outside, Uncovered, EightBit}
+use Rattle.sixel_judge.specs.Judging.{box_of}
+use Rattle.sixel_judge.specs.Outside.{IsFirstIfAny}
+use Rattle.sixel_judge.specs.Verdicts.{IsPixel, number_of}
+use Rattle.sixel_judge.specs.Violations.{raster_first_in, raster_twice_in}
+use Rattle.sixel_judge.proofs.BlankLemmas.{first_blank_covered}
+use Rattle.sixel_judge.proofs.RunLemmas.{first_same}
 use Rattle.sixel_survey.specs.declared.notes.Notes.{Notes}
 use Rattle.sixel_survey.specs.declared.tally.Hit.{Hit}
 use Rattle.sixel_survey.specs.Counting.{Counts, has_box, is_below, is_told, paints_early}

@@ -16,8 +16,8 @@ use Rattle.sixel_model.specs.Positions.{any_at, any_below, earliest, latest, sin
 use Rattle.sixel_model.specs.Rules.{definition_of, is_painted_in, is_that, known, raster_before}
 use Rattle.sixel_model.proofs.PositionLemmas.{any_at_push, latest_push}
 use Rattle.sixel_model.proofs.StepLemmas.{band_push, column_push, definition_push, painted_in_push, raster_push}
-use Rattle.sixel_check.specs.Verdicts.{capped}
-use Rattle.sixel_check.proofs.DrawingStateLemmas.{set_is, stopped, stopped_band}
+use Rattle.sixel_judge.specs.Verdicts.{capped}
+use Rattle.sixel_judge.proofs.DrawingStateLemmas.{set_is, stopped, stopped_band}
 use Rattle.sixel_survey.specs.declared.notes.Definition.{Definition as Stored}
 use Rattle.sixel_survey.specs.declared.notes.Notes.{Notes}
 use Rattle.sixel_survey.specs.Counting.{paints_early}

@@ -13,13 +13,13 @@ use Rattle.sixel_model.specs.Positions.{HoldsAtPosition}
 use Rattle.sixel_model.specs.Rules.{Breaks, BreaksUncovered, picture_left, raster_before}
 use Rattle.sixel_model.proofs.FirstLemmas.{earliest_all}
 use Rattle.sixel_model.proofs.PositionLemmas.{holds_within}
-use Rattle.sixel_check.specs.declared.rule.Rule.{Rule}
-use Rattle.sixel_check.specs.declared.rule.Rule.TheVariants.{Uncovered}
-use Rattle.sixel_check.specs.Verdicts.{number_of}
-use Rattle.sixel_check.proofs.DecideLemmas.{both_decided, pixel_of, place_of, rule_decided}
-use Rattle.sixel_check.proofs.OptionLemmas.{same_value}
-use Rattle.sixel_check.proofs.SearchLemmas.{Decided, decide_true, least_below}
-use Rattle.sixel_check.proofs.VerdictLemmas.{pixel_at}
+use Rattle.sixel_judge.specs.declared.rule.Rule.{Rule}
+use Rattle.sixel_judge.specs.declared.rule.Rule.TheVariants.{Uncovered}
+use Rattle.sixel_judge.specs.Verdicts.{number_of}
+use Rattle.sixel_judge.proofs.DecideLemmas.{both_decided, pixel_of, place_of, rule_decided}
+use Rattle.sixel_judge.proofs.OptionLemmas.{same_value}
+use Rattle.sixel_judge.proofs.SearchLemmas.{Decided, decide_true, least_below}
+use Rattle.sixel_judge.proofs.VerdictLemmas.{pixel_at}
 use Rattle.sixel_survey.specs.declared.entry.Entry.{Entry}
 use Rattle.sixel_survey.specs.declared.entry.Survey.{Survey}
 use Rattle.sixel_survey.specs.Counting.{Counts, HoldsOften, IsHowOften, blanks, is_told}

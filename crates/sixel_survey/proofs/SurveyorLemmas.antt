@@ -22,14 +22,14 @@ use Rattle.sixel_model.specs.RuleNumbers.{box_size_rule, last_rule}
 use Rattle.sixel_model.proofs.FirstLemmas.{earliest_all, earliest_later}
 use Rattle.sixel_model.proofs.LatestLemmas.{Gives}
 use Rattle.sixel_model.proofs.RuleLemmas.{nowhere}
-use Rattle.sixel_check.specs.declared.rule.Rule.{Rule}
-use Rattle.sixel_check.specs.declared.rule.Rule.TheVariants.{RasterFirst, Uncovered, EightBit}
-use Rattle.sixel_check.specs.Portable.{IsPortable}
-use Rattle.sixel_check.specs.Verdicts.{number_of}
-use Rattle.sixel_check.proofs.AlarmLemmas.{taken_get, taken_twice}
-use Rattle.sixel_check.proofs.DecideLemmas.{verdict_exists}
-use Rattle.sixel_check.proofs.ShownLemmas.{left_is_portable}
-use Rattle.sixel_check.proofs.VerdictLemmas.{same_rule}
+use Rattle.sixel_judge.specs.declared.rule.Rule.{Rule}
+use Rattle.sixel_judge.specs.declared.rule.Rule.TheVariants.{RasterFirst, Uncovered, EightBit}
+use Rattle.sixel_judge.specs.Portable.{IsPortable}
+use Rattle.sixel_judge.specs.Verdicts.{number_of}
+use Rattle.sixel_judge.proofs.AlarmLemmas.{taken_get, taken_twice}
+use Rattle.sixel_judge.proofs.DecideLemmas.{verdict_exists}
+use Rattle.sixel_judge.proofs.ShownLemmas.{left_is_portable}
+use Rattle.sixel_judge.proofs.VerdictLemmas.{same_rule}
 use Rattle.sixel_survey.specs.declared.entry.Entry.{Entry}
 use Rattle.sixel_survey.specs.declared.entry.Survey.{Survey}
 use Rattle.sixel_survey.specs.declared.notes.Notes.{Notes}

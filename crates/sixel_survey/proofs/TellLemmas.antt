@@ -18,10 +18,10 @@ use Rattle.sixel_model.specs.RuleNumbers.{register_rule, uncovered_rule, undefin
 use Rattle.sixel_model.proofs.CoverLemmas.{passes_below}
 use Rattle.sixel_model.proofs.KnownLemmas.{known_is}
 use Rattle.sixel_model.proofs.LatestLemmas.{Gives, latest_gives}
-use Rattle.sixel_check.specs.declared.rule.Rule.{Rule}
-use Rattle.sixel_check.specs.declared.rule.Rule.TheVariants.{Undefined, Redefined, Outside, Uncovered}
-use Rattle.sixel_check.specs.Verdicts.{number_of}
-use Rattle.sixel_check.proofs.AlarmLemmas.{taken_there, taken_twice}
+use Rattle.sixel_judge.specs.declared.rule.Rule.{Rule}
+use Rattle.sixel_judge.specs.declared.rule.Rule.TheVariants.{Undefined, Redefined, Outside, Uncovered}
+use Rattle.sixel_judge.specs.Verdicts.{number_of}
+use Rattle.sixel_judge.proofs.AlarmLemmas.{taken_there, taken_twice}
 use Rattle.sixel_survey.specs.Counting.{Counts, has_box, is_below, is_told, paints_early}
 
 -- ---- items of a prefix

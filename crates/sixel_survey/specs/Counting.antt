@@ -12,9 +12,9 @@ use Rattle.sixel_model.specs.Events.{Attributes, has_sides, is_painting, named_b
 use Rattle.sixel_model.specs.Grids.{row_by_row}
 use Rattle.sixel_model.specs.Positions.{HoldsAtPosition, any_at}
 use Rattle.sixel_model.specs.Rules.{Breaks, is_covered, known, raster_before}
-use Rattle.sixel_check.specs.declared.rule.Rule.{Rule}
-use Rattle.sixel_check.specs.declared.rule.Rule.TheVariants.{Undefined, Redefined, Outside, Uncovered}
-use Rattle.sixel_check.specs.Verdicts.{number_of}
+use Rattle.sixel_judge.specs.declared.rule.Rule.{Rule}
+use Rattle.sixel_judge.specs.declared.rule.Rule.TheVariants.{Undefined, Redefined, Outside, Uncovered}
+use Rattle.sixel_judge.specs.Verdicts.{number_of}
 
 -- ---- where
 

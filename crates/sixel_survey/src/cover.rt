@@ -8,14 +8,14 @@ ghost use Rattle.sixel_grammar.specs.declared.command.Event.{Event as EventValue
 ghost use Rattle.sixel_model.specs.Events.{has_sides, raster_of};
 ghost use Rattle.sixel_model.specs.Geometry.{band_rows};
 ghost use Rattle.sixel_model.specs.Grids.{cell};
-ghost use Rattle.sixel_check.specs.Verdicts.{capped};
+ghost use Rattle.sixel_judge.specs.Verdicts.{capped};
 ghost use Rattle.sixel_survey.specs.Covering.{IsCoverAfter, IsCoveredBy, blank_cells};
 ghost use Rattle.sixel_survey.specs.Notes.{IsNotesAfter};
 
 use crate::notes::Notes;
-use sixel_check::events::{bits_of, columns_of, sides_of};
-use sixel_check::rules::breaks_box_size;
 use sixel_grammar::Event;
+use sixel_judge::events::{bits_of, columns_of, sides_of};
+use sixel_judge::rules::breaks_box_size;
 use sixel_model::BAND_ROWS;
 use sixel_plane::Plane;
 use std::alloc::{AllocError, Global};

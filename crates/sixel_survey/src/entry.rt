@@ -1,7 +1,7 @@
 //! The entries of a survey.
 
 use arrayvec::ArrayVec;
-use sixel_check::Rule;
+use sixel_judge::Rule;
 
 /// How many rules there are.
 pub const RULES: usize = 13;

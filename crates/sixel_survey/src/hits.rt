@@ -7,8 +7,8 @@ ghost use Rattle.sixel_model.specs.Events.{is_same_definition};
 ghost use Rattle.sixel_model.specs.Profiles.{count_of};
 ghost use Rattle.sixel_model.specs.Rules.{FallsOutside, StaysBlank};
 ghost use Rattle.sixel_model.specs.Rules as of;
-ghost use Rattle.sixel_check.specs.Outside.{IsFirstIfAny};
-ghost use Rattle.sixel_check.specs.declared.rule.Rule.TheVariants.{Outside, Uncovered};
+ghost use Rattle.sixel_judge.specs.Outside.{IsFirstIfAny};
+ghost use Rattle.sixel_judge.specs.declared.rule.Rule.TheVariants.{Outside, Uncovered};
 ghost use Rattle.sixel_survey.specs.Counting.{paints_early};
 ghost use Rattle.sixel_survey.specs.Covering.{IsCoverAfter, IsCoverOf};
 ghost use Rattle.sixel_survey.specs.Notes.{IsNotesAfter, counts_in, redefined_in, said, undefined_in};
@@ -16,14 +16,14 @@ ghost use Rattle.sixel_survey.specs.Tallies.{IsHit};
 
 use crate::notes::{Definition, Notes};
 use crate::tally::Hit;
-use sixel_check::Rule;
-use sixel_check::events::{bits_of, columns_of, is_eight_bit, is_finish, is_painting, named_by};
-use sixel_check::outside::outside_pixel;
-use sixel_check::rules::{
+use sixel_grammar::{Command, Event};
+use sixel_judge::Rule;
+use sixel_judge::events::{bits_of, columns_of, is_eight_bit, is_finish, is_painting, named_by};
+use sixel_judge::outside::outside_pixel;
+use sixel_judge::rules::{
     breaks_box_size, breaks_colour_value, breaks_raster_first, breaks_raster_twice, breaks_ratio,
     breaks_repeat_zero,
 };
-use sixel_grammar::{Command, Event};
 use sixel_model::Profile;
 use sixel_plane::Plane;
 

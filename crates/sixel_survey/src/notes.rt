@@ -5,10 +5,10 @@ ghost use Rattle.std.specs.Option.{option_map};
 ghost use Rattle.sixel_grammar.specs.declared.command.Event.{Event as EventValue};
 ghost use Rattle.sixel_survey.specs.Notes.{next_definitions, next_painted, said, said_of};
 
-use sixel_check::events::{
+use sixel_grammar::{Command, Event};
+use sixel_judge::events::{
     columns_of, is_next_line, is_painting, is_raster, is_return, named_by, select_of,
 };
-use sixel_grammar::{Command, Event};
 use sixel_model::MOST_REGISTERS;
 
 /// What a definition of a register says, in range or not.

@@ -1,7 +1,7 @@
 //! Surveying events one by one.
 
 ghost use Rattle.std.specs.Prelude.{◌≡◌, ◌<◌, ◌++◌, ◌∷◌, [], ℕ, List, None, OnErr, OnOk, filter_map, get_or};
-ghost use Rattle.sixel_check.specs.declared.rule.Rule.TheVariants.{EightBit};
+ghost use Rattle.sixel_judge.specs.declared.rule.Rule.TheVariants.{EightBit};
 ghost use Rattle.std.specs.Option.{option_map, option_map_or};
 ghost use Rattle.sixel_grammar.specs.declared.command.Placed.{Placed as PlacedValue};
 ghost use Rattle.sixel_grammar.specs.Document.{Document, events_of};
@@ -19,8 +19,8 @@ use crate::hits::hit_of;
 use crate::notes::Notes;
 use crate::tally::with_event;
 use arrayvec::ArrayVec;
-use sixel_check::Rule;
 use sixel_grammar::Placed;
+use sixel_judge::Rule;
 use sixel_model::Profile;
 use sixel_plane::Plane;
 use std::alloc::{AllocError, Global};

@@ -4,7 +4,7 @@ ghost use Rattle.std.specs.Prelude.{◌≡◌, Some};
 ghost use Rattle.sixel_survey.specs.Tallies.{next_tally};
 
 use crate::entry::Entry;
-use sixel_check::Rule;
+use sixel_judge::Rule;
 
 /// A rule counts at an event.
 #[derive(Clone, Copy, Debug)]

@@ -1,7 +1,7 @@
 -- The names that `explain` lists.
 use Rattle.std.proofs.Common.{arith, refl}
 use Rattle.std.specs.Prelude.{Contains}
-use Rattle.sixel_check.specs.declared.rule.Rule.TheVariants as rule
+use Rattle.sixel_judge.specs.declared.rule.Rule.TheVariants as rule
 use Rattle.sixel_grammar.specs.declared.fault.Reason.TheVariants as reason
 use Rattle.sixel_ppm.specs.declared.ppm.PpmReason.TheVariants as ppm
 use Rattle.sixel_words.specs.declared.explanations.Topic.{Topic}

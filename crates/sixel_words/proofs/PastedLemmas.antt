@@ -17,9 +17,9 @@ use Rattle.std.proofs.lemmas.Grind.{flat_map-append}
 use Rattle.std.proofs.lemmas.List.Elements.{All-contains}
 use Rattle.std.proofs.lemmas.List.Splits.{slice_split-cons_no}
 use Rattle.std.proofs.lemmas.Slice.Eq.{ends_is}
-use Rattle.sixel_check.specs.declared.rule.Rule.{Rule as ARule}
-use Rattle.sixel_check.specs.declared.rule.Rule.TheVariants as rule
-use Rattle.sixel_check.specs.declared.verdict.Finding.{Finding}
+use Rattle.sixel_judge.specs.declared.rule.Rule.{Rule as ARule}
+use Rattle.sixel_judge.specs.declared.rule.Rule.TheVariants as rule
+use Rattle.sixel_judge.specs.declared.verdict.Finding.{Finding}
 use Rattle.sixel_run.specs.declared.fault.RunFault.{RunFault}
 use Rattle.sixel_run.specs.declared.fault.RunFault.TheVariants as fault
 use Rattle.sixel_run.specs.Texts.{Text, fault_parts, finding_line, line, pixel_parts, rule_name, spaced}

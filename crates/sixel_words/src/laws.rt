@@ -4,7 +4,7 @@ ghost use Rattle.std.specs.Prelude.{◌≡◌, ◌∷◌, ◌||◌, [], All, Con
 ghost use Rattle.std.specs.Prelude.{codes, false, if◌then◌else◌, map, true};
 ghost use Rattle.std.specs.Str.{str_to_ascii_lowercase};
 ghost use Rattle.sixel_model.specs.declared.profile.Profile.TheVariants.{Registers16, Registers256};
-ghost use Rattle.sixel_check.specs.declared.rule.Rule.{Rule};
+ghost use Rattle.sixel_judge.specs.declared.rule.Rule.{Rule};
 ghost use Rattle.clap.specs.Takes.{takes};
 ghost use Rattle.clap.specs.declared.error.kind.ErrorKind.TheVariants.{DisplayHelp, DisplayVersion, MissingSubcommand};
 ghost use Rattle.clap.specs.declared.error.kind.ErrorKind.TheVariants.{UnknownArgument, ValueValidation};

@@ -2,8 +2,8 @@ use Rattle.std.proofs.Common.{[]}
 use Rattle.std.specs.Prelude.{Err}
 use Rattle.std.proofs.lemmas.Result.{err_from_is_err_and}
 use Rattle.sixel_check.proofs.CheckLemmas.{end_reads}
-use Rattle.sixel_check.proofs.GrowthLemmas.{grows_if}
-use Rattle.sixel_check.proofs.ReadLemmas.{explains_now, never_read}
+use Rattle.sixel_check.proofs.MemoryLemmas.{grows_if}
+use Rattle.sixel_judge.proofs.PieceLemmas.{explains_now, never_read}
 use Rattle.sixel_model.specs.Profiles.{count_of}
 use Rattle.sixel_check.proofs.checking.check_bytes.Goals as goal
 

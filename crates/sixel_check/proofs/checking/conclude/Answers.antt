@@ -2,7 +2,7 @@ use Rattle.std.proofs.Common.{sym, ◌∙◌}
 use Rattle.std.proofs.lemmas.Result.{err_from_is_err_and}
 use Rattle.sixel_grammar.specs.Document.{events_of}
 use Rattle.sixel_grammar.proofs.TotalLemmas.{document_whole}
-use Rattle.sixel_check.proofs.StandLemmas.{whole_ended, whole_events}
+use Rattle.sixel_judge.proofs.StandLemmas.{whole_ended, whole_events}
 use Rattle.sixel_check.proofs.checking.conclude.Goals as goal
 
 pub finish-requires-2 : goal.finish-requires-2

@@ -2,7 +2,7 @@ use Rattle.std.proofs.Common.{[], ◌∷◌, ◌++◌, arith}
 use Rattle.std.proofs.lemmas.List.{length-append}
 use Rattle.std.proofs.lemmas.Result.{err_from_is_err_and}
 use Rattle.sixel_grammar.proofs.UniqueLemmas.{fault_stays}
-use Rattle.sixel_check.proofs.GrowthLemmas.{grows_byte}
+use Rattle.sixel_check.proofs.MemoryLemmas.{grows_byte}
 use Rattle.sixel_check.proofs.ReadLemmas.{after_byte, read_may}
 use Rattle.sixel_check.proofs.checking.feed_and_keep.Goals as goal
 

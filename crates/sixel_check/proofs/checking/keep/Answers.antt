@@ -1,9 +1,10 @@
 use Rattle.std.proofs.Common.{◌++◌, append_assoc, subst}
 use Rattle.std.specs.Option.{option_to_list}
 use Rattle.std.proofs.lemmas.Result.{on_err_weaker, on_ok_weaker}
-use Rattle.sixel_check.specs.Growth.{MayGrowAmong}
-use Rattle.sixel_check.specs.Standing.{StandsAfter}
-use Rattle.sixel_check.proofs.GrowthLemmas.{err_says, grows_longer}
+use Rattle.sixel_judge.specs.Growth.{MayGrowAmong}
+use Rattle.sixel_judge.specs.Standing.{StandsAfter}
+use Rattle.sixel_judge.proofs.GrowthLemmas.{err_says}
+use Rattle.sixel_check.proofs.MemoryLemmas.{grows_longer}
 use Rattle.sixel_check.proofs.checking.keep.Goals as goal
 
 pub keep_one-requires : goal.keep_one-requires

@@ -1,6 +1,6 @@
 use Rattle.std.proofs.lemmas.Result.{on_err_weaker}
 use Rattle.sixel_grammar.specs.declared.command.Event.TheVariants.{Step}
-use Rattle.sixel_check.proofs.GrowthLemmas.{grows_end}
+use Rattle.sixel_judge.proofs.GrowthLemmas.{grows_end}
 use Rattle.sixel_check.proofs.checking.push_command.Goals as goal
 
 pub returns-clause-grows : goal.returns-clause-grows

@@ -1,7 +1,7 @@
 use Rattle.std.proofs.Common.{◌++◌, arith, subst, take}
 use Rattle.sixel_grammar.specs.Stretches.{sixels_from}
-use Rattle.sixel_check.specs.Standing.{StandsAfter}
-use Rattle.sixel_check.proofs.StretchLemmas.{begun_of, begun_take, sixels_then}
+use Rattle.sixel_judge.specs.Standing.{StandsAfter}
+use Rattle.sixel_judge.proofs.StretchLemmas.{begun_of, begun_take, sixels_then}
 use Rattle.sixel_check.proofs.checking.push_each.Goals as goal
 
 pub push-requires-clause-expected : goal.push-requires-clause-expected

@@ -1,8 +1,8 @@
 use Rattle.std.proofs.Common.{◌++◌, ℕ, List, take}
 use Rattle.sixel_grammar.specs.Stretches.{sixels_from}
 use Rattle.sixel_grammar.specs.declared.command.Placed.{Placed}
-use Rattle.sixel_check.specs.Standing.{StandsAfter}
-use Rattle.sixel_check.specs.Stretches.{MayStep}
+use Rattle.sixel_judge.specs.Standing.{StandsAfter}
+use Rattle.sixel_judge.specs.Stretches.{MayStep}
 use Rattle.sixel_check.proofs.checking.push_each.Given as goal
 
 abbrev pub invariant-loop-index : goal.invariant-loop-index

@@ -2,8 +2,8 @@ use Rattle.std.proofs.Common.{ℕ, List, ◌++◌, take, drop, subst, arith}
 use Rattle.std.proofs.lemmas.Result.{err_from_is_err_and}
 use Rattle.sixel_check.specs.Checking.{AreAfter}
 use Rattle.sixel_grammar.proofs.SourceLemmas.{refuses-more, take_past}
-use Rattle.sixel_check.proofs.GrowthLemmas.{grows_for_on}
-use Rattle.sixel_check.proofs.ReadLemmas.{part_then, rest_of, split_part}
+use Rattle.sixel_check.proofs.MemoryLemmas.{grows_for_on}
+use Rattle.sixel_judge.proofs.PieceLemmas.{part_then, rest_of, split_part}
 use Rattle.sixel_check.proofs.checking.read_piece.Goals as goal
 
 pub read_stretch_or_byte-requires-clause-stands : goal.read_stretch_or_byte-requires-clause-stands

@@ -5,8 +5,8 @@ use Rattle.sixel_grammar.specs.declared.command.Plain.{Plain}
 use Rattle.sixel_grammar.specs.declared.command.Plain.TheVariants.{Nothing, Command}
 use Rattle.sixel_grammar.specs.Plain.{plain_of}
 use Rattle.sixel_grammar.specs.Standing.{Takes, completions}
-use Rattle.sixel_check.specs.Standing.{StandsAfter}
-use Rattle.sixel_check.proofs.GrowthLemmas.{grows_byte}
+use Rattle.sixel_judge.specs.Standing.{StandsAfter}
+use Rattle.sixel_check.proofs.MemoryLemmas.{grows_byte}
 use Rattle.sixel_check.proofs.ReadLemmas.{after_byte, read_may}
 use Rattle.sixel_check.proofs.checking.read_sign.Goals as goal
 

@@ -1,6 +1,6 @@
 use Rattle.std.proofs.Common.{ℕ, List}
 use Rattle.sixel_grammar.specs.declared.command.Placed.{Placed}
-use Rattle.sixel_check.specs.Standing.{StandsAfter}
+use Rattle.sixel_judge.specs.Standing.{StandsAfter}
 use Rattle.sixel_check_tests.proofs.steps.pushed.Given as goal
 
 abbrev pub invariant-loop-placed : goal.invariant-loop-placed

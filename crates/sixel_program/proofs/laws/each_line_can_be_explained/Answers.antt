@@ -1,5 +1,5 @@
 use Rattle.std.proofs.Common.{◌≡◌, ◌++◌, [], List, None, Option, Some, codes}
-use Rattle.sixel_check.specs.declared.verdict.Finding.{Finding}
+use Rattle.sixel_judge.specs.declared.verdict.Finding.{Finding}
 use Rattle.sixel_run.specs.declared.fault.RunFault.{RunFault}
 use Rattle.sixel_run.specs.declared.fault.RunFault.TheVariants as fault
 use Rattle.sixel_run.specs.Texts.{Text, finding_line, rule_name}

@@ -2,8 +2,8 @@ use Rattle.std.proofs.Common.{◌≡◌, ◌∙◌, false, true, sym, rules, Opt
 use Rattle.std.specs.Option.{option_map_or}
 use Rattle.sixel_model.specs.Events.{Attributes, has_sides, raster_of}
 use Rattle.sixel_model.specs.Rules.{breaks_box_size, raster_before}
-use Rattle.sixel_check.proofs.DrawLemmas.{no_attributes}
-use Rattle.sixel_check.proofs.GrowthLemmas.{err_says}
+use Rattle.sixel_judge.proofs.DrawLemmas.{no_attributes}
+use Rattle.sixel_judge.proofs.GrowthLemmas.{err_says}
 use Rattle.sixel_survey.proofs.CoverLemmas.{cover_declared, declared_in_range, declares_sides, none_declared}
 use Rattle.sixel_survey.proofs.CoverLemmas.{sides_told, uncovered_next, uncovered_stays, wrong_sides}
 use Rattle.sixel_survey.proofs.cover.first_plane.Goals as goal

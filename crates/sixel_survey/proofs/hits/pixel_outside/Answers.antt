@@ -1,5 +1,5 @@
 use Rattle.sixel_model.specs.Geometry.{band, column}
-use Rattle.sixel_check.proofs.RunLemmas.{falls_first}
+use Rattle.sixel_judge.proofs.RunLemmas.{falls_first}
 use Rattle.sixel_survey.proofs.hits.pixel_outside.Goals as goal
 
 pub returns : goal.returns

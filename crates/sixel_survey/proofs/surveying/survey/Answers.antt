@@ -10,7 +10,7 @@ use Rattle.sixel_grammar.specs.declared.fault.InputFault.TheVariants.{Read}
 use Rattle.sixel_grammar.proofs.SourceLemmas.{consumes-kept, consumes-then, no_fault_before}
 use Rattle.sixel_model.specs.Profiles.{count_of}
 use Rattle.sixel_survey.specs.Answers.{Answers}
-use Rattle.sixel_check.proofs.CheckLemmas.{told_all}
+use Rattle.sixel_judge.proofs.PieceLemmas.{told_all}
 use Rattle.sixel_survey.proofs.AnswerLemmas.{all_ended, end_counts, end_declares, fault_answers, fault_counts}
 use Rattle.sixel_survey.proofs.AnswerLemmas.{fault_declares, fault_reads, none_ended, read_answers, read_counts}
 use Rattle.sixel_survey.proofs.AnswerLemmas.{read_declares}

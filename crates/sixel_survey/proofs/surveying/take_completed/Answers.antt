@@ -1,7 +1,7 @@
 use Rattle.std.proofs.Common.{◌++◌, append_assoc, subst}
 use Rattle.std.specs.Option.{option_to_list}
 use Rattle.std.proofs.lemmas.Result.{on_err_weaker, on_ok_weaker}
-use Rattle.sixel_check.proofs.GrowthLemmas.{err_says}
+use Rattle.sixel_judge.proofs.GrowthLemmas.{err_says}
 use Rattle.sixel_survey.specs.Declaring.{DeclareBox}
 use Rattle.sixel_survey.specs.Surveying.{HasSurveyed}
 use Rattle.sixel_survey.proofs.DeclareLemmas.{declares_longer}

@@ -1,6 +1,6 @@
 use Rattle.std.proofs.Common.{◌<◌, ◌+◌, ◌++◌, ◌∷◌, [], ◌∙◌, List, None, Some, ap, arith, length, refl, sym, take}
 use Rattle.std.proofs.lemmas.List.{append-nil, length-take}
-use Rattle.sixel_check.specs.declared.rule.Rule.TheVariants.{EightBit}
+use Rattle.sixel_judge.specs.declared.rule.Rule.TheVariants.{EightBit}
 use Rattle.sixel_survey.specs.declared.entry.Entry.{Entry}
 use Rattle.sixel_survey.specs.Surveys.{all_rules}
 use Rattle.sixel_survey.specs.Tallies.{entry_in}

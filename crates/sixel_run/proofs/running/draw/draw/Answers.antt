@@ -6,7 +6,7 @@ use Rattle.sixel_grammar.specs.Document.{Document, events_of, most_bytes}
 use Rattle.sixel_grammar.specs.Faults.{IsFaultOf}
 use Rattle.sixel_grammar.specs.Standing.{left_of}
 use Rattle.sixel_terminal.specs.Drawings.{HasDrawn}
-use Rattle.sixel_check.proofs.ReadLemmas.{not_failed}
+use Rattle.sixel_judge.proofs.PieceLemmas.{not_failed}
 use Rattle.sixel_grammar.specs.Reading.{Explains}
 use Rattle.sixel_grammar.specs.declared.fault.InputFault.TheVariants.{Grammar}
 use Rattle.sixel_grammar.proofs.SourceLemmas.{all_read, consumes-then, refused_early, take_none}

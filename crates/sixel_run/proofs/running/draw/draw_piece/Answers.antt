@@ -1,6 +1,6 @@
 use Rattle.std.proofs.Common.{◌++◌, ◌∙◌, List, ℕ, drop, take, subst, arith}
 use Rattle.std.proofs.lemmas.Result.{err_from_is_err_and}
-use Rattle.sixel_check.proofs.ReadLemmas.{part_then, rest_of, split_part}
+use Rattle.sixel_judge.proofs.PieceLemmas.{part_then, rest_of, split_part}
 use Rattle.sixel_grammar.proofs.SourceLemmas.{refuses-more, take_past}
 use Rattle.sixel_run.specs.Draw.{AreDrawn, DrawsBytes}
 use Rattle.sixel_run.proofs.running.draw.draw_piece.Goals as goal

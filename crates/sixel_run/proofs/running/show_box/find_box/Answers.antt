@@ -1,7 +1,7 @@
 use Rattle.std.proofs.Common.{◌++◌, [], List, ℕ, drop, subst, take, arith}
 use Rattle.std.specs.Option.{option_or}
 use Rattle.std.proofs.lemmas.Result.{err_from_is_err_and}
-use Rattle.sixel_check.proofs.ReadLemmas.{part_then, rest_of, split_part}
+use Rattle.sixel_judge.proofs.PieceLemmas.{part_then, rest_of, split_part}
 use Rattle.sixel_grammar.proofs.SourceLemmas.{refuses-more, take_past}
 use Rattle.sixel_run.specs.Boxes.{Finds}
 use Rattle.sixel_run.proofs.StageLemmas.{finds-none, finds-then}

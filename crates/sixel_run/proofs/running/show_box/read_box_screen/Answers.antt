@@ -9,7 +9,7 @@ use Rattle.sixel_grammar.specs.Reading.{Explains}
 use Rattle.sixel_grammar.specs.Standing.{left_of}
 use Rattle.sixel_grammar.specs.declared.fault.InputFault.TheVariants.{Grammar}
 use Rattle.sixel_grammar.proofs.SourceLemmas.{all_read, consumes-then, refused_early, take_none}
-use Rattle.sixel_check.proofs.ReadLemmas.{not_failed}
+use Rattle.sixel_judge.proofs.PieceLemmas.{not_failed}
 use Rattle.sixel_run.specs.Boxes.{IsShownInBox, terminal_of_kind}
 use Rattle.sixel_run.proofs.StageLemmas.{box-of-none, nothing-taken}
 use Rattle.sixel_run.proofs.running.show_box.read_box_screen.Goals as goal

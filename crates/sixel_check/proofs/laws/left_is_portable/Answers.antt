@@ -1,6 +1,0 @@
-use Rattle.sixel_check.proofs.ShownLemmas.{left_is_portable}
-use Rattle.sixel_model.specs.Profiles.{count_of}
-use Rattle.sixel_check.proofs.laws.left_is_portable.Goals as goal
-
-pub returns : goal.returns
-returns c = λ profile. left_is_portable (count_of profile)

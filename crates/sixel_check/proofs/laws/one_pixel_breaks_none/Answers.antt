@@ -1,5 +1,0 @@
-use Rattle.sixel_check.proofs.OnePixel.{one_pixel_breaks_none}
-use Rattle.sixel_check.proofs.laws.one_pixel_breaks_none.Goals as goal
-
-pub returns : goal.returns
-returns c = one_pixel_breaks_none

@@ -1,0 +1,40 @@
+-- On the verdict on a whole list: its picture is portable, and its finding no false alarm.
+use Rattle.std.proofs.Common.{ℕ, List, IsTrue}
+use Rattle.sixel_grammar.specs.declared.command.Placed.{Placed}
+use Rattle.sixel_grammar.specs.Document.{AreWhole, events_of}
+use Rattle.sixel_judge.specs.declared.verdict.Verdict.{Verdict}
+use Rattle.sixel_judge.specs.declared.verdict.Verdict.TheVariants.{Portable, Broken}
+use Rattle.sixel_judge.specs.Alarms.{IsNoFalseAlarm}
+use Rattle.sixel_judge.specs.Laws.{VerdictIsLeft}
+use Rattle.sixel_judge.specs.Portable.{IsShownEverywhere}
+use Rattle.sixel_judge.specs.Standing.{CheckerValue, StandsAfter, is_whole}
+use Rattle.sixel_judge.specs.Verdicts.{IsVerdict}
+use Rattle.sixel_judge.proofs.DifferenceLemmas.{no_false_alarm}
+use Rattle.sixel_judge.proofs.ShownLemmas.{left_is_portable}
+use Rattle.sixel_judge.proofs.StandLemmas.{stands_whole}
+use Rattle.sixel_judge.proofs.VerdictLemmas.{verdict_once}
+
+pub verdict_is_left : (n : ℕ) → VerdictIsLeft n
+verdict_is_left n placed p none is = ((none, is), λ v k. verdict_once n placed v (Portable p) k (none, is))
+
+-- a picture in a verdict on a whole list is portable
+pub verdict_everywhere : (n : ℕ) (placed : List Placed) (v : Verdict) → AreWhole (events_of placed)
+    → IsVerdict n placed v → IsShownEverywhere n (events_of placed) v
+verdict_everywhere n placed (Portable p) whole k = rw k.1 (left_is_portable n (events_of placed) whole k.0)
+verdict_everywhere n placed (Broken f) whole k = tt
+
+-- the same for each verdict on the events that a checker has seen
+pub stands_everywhere : (others registers : ℕ) (checker : CheckerValue) (first seen : List Placed) (v : Verdict)
+    → StandsAfter others checker first
+    → IsTrue (is_whole first) → StandsAfter registers checker seen → IsVerdict registers seen v
+    → IsShownEverywhere registers (events_of seen) v
+stands_everywhere others registers checker first seen v f whole s k =
+    verdict_everywhere registers seen v (stands_whole _ _ checker first seen f whole s) k
+
+-- no verdict on the events that a checker has seen is a false alarm
+pub stands_truly : (others registers : ℕ) (checker : CheckerValue) (first seen : List Placed) (v : Verdict)
+    → StandsAfter others checker first
+    → IsTrue (is_whole first) → StandsAfter registers checker seen → IsVerdict registers seen v
+    → IsNoFalseAlarm registers seen v
+stands_truly others registers checker first seen v f whole s k =
+    no_false_alarm registers seen v (stands_whole _ _ checker first seen f whole s) k

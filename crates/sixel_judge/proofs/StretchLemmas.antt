@@ -1,0 +1,442 @@
+-- On stretches of sixels that break no rule.
+use Rattle.std.proofs.Common.{◌≡◌, ℕ, zero, suc, ◌+◌, ◌-◌, ◌*◌, ◌%◌, ◌<◌, ◌≤◌, ◌&&◌, Bool, true, false, not, IsTrue}
+use Rattle.std.proofs.Common.{Option, Some, None, List, [], ◌∷◌, ◌++◌, length, get_or, set, take, refl, sym, ap, ap₂}
+use Rattle.std.proofs.Common.{◌∙◌, subst, arith, append_assoc, inl, inr}
+use Rattle.std.specs.Prelude.{IsSome, is_none, is_some, nat_le, if◌then◌else◌}
+use Rattle.std.specs.List.{AllByRecursion}
+use Rattle.std.specs.Option.{option_map_or}
+use Rattle.std.proofs.lemmas.Bool.{and_parts, eqb-true, leb-true, not-false, not-true}
+use Rattle.std.proofs.lemmas.List.{append-nil, get_or-take, length-take-le}
+use Rattle.std.proofs.lemmas.Bool.{cond-true, lt-ltb}
+use Rattle.sixel_grammar.specs.Bytes.{is_data}
+use Rattle.sixel_grammar.specs.Document.{events_of}
+use Rattle.sixel_grammar.specs.Faults.{ArePrefix}
+use Rattle.sixel_grammar.specs.Spelling.{IsSpellable}
+use Rattle.sixel_grammar.specs.Stretches.{sixels_from}
+use Rattle.sixel_grammar.specs.declared.command.Command.{Command}
+use Rattle.sixel_grammar.specs.declared.command.Command.TheVariants.{Sixel}
+use Rattle.sixel_grammar.specs.declared.command.Event.{Event}
+use Rattle.sixel_grammar.specs.declared.command.Event.TheVariants.{Step}
+use Rattle.sixel_grammar.specs.declared.command.Placed.{Placed}
+use Rattle.sixel_grammar.proofs.PieceLemmas.{all-append}
+use Rattle.sixel_model.specs.Colours.{palette_at}
+use Rattle.sixel_model.specs.Events.{is_finish, is_painting}
+use Rattle.sixel_model.specs.Geometry.{band, column}
+use Rattle.sixel_model.specs.Pictures.{is_side, most_side}
+use Rattle.sixel_model.specs.Rules.{breaks_box_size, breaks_colour_value, breaks_ratio, breaks_register}
+use Rattle.sixel_model.specs.Rules.{breaks_repeat_zero}
+use Rattle.sixel_model.specs.Grids.{Grid, cell}
+use Rattle.sixel_plane.specs.Stretches.{sixel_of, stretched_grid}
+use Rattle.sixel_plane.proofs.PlaneStretchLemmas.{stretched_blank, stretched_height, stretched_length, stretched_more}
+use Rattle.sixel_plane.proofs.PlaneStretchLemmas.{stretched_none, stretched_width}
+use Rattle.sixel_judge.specs.declared.drawing_state.DrawingState.{DrawingState}
+use Rattle.sixel_judge.specs.declared.progress.Progress.{Progress}
+use Rattle.sixel_judge.specs.declared.progress.Progress.TheVariants.{Begun, Whole}
+use Rattle.sixel_judge.specs.declared.rule.Rule.TheVariants.{Undefined, Unselected}
+use Rattle.sixel_judge.specs.declared.verdict.Finding.{Finding}
+use Rattle.sixel_judge.specs.Violations.{BreaksNoRule, rule_in, undefined_in, unselected_in}
+use Rattle.sixel_judge.specs.Judging.{IsStateAfter, IsDrawn, JudgesAfter, StandsUnbroken, box_of}
+use Rattle.sixel_judge.specs.DrawingState.{known_in, next_column, next_painted}
+use Rattle.sixel_judge.specs.Standing.{CheckerValue, StandsAfter, expects, is_start, is_whole, progress_of}
+use Rattle.sixel_judge.specs.Standing.{progress_with}
+use Rattle.sixel_judge.specs.Stretches.{AreBlank, Fits, IsPaintedIn, IsStretchedIn, MayStep, blank_byte, moved_by}
+use Rattle.sixel_judge.specs.Stretches.{passed_by}
+use Rattle.sixel_judge.specs.Verdicts.{IsFinding, capped}
+use Rattle.sixel_judge.proofs.BlankLemmas.{small}
+use Rattle.sixel_judge.proofs.DrawLemmas.{drawn_paint, drawn_still}
+use Rattle.sixel_judge.proofs.JudgeLemmas.{events_push, judge_broken, judge_goes_on}
+use Rattle.sixel_judge.proofs.DrawingStateLemmas.{state_push}
+use Rattle.sixel_judge.proofs.OutsideLemmas.{IsCapped, inside_fits, no_bits_fit, none_outside}
+use Rattle.sixel_judge.proofs.PixelLemmas as pixels
+use Rattle.sixel_judge.proofs.RunLemmas.{falls_first}
+use Rattle.sixel_judge.proofs.StandLemmas.{prefix_next, progress_push, whole_push}
+
+-- ---- one sixel inside the box, in a register that a command painted in before
+
+abbrev sixel : ℕ → Event
+sixel bits = Step (Sixel bits)
+
+and_no : (b : Bool) → (b && false) ≡ false
+and_no true = refl
+and_no false = refl
+
+has : {A : Type 0} (o : Option A) → IsSome o → is_none o ≡ false
+has None h = cc
+has (Some x) h = refl
+
+sixel_rule : (n : DrawingState) (bits : ℕ) → unselected_in n (sixel bits) ≡ false → undefined_in n (sixel bits) ≡ false
+    → rule_in n true (sixel bits) ≡ None
+unfolding breaks_ratio breaks_box_size breaks_register breaks_colour_value breaks_repeat_zero
+sixel_rule n bits selected defined =
+    ap₂ (λ (a b : Bool). if a then Some Unselected else if b then Some Undefined else None) selected defined
+
+side : (n : ℕ) → IsTrue (is_side n) → n ≤ most_side
+side n h = leb-true n most_side (and_parts (nat_le 1 n) (nat_le n most_side) h).1
+
+-- it breaks no rule
+sixel_breaks_none : {registers : ℕ} (n : DrawingState) (s : Grid) (before : List Event) (bits r : ℕ) → IsPaintedIn n r
+    → Fits n 1 s → IsStateAfter registers n before → IsDrawn s before → BreaksNoRule registers before (sixel bits)
+sixel_breaks_none {registers} n s before bits r known fits a d =
+    let e : Event = sixel bits in
+    let selected : unselected_in n e ≡ false =
+    ap (λ (o : Option ℕ). is_painting e && is_none o) known.known ∙ and_no (is_painting e) in
+    let defined : undefined_in n e ≡ false =
+    ap (λ (o : Option ℕ). is_painting e && option_map_or (λ q. is_none (palette_at n.palette q)) o false) known.known
+    ∙ ap (λ (b : Bool). is_painting e && b) (has (palette_at n.palette r) known.coloured) ∙ and_no (is_painting e) in
+    let least = pixels.least_by_state n (Some s) before e true None refl (sym (sixel_rule n bits selected defined)) a d
+    in
+    let w : IsCapped n.column n.band (column 0 before) (band before) s.width s.height = record {
+      column_is = a.column_is;
+      band_is = a.band_is;
+      narrow = omega (arith, side s.width d.width);
+      low = omega (arith, side s.height d.height);
+    } in
+    let inside = inside_fits n.column n.band (column 0 before)
+    (band before) s.width s.height 1 bits w fits.columns fits.rows in
+    let first = falls_first before e (box_of s) None
+    (none_outside (column 0 before) 1 (band before) bits s.width s.height inside) in
+    pixels.none_eight_bit registers before e refl
+    (pixels.none_before_end registers before e refl (pixels.none_outside registers before e s d least first))
+
+set_there : (xs : List Bool) (k : ℕ) → get_or xs k false ≡ true → set xs k true ≡ xs
+set_there [] k is = cc
+set_there (x ∷ xs) zero is = ap (λ (b : Bool). b ∷ xs) (sym is)
+set_there (x ∷ xs) (suc k) is = ap (λ (l : List Bool). x ∷ l) (set_there xs k is)
+
+marks_stay : (n : DrawingState) (r : ℕ) (b : Bool) → IsPaintedIn n r
+    → (if b then option_map_or (λ q. set n.painted q true) (known_in n) n.painted else n.painted) ≡ n.painted
+marks_stay n r false known = refl
+marks_stay n r true known =
+    ap (λ (o : Option ℕ). option_map_or (λ q. set n.painted q true) o n.painted) known.known
+    ∙ set_there n.painted r known.painted
+
+-- the drawing state moves by one column
+sixel_by_state : {registers : ℕ} (n : DrawingState) (s : Grid) (before : List Event) (bits r : ℕ) → IsPaintedIn n r
+    → Fits n 1 s
+    → IsStateAfter registers n before → IsDrawn s before
+    → IsStateAfter registers (moved_by 1 n) (before ++ sixel bits ∷ [])
+sixel_by_state {registers} n s before bits r known fits a d =
+    let e : Event = sixel bits in
+    let room = small s.width d.width in
+    let columns = fits.columns in
+    let moves : next_column n e ≡ n.column + 1 = omega (arith, room, columns) in
+    let marks : next_painted n e ≡ n.painted = marks_stay n r (is_painting e) known in
+    subst (λ (c : ℕ). IsStateAfter registers (record n { column = c }) (before ++ e ∷ [])) moves
+    (subst (λ (marked : List Bool). IsStateAfter registers (record n { column = next_column n e; painted = marked })
+    (before ++ e ∷ [])) marks
+    (state_push n before e a (sixel_breaks_none n s before bits r known fits a d)))
+
+-- grids with the same pixels are drawn by the same events
+drawn_same : (s t : Grid) (before : List Event) → t.width ≡ s.width → t.height ≡ s.height
+    → length t.cells ≡ t.width * t.height
+    → ((x y : ℕ) → x < s.width → y < s.height → cell t x y ≡ cell s x y) → IsDrawn s before → IsDrawn t before
+drawn_same s t before wide high long same d = record {
+  box = d.box ∙ ap₂ (λ (w h : ℕ). Some (record { pan = 1; pad = 1; width = w; height = h })) (sym wide) (sym high);
+  width = rw wide d.width;
+  height = rw high d.height;
+  pixels = long;
+  registers = λ x y inside_x inside_y.
+      same x y (rw wide at inside_x) (rw high at inside_y)
+      ∙ d.registers x y (rw wide at inside_x) (rw high at inside_y);
+  covered = λ x y inside_x inside_y.
+      ap is_some (same x y (rw wide at inside_x) (rw high at inside_y))
+      ∙ d.covered x y (rw wide at inside_x) (rw high at inside_y);
+}
+
+-- the grid after one more column of a stretch
+sixel_drawn : {registers : ℕ} (n : DrawingState) (s : Grid) (before : List Event) (f : ℕ → ℕ) (left line k r : ℕ)
+    → f k ≤ 63 → 0 < s.width → n.column ≡ left + k → n.band ≡ line → IsPaintedIn n r
+    → Fits n 1 (stretched_grid s left line k f r)
+    → IsStateAfter registers n before → IsDrawn (stretched_grid s left line k f r) before → (b : Bool)
+    → is_painting (sixel (f k)) ≡ b
+    → IsDrawn (stretched_grid s left line (k + 1) f r) (before ++ sixel (f k) ∷ [])
+sixel_drawn n s before f left line k r few some at_column at_band known fits a d true paints =
+    let t : Grid = stretched_grid s left line k f r in
+    let e : Event = sixel (f k) in
+    let drawn = drawn_paint n t before e r a d (sixel_breaks_none n t before (f k) r known fits a d) few paints
+    known.known in
+    subst (λ (q : Grid). IsDrawn q (before ++ e ∷ [])) (stretched_more s left line k f r some)
+    (rw (at_column, at_band) at drawn)
+sixel_drawn n s before f left line k r few some at_column at_band known fits a d false idle =
+    let t : Grid = stretched_grid s left line k f r in
+    let e : Event = sixel (f k) in
+    let blank : f k % 64 ≡ 0 = eqb-true _ _ (not-false _ idle) in
+    let none : f k ≡ 0 = omega arith in
+    let wide = stretched_width s left line k f r in
+    let high = stretched_height s left line k f r in
+    drawn_same t (stretched_grid s left line (k + 1) f r) (before ++ e ∷ [])
+    (stretched_width s left line (k + 1) f r ∙ sym wide) (stretched_height s left line (k + 1) f r ∙ sym high)
+    (stretched_length s left line (k + 1) f r
+    ∙ ap₂ (λ (w h : ℕ). w * h) (sym (stretched_width s left line (k + 1) f r))
+    (sym (stretched_height s left line (k + 1) f r)))
+    (λ x y inside_x inside_y.
+    stretched_blank s left line k f r x y none (rw wide at inside_x) (rw high at inside_y))
+    (drawn_still t before e idle d)
+
+-- ---- k of them
+
+sixels_more : (place at k : ℕ) (bytes : List ℕ) → at ≡ place + k → k < length bytes
+    → sixels_from place (take k bytes) ++ record { place = at; event = Step (Sixel (get_or bytes k 0 - 63)) } ∷ []
+    ≡ sixels_from place (take (suc k) bytes)
+sixels_more place at k [] here lt = absurd (omega arith)
+sixels_more place at zero (b ∷ bytes) here lt =
+    ap (λ (n : ℕ). record { place = n; event = Step (Sixel (b - 63)) } ∷ []) (omega arith)
+sixels_more place at (suc k) (b ∷ bytes) here lt =
+    ap (λ (l : List Placed). record { place = place; event = Step (Sixel (b - 63)) } ∷ l)
+    (sixels_more (place + 1) at k bytes (omega arith) (omega arith))
+
+none_drawn : (n : DrawingState) (s : Grid) (before : List Event) (f : ℕ → ℕ) (r : ℕ) → IsDrawn s before
+    → IsDrawn (stretched_grid s n.column n.band 0 f r) before
+none_drawn n s before f r d =
+    let wide = stretched_width s n.column n.band 0 f r in
+    let high = stretched_height s n.column n.band 0 f r in
+    drawn_same s (stretched_grid s n.column n.band 0 f r) before wide high
+    (stretched_length s n.column n.band 0 f r ∙ ap₂ (λ (w h : ℕ). w * h) (sym wide) (sym high))
+    (λ x y inside_x inside_y. stretched_none s n.column n.band f r x y inside_x inside_y) d
+
+few_bits : (b : ℕ) → is_data b ≡ true → b - 63 ≤ 63
+few_bits b is =
+    let parts = and_parts (nat_le 63 b) (nat_le b 126) is in
+    omega (arith, leb-true b 126 parts.1)
+
+-- the state after k sixels of a stretch
+pub stretch_stands : {registers : ℕ} (n : DrawingState) (s : Grid) (seen : List Placed) (place count r : ℕ)
+    (bytes : List ℕ)
+    → count ≤ length bytes → ((k : ℕ) → k < count → is_data (get_or bytes k 0) ≡ true) → IsPaintedIn n r
+    → Fits n count s → StandsUnbroken registers n (Some s) (events_of seen) → (k : ℕ) → k ≤ count
+    → StandsUnbroken registers (moved_by k n) (Some (stretched_grid s n.column n.band k (sixel_of bytes count) r))
+    (events_of (seen ++ sixels_from place (take k bytes)))
+stretch_stands {registers} n s seen place count r bytes long each known fits u zero le =
+    let f : ℕ → ℕ = sixel_of bytes count in
+    let still : n.column ≡ n.column + 0 = omega arith in
+    subst (λ (l : List Placed). StandsUnbroken registers (moved_by 0 n) (Some (stretched_grid s n.column n.band 0 f r))
+    (events_of l)) (sym (append-nil seen))
+    (record {
+      unbroken = u.unbroken;
+      state_is = subst (λ (c : ℕ). IsStateAfter registers (record n { column = c }) (events_of seen)) still u.state_is;
+      grid_is = none_drawn n s (events_of seen) f r u.grid_is;
+      coloured = u.coloured;
+    })
+stretch_stands {registers} n s seen place count r bytes long each known fits u (suc k) le =
+    let f : ℕ → ℕ = sixel_of bytes count in
+    let before = seen ++ sixels_from place (take k bytes) in
+    let t : Grid = stretched_grid s n.column n.band k f r in
+    let m : DrawingState = moved_by k n in
+    let v = stretch_stands n s seen place count r bytes long each known fits u k (omega arith) in
+    let bits : f k ≡ get_or bytes k 0 - 63 = cond-true _ _ _ (lt-ltb k count (omega arith)) in
+    let p : Placed = record { place = place + k; event = Step (Sixel (f k)) } in
+    let wide = stretched_width s n.column n.band k f r in
+    let high = stretched_height s n.column n.band k f r in
+    let painted : IsPaintedIn m r =
+    record { known = known.known; coloured = known.coloured; painted = known.painted } in
+    let columns = fits.columns in
+    let rows = fits.rows in
+    let one : Fits m 1 t = record { columns = omega (arith, wide, columns); rows = omega (arith, high, rows) } in
+    let some : 0 < s.width = omega (arith, columns) in
+    let few : f k ≤ 63 = omega (arith, bits, few_bits (get_or bytes k 0) (each k (omega arith))) in
+    let after = judge_goes_on m (moved_by 1 m) (Some t)
+    (Some (stretched_grid s n.column n.band (k + 1) f r)) before p v
+    (sixel_breaks_none m t (events_of before) (f k) r painted one v.state_is v.grid_is)
+    (sixel_by_state m t (events_of before) (f k) r painted one v.state_is v.grid_is)
+    (sixel_drawn m s
+    (events_of before) f n.column n.band k r few some refl refl painted one v.state_is v.grid_is _ refl) in
+    let events : before ++ p ∷ [] ≡ seen ++ sixels_from place (take (suc k) bytes) =
+    append_assoc seen (sixels_from place (take k bytes)) (p ∷ [])
+    ∙ ap (λ (l : List Placed). seen ++ l)
+    (ap (λ (b : ℕ). sixels_from place (take k bytes) ++ record { place = place + k; event = Step (Sixel b) } ∷ []) bits
+    ∙ sixels_more place (place + k) k bytes refl (omega arith)) in
+    let column : n.column + k + 1 ≡ n.column + suc k = omega arith in
+    let next : k + 1 ≡ suc k = omega arith in
+    subst (λ (l : List Placed). StandsUnbroken registers (moved_by (suc k) n)
+    (Some (stretched_grid s n.column n.band (suc k) f r)) (events_of l)) events
+    (subst (λ (c : ℕ). StandsUnbroken registers (record n { column = c })
+    (Some (stretched_grid s n.column n.band (suc k) f r)) (events_of (before ++ p ∷ []))) column
+    (subst (λ (j : ℕ). StandsUnbroken registers (moved_by 1 m) (Some (stretched_grid s n.column n.band j f r))
+    (events_of (before ++ p ∷ []))) next after))
+
+-- ---- sixels without a set bit, wherever they lie
+
+-- one breaks no rule
+blank_breaks_none : {registers : ℕ} (n : DrawingState) (s : Grid) (before : List Event)
+    → IsStateAfter registers n before
+    → IsDrawn s before → BreaksNoRule registers before (sixel 0)
+blank_breaks_none {registers} n s before a d =
+    let e : Event = sixel 0 in
+    let least = pixels.least_by_state n (Some s) before e true None refl (sym (sixel_rule n 0 refl refl)) a d in
+    let first = falls_first before e (box_of s) None
+    (none_outside (column 0 before) 1 (band before) 0 s.width s.height
+    (no_bits_fit (column 0 before) 1 (band before) 0 s.width s.height refl)) in
+    pixels.none_eight_bit registers before e refl
+    (pixels.none_before_end registers before e refl (pixels.none_outside registers before e s d least first))
+
+-- the bits of a byte
+blank_bits : (b : ℕ) → b ≡ blank_byte → b - 63 ≡ 0
+blank_bits b is = omega arith
+
+-- the state after k sixels of a stretch of them
+pub passed_stands : {registers : ℕ} (n : DrawingState) (s : Grid) (seen : List Placed) (place count : ℕ)
+    (bytes : List ℕ)
+    → count ≤ length bytes → AreBlank bytes count → StandsUnbroken registers n (Some s) (events_of seen)
+    → (k : ℕ) → k ≤ count
+    → StandsUnbroken registers (passed_by k n) (Some s) (events_of (seen ++ sixels_from place (take k bytes)))
+passed_stands {registers} n s seen place count bytes long blank u zero le =
+    let at = u.state_is.column_is in
+    let still : n.column ≡ capped (n.column + 0) = omega (arith, at) in
+    subst (λ (l : List Placed). StandsUnbroken registers (passed_by 0 n) (Some s) (events_of l)) (sym (append-nil seen))
+    (subst (λ (c : ℕ). StandsUnbroken registers (record n { column = c }) (Some s) (events_of seen)) still u)
+passed_stands {registers} n s seen place count bytes long blank u (suc k) le =
+    let before = seen ++ sixels_from place (take k bytes) in
+    let m : DrawingState = passed_by k n in
+    let v = passed_stands n s seen place count bytes long blank u k (omega arith) in
+    let none = blank_breaks_none m s (events_of before) v.state_is v.grid_is in
+    let p : Placed = record { place = place + k; event = Step (Sixel 0) } in
+    let after = judge_goes_on m (passed_by 1 m) (Some s) (Some s) before p v none
+    (state_push m (events_of before) (sixel 0) v.state_is none)
+    (drawn_still s (events_of before) (sixel 0) refl v.grid_is) in
+    let bits : 0 ≡ get_or bytes k 0 - 63 = sym (blank_bits (get_or bytes k 0) (blank k (omega arith))) in
+    let events : before ++ p ∷ [] ≡ seen ++ sixels_from place (take (suc k) bytes) =
+    append_assoc seen (sixels_from place (take k bytes)) (p ∷ [])
+    ∙ ap (λ (l : List Placed). seen ++ l)
+    (ap (λ (b : ℕ). sixels_from place (take k bytes) ++ record { place = place + k; event = Step (Sixel b) } ∷ []) bits
+    ∙ sixels_more place (place + k) k bytes refl (omega arith)) in
+    let column : capped (capped (n.column + k) + 1) ≡ capped (n.column + suc k) = omega arith in
+    subst (λ (l : List Placed). StandsUnbroken registers (passed_by (suc k) n) (Some s) (events_of l)) events
+    (subst (λ (c : ℕ). StandsUnbroken registers (record n { column = c }) (Some s) (events_of (before ++ p ∷ [])))
+    column
+    after)
+
+-- ---- after a broken rule
+
+pub broken_stays : {registers : ℕ} (seen more : List Placed) (f : Finding) → (i : ℕ) × IsFinding registers seen f i
+    → (i : ℕ) × IsFinding registers (seen ++ more) f i
+broken_stays {registers} seen [] f found =
+    subst (λ (l : List Placed). (i : ℕ) × IsFinding registers l f i) (sym (append-nil seen)) found
+broken_stays {registers} seen (p ∷ more) f found =
+    subst (λ (l : List Placed). (i : ℕ) × IsFinding registers l f i) (append_assoc seen (p ∷ []) more)
+    (broken_stays (seen ++ p ∷ []) more f (judge_broken seen p f found))
+
+-- ---- the shape of the events
+
+-- the last event was a start or a command, and each event is spellable
+pub record IsBegun (progress : Progress) (seen : List Placed) : Type 0 where
+  pub progress_is : progress ≡ progress_of seen
+  pub prefix : ArePrefix (events_of seen)
+  pub spellable : AllByRecursion IsSpellable (events_of seen)
+  pub may_step : MayStep seen
+
+may_step_on : (seen : List Placed) (p : Placed) (c : Command) → p.event ≡ Step c → MayStep seen
+    → MayStep (seen ++ p ∷ [])
+may_step_on [] p c is may d = absurd (let h = may c in cc)
+may_step_on (q ∷ qs) p c is may d =
+    let parts = and_parts (not (is_whole (q ∷ qs))) (not (is_start (Step c))) (may c) in
+    let goes_on : is_whole ((q ∷ qs) ++ p ∷ []) ≡ false =
+    whole_push (q ∷ qs) p (not-true (is_whole (q ∷ qs)) parts.0) ∙ ap is_finish is in
+    ap (λ (b : Bool). not b && not (is_start (Step d))) goes_on
+
+begun_now : (seen : List Placed) (c : Command) → MayStep seen → progress_of seen ≡ Begun
+begun_now [] c may = absurd (let h = may c in cc)
+begun_now (q ∷ qs) c may =
+    let parts = and_parts (not (is_whole (q ∷ qs))) (not (is_start (Step c))) (may c) in
+    ap (λ (b : Bool). if b then Whole else Begun) (not-true (is_whole (q ∷ qs)) parts.0)
+
+begun_on : (progress : Progress) (seen : List Placed) (p : Placed) (c : Command) → p.event ≡ Step c
+    → IsSpellable p.event → IsBegun progress seen → IsBegun progress (seen ++ p ∷ [])
+begun_on progress seen p c is spellable b =
+    let may : IsTrue (expects seen p.event) = ap (λ (e : Event). expects seen e) is ∙ b.may_step c in
+    record {
+      progress_is =
+          b.progress_is ∙ begun_now seen c b.may_step
+          ∙ sym (progress_push seen p may ∙ ap progress_with is);
+      prefix = subst ArePrefix (sym (events_push seen p)) (prefix_next seen p b.prefix may);
+      spellable = subst (AllByRecursion IsSpellable) (sym (events_push seen p))
+          (all-append IsSpellable (events_of seen) (p.event ∷ []) b.spellable (spellable, tt));
+      may_step = may_step_on seen p c is b.may_step;
+    }
+
+pub begun_stretch : (progress : Progress) (seen : List Placed) (place : ℕ) (prefix : List ℕ)
+    → ((k : ℕ) → k < length prefix → is_data (get_or prefix k 0) ≡ true) → IsBegun progress seen
+    → IsBegun progress (seen ++ sixels_from place prefix)
+begun_stretch progress seen place [] each b = subst (IsBegun progress) (sym (append-nil seen)) b
+begun_stretch progress seen place (x ∷ prefix) each b =
+    let p : Placed = record { place = place; event = Step (Sixel (x - 63)) } in
+    subst (IsBegun progress) (append_assoc seen (p ∷ []) (sixels_from (place + 1) prefix))
+    (begun_stretch progress (seen ++ p ∷ []) (place + 1) prefix (λ k lt. each (suc k) (omega arith))
+    (begun_on progress seen p (Sixel (x - 63)) refl (few_bits x (each 0 (omega arith))) b))
+
+-- ---- what a checker has seen
+
+pub begun_of : (registers : ℕ) (checker : CheckerValue) (seen : List Placed) → MayStep seen
+    → StandsAfter registers checker seen → IsBegun checker.progress seen
+unfolding StandsAfter
+begun_of registers checker seen may s = record {
+  progress_is = s.1;
+  prefix = s.2;
+  spellable = s.3;
+  may_step = may;
+}
+
+stands_begun : (registers : ℕ) (checker : CheckerValue) (seen : List Placed)
+    → JudgesAfter registers checker.finding checker.state checker.grid seen → IsBegun checker.progress seen
+    → StandsAfter registers checker seen
+unfolding StandsAfter
+stands_begun registers checker seen judges b = (judges, b.progress_is, b.prefix, b.spellable)
+
+judges_then : (registers : ℕ) (place count : ℕ) (bytes : List ℕ) (o : Option Finding) (n next : DrawingState)
+    (grid drawn : Option Grid) (seen : List Placed) → count ≤ length bytes
+    → ((k : ℕ) → k < count → is_data (get_or bytes k 0) ≡ true)
+    → (IsSome o → (next ≡ n) × (drawn ≡ grid)) → (o ≡ None → IsStretchedIn bytes count n grid next drawn)
+    → JudgesAfter registers o n grid seen
+    → JudgesAfter registers o next drawn (seen ++ sixels_from place (take count bytes))
+judges_then registers place count bytes (Some f) n next grid drawn seen long each broken taken j =
+    broken_stays seen (sixels_from place (take count bytes)) f j
+judges_then registers place count bytes None n next None drawn seen long each broken taken j = absurd (taken refl)
+judges_then registers place count bytes None n next (Some s) None seen long each broken taken j = absurd (taken refl)
+judges_then registers place count bytes None n next (Some s) (Some drawn) seen long each broken taken j =
+    elim (taken refl) [
+      | inl is ↦
+          rw (is.next_is, is.drawn_is)
+          (stretch_stands n s seen place count is.register bytes long each is.painted_in is.fits j count (omega arith))
+      | inr is ↦
+          rw (is.next_is, is.drawn_is) (passed_stands n s seen place count bytes long is.blank j count (omega arith))
+    ]
+
+-- after a stretch of sixels
+pub stretch_taken : (registers place count : ℕ) (bytes : List ℕ) (old new : CheckerValue) (seen : List Placed)
+    → count ≤ length bytes → ((k : ℕ) → k < count → is_data (get_or bytes k 0) ≡ true) → MayStep seen
+    → new.finding ≡ old.finding → new.progress ≡ old.progress
+    → (IsSome old.finding → (new.state ≡ old.state) × (new.grid ≡ old.grid))
+    → (old.finding ≡ None → IsStretchedIn bytes count old.state old.grid new.state new.grid)
+    → StandsAfter registers old seen → StandsAfter registers new (seen ++ sixels_from place (take count bytes))
+unfolding StandsAfter
+stretch_taken registers place count bytes old new seen long each may finding progress broken taken s =
+    let judges = judges_then registers place count bytes old.finding old.state new.state old.grid new.grid seen long
+    each broken taken s.0 in
+    let short = length-take-le count bytes long in
+    let begun = begun_stretch old.progress seen place (take count bytes)
+    (λ k lt. ap is_data (get_or-take count bytes k 0 (omega (arith, short))) ∙ each k (omega (arith, short)))
+    (begun_of registers old seen may s) in
+    stands_begun registers new (seen ++ sixels_from place (take count bytes))
+    (subst (λ (o : Option Finding). JudgesAfter registers o new.state new.grid
+    (seen ++ sixels_from place (take count bytes)))
+    (sym finding) judges)
+    (subst (λ (g : Progress). IsBegun g (seen ++ sixels_from place (take count bytes))) (sym progress) begun)
+
+-- a prefix of a stretch, and the sixel after it
+pub begun_take : (progress : Progress) (seen : List Placed) (place k : ℕ) (stretch : List ℕ) → k ≤ length stretch
+    → ((j : ℕ) → j < length stretch → is_data (get_or stretch j 0) ≡ true) → IsBegun progress seen
+    → IsBegun progress (seen ++ sixels_from place (take k stretch))
+begun_take progress seen place k stretch le each b =
+    let short = length-take-le k stretch le in
+    begun_stretch progress seen place (take k stretch)
+    (λ j lt. ap is_data (get_or-take k stretch j 0 (omega (arith, short))) ∙ each j (omega (arith, short))) b
+
+pub sixels_then : (seen : List Placed) (place k : ℕ) (stretch : List ℕ) → k < length stretch
+    → (seen ++ sixels_from place (take k stretch))
+    ++ record { place = place + k; event = Step (Sixel (get_or stretch k 0 - 63)) } ∷ []
+    ≡ seen ++ sixels_from place (take (k + 1) stretch)
+sixels_then seen place k stretch lt =
+    let next : suc k ≡ k + 1 = omega arith in
+    append_assoc seen (sixels_from place (take k stretch)) _
+    ∙ ap (λ (l : List Placed). seen ++ l)
+    (sixels_more place (place + k) k stretch refl lt
+    ∙ ap (λ (n : ℕ). sixels_from place (take n stretch)) next)

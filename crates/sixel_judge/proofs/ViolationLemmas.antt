@@ -1,0 +1,203 @@
+-- On the rules that don't look at pixels, and on the lowest-numbered broken one.
+use Rattle.std.proofs.Common.{◌≡◌, ◌≢◌, ℕ, zero, suc, ◌<◌, ◌≤◌, ◌==◌, ◌&&◌, Bool, true, false, Option, Some, None}
+use Rattle.std.proofs.Common.{IsTrue, List, length, get_or, refl, sym, ap, ◌∙◌, subst, arith}
+use Rattle.std.specs.Prelude.{IfSome, not, nat_lt, is_none, is_some, if◌then◌else◌}
+use Rattle.std.specs.Option.{option_and_then, option_flatten, option_map_or}
+use Rattle.std.proofs.lemmas.Bool.{eq-eqb, eqb-true, eqb-false, ne_eqb, ltb-true, ltb-false}
+use Rattle.std.proofs.lemmas.Option.{slice_get_past}
+use Rattle.sixel_grammar.specs.declared.command.Command.TheVariants.{Define}
+use Rattle.sixel_grammar.specs.declared.command.Event.{Event}
+use Rattle.sixel_grammar.specs.declared.command.Event.TheVariants.{Step}
+use Rattle.sixel_model.specs.declared.colour.Parts.{Parts}
+use Rattle.sixel_model.specs.declared.colour.Parts.TheVariants.{Rgb, Hls}
+use Rattle.sixel_model.specs.Colours.{palette_at}
+use Rattle.sixel_model.specs.Events.{Definition, is_painting, is_same_definition}
+use Rattle.sixel_model.specs.Rules.{Breaks, breaks_raster_first, breaks_raster_twice, breaks_ratio, breaks_box_size}
+use Rattle.sixel_model.specs.Rules.{breaks_register, breaks_colour_value, breaks_repeat_zero, breaks_unselected}
+use Rattle.sixel_model.specs.Rules.{breaks_undefined, breaks_redefined, colour_by, colour_of, definition_of}
+use Rattle.sixel_model.specs.Rules.{is_painted_in, raster_before}
+use Rattle.sixel_model.proofs.LeftLemmas.{left_at, length_left}
+use Rattle.sixel_model.proofs.PositionLemmas.{and_false}
+use Rattle.sixel_model.specs.RuleNumbers.{raster_first_rule, outside_rule}
+use Rattle.sixel_judge.specs.declared.drawing_state.DrawingState.{DrawingState}
+use Rattle.sixel_judge.specs.declared.rule.Rule.{Rule}
+use Rattle.sixel_judge.specs.declared.rule.Rule.TheVariants.{RasterFirst, RasterTwice, Ratio, BoxSize, Register}
+use Rattle.sixel_judge.specs.declared.rule.Rule.TheVariants.{ColourValue, RepeatZero, Unselected, Undefined, Redefined}
+use Rattle.sixel_judge.specs.Violations.{NoneBelow, is_colour_of, raster_first_in, raster_twice_in, redefined_in}
+use Rattle.sixel_judge.specs.Violations.{rule_in, undefined_in, unselected_in}
+use Rattle.sixel_judge.specs.Judging.{IsStateAfter, IsGood}
+use Rattle.sixel_judge.specs.DrawingState.{known_in}
+use Rattle.sixel_judge.specs.Verdicts.{IsPixel, number_of}
+use Rattle.sixel_judge.proofs.DrawingStateLemmas.{given, known_below, known_is}
+
+-- ---- the lowest-numbered rule
+
+-- the rule is the lowest-numbered broken one, and has no pixel; (IsLeastOf) or none of the first ten is broken
+pub record IsLeast (registers : ℕ) (before : List Event) (e : Event) (rule : Rule) : Type 0 where
+  pub broken : Breaks registers (number_of rule) before e
+  pub none_smaller : NoneBelow registers (number_of rule) before e
+  pub no_pixel : IsPixel rule None before e
+
+abbrev pub IsLeastOf : ℕ → List Event → Event → Option Rule → Type 0
+IsLeastOf registers before e None = NoneBelow registers outside_rule before e
+IsLeastOf registers before e (Some rule) = IsLeast registers before e rule
+
+-- if no rule below n is broken, and n isn't, then none below n + 1 is
+pub none_more : (registers : ℕ) (before : List Event) (e : Event) (n : ℕ) → NoneBelow registers n before e
+    → ¬ Breaks registers n before e → NoneBelow registers (suc n) before e
+none_more registers before e n below none m lt h =
+    split (m == n) refl
+  where
+    split : (b : Bool) → (m == n) ≡ b → ⊥
+    split true q = let same : m ≡ n = eqb-true m n q in none (subst (λ (k : ℕ). Breaks registers k before e) same h)
+    split false q = let other : m ≢ n = eqb-false m n q in
+        let smaller : m < n = omega (arith, lt, other) in
+        below m smaller h
+
+find : (registers : ℕ) (before : List Event) (e : Event) (rule : Rule) (o : Option Rule) (noted b : Bool) → noted ≡ b
+    → (IsTrue b → Breaks registers (number_of rule) before e)
+    → (Breaks registers (number_of rule) before e → IsTrue b)
+    → IsPixel rule None before e → NoneBelow registers (number_of rule) before e
+    → (NoneBelow registers (suc (number_of rule)) before e → IsLeastOf registers before e o)
+    → IsLeastOf registers before e (if noted then Some rule else o)
+find registers before e rule o true b same holds is pixel below more =
+    record { broken = holds (sym same); none_smaller = below; no_pixel = pixel }
+find registers before e rule o false b same holds is pixel below more =
+    more (none_more _ before e (number_of rule) below (λ h. let both : false ≡ true = same ∙ is h in cc))
+
+none_below_one : (registers : ℕ) (before : List Event) (e : Event) → NoneBelow registers raster_first_rule before e
+unfolding Breaks
+none_below_one registers before e zero lt h = h
+none_below_one registers before e (suc m) lt h = absurd (omega arith)
+
+-- ---- each rule, by the drawing state
+
+unselected_is : {registers : ℕ} (n : DrawingState) (before : List Event) (e : Event) → IsStateAfter registers n before
+    → unselected_in n e ≡ breaks_unselected before e
+unfolding breaks_unselected
+unselected_is n before e s = ap (λ (o : Option ℕ). is_painting e && is_none o) (known_is n before s)
+
+defined_none : (registers : ℕ) (r : ℕ) (o : Option Definition) → IfSome o (IsGood registers r)
+    → is_none (option_and_then colour_by o) ≡ is_none o
+defined_none registers r None h = refl
+defined_none registers r (Some d) h = ap is_none (given (colour_by d) h.1).1
+
+colour_by_state : {registers : ℕ} (n : DrawingState) (before : List Event) (r : ℕ) → IsStateAfter registers n before
+    → r < registers → palette_at n.palette r ≡ option_and_then colour_by (definition_of before r)
+unfolding colour_of
+colour_by_state {registers} n before r s lt =
+    ap (λ (p : List (Option Parts)). palette_at p r) s.palette_is ∙ left_at registers r before lt
+
+undefined_each : {registers : ℕ} (n : DrawingState) (before : List Event) → IsStateAfter registers n before
+    → (o : Option ℕ) → IfSome o (λ r. r < registers)
+    → option_map_or (λ r. is_none (palette_at n.palette r)) o false ≡ option_map_or
+    (λ r. is_none (definition_of before r)) o false
+undefined_each n before s None lt = refl
+undefined_each n before s (Some r) lt =
+    ap is_none (colour_by_state n before r s lt) ∙ defined_none _ r (definition_of before r) (s.in_range r)
+
+undefined_is : {registers : ℕ} (n : DrawingState) (before : List Event) (e : Event) → IsStateAfter registers n before
+    → undefined_in n e ≡ breaks_undefined before e
+unfolding breaks_undefined
+undefined_is {registers} n before e s =
+    ap (λ (b : Bool). is_painting e && b)
+    (undefined_each n before s (known_in n) (known_below n.selected n.named registers s.selected_below)
+    ∙ ap (λ (o : Option ℕ). option_map_or (λ r. is_none (definition_of before r)) o false) (known_is n before s))
+
+eq_turned : (a b : ℕ) (p : Bool) → (a == b) ≡ p → (b == a) ≡ p
+eq_turned a b true h = let same : a ≡ b = eqb-true a b h in rw same (eq_self b)
+  where
+    eq_self : (n : ℕ) → (n == n) ≡ true
+    eq_self n = eq-eqb n n refl
+eq_turned a b false h = ne_eqb b a (λ q. eqb-false a b h (sym q))
+
+same_system : (a m s : ℕ) → (a == m) ≡ true → (s == m) ≡ (a == s)
+same_system a m s h =
+    let same : a ≡ m = eqb-true a m h in
+    sym (eq_turned s m (s == m) refl) ∙ ap (λ (k : ℕ). k == s) (sym same)
+
+by_system : (d : Definition) (c : Parts) (s x y z : ℕ) (p q : Bool) → (d.system == 1) ≡ p → (d.system == 2) ≡ q
+    → (if p then Some (Hls d.x d.y d.z) else if q then Some (Rgb d.x d.y d.z) else None) ≡ Some c
+    → is_colour_of c s x y z ≡ is_same_definition d (record { system = s; x = x; y = y; z = z })
+by_system d c s x y z true q e f h =
+    let same : Hls d.x d.y d.z ≡ c = cc in
+    subst
+    (λ (k : Parts). is_colour_of k s x y z ≡ is_same_definition d (record { system = s; x = x; y = y; z = z })) same
+    (ap (λ (b : Bool). b && (d.x == x) && (d.y == y) && (d.z == z)) (same_system d.system 1 s e))
+by_system d c s x y z false true e f h =
+    let same : Rgb d.x d.y d.z ≡ c = cc in
+    subst
+    (λ (k : Parts). is_colour_of k s x y z ≡ is_same_definition d (record { system = s; x = x; y = y; z = z })) same
+    (ap (λ (b : Bool). b && (d.x == x) && (d.y == y) && (d.z == z)) (same_system d.system 2 s f))
+by_system d c s x y z false false e f h = cc
+
+redefined_each : (registers : ℕ) (r s x y z : ℕ) (o : Option Definition) → IfSome o (IsGood registers r)
+    → option_map_or (λ c. not (is_colour_of c s x y z)) (option_and_then colour_by o) false
+    ≡ option_map_or (λ d. not (is_same_definition d (record { system = s; x = x; y = y; z = z }))) o false
+redefined_each registers r s x y z None h = refl
+redefined_each registers r s x y z (Some d) h =
+    let c = given (colour_by d) h.1 in
+    ap (λ (o : Option Parts). option_map_or (λ c. not (is_colour_of c s x y z)) o false) c.1
+    ∙ ap not (by_system d c.0 s x y z (d.system == 1) (d.system == 2) refl refl c.1)
+
+undefined_above : {registers : ℕ} (r : ℕ) (o : Option Definition) → IfSome o (IsGood registers r) → registers ≤ r
+    → o ≡ None
+undefined_above r None h le = refl
+undefined_above r (Some d) h le = absurd (omega (arith, h.0, le))
+
+no_colour_above : {registers : ℕ} (n : DrawingState) (before : List Event) (r : ℕ) → IsStateAfter registers n before
+    → registers ≤ r → palette_at n.palette r ≡ None
+no_colour_above {registers} n before r s le =
+    let long : length n.palette ≤ r = rw (s.palette_is, length_left registers before) le in
+    ap option_flatten (slice_get_past n.palette r long)
+
+redefined_at : {registers : ℕ} (n : DrawingState) (before : List Event) (r s x y z : ℕ)
+    → IsStateAfter registers n before
+    → (b : Bool) → nat_lt r registers ≡ b
+    → redefined_in n (Step (Define r s x y z)) ≡ breaks_redefined before (Step (Define r s x y z))
+unfolding breaks_redefined
+redefined_at {registers} n before r s x y z h true e =
+    let lt : r < registers = ltb-true r registers e in
+    ap (λ (b : Bool). b && option_map_or (λ c. not (is_colour_of c s x y z)) (palette_at n.palette r) false)
+    (h.painted_is r lt)
+    ∙ ap (λ (b : Bool). is_painted_in before r && b)
+    (ap (λ (o : Option Parts). option_map_or (λ c. not (is_colour_of c s x y z)) o false)
+    (colour_by_state n before r h lt)
+    ∙ redefined_each _ r s x y z (definition_of before r) (h.in_range r))
+redefined_at {registers} n before r s x y z h false e =
+    let le : registers ≤ r = ltb-false r registers e in
+    rw (no_colour_above n before r h le, undefined_above r (definition_of before r) (h.in_range r) le)
+    (and_false (get_or n.painted r false) ∙ sym (and_false (is_painted_in before r)))
+
+redefined_is : {registers : ℕ} (n : DrawingState) (before : List Event) (e : Event) → IsStateAfter registers n before
+    → redefined_in n e ≡ breaks_redefined before e
+unfolding breaks_redefined
+redefined_is {registers} n before (Step (Define r k x y z)) s =
+    redefined_at n before r k x y z s (nat_lt r registers) refl
+redefined_is {registers} n before _ s = refl
+
+-- ---- the first of the ten
+
+pub least_rule : {registers : ℕ} (n : DrawingState) (before : List Event) (e : Event) (has_box : Bool)
+    → has_box ≡ is_some (raster_before before)
+    → IsStateAfter registers n before → IsLeastOf registers before e (rule_in n has_box e)
+unfolding Breaks breaks_raster_first breaks_raster_twice
+least_rule {registers} n before e has_box box s =
+    let first : raster_first_in has_box e ≡ breaks_raster_first before e = ap (λ (b : Bool). raster_first_in b e) box in
+    let twice : raster_twice_in has_box e ≡ breaks_raster_twice before e = ap (λ (b : Bool). raster_twice_in b e) box in
+    let long : length n.palette ≡ registers = ap length s.palette_is ∙ length_left registers before in
+    let unselected = unselected_is n before e s in
+    let undefined = undefined_is n before e s in
+    let redefined = redefined_is n before e s in
+    find _ before e RasterFirst _ (raster_first_in has_box e) _ first (λ h. h) (λ h. h) refl
+    (none_below_one _ before e) (λ n1.
+    find _ before e RasterTwice _ (raster_twice_in has_box e) _ twice (λ h. h) (λ h. h) refl n1 (λ n2.
+    find _ before e Ratio _ (breaks_ratio e) _ refl (λ h. h) (λ h. h) refl n2 (λ n3.
+    find _ before e BoxSize _ (breaks_box_size e) _ refl (λ h. h) (λ h. h) refl n3 (λ n4.
+    find _ before e Register _ (breaks_register (length n.palette) e) _
+    (ap (λ (m : ℕ). breaks_register m e) long) (λ h. h) (λ h. h) refl n4 (λ n5.
+    find _ before e ColourValue _ (breaks_colour_value e) _ refl (λ h. h) (λ h. h) refl n5 (λ n6.
+    find _ before e RepeatZero _ (breaks_repeat_zero e) _ refl (λ h. h) (λ h. h) refl n6 (λ n7.
+    find _ before e Unselected _ (unselected_in n e) _ unselected (λ h. h) (λ h. h) refl n7 (λ n8.
+    find _ before e Undefined _ (undefined_in n e) _ undefined (λ h. h) (λ h. h) refl n8 (λ n9.
+    find _ before e Redefined None (redefined_in n e) _ redefined (λ h. h) (λ h. h) refl n9 (λ n10. n10))))))))))

@@ -1,0 +1,11 @@
+pub mod Verdicts
+pub mod Judging
+pub mod Standing
+pub mod DrawingState
+pub mod Violations
+pub mod Outside
+pub mod Growth
+pub mod Stretches
+pub mod Portable
+pub mod Alarms
+pub mod Laws

@@ -1,0 +1,126 @@
+//! Judging events one by one.
+
+ghost use Rattle.std.specs.Prelude.{◌≡◌, ◌<◌, ◌≤◌, ◌++◌, ◌∷◌, [], ℕ, IsSome, IsTrue, List, None, OnOk, OnErr, false};
+ghost use Rattle.std.specs.Prelude.{length, slice_index, true};
+ghost use Rattle.sixel_grammar.specs.Bytes.{is_data};
+ghost use Rattle.sixel_judge.specs.Stretches.{IsStretchedIn};
+ghost use Rattle.std.specs.Option.{option_map};
+ghost use Rattle.sixel_grammar.specs.declared.command.Placed.{Placed as PlacedValue};
+ghost use Rattle.sixel_grammar.specs.Document.{AreWhole, events_of};
+ghost use Rattle.sixel_grammar.specs.Spelling.{IsSpellable};
+ghost use Rattle.sixel_model.specs.Profiles.{count_of};
+ghost use Rattle.sixel_judge.specs.Growth.{MayGrow};
+ghost use Rattle.sixel_judge.specs.Judging.{JudgesAfter};
+ghost use Rattle.sixel_judge.specs.Verdicts.{IsVerdict};
+
+use crate::drawing_state::DrawingState;
+use crate::pixels::{draw, picture_of, violation_of};
+use crate::stretch::try_take_stretch;
+use crate::verdict::{Finding, Verdict};
+use sixel_grammar::Placed;
+use sixel_model::Profile;
+use sixel_plane::Plane;
+use std::alloc::{AllocError, Global};
+
+/// The state after some events: the first broken rule, or, while none is broken, what the rules need to know of them.
+#[derive(Drop)]
+pub(crate) struct Judge<P: Plane> {
+    pub finding: Option<Finding>,
+    pub state: DrawingState,
+    /// The pixels of the box, from the first raster attributes on.
+    pub plane: Option<P>,
+}
+
+impl<P: Plane> Judge<P> {
+    /// The state before any event.
+    pub(crate) fn new(profile: Profile) -> Judge<P>
+        ensures { JudgesAfter (count_of profile) result.finding result.state (option_map P.grid result.plane) [] }
+    {
+        Judge {
+            finding: None,
+            state: DrawingState::new(profile),
+            plane: None,
+        }
+    }
+
+    /// Judges the next event. Only the plane is allocated; if that fails, nothing has changed.
+    ///
+    /// Its callees are inlined too: a caller that knows the kind of the event keeps only the code for that kind.
+    #[inline(always)]
+    pub(crate) fn step(&mut self, alloc: Global, placed: &Placed) -> Result<(), AllocError>
+        requires stands { (registers : ℕ) × (seen : List PlacedValue)
+            × JudgesAfter registers self.old.finding self.old.state (option_map P.grid self.old.plane) seen }
+        requires spellable { IsSpellable placed.now.event }
+        ensures ok { OnOk result ((registers : ℕ) (seen : List PlacedValue)
+            → JudgesAfter registers self.old.finding self.old.state (option_map P.grid self.old.plane) seen
+            → JudgesAfter registers self.new.finding self.new.state (option_map P.grid self.new.plane)
+            (seen ++ placed.now ∷ [])) }
+        ensures err { OnErr result (self.new ≡ self.old) }
+        ensures grows { OnErr result ((registers : ℕ) (seen : List PlacedValue)
+            → JudgesAfter registers self.old.finding self.old.state (option_map P.grid self.old.plane) seen
+            → MayGrow registers (events_of seen) placed.now.event) }
+    {
+        if self.finding.is_some() {
+            return Ok(());
+        }
+        match violation_of(&self.state, &self.plane, &placed.event) {
+            Some(violation) => {
+                self.finding = Some(Finding {
+                    rule: violation.rule,
+                    place: placed.place,
+                    pixel: violation.pixel,
+                });
+            }
+            None => {
+                draw(alloc, &self.state, &mut self.plane, &placed.event)?;
+                self.state.take(&placed.event);
+            }
+        }
+        Ok(())
+    }
+
+    /// Judges the first `count` bytes of `bytes`, all of them data, in one step. Returns whether it did: after a broken
+    /// rule always; else if there is a plane, and the sixels are blank or can be painted on it in one step. If not,
+    /// nothing has changed.
+    #[inline(always)]
+    pub(crate) fn try_take_stretch(&mut self, bytes: &[u8], count: usize) -> bool
+        requires stands { (registers : ℕ) × (seen : List PlacedValue)
+            × JudgesAfter registers self.old.finding self.old.state (option_map P.grid self.old.plane) seen }
+        requires sixels { (k : ℕ) → k < count → IsTrue (is_data (slice_index bytes.now k)) }
+        requires bytes { count ≤ length bytes.now }
+        ensures finding { self.new.finding ≡ self.old.finding }
+        ensures broken { IsSome self.old.finding → self.new ≡ self.old }
+        ensures taken { result ≡ true → self.old.finding ≡ None → IsStretchedIn bytes.now count
+            self.old.state (option_map P.grid self.old.plane) self.new.state (option_map P.grid self.new.plane) }
+        ensures kept { result ≡ false → self.new ≡ self.old }
+    {
+        if self.finding.is_some() {
+            return true;
+        }
+        match &mut self.plane {
+            Some(plane) => try_take_stretch(&mut self.state, plane, bytes, count),
+            None => false,
+        }
+    }
+
+    /// The verdict on a whole list.
+    pub(crate) fn verdict(self) -> Verdict
+        requires { (registers : ℕ) × (seen : List PlacedValue)
+            × JudgesAfter registers self.finding self.state (option_map P.grid self.plane) seen
+            × AreWhole (events_of seen) }
+        ensures { (registers : ℕ) (seen : List PlacedValue)
+            → JudgesAfter registers self.finding self.state (option_map P.grid self.plane) seen
+            → IsVerdict registers seen result }
+    {
+        let Judge {
+            finding,
+            state,
+            plane,
+        } = self;
+        match (finding, plane) {
+            (Some(finding), _) => Verdict::Broken(finding),
+            (None, Some(plane)) => Verdict::Portable(picture_of(state, plane)),
+            (None, None) => unreachable!(),
+        }
+    }
+}

@@ -1,0 +1,23 @@
+//! The rules of a portable picture, and verdicts on lists of events.
+//!
+//! The rules are this project's own, over the commands of DEC EK-VT3XX-GP, volume 2, the chapter on sixel graphics.
+#![tactic(auto)]
+
+mod checker;
+mod colours;
+mod drawing_state;
+pub mod events;
+mod judge;
+pub mod laws;
+pub mod outside;
+mod pixels;
+mod progress;
+mod rule;
+pub mod rules;
+mod stretch;
+mod verdict;
+mod violation;
+
+pub use checker::Checker;
+pub use rule::Rule;
+pub use verdict::{Finding, Verdict};
