@@ -17,7 +17,8 @@ use Rattle.clap.proofs.WalkLemmas.{find_row}
 use Rattle.clap.specs.declared.parser.matches.SubCommand.{SubCommand}
 use Rattle.clap.specs.declared.parser.matches.ArgMatches.TheViews.{out-SubCommand}
 use Rattle.sixel_run.specs.declared.task.Task.{Task}
-use Rattle.sixel_run.specs.declared.task.Task.TheVariants.{List as Listing, Check, Render, Show, ShowBox, Encode}
+use Rattle.sixel_run.specs.declared.task.Task.TheVariants.{List as Listing, Check, Survey, Render, Show, ShowBox, Mend}
+use Rattle.sixel_run.specs.declared.task.Task.TheVariants.{Encode}
 use Rattle.sixel_words.specs.declared.request.Request.{Request}
 use Rattle.sixel_words.specs.Words.{HasSide, IsSideText, IsTask, files_of, is_given, is_named, is_of_words}
 
@@ -104,6 +105,12 @@ not_render is = let first : 115 ≡ 114 = ap (λ (t : Text). slice_index t 0) is
 not_encode : codes "show" ≡ codes "encode" → ⊥
 not_encode is = let first : 115 ≡ 101 = ap (λ (t : Text). slice_index t 0) is in omega (arith, first)
 
+not_survey : codes "show" ≡ codes "survey" → ⊥
+not_survey is = let second : 104 ≡ 117 = ap (λ (t : Text). slice_index t 1) is in omega (arith, second)
+
+not_mend : codes "show" ≡ codes "mend" → ⊥
+not_mend is = let first : 115 ≡ 109 = ap (λ (t : Text). slice_index t 0) is in omega (arith, first)
+
 -- without `--box`, and without one of the sides
 pub without_side : (rows : List Row) (t : Task) → is_given (codes "box") rows ≡ false
     → ((n : ℕ) → HasSide (codes "width") rows n → ⊥) ⊎ ((n : ℕ) → HasSide (codes "height") rows n → ⊥)
@@ -112,6 +119,8 @@ without_side rows Listing plain none is = not_list is
 without_side rows (Check profile) plain none is = not_check is.0
 without_side rows (Render profile) plain none is = not_render is.0
 without_side rows (Encode profile) plain none is = not_encode is.0
+without_side rows (Survey profile) plain none is = not_survey is.0
+without_side rows (Mend profile background showing selects) plain none is = not_mend is.0
 without_side rows (Show profile showing fill selects width height) plain (inl none) is = none width is.6
 without_side rows (Show profile showing fill selects width height) plain (inr none) is = none height is.7
 without_side rows (ShowBox profile showing fill selects) plain none is = not_both _ is.5 plain
@@ -123,6 +132,8 @@ box_beside rows Listing boxed side is = not_list is
 box_beside rows (Check profile) boxed side is = not_check is.0
 box_beside rows (Render profile) boxed side is = not_render is.0
 box_beside rows (Encode profile) boxed side is = not_encode is.0
+box_beside rows (Survey profile) boxed side is = not_survey is.0
+box_beside rows (Mend profile background showing selects) boxed side is = not_mend is.0
 box_beside rows (Show profile showing fill selects width height) boxed side is = not_both _ boxed is.5
 box_beside rows (ShowBox profile showing fill selects) boxed (inl named) is = not_both _ named is.6
 box_beside rows (ShowBox profile showing fill selects) boxed (inr named) is = not_both _ named is.7

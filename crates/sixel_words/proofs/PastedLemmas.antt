@@ -409,6 +409,14 @@ fault_pasted first fault.NotRgb said are =
     (λ x. no_ending x (codes " notrgb") (omega arith) refl refl refl refl refl) are
 fault_pasted first fault.NoBox said are =
     name_last first topic.NoBox said (λ x. no_ending x (codes " nobox") (omega arith) refl refl refl refl refl) are
+fault_pasted first fault.Empty said are =
+    name_last first topic.Empty said (λ x. no_ending x (codes " empty") (omega arith) refl refl refl refl refl) are
+fault_pasted first fault.TooLarge said are =
+    name_last first topic.TooLarge said
+    (λ x. no_ending x (codes " toolarge") (omega arith) refl refl refl refl refl) are
+fault_pasted first fault.TooManyColours said are =
+    name_last first (topic.Ppm ppm.TooManyColours) said
+    (λ x. no_ending x (codes " toomanycolours") (omega arith) refl refl refl refl refl) are
 fault_pasted first fault.OutOfMemory said are =
     ending_pasted first (codes "out of memory") topic.OutOfMemory said out_of_memory are
 fault_pasted first fault.Read said are = ending_pasted first (codes "read failed") topic.Read said read_failed are
