@@ -3,6 +3,7 @@ pub mod PeekedLemmas
 pub mod PutLemmas
 pub mod EndLemmas
 pub mod FilesLemmas
+pub mod FindingLemmas
 pub mod RequestLemmas
 pub mod SeveralLemmas
 pub mod StatusLemmas

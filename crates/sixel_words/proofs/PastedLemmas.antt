@@ -20,6 +20,7 @@ use Rattle.std.proofs.lemmas.Slice.Eq.{ends_is}
 use Rattle.sixel_check.specs.declared.rule.Rule.{Rule as ARule}
 use Rattle.sixel_check.specs.declared.rule.Rule.TheVariants as rule
 use Rattle.sixel_check.specs.declared.verdict.Finding.{Finding}
+use Rattle.sixel_ppm.specs.declared.ppm.PpmReason.TheVariants as ppm
 use Rattle.sixel_run.specs.declared.fault.RunFault.{RunFault}
 use Rattle.sixel_run.specs.declared.fault.RunFault.TheVariants as fault
 use Rattle.sixel_run.specs.Texts.{Text, fault_parts, finding_line, line, pixel_parts, rule_name, spaced}
@@ -100,7 +101,7 @@ named_alone t =
 
 -- ---- numbers
 
-abbrev AreDigits : Text → Type 0
+abbrev pub AreDigits : Text → Type 0
 AreDigits [] = Unit {0}
 AreDigits (d ∷ ds) = ((48 ≤ d) × (d ≤ 57)) × AreDigits ds
 
@@ -150,6 +151,9 @@ number n = some_digits 63 n
 
 all_digits : (text : Text) → IsNumber text → AreDigits text
 all_digits text n = subst AreDigits (sym n.is) (more_digits n.front (n.last ∷ []) n.digits (n.digit, tt))
+
+pub number_digits : (n : ℕ) → AreDigits (decimal n)
+number_digits n = all_digits (decimal n) (number n)
 
 digits_are_low : (ds : Text) → AreDigits ds → low ds ≡ ds
 digits_are_low [] are = refl
@@ -397,6 +401,29 @@ write_failed x =
       at_end x t t (omega arith),
     ) refl
 
+-- the last letter of these two names is that of an ending too
+empty_unended : (x : Text) → topic_of_end (x ++ codes " empty") ≡ None
+empty_unended x =
+    let t = codes " empty" in
+    no_topic (x ++ t) (not_at_end x t _ (codes " out of memo") (codes "ry") refl (omega arith) refl)
+    (not_at_end x t _ (codes " read faile") (codes "d") refl (omega arith) refl)
+    (not_at_end x t _ (codes " no such fil") (codes "e") refl (omega arith) refl)
+    (not_at_end x t _ (codes " permission denie") (codes "d") refl (omega arith) refl)
+    (not_at_end x t _ (codes " is a folde") (codes "r") refl (omega arith) refl)
+    (not_at_end x t _ (codes " name is not valid utf") (codes "-8") refl (omega arith) refl)
+    (not_at_end x t _ (codes " write faile") (codes "d") refl (omega arith) refl)
+
+too_large_unended : (x : Text) → topic_of_end (x ++ codes " toolarge") ≡ None
+too_large_unended x =
+    let t = codes " toolarge" in
+    no_topic (x ++ t) (not_at_end x t _ (codes " out of memor") (codes "y") refl (omega arith) refl)
+    (not_at_end x t _ (codes " read faile") (codes "d") refl (omega arith) refl)
+    (not_at_end x t _ (codes " no such fi") (codes "le") refl (omega arith) refl)
+    (not_at_end x t _ (codes " permission denie") (codes "d") refl (omega arith) refl)
+    (not_at_end x t _ (codes " is a folde") (codes "r") refl (omega arith) refl)
+    (not_at_end x t _ (codes " name is not valid utf") (codes "-8") refl (omega arith) refl)
+    (not_at_end x t _ (codes " write faile") (codes "d") refl (omega arith) refl)
+
 -- ---- what the program writes
 
 -- the line of a fault, whatever it begins with
@@ -409,11 +436,8 @@ fault_pasted first fault.NotRgb said are =
     (λ x. no_ending x (codes " notrgb") (omega arith) refl refl refl refl refl) are
 fault_pasted first fault.NoBox said are =
     name_last first topic.NoBox said (λ x. no_ending x (codes " nobox") (omega arith) refl refl refl refl refl) are
-fault_pasted first fault.Empty said are =
-    name_last first topic.Empty said (λ x. no_ending x (codes " empty") (omega arith) refl refl refl refl refl) are
-fault_pasted first fault.TooLarge said are =
-    name_last first topic.TooLarge said
-    (λ x. no_ending x (codes " toolarge") (omega arith) refl refl refl refl refl) are
+fault_pasted first fault.Empty said are = name_last first topic.Empty said empty_unended are
+fault_pasted first fault.TooLarge said are = name_last first topic.TooLarge said too_large_unended are
 fault_pasted first fault.TooManyColours said are =
     name_last first (topic.Ppm ppm.TooManyColours) said
     (λ x. no_ending x (codes " toomanycolours") (omega arith) refl refl refl refl refl) are

@@ -33,6 +33,9 @@ refused (Some name) (fault.Grammar f) said are = fault_pasted (begun name) (faul
 refused (Some name) (fault.Ppm reason place) said are = fault_pasted (begun name) (fault.Ppm reason place) said are
 refused (Some name) fault.NotRgb said are = fault_pasted (begun name) fault.NotRgb said are
 refused (Some name) fault.NoBox said are = fault_pasted (begun name) fault.NoBox said are
+refused (Some name) fault.Empty said are = fault_pasted (begun name) fault.Empty said are
+refused (Some name) fault.TooLarge said are = fault_pasted (begun name) fault.TooLarge said are
+refused (Some name) fault.TooManyColours said are = fault_pasted (begun name) fault.TooManyColours said are
 refused (Some name) fault.OutOfMemory said are = fault_pasted (begun name) fault.OutOfMemory said are
 refused (Some name) fault.Read said are = fault_pasted (begun name) fault.Read said are
 
