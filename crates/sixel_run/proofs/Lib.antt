@@ -4,6 +4,8 @@ pub mod OutputLemmas
 pub mod CheckLemmas
 pub mod PictureLemmas
 pub mod FileLemmas
+pub mod MendLemmas
+pub mod SurveyLemmas
 pub mod ScreenLemmas
 pub mod DrawLemmas
 pub mod StageLemmas

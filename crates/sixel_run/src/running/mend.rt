@@ -33,7 +33,7 @@ pub fn mend<S: Source, K: Sink>(
     ensures writes { CountsWrites result (K.state output.old).failures (K.state output.new).failures }
 {
     let bytes = read_document(alloc, input)?;
-    let picture = sixel_mend::mend(alloc, profile, mending, bytes.as_slice())?;
+    let picture = sixel_mend::mend(alloc, profile, mending, &bytes)?;
     match sixel_encode::encode(&picture, output) {
         Ok(()) => Ok(Status::Done),
         Err(_) => Err(RunFault::Write),

@@ -38,9 +38,9 @@ pub fn survey<S: Source, K: Sink>(
     ensures reads { (S.state input.new).failures ≡ failures_by Read result (S.state input.old).failures }
     ensures writes { CountsWrites result (K.state output.old).failures (K.state output.new).failures }
 {
-    let Surveyed { survey, status } = survey_of(alloc, profile, input)?;
-    match write_survey(&survey, output) {
-        Ok(()) => Ok(status),
+    let surveyed = survey_of(alloc, profile, input)?;
+    match write_survey(&surveyed.survey, output) {
+        Ok(()) => Ok(surveyed.status),
         Err(_) => Err(RunFault::Write),
     }
 }
