@@ -293,15 +293,15 @@ fn mend_task(matches: &ArgMatches<'_>) -> Option<Task>
     ensures sides { IfSome result HasSides }
     ensures none { IsNone result → (t : ATask) → IsTask (codes "mend") (rows_of (found_of matches.now)) t → ⊥ }
 {
-    match colour_in(matches, "background") {
-        Some(background) => Some(Task::Mend {
-            profile: profile_of(matches),
-            background,
-            showing: flag_of(matches, "showing"),
-            selects: flag_of(matches, "define-selects"),
-        }),
-        None => None,
-    }
+    let background = colour_in(matches, "background")?;
+    let showing = flag_of(matches, "showing");
+    let selects = flag_of(matches, "define-selects");
+    Some(Task::Mend {
+        profile: profile_of(matches),
+        background,
+        showing,
+        selects,
+    })
 }
 
 /// The profile that the options select.
