@@ -19,7 +19,8 @@ ghost use Rattle.sixel_program.specs.Findings.{task_of};
 ghost use Rattle.sixel_program.specs.declared.findings.FilesTask.{FilesTask};
 ghost use Rattle.sixel_program.specs.Names.{is_control, printed, unopened_line};
 ghost use Rattle.sixel_run.specs.Outputs.{Gives};
-ghost use Rattle.sixel_run.specs.Texts.{Text, finding_line, rule_name};
+ghost use Rattle.sixel_run.specs.Texts.{Text, entry_line, finding_line, rule_name};
+ghost use Rattle.sixel_survey.specs.declared.entry.Entry.{Entry};
 
 /// The output of a check or a survey of several files is their lines joined. Each line begins with the file's name, and
 /// without it they are the lines that the task writes over only this file's bytes. A refused file has no line, and a
@@ -54,10 +55,13 @@ pub fn names_are_printed_without_controls()
 {}
 
 /// Each line that the program writes about a broken rule, a fault or a file that can't be opened asks for its topic, if
-/// it is pasted after `explain`. This holds for lines with a file's name and for those without one.
+/// it is pasted after `explain`. This holds for the lines of `check` and of `survey`, and for lines with a file's name
+/// and those without one.
 pub fn each_line_can_be_explained()
     ensures broken { (name : Option Text) (finding : Finding) (said : List Text) →
         ArePasted said (labelled name (finding_line finding)) → Asks (Some said) (Some (rule_name finding.rule)) }
+    ensures surveyed { (name : Option Text) (entry : Entry) (said : List Text) →
+        ArePasted said (labelled name (entry_line entry)) → Asks (Some said) (Some (rule_name entry.rule)) }
     ensures refused { (name : Option Text) (fault : RunFault) (said : List Text) →
         ArePasted said (fault_said name fault) → Asks (Some said) (Some (topic_name (topic_of fault))) }
     ensures unopened { (name : Text) (reason : Unopened) (said : List Text) →
