@@ -6,6 +6,7 @@ pub mod PictureLemmas
 pub mod FileLemmas
 pub mod MendLemmas
 pub mod SurveyLemmas
+pub mod SurveyLineLemmas
 pub mod ScreenLemmas
 pub mod DrawLemmas
 pub mod StageLemmas

@@ -83,11 +83,10 @@ first_push entries e (Some b) true h f = first_new entries e b f h
 first_push entries e (Some b) false h f = first_stays entries e b f h
 
 -- the first of one more entry
-pub first_more : (entries : List Entry) (k j : ℕ) (e : Entry) (o : Option Entry) (b : Bool) → k < length entries
-    → j ≡ k + 1 → e ≡ get_or entries k e → option_map_or (comes_before e) o true ≡ b → IsFirstOf (take k entries) o
-    → IsFirstOf (take j entries) (if b then Some e else o)
-first_more entries k j e o b lt next is h f =
-    subst (λ (l : List Entry). IsFirstOf l (if b then Some e else o))
-    (sym (ap (λ (n : ℕ). take n entries) next ∙ take_more entries k e lt
-    ∙ ap (λ (d : Entry). take k entries ++ d ∷ []) (sym is)))
-    (first_push (take k entries) e o b h f)
+pub first_more : (entries : List Entry) (k j : ℕ) (d : Entry) (o : Option Entry) (b : Bool) → k < length entries
+    → j ≡ k + 1 → option_map_or (comes_before (get_or entries k d)) o true ≡ b → IsFirstOf (take k entries) o
+    → IsFirstOf (take j entries) (if b then Some (get_or entries k d) else o)
+first_more entries k j d o b lt next h f =
+    subst (λ (l : List Entry). IsFirstOf l (if b then Some (get_or entries k d) else o))
+    (sym (ap (λ (n : ℕ). take n entries) next ∙ take_more entries k d lt))
+    (first_push (take k entries) (get_or entries k d) o b h f)
