@@ -1,6 +1,6 @@
 -- What is found in an input is lines.
-use Rattle.std.proofs.Common.{◌≡◌, ◌++◌, ◌∷◌, ◌≤◌, ◌∙◌, ℕ, true, false, Bool, List, [], Option, Some, None, append-nil, append_assoc}
-use Rattle.std.proofs.Common.{ap, arith, codes, map, ne_eqb, refl, sym}
+use Rattle.std.proofs.Common.{◌≡◌, ◌++◌, ◌∷◌, ◌≤◌, ℕ, true, false, Bool, List, [], Option, Some, None, append_assoc}
+use Rattle.std.proofs.Common.{arith, codes, map, ne_eqb, refl, sym}
 use Rattle.std.specs.Prelude.{Result, Ok, Err, decimal, nat_eq, not}
 use Rattle.std.specs.List.{All, list_all}
 use Rattle.std.specs.Option.{option_to_list}

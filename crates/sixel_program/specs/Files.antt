@@ -339,8 +339,8 @@ pub record QuietEnds (profile : Profile) (exit : Exit) (input : Change SourceSta
   pub ends : exit ≡ exit_for_answer answer
   pub said : IsPut (complaint (Check profile) None answer ++ advice_for format answer) errors
 
--- how a request ended. Without names the task is over standard input. Otherwise a check or a survey is of all files that
--- are named, and any other task is over the first. A survey is never quiet
+-- how a request ended. Without names the task is over standard input. Otherwise a check or a survey is of all files
+-- that are named, and any other task is over the first. A survey is never quiet
 abbrev pub RequestEnds : {O : Type 0} → Task → Bool → Bool → List Text → FolderView O → Exit → Change SourceState
     → Change SinkState → Change SinkState → Type 0
 RequestEnds (Check profile) true is_shown [] folder exit input output errors =
