@@ -1,4 +1,4 @@
--- On checks of several files.
+-- On checks and surveys of several files.
 use Rattle.std.proofs.Common.{◌≡◌, ◌∙◌, ◌+◌, ◌<◌, ℕ, Bool, true, false, List, [], ◌∷◌, ◌++◌, length, take}
 use Rattle.std.proofs.Common.{drop, Option, Some, None, refl, sym, ap, ap₂, subst, arith, inl, inr, flat_map}
 use Rattle.std.proofs.Common.{fold, map}
@@ -33,12 +33,16 @@ use Rattle.sixel_program.specs.Exits.{IsPut, RunEnds, complaint, exit_for_answer
 use Rattle.sixel_program.specs.declared.formats.Format.{Format}
 use Rattle.sixel_program.specs.Formats.{IsFormat, advice_for, advice_on, format_of}
 use Rattle.sixel_program.specs.Files.{AreChecked, AreDone, ArePut, AreCut, FileEnd, IsChecked, IsFileEnd, IsFileOpening}
+use Rattle.sixel_program.specs.Files.{IsLine}
+use Rattle.sixel_program.specs.Findings.{task_of}
+use Rattle.sixel_program.specs.declared.findings.FilesTask.{FilesTask}
+use Rattle.sixel_program.specs.declared.findings.FilesTask.TheVariants as files
 use Rattle.sixel_program.specs.Files.{FileEnds, Tells, SaysOfCheck, is_dash, complaints_of}
 use Rattle.sixel_program.specs.Files.{SaysOfFile, exit_of_end, first_broken, failures_past, files_exit, files_text}
 use Rattle.sixel_program.specs.Files.{worst, left_after}
 use Rattle.sixel_program.specs.Files.{names_of, said_of, said_of_check, said_of_file}
 use Rattle.sixel_program.specs.Files.{text_of_end, told_of, worse}
-use Rattle.sixel_program.specs.Hints.{first_rule, hint, rule_of}
+use Rattle.sixel_program.specs.Hints.{first_rule, hint_of, rule_of}
 use Rattle.sixel_program.specs.Names.{named_fault_line, unopened_line}
 use Rattle.sixel_program.specs.Openings.{CountsOf, FailsWith, FolderView, IsOpening, bytes_of}
 use Rattle.sixel_program.specs.declared.folder.Unopened.{Unopened}
@@ -110,11 +114,11 @@ no_dash_last names name none =
 
 -- ---- one file more
 
-pub none_checked : (profile : Profile) (q : Bool) {O : Type 0} (folder : FolderView O) (i : SourceState)
+pub none_checked : (t : Task) (q : Bool) {O : Type 0} (folder : FolderView O) (i : SourceState)
     (o e : SinkState)
-    → AreChecked profile q folder [] [] exit.Done (change i i) (change o o) (change e e)
+    → AreChecked t q folder [] [] exit.Done (change i i) (change o o) (change e e)
 unfolding Tells
-none_checked profile q folder i o e = record {
+none_checked t q folder i o e = record {
   names_are = refl;
   each = λ i e short. let no : ⊥ = omega (arith, short) in absurd no;
   openings = λ i e short. let no : ⊥ = omega (arith, short) in absurd no;
@@ -186,12 +190,12 @@ first_rule_more answers last =
     ap (λ (rules : List Rule). slice_get rules 0) (filter_map-append rule_of answers (last ∷ []))
     ∙ first_of_both (filter_map rule_of answers) (rule_of last)
 
-module _ (profile : Profile) (q : Bool) {O : Type 0} (folder : FolderView O) (ends : List FileEnd) (names : List Text)
+module _ (t : Task) (q : Bool) {O : Type 0} (folder : FolderView O) (ends : List FileEnd) (names : List Text)
     (name : Text) (x : Exit) (i₀ i₁ i₂ : SourceState) (o₀ o₁ o₂ e₀ e₁ e₂ : SinkState)
-    (before : AreChecked profile q folder ends names x (change i₀ i₁) (change o₀ o₁) (change e₀ e₁)) where
+    (before : AreChecked t q folder ends names x (change i₀ i₁) (change o₀ o₁) (change e₀ e₁)) where
   pub checked_more : {E : Type 0} (y : Result Status RunFault)
-      → IsChecked {E = E} profile q folder name (Ok y) (change i₁ i₂) (change o₁ o₂) (change e₁ e₂)
-      → (all : List FileEnd) × AreChecked profile q folder all (names ++ name ∷ [])
+      → IsChecked {E = E} t q folder name (Ok y) (change i₁ i₂) (change o₁ o₂) (change e₁ e₂)
+      → (all : List FileEnd) × AreChecked t q folder all (names ++ name ∷ [])
       (worse x (exit_for_answer y)) (change i₀ i₂) (change o₀ o₂) (change e₀ e₂)
       × (first_broken all ≡ option_or (first_broken ends) (rule_of y))
   checked_more y one = (
@@ -199,7 +203,7 @@ module _ (profile : Profile) (q : Bool) {O : Type 0} (folder : FolderView O) (en
     record {
       names_are = ap₂ (λ (ns : List Text) (n : Text). ns ++ n ∷ []) before.names_are (sym one.name_is)
           ∙ sym (names_more ends one.e);
-      each = All-push (IsFileEnd profile) ends one.e before.each one.is_end;
+      each = All-push (IsFileEnd t) ends one.e before.each one.is_end;
       openings = All-push (IsFileOpening folder) ends one.e before.openings one.opening;
       tells = tells_more (bytes_of folder.opening) i₀.remaining i₁.remaining i₂.remaining ends one.e before.tells
           (rw one.name_is one.told) (rw one.name_is one.left);
@@ -218,9 +222,9 @@ module _ (profile : Profile) (q : Bool) {O : Type 0} (folder : FolderView O) (en
   )
 
   pub cut_after : {E : Type 0} (f : E) (all rest : List Text) (e₃ : SinkState) → all ≡ (names ++ name ∷ []) ++ rest
-      → IsChecked {E = E} profile q folder name (Err f) (change i₁ i₂) (change o₁ o₂) (change e₁ e₂)
+      → IsChecked {E = E} t q folder name (Err f) (change i₁ i₂) (change o₁ o₂) (change e₁ e₂)
       → IsPut (fault_line run.Write) (change e₂ e₃)
-      → AreCut profile q folder all exit.Refused (change i₀ i₂) (change o₀ o₂) (change e₀ e₃)
+      → AreCut t q folder all exit.Refused (change i₀ i₂) (change o₀ o₂) (change e₀ e₃)
   cut_after f all rest e₃ is one put =
       let cut : (count : ℕ) × Appends o₁.taken o₂.taken (take count (text_of_end q one.e)) =
       rw one.name_is one.outcome.0 in
@@ -234,7 +238,7 @@ module _ (profile : Profile) (q : Bool) {O : Type 0} (folder : FolderView O) (en
         names_are = is ∙ ap (λ (ns : List Text). ns ++ rest)
             (ap₂ (λ (ns : List Text) (n : Text). ns ++ n ∷ []) before.names_are (sym one.name_is)
             ∙ sym (names_more ends one.e));
-        each = All-push (IsFileEnd profile) ends one.e before.each one.is_end;
+        each = All-push (IsFileEnd t) ends one.e before.each one.is_end;
         openings = All-push (IsFileOpening folder) ends one.e before.openings one.opening;
         tells = tells_more (bytes_of folder.opening) i₀.remaining i₁.remaining i₂.remaining ends one.e before.tells
             (rw one.name_is one.told) (rw one.name_is one.left);
@@ -260,10 +264,12 @@ no_format (Some bytes) = ([], (bytes, refl), refl)
 pub memory_kept : (t : Task) (told has : Option (List ℕ)) → Keeps told has → TakesMemory t has → TakesMemory t told
 memory_kept task.List told has same takes = absurd takes
 memory_kept (task.Check profile) told has same takes = kept _ told has same takes
+memory_kept (task.Survey profile) told has same takes = kept _ told has same takes
 memory_kept (task.Render profile) told has same takes = kept _ told has same takes
 memory_kept (task.Encode profile) told has same takes = kept _ told has same takes
 memory_kept (task.Show profile showing fill selects width height) told has same takes = tt
 memory_kept (task.ShowBox profile showing fill selects) told has same takes = tt
+memory_kept (task.Mend profile background showing selects) told has same takes = tt
 
 pub format_kept : (format : Option Format) (told has : Option (List ℕ)) → Keeps told has → IsFormat has format
     → IsFormat told format
@@ -321,28 +327,30 @@ fails_with folder answer file old new none counts failed = λ read.
     (file, failed (omega (arith, one)))
 
 -- a file that couldn't be opened
-pub unopened : (profile : Profile) (name : Text) (reason : Unopened) (told : Option (List ℕ))
-    → IsFileEnd profile (record {
+pub unopened : (f : FilesTask) (name : Text) (reason : Unopened) (told : Option (List ℕ))
+    → IsFileEnd (task_of f) (record {
       name = name;
       unopened = Some reason;
       told = told;
       left = told;
       format = None;
-      line = [];
+      lines = [];
       answer = Err run.Read;
     })
-unopened profile name reason told = record {
-  wrote = nothing told;
+unopened f name reason told = record {
+  wrote = nothing f told;
+  are_lines = All-nil IsLine;
   memory = λ is. cc;
   written = λ is. cc;
   reads = record { read = ([], Consumes-nil told); ended = tt };
   is_format = no_format told;
 }
   where
-    nothing : (told : Option (List ℕ))
-        → IfSome told (λ bytes. Wrote (task.Check profile) bytes told (Err run.Read) (Some []) (Some []))
-    nothing None = tt
-    nothing (Some bytes) = refl
+    nothing : (f : FilesTask) (told : Option (List ℕ))
+        → IfSome told (λ bytes. Wrote (task_of f) bytes told (Err run.Read) (Some []) (Some []))
+    nothing f None = tt
+    nothing (files.Check profile) (Some bytes) = refl
+    nothing (files.Survey profile) (Some bytes) = refl
 
 -- behind the name
 pub named_tail : (fault : RunFault)
@@ -351,11 +359,11 @@ named_tail fault = refl
 
 -- ---- when all files are checked
 
-module _ (profile : Profile) (q : Bool) {O : Type 0} (folder : FolderView O) (ends : List FileEnd) (names : List Text)
+module _ (t : Task) (q : Bool) {O : Type 0} (folder : FolderView O) (ends : List FileEnd) (names : List Text)
     (x : Exit) (i : Change SourceState) (o₀ o₁ o₂ e₀ e₁ : SinkState)
-    (before : AreChecked profile q folder ends names x i (change o₀ o₁) (change e₀ e₁)) where
+    (before : AreChecked t q folder ends names x i (change o₀ o₁) (change e₀ e₁)) where
   pub checked_flushed : Keeps o₁.taken o₂.taken → o₂.failures ≡ o₁.failures
-      → AreChecked profile q folder ends names x i (change o₀ o₂) (change e₀ e₁)
+      → AreChecked t q folder ends names x i (change o₀ o₂) (change e₀ e₁)
   checked_flushed kept same = record {
     names_are = before.names_are;
     each = before.each;
@@ -369,8 +377,8 @@ module _ (profile : Profile) (q : Bool) {O : Type 0} (folder : FolderView O) (en
   }
 
   pub done_hinted : (h : Bool) (e₂ : SinkState) → Keeps o₁.taken o₂.taken → o₂.failures ≡ o₁.failures
-      → (q ≡ false → o₂.is_flushed ≡ true) → IsPut (hint (not q && h) profile (first_broken ends)) (change e₁ e₂)
-      → AreDone profile q h folder names x i (change o₀ o₂) (change e₀ e₂)
+      → (q ≡ false → o₂.is_flushed ≡ true) → IsPut (hint_of (not q && h) t (first_broken ends)) (change e₁ e₂)
+      → AreDone t q h folder names x i (change o₀ o₂) (change e₀ e₂)
   done_hinted h e₂ kept same flushed put = record {
     ends = ends;
     between = e₁;
@@ -381,7 +389,7 @@ module _ (profile : Profile) (q : Bool) {O : Type 0} (folder : FolderView O) (en
 
   pub cut_at_flush : (e₂ : SinkState) → q ≡ false → Keeps o₁.taken o₂.taken → o₂.failures ≡ one_more o₁.failures
       → IsPut (fault_line run.Write) (change e₁ e₂)
-      → AreCut profile q folder names exit.Refused i (change o₀ o₂) (change e₀ e₂)
+      → AreCut t q folder names exit.Refused i (change o₀ o₂) (change e₀ e₂)
   cut_at_flush e₂ wanted kept failed put =
       let none : ends ++ [] ≡ ends = append-nil ends in
       record {

@@ -3,6 +3,8 @@ pub mod PeekedLemmas
 pub mod PutLemmas
 pub mod EndLemmas
 pub mod FilesLemmas
+pub mod FindingLemmas
+pub mod EntryLemmas
 pub mod RequestLemmas
 pub mod SeveralLemmas
 pub mod StatusLemmas

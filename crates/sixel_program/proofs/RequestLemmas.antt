@@ -4,7 +4,6 @@ use Rattle.std.proofs.Common.{codes, Option, Some, None, refl, sym, subst, inl, 
 use Rattle.std.proofs.Common.{fold, map}
 use Rattle.std.specs.Prelude.{◌≢◌, ◌⊎◌, Result, Ok, Err, IfSome, if◌then◌else◌}
 use Rattle.sixel_io.specs.Devices.{Change, SinkState, SourceState}
-use Rattle.sixel_model.specs.declared.profile.Profile.{Profile}
 use Rattle.sixel_program.specs.declared.exit.Exit.{Exit}
 use Rattle.sixel_program.specs.declared.exit.Exit.TheVariants as exit
 use Rattle.sixel_run.specs.declared.fault.RunFault.{RunFault}
@@ -20,7 +19,10 @@ use Rattle.sixel_program.specs.Files.{FileEnds, FilesEnd, RequestEnds}
 use Rattle.sixel_program.specs.Files.{exit_of_end}
 use Rattle.sixel_program.specs.Files.{names_read}
 use Rattle.sixel_program.specs.Files.{told_of, worse}
+use Rattle.sixel_program.specs.Findings.{task_of}
 use Rattle.sixel_program.specs.Openings.{FolderView, bytes_of}
+use Rattle.sixel_program.specs.declared.findings.FilesTask.{FilesTask}
+use Rattle.sixel_program.specs.declared.findings.FilesTask.TheVariants as files
 use Rattle.sixel_run.specs.Outputs.{Wrote}
 use Rattle.sixel_run.specs.Texts.{Text}
 
@@ -49,13 +51,13 @@ file_run folder t h name x i o e ended =
 
 module _ {O : Type 0} (folder : FolderView O) (x : Exit) (i : Change SourceState)
     (o e : Change SinkState) where
-  -- one input was read, or files were checked
+  -- one input was read, or files were checked or surveyed
   abbrev pub HasRead : Task → Bool → Bool → List Text → Type 0
   HasRead t q h names =
       ((name : Text) × (names_read t names ≡ name ∷ [])
       × IsRunOver t x (told_of (bytes_of folder.opening) i.old.remaining name))
-      ⊎ ((profile : Profile) × (t ≡ Check profile) × (names_read t names ≡ names)
-      × FilesEnd profile q h folder names x i o e)
+      ⊎ ((f : FilesTask) × (r : Bool) × (t ≡ task_of f) × (names_read t names ≡ names)
+      × FilesEnd (task_of f) r h folder names x i o e)
 
   pub request_read : (t : Task) (q h : Bool) (names : List Text)
       → RequestEnds t q h names folder x i o e → HasRead t q h names
@@ -76,7 +78,11 @@ module _ {O : Type 0} (folder : FolderView O) (x : Exit) (i : Change SourceState
       )
   request_read (task.Check profile) false h [] ended =
       inl (codes "-", refl, run_ends (Check profile) h None x i o e ended)
-  request_read (task.Check profile) q h (name ∷ more) ended = inr (profile, refl, refl, ended)
+  request_read (task.Check profile) q h (name ∷ more) ended = inr (files.Check profile, q, refl, refl, ended)
+  request_read (task.Survey profile) q h [] ended =
+      inl (codes "-", refl, run_ends (task.Survey profile) h None x i o e ended)
+  request_read (task.Survey profile) q h (name ∷ more) ended =
+      inr (files.Survey profile, false, refl, refl, ended)
   request_read task.List q h [] ended =
       inl (codes "-", refl, run_ends task.List h None x i o e ended)
   request_read task.List q h (name ∷ more) ended =
@@ -102,6 +108,10 @@ module _ {O : Type 0} (folder : FolderView O) (x : Exit) (i : Change SourceState
       inl (codes "-", refl, run_ends (task.ShowBox profile showing fill selects) h None x i o e ended)
   request_read (task.ShowBox profile showing fill selects) q h (name ∷ more) ended =
       inl (name, refl, file_run folder (task.ShowBox profile showing fill selects) h name x i o e ended)
+  request_read (task.Mend profile background showing selects) q h [] ended =
+      inl (codes "-", refl, run_ends (task.Mend profile background showing selects) h None x i o e ended)
+  request_read (task.Mend profile background showing selects) q h (name ∷ more) ended =
+      inl (name, refl, file_run folder (task.Mend profile background showing selects) h name x i o e ended)
 
 answer_no_usage : (a : Result Status RunFault) → exit_for_answer a ≢ exit.Usage
 answer_no_usage (Ok status.Done) = λ (is : exit.Done ≡ exit.Usage). cc
@@ -118,11 +128,11 @@ greatest_no_usage x [] other = other
 greatest_no_usage x (e ∷ ends) other =
     greatest_no_usage (worse x (exit_of_end e)) ends (one_of_two _ x (exit_of_end e) other (answer_no_usage e.answer))
 
-files_no_usage : (profile : Profile) (q h : Bool) {O : Type 0} (folder : FolderView O) (names : List Text) (x : Exit)
-    (i : Change SourceState) (o e : Change SinkState) → FilesEnd profile q h folder names x i o e → x ≢ exit.Usage
-files_no_usage profile q h folder names x i o e (inl done) is =
+files_no_usage : (t : Task) (q h : Bool) {O : Type 0} (folder : FolderView O) (names : List Text) (x : Exit)
+    (i : Change SourceState) (o e : Change SinkState) → FilesEnd t q h folder names x i o e → x ≢ exit.Usage
+files_no_usage t q h folder names x i o e (inl done) is =
     greatest_no_usage exit.Done done.ends (λ (none : exit.Done ≡ exit.Usage). cc) (sym done.checked.exits ∙ is)
-files_no_usage profile q h folder names x i o e (inr cut) is =
+files_no_usage t q h folder names x i o e (inr cut) is =
     let no : exit.Refused ≡ exit.Usage = sym cut.exits ∙ is in cc
 
 pub request_no_usage : (t : Task) (q h : Bool) (names : List Text) {O : Type 0} (folder : FolderView O)
@@ -131,5 +141,5 @@ pub request_no_usage : (t : Task) (q h : Bool) (names : List Text) {O : Type 0} 
 request_no_usage t q h names folder x i o e ended is =
     elim (request_read folder x i o e t q h names ended) [
       | inl one ↦ answer_no_usage one.2.0 (sym one.2.1 ∙ is)
-      | inr checked ↦ files_no_usage checked.0 q h folder names x i o e checked.3 is
+      | inr checked ↦ files_no_usage (task_of checked.0) checked.1 h folder names x i o e checked.4 is
     ]

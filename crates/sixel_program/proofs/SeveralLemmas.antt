@@ -10,17 +10,18 @@ use Rattle.sixel_io.specs.Devices.{Change, SinkState, change, one_more}
 use Rattle.sixel_io.proofs.SinkLemmas.{Appends-none}
 use Rattle.sixel_io.proofs.DeviceLemmas.{Appends-then}
 use Rattle.std.proofs.lemmas.List.Elements.{All-cons, All-nil}
-use Rattle.sixel_model.specs.declared.profile.Profile.{Profile}
 use Rattle.sixel_program.specs.declared.exit.Exit.{Exit}
 use Rattle.sixel_program.specs.declared.exit.Exit.TheVariants as exit
 use Rattle.sixel_grammar.specs.declared.fault.Fault.{Fault}
 use Rattle.sixel_run.specs.declared.fault.RunFault.{RunFault}
 use Rattle.sixel_run.specs.declared.fault.RunFault.TheVariants as run
 use Rattle.sixel_run.specs.declared.task.Status.{Status}
-use Rattle.sixel_run.specs.declared.task.Task.TheVariants.{Check}
 use Rattle.sixel_program.specs.Exits.{IsPut, exit_code}
 use Rattle.sixel_program.specs.Files.{ArePut, FileEnd, IsFileEnd, IsSaid, exit_of_end, file_text, files_exit}
 use Rattle.sixel_program.specs.Files.{files_text, worse}
+use Rattle.sixel_program.specs.Findings.{task_of}
+use Rattle.sixel_program.specs.declared.findings.FilesTask.{FilesTask}
+use Rattle.sixel_program.specs.declared.findings.FilesTask.TheVariants as files
 use Rattle.sixel_run.specs.Outputs.{Gives, Wrote}
 use Rattle.sixel_run.specs.Texts.{Text}
 
@@ -137,25 +138,30 @@ said_whole texts sink are =
 
 -- ---- the line of one
 
-silent : (name line : Text) (answer : Result Status RunFault) → file_text true name line answer ≡ []
-silent name line (Ok status) = refl
-silent name line (Err fault) = refl
+silent : (name : Text) (lines : List Text) (answer : Result Status RunFault) → file_text true name lines answer ≡ []
+silent name lines (Ok status) = refl
+silent name lines (Err fault) = refl
 
 pub quiet : (ends : List FileEnd) → files_text true ends ≡ []
 quiet [] = refl
-quiet (e ∷ ends) = ap₂ (λ (a b : Text). a ++ b) (silent e.name e.line e.answer) (quiet ends)
+quiet (e ∷ ends) = ap₂ (λ (a b : Text). a ++ b) (silent e.name e.lines e.answer) (quiet ends)
 
-pub faulty : (profile : Profile) (e : FileEnd) (bytes : List ℕ) (fault : Fault) → IsFileEnd profile e
+refuses : (f : FilesTask) (bytes text : Text) (fault : Fault) → Gives (task_of f) bytes text (Err (run.Grammar fault))
+    → Gives (task_of f) bytes [] (Err (run.Grammar fault))
+refuses (files.Check profile) bytes text fault gives = (refl, gives.1)
+refuses (files.Survey profile) bytes text fault gives = (refl, gives.1)
+
+pub faulty : (f : FilesTask) (e : FileEnd) (bytes : List ℕ) (fault : Fault) → IsFileEnd (task_of f) e
     → e.told ≡ Some bytes → e.answer ≡ Err (run.Grammar fault)
-    → Gives (Check profile) bytes [] (Err (run.Grammar fault))
-faulty profile e bytes fault is told answer =
-    let wrote : Wrote (Check profile) bytes e.left (Err (run.Grammar fault)) (Some []) (Some e.line) =
+    → Gives (task_of f) bytes [] (Err (run.Grammar fault))
+faulty f e bytes fault is told answer =
+    let wrote : Wrote (task_of f) bytes e.left (Err (run.Grammar fault)) (Some []) (Some (concat e.lines)) =
     rw (told, answer) at is.wrote in
-    (refl, wrote.1.1)
+    refuses f bytes wrote.0 fault wrote.1
 
-pub alone : (profile : Profile) (e : FileEnd) (bytes : List ℕ) (status : Status) → IsFileEnd profile e
-    → e.told ≡ Some bytes → e.answer ≡ Ok status → Gives (Check profile) bytes e.line (Ok status)
-alone profile e bytes status is told answer =
-    let wrote : Wrote (Check profile) bytes e.left (Ok status) (Some []) (Some e.line) = rw
+pub alone : (f : FilesTask) (e : FileEnd) (bytes : List ℕ) (status : Status) → IsFileEnd (task_of f) e
+    → e.told ≡ Some bytes → e.answer ≡ Ok status → Gives (task_of f) bytes (concat e.lines) (Ok status)
+alone f e bytes status is told answer =
+    let wrote : Wrote (task_of f) bytes e.left (Ok status) (Some []) (Some (concat e.lines)) = rw
     (told, answer) at is.wrote in
-    subst (λ (text : Text). Gives (Check profile) bytes text (Ok status)) (sym wrote.2) wrote.1
+    subst (λ (text : Text). Gives (task_of f) bytes text (Ok status)) (sym wrote.2) wrote.1

@@ -1,17 +1,16 @@
 -- What an exit status says of each file that was read.
 use Rattle.std.proofs.Common.{◌≡◌, ◌∙◌, ◌≤◌, ◌∷◌, ℕ, Bool, true, false, List, [], Option, Some, None, arith, inl, inr}
 use Rattle.std.proofs.Common.{map, refl, subst, suc, sym, zero}
+use Rattle.std.specs.List.{concat}
 use Rattle.std.specs.Prelude.{All, Contains, Err, IfSome, Ok, Result, if◌then◌else◌, slice_index_or}
 use Rattle.std.proofs.lemmas.List.Elements.{All-cons, All-head, All-nil, All-tail, All-weaker}
 use Rattle.sixel_io.specs.Devices.{Change, ReadsToEnd, SinkState, SourceState}
-use Rattle.sixel_model.specs.declared.profile.Profile.{Profile}
 use Rattle.sixel_program.specs.declared.exit.Exit.{Exit}
 use Rattle.sixel_program.specs.declared.exit.Exit.TheVariants as exit
 use Rattle.sixel_run.specs.declared.fault.RunFault.{RunFault}
 use Rattle.sixel_run.specs.declared.task.Status.{Status}
 use Rattle.sixel_run.specs.declared.task.Status.TheVariants as status
 use Rattle.sixel_run.specs.declared.task.Task.{Task}
-use Rattle.sixel_run.specs.declared.task.Task.TheVariants.{Check}
 use Rattle.sixel_program.specs.Exits.{exit_code, exit_for_answer}
 use Rattle.sixel_run.specs.Outputs.{Gives, Wrote}
 use Rattle.sixel_run.proofs.CheckLemmas.{nothing_unjudged}
@@ -20,8 +19,11 @@ use Rattle.sixel_program.specs.Files.{FileEnd, FilesEnd, IsBrokenOver, IsDoneOve
 use Rattle.sixel_program.specs.Files.{RequestEnds, Tells, exit_of_end, files_exit, is_dash}
 use Rattle.sixel_program.specs.Files.{left_after, names_of, names_read}
 use Rattle.sixel_program.specs.Files.{told_of}
+use Rattle.sixel_program.specs.Findings.{task_of}
 use Rattle.sixel_program.specs.Openings.{FolderView, bytes_of}
-use Rattle.sixel_run.specs.Texts.{Text}
+use Rattle.sixel_program.specs.declared.findings.FilesTask.{FilesTask}
+use Rattle.sixel_program.specs.declared.findings.FilesTask.TheVariants as files
+use Rattle.sixel_run.specs.Texts.{Text, verdict_line}
 use Rattle.sixel_program.proofs.EndLemmas.{broken_gives, done_gives}
 use Rattle.sixel_program.proofs.RequestLemmas.{request_read}
 use Rattle.sixel_program.proofs.SeveralLemmas.{contains_later, greatest_of, reached}
@@ -66,11 +68,11 @@ judged_gives t (Some bytes) left (Ok (status.Broken finding)) had has wrote belo
     (wrote.0, status.Broken finding, wrote.1)
 judged_gives t (Some bytes) left (Err fault) had has wrote below = absurd (omega (arith, below))
 
-module _ (profile : Profile) (ends : List FileEnd) (each : All (IsFileEnd profile) ends) where
-  each_done : files_exit ends ≡ exit.Done → All (λ e. IsDoneOver (Check profile) e.told) ends
+module _ (t : Task) (ends : List FileEnd) (each : All (IsFileEnd t) ends) where
+  each_done : files_exit ends ≡ exit.Done → All (λ e. IsDoneOver t e.told) ends
   each_done is = λ k d short.
       let e = slice_index_or ends k d in
-      done_gives (Check profile) e.told e.left e.answer (Some []) (Some e.line) (each k d short).wrote
+      done_gives t e.told e.left e.answer (Some []) (Some (concat e.lines)) (each k d short).wrote
       (least (exit_of_end e)
       (subst (λ (x : Exit). exit_code (exit_of_end e) ≤ exit_code x) is (greatest_of ends k d short)))
 
@@ -79,23 +81,31 @@ module _ (profile : Profile) (ends : List FileEnd) (each : All (IsFileEnd profil
       subst (λ (x : Exit). exit_code (exit_of_end (slice_index_or ends k d)) ≤ exit_code x) is
       (greatest_of ends k d short)
 
-  each_judged : files_exit ends ≡ exit.Broken → All (λ e. IsJudgedOver (Check profile) e.told) ends
+  each_judged : files_exit ends ≡ exit.Broken → All (λ e. IsJudgedOver t e.told) ends
   each_judged is = λ k d short.
       let e = slice_index_or ends k d in
-      judged_gives (Check profile) e.told e.left e.answer (Some []) (Some e.line) (each k d short).wrote
+      judged_gives t e.told e.left e.answer (Some []) (Some (concat e.lines)) (each k d short).wrote
       (each_below is k d short)
 
--- a check that gave a verdict has left nothing of its input, so there is no verdict on what it left
-rest_unbroken : (profile : Profile) (told left : Option (List ℕ)) (a : Result Status RunFault) → ReadsToEnd a told left
+-- no bytes are no document, so nothing is found in them
+unfound : (f : FilesTask) (text : Text) (s : Status) → Gives (task_of f) [] text (Ok s) → ⊥
+unfound (files.Check profile) text s gives = nothing_unjudged (count_of profile) text s gives
+unfound (files.Survey profile) text s gives =
+    let verdict = gives.3 in
+    nothing_unjudged (count_of profile) (verdict_line verdict.0) s
+    (gives.0, gives.1, (verdict.0, verdict.1, refl, verdict.2))
+
+-- a task that found something has left nothing of its input, so it finds nothing in what it left
+rest_unbroken : (f : FilesTask) (told left : Option (List ℕ)) (a : Result Status RunFault) → ReadsToEnd a told left
     → exit_code (exit_for_answer a) ≤ exit_code exit.Broken
-    → IsBrokenOver (Check profile) left → IsBrokenOver (Check profile) told
-rest_unbroken profile None left a reads below broken = tt
-rest_unbroken profile (Some bytes) None a reads below broken = absurd reads.read.1
-rest_unbroken profile (Some bytes) (Some rest) (Err fault) reads below broken = absurd (omega (arith, below))
-rest_unbroken profile (Some bytes) (Some rest) (Ok s) reads below broken =
+    → IsBrokenOver (task_of f) left → IsBrokenOver (task_of f) told
+rest_unbroken f None left a reads below broken = tt
+rest_unbroken f (Some bytes) None a reads below broken = absurd reads.read.1
+rest_unbroken f (Some bytes) (Some rest) (Err fault) reads below broken = absurd (omega (arith, below))
+rest_unbroken f (Some bytes) (Some rest) (Ok s) reads below broken =
     let none : rest ≡ [] = reads.ended in
-    absurd (nothing_unjudged (count_of profile) broken.0 (status.Broken broken.1)
-    (subst (λ (t : List ℕ). Gives (Check profile) t broken.0 (Ok (status.Broken broken.1))) none broken.2))
+    absurd (unfound f broken.0 (status.Broken broken.1)
+    (subst (λ (t : List ℕ). Gives (task_of f) t broken.0 (Ok (status.Broken broken.1))) none broken.2))
 
 -- what holds of a name when it is read after a file holds of it before that, if what holds of the rest of standard
 -- input holds of all of it
@@ -105,34 +115,34 @@ earlier_read P true true had left later back q = back refl q
 earlier_read P false true had left later back q = q
 earlier_read P a false had left later back q = q
 
-module _ (profile : Profile) (contents : Text → Option (List ℕ)) where
+module _ (f : FilesTask) (contents : Text → Option (List ℕ)) where
   told_broken : (had has : Option (List ℕ)) (ends : List FileEnd) → Tells contents had ends has
-      → All (IsFileEnd profile) ends → All (λ e. exit_code (exit_of_end e) ≤ exit_code exit.Broken) ends
+      → All (IsFileEnd (task_of f)) ends → All (λ e. exit_code (exit_of_end e) ≤ exit_code exit.Broken) ends
       → Contains (map exit_of_end ends) exit.Broken
-      → (name : Text) × Contains (names_of ends) name × IsBrokenOver (Check profile) (told_of contents had name)
+      → (name : Text) × Contains (names_of ends) name × IsBrokenOver (task_of f) (told_of contents had name)
   unfolding Tells
   told_broken had has [] tells each below (k, short, is) = absurd (omega (arith, short))
   told_broken had has (e ∷ rest) tells each below (zero, short, is) =
-      let end = All-head (IsFileEnd profile) e rest each in (
+      let end = All-head (IsFileEnd (task_of f)) e rest each in (
         e.name,
         (0, omega arith, refl),
-        subst (IsBrokenOver (Check profile)) tells.0
-            (broken_gives (Check profile) e.told e.left e.answer (Some []) (Some e.line) end.wrote is),
+        subst (IsBrokenOver (task_of f)) tells.0
+            (broken_gives (task_of f) e.told e.left e.answer (Some []) (Some (concat e.lines)) end.wrote is),
       )
   told_broken had has (e ∷ rest) tells each below (suc k, short, is) =
-      let end = All-head (IsFileEnd profile) e rest each in
+      let end = All-head (IsFileEnd (task_of f)) e rest each in
       let low = All-head (λ e. exit_code (exit_of_end e) ≤ exit_code exit.Broken) e rest below in
-      let back : is_dash e.name ≡ true → IsBrokenOver (Check profile) e.left → IsBrokenOver (Check profile) had =
+      let back : is_dash e.name ≡ true → IsBrokenOver (task_of f) e.left → IsBrokenOver (task_of f) had =
       λ dash broken.
       let same : e.told ≡ had = (rw dash at tells.0) in
-      subst (IsBrokenOver (Check profile)) same (rest_unbroken profile e.told e.left e.answer end.reads low broken) in
+      subst (IsBrokenOver (task_of f)) same (rest_unbroken f e.told e.left e.answer end.reads low broken) in
       let found = told_broken (left_after had e.name e.left) has rest tells.1
-      (All-tail (IsFileEnd profile) e rest each)
+      (All-tail (IsFileEnd (task_of f)) e rest each)
       (All-tail (λ e. exit_code (exit_of_end e) ≤ exit_code exit.Broken) e rest below)
       (k, omega (arith, short), is) in (
         found.0,
         contains_later e.name found.0 (names_of rest) found.1,
-        earlier_read (IsBrokenOver (Check profile)) (is_dash e.name) (is_dash found.0) had e.left (contents found.0)
+        earlier_read (IsBrokenOver (task_of f)) (is_dash e.name) (is_dash found.0) had e.left (contents found.0)
             back found.2,
       )
 
@@ -140,37 +150,37 @@ one_broken : (ends : List FileEnd) → files_exit ends ≡ exit.Broken → Conta
 one_broken [] is = let no : exit.Done ≡ exit.Broken = is in cc
 one_broken (e ∷ more) is = subst (Contains (map exit_of_end (e ∷ more))) is (reached e more)
 
-module _ (profile : Profile) (q h : Bool) {O : Type 0} (folder : FolderView O) (names : List Text) (x : Exit)
+module _ (f : FilesTask) (q h : Bool) {O : Type 0} (folder : FolderView O) (names : List Text) (x : Exit)
     (i : Change SourceState) (o e : Change SinkState) where
-  files_done : FilesEnd profile q h folder names x i o e → x ≡ exit.Done
-      → All (λ name. IsDoneOver (Check profile) (told_of (bytes_of folder.opening) i.old.remaining name)) names
+  files_done : FilesEnd (task_of f) q h folder names x i o e → x ≡ exit.Done
+      → All (λ name. IsDoneOver (task_of f) (told_of (bytes_of folder.opening) i.old.remaining name)) names
   files_done (inl done) is =
       let are = done.checked in
-      subst (All (λ name. IsDoneOver (Check profile) (told_of (bytes_of folder.opening) i.old.remaining name)))
+      subst (All (λ name. IsDoneOver (task_of f) (told_of (bytes_of folder.opening) i.old.remaining name)))
       (sym are.names_are)
-      (told_each (IsDoneOver (Check profile)) (bytes_of folder.opening) i.old.remaining i.new.remaining done.ends
-      are.tells (each_done profile done.ends are.each (sym are.exits ∙ is)))
+      (told_each (IsDoneOver (task_of f)) (bytes_of folder.opening) i.old.remaining i.new.remaining done.ends
+      are.tells (each_done (task_of f) done.ends are.each (sym are.exits ∙ is)))
   files_done (inr cut) is = let no : exit.Refused ≡ exit.Done = sym cut.exits ∙ is in cc
 
-  files_judged : FilesEnd profile q h folder names x i o e → x ≡ exit.Broken
-      → All (λ name. IsJudgedOver (Check profile) (told_of (bytes_of folder.opening) i.old.remaining name)) names
+  files_judged : FilesEnd (task_of f) q h folder names x i o e → x ≡ exit.Broken
+      → All (λ name. IsJudgedOver (task_of f) (told_of (bytes_of folder.opening) i.old.remaining name)) names
   files_judged (inl done) is =
       let are = done.checked in
-      subst (All (λ name. IsJudgedOver (Check profile) (told_of (bytes_of folder.opening) i.old.remaining name)))
+      subst (All (λ name. IsJudgedOver (task_of f) (told_of (bytes_of folder.opening) i.old.remaining name)))
       (sym are.names_are)
-      (told_each (IsJudgedOver (Check profile)) (bytes_of folder.opening) i.old.remaining i.new.remaining done.ends
-      are.tells (each_judged profile done.ends are.each (sym are.exits ∙ is)))
+      (told_each (IsJudgedOver (task_of f)) (bytes_of folder.opening) i.old.remaining i.new.remaining done.ends
+      are.tells (each_judged (task_of f) done.ends are.each (sym are.exits ∙ is)))
   files_judged (inr cut) is = let no : exit.Refused ≡ exit.Broken = sym cut.exits ∙ is in cc
 
-  files_broken : FilesEnd profile q h folder names x i o e → x ≡ exit.Broken
+  files_broken : FilesEnd (task_of f) q h folder names x i o e → x ≡ exit.Broken
       → (name : Text) × Contains names name
-      × IsBrokenOver (Check profile) (told_of (bytes_of folder.opening) i.old.remaining name)
+      × IsBrokenOver (task_of f) (told_of (bytes_of folder.opening) i.old.remaining name)
   files_broken (inl done) is =
       let are = done.checked in
       subst (λ (ns : List Text). (name : Text) × Contains ns name
-      × IsBrokenOver (Check profile) (told_of (bytes_of folder.opening) i.old.remaining name)) (sym are.names_are)
-      (told_broken profile (bytes_of folder.opening) i.old.remaining i.new.remaining done.ends are.tells are.each
-      (each_below profile done.ends are.each (sym are.exits ∙ is)) (one_broken done.ends (sym are.exits ∙ is)))
+      × IsBrokenOver (task_of f) (told_of (bytes_of folder.opening) i.old.remaining name)) (sym are.names_are)
+      (told_broken f (bytes_of folder.opening) i.old.remaining i.new.remaining done.ends are.tells are.each
+      (each_below (task_of f) done.ends are.each (sym are.exits ∙ is)) (one_broken done.ends (sym are.exits ∙ is)))
   files_broken (inr cut) is = let no : exit.Refused ≡ exit.Broken = sym cut.exits ∙ is in cc
 
 -- ---- what is asked for
@@ -192,7 +202,7 @@ module _ (t : Task) (q h : Bool) (names : List Text) {O : Type 0} (folder : Fold
         rw one.1 (all_of_one (IsDoneOver t) one.0
         (done_gives t _ run.0 one.2.0 run.1 run.2 run.3 (sym one.2.1 ∙ is)))
     | inr checked ↦
-        rw (checked.2, checked.1) (files_done checked.0 q h folder names x i o e checked.3 is)
+        rw (checked.3, checked.2) (files_done checked.0 checked.1 h folder names x i o e checked.4 is)
   ]
 
   pub all_read_judged : x ≡ exit.Broken
@@ -204,7 +214,7 @@ module _ (t : Task) (q h : Bool) (names : List Text) {O : Type 0} (folder : Fold
         rw one.1 (all_of_one (IsJudgedOver t) one.0
         (judged_gives t _ run.0 one.2.0 run.1 run.2 run.3 (rw ends (omega arith))))
     | inr checked ↦
-        rw (checked.2, checked.1) (files_judged checked.0 q h folder names x i o e checked.3 is)
+        rw (checked.3, checked.2) (files_judged checked.0 checked.1 h folder names x i o e checked.4 is)
   ]
 
   pub one_read_broken : x ≡ exit.Broken → (name : Text)
@@ -217,5 +227,5 @@ module _ (t : Task) (q h : Bool) (names : List Text) {O : Type 0} (folder : Fold
           broken_gives t _ run.0 one.2.0 run.1 run.2 run.3 (sym one.2.1 ∙ is),
         )
     | inr checked ↦
-        rw (checked.2, checked.1) (files_broken checked.0 q h folder names x i o e checked.3 is)
+        rw (checked.3, checked.2) (files_broken checked.0 checked.1 h folder names x i o e checked.4 is)
   ]

@@ -1,13 +1,9 @@
 -- How requests end: over standard input or files, quiet or not.
-use Rattle.std.specs.Prelude.{◌≡◌, ◌≢◌, ◌⊎◌, ◌-◌, ◌^◌, ◌<◌, ◌&&◌, ℕ, Bool, not, true, false}
-use Rattle.std.specs.Prelude.{List}
-use Rattle.std.specs.Prelude.{[]}
-use Rattle.std.specs.Prelude.{◌∷◌, ◌++◌, codes, flat_map, fold, map, take, nat_lt, Option, Some, None, IfSome, Result}
-use Rattle.std.specs.Prelude.{Ok}
-use Rattle.std.specs.Prelude.{Err, if◌then◌else◌}
-use Rattle.std.specs.Prelude.{not, option_to_list}
+use Rattle.std.specs.Prelude.{◌≡◌, ◌≢◌, ◌⊎◌, ◌-◌, ◌^◌, ◌<◌, ◌&&◌, ◌∷◌, ◌++◌, ℕ, Bool, not, true, false, List, []}
+use Rattle.std.specs.Prelude.{Option, Some, None, IfSome, Result, Ok, Err, codes, flat_map, fold, map, take, nat_lt}
+use Rattle.std.specs.Prelude.{nat_eq, option_to_list, if◌then◌else◌}
 use Rattle.std.specs.Io.KnownBytes.{Appends}
-use Rattle.std.specs.List.{All, list_any}
+use Rattle.std.specs.List.{All, concat, list_any}
 use Rattle.std.specs.Str.{bytes_eq}
 use Rattle.sixel_io.specs.Devices.{Change, ReadsToEnd, SinkState, SourceState, change, one_more}
 use Rattle.sixel_model.specs.declared.profile.Profile.{Profile}
@@ -21,13 +17,13 @@ use Rattle.sixel_run.specs.declared.fault.RunFault.TheVariants as run
 use Rattle.sixel_run.specs.declared.task.Status.{Status}
 use Rattle.sixel_run.specs.declared.task.Status.TheVariants as status
 use Rattle.sixel_run.specs.declared.task.Task.{Task}
-use Rattle.sixel_run.specs.declared.task.Task.TheVariants.{Check, Encode, Render, Show, ShowBox}
+use Rattle.sixel_run.specs.declared.task.Task.TheVariants.{Check, Encode, Render, Show, ShowBox, Survey}
 use Rattle.sixel_program.specs.declared.formats.Format.{Format}
 use Rattle.sixel_program.specs.declared.terminals.Terminals.{Terminals}
 use Rattle.sixel_program.specs.Formats.{IsFormat, advice_for, advice_on}
 use Rattle.sixel_program.specs.Exits.{IsPut, RunEnds, complaint, exit_code, exit_for_answer, fault_said}
 use Rattle.sixel_run.specs.Outputs.{Gives, TakesMemory, Wrote, failures_by}
-use Rattle.sixel_program.specs.Hints.{first_rule, hint}
+use Rattle.sixel_program.specs.Hints.{first_rule, hint_of}
 use Rattle.sixel_program.specs.Names.{named, named_fault_line, unopened_line}
 use Rattle.sixel_program.specs.Openings.{CountsOf, FailsWith, FolderView, IsOpening, Told, bytes_of}
 use Rattle.sixel_run.specs.Texts.{Text, fault_line, line}
@@ -42,10 +38,12 @@ is_dash name = bytes_eq name (codes "-")
 abbrev pub told_of : (Text → Option (List ℕ)) → Option (List ℕ) → Text → Option (List ℕ)
 told_of contents input name = if is_dash name then input else contents name
 
--- the names of what a task reads: `-` if there are none; for a check all of them, and for any other task the first
+-- the names of what a task reads: `-` if there are none; for a check or a survey all of them, and for any other task
+-- the first
 abbrev pub names_read : Task → List Text → List Text
 names_read t [] = codes "-" ∷ []
 names_read (Check profile) (name ∷ more) = name ∷ more
+names_read (Survey profile) (name ∷ more) = name ∷ more
 names_read t (name ∷ more) = name ∷ []
 
 -- whether the task reads standard input
@@ -123,23 +121,28 @@ pub record FileEnds {O : Type 0} (t : Task) (is_shown : Bool) (folder : FolderVi
   pub ended : (RunEnds t is_shown (Some name) exit file output errors × IsOpened folder name file)
       ⊎ IsUnopened (folder.opening name) name exit output errors
 
--- ---- checks of several files
+-- ---- checks and surveys of several files
 
--- how the check of a file ended: why it couldn't be opened, if it couldn't; the file's bytes and what it had left, if
--- they are known; its format; the verdict's line; and the answer
+-- the text is one line: its only line feed is its last byte
+abbrev pub IsLine : Text → Type 0
+IsLine text = (front : Text) × (text ≡ front ++ 10 ∷ []) × All (λ byte. nat_eq byte 10 ≡ false) front
+
+-- how the check or the survey of a file ended: why it couldn't be opened, if it couldn't; the file's bytes and what it
+-- had left, if they are known; its format; the lines; and the answer
 pub record FileEnd : Type 0 where
   pub name : Text
   pub unopened : Option Unopened
   pub told : Option (List ℕ)
   pub left : Option (List ℕ)
   pub format : Option Format
-  pub line : Text
+  pub lines : List Text
   pub answer : Result Status RunFault
 
--- a check of those bytes may end so
-pub record IsFileEnd (profile : Profile) (e : FileEnd) : Type 0 where
-  pub wrote : IfSome e.told (λ bytes. Wrote (Check profile) bytes e.left e.answer (Some []) (Some e.line))
-  pub memory : e.answer ≡ Err run.OutOfMemory → TakesMemory (Check profile) e.told
+-- the task over those bytes may end so, and these are the lines of what it writes
+pub record IsFileEnd (t : Task) (e : FileEnd) : Type 0 where
+  pub wrote : IfSome e.told (λ bytes. Wrote t bytes e.left e.answer (Some []) (Some (concat e.lines)))
+  pub are_lines : All IsLine e.lines
+  pub memory : e.answer ≡ Err run.OutOfMemory → TakesMemory t e.told
   pub written : e.answer ≢ Err run.Write
   pub reads : ReadsToEnd e.answer e.told e.left
   pub is_format : IsFormat e.told e.format
@@ -151,13 +154,13 @@ pub record IsFileOpening {O : Type 0} (folder : FolderView O) (e : FileEnd) : Ty
   pub unread : (reason : Unopened) → e.unopened ≡ Some reason → e.answer ≡ Err run.Read
   pub counted : is_dash e.name ≡ false → e.unopened ≡ None → FailsWith folder e.answer
 
--- the output for a file: its name and the verdict's line; nothing if the check is quiet or the file is refused
-abbrev pub file_text : Bool → Text → Text → Result Status RunFault → Text
-file_text is_quiet name line (Ok status) = if is_quiet then [] else named name line
-file_text is_quiet name line (Err fault) = []
+-- the output for a file: each line after the file's name; nothing if the task is quiet or the file is refused
+abbrev pub file_text : Bool → Text → List Text → Result Status RunFault → Text
+file_text is_quiet name lines (Ok status) = if is_quiet then [] else flat_map (named name) lines
+file_text is_quiet name lines (Err fault) = []
 
 abbrev pub text_of_end : Bool → FileEnd → Text
-text_of_end is_quiet e = file_text is_quiet e.name e.line e.answer
+text_of_end is_quiet e = file_text is_quiet e.name e.lines e.answer
 
 -- the output for several files
 abbrev pub files_text : Bool → List FileEnd → Text
@@ -218,18 +221,17 @@ abbrev pub SaysOfFile : Text → Option Unopened → Option Format → Result St
 SaysOfFile name None format answer errors = SaysOfCheck (Some name) format answer errors
 SaysOfFile name (Some reason) format answer errors = IsPut (unopened_line name reason) errors
 
--- what the check of the file with this name and this format did to the two sinks, given the verdict's line and the
--- answer. `Ok`: the text for the file was appended to the output, and the message about it was put to the errors.
--- `Err`: the output failed after a prefix of that text, and nothing was put to the errors. This can't happen if the
--- check is quiet
-abbrev pub IsOutcome : {E : Type 0} → Bool → Text → Option Unopened → Option Format → Text → Result Status RunFault
-    → Result (Result Status RunFault) E → Change SinkState → Change SinkState → Type 0
-IsOutcome is_quiet name unopened format line answer (Ok answered) output errors =
+-- what the task over the file with this name and this format did to the two sinks, given its lines and its answer.
+-- `Ok`: the text for the file was appended to the output, and the message about it was put to the errors. `Err`: the
+-- output failed after a prefix of that text, and nothing was put to the errors. This can't happen if the task is quiet
+abbrev pub IsOutcome : {E : Type 0} → Bool → Text → Option Unopened → Option Format → List Text
+    → Result Status RunFault → Result (Result Status RunFault) E → Change SinkState → Change SinkState → Type 0
+IsOutcome is_quiet name unopened format lines answer (Ok answered) output errors =
     (answered ≡ answer)
-    × Appends output.old.taken output.new.taken (file_text is_quiet name line answer)
+    × Appends output.old.taken output.new.taken (file_text is_quiet name lines answer)
     × (output.new.failures ≡ output.old.failures) × SaysOfFile name unopened format answer errors
-IsOutcome is_quiet name unopened format line answer (Err fault) output errors =
-    ((count : ℕ) × Appends output.old.taken output.new.taken (take count (file_text is_quiet name line answer)))
+IsOutcome is_quiet name unopened format lines answer (Err fault) output errors =
+    ((count : ℕ) × Appends output.old.taken output.new.taken (take count (file_text is_quiet name lines answer)))
     × (is_quiet ≡ false) × (output.new.failures ≡ one_more output.old.failures)
     × (said_of_file name unopened format answer ≡ []) × (errors.new ≡ errors.old)
 
@@ -244,18 +246,18 @@ Tells contents had (e ∷ rest) has =
 abbrev pub failures_past : ℕ → FileEnd → ℕ
 failures_past count e = if is_dash e.name then failures_by run.Read e.answer count else count
 
--- how the check of the file with this name ended, beside standard input, and what it did to the two sinks
-pub record IsChecked {O E : Type 0} (profile : Profile) (is_quiet : Bool) (folder : FolderView O)
+-- how the task over the file with this name ended, beside standard input, and what it did to the two sinks
+pub record IsChecked {O E : Type 0} (t : Task) (is_quiet : Bool) (folder : FolderView O)
     (name : Text) (result : Result (Result Status RunFault) E) (input : Change SourceState)
     (output errors : Change SinkState) : Type 0 where
   pub e : FileEnd
   pub name_is : e.name ≡ name
   pub told : e.told ≡ told_of (bytes_of folder.opening) input.old.remaining name
   pub left : input.new.remaining ≡ left_after input.old.remaining name e.left
-  pub is_end : IsFileEnd profile e
+  pub is_end : IsFileEnd t e
   pub opening : IsFileOpening folder e
   pub counted : input.new.failures ≡ failures_past input.old.failures e
-  pub outcome : IsOutcome is_quiet name e.unopened e.format e.line e.answer result output errors
+  pub outcome : IsOutcome is_quiet name e.unopened e.format e.lines e.answer result output errors
 
 -- a call on a sink failed: its count of failures rose, or is the greatest `u64`
 abbrev pub HasFailed : Change SinkState → Type 0
@@ -267,10 +269,10 @@ IsSaid text sink =
     (Appends sink.old.taken sink.new.taken text × (sink.new.failures ≡ sink.old.failures)) ⊎ HasFailed sink
 
 -- all files with these names were checked in turn and ended so
-pub record AreChecked {O : Type 0} (profile : Profile) (is_quiet : Bool) (folder : FolderView O) (ends : List FileEnd)
+pub record AreChecked {O : Type 0} (t : Task) (is_quiet : Bool) (folder : FolderView O) (ends : List FileEnd)
     (names : List Text) (exit : Exit) (input : Change SourceState) (output errors : Change SinkState) : Type 0 where
   pub names_are : names ≡ names_of ends
-  pub each : All (IsFileEnd profile) ends
+  pub each : All (IsFileEnd t) ends
   pub openings : All (IsFileOpening folder) ends
   pub tells : Tells (bytes_of folder.opening) input.old.remaining ends input.new.remaining
   pub counted : input.new.failures ≡ fold failures_past input.old.failures ends
@@ -281,7 +283,7 @@ pub record AreChecked {O : Type 0} (profile : Profile) (is_quiet : Bool) (folder
 
 -- the output failed at one of the files, the last that was read, or when it was flushed. The lines of the files before
 -- it were written, and a prefix of its own line
-pub record AreCut {O : Type 0} (profile : Profile) (is_quiet : Bool) (folder : FolderView O) (names : List Text)
+pub record AreCut {O : Type 0} (t : Task) (is_quiet : Bool) (folder : FolderView O) (names : List Text)
     (exit : Exit) (input : Change SourceState) (output errors : Change SinkState) : Type 0 where
   pub whole : List FileEnd
   pub last : Option FileEnd
@@ -291,7 +293,7 @@ pub record AreCut {O : Type 0} (profile : Profile) (is_quiet : Bool) (folder : F
   pub names_are : names ≡ names_of (whole ++ option_to_list last) ++ rest
   -- if the output failed at no file, it failed at the flush, after all files
   pub at_the_end : last ≡ None → rest ≡ []
-  pub each : All (IsFileEnd profile) (whole ++ option_to_list last)
+  pub each : All (IsFileEnd t) (whole ++ option_to_list last)
   pub openings : All (IsFileOpening folder) (whole ++ option_to_list last)
   pub tells : Tells (bytes_of folder.opening) input.old.remaining (whole ++ option_to_list last) input.new.remaining
   pub counted : input.new.failures ≡ fold failures_past input.old.failures (whole ++ option_to_list last)
@@ -302,22 +304,22 @@ pub record AreCut {O : Type 0} (profile : Profile) (is_quiet : Bool) (folder : F
   pub silent : All (λ e. said_of e ≡ []) (option_to_list last)
   pub said : ArePut (complaints_of whole ++ fault_line run.Write ∷ []) errors
 
--- all files were checked, and the output is flushed unless the check is quiet. Then the errors got the hint on the
--- first broken verdict, if hints are shown and the check isn't quiet
-pub record AreDone {O : Type 0} (profile : Profile) (is_quiet is_shown : Bool) (folder : FolderView O)
+-- all files were checked, and the output is flushed unless the task is quiet. Then the errors got the hint on the first
+-- broken file's rule, if hints are shown and the task isn't quiet
+pub record AreDone {O : Type 0} (t : Task) (is_quiet is_shown : Bool) (folder : FolderView O)
     (names : List Text) (exit : Exit) (input : Change SourceState) (output errors : Change SinkState) : Type 0 where
   pub ends : List FileEnd
   pub between : SinkState
-  pub checked : AreChecked profile is_quiet folder ends names exit input output (change errors.old between)
+  pub checked : AreChecked t is_quiet folder ends names exit input output (change errors.old between)
   pub flushed : is_quiet ≡ false → output.new.is_flushed ≡ true
-  pub hinted : IsPut (hint (not is_quiet && is_shown) profile (first_broken ends)) (change between errors.new)
+  pub hinted : IsPut (hint_of (not is_quiet && is_shown) t (first_broken ends)) (change between errors.new)
 
 -- all files were checked, or the output failed
-abbrev pub FilesEnd : {O : Type 0} → Profile → Bool → Bool → FolderView O → List Text → Exit → Change SourceState
+abbrev pub FilesEnd : {O : Type 0} → Task → Bool → Bool → FolderView O → List Text → Exit → Change SourceState
     → Change SinkState → Change SinkState → Type 0
-FilesEnd profile is_quiet is_shown folder names exit input output errors =
-    AreDone profile is_quiet is_shown folder names exit input output errors
-    ⊎ AreCut profile is_quiet folder names exit input output errors
+FilesEnd t is_quiet is_shown folder names exit input output errors =
+    AreDone t is_quiet is_shown folder names exit input output errors
+    ⊎ AreCut t is_quiet folder names exit input output errors
 
 -- ---- requests
 
@@ -337,15 +339,17 @@ pub record QuietEnds (profile : Profile) (exit : Exit) (input : Change SourceSta
   pub ends : exit ≡ exit_for_answer answer
   pub said : IsPut (complaint (Check profile) None answer ++ advice_for format answer) errors
 
--- how a request ended. Without names the task is over standard input. Otherwise a check is of all files that are named,
--- and any other task is over the first
+-- how a request ended. Without names the task is over standard input. Otherwise a check or a survey is of all files
+-- that are named, and any other task is over the first. A survey is never quiet
 abbrev pub RequestEnds : {O : Type 0} → Task → Bool → Bool → List Text → FolderView O → Exit → Change SourceState
     → Change SinkState → Change SinkState → Type 0
 RequestEnds (Check profile) true is_shown [] folder exit input output errors =
     QuietEnds profile exit input errors × (output.new ≡ output.old)  -- nothing was written
 RequestEnds t is_quiet is_shown [] folder exit input output errors = RunEnds t is_shown None exit input output errors
 RequestEnds (Check profile) is_quiet is_shown (name ∷ more) folder exit input output errors =
-    FilesEnd profile is_quiet is_shown folder (name ∷ more) exit input output errors
+    FilesEnd (Check profile) is_quiet is_shown folder (name ∷ more) exit input output errors
+RequestEnds (Survey profile) is_quiet is_shown (name ∷ more) folder exit input output errors =
+    FilesEnd (Survey profile) false is_shown folder (name ∷ more) exit input output errors
 RequestEnds t is_quiet is_shown (name ∷ more) folder exit input output errors =
     FileEnds t is_shown folder name exit input output errors
 

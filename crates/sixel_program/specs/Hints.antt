@@ -1,4 +1,4 @@
--- The hint after a check that found a broken rule.
+-- The hint after a check or a survey that found a broken rule.
 use Rattle.std.specs.Prelude.{◌++◌, ◌∷◌, Bool, true, List, [], codes, filter_map, slice_get, Option, Some, None, Result}
 use Rattle.std.specs.Prelude.{Ok}
 use Rattle.sixel_model.specs.declared.profile.Profile.{Profile}
@@ -9,7 +9,7 @@ use Rattle.sixel_run.specs.declared.fault.RunFault.{RunFault}
 use Rattle.sixel_run.specs.declared.task.Status.{Status}
 use Rattle.sixel_run.specs.declared.task.Status.TheVariants.{Broken}
 use Rattle.sixel_run.specs.declared.task.Task.{Task}
-use Rattle.sixel_run.specs.declared.task.Task.TheVariants.{Check}
+use Rattle.sixel_run.specs.declared.task.Task.TheVariants.{Check, Survey}
 use Rattle.sixel_run.specs.Texts.{Text, rule_name}
 
 -- the rule that a run found broken
@@ -33,7 +33,12 @@ hint true profile (Some broken) =
     ++ 10 ∷ []
 hint _ _ _ = []
 
--- the hint after a run of the task over one input: only a check has one
+-- the hint of a task on a broken rule: only a check and a survey have one
+abbrev pub hint_of : Bool → Task → Option Rule → Text
+hint_of is_shown (Check profile) broken = hint is_shown profile broken
+hint_of is_shown (Survey profile) broken = hint is_shown profile broken
+hint_of is_shown t broken = []
+
+-- the hint after a run of the task over one input
 abbrev pub hint_after : Bool → Task → Result Status RunFault → Text
-hint_after is_shown (Check profile) answer = hint is_shown profile (rule_of answer)
-hint_after is_shown t answer = []
+hint_after is_shown t answer = hint_of is_shown t (rule_of answer)

@@ -4,4 +4,5 @@ pub mod Exits
 pub mod Names
 pub mod Hints
 pub mod Openings
+pub mod Findings
 pub mod Files

@@ -1,6 +1,6 @@
-//! Checks of files, and quiet checks of standard input.
+//! Checks and surveys of files, and quiet checks of standard input.
 
-ghost use Rattle.std.specs.Prelude.{◌≡◌, IfErr, None, OnOk, Option, Result, false, map, option_copied, true};
+ghost use Rattle.std.specs.Prelude.{◌≡◌, IfErr, List, None, OnOk, Option, Result, false, map, option_copied, true};
 ghost use Rattle.std.specs.Io.KnownBytes.{Keeps};
 ghost use Rattle.std.specs.List.{list_any};
 ghost use Rattle.std.specs.String.{string_bytes};
@@ -8,33 +8,33 @@ ghost use Rattle.sixel_io.specs.Devices.{CountsFailure, change};
 ghost use Rattle.sixel_program.specs.Exits.{IsPut};
 ghost use Rattle.sixel_program.specs.Files.{FilesEnd, IsChecked, IsFileEnd, IsOutcome, QuietEnds, SaysOfCheck};
 ghost use Rattle.sixel_program.specs.Files.{is_dash, worse};
+ghost use Rattle.sixel_program.specs.Findings.{answer_of, lines_of, task_of};
 ghost use Rattle.sixel_program.specs.declared.formats.Format.{Format as AFormat};
 ghost use Rattle.sixel_program.specs.Openings.{folder_view};
-ghost use Rattle.sixel_run.specs.Outputs.{answer_of, failures_by, line_of};
+ghost use Rattle.sixel_run.specs.Outputs.{failures_by};
 ghost use Rattle.sixel_run.specs.Texts.{Text, fault_line};
 ghost use Rattle.sixel_run.specs.declared.fault.RunFault.{RunFault as AFault};
 ghost use Rattle.sixel_run.specs.declared.fault.RunFault.TheVariants.{Read as ReadFault};
 ghost use Rattle.sixel_run.specs.declared.task.Status.{Status as AStatus};
 
 use crate::exit::{Exit, code_of, exit_of};
+use crate::findings::{FilesTask, Found, find, put_found};
 use crate::folder::{Folder, open_file};
 use crate::formats::Format;
 use crate::hints::{put_hint, rule_of};
-use crate::names::put_named;
 use crate::peeked::Peeked;
 use crate::saying::{put_refusal, put_unopened};
-use sixel_check::Verdict;
 use sixel_io::{DeviceFault, Sink, Source};
 use sixel_model::Profile;
-use sixel_run::{RunFault, Status, judge, status_of, verdict_line, write_fault};
+use sixel_run::{RunFault, Status, write_fault};
 use std::alloc::Global;
 
-/// Writes why a checked input was refused, if it was. The input has this name or none, and this format. Returns the
-/// answer of the check.
+/// Writes why an input was refused, if it was. The input has this name or none, and this format. Returns the answer of
+/// the task.
 fn say_judged<E: Sink>(
     name: Option<&str>,
     format: Option<Format>,
-    judged: Result<Verdict, RunFault>,
+    judged: Result<Found, RunFault>,
     errors: &mut E,
 ) -> Result<Status, RunFault>
     ensures answer { result ≡ answer_of judged }
@@ -42,7 +42,7 @@ fn say_judged<E: Sink>(
         (change (E.state errors.old) (E.state errors.new)) }
 {
     match judged {
-        Ok(verdict) => Ok(status_of(&verdict)),
+        Ok(found) => Ok(found.status()),
         Err(fault) => {
             let _ = put_refusal(name, format, &fault, errors);
             Err(fault)
@@ -62,66 +62,66 @@ pub fn check_quietly<S: Source, E: Sink>(
         (change (E.state errors.old) (E.state errors.new)) }
 {
     let format = input.format();
-    let judged = judge(alloc, profile, input);
+    let judged = find(alloc, FilesTask::Check { profile }, input);
     exit_of(say_judged(None, format, judged, errors))
 }
 
-/// Writes the verdict on a file, unless the check is quiet, or why the file was refused. Returns the answer of the
-/// check, or an `Err` if `output` failed.
+/// Writes the lines on a file, unless the task is quiet, or why the file was refused. Returns the answer of the task,
+/// or an `Err` if `output` failed.
 fn put_judged<K: Sink, E: Sink>(
     is_quiet: bool,
     name: &str,
     format: Option<Format>,
-    judged: Result<Verdict, RunFault>,
+    judged: Result<Found, RunFault>,
     output: &mut K,
     errors: &mut E,
 ) -> Result<Result<Status, RunFault>, DeviceFault>
-    ensures { IsOutcome is_quiet name.now None format (line_of judged) (answer_of judged) result
+    ensures { IsOutcome is_quiet name.now None format (lines_of judged) (answer_of judged) result
         (change (K.state output.old) (K.state output.new)) (change (E.state errors.old) (E.state errors.new)) }
 {
-    if let Ok(verdict) = &judged {
+    if let Ok(found) = &judged {
         if !is_quiet {
-            put_named(output, b"", name, b": ", verdict_line(verdict).as_slice())?;
+            put_found(name, found, output)?;
         }
     }
     Ok(say_judged(Some(name), format, judged, errors))
 }
 
-/// Checks an open file, or standard input by its name. Returns the answer, or an `Err` if `output` failed.
+/// Checks or surveys an open file, or standard input by its name. Returns the answer, or an `Err` if `output` failed.
 fn check_named<S: Source, K: Sink, E: Sink>(
     alloc: Global,
-    profile: Profile,
+    task: FilesTask,
     is_quiet: bool,
     name: &str,
     input: &mut Peeked<S>,
     output: &mut K,
     errors: &mut E,
 ) -> Result<Result<Status, RunFault>, DeviceFault>
-    ensures { (format : Option AFormat) × (line : Text) × (answer : Result AStatus AFault)
-        × IsFileEnd profile (record {
+    ensures { (format : Option AFormat) × (lines : List Text) × (answer : Result AStatus AFault)
+        × IsFileEnd (task_of task) (record {
           name = name.now;
           unopened = None;
           told = (⟦<Peeked<S> as Source>⟧.state input.old).remaining;
           left = (⟦<Peeked<S> as Source>⟧.state input.new).remaining;
           format = format;
-          line = line;
+          lines = lines;
           answer = answer;
         })
         × ((⟦<Peeked<S> as Source>⟧.state input.new).failures
         ≡ failures_by ReadFault answer (⟦<Peeked<S> as Source>⟧.state input.old).failures)
-        × IsOutcome is_quiet name.now None format line answer result
+        × IsOutcome is_quiet name.now None format lines answer result
         (change (K.state output.old) (K.state output.new)) (change (E.state errors.old) (E.state errors.new)) }
 {
     let format = input.format();
-    let judged = judge(alloc, profile, input);
+    let judged = find(alloc, task, input);
     put_judged(is_quiet, name, format, judged, output, errors)
 }
 
-/// Checks the file with this name, or standard input if the name is `-`. Returns the answer, or an `Err` if `output`
-/// failed.
+/// Checks or surveys the file with this name, or standard input if the name is `-`. Returns the answer, or an `Err` if
+/// `output` failed.
 fn check_file<F: Folder, S: Source, K: Sink, E: Sink>(
     alloc: Global,
-    profile: Profile,
+    task: FilesTask,
     is_quiet: bool,
     name: &str,
     folder: &F,
@@ -129,18 +129,18 @@ fn check_file<F: Folder, S: Source, K: Sink, E: Sink>(
     output: &mut K,
     errors: &mut E,
 ) -> Result<Result<Status, RunFault>, DeviceFault>
-    ensures checked { IsChecked profile is_quiet (folder_view (F.opening folder.now) F.Opened.state) name.now result
+    ensures checked { IsChecked (task_of task) is_quiet (folder_view (F.opening folder.now) F.Opened.state) name.now result
         (change (⟦<Peeked<S> as Source>⟧.state input.old) (⟦<Peeked<S> as Source>⟧.state input.new))
         (change (K.state output.old) (K.state output.new)) (change (E.state errors.old) (E.state errors.new)) }
     ensures unread { is_dash name.now ≡ false → input.new ≡ input.old }
 {
     if name == "-" {
-        return check_named(alloc, profile, is_quiet, name, input, output, errors);
+        return check_named(alloc, task, is_quiet, name, input, output, errors);
     }
     match open_file(folder, name) {
         Ok(file) => {
             let mut file = Peeked::new(file);
-            check_named(alloc, profile, is_quiet, name, &mut file, output, errors)
+            check_named(alloc, task, is_quiet, name, &mut file, output, errors)
         }
         Err(reason) => {
             let _ = put_unopened(name, reason, errors);
@@ -166,7 +166,7 @@ fn unwritten<E: Sink>(errors: &mut E) -> Exit
     Exit::Refused
 }
 
-/// Flushes the output, unless the check is quiet.
+/// Flushes the output, unless the task is quiet.
 fn flush_verdicts<K: Sink>(is_quiet: bool, output: &mut K) -> Result<(), DeviceFault>
     ensures bytes { Keeps (K.state output.old).taken (K.state output.new).taken }
     ensures failures { CountsFailure result (K.state output.old).failures (K.state output.new).failures }
@@ -176,12 +176,12 @@ fn flush_verdicts<K: Sink>(is_quiet: bool, output: &mut K) -> Result<(), DeviceF
     if is_quiet { Ok(()) } else { output.flush() }
 }
 
-/// Checks the files with these names in turn. A refused file doesn't end this, but a failed write does. The exit status
-/// is the greatest of theirs. If hints are shown (`is_shown`) and the check isn't quiet, one on the first broken
-/// verdict comes last.
+/// Checks or surveys the files with these names in turn. A refused file doesn't end this, but a failed write does. The
+/// exit status is the greatest of theirs. If hints are shown (`is_shown`) and the task isn't quiet, one on the first
+/// broken file's rule comes last.
 pub fn check_files<F: Folder, S: Source, K: Sink, E: Sink>(
     alloc: Global,
-    profile: Profile,
+    task: FilesTask,
     is_quiet: bool,
     is_shown: bool,
     names: &[String],
@@ -190,7 +190,7 @@ pub fn check_files<F: Folder, S: Source, K: Sink, E: Sink>(
     output: &mut K,
     errors: &mut E,
 ) -> Exit
-    ensures checked { FilesEnd profile is_quiet is_shown (folder_view (F.opening folder.now) F.Opened.state)
+    ensures checked { FilesEnd (task_of task) is_quiet is_shown (folder_view (F.opening folder.now) F.Opened.state)
         (map string_bytes names.now) result
         (change (⟦<Peeked<S> as Source>⟧.state input.old) (⟦<Peeked<S> as Source>⟧.state input.new))
         (change (K.state output.old) (K.state output.new)) (change (E.state errors.old) (E.state errors.new)) }
@@ -201,7 +201,7 @@ pub fn check_files<F: Folder, S: Source, K: Sink, E: Sink>(
     for name in names {
         match check_file(
             alloc,
-            profile,
+            task,
             is_quiet,
             name.as_str(),
             folder,
@@ -218,7 +218,7 @@ pub fn check_files<F: Folder, S: Source, K: Sink, E: Sink>(
     }
     match flush_verdicts(is_quiet, output) {
         Ok(()) => {
-            put_hint(!is_quiet && is_shown, profile, broken, errors);
+            put_hint(!is_quiet && is_shown, task.task(), broken, errors);
             exit
         }
         Err(_) => unwritten(errors),

@@ -20,8 +20,8 @@ use sixel_words::Request;
 use std::alloc::Global;
 
 /// Carries out a request over `input` and the files of `folder`. Results go to `output`, messages to `errors`. A task
-/// that is to read a terminal says first that it waits. If `errors` is a terminal, a check ends with a hint on the
-/// first broken rule, unless it is quiet. A PPM isn't written to a terminal; only this is `Usage`.
+/// that is to read a terminal says first that it waits. If `errors` is a terminal, a check or a survey ends with a hint
+/// on the first broken rule, unless it is quiet. A PPM isn't written to a terminal; only this is `Usage`.
 pub fn execute<F: Folder, S: Source, K: Sink, E: Sink>(
     alloc: Global,
     request: &Request,

@@ -11,6 +11,7 @@ ghost use Rattle.sixel_run.specs.Outputs.{HasSides};
 
 use crate::checks::{check_files, check_quietly};
 use crate::exit::{Exit, exit_of};
+use crate::findings::FilesTask;
 use crate::folder::{Folder, open_file};
 use crate::hints::put_hint_after;
 use crate::peeked::Peeked;
@@ -39,7 +40,7 @@ pub fn reads_input(request: &Request) -> bool
 {
     match (request.task, request.files.as_slice()) {
         (_, []) => true,
-        (Task::Check { .. }, names) => names_input(names),
+        (Task::Check { .. } | Task::Survey { .. }, names) => names_input(names),
         (_, [name, ..]) => name.as_str() == "-",
     }
 }
@@ -100,8 +101,8 @@ fn report_file<F: Folder, S: Source, K: Sink, E: Sink>(
     }
 }
 
-/// Carries out a request. A check reads all files that are named, and ends with a hint on the first broken rule if
-/// `errors` is a terminal and it isn't quiet; any other task reads the first file.
+/// Carries out a request. A check and a survey read all files that are named, and end with a hint on the first broken
+/// rule if `errors` is a terminal and the check isn't quiet; any other task reads the first file.
 pub fn answer<F: Folder, S: Source, K: Sink, E: Sink>(
     alloc: Global,
     request: &Request,
@@ -126,8 +127,15 @@ pub fn answer<F: Folder, S: Source, K: Sink, E: Sink>(
         (Task::Check { profile }, []) if is_quiet => check_quietly(alloc, profile, input, errors),
         (task, []) => report(alloc, task, is_shown, None, input, output, errors),
         (Task::Check { profile }, _) => {
+            let task = FilesTask::Check { profile };
             check_files(
-                alloc, profile, is_quiet, is_shown, names, folder, input, output, errors,
+                alloc, task, is_quiet, is_shown, names, folder, input, output, errors,
+            )
+        }
+        (Task::Survey { profile }, _) => {
+            let task = FilesTask::Survey { profile };
+            check_files(
+                alloc, task, false, is_shown, names, folder, input, output, errors,
             )
         }
         (task, [name, ..]) => {

@@ -1,9 +1,9 @@
-//! The hint after a check that found a broken rule.
+//! The hint after a check or a survey that found a broken rule.
 
 ghost use Rattle.std.specs.Prelude.{◌≡◌, Some, true};
 ghost use Rattle.sixel_io.specs.Devices.{change};
 ghost use Rattle.sixel_program.specs.Exits.{IsPut};
-ghost use Rattle.sixel_program.specs.Hints.{hint, hint_after, rule_of};
+ghost use Rattle.sixel_program.specs.Hints.{hint, hint_after, hint_of, rule_of};
 
 use sixel_check::Rule;
 use sixel_io::{Sink, put_all};
@@ -63,14 +63,24 @@ fn hint(is_shown: bool, profile: Profile, broken: Option<Rule>) -> &'static str
     }
 }
 
-/// Writes the hint on a broken rule, if there is one and hints are shown.
-pub fn put_hint<E: Sink>(is_shown: bool, profile: Profile, broken: Option<Rule>, errors: &mut E)
-    ensures { IsPut (hint is_shown profile broken) (change (E.state errors.old) (E.state errors.new)) }
+/// The hint of a task on a broken rule, if there is one and hints are shown. Only a check and a survey have one.
+fn hint_of(is_shown: bool, task: Task, broken: Option<Rule>) -> &'static str
+    ensures { result.now ≡ hint_of is_shown task broken }
 {
-    let _ = put_all(errors, hint(is_shown, profile, broken).as_bytes());
+    match task {
+        Task::Check { profile } | Task::Survey { profile } => hint(is_shown, profile, broken),
+        _ => "",
+    }
 }
 
-/// Writes the hint after a run over one input. Only a check has one.
+/// Writes the hint of a task on a broken rule, if there is one.
+pub fn put_hint<E: Sink>(is_shown: bool, task: Task, broken: Option<Rule>, errors: &mut E)
+    ensures { IsPut (hint_of is_shown task broken) (change (E.state errors.old) (E.state errors.new)) }
+{
+    let _ = put_all(errors, hint_of(is_shown, task, broken).as_bytes());
+}
+
+/// Writes the hint after a run over one input, if it has one.
 pub fn put_hint_after<E: Sink>(
     is_shown: bool,
     task: Task,
@@ -79,8 +89,5 @@ pub fn put_hint_after<E: Sink>(
 )
     ensures { IsPut (hint_after is_shown task answer.now) (change (E.state errors.old) (E.state errors.new)) }
 {
-    match task {
-        Task::Check { profile } => put_hint(is_shown, profile, rule_of(answer), errors),
-        _ => {}
-    }
+    put_hint(is_shown, task, rule_of(answer), errors);
 }

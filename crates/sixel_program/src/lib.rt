@@ -5,6 +5,7 @@ mod checks;
 mod execution;
 mod exit;
 mod files;
+mod findings;
 mod folder;
 mod formats;
 mod hints;

@@ -4,7 +4,7 @@ ghost use Rattle.sixel_run.specs.Outputs.{HasSides};
 
 use crate::memory_folder::MemoryFolder;
 use sixel_io::{FromRead, ToWrite};
-use sixel_model::Profile;
+use sixel_model::{Colour, Profile};
 use sixel_program::{Exit, Peeked, Terminals, execute};
 use sixel_run::Task;
 use sixel_words::Request;
@@ -12,6 +12,10 @@ use std::alloc::Global;
 use std::io::{Read, Write};
 
 pub const CHECK: Task = Task::Check {
+    profile: Profile::Registers16,
+};
+
+pub const SURVEY: Task = Task::Survey {
     profile: Profile::Registers16,
 };
 
@@ -39,6 +43,18 @@ pub const SHOW_BOX: Task = Task::ShowBox {
     fill: false,
     selects: false,
 };
+
+/// `mend` with this background, and without options.
+pub fn mend_on(background: Colour) -> Task
+    ensures { HasSides result }
+{
+    Task::Mend {
+        profile: Profile::Registers16,
+        background,
+        showing: false,
+        selects: false,
+    }
+}
 
 /// No file can be opened.
 pub const NO_FILES: MemoryFolder<'static> = MemoryFolder {

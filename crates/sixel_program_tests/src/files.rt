@@ -5,9 +5,11 @@ ghost use Rattle.sixel_run.specs.Outputs.{HasSides};
 
 mod faults;
 mod hints;
+mod mended;
 mod named;
 mod notices;
 mod redirection;
+mod surveyed;
 mod system;
 mod tasks;
 
@@ -32,6 +34,9 @@ const WIDE: &[u8] = b"\x1bPq\"1;1;2;1#16;2;0;0;0#16!2@\x1b\\";
 
 const RATIO: &[u8] = b"\x1bPq\"2;1;1;1\x1b\\";
 
+/// A picture that breaks three rules: register 17 at 11, register 0 without a colour at 29, and five pixels unpainted.
+const THREE: &[u8] = b"\x1bPq\"1;1;4;2#17;2;0;0;0#17@@#0@\x1b\\";
+
 const PNG: &[u8] = b"\x89PNG\r\n\x1a\n\0\0\0\rIHDR";
 
 /// One red pixel.
@@ -44,6 +49,9 @@ const FOLDER: MemoryFolder<'static> = MemoryFolder {
         ("-x", PIXEL),
         ("wide", WIDE),
         ("ratio", RATIO),
+        ("three", THREE),
+        ("blank", b"\x1bPq\x1b\\"),
+        ("large", b"\x1bPq\"1;1;2049;1\x1b\\"),
         ("text", b"x"),
         ("empty", b""),
         ("png", PNG),

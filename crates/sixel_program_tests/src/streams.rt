@@ -7,7 +7,7 @@ use sixel_io::ToWrite;
 use sixel_ppm::PpmReason;
 use sixel_program::{Exit, tell};
 use sixel_run::Task;
-use sixel_words::{Topic, WordsFault, parse_words, task_in};
+use sixel_words::{Topic, WordsFault, explanation, parse_words, task_in};
 use std::alloc::{AllocError, Global};
 use std::io;
 use std::io::{Error, Write};
@@ -281,21 +281,10 @@ fn words_are_explained_as_far_as_there_is_room(rt: HostRuntime) -> Result<(), Fa
     Ok(())
 }
 
-const MAXVAL: &str = "Maxval: a PPM maxval outside 1 to 255
-
-Refused: a PPM maxval (maximum) outside 1 to 255. The offset is that of the
-number's first digit.
-
-String: P6 1 1 256 LF
-Output of encode: sixel: Maxval at 7
-
-Fix: write samples of one byte, with the maxval 255, for example by pnmdepth
-255. ImageMagick writes them with -depth 8.
-";
-
 /// An explanation goes to standard output. If it can't be written whole, the program ends as a task would.
 #[test]
 fn an_explanation_is_written_or_refused(rt: HostRuntime) -> Result<(), Fail> {
+    let text = explanation(Some(Topic::Ppm(PpmReason::Maxval)));
     for (room, exit, line) in [
         (0, Exit::Refused, "sixel: write failed\n"),
         (1, Exit::Refused, "sixel: write failed\n"),
@@ -303,9 +292,9 @@ fn an_explanation_is_written_or_refused(rt: HostRuntime) -> Result<(), Fail> {
         (512, Exit::Done, ""),
     ] {
         let asked = fault_of(rt.alloc(), &["explain", "Maxval"])?;
-        assert!(rt; explains_so(rt.alloc(), asked, room, exit, MAXVAL, line));
+        assert!(rt; explains_so(rt.alloc(), asked, room, exit, text, line));
         let topic = WordsFault::Explanation(Some(Topic::Ppm(PpmReason::Maxval)));
-        assert!(rt; explains_so(rt.alloc(), topic, room, exit, MAXVAL, line));
+        assert!(rt; explains_so(rt.alloc(), topic, room, exit, text, line));
     }
     Ok(())
 }

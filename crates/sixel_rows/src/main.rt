@@ -27,12 +27,14 @@ use std::fs;
 use std::process::ExitCode;
 
 /// The files of rows, one for each task.
-const FILES: [&str; 5] = [
+const FILES: [&str; 7] = [
     "list.rows",
     "check.rows",
+    "survey.rows",
     "render.rows",
     "show.rows",
     "encode.rows",
+    "mend.rows",
 ];
 
 /// The file whose rows the plain judge judges too.

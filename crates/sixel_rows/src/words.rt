@@ -5,7 +5,7 @@ ghost use Rattle.sixel_ppm.specs.Ppm.{is_file_side};
 ghost use Rattle.sixel_run.specs.Outputs.{HasSides};
 
 use crate::format::RowFault;
-use sixel_model::Profile;
+use sixel_model::{Colour, Profile};
 use sixel_run::{MOST_SCREEN_SIDE, Task};
 
 /// The options of a row.
@@ -16,6 +16,7 @@ struct Options<'a> {
     fill: bool,
     selects: bool,
     boxed: bool,
+    background: Option<&'a str>,
     width: Option<&'a str>,
     height: Option<&'a str>,
 }
@@ -24,6 +25,7 @@ struct Options<'a> {
 #[derive(Clone, Copy)]
 enum Awaited {
     Nothing,
+    Background,
     Width,
     Height,
 }
@@ -39,8 +41,11 @@ pub fn task_of(words: &str) -> Result<Task, RowFault>
     match name {
         "list" if is_plain => Ok(Task::List),
         "check" if is_wide => Ok(Task::Check { profile }),
+        "survey" if is_wide => Ok(Task::Survey { profile }),
         "render" if is_wide => Ok(Task::Render { profile }),
         "encode" if is_wide => Ok(Task::Encode { profile }),
+        "mend" => mended(profile, options),
+        "show" if options.background.is_some() => Err(RowFault::Words),
         "show" if options.boxed => boxed(profile, options),
         "show" => sized(profile, options),
         _ => Err(RowFault::Words),
@@ -53,6 +58,7 @@ fn kind_of(options: Options<'_>) -> (bool, bool) {
         && !options.fill
         && !options.selects
         && !options.boxed
+        && options.background.is_none()
         && options.width.is_none()
         && options.height.is_none();
     (is_wide, is_wide && !options.wide)
@@ -63,6 +69,36 @@ fn profile_of(wide: bool) -> Profile {
         Profile::Registers256
     } else {
         Profile::Registers16
+    }
+}
+
+fn mended(profile: Profile, options: Options<'_>) -> Result<Task, RowFault>
+    ensures { IfOk result HasSides }
+{
+    if options.fill || options.boxed || options.width.is_some() || options.height.is_some() {
+        return Err(RowFault::Words);
+    }
+    Ok(Task::Mend {
+        profile,
+        background: colour_of(options.background)?,
+        showing: options.showing,
+        selects: options.selects,
+    })
+}
+
+/// The colour with these percentages of red, green and blue, by default black.
+fn colour_of(written: Option<&str>) -> Result<Colour, RowFault> {
+    let mut percentages = written.unwrap_or("0,0,0").split(',').map(str::parse::<u8>);
+    match (
+        percentages.next(),
+        percentages.next(),
+        percentages.next(),
+        percentages.next(),
+    ) {
+        (Some(Ok(red)), Some(Ok(green)), Some(Ok(blue)), None) => {
+            Colour::rgb(red, green, blue).ok_or(RowFault::Words)
+        }
+        _ => Err(RowFault::Words),
     }
 }
 
@@ -124,6 +160,7 @@ fn take_word<'a>(
     word: &'a str,
 ) -> Result<Awaited, RowFault> {
     match (awaited, word) {
+        (Awaited::Background, _) => options.background = Some(word),
         (Awaited::Width, _) => options.width = Some(word),
         (Awaited::Height, _) => options.height = Some(word),
         (_, "--wide") => options.wide = true,
@@ -131,6 +168,7 @@ fn take_word<'a>(
         (_, "--fill") => options.fill = true,
         (_, "--define-selects") => options.selects = true,
         (_, "--box") => options.boxed = true,
+        (_, "--background") => return Ok(Awaited::Background),
         (_, "--width") => return Ok(Awaited::Width),
         (_, "--height") => return Ok(Awaited::Height),
         _ => return Err(RowFault::Words),

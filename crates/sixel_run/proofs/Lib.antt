@@ -4,6 +4,9 @@ pub mod OutputLemmas
 pub mod CheckLemmas
 pub mod PictureLemmas
 pub mod FileLemmas
+pub mod MendLemmas
+pub mod SurveyLemmas
+pub mod SurveyLineLemmas
 pub mod ScreenLemmas
 pub mod DrawLemmas
 pub mod StageLemmas

@@ -7,20 +7,24 @@ use Rattle.sixel_grammar.specs.declared.fault.Fault.{Fault}
 use Rattle.sixel_grammar.specs.Prefixes.{CompleteIn}
 use Rattle.sixel_grammar.proofs.UniqueLemmas.{complete_once, document_once, fault_no_document, fault_once}
 use Rattle.sixel_run.specs.declared.fault.RunFault.{RunFault}
-use Rattle.sixel_run.specs.declared.fault.RunFault.TheVariants.{Grammar, Ppm, NotRgb, NoBox, OutOfMemory, Read, Write}
+use Rattle.sixel_run.specs.declared.fault.RunFault.TheVariants.{Grammar, Ppm, NotRgb, NoBox, Empty, TooLarge}
+use Rattle.sixel_run.specs.declared.fault.RunFault.TheVariants.{TooManyColours, OutOfMemory, Read, Write}
 use Rattle.sixel_run.specs.declared.task.Status.{Status}
 use Rattle.sixel_run.specs.declared.task.Status.TheVariants.{Done}
 use Rattle.sixel_run.specs.declared.task.Task.{Task}
-use Rattle.sixel_run.specs.declared.task.Task.TheVariants.{List as Listing, Check, Render, Show, ShowBox, Encode}
-use Rattle.sixel_run.specs.Outputs.{Gives, ListGives, ListsUnread, Wrote, WroteUnread}
+use Rattle.sixel_run.specs.declared.task.Task.TheVariants.{List as Listing, Check, Survey, Render, Show, ShowBox, Encode}
+use Rattle.sixel_run.specs.declared.task.Task.TheVariants.{Mend}
+use Rattle.sixel_run.specs.Outputs.{Gives, ListGives, ListsUnread, Wrote, WroteUnread, mending}
 use Rattle.sixel_run.specs.Screens.{screen_terminal, show_choices, show_terminal}
 use Rattle.sixel_run.specs.Texts.{Text, BeginsWith, list_text}
 use Rattle.sixel_run.proofs.OutputLemmas.{gives-begins}
 use Rattle.sixel_run.proofs.BoxLemmas.{box-gives, box-once}
 use Rattle.sixel_run.proofs.CheckLemmas.{check-gives, check-once}
 use Rattle.sixel_run.proofs.FileLemmas.{encode-gives, encode-once}
+use Rattle.sixel_run.proofs.MendLemmas.{mend-gives, mend-once}
 use Rattle.sixel_run.proofs.PictureLemmas.{render-gives, render-once}
 use Rattle.sixel_run.proofs.ScreenLemmas.{show-gives, show-once}
+use Rattle.sixel_run.proofs.SurveyLemmas.{survey-gives, survey-once}
 use Rattle.sixel_io.proofs.SinkLemmas.{Appends-keeps}
 use Rattle.sixel_grammar.proofs.TotalLemmas.{judged, viable_before}
 
@@ -45,12 +49,18 @@ list-once bytes first second (Err (Grammar f)) (Err (Grammar e)) g h =
 list-once bytes first second (Ok s) (Err (Ppm reason place)) g h = absurd h
 list-once bytes first second (Ok s) (Err NotRgb) g h = absurd h
 list-once bytes first second (Ok s) (Err NoBox) g h = absurd h
+list-once bytes first second (Ok s) (Err Empty) g h = absurd h
+list-once bytes first second (Ok s) (Err TooLarge) g h = absurd h
+list-once bytes first second (Ok s) (Err TooManyColours) g h = absurd h
 list-once bytes first second (Ok s) (Err OutOfMemory) g h = absurd h
 list-once bytes first second (Ok s) (Err Read) g h = absurd h
 list-once bytes first second (Ok s) (Err Write) g h = absurd h
 list-once bytes first second (Err (Grammar f)) (Err (Ppm reason place)) g h = absurd h
 list-once bytes first second (Err (Grammar f)) (Err NotRgb) g h = absurd h
 list-once bytes first second (Err (Grammar f)) (Err NoBox) g h = absurd h
+list-once bytes first second (Err (Grammar f)) (Err Empty) g h = absurd h
+list-once bytes first second (Err (Grammar f)) (Err TooLarge) g h = absurd h
+list-once bytes first second (Err (Grammar f)) (Err TooManyColours) g h = absurd h
 list-once bytes first second (Err (Grammar f)) (Err OutOfMemory) g h = absurd h
 list-once bytes first second (Err (Grammar f)) (Err Read) g h = absurd h
 list-once bytes first second (Err (Grammar f)) (Err Write) g h = absurd h
@@ -71,6 +81,9 @@ gives-once Listing bytes first second a b g h = list-once bytes first second a b
 gives-once (Check profile) bytes first second a b g h = check-once _ bytes first second a b g h
 gives-once (Render profile) bytes first second a b g h = render-once _ bytes first second a b g h
 gives-once (Encode profile) bytes first second a b g h = encode-once _ bytes first second a b g h
+gives-once (Survey profile) bytes first second a b g h = survey-once _ bytes first second a b g h
+gives-once (Mend profile background showing selects) bytes first second a b g h =
+    mend-once _ (mending background showing selects) bytes first second a b g h
 gives-once (Show profile showing fill selects width height) bytes first second a b g h =
     show-once (show_terminal profile (show_choices showing fill selects width height)) bytes first second a b g h
 gives-once (ShowBox profile showing fill selects) bytes first second a b g h =
@@ -82,6 +95,8 @@ gives Listing bytes = list-gives bytes
 gives (Check profile) bytes = check-gives _ bytes
 gives (Render profile) bytes = render-gives _ bytes
 gives (Encode profile) bytes = encode-gives _ bytes
+gives (Survey profile) bytes = survey-gives _ bytes
+gives (Mend profile background showing selects) bytes = mend-gives _ (mending background showing selects) bytes
 gives (Show profile showing fill selects width height) bytes =
     show-gives (show_terminal profile (show_choices showing fill selects width height)) bytes
 gives (ShowBox profile showing fill selects) bytes = box-gives (screen_terminal profile showing fill selects) bytes

@@ -3,8 +3,11 @@ use Rattle.sixel_grammar.specs.declared.fault.InputFault.{InputFault}
 use Rattle.sixel_grammar.specs.declared.fault.InputFault.TheVariants as input
 use Rattle.sixel_ppm.specs.declared.ppm.PpmFault.{PpmFault}
 use Rattle.sixel_ppm.specs.declared.ppm.PpmFault.TheVariants as ppm
+use Rattle.sixel_mend.specs.declared.mending.MendFault.{MendFault}
+use Rattle.sixel_mend.specs.declared.mending.MendFault.TheVariants as mend
 use Rattle.sixel_run.specs.declared.fault.RunFault.{RunFault}
-use Rattle.sixel_run.specs.declared.fault.RunFault.TheVariants.{Grammar, Ppm, NotRgb, OutOfMemory, Read, Write}
+use Rattle.sixel_run.specs.declared.fault.RunFault.TheVariants.{Grammar, Ppm, NotRgb, Empty, TooLarge, TooManyColours}
+use Rattle.sixel_run.specs.declared.fault.RunFault.TheVariants.{OutOfMemory, Read, Write}
 
 abbrev pub of_input : InputFault → RunFault
 of_input (input.Grammar fault) = Grammar fault
@@ -17,3 +20,10 @@ of_ppm ppm.NotRgb = NotRgb
 of_ppm ppm.OutOfMemory = OutOfMemory
 of_ppm ppm.Read = Read
 of_ppm ppm.Write = Write
+
+abbrev pub of_mend : MendFault → RunFault
+of_mend (mend.Grammar fault) = Grammar fault
+of_mend mend.Empty = Empty
+of_mend mend.TooLarge = TooLarge
+of_mend mend.TooManyColours = TooManyColours
+of_mend mend.OutOfMemory = OutOfMemory

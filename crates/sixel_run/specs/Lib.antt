@@ -3,6 +3,7 @@ pub mod SixelLines
 pub mod Conversions
 pub mod Screens
 pub mod Outputs
+pub mod Surveyed
 pub mod Draw
 pub mod Boxes
 pub mod Feeding

@@ -1,5 +1,5 @@
 -- What a run writes and answers.
-use Rattle.std.specs.Prelude.{◌≡◌, ◌⊎◌, ℕ, List, [], ◌≤◌, length, take, Option, Some, None, IfSome, IsTrue, IsFalse}
+use Rattle.std.specs.Prelude.{◌≡◌, ◌⊎◌, ℕ, Bool, List, [], ◌≤◌, length, take, Option, Some, None, IfSome, IsTrue, IsFalse}
 use Rattle.std.specs.Prelude.{Result, Ok, Err, if◌then◌else◌}
 use Rattle.std.specs.Io.KnownBytes.{Appends, Consumes}
 use Rattle.sixel_grammar.specs.declared.command.Placed.{Placed}
@@ -10,6 +10,7 @@ use Rattle.sixel_grammar.specs.Faults.{IsFaultOf}
 use Rattle.sixel_ppm.specs.declared.ppm.PpmFault.{PpmFault}
 use Rattle.sixel_model.specs.Pictures.{PictureValue}
 use Rattle.sixel_model.specs.Profiles.{count_of}
+use Rattle.sixel_model.specs.declared.colour.Parts.{Parts}
 use Rattle.sixel_ppm.specs.Ppm.{are_rgb, colours_of, is_file_side, ppm_text}
 use Rattle.sixel_ppm.specs.PpmReading.{HasWholeHeader, ppm_read}
 use Rattle.sixel_terminal.specs.Displays.{Display}
@@ -19,16 +20,23 @@ use Rattle.sixel_judge.specs.declared.verdict.Verdict.TheVariants.{Portable, Bro
 use Rattle.sixel_judge.specs.Growth.{MayGrowIn}
 use Rattle.sixel_judge.specs.Verdicts.{IsVerdict}
 use Rattle.sixel_encode.specs.Canon.{canon_text}
-use Rattle.sixel_run.specs.Conversions.{of_ppm}
+use Rattle.sixel_survey.specs.declared.entry.Survey.{Survey as ASurvey}
+use Rattle.sixel_survey.specs.Declaring.{DeclareBoxIn}
+use Rattle.sixel_survey.specs.Surveys.{IsSurvey}
+use Rattle.sixel_mend.specs.declared.mending.MendFault.{MendFault}
+use Rattle.sixel_mend.specs.declared.mending.Mending.{Mending}
+use Rattle.sixel_mend.specs.Mended.{MendsEvents}
+use Rattle.sixel_run.specs.Conversions.{of_mend, of_ppm}
 use Rattle.sixel_run.specs.declared.fault.RunFault.{RunFault}
 use Rattle.sixel_run.specs.declared.fault.RunFault.TheVariants.{Grammar, NotRgb, NoBox, OutOfMemory, Read, Write}
 use Rattle.sixel_run.specs.declared.task.Status.{Status}
 use Rattle.sixel_run.specs.declared.task.Status.TheVariants as status
 use Rattle.sixel_run.specs.declared.task.Status.TheVariants.{Done}
 use Rattle.sixel_run.specs.declared.task.Task.{Task}
-use Rattle.sixel_run.specs.declared.task.Task.TheVariants.{List as Listing, Check, Render, Show, ShowBox, Encode}
+use Rattle.sixel_run.specs.declared.task.Task.TheVariants.{List as Listing, Check, Survey, Render, Show, ShowBox, Encode}
+use Rattle.sixel_run.specs.declared.task.Task.TheVariants.{Mend}
 use Rattle.sixel_run.specs.Screens.{declared_screen, screen_terminal, screen_text, show_choices, show_terminal}
-use Rattle.sixel_run.specs.Texts.{Text, BeginsWith, list_text, verdict_line}
+use Rattle.sixel_run.specs.Texts.{Text, BeginsWith, list_text, survey_text, verdict_line}
 
 -- ---- lists
 
@@ -75,6 +83,18 @@ abbrev pub line_of : Result Verdict RunFault → Text
 line_of (Ok verdict) = verdict_line verdict
 line_of (Err fault) = []
 
+-- ---- surveys
+
+-- for a document the lines of its survey, with this many registers, and the status of its verdict; for other bytes
+-- their fault, and no text
+abbrev pub SurveyGives : ℕ → List ℕ → Text → Result Status RunFault → Type 0
+SurveyGives registers bytes text (Ok status) =
+    (events : List Placed) × Document events bytes
+    × ((survey : ASurvey) × IsSurvey registers events survey × (text ≡ survey_text survey))
+    × ((verdict : Verdict) × IsVerdict registers events verdict × (status ≡ status_of verdict))
+SurveyGives registers bytes text (Err (Grammar fault)) = (text ≡ []) × IsFaultOf bytes fault
+SurveyGives registers bytes text (Err fault) = ⊥
+
 -- ---- pictures
 
 -- the PPM of a picture, if the colours of all its pixels are RGB; else NotRgb, and no text
@@ -103,6 +123,22 @@ encode_output (Err fault) = ([], Err (of_ppm fault))
 
 abbrev pub EncodeGives : ℕ → List ℕ → Text → Result Status RunFault → Type 0
 EncodeGives registers bytes text answer = (text, answer) ≡ encode_output (ppm_read registers bytes)
+
+-- ---- mended strings
+
+-- for a mended picture its canonical text; else the fault, and no text
+abbrev pub mend_output : Result PictureValue MendFault → Text × Result Status RunFault
+mend_output (Ok picture) = (canon_text picture, Ok Done)
+mend_output (Err fault) = ([], Err (of_mend fault))
+
+-- for a document the mend_output of its mended picture, in the profile with this many registers, or of the first reason
+-- why there is none; for other bytes their fault, and no text
+abbrev pub MendGives : ℕ → Mending → List ℕ → Text → Result Status RunFault → Type 0
+MendGives registers m bytes text (Err (Grammar fault)) = (text ≡ []) × IsFaultOf bytes fault
+MendGives registers m bytes text answer =
+    (events : List Placed) × Document events bytes
+    × ((mended : Result PictureValue MendFault) × MendsEvents registers m (events_of events) mended
+    × ((text, answer) ≡ mend_output mended))
 
 -- ---- screens
 
@@ -135,12 +171,19 @@ abbrev pub HasSides : Task → Type 0
 HasSides (Show profile showing fill selects width height) = IsTrue (is_file_side width) × IsTrue (is_file_side height)
 HasSides t = Unit {0}
 
+-- what is asked of the terminal that shows a string to mend
+abbrev pub mending : Parts → Bool → Bool → Mending
+mending background showing selects = record { background = background; showing = showing; selects = selects }
+
 -- what a task writes for these bytes, and its answer, if no allocation and no device fails
 abbrev pub Gives : Task → List ℕ → Text → Result Status RunFault → Type 0
 Gives Listing bytes text answer = ListGives bytes text answer
 Gives (Check profile) bytes text answer = CheckGives (count_of profile) bytes text answer
+Gives (Survey profile) bytes text answer = SurveyGives (count_of profile) bytes text answer
 Gives (Render profile) bytes text answer = RenderGives (count_of profile) bytes text answer
 Gives (Encode profile) bytes text answer = EncodeGives (count_of profile) bytes text answer
+Gives (Mend profile background showing selects) bytes text answer =
+    MendGives (count_of profile) (mending background showing selects) bytes text answer
 Gives (Show profile showing fill selects width height) bytes text answer =
     ShowGives (show_terminal profile (show_choices showing fill selects width height)) bytes text answer
 Gives (ShowBox profile showing fill selects) bytes text answer =
@@ -156,12 +199,15 @@ WroteUnread Listing bytes left had has = ListsUnread bytes left had has
 WroteUnread t bytes left had has = WroteNothing had has
 
 -- a run of the task over these bytes, if they are known, may run out of memory: a check or a render only if a checker
--- may allocate in them, an encode only after a whole header, a list never
+-- may allocate in them, a survey only if a box in range is declared in them, an encode only after a whole header, a list
+-- never
 abbrev pub TakesMemory : Task → Option (List ℕ) → Type 0
 TakesMemory Listing told = ⊥
 TakesMemory (Check profile) told = IfSome told (MayGrowIn (count_of profile))
+TakesMemory (Survey profile) told = IfSome told DeclareBoxIn
 TakesMemory (Render profile) told = IfSome told (MayGrowIn (count_of profile))
 TakesMemory (Encode profile) told = IfSome told HasWholeHeader
+TakesMemory (Mend profile background showing selects) told = Unit {0}
 TakesMemory (Show profile showing fill selects width height) told = Unit {0}
 TakesMemory (ShowBox profile showing fill selects) told = Unit {0}
 

@@ -1,6 +1,8 @@
 -- The lines that the program writes.
 use Rattle.std.specs.Prelude.{◌≡◌, ℕ, Bool, List, [], ◌∷◌, ◌++◌, Option, Some, None, codes, decimal, flat_map, map, ◌+◌}
 use Rattle.std.specs.Prelude.{◌/◌, ◌%◌, if◌then◌else◌}
+use Rattle.std.specs.List.{concat}
+use Rattle.std.specs.Option.{option_to_list}
 use Rattle.sixel_grammar.specs.declared.command.Command.{Command}
 use Rattle.sixel_grammar.specs.declared.command.Command.TheVariants.{Sixel, Repeat, Raster, Select, Define}
 use Rattle.sixel_grammar.specs.declared.command.Command.TheVariants.{CarriageReturn, NextLine}
@@ -19,8 +21,11 @@ use Rattle.sixel_judge.specs.declared.rule.Rule.TheVariants as rule
 use Rattle.sixel_judge.specs.declared.verdict.Finding.{Finding}
 use Rattle.sixel_judge.specs.declared.verdict.Verdict.{Verdict}
 use Rattle.sixel_judge.specs.declared.verdict.Verdict.TheVariants.{Portable, Broken}
+use Rattle.sixel_survey.specs.declared.entry.Entry.{Entry}
+use Rattle.sixel_survey.specs.declared.entry.Survey.{Survey}
 use Rattle.sixel_run.specs.declared.fault.RunFault.{RunFault}
-use Rattle.sixel_run.specs.declared.fault.RunFault.TheVariants.{Grammar, Ppm, NotRgb, NoBox, OutOfMemory, Read, Write}
+use Rattle.sixel_run.specs.declared.fault.RunFault.TheVariants.{Grammar, Ppm, NotRgb, NoBox, Empty, TooLarge}
+use Rattle.sixel_run.specs.declared.fault.RunFault.TheVariants.{TooManyColours, OutOfMemory, Read, Write}
 
 abbrev pub Text : Type 0
 Text = List ℕ
@@ -101,6 +106,9 @@ fault_parts (Grammar fault) = reason_name fault.reason ∷ codes "at" ∷ decima
 fault_parts (Ppm reason place) = ppm_reason_name reason ∷ codes "at" ∷ decimal place ∷ []
 fault_parts NotRgb = codes "NotRgb" ∷ []
 fault_parts NoBox = codes "NoBox" ∷ []
+fault_parts Empty = codes "Empty" ∷ []
+fault_parts TooLarge = codes "TooLarge" ∷ []
+fault_parts TooManyColours = codes "TooManyColours" ∷ []
 fault_parts OutOfMemory = codes "out of memory" ∷ []
 fault_parts Read = codes "read failed" ∷ []
 fault_parts Write = codes "write failed" ∷ []
@@ -140,10 +148,28 @@ pixel_parts _ pixel = []
 abbrev pub finding_line : Finding → Text
 finding_line f = line (codes "broken") (rule_name f.rule ∷ decimal f.place ∷ pixel_parts f.rule f.pixel)
 
--- the line of a portable picture: its width and its height
+-- the line of a portable picture of this size: its width and its height
+abbrev pub size_line : ℕ → ℕ → Text
+size_line width height = line (codes "portable") (numbers (width ∷ height ∷ []))
+
 abbrev pub portable_line : PictureValue → Text
-portable_line p = line (codes "portable") (numbers (p.width ∷ p.height ∷ []))
+portable_line p = size_line p.width p.height
 
 abbrev pub verdict_line : Verdict → Text
 verdict_line (Portable picture) = portable_line picture
 verdict_line (Broken finding) = finding_line finding
+
+-- ---- surveys
+
+-- the line of an entry: its rule, how often it counts, its offset and its pixel
+abbrev pub entry_line : Entry → Text
+entry_line e = line (rule_name e.rule) (decimal e.count ∷ decimal e.place ∷ pixel_parts e.rule e.pixel)
+
+-- a line for each entry, and that of the size if the survey has one
+abbrev pub survey_lines : Survey → List Text
+survey_lines s =
+    map entry_line s.entries.items ++ map (λ size. size_line size.0 size.1) (option_to_list s.size)
+
+-- these lines, one after the other
+abbrev pub survey_text : Survey → Text
+survey_text s = concat (survey_lines s)

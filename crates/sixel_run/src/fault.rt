@@ -1,6 +1,7 @@
 //! Why a run is refused.
 
 use sixel_grammar::{Fault, InputFault};
+use sixel_mend::MendFault;
 use sixel_ppm::{PpmFault, PpmReason};
 use std::alloc::AllocError;
 use thiserror::Error;
@@ -22,6 +23,16 @@ pub enum RunFault {
     /// 4,096 pixels. Nothing was written.
     #[error("NoBox")]
     NoBox,
+    /// A side of the mended picture is 0: nothing is painted, and no box with both sides is declared. Nothing was
+    /// written.
+    #[error("Empty")]
+    Empty,
+    /// The mended picture has more than 2,048 columns or rows. Nothing was written.
+    #[error("TooLarge")]
+    TooLarge,
+    /// The mended picture has more colours than the profile has registers. Nothing was written.
+    #[error("TooManyColours")]
+    TooManyColours,
     /// An allocation failed.
     #[error("OutOfMemory")]
     OutOfMemory,
@@ -61,6 +72,23 @@ impl From<PpmFault> for RunFault {
             PpmFault::OutOfMemory => RunFault::OutOfMemory,
             PpmFault::Read => RunFault::Read,
             PpmFault::Write => RunFault::Write,
+        }
+    }
+}
+
+impl From<MendFault> for RunFault {
+    ghost use Rattle.std.specs.Prelude.{◌≡◌};
+    ghost use Rattle.sixel_run.specs.Conversions.{of_mend};
+
+    ghost from_gives = { λ fault result. result ≡ of_mend fault };
+
+    fn from(fault: MendFault) -> RunFault {
+        match fault {
+            MendFault::Grammar(fault) => RunFault::Grammar(fault),
+            MendFault::Empty => RunFault::Empty,
+            MendFault::TooLarge => RunFault::TooLarge,
+            MendFault::TooManyColours => RunFault::TooManyColours,
+            MendFault::OutOfMemory => RunFault::OutOfMemory,
         }
     }
 }

@@ -6,6 +6,7 @@ pub mod laws;
 mod lines;
 mod running;
 mod sixel_line;
+mod survey_lines;
 mod task;
 
 pub use fault::RunFault;
@@ -14,4 +15,6 @@ pub use lines::{
 };
 pub use running::check::{judge, status_of};
 pub use running::run;
+pub use running::survey::{Surveyed, survey_of};
+pub use survey_lines::{entry_line, size_line, write_survey};
 pub use task::{MOST_SCREEN_SIDE, Status, Task};

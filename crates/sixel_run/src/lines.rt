@@ -16,10 +16,11 @@ use sixel_io::{DeviceFault, Sink, put_all};
 use sixel_model::Picture;
 use sixel_ppm::PpmReason;
 
-/// A line, with its line feed: of an event at most 58 bytes, of a fault at most 46, of a verdict at most 82.
+/// A line, with its line feed: of an event at most 58 bytes, of a fault at most 46, of a verdict at most 82, of a
+/// survey's entry at most 94.
 pub type Line = ArrayVec<u8, 96>;
 
-fn push_all(line: &mut Line, text: &[u8])
+pub(crate) fn push_all(line: &mut Line, text: &[u8])
     requires { array_vec_len line.old + length text.now ≤ 96 }
     ensures items { line.new.items ≡ line.old.items ++ text.now }
     ensures len { array_vec_len line.new ≡ array_vec_len line.old + length text.now }
@@ -28,7 +29,7 @@ fn push_all(line: &mut Line, text: &[u8])
 }
 
 /// A number after a space: at most 20 digits.
-fn push_number(line: &mut Line, number: u64)
+pub(crate) fn push_number(line: &mut Line, number: u64)
     requires { array_vec_len line.old + 21 ≤ 96 }
     ensures items { line.new.items ≡ line.old.items ++ 32 ∷ decimal number }
     ensures len { array_vec_len line.new ≤ array_vec_len line.old + 21 }
@@ -184,6 +185,9 @@ pub fn fault_line(fault: &RunFault) -> Line
         RunFault::Ppm { reason, place } => push_reason(&mut line, ppm_reason_name(*reason), *place),
         RunFault::NotRgb => push_all(&mut line, b"NotRgb"),
         RunFault::NoBox => push_all(&mut line, b"NoBox"),
+        RunFault::Empty => push_all(&mut line, b"Empty"),
+        RunFault::TooLarge => push_all(&mut line, b"TooLarge"),
+        RunFault::TooManyColours => push_all(&mut line, b"TooManyColours"),
         RunFault::OutOfMemory => push_all(&mut line, b"out of memory"),
         RunFault::Read => push_all(&mut line, b"read failed"),
         RunFault::Write => push_all(&mut line, b"write failed"),
@@ -200,7 +204,7 @@ pub fn write_fault<K: Sink>(fault: &RunFault, out: &mut K) -> Result<(), DeviceF
     put_all(out, line.as_slice())
 }
 
-fn rule_name(rule: Rule) -> &'static str
+pub(crate) fn rule_name(rule: Rule) -> &'static str
     ensures text { result.now ≡ rule_name rule }
     ensures short { length result.now ≤ 11 }
 {
@@ -221,13 +225,13 @@ fn rule_name(rule: Rule) -> &'static str
     }
 }
 
-/// The column and the row of a finding's pixel, if its rule names one.
-fn push_pixel(line: &mut Line, finding: &Finding)
-    requires { array_vec_len line.old ≤ 50 }
-    ensures items { line.new.items ≡ line.old.items ++ spaced (pixel_parts finding.now.rule finding.now.pixel) }
-    ensures len { array_vec_len line.new ≤ 92 }
+/// The column and the row of a pixel, if the rule names one.
+pub(crate) fn push_pixel(line: &mut Line, rule: Rule, pixel: Option<(u64, u64)>)
+    requires { array_vec_len line.old ≤ 53 }
+    ensures items { line.new.items ≡ line.old.items ++ spaced (pixel_parts rule pixel) }
+    ensures len { array_vec_len line.new ≤ 95 }
 {
-    match (finding.rule, finding.pixel) {
+    match (rule, pixel) {
         (Rule::Outside | Rule::Uncovered, Some((x, y))) => {
             push_number(line, x);
             push_number(line, y);
@@ -244,7 +248,7 @@ pub fn finding_line(finding: &Finding) -> Line
     push_all(&mut line, b"broken ");
     push_all(&mut line, rule_name(finding.rule).as_bytes());
     push_number(&mut line, finding.place);
-    push_pixel(&mut line, finding);
+    push_pixel(&mut line, finding.rule, finding.pixel);
     line.push(b'\n');
     line
 }

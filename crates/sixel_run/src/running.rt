@@ -7,14 +7,17 @@ pub mod check;
 mod draw;
 mod encode;
 mod list;
+mod mend;
 mod render;
 mod screen;
 mod show;
 mod show_box;
+pub mod survey;
 
 use crate::fault::RunFault;
 use crate::task::{Status, Task};
 use sixel_io::{Sink, Source};
+use sixel_mend::Mending;
 use std::alloc::Global;
 
 /// Runs a task: reads the input as far as the task needs it, writes the output, and flushes once at the end.
@@ -63,8 +66,22 @@ fn perform<S: Source, K: Sink>(
     match task {
         Task::List => list::list(input, output),
         Task::Check { profile } => check::check(alloc, profile, input, output),
+        Task::Survey { profile } => survey::survey(alloc, profile, input, output),
         Task::Render { profile } => render::render(alloc, profile, input, output),
         Task::Encode { profile } => encode::encode(alloc, profile, input, output),
+        Task::Mend {
+            profile,
+            background,
+            showing,
+            selects,
+        } => {
+            let mending = Mending {
+                background,
+                showing,
+                selects,
+            };
+            mend::mend(alloc, profile, &mending, input, output)
+        }
         Task::Show {
             profile,
             showing,

@@ -1,7 +1,7 @@
 //! What a run does, and how it ends if it isn't refused.
 
 use sixel_check::Finding;
-use sixel_model::Profile;
+use sixel_model::{Colour, Profile};
 
 /// The greatest side of a screen, in pixels.
 pub const MOST_SCREEN_SIDE: u32 = 4096;
@@ -15,6 +15,12 @@ pub enum Task {
     /// A line with the verdict on a sixel picture, with the registers of the profile: `portable` and its size in
     /// pixels, or `broken`, the first broken rule, its offset in bytes, and its pixel if it has one.
     Check {
+        profile: Profile,
+    },
+    /// A line for each rule that a sixel picture breaks, with the registers of the profile: the rule, how often it
+    /// counts, the offset where it counts first, and its pixel there if it has one. Without a broken rule, the line of
+    /// `Check`.
+    Survey {
         profile: Profile,
     },
     /// A sixel picture that is portable in the profile, as a Netpbm PPM with a maxval of 100.
@@ -45,6 +51,17 @@ pub enum Task {
         fill: bool,
         selects: bool,
     },
+    /// What one terminal shows of a sixel string, as a portable sixel picture with all of its paint. The terminal has
+    /// 256 registers, which start as the 16 colours of a VT340, over and over.
+    Mend {
+        profile: Profile,
+        /// The colour of the pixels that the string doesn't paint.
+        background: Colour,
+        /// As in `Show`.
+        showing: bool,
+        /// As in `Show`.
+        selects: bool,
+    },
     /// A Netpbm PPM, with at most as many colours as the profile has registers, as a portable sixel picture.
     Encode {
         profile: Profile,
@@ -54,7 +71,7 @@ pub enum Task {
 /// How a task ended that wasn't refused.
 #[derive(Clone, Copy, Debug, PartialEq, Eq)]
 pub enum Status {
-    /// The task is done; for a check, no rule is broken.
+    /// The task is done; for a check or a survey, no rule is broken.
     Done,
     /// The picture isn't portable: its first broken rule.
     Broken(Finding),

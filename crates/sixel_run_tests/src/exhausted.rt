@@ -2,6 +2,7 @@
 
 ghost use Rattle.sixel_run.specs.Outputs.{HasSides};
 
+use crate::runs::mend_on_black;
 use sixel_check::{Verdict, check};
 use sixel_grammar::InputFault;
 use sixel_io::{SliceSink, SliceSource};
@@ -14,6 +15,9 @@ use std::test::Fail;
 
 /// One black pixel.
 const PIXEL: &[u8] = b"\x1bPq\"1;1;1;1#0;2;0;0;0#0@\x1b\\";
+
+/// The text of that pixel, mended.
+const MENDED_PIXEL: &[u8] = b"\x1bP0;1q\"1;1;1;1#0;2;0;0;0#0@\x1b\\";
 
 /// Five red pixels.
 const RED: &[u8] = b"P6 5 1 100\nd\0\0d\0\0d\0\0d\0\0d\0\0";
@@ -50,7 +54,7 @@ fn checks(alloc: Global, profile: Profile) -> Option<bool> {
 fn runs(alloc: Global, task: Task, text: &[u8]) -> Option<bool>
     requires { HasSides task }
 {
-    let mut room = [0; 16];
+    let mut room = [0; 32];
     let mut input = SliceSource::new(PIXEL, 64, None);
     let mut output = SliceSink::new(&mut room, 64, None);
     match run(alloc, task, &mut input, &mut output) {
@@ -68,9 +72,11 @@ enum Call {
     Check(Profile),
     RunCheck(Profile),
     RunRender(Profile),
+    RunSurvey(Profile),
+    RunMend(Profile),
 }
 
-const CALLS: [Call; 8] = [
+const CALLS: [Call; 10] = [
     Call::BlankOfBytes,
     Call::BlankOfBands,
     Call::ReadPpm(Profile::Registers16),
@@ -79,6 +85,8 @@ const CALLS: [Call; 8] = [
     Call::Check(Profile::Registers256),
     Call::RunCheck(Profile::Registers16),
     Call::RunRender(Profile::Registers256),
+    Call::RunSurvey(Profile::Registers16),
+    Call::RunMend(Profile::Registers16),
 ];
 
 /// Whether the call gives its expected result. It isn't inlined: a copy in each caller would need more stack.
@@ -91,6 +99,8 @@ fn answer(alloc: Global, call: Call) -> Option<bool> {
         Call::Check(profile) => checks(alloc, profile),
         Call::RunCheck(profile) => runs(alloc, Task::Check { profile }, b"portable 1 1\n"),
         Call::RunRender(profile) => runs(alloc, Task::Render { profile }, b"P6\n1 1\n100\n\0\0\0"),
+        Call::RunSurvey(profile) => runs(alloc, Task::Survey { profile }, b"portable 1 1\n"),
+        Call::RunMend(profile) => runs(alloc, mend_on_black(profile), MENDED_PIXEL),
     }
 }
 

@@ -14,14 +14,14 @@ use std::alloc::Global;
 
 /// A task on some bytes, and what it writes and answers if no device fails.
 #[derive(Clone, Copy)]
-struct Case {
-    task: Task,
-    bytes: &'static [u8],
-    text: &'static [u8],
-    answer: Result<Status, RunFault>,
+pub(crate) struct Case {
+    pub task: Task,
+    pub bytes: &'static [u8],
+    pub text: &'static [u8],
+    pub answer: Result<Status, RunFault>,
     /// The piece size (1, 5 and 64 bytes, for input and output), and the numbers of fills and takes. The fills give the
     /// bytes up to the one with the fault, or all bytes and then the end.
-    calls: [(usize, u64, u64); 3],
+    pub calls: [(usize, u64, u64); 3],
 }
 
 /// One black pixel.
@@ -54,7 +54,7 @@ const LISTED_FAULT: Case = Case {
 };
 
 /// One pixel, checked.
-const CHECKED: Case = Case {
+pub(crate) const CHECKED: Case = Case {
     task: CHECK,
     bytes: PIXEL,
     text: b"portable 1 1\n",
@@ -85,7 +85,7 @@ const UNCOVERED: Case = Case {
 };
 
 /// A fault: no verdict.
-const CHECKED_FAULT: Case = Case {
+pub(crate) const CHECKED_FAULT: Case = Case {
     task: CHECK,
     bytes: LARGE,
     text: b"",
@@ -369,7 +369,7 @@ fn stops_at_both(alloc: Global, case: Case) -> bool
 }
 
 /// Each call of each device fails in turn, then both at once; and each room is tried that is too small for the text.
-fn stops(alloc: Global, case: Case) -> bool
+pub(crate) fn stops(alloc: Global, case: Case) -> bool
     requires { HasSides case.task }
 {
     for (piece, fills, takes) in case.calls {

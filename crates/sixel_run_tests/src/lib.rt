@@ -16,4 +16,6 @@ mod runs;
 #[cfg(test)]
 mod show_box;
 #[cfg(test)]
+mod surveys_and_mends;
+#[cfg(test)]
 mod wide;

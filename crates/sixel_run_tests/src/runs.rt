@@ -4,7 +4,7 @@ ghost use Rattle.sixel_run.specs.Outputs.{HasSides};
 
 use sixel_grammar::{Fault, Reason};
 use sixel_io::{SliceSink, SliceSource};
-use sixel_model::Profile;
+use sixel_model::{Colour, Profile};
 use sixel_run::{RunFault, Status, Task, run};
 use sixel_test_devices::{Calls, CountingDevice};
 use std::alloc::Global;
@@ -14,6 +14,10 @@ pub const CHECK: Task = Task::Check {
 };
 
 pub const RENDER: Task = Task::Render {
+    profile: Profile::Registers16,
+};
+
+pub const SURVEY: Task = Task::Survey {
     profile: Profile::Registers16,
 };
 
@@ -40,6 +44,18 @@ pub const WIDE_RENDER: Task = Task::Render {
 pub const WIDE_ENCODE: Task = Task::Encode {
     profile: Profile::Registers256,
 };
+
+/// A mend on a black background, without options.
+pub fn mend_on_black(profile: Profile) -> Task
+    ensures { HasSides result }
+{
+    Task::Mend {
+        profile,
+        background: Colour::of_percentages(0, 0, 0),
+        showing: false,
+        selects: false,
+    }
+}
 
 /// What a run over counting devices answered and wrote into the room, and the calls that they saw.
 #[derive(Drop)]

@@ -9,3 +9,4 @@ pub mod HitLemmas
 pub mod DeclareLemmas
 pub mod AnswerLemmas
 pub mod SurveyorLemmas
+pub mod OrderLemmas

@@ -1,5 +1,5 @@
 -- What the laws say.
-use Rattle.std.specs.Prelude.{◌≡◌, ◌≢◌, ◌↔◌, ◌≤◌, ℕ, List, [], All, Contains}
+use Rattle.std.specs.Prelude.{◌≡◌, ◌≢◌, ◌↔◌, ◌≤◌, ◌==◌, ◌&&◌, ◌||◌, ℕ, Bool, List, [], All, Contains, nat_lt}
 use Rattle.sixel_grammar.specs.declared.command.Placed.{Placed}
 use Rattle.sixel_grammar.specs.Document.{Document, events_of}
 use Rattle.sixel_model.specs.Rules.{BreaksNone}
@@ -17,9 +17,19 @@ pub record IsFirstEntry (entries : List Entry) (entry : Entry) : Type 0 where
   pub least_place : All (λ (e : Entry). entry.place ≤ e.place) entries
   pub least_number : All (λ (e : Entry). e.place ≡ entry.place → number_of entry.rule ≤ number_of e.rule) entries
 
+-- an entry has a smaller place than another, or the same place and a smaller number
+abbrev pub comes_before : Entry → Entry → Bool
+comes_before entry other =
+    nat_lt entry.place other.place
+    || ((entry.place == other.place) && nat_lt (number_of entry.rule) (number_of other.rule))
+
 -- the rule, the place and the pixel of an entry
 abbrev pub finding_of : Entry → Finding
 finding_of entry = record { rule = entry.rule; place = entry.place; pixel = entry.pixel }
+
+-- the finding of the first entry
+abbrev pub IsFirstFinding : List Entry → Finding → Type 0
+IsFirstFinding entries finding = (entry : Entry) × IsFirstEntry entries entry × (finding ≡ finding_of entry)
 
 -- the survey is empty exactly if no rule is broken
 abbrev pub EmptyIfNone : ℕ → Type 0

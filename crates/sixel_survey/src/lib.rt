@@ -3,6 +3,7 @@
 
 mod cover;
 mod entry;
+mod first;
 mod hits;
 pub mod laws;
 mod notes;

@@ -9,3 +9,4 @@ pub mod PastedLemmas
 pub mod NearLemmas
 pub mod FlagLemmas
 pub mod ArgumentLemmas
+pub mod ColourLemmas

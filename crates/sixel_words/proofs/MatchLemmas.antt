@@ -1,5 +1,5 @@
 -- What the getters of clap's matches return.
-use Rattle.std.proofs.Common.{◌≡◌, ◌∙◌, ◌≤◌, ◌⊎◌, ℕ, Bool, true, false, List, [], Option, Some, None, arith}
+use Rattle.std.proofs.Common.{◌≡◌, ◌≢◌, ◌∙◌, ◌≤◌, ◌⊎◌, ℕ, Bool, true, false, List, [], Option, Some, None, arith}
 use Rattle.std.proofs.Common.{codes, refl, slice_index, subst, sym, ap, ap₂, inl, inr}
 use Rattle.std.specs.Prelude.{find, option_and_then, option_map, map, string_bytes, Box, IfSome, IfOk, Result, Ok, Err}
 use Rattle.std.specs.Str.{bytes_eq}
@@ -17,9 +17,11 @@ use Rattle.clap.proofs.WalkLemmas.{find_row}
 use Rattle.clap.specs.declared.parser.matches.SubCommand.{SubCommand}
 use Rattle.clap.specs.declared.parser.matches.ArgMatches.TheViews.{out-SubCommand}
 use Rattle.sixel_run.specs.declared.task.Task.{Task}
-use Rattle.sixel_run.specs.declared.task.Task.TheVariants.{List as Listing, Check, Render, Show, ShowBox, Encode}
+use Rattle.sixel_run.specs.declared.task.Task.TheVariants.{List as Listing, Check, Survey, Render, Show, ShowBox, Mend}
+use Rattle.sixel_run.specs.declared.task.Task.TheVariants.{Encode}
 use Rattle.sixel_words.specs.declared.request.Request.{Request}
-use Rattle.sixel_words.specs.Words.{HasSide, IsSideText, IsTask, files_of, is_given, is_named, is_of_words}
+use Rattle.sixel_model.specs.declared.colour.Parts.{Parts}
+use Rattle.sixel_words.specs.Words.{HasColour, HasSide, IsSideText, IsTask, files_of, is_given, is_named, is_of_words}
 
 pub both_parts : {X Y : Type 0} (o : Option (X × Y)) (x : X) (y : Y) → option_map (λ p. p.0) o ≡ Some x
     → option_map (λ p. p.1) o ≡ Some y → o ≡ Some (x, y)
@@ -104,6 +106,12 @@ not_render is = let first : 115 ≡ 114 = ap (λ (t : Text). slice_index t 0) is
 not_encode : codes "show" ≡ codes "encode" → ⊥
 not_encode is = let first : 115 ≡ 101 = ap (λ (t : Text). slice_index t 0) is in omega (arith, first)
 
+not_survey : codes "show" ≡ codes "survey" → ⊥
+not_survey is = let second : 104 ≡ 117 = ap (λ (t : Text). slice_index t 1) is in omega (arith, second)
+
+not_mend : codes "show" ≡ codes "mend" → ⊥
+not_mend is = let first : 115 ≡ 109 = ap (λ (t : Text). slice_index t 0) is in omega (arith, first)
+
 -- without `--box`, and without one of the sides
 pub without_side : (rows : List Row) (t : Task) → is_given (codes "box") rows ≡ false
     → ((n : ℕ) → HasSide (codes "width") rows n → ⊥) ⊎ ((n : ℕ) → HasSide (codes "height") rows n → ⊥)
@@ -112,6 +120,8 @@ without_side rows Listing plain none is = not_list is
 without_side rows (Check profile) plain none is = not_check is.0
 without_side rows (Render profile) plain none is = not_render is.0
 without_side rows (Encode profile) plain none is = not_encode is.0
+without_side rows (Survey profile) plain none is = not_survey is.0
+without_side rows (Mend profile background showing selects) plain none is = not_mend is.0
 without_side rows (Show profile showing fill selects width height) plain (inl none) is = none width is.6
 without_side rows (Show profile showing fill selects width height) plain (inr none) is = none height is.7
 without_side rows (ShowBox profile showing fill selects) plain none is = not_both _ is.5 plain
@@ -123,9 +133,31 @@ box_beside rows Listing boxed side is = not_list is
 box_beside rows (Check profile) boxed side is = not_check is.0
 box_beside rows (Render profile) boxed side is = not_render is.0
 box_beside rows (Encode profile) boxed side is = not_encode is.0
+box_beside rows (Survey profile) boxed side is = not_survey is.0
+box_beside rows (Mend profile background showing selects) boxed side is = not_mend is.0
 box_beside rows (Show profile showing fill selects width height) boxed side is = not_both _ boxed is.5
 box_beside rows (ShowBox profile showing fill selects) boxed (inl named) is = not_both _ named is.6
 box_beside rows (ShowBox profile showing fill selects) boxed (inr named) is = not_both _ named is.7
+
+-- ---- the task of mend
+
+other_first : (name : Text) (first : ℕ) → slice_index name 0 ≡ first → first ≢ 109 → codes "mend" ≡ name → ⊥
+other_first name first starts other is =
+    let same : 109 ≡ slice_index name 0 = ap (λ (t : Text). slice_index t 0) is in other (sym starts ∙ sym same)
+
+-- if the value of `--background` is no colour, there is no task
+pub without_colour : (rows : List Row) (t : Task) → ((c : Parts) → HasColour (codes "background") rows c → ⊥)
+    → IsTask (codes "mend") rows t → ⊥
+without_colour rows Listing none is = other_first (codes "list") 108 refl (λ e. omega (arith, e)) is
+without_colour rows (Check profile) none is = other_first (codes "check") 99 refl (λ e. omega (arith, e)) is.0
+without_colour rows (Survey profile) none is = other_first (codes "survey") 115 refl (λ e. omega (arith, e)) is.0
+without_colour rows (Render profile) none is = other_first (codes "render") 114 refl (λ e. omega (arith, e)) is.0
+without_colour rows (Encode profile) none is = other_first (codes "encode") 101 refl (λ e. omega (arith, e)) is.0
+without_colour rows (Show profile showing fill selects width height) none is =
+    other_first (codes "show") 115 refl (λ e. omega (arith, e)) is.0
+without_colour rows (ShowBox profile showing fill selects) none is =
+    other_first (codes "show") 115 refl (λ e. omega (arith, e)) is.0
+without_colour rows (Mend profile background showing selects) none is = none background is.2
 
 abbrev pub name_in : Option (Text × List Row) → Text
 name_in None = []

@@ -20,6 +20,7 @@ use Rattle.std.proofs.lemmas.Slice.Eq.{ends_is}
 use Rattle.sixel_judge.specs.declared.rule.Rule.{Rule as ARule}
 use Rattle.sixel_judge.specs.declared.rule.Rule.TheVariants as rule
 use Rattle.sixel_judge.specs.declared.verdict.Finding.{Finding}
+use Rattle.sixel_ppm.specs.declared.ppm.PpmReason.TheVariants as ppm
 use Rattle.sixel_run.specs.declared.fault.RunFault.{RunFault}
 use Rattle.sixel_run.specs.declared.fault.RunFault.TheVariants as fault
 use Rattle.sixel_run.specs.Texts.{Text, fault_parts, finding_line, line, pixel_parts, rule_name, spaced}
@@ -32,7 +33,7 @@ use Rattle.sixel_words.proofs.LineLemmas.{by_end, by_word, last_of_both, no_name
 use Rattle.sixel_words.proofs.NameLemmas.{name_listed}
 use Rattle.sixel_words.proofs.WishLemmas.{each}
 
-abbrev low : Text → Text
+abbrev pub low : Text → Text
 low text = str_to_ascii_lowercase text
 
 -- ---- words
@@ -64,14 +65,14 @@ words_of_both [] b = refl
 words_of_both (x ∷ a) b =
     onto_both (x == 32) x (words_of a) (words_of b) (words_of (a ++ 32 ∷ b)) (has_word a) (words_of_both a b)
 
-abbrev last_in : Text → Option Text
+abbrev pub last_in : Text → Option Text
 last_in text = last_name (words_of text)
 
 last_of_all : (a b : Text) → last_in (a ++ 32 ∷ b) ≡ option_or (last_in b) (last_in a)
 last_of_all a b = ap last_name (words_of_both a b) ∙ last_of_both (words_of a) (words_of b)
 
 -- no part has a word that is a name
-abbrev AreNameless : List Text → Type 0
+abbrev pub AreNameless : List Text → Type 0
 AreNameless [] = Unit {0}
 AreNameless (part ∷ parts) = (last_in part ≡ None) × AreNameless parts
 
@@ -100,7 +101,7 @@ named_alone t =
 
 -- ---- numbers
 
-abbrev AreDigits : Text → Type 0
+abbrev pub AreDigits : Text → Type 0
 AreDigits [] = Unit {0}
 AreDigits (d ∷ ds) = ((48 ≤ d) × (d ≤ 57)) × AreDigits ds
 
@@ -151,6 +152,9 @@ number n = some_digits 63 n
 all_digits : (text : Text) → IsNumber text → AreDigits text
 all_digits text n = subst AreDigits (sym n.is) (more_digits n.front (n.last ∷ []) n.digits (n.digit, tt))
 
+pub number_digits : (n : ℕ) → AreDigits (decimal n)
+number_digits n = all_digits (decimal n) (number n)
+
 digits_are_low : (ds : Text) → AreDigits ds → low ds ≡ ds
 digits_are_low [] are = refl
 digits_are_low (d ∷ ds) are = rw (lt-ltb d 65 (omega (arith, are.0.1)), digits_are_low ds are.1) refl
@@ -180,10 +184,10 @@ digits_are_no_name ds are =
     no_name ds (rules ++ refusals_of_text ++ refusals_of_pictures ++ refusals_of_runs)
     (λ t is. true≢false (sym (names_begin_high t) ∙ ap begins_high is ∙ digits_begin_low ds are))
 
-low_number : (n : ℕ) → low (decimal n) ≡ decimal n
+pub low_number : (n : ℕ) → low (decimal n) ≡ decimal n
 low_number n = digits_are_low (decimal n) (all_digits (decimal n) (number n))
 
-number_nameless : (n : ℕ) → last_in (decimal n) ≡ None
+pub number_nameless : (n : ℕ) → last_in (decimal n) ≡ None
 number_nameless n =
     let are = all_digits (decimal n) (number n) in
     ap last_name (digits_are_one (decimal n) are) ∙ digits_are_no_name (decimal n) are
@@ -276,7 +280,7 @@ low_spaced (part ∷ parts) =
     (map-append to_ascii_lowercase part (spaced parts) ∙ ap (λ (t : Text). low part ++ t) (low_spaced parts))
 
 -- the line that was pasted, in small letters
-pasted : (said : List Text) (first : Text) (parts : List Text) → ArePasted said (line first parts)
+pub pasted : (said : List Text) (first : Text) (parts : List Text) → ArePasted said (line first parts)
     → line_of said ≡ low (32 ∷ first) ++ spaced (map low parts)
 pasted said first parts are =
     ap low (append_cancel_right _ (32 ∷ first ++ spaced parts) (10 ∷ []) are)
@@ -293,7 +297,7 @@ last_part text last parts =
     ∙ sym (append_assoc text (spaced parts) (32 ∷ last))
 
 -- a name, and then others that aren't names, and a number
-name_before_number : (text : Text) (t : Topic) (parts : List Text) (n : ℕ) → AreNameless (parts ++ decimal n ∷ [])
+pub name_before_number : (text : Text) (t : Topic) (parts : List Text) (n : ℕ) → AreNameless (parts ++ decimal n ∷ [])
     → name_in (text ++ spaced (low (topic_name t) ∷ (parts ++ decimal n ∷ []))) ≡ Some (topic_name t)
 name_before_number text t parts n none =
     by_word (text ++ spaced (low (topic_name t) ∷ (parts ++ decimal n ∷ []))) (Some (topic_name t))
@@ -397,6 +401,29 @@ write_failed x =
       at_end x t t (omega arith),
     ) refl
 
+-- the last letter of these two names is that of an ending too
+empty_unended : (x : Text) → topic_of_end (x ++ codes " empty") ≡ None
+empty_unended x =
+    let t = codes " empty" in
+    no_topic (x ++ t) (not_at_end x t _ (codes " out of memo") (codes "ry") refl (omega arith) refl)
+    (not_at_end x t _ (codes " read faile") (codes "d") refl (omega arith) refl)
+    (not_at_end x t _ (codes " no such fil") (codes "e") refl (omega arith) refl)
+    (not_at_end x t _ (codes " permission denie") (codes "d") refl (omega arith) refl)
+    (not_at_end x t _ (codes " is a folde") (codes "r") refl (omega arith) refl)
+    (not_at_end x t _ (codes " name is not valid utf") (codes "-8") refl (omega arith) refl)
+    (not_at_end x t _ (codes " write faile") (codes "d") refl (omega arith) refl)
+
+too_large_unended : (x : Text) → topic_of_end (x ++ codes " toolarge") ≡ None
+too_large_unended x =
+    let t = codes " toolarge" in
+    no_topic (x ++ t) (not_at_end x t _ (codes " out of memor") (codes "y") refl (omega arith) refl)
+    (not_at_end x t _ (codes " read faile") (codes "d") refl (omega arith) refl)
+    (not_at_end x t _ (codes " no such fi") (codes "le") refl (omega arith) refl)
+    (not_at_end x t _ (codes " permission denie") (codes "d") refl (omega arith) refl)
+    (not_at_end x t _ (codes " is a folde") (codes "r") refl (omega arith) refl)
+    (not_at_end x t _ (codes " name is not valid utf") (codes "-8") refl (omega arith) refl)
+    (not_at_end x t _ (codes " write faile") (codes "d") refl (omega arith) refl)
+
 -- ---- what the program writes
 
 -- the line of a fault, whatever it begins with
@@ -409,13 +436,18 @@ fault_pasted first fault.NotRgb said are =
     (λ x. no_ending x (codes " notrgb") (omega arith) refl refl refl refl refl) are
 fault_pasted first fault.NoBox said are =
     name_last first topic.NoBox said (λ x. no_ending x (codes " nobox") (omega arith) refl refl refl refl refl) are
+fault_pasted first fault.Empty said are = name_last first topic.Empty said empty_unended are
+fault_pasted first fault.TooLarge said are = name_last first topic.TooLarge said too_large_unended are
+fault_pasted first fault.TooManyColours said are =
+    name_last first (topic.Ppm ppm.TooManyColours) said
+    (λ x. no_ending x (codes " toomanycolours") (omega arith) refl refl refl refl refl) are
 fault_pasted first fault.OutOfMemory said are =
     ending_pasted first (codes "out of memory") topic.OutOfMemory said out_of_memory are
 fault_pasted first fault.Read said are = ending_pasted first (codes "read failed") topic.Read said read_failed are
 fault_pasted first fault.Write said are = ending_pasted first (codes "write failed") topic.Write said write_failed are
 
 -- a finding names no pixel, or one
-two_numbers : (r : ARule) (pixel : Option (ℕ × ℕ))
+pub two_numbers : (r : ARule) (pixel : Option (ℕ × ℕ))
     → (pixel_parts r pixel ≡ []) ⊎ ((x : ℕ) × (y : ℕ) × (pixel_parts r pixel ≡ decimal x ∷ decimal y ∷ []))
 two_numbers rule.Outside None = inl refl
 two_numbers rule.Outside (Some p) = inr (p.0, p.1, refl)
@@ -441,7 +473,7 @@ finding_named text r place pixel (inr one) =
     ∙ name_before_number text (topic.Rule r) (decimal place ∷ decimal one.0 ∷ []) one.1
     (number_nameless place, (number_nameless one.0, (number_nameless one.1, tt)))
 
-line_after : (before first : Text) (parts : List Text) → before ++ line first parts ≡ line (before ++ first) parts
+pub line_after : (before first : Text) (parts : List Text) → before ++ line first parts ≡ line (before ++ first) parts
 line_after before first parts =
     sym (append_assoc before (first ++ spaced parts) (10 ∷ []))
     ∙ ap (λ (t : Text). t ++ 10 ∷ []) (sym (append_assoc before first (spaced parts)))

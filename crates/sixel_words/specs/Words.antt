@@ -1,10 +1,12 @@
 -- The command line: what the arguments ask for, in the terms of clap's contracts.
 use Rattle.std.specs.Prelude.{◌≡◌, ◌≢◌, ◌⊎◌, ◌≤◌, ℕ, Bool, false, true, List, [], ◌∷◌, Option, Some, codes, pos, ⊤}
-use Rattle.std.specs.Prelude.{find, map, if◌then◌else◌, option_map, unwrap_or}
+use Rattle.std.specs.Prelude.{◌++◌, find, length, map, if◌then◌else◌, option_map, unwrap_or}
 use Rattle.std.specs.List.{list_any}
 use Rattle.std.specs.Option.{option_and_then, option_map_or}
 use Rattle.std.specs.Str.{bytes_eq}
 use Rattle.std.specs.Str.Parse.{IsNumeral, digits_value, without_leading_plus}
+use Rattle.sixel_model.specs.declared.colour.Parts.{Parts}
+use Rattle.sixel_model.specs.declared.colour.Parts.TheVariants.{Rgb, Hls}
 use Rattle.sixel_model.specs.declared.profile.Profile.{Profile}
 use Rattle.sixel_model.specs.declared.profile.Profile.TheVariants.{Registers16, Registers256}
 use Rattle.sixel_terminal.specs.Limits.{most_screen_side}
@@ -59,6 +61,14 @@ side name fallback = record (new_rule name) {
   parser = Some (parser.Signed (pos 1) (pos most_screen_side));
 }
 
+-- `--background R,G,B`, by default `0,0,0`
+abbrev pub background : Rule
+background = record (new_rule (codes "background")) {
+  long = Some (codes "background");
+  value_names = 1;
+  defaults = codes "0,0,0" ∷ [];
+}
+
 -- a subcommand with the option `--wide`
 abbrev pub profiled_app : Text → App
 profiled_app name = with_rule (with_rule (new_app name) (flag (codes "wide"))) file
@@ -66,6 +76,10 @@ profiled_app name = with_rule (with_rule (new_app name) (flag (codes "wide"))) f
 -- `check`
 abbrev pub check_app : App
 check_app = with_rule (with_rule (with_rule (new_app (codes "check")) (flag (codes "wide"))) quiet) files
+
+-- `survey`
+abbrev pub survey_app : App
+survey_app = with_rule (with_rule (new_app (codes "survey")) (flag (codes "wide"))) files
 
 -- `show`
 abbrev pub show_app : App
@@ -80,6 +94,16 @@ show_app =
     (flag (codes "box")))
     file
 
+-- `mend`
+abbrev pub mend_app : App
+mend_app =
+    with_rule (with_rule (with_rule (with_rule (with_rule (new_app (codes "mend"))
+    (flag (codes "wide")))
+    background)
+    (flag (codes "showing")))
+    (flag (codes "define-selects")))
+    file
+
 -- `explain`, with any number of words
 abbrev pub explain_app : App
 explain_app =
@@ -89,10 +113,11 @@ explain_app =
 abbrev pub sixel_app : App
 sixel_app =
     with_subcommand (with_subcommand (with_subcommand (with_subcommand (with_subcommand (with_subcommand
+    (with_subcommand (with_subcommand
     (on_top (λ s. record s { has_version = true; subcommand_required = true; args_override_self = true })
     (new_app (codes "sixel")))
-    (plain_app (codes "list")).top) check_app.top) (profiled_app (codes "render")).top)
-    (profiled_app (codes "encode")).top) show_app.top) explain_app.top
+    (plain_app (codes "list")).top) check_app.top) survey_app.top) (profiled_app (codes "render")).top)
+    (profiled_app (codes "encode")).top) show_app.top) mend_app.top) explain_app.top
 
 -- the flags of `check`
 abbrev pub check_flags : List Text
@@ -136,11 +161,30 @@ pub record IsSideText (text : Text) (n : ℕ) : Type 0 where
 abbrev pub HasSide : Text → List Row → ℕ → Type 0
 HasSide name rows n = (text : Text) × (one_of name rows ≡ Some text) × IsSideText text n
 
+-- the text is the percentage n: one to three decimal digits, and nothing else
+pub record IsPercentage (text : Text) (n : ℕ) : Type 0 where
+  pub numeral : IsNumeral 10 text
+  pub short : length text ≤ 3
+  pub value : digits_value 10 text ≡ n
+  pub most : n ≤ 100
+
+-- the text is the colour with these percentages of red, green and blue, in this order and with commas between them
+abbrev pub IsColourText : Text → Parts → Type 0
+IsColourText text (Rgb red green blue) = (r : Text) × (g : Text) × (b : Text)
+    × (text ≡ r ++ codes "," ++ g ++ codes "," ++ b)
+    × IsPercentage r red × IsPercentage g green × IsPercentage b blue
+IsColourText text (Hls hue lightness saturation) = ⊥
+
+-- the value of the option is this colour
+abbrev pub HasColour : Text → List Row → Parts → Type 0
+HasColour name rows colour = (text : Text) × (first_of name rows ≡ Some text) × IsColourText text colour
+
 -- the task of a subcommand with this name and these options; the size of a screen comes from `--box`, or else from
 -- `--width` and `--height`: with `--box` and either of these two there is no task
 abbrev pub IsTask : Text → List Row → Task → Type 0
 IsTask name rows task.List = name ≡ codes "list"
 IsTask name rows (task.Check profile) = (name ≡ codes "check") × (profile_of rows ≡ profile)
+IsTask name rows (task.Survey profile) = (name ≡ codes "survey") × (profile_of rows ≡ profile)
 IsTask name rows (task.Render profile) = (name ≡ codes "render") × (profile_of rows ≡ profile)
 IsTask name rows (task.Encode profile) = (name ≡ codes "encode") × (profile_of rows ≡ profile)
 IsTask name rows (task.Show profile showing fill selects width height) = (name ≡ codes "show")
@@ -159,6 +203,11 @@ IsTask name rows (task.ShowBox profile showing fill selects) = (name ≡ codes "
     × (is_given (codes "box") rows ≡ true)
     × (is_named (codes "width") rows ≡ false)
     × (is_named (codes "height") rows ≡ false)
+IsTask name rows (task.Mend profile colour showing selects) = (name ≡ codes "mend")
+    × (profile_of rows ≡ profile)
+    × HasColour (codes "background") rows colour
+    × (is_given (codes "showing") rows ≡ showing)
+    × (is_given (codes "define-selects") rows ≡ selects)
 
 -- the task that the arguments ask for; the first is the program's name
 abbrev pub IsTaskOf : List Text → Task → Type 0

@@ -4,8 +4,8 @@ ghost use Rattle.std.specs.Prelude.{◌≡◌, IfOk, codes, false};
 ghost use Rattle.clap.specs.Walk.{rule_of};
 ghost use Rattle.clap.specs.Simple.{app_of};
 ghost use Rattle.clap.specs.declared.builder.command.Command.TheViews.{out-Command as fields_of};
-ghost use Rattle.sixel_words.specs.Words.{check_app, explain_app, file, files, flag, plain_app, profiled_app, quiet};
-ghost use Rattle.sixel_words.specs.Words.{show_app, side, sixel_app};
+ghost use Rattle.sixel_words.specs.Words.{background, check_app, explain_app, file, files, flag, mend_app, plain_app};
+ghost use Rattle.sixel_words.specs.Words.{profiled_app, quiet, show_app, side, sixel_app, survey_app};
 
 mod help;
 
@@ -27,9 +27,11 @@ pub fn sixel_command<'a>(alloc: Global) -> Result<Command<'a>, AllocError>
         .args_override_self(true)
         .subcommand(list_command(alloc)?)?
         .subcommand(check_command(alloc)?)?
+        .subcommand(survey_command(alloc)?)?
         .subcommand(render_command(alloc)?)?
         .subcommand(encode_command(alloc)?)?
         .subcommand(show_command(alloc)?)?
+        .subcommand(mend_command(alloc)?)?
         .subcommand(explain_command(alloc)?)
 }
 
@@ -116,6 +118,18 @@ fn check_command<'a>(alloc: Global) -> Result<Command<'a>, AllocError>
         .arg(files_arg(alloc))
 }
 
+/// `survey`, with any number of files.
+fn survey_command<'a>(alloc: Global) -> Result<Command<'a>, AllocError>
+    ensures app { IfOk result (λ c. app_of c ≡ survey_app) }
+    ensures local { IfOk result (λ c. (fields_of c).has_globals ≡ false) }
+{
+    Command::new(alloc, "survey")
+        .about("Says which rules the picture breaks, how often, and where first")
+        .after_help(help::SURVEY)
+        .arg(wide_arg(alloc))?
+        .arg(files_arg(alloc))
+}
+
 /// `show`, with seven options and an optional file.
 pub fn show_command<'a>(alloc: Global) -> Result<Command<'a>, AllocError>
     ensures app { IfOk result (λ c. app_of c ≡ show_app) }
@@ -152,6 +166,29 @@ pub fn show_command<'a>(alloc: Global) -> Result<Command<'a>, AllocError>
         .arg(file_arg(alloc))
 }
 
+/// `mend`, with four options and an optional file.
+pub fn mend_command<'a>(alloc: Global) -> Result<Command<'a>, AllocError>
+    ensures app { IfOk result (λ c. app_of c ≡ mend_app) }
+    ensures local { IfOk result (λ c. (fields_of c).has_globals ≡ false) }
+{
+    Command::new(alloc, "mend")
+        .about("Makes a portable picture of what one terminal shows of a broken one")
+        .after_help(help::MEND)
+        .arg(wide_arg(alloc))?
+        .arg(background_arg(alloc))?
+        .arg(flag_arg(
+            alloc,
+            "showing",
+            "Show each pixel in the final colour of its register",
+        ))?
+        .arg(flag_arg(
+            alloc,
+            "define-selects",
+            "Let a colour definition also select its register",
+        ))?
+        .arg(file_arg(alloc))
+}
+
 /// `--name`, without a value.
 fn flag_arg<'a>(alloc: Global, name: &'a str, help: &'a str) -> Arg<'a>
     ensures rule { rule_of result ≡ flag name.entry.now }
@@ -174,6 +211,18 @@ fn side_arg<'a>(alloc: Global, name: &'a str, fallback: &'a str, help: &'a str) 
         .value_parser(clap::value_parser!(u32).range(1..=MOST_SCREEN_SIDE as i64))
         .default_value(fallback)
         .help(help)
+}
+
+/// `--background R,G,B`, by default black.
+fn background_arg<'a>(alloc: Global) -> Arg<'a>
+    ensures rule { rule_of result ≡ background }
+    ensures local { result.global ≡ false }
+{
+    Arg::new(alloc, "background")
+        .long("background")
+        .value_name("R,G,B")
+        .default_value("0,0,0")
+        .help("The colour of what isn't painted: red, green and blue in percent")
 }
 
 /// `--wide`, which selects the profile of 256 registers.

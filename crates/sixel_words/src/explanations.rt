@@ -26,6 +26,10 @@ pub enum Topic {
     Ppm(PpmReason),
     NotRgb,
     NoBox,
+    /// A mended picture has no pixels.
+    Empty,
+    /// A side of a mended picture is above 2,048.
+    TooLarge,
     OutOfMemory,
     Read,
     Write,
@@ -46,6 +50,8 @@ fn topic_named(name: &str) -> Option<Topic>
                 None => match name {
                     "notrgb" => Some(Topic::NotRgb),
                     "nobox" => Some(Topic::NoBox),
+                    "empty" => Some(Topic::Empty),
+                    "toolarge" => Some(Topic::TooLarge),
                     "outofmemory" => Some(Topic::OutOfMemory),
                     "read" => Some(Topic::Read),
                     "write" => Some(Topic::Write),
@@ -67,6 +73,8 @@ pub fn explanation(topic: Option<Topic>) -> &'static str
         Some(Topic::Ppm(reason)) => of_ppm_reason(reason),
         Some(Topic::NotRgb) => refusals::NOT_RGB,
         Some(Topic::NoBox) => refusals::NO_BOX,
+        Some(Topic::Empty) => refusals::EMPTY,
+        Some(Topic::TooLarge) => refusals::TOO_LARGE,
         Some(Topic::OutOfMemory) => refusals::OUT_OF_MEMORY,
         Some(Topic::Read) => refusals::READ,
         Some(Topic::Write) => refusals::WRITE,
@@ -99,10 +107,12 @@ Header: not a valid P6 header
 Size: a PPM width or height outside 1 to 2,048
 Maxval: a PPM maxval outside 1 to 255
 Sample: a PPM sample above the maxval
-TooManyColours: a PPM of more than 16 colours, or more than 256 with --wide
+TooManyColours: a picture of more than 16 colours, or more than 256 with --wide
 Short: a PPM that ends before its last sample
 NotRgb: a colour of hue, lightness and saturation that would appear in a PPM
 NoBox: a text that declares no box of a possible screen size
+Empty: a text to mend that declares no size and paints nothing
+TooLarge: a text to mend whose picture has a side above 2,048
 OutOfMemory: an allocation failed
 Read: input that couldn't be opened or read
 Write: output that couldn't be written

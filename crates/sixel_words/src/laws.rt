@@ -3,6 +3,7 @@
 ghost use Rattle.std.specs.Prelude.{◌≡◌, ◌∷◌, ◌||◌, [], All, Contains, List, None, Some};
 ghost use Rattle.std.specs.Prelude.{codes, false, if◌then◌else◌, map, true};
 ghost use Rattle.std.specs.Str.{str_to_ascii_lowercase};
+ghost use Rattle.sixel_model.specs.declared.colour.Parts.TheVariants.{Rgb};
 ghost use Rattle.sixel_model.specs.declared.profile.Profile.TheVariants.{Registers16, Registers256};
 ghost use Rattle.sixel_judge.specs.declared.rule.Rule.{Rule};
 ghost use Rattle.clap.specs.Takes.{takes};
@@ -11,7 +12,7 @@ ghost use Rattle.clap.specs.declared.error.kind.ErrorKind.TheVariants.{UnknownAr
 ghost use Rattle.sixel_words.specs.declared.explanations.Topic.{Topic};
 ghost use Rattle.sixel_run.specs.declared.fault.RunFault.{RunFault};
 ghost use Rattle.sixel_run.specs.declared.task.Task.{Task};
-ghost use Rattle.sixel_run.specs.declared.task.Task.TheVariants.{Check, List as Listing, Show, ShowBox};
+ghost use Rattle.sixel_run.specs.declared.task.Task.TheVariants.{Check, List as Listing, Mend, Show, ShowBox, Survey};
 ghost use Rattle.sixel_words.specs.Explanations.{line_of, listed_names, name_in, topic_name, topic_of};
 ghost use Rattle.sixel_run.specs.Texts.{Text, rule_name};
 ghost use Rattle.sixel_words.specs.Words.{AsksFor, IsRequestOf, IsTaskOf, check_flags, is_among, kinds_of};
@@ -21,6 +22,26 @@ ghost use Rattle.sixel_words.specs.Words.{sixel_app, subcommands};
 pub fn the_word_list_gives_a_list()
     ensures taken { (program : Text) → takes sixel_app (program ∷ codes "list" ∷ []) ≡ true }
     ensures task { (program : Text) → IsTaskOf (program ∷ codes "list" ∷ []) Listing }
+{}
+
+/// `sixel survey` is accepted, and surveys with 16 registers. With `--wide`, and over files in turn, it has 256.
+pub fn the_word_survey_gives_a_survey()
+    ensures taken { (program : Text) → takes sixel_app (program ∷ codes "survey" ∷ []) ≡ true }
+    ensures task { (program : Text) → IsTaskOf (program ∷ codes "survey" ∷ []) (Survey Registers16) }
+    ensures files { (program : Text) →
+        IsRequestOf (program ∷ codes "survey" ∷ codes "--wide" ∷ codes "a" ∷ codes "b" ∷ [])
+        (Survey Registers256) false (codes "a" ∷ codes "b" ∷ []) }
+{}
+
+/// `sixel mend` is accepted, and mends without any flag, with 16 registers and a black background. The colour of
+/// `--background` is red, green and blue.
+pub fn the_word_mend_gives_a_mend()
+    ensures taken { (program : Text) → takes sixel_app (program ∷ codes "mend" ∷ []) ≡ true }
+    ensures task { (program : Text) →
+        IsTaskOf (program ∷ codes "mend" ∷ []) (Mend Registers16 (Rgb 0 0 0) false false) }
+    ensures coloured { (program : Text) →
+        IsTaskOf (program ∷ codes "mend" ∷ codes "--showing" ∷ codes "--background" ∷ codes "100,50,0" ∷ [])
+        (Mend Registers16 (Rgb 100 50 0) true false) }
 {}
 
 /// `sixel show` is accepted, and shows without any flag, with 16 registers on a screen of 800 by 480 pixels.

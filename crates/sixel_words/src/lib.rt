@@ -2,6 +2,7 @@
 #![tactic(auto)]
 
 mod arguments;
+mod colours;
 mod commands;
 mod explanations;
 pub mod laws;

@@ -5,7 +5,8 @@ ghost use Rattle.clap.specs.Values.{kind_of};
 ghost use Rattle.sixel_words.specs.Words.{may_get_a_tip};
 
 use crate::commands::{
-    encode_command, explain_command, list_command, render_command, show_command, sixel_command,
+    encode_command, explain_command, list_command, mend_command, render_command, show_command,
+    sixel_command,
 };
 use crate::explanations::nearest;
 use clap::error::ErrorKind;
@@ -49,6 +50,21 @@ pub fn conflict_error(alloc: Global, reason: &str) -> Result<Error, AllocError>
         "sixel show",
         ErrorKind::ArgumentConflict,
         reason,
+    )
+}
+
+/// A usage error of `mend`: this value of `--background` is no colour.
+pub fn background_error(alloc: Global, value: &str) -> Result<Error, AllocError>
+    ensures { IfOk result (λ e. kind_of e ≡ ErrorKind.ValueValidation) }
+{
+    let reason = format!(in alloc;
+        "invalid value '{value}' for '--background <R,G,B>': expected three percentages, as in 100,50,0"
+    )?;
+    error_of(
+        mend_command(alloc)?,
+        "sixel mend",
+        ErrorKind::ValueValidation,
+        reason.as_str(),
     )
 }
 
@@ -142,6 +158,7 @@ fn second_file_error(alloc: Global, name: &str, error: &Error) -> Result<Option<
         "render" => error_of(render_command(alloc)?, "sixel render", kind, reason)?,
         "encode" => error_of(encode_command(alloc)?, "sixel encode", kind, reason)?,
         "show" => error_of(show_command(alloc)?, "sixel show", kind, reason)?,
+        "mend" => error_of(mend_command(alloc)?, "sixel mend", kind, reason)?,
         _ => return Ok(None),
     };
     Ok(Some(tipped))
@@ -155,7 +172,7 @@ fn second_file_reason(alloc: Global, name: &str, told: &str) -> Result<Option<St
     }
     let (reason, _) = told.split_once("\n\n").unwrap_or((told, ""));
     let reason = format!(in alloc;
-        "{reason}\n\n  tip: '{name}' reads one file; only 'check' reads several"
+        "{reason}\n\n  tip: '{name}' reads one file; only 'check' and 'survey' read several"
     )?;
     Ok(Some(reason))
 }

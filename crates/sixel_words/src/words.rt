@@ -9,20 +9,23 @@ ghost use Rattle.std.specs.String.{string_bytes};
 ghost use Rattle.sixel_terminal.specs.Limits.{most_screen_side};
 ghost use Rattle.sixel_run.specs.declared.task.Task.{Task as ATask};
 ghost use Rattle.sixel_run.specs.Outputs.{HasSides};
-ghost use Rattle.sixel_words.specs.Words.{HoldsError, IsExplanationOf, HasSide, IsAskedIn, IsFaultFor, IsRefusal};
-ghost use Rattle.sixel_words.specs.Words.{IsRequestOf, IsNoHelp, IsSortedOut, IsTask, IsTaskOf, IsUnexplained};
+ghost use Rattle.sixel_model.specs.declared.colour.Parts.{Parts};
+ghost use Rattle.sixel_words.specs.Words.{HasColour, HoldsError, IsExplanationOf, HasSide, IsAskedIn, IsFaultFor};
+ghost use Rattle.sixel_words.specs.Words.{IsRefusal, IsRequestOf, IsNoHelp, IsSortedOut, IsTask, IsTaskOf};
+ghost use Rattle.sixel_words.specs.Words.{IsUnexplained};
 ghost use Rattle.sixel_words.specs.Words.{files_of, is_given, is_named, kinds_of, profile_of};
 ghost use Rattle.sixel_words.specs.Explanations.{Asks, topic_name};
 ghost use Rattle.sixel_words.specs.declared.explanations.Topic.{Topic as ATopic};
 
+use crate::colours::colour_of;
 use crate::commands::sixel_command;
 use crate::explanations::{Topic, topic_asked};
 use crate::request::Request;
-use crate::usage_errors::{conflict_error, unnamed_error, usage_error, with_tip};
+use crate::usage_errors::{background_error, conflict_error, unnamed_error, usage_error, with_tip};
 use clap::error::ErrorKind;
 use clap::parser::ValueSource;
 use clap::{ArgMatches, Error};
-use sixel_model::Profile;
+use sixel_model::{Colour, Profile};
 use sixel_run::{MOST_SCREEN_SIDE, Task};
 use std::alloc::{AllocError, Global};
 
@@ -87,6 +90,7 @@ fn without_task(alloc: Global, name: &str, matches: &ArgMatches<'_>) -> WordsFau
 {
     match name {
         "explain" => asked(alloc, matches),
+        "mend" => uncoloured(alloc, matches),
         _ => untasked(alloc, matches),
     }
 }
@@ -117,6 +121,17 @@ fn unexplained(alloc: Global, said: &[&str]) -> WordsFault
 {
     match unnamed_error(alloc, said) {
         Ok(unnamed) => WordsFault::Usage(unnamed),
+        Err(_) => WordsFault::OutOfMemory,
+    }
+}
+
+/// A usage error: the value of `--background` is no colour.
+fn uncoloured(alloc: Global, matches: &ArgMatches<'_>) -> WordsFault
+    ensures sorted { IsSortedOut result }
+    ensures refusal { IsRefusal result }
+{
+    match background_error(alloc, matches.get_str("background").unwrap_or("")) {
+        Ok(uncoloured) => WordsFault::Usage(uncoloured),
         Err(_) => WordsFault::OutOfMemory,
     }
 }
@@ -217,6 +232,9 @@ fn task_of(name: &str, matches: &ArgMatches<'_>) -> Option<Task>
         "check" => Some(Task::Check {
             profile: profile_of(matches),
         }),
+        "survey" => Some(Task::Survey {
+            profile: profile_of(matches),
+        }),
         "render" => Some(Task::Render {
             profile: profile_of(matches),
         }),
@@ -224,6 +242,7 @@ fn task_of(name: &str, matches: &ArgMatches<'_>) -> Option<Task>
             profile: profile_of(matches),
         }),
         "show" => show_task(matches),
+        "mend" => mend_task(matches),
         _ => None,
     }
 }
@@ -268,6 +287,23 @@ fn box_task(matches: &ArgMatches<'_>) -> Option<Task>
     })
 }
 
+/// The task of `mend` with these options; none if the value of `--background` is no colour.
+fn mend_task(matches: &ArgMatches<'_>) -> Option<Task>
+    ensures task { IfSome result (IsTask (codes "mend") (rows_of (found_of matches.now))) }
+    ensures sides { IfSome result HasSides }
+    ensures none { IsNone result → (t : ATask) → IsTask (codes "mend") (rows_of (found_of matches.now)) t → ⊥ }
+{
+    let background = colour_in(matches, "background")?;
+    let showing = flag_of(matches, "showing");
+    let selects = flag_of(matches, "define-selects");
+    Some(Task::Mend {
+        profile: profile_of(matches),
+        background,
+        showing,
+        selects,
+    })
+}
+
 /// The profile that the options select.
 fn profile_of(matches: &ArgMatches<'_>) -> Profile
     ensures { profile_of (rows_of (found_of matches.now)) ≡ result }
@@ -308,6 +344,18 @@ fn side_of(matches: &ArgMatches<'_>, name: &str) -> Option<u32>
     match matches.get_one::<u32>(name) {
         Some(number) if is_side(number) => Some(number),
         _ => None,
+    }
+}
+
+/// The colour of an option.
+fn colour_in(matches: &ArgMatches<'_>, name: &str) -> Option<Colour>
+    ensures some { IfSome result (HasColour name.now (rows_of (found_of matches.now))) }
+    ensures none { IsNone result → (colour : Parts) →
+        HasColour name.now (rows_of (found_of matches.now)) colour → ⊥ }
+{
+    match matches.get_str(name) {
+        Some(text) => colour_of(text),
+        None => None,
     }
 }
 

@@ -41,6 +41,16 @@ fn asks_for_an_explanation(rt: HostRuntime) -> Result<(), Fail> {
             "explain Some(Grammar(Truncated))",
         ),
         ("sixel explain sixel: NoBox", "explain Some(NoBox)"),
+        ("sixel explain Empty", "explain Some(Empty)"),
+        ("sixel explain sixel: a.six: TooLarge", "explain Some(TooLarge)"),
+        (
+            "sixel explain sixel: TooManyColours",
+            "explain Some(Ppm(TooManyColours))",
+        ),
+        (
+            "sixel explain empty.six: Uncovered 5 30 3 0",
+            "explain Some(Rule(Uncovered))",
+        ),
         ("sixel explain read failed", "explain Some(Read)"),
         ("sixel explain sixel: write failed", "explain Some(Write)"),
         ("sixel explain out of memory", "explain Some(OutOfMemory)"),

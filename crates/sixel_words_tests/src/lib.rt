@@ -6,4 +6,8 @@ mod arguments;
 #[cfg(test)]
 mod explain;
 #[cfg(test)]
+mod help;
+#[cfg(test)]
+mod mending;
+#[cfg(test)]
 mod words;

@@ -30,7 +30,7 @@ pub fn answered(alloc: Global, answer: Result<Request, WordsFault>) -> Result<St
 }
 
 /// What the words, with spaces between them, come to.
-fn said(alloc: Global, line: &str) -> Result<String, AllocError> {
+pub fn said(alloc: Global, line: &str) -> Result<String, AllocError> {
     let words = words_of(alloc, line)?;
     answered(alloc, parse_request(alloc, words.as_slice()))
 }
@@ -57,7 +57,7 @@ pub fn says(rt: &HostRuntime, line: &str, text: &str) -> Result<bool, Fail> {
 
 /// Whether the words ask for this task, with a verdict or without, over these files. There is memory for it, so they
 /// get it.
-fn asks(
+pub fn asks(
     rt: &HostRuntime,
     line: &str,
     task: &str,
@@ -83,6 +83,8 @@ fn names_the_task(rt: HostRuntime) -> Result<(), Fail> {
         ("sixel list", "List"),
         ("sixel check", "Check { profile: Registers16 }"),
         ("sixel check --wide", "Check { profile: Registers256 }"),
+        ("sixel survey", "Survey { profile: Registers16 }"),
+        ("sixel survey --wide", "Survey { profile: Registers256 }"),
         ("sixel render", "Render { profile: Registers16 }"),
         ("sixel render --wide", "Render { profile: Registers256 }"),
         ("sixel encode", "Encode { profile: Registers16 }"),
@@ -188,7 +190,21 @@ fn names_the_files_to_check(rt: HostRuntime) -> Result<(), Fail> {
     Ok(())
 }
 
-/// Each task except `check` may have one file.
+#[test]
+fn names_the_files_to_survey(rt: HostRuntime) -> Result<(), Fail> {
+    let rows = [
+        ("sixel survey a b", "Registers16", "[\"a\", \"b\"]"),
+        ("sixel survey - a --wide", "Registers256", "[\"-\", \"a\"]"),
+        ("sixel survey -- -x", "Registers16", "[\"-x\"]"),
+    ];
+    for (line, profile, files) in rows {
+        let task = format!(in rt.alloc(); "Survey {{ profile: {profile} }}")?;
+        assert!(rt; asks(&rt, line, task.as_str(), false, files)?, "{line}");
+    }
+    Ok(())
+}
+
+/// Each task except `check` and `survey` may have one file.
 #[test]
 fn names_the_file_of_a_task(rt: HostRuntime) -> Result<(), Fail> {
     let rows = [
@@ -238,7 +254,7 @@ fn names_the_file_of_a_task(rt: HostRuntime) -> Result<(), Fail> {
 }
 
 const NO_COMMAND: &str = "usage error: 'sixel' requires a subcommand but one was not provided
-  [subcommands: list, check, render, encode, show, explain, help]
+  [subcommands: list, check, survey, render, encode, show, mend, explain, help]
 
 Usage: sixel <COMMAND>";
 
@@ -254,7 +270,7 @@ const NOT_QUIET: &str = "usage error: unexpected argument '-q' found
 
 Usage: sixel list [FILE]";
 
-/// A second file. Only `check` reads several.
+/// A second file. Only `check` and `survey` read several.
 #[test]
 fn refuses_a_second_file(rt: HostRuntime) -> Result<(), Fail> {
     let rows = [
@@ -262,12 +278,13 @@ fn refuses_a_second_file(rt: HostRuntime) -> Result<(), Fail> {
         ("sixel render a b", "render", "[OPTIONS] [FILE]"),
         ("sixel encode --wide a b", "encode", "[OPTIONS] [FILE]"),
         ("sixel show a b", "show", "[OPTIONS] [FILE]"),
+        ("sixel mend a b", "mend", "[OPTIONS] [FILE]"),
     ];
     for (line, name, usage) in rows {
         let text = format!(in rt.alloc();
             "usage error: unexpected argument 'b' found
 
-  tip: '{name}' reads one file; only 'check' reads several
+  tip: '{name}' reads one file; only 'check' and 'survey' read several
 
 Usage: sixel {name} {usage}"
         )?;
@@ -355,159 +372,6 @@ fn refuses_a_box_beside_a_side(rt: HostRuntime) -> Result<(), Fail> {
     ];
     for (line, text) in rows {
         assert!(rt; refuses(&rt, line, text)?, "{line}");
-    }
-    Ok(())
-}
-
-#[test]
-fn shows_help(rt: HostRuntime) -> Result<(), Fail> {
-    let whole = "help Checks, lists, draws and writes sixel pictures, from files or standard input
-
-Usage: sixel <COMMAND>
-
-Commands:
-  list     Lists the commands of the picture, one per line
-  check    Says whether the picture is portable, or which rule it breaks first
-  render   Converts a portable picture to a PPM
-  encode   Converts a PPM to portable sixel text
-  show     Draws the picture as one terminal would, and writes its screen as a PPM
-  explain  Explains a rule or a refusal by its name, or lists all names
-  help     Print this message or the help of the given subcommand(s)
-
-Options:
-  -h, --help     Print help
-  -V, --version  Print version
-";
-    for line in ["sixel --help", "sixel -h", "sixel help"] {
-        assert!(rt; says(&rt, line, whole)?, "{line}");
-    }
-    let list = "help Lists the commands of the picture, one per line
-
-Usage: sixel list [FILE]
-
-Arguments:
-  [FILE]  The file to read; without it, or for `-`, standard input
-
-Options:
-  -h, --help  Print help
-
-Reads sixel text from FILE or, without one, from standard input. Writes to
-standard output one line for the start, for each command and for the end: its
-byte offset, its name and its numbers. Everything before a fault is listed too.
-
-Exit status: 0 done, 2 refused, 3 usage error.
-
-Example: sixel list plot.six
-";
-    for line in ["sixel list --help", "sixel list -h", "sixel help list"] {
-        assert!(rt; says(&rt, line, list)?, "{line}");
-    }
-    Ok(())
-}
-
-#[test]
-fn shows_the_version(rt: HostRuntime) -> Result<(), Fail> {
-    for line in ["sixel --version", "sixel -V"] {
-        assert!(rt; says(&rt, line, "help sixel 1.0.0\n")?, "{line}");
-    }
-    Ok(())
-}
-
-/// The help of each task says what the exit status means.
-#[test]
-fn shows_the_exit_status(rt: HostRuntime) -> Result<(), Fail> {
-    for (line, status) in [
-        (
-            "sixel list --help",
-            "Exit status: 0 done, 2 refused, 3 usage error.\n",
-        ),
-        (
-            "sixel check --help",
-            "Exit status: 0 portable, 1 broken, 2 refused, 3 usage error; with several files\nthe greatest.\n",
-        ),
-        (
-            "sixel render --help",
-            "Exit status: 0 done, 1 broken, 2 refused, 3 usage error.\n",
-        ),
-        (
-            "sixel encode --help",
-            "Exit status: 0 done, 2 refused, 3 usage error.\n",
-        ),
-        (
-            "sixel show --help",
-            "Exit status: 0 done, 2 refused, 3 usage error.\n",
-        ),
-    ] {
-        let help = said(rt.alloc(), line)?;
-        assert!(rt;
-            help.as_str().starts_with("help ") && help.as_str().contains(status),
-            "{line}"
-        );
-    }
-    Ok(())
-}
-
-#[test]
-fn shows_the_options_of_check(rt: HostRuntime) -> Result<(), Fail> {
-    let check = "help Says whether the picture is portable, or which rule it breaks first
-
-Usage: sixel check [OPTIONS] [FILE]...
-
-Arguments:
-  [FILE]...  Files to read in turn; without any, or for `-`, standard input
-
-Options:
-      --wide   Use 256 colour registers instead of 16
-  -q, --quiet  Print no verdict; use the exit status
-  -h, --help   Print help
-
-Reads sixel text from each FILE in turn or, without one, from standard input.
-Writes one line for each to standard output: `portable` and the size, or
-`broken`, the rule, the byte offset and, for two rules, a pixel. With files,
-each line starts with `FILE: `. If a file is refused, the reason goes to
-standard error, and the files after it are still checked.
-
-Exit status: 0 portable, 1 broken, 2 refused, 3 usage error; with several files
-the greatest.
-
-Example: sixel check plots/*.six
-";
-    for line in ["sixel check --help", "sixel help check"] {
-        assert!(rt; says(&rt, line, check)?, "{line}");
-    }
-    Ok(())
-}
-
-#[test]
-fn shows_the_options_of_show(rt: HostRuntime) -> Result<(), Fail> {
-    let show = "help Draws the picture as one terminal would, and writes its screen as a PPM
-
-Usage: sixel show [OPTIONS] [FILE]
-
-Arguments:
-  [FILE]  The file to read; without it, or for `-`, standard input
-
-Options:
-      --wide            Use 256 colour registers instead of 16
-      --showing         Show each pixel in the final colour of its register
-      --fill            Fill the declared box with register 0
-      --define-selects  Let a colour definition also select its register
-      --width <N>       The screen's width in pixels, 1 to 4096 [default: 800]
-      --height <N>      The screen's height in pixels, 1 to 4096 [default: 480]
-      --box             Make the screen as large as the declared box
-  -h, --help            Print help
-
-Reads sixel text from FILE or, without one, from standard input. Writes the
-screen of one terminal, which the options choose, to standard output as a PPM.
-What is off the screen is left out. Without --wide, register 16 is register 0,
-17 is 1 and so on. --box can't be combined with --width or --height.
-
-Exit status: 0 done, 2 refused, 3 usage error.
-
-Example: sixel show --wide --box plot.six > plot.ppm
-";
-    for line in ["sixel show --help", "sixel help show"] {
-        assert!(rt; says(&rt, line, show)?, "{line}");
     }
     Ok(())
 }

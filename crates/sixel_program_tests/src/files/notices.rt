@@ -3,7 +3,7 @@
 ghost use Rattle.sixel_run.specs.Outputs.{HasSides};
 
 use super::{Asked, Ended, PIXEL, RATIO, RED, STREAMS, Streams, asked_of, check_of, ends_over};
-use crate::ends::{ENCODE, NO_FILES, NO_TERMINALS, RENDER, SHOW, SHOW_BOX};
+use crate::ends::{ENCODE, NO_FILES, NO_TERMINALS, RENDER, SHOW, SHOW_BOX, SURVEY};
 use sixel_io::{FromRead, ToWrite};
 use sixel_program::{Exit, Peeked, Terminals, execute};
 use sixel_run::Task;
@@ -104,6 +104,19 @@ fn files_alone(rt: HostRuntime) -> Result<(), Fail> {
             b""
         )?
     );
+    Ok(())
+}
+
+/// A survey waits as a check does.
+#[test]
+fn a_survey_that_reads_a_terminal(rt: HostRuntime) -> Result<(), Fail> {
+    let plain = asked_of(SURVEY, &[], PIXEL);
+    assert!(rt; says(rt.alloc(), plain, b"portable 1 1\n", true, WAITING)?);
+    let last = asked_of(SURVEY, &["pixel", "-"], PIXEL);
+    let written = b"pixel: portable 1 1\n-: portable 1 1\n";
+    assert!(rt; says(rt.alloc(), last, written, true, WAITING)?);
+    let file = asked_of(SURVEY, &["pixel"], PIXEL);
+    assert!(rt; says(rt.alloc(), file, b"pixel: portable 1 1\n", false, b"")?);
     Ok(())
 }
 

@@ -198,7 +198,7 @@ fn draw_bytes(
 }
 
 /// Reads the bytes of a piece. Returns the first box that they declare: its width and its height.
-fn find_box(reader: &mut Reader, piece: &[u8]) -> Result<Option<(u16, u16)>, InputFault>
+pub fn find_box(reader: &mut Reader, piece: &[u8]) -> Result<Option<(u16, u16)>, InputFault>
     ensures found { IfOk result (λ found. Finds reader.old reader.new found piece.now) }
     ensures refused { IfErr result (Refuses reader.old piece.now) }
 {

@@ -20,6 +20,19 @@ the greatest.
 
 Example: sixel check plots/*.six";
 
+pub const SURVEY: &str =
+    "Reads sixel text from each FILE in turn or, without one, from standard input.
+Writes a line for each broken rule to standard output: the rule, how often it is
+broken, the byte offset of the first time and, for two rules, a pixel. If none
+is broken, it writes `portable` and the size. With files, each line starts with
+`FILE: `. If a file is refused, the reason goes to standard error, and the files
+after it are still read.
+
+Exit status: 0 portable, 1 broken, 2 refused, 3 usage error; with several files
+the greatest.
+
+Example: sixel survey plot.six";
+
 pub const RENDER: &str = "Reads sixel text from FILE or, without one, from standard input. Writes a
 portable picture to standard output as a PPM. If the picture is broken, it
 writes the broken rule to standard error, and no PPM.
@@ -44,6 +57,17 @@ What is off the screen is left out. Without --wide, register 16 is register 0,
 Exit status: 0 done, 2 refused, 3 usage error.
 
 Example: sixel show --wide --box plot.six > plot.ppm";
+
+pub const MEND: &str = "Reads sixel text from FILE or, without one, from standard input. Draws it as one
+terminal would, and writes what that shows to standard output, as portable sixel
+text. The terminal has 256 registers, which start as the VT340's 16 colours over
+and over. The picture is as large as the declared box, and larger if something
+is painted outside it. Refused: a picture without pixels, with a side above
+2,048, or of more than 16 colours, or 256 with --wide.
+
+Exit status: 0 done, 2 refused, 3 usage error.
+
+Example: sixel mend --background 100,100,100 plot.six > mended.six";
 
 pub const EXPLAIN: &str =
     "Reads nothing. Writes to standard output what the rule or the refusal means,

@@ -118,7 +118,7 @@ fn edits(alloc: Global, name: &str, word: &str) -> Result<usize, AllocError>
 }
 
 /// The listed names.
-const NAMES: [&str; 33] = [
+const NAMES: [&str; 35] = [
     "RasterFirst",
     "RasterTwice",
     "Ratio",
@@ -149,6 +149,8 @@ const NAMES: [&str; 33] = [
     "Short",
     "NotRgb",
     "NoBox",
+    "Empty",
+    "TooLarge",
     "OutOfMemory",
     "Read",
     "Write",

@@ -189,8 +189,8 @@ const HEADER: &str = "Header: not a valid P6 header
 
 Refused: an unexpected byte in the header of a PPM, or a header of more than
 65,536 bytes. The offset is that of the byte. If the input starts like another
-format, such as PNG, JPEG, WebP or sixel text, a second line names it and the
-program that reads it.
+format, such as PNG, JPEG or WebP, a second line names it and the programs that
+make a PPM of it. For sixel text it says that sixel check reads it.
 
 String: P6 1,1 255
 Output of encode: sixel: Header at 4
@@ -233,18 +233,20 @@ Fix: declare a maxval that no sample is above, at most 255.
 ";
 
 const TOO_MANY_COLOURS: &str =
-    "TooManyColours: a PPM of more than 16 colours, or more than 256 with --wide
+    "TooManyColours: a picture of more than 16 colours, or more than 256 with --wide
 
 Refused: a PPM of more than 16 colours, or more than 256 with --wide, counted as
 percentages. The offset is that of the first sample of the first pixel in the
-17th colour, or the 257th.
+17th colour, or the 257th. mend refuses a picture of as many colours, with its
+background; then the line has no offset, and nothing is written.
 
 String: P6 17 1 100 000111222333444555666777888999:::;;;<<<===>>>???@@@
 Output of encode: sixel: TooManyColours at 60
 
 Fix: reduce the picture to 16 colours first, for example by pnmquant 16. With
 --wide, pnmquant 256 is enough: then the text is for terminals with 256
-registers or more, and check needs --wide too.
+registers or more, and check needs --wide too. Of a text to mend, mend --wide
+and then render --wide make a PPM to reduce, or else show does.
 ";
 
 const SHORT: &str = "Short: a PPM that ends before its last sample
@@ -279,6 +281,30 @@ Output of show --box: sixel: NoBox
 
 Fix: leave out --box, and give the screen's sides by --width and --height; or
 write raster attributes with the true size.
+";
+
+pub const EMPTY: &str = "Empty: a text to mend that declares no size and paints nothing
+
+Refused: mend needs a picture of at least one pixel. A text without raster
+attributes, or with a width or a height of 0 in them, has one only if a bit is
+set. Nothing is written.
+
+String: ESC P q ESC \\
+Output of mend: sixel: Empty
+
+Fix: look at what the text should show; it paints nothing.
+";
+
+pub const TOO_LARGE: &str = "TooLarge: a text to mend whose picture has a side above 2,048
+
+Refused: mend makes a picture as large as the declared box and as what is
+painted need, but no side may be above 2,048. Nothing is written.
+
+String: ESC P q \"1;1;2049;1 ESC \\
+Output of mend: sixel: TooLarge
+
+Fix: declare the true size. Scale a larger picture down, or cut it into several
+strings.
 ";
 
 pub const OUT_OF_MEMORY: &str = "OutOfMemory: an allocation failed

@@ -20,13 +20,13 @@ returns-in-Err-clause-checked g c =
         told = bytes_of (g.F.Folder.opening c.args.folder.now) c.args.name.now;
         left = bytes_of (g.F.Folder.opening c.args.folder.now) c.args.name.now;
         format = None;
-        line = [];
+        lines = [];
         answer = Err Read;
       };
       name_is = refl;
       told = rw file refl;
       left = rw file refl;
-      is_end = unopened c.args.profile _ _ _;
+      is_end = unopened c.args.task _ _ _;
       opening = record {
         input = λ is. let no : true ≡ false = sym is ∙ file in cc;
         opening = λ is. c.in-Err.ensures.ended;
@@ -48,7 +48,7 @@ returns-in-Ok-clause-checked g c =
         told = _;
         left = _;
         format = checked.0;
-        line = checked.1;
+        lines = checked.1;
         answer = checked.2;
       };
       name_is = refl;
@@ -81,7 +81,7 @@ returns-then-eq-clause-checked g c =
         told = _;
         left = _;
         format = checked.0;
-        line = checked.1;
+        lines = checked.1;
         answer = checked.2;
       };
       name_is = refl;

@@ -1,12 +1,14 @@
-use Rattle.std.proofs.Common.{◌≡◌, ◌++◌, [], List, None, Option, Some, codes}
+use Rattle.std.proofs.Common.{◌≡◌, ◌∙◌, ◌∷◌, ◌++◌, [], List, None, Option, Some, ap, append_assoc, codes, sym}
 use Rattle.sixel_judge.specs.declared.verdict.Finding.{Finding}
 use Rattle.sixel_run.specs.declared.fault.RunFault.{RunFault}
 use Rattle.sixel_run.specs.declared.fault.RunFault.TheVariants as fault
-use Rattle.sixel_run.specs.Texts.{Text, finding_line, rule_name}
+use Rattle.sixel_survey.specs.declared.entry.Entry.{Entry}
+use Rattle.sixel_run.specs.Texts.{Text, entry_line, finding_line, rule_name}
 use Rattle.sixel_words.specs.declared.explanations.Topic.TheVariants.{Read}
 use Rattle.sixel_words.specs.Explanations.{ArePasted, line_of, name_in, topic_name, topic_of}
 use Rattle.sixel_words.proofs.PastedLemmas.{ending_pasted, fault_pasted, finding_pasted, is_a_folder, no_such_file}
 use Rattle.sixel_words.proofs.PastedLemmas.{not_utf8, permission_denied, read_failed}
+use Rattle.sixel_program.proofs.EntryLemmas.{entry_pasted, entry_pasted_after}
 use Rattle.sixel_program.specs.declared.folder.Unopened.{Unopened}
 use Rattle.sixel_program.specs.declared.folder.Unopened.TheVariants.{Failed, IsFolder, NotFound, NotText}
 use Rattle.sixel_program.specs.declared.folder.Unopened.TheVariants.{PermissionDenied}
@@ -25,6 +27,16 @@ broken : (name : Option Text) (finding : Finding) (said : List Text)
 broken None finding said are = finding_pasted [] finding said are
 broken (Some name) finding said are = finding_pasted (printed name ++ codes ": ") finding said are
 
+surveyed : (name : Option Text) (entry : Entry) (said : List Text)
+    → ArePasted said (labelled name (entry_line entry))
+    → name_in (line_of said) ≡ Some (rule_name entry.rule)
+surveyed None entry said are = entry_pasted entry said are
+surveyed (Some name) entry said are =
+    entry_pasted_after (printed name ++ codes ":") entry said
+    (are ∙ ap (λ (t : Text). 32 ∷ t)
+    (append_assoc (printed name) (codes ": ") (entry_line entry)
+    ∙ sym (append_assoc (printed name) (codes ":") (32 ∷ entry_line entry))))
+
 refused : (name : Option Text) (f : RunFault) (said : List Text) → ArePasted said (fault_said name f)
     → name_in (line_of said) ≡ Some (topic_name (topic_of f))
 refused None f said are = fault_pasted (codes "sixel:") f said are
@@ -33,6 +45,9 @@ refused (Some name) (fault.Grammar f) said are = fault_pasted (begun name) (faul
 refused (Some name) (fault.Ppm reason place) said are = fault_pasted (begun name) (fault.Ppm reason place) said are
 refused (Some name) fault.NotRgb said are = fault_pasted (begun name) fault.NotRgb said are
 refused (Some name) fault.NoBox said are = fault_pasted (begun name) fault.NoBox said are
+refused (Some name) fault.Empty said are = fault_pasted (begun name) fault.Empty said are
+refused (Some name) fault.TooLarge said are = fault_pasted (begun name) fault.TooLarge said are
+refused (Some name) fault.TooManyColours said are = fault_pasted (begun name) fault.TooManyColours said are
 refused (Some name) fault.OutOfMemory said are = fault_pasted (begun name) fault.OutOfMemory said are
 refused (Some name) fault.Read said are = fault_pasted (begun name) fault.Read said are
 
@@ -46,4 +61,4 @@ unopened name NotText said are = ending_pasted (begun name) (reason_text NotText
 unopened name Failed said are = ending_pasted (begun name) (reason_text Failed) Read said read_failed are
 
 pub returns : goal.returns
-returns c = record { broken = broken; refused = refused; unopened = unopened }
+returns c = record { broken = broken; surveyed = surveyed; refused = refused; unopened = unopened }

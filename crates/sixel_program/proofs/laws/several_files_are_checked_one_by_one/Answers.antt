@@ -1,4 +1,4 @@
-use Rattle.std.proofs.Common.{refl}
+use Rattle.std.proofs.Common.{flat_map, refl}
 use Rattle.std.proofs.lemmas.Grind.{flat_map-append}
 use Rattle.std.proofs.lemmas.List.{append-nil}
 use Rattle.sixel_program.specs.Files.{text_of_end}
@@ -9,7 +9,8 @@ use Rattle.sixel_program.proofs.laws.several_files_are_checked_one_by_one.Goals 
 pub returns : goal.returns
 returns c = record {
   joined = λ is_quiet prefix rest. flat_map-append (text_of_end is_quiet) prefix rest;
-  named = λ e status answer. rw answer (append-nil (named e.name e.line));
+  named = λ e status answer. rw answer (append-nil (flat_map (named e.name) e.lines));
+  lines = λ task e is. is.are_lines;
   alone = alone;
   refused = λ is_quiet e fault answer. rw answer refl;
   quiet = quiet;

@@ -1,0 +1,125 @@
+-- What is found in an input is lines.
+use Rattle.std.proofs.Common.{◌≡◌, ◌++◌, ◌∷◌, ◌≤◌, ℕ, true, false, Bool, List, [], Option, Some, None, append_assoc}
+use Rattle.std.proofs.Common.{arith, codes, map, ne_eqb, refl, sym}
+use Rattle.std.specs.Prelude.{Result, Ok, Err, decimal, nat_eq, not}
+use Rattle.std.specs.List.{All, list_all}
+use Rattle.std.specs.Option.{option_to_list}
+use Rattle.std.proofs.lemmas.List.Elements.{All-append, All-cons, All-map, All-nil}
+use Rattle.sixel_judge.specs.declared.rule.Rule.{Rule}
+use Rattle.sixel_judge.specs.declared.rule.Rule.TheVariants as rule
+use Rattle.sixel_judge.specs.declared.verdict.Verdict.{Verdict}
+use Rattle.sixel_judge.specs.declared.verdict.Verdict.TheVariants.{Portable, Broken}
+use Rattle.sixel_survey.specs.declared.entry.Entry.{Entry}
+use Rattle.sixel_survey.specs.declared.entry.Survey.{Survey as ASurvey}
+use Rattle.sixel_run.specs.declared.fault.RunFault.{RunFault}
+use Rattle.sixel_run.specs.Texts.{Text, entry_line, line, pixel_parts, rule_name, size_line, spaced, survey_lines}
+use Rattle.sixel_run.specs.Texts.{verdict_line}
+use Rattle.sixel_words.proofs.PastedLemmas.{AreDigits, number_digits}
+use Rattle.sixel_program.specs.Files.{IsLine}
+use Rattle.sixel_program.specs.Findings.{lines_found, lines_of}
+use Rattle.sixel_program.specs.declared.findings.Found.{Found}
+use Rattle.sixel_program.specs.declared.findings.Found.TheVariants as found
+
+-- a text without line feeds
+abbrev IsUnfed : ℕ → Type 0
+IsUnfed byte = nat_eq byte 10 ≡ false
+
+abbrev AreUnfed : List Text → Type 0
+AreUnfed [] = Unit {0}
+AreUnfed (part ∷ parts) = All IsUnfed part × AreUnfed parts
+
+-- the text of a name has none
+abbrev has_no_feed : Text → Bool
+has_no_feed text = list_all (λ byte. not (nat_eq byte 10)) text
+
+name_unfed : (text : Text) → has_no_feed text ≡ true → All IsUnfed text
+name_unfed [] none = All-nil IsUnfed
+name_unfed (b ∷ text) none = go (nat_eq b 10) refl none
+  where
+    go : (is : Bool) → nat_eq b 10 ≡ is → (list_all (λ byte. not (nat_eq byte 10)) (b ∷ text)) ≡ true
+        → All IsUnfed (b ∷ text)
+    go false e all = All-cons IsUnfed b text e (name_unfed text (rw e at all))
+    go true e all = let no : false ≡ true = (rw e at all) in cc
+
+rule_unfed : (r : Rule) → All IsUnfed (rule_name r)
+rule_unfed rule.RasterFirst = name_unfed _ refl
+rule_unfed rule.RasterTwice = name_unfed _ refl
+rule_unfed rule.Ratio = name_unfed _ refl
+rule_unfed rule.BoxSize = name_unfed _ refl
+rule_unfed rule.Register = name_unfed _ refl
+rule_unfed rule.ColourValue = name_unfed _ refl
+rule_unfed rule.RepeatZero = name_unfed _ refl
+rule_unfed rule.Unselected = name_unfed _ refl
+rule_unfed rule.Undefined = name_unfed _ refl
+rule_unfed rule.Redefined = name_unfed _ refl
+rule_unfed rule.Outside = name_unfed _ refl
+rule_unfed rule.Uncovered = name_unfed _ refl
+rule_unfed rule.EightBit = name_unfed _ refl
+
+-- nor do digits
+digits_unfed : (ds : Text) → AreDigits ds → All IsUnfed ds
+digits_unfed [] are = All-nil IsUnfed
+digits_unfed (d ∷ ds) are =
+    All-cons IsUnfed d ds (ne_eqb d 10 (λ is. omega (arith, is, are.0.0))) (digits_unfed ds are.1)
+
+number_unfed : (n : ℕ) → All IsUnfed (decimal n)
+number_unfed n = digits_unfed (decimal n) (number_digits n)
+
+pixel_unfed : (r : Rule) (pixel : Option (ℕ × ℕ)) → AreUnfed (pixel_parts r pixel)
+pixel_unfed rule.Outside None = tt
+pixel_unfed rule.Outside (Some p) = (number_unfed p.0, (number_unfed p.1, tt))
+pixel_unfed rule.Uncovered None = tt
+pixel_unfed rule.Uncovered (Some p) = (number_unfed p.0, (number_unfed p.1, tt))
+pixel_unfed _ pixel = tt
+
+spaced_unfed : (parts : List Text) → AreUnfed parts → All IsUnfed (spaced parts)
+spaced_unfed [] are = All-nil IsUnfed
+spaced_unfed (part ∷ parts) are =
+    All-cons IsUnfed 32 (part ++ spaced parts) refl
+    (All-append IsUnfed part (spaced parts) are.0 (spaced_unfed parts are.1))
+
+-- parts without line feeds make a line
+is_line : (first : Text) (parts : List Text) → All IsUnfed first → AreUnfed parts → IsLine (line first parts)
+is_line first parts one are = (
+  first ++ spaced parts,
+  sym (append_assoc first (spaced parts) (10 ∷ [])),
+  All-append IsUnfed first (spaced parts) one (spaced_unfed parts are),
+)
+
+verdict_is_line : (v : Verdict) → IsLine (verdict_line v)
+verdict_is_line (Portable picture) =
+    is_line (codes "portable") _ (name_unfed _ refl) (number_unfed _, (number_unfed _, tt))
+verdict_is_line (Broken f) =
+    is_line (codes "broken") _ (name_unfed _ refl)
+    (rule_unfed f.rule, (number_unfed f.place, pixel_unfed f.rule f.pixel))
+
+entry_is_line : (e : Entry) → IsLine (entry_line e)
+entry_is_line e =
+    is_line (rule_name e.rule) _ (rule_unfed e.rule)
+    (number_unfed e.count, (number_unfed e.place, pixel_unfed e.rule e.pixel))
+
+entries_are_lines : (entries : List Entry) → All IsLine (map entry_line entries)
+entries_are_lines [] = All-nil IsLine
+entries_are_lines (e ∷ entries) =
+    All-cons IsLine (entry_line e) (map entry_line entries) (entry_is_line e) (entries_are_lines entries)
+
+size_is_line : (size : Option (ℕ × ℕ)) → All IsLine (map (λ size. size_line size.0 size.1) (option_to_list size))
+size_is_line None = All-nil IsLine
+size_is_line (Some size) =
+    All-cons IsLine (size_line size.0 size.1) []
+    (is_line (codes "portable") _ (name_unfed _ refl) (number_unfed size.0, (number_unfed size.1, tt)))
+    (All-nil IsLine)
+
+survey_is_lines : (s : ASurvey) → All IsLine (survey_lines s)
+survey_is_lines s =
+    All-append IsLine (map entry_line s.entries.items) (map (λ size. size_line size.0 size.1) (option_to_list s.size))
+    (entries_are_lines s.entries.items) (size_is_line s.size)
+
+found_is_lines : (f : Found) → All IsLine (lines_found f)
+found_is_lines (found.Verdict verdict) =
+    All-cons IsLine (verdict_line verdict) [] (verdict_is_line verdict) (All-nil IsLine)
+found_is_lines (found.Survey surveyed) = survey_is_lines surveyed.survey
+
+pub lines_are_lines : (r : Result Found RunFault) → All IsLine (lines_of r)
+lines_are_lines (Ok f) = found_is_lines f
+lines_are_lines (Err fault) = All-nil IsLine

@@ -1,0 +1,128 @@
+//! What a check or a survey finds in an input, and its lines after a file's name.
+
+ghost use Rattle.std.specs.Prelude.{◌≡◌, ◌≢◌, [], Err, IfSome, Some, flat_map, map};
+ghost use Rattle.std.specs.List.{concat};
+ghost use Rattle.sixel_io.specs.Devices.{ReadsToEnd, Writes};
+ghost use Rattle.sixel_program.specs.Findings.{answer_of, lines_found, lines_of, status_found, task_of};
+ghost use Rattle.sixel_program.specs.Names.{named};
+ghost use Rattle.sixel_run.specs.Outputs.{TakesMemory, Wrote, failures_by};
+ghost use Rattle.sixel_run.specs.Texts.{entry_line, survey_lines};
+ghost use Rattle.sixel_run.specs.declared.fault.RunFault.TheVariants.{Read as ReadFault};
+
+use crate::names::put_named;
+use sixel_check::Verdict;
+use sixel_io::{DeviceFault, Sink, Source};
+use sixel_model::Profile;
+use sixel_run::{
+    RunFault, Status, Surveyed, Task, entry_line, judge, size_line, status_of, survey_of, verdict_line,
+};
+use sixel_survey::{Entry, Survey};
+use std::alloc::Global;
+
+/// A task over any number of files.
+#[derive(Clone, Copy, Debug, PartialEq, Eq)]
+pub enum FilesTask {
+    Check { profile: Profile },
+    Survey { profile: Profile },
+}
+
+/// What such a task finds in an input.
+#[derive(Debug, Drop)]
+pub enum Found {
+    Verdict(Verdict),
+    Survey(Surveyed),
+}
+
+impl FilesTask {
+    /// The same task over one input.
+    pub fn task(self) -> Task
+        ensures { result ≡ task_of self }
+    {
+        match self {
+            FilesTask::Check { profile } => Task::Check { profile },
+            FilesTask::Survey { profile } => Task::Survey { profile },
+        }
+    }
+}
+
+impl Found {
+    /// The status of the run.
+    pub fn status(&self) -> Status
+        ensures { result ≡ status_found self.now }
+    {
+        match self {
+            Found::Verdict(verdict) => status_of(verdict),
+            Found::Survey(surveyed) => surveyed.status,
+        }
+    }
+}
+
+/// Checks or surveys an input, and writes nothing.
+pub fn find<S: Source>(
+    alloc: Global,
+    task: FilesTask,
+    input: &mut S,
+) -> Result<Found, RunFault>
+    ensures found { IfSome (S.state input.old).remaining (λ bytes.
+        Wrote (task_of task) bytes (S.state input.new).remaining
+        (answer_of result) (Some []) (Some (concat (lines_of result)))) }
+    ensures memory { answer_of result ≡ Err RunFault.OutOfMemory →
+        TakesMemory (task_of task) (S.state input.old).remaining }
+    ensures reads { (S.state input.new).failures
+        ≡ failures_by ReadFault (answer_of result) (S.state input.old).failures }
+    ensures left { ReadsToEnd (answer_of result) (S.state input.old).remaining (S.state input.new).remaining }
+    ensures unwritten { answer_of result ≢ Err RunFault.Write }
+{
+    match task {
+        FilesTask::Check { profile } => match judge(alloc, profile, input) {
+            Ok(verdict) => Ok(Found::Verdict(verdict)),
+            Err(fault) => Err(fault),
+        },
+        FilesTask::Survey { profile } => match survey_of(alloc, profile, input) {
+            Ok(surveyed) => Ok(Found::Survey(surveyed)),
+            Err(fault) => Err(fault),
+        },
+    }
+}
+
+/// Writes the line of each entry after the file's name.
+fn put_entries<K: Sink>(name: &str, entries: &[Entry], out: &mut K) -> Result<(), DeviceFault>
+    ensures { Writes result (K.state out.old) (K.state out.new)
+        (flat_map (named name.now) (map entry_line entries.now)) }
+{
+    for entry in entries {
+        put_named(out, b"", name, b": ", entry_line(entry).as_slice())?;
+    }
+    Ok(())
+}
+
+/// Writes the lines of a survey, each after the file's name.
+fn put_survey<K: Sink>(name: &str, survey: &Survey, out: &mut K) -> Result<(), DeviceFault>
+    ensures { Writes result (K.state out.old) (K.state out.new)
+        (flat_map (named name.now) (survey_lines survey.now)) }
+{
+    put_entries(name, survey.entries.as_slice(), out)?;
+    match survey.size {
+        Some((width, height)) => put_named(
+            out,
+            b"",
+            name,
+            b": ",
+            size_line(width, height).as_slice(),
+        ),
+        None => Ok(()),
+    }
+}
+
+/// Writes the lines of what was found, each in one piece and after the file's name.
+pub fn put_found<K: Sink>(name: &str, found: &Found, out: &mut K) -> Result<(), DeviceFault>
+    ensures { Writes result (K.state out.old) (K.state out.new)
+        (flat_map (named name.now) (lines_found found.now)) }
+{
+    match found {
+        Found::Verdict(verdict) => {
+            put_named(out, b"", name, b": ", verdict_line(verdict).as_slice())
+        }
+        Found::Survey(surveyed) => put_survey(name, &surveyed.survey, out),
+    }
+}

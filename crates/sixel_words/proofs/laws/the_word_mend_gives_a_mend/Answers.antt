@@ -1,0 +1,58 @@
+use Rattle.std.proofs.Common.{arith, codes, refl}
+use Rattle.clap.specs.Takes.{walk_passes}
+use Rattle.clap.specs.Walk.{walked}
+use Rattle.sixel_words.specs.Words.{IsPercentage}
+use Rattle.sixel_words.proofs.laws.the_word_mend_gives_a_mend.Goals as goal
+
+none : IsPercentage (codes "0") 0
+none = record { numeral = (omega arith, (omega arith, tt)); short = omega arith; value = refl; most = omega arith }
+
+half : IsPercentage (codes "50") 50
+half = record {
+  numeral = (omega arith, (omega arith, (omega arith, tt)));
+  short = omega arith;
+  value = refl;
+  most = omega arith;
+}
+
+all : IsPercentage (codes "100") 100
+all = record {
+  numeral = (omega arith, (omega arith, (omega arith, (omega arith, tt))));
+  short = omega arith;
+  value = refl;
+  most = omega arith;
+}
+
+pub returns-clause-taken : goal.returns-clause-taken
+unfolding walked walk_passes
+returns-clause-taken c = λ program. refl
+
+pub returns-clause-task : goal.returns-clause-task
+unfolding walked
+returns-clause-task c = λ program. (
+  codes "mend",
+  _,
+  refl,
+  (
+    refl,
+    refl,
+    (codes "0,0,0", refl, (codes "0", codes "0", codes "0", refl, none, none, none)),
+    refl,
+    refl,
+  ),
+)
+
+pub returns-clause-coloured : goal.returns-clause-coloured
+unfolding walked
+returns-clause-coloured c = λ program. (
+  codes "mend",
+  _,
+  refl,
+  (
+    refl,
+    refl,
+    (codes "100,50,0", refl, (codes "100", codes "50", codes "0", refl, all, half, none)),
+    refl,
+    refl,
+  ),
+)

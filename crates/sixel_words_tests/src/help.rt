@@ -1,0 +1,231 @@
+//! The texts of help and of the version.
+
+use crate::words::{said, says};
+use std::test::Fail;
+
+#[test]
+fn shows_help(rt: HostRuntime) -> Result<(), Fail> {
+    let whole = "help Checks, lists, draws and writes sixel pictures, from files or standard input
+
+Usage: sixel <COMMAND>
+
+Commands:
+  list     Lists the commands of the picture, one per line
+  check    Says whether the picture is portable, or which rule it breaks first
+  survey   Says which rules the picture breaks, how often, and where first
+  render   Converts a portable picture to a PPM
+  encode   Converts a PPM to portable sixel text
+  show     Draws the picture as one terminal would, and writes its screen as a PPM
+  mend     Makes a portable picture of what one terminal shows of a broken one
+  explain  Explains a rule or a refusal by its name, or lists all names
+  help     Print this message or the help of the given subcommand(s)
+
+Options:
+  -h, --help     Print help
+  -V, --version  Print version
+";
+    for line in ["sixel --help", "sixel -h", "sixel help"] {
+        assert!(rt; says(&rt, line, whole)?, "{line}");
+    }
+    let list = "help Lists the commands of the picture, one per line
+
+Usage: sixel list [FILE]
+
+Arguments:
+  [FILE]  The file to read; without it, or for `-`, standard input
+
+Options:
+  -h, --help  Print help
+
+Reads sixel text from FILE or, without one, from standard input. Writes to
+standard output one line for the start, for each command and for the end: its
+byte offset, its name and its numbers. Everything before a fault is listed too.
+
+Exit status: 0 done, 2 refused, 3 usage error.
+
+Example: sixel list plot.six
+";
+    for line in ["sixel list --help", "sixel list -h", "sixel help list"] {
+        assert!(rt; says(&rt, line, list)?, "{line}");
+    }
+    Ok(())
+}
+
+#[test]
+fn shows_the_version(rt: HostRuntime) -> Result<(), Fail> {
+    for line in ["sixel --version", "sixel -V"] {
+        assert!(rt; says(&rt, line, "help sixel 1.0.0\n")?, "{line}");
+    }
+    Ok(())
+}
+
+/// The help of each task says what the exit status means.
+#[test]
+fn shows_the_exit_status(rt: HostRuntime) -> Result<(), Fail> {
+    for (line, status) in [
+        (
+            "sixel list --help",
+            "Exit status: 0 done, 2 refused, 3 usage error.\n",
+        ),
+        (
+            "sixel check --help",
+            "Exit status: 0 portable, 1 broken, 2 refused, 3 usage error; with several files\nthe greatest.\n",
+        ),
+        (
+            "sixel render --help",
+            "Exit status: 0 done, 1 broken, 2 refused, 3 usage error.\n",
+        ),
+        (
+            "sixel encode --help",
+            "Exit status: 0 done, 2 refused, 3 usage error.\n",
+        ),
+        (
+            "sixel survey --help",
+            "Exit status: 0 portable, 1 broken, 2 refused, 3 usage error; with several files\nthe greatest.\n",
+        ),
+        (
+            "sixel show --help",
+            "Exit status: 0 done, 2 refused, 3 usage error.\n",
+        ),
+        (
+            "sixel mend --help",
+            "Exit status: 0 done, 2 refused, 3 usage error.\n",
+        ),
+    ] {
+        let help = said(rt.alloc(), line)?;
+        assert!(rt;
+            help.as_str().starts_with("help ") && help.as_str().contains(status),
+            "{line}"
+        );
+    }
+    Ok(())
+}
+
+#[test]
+fn shows_the_options_of_check(rt: HostRuntime) -> Result<(), Fail> {
+    let check = "help Says whether the picture is portable, or which rule it breaks first
+
+Usage: sixel check [OPTIONS] [FILE]...
+
+Arguments:
+  [FILE]...  Files to read in turn; without any, or for `-`, standard input
+
+Options:
+      --wide   Use 256 colour registers instead of 16
+  -q, --quiet  Print no verdict; use the exit status
+  -h, --help   Print help
+
+Reads sixel text from each FILE in turn or, without one, from standard input.
+Writes one line for each to standard output: `portable` and the size, or
+`broken`, the rule, the byte offset and, for two rules, a pixel. With files,
+each line starts with `FILE: `. If a file is refused, the reason goes to
+standard error, and the files after it are still checked.
+
+Exit status: 0 portable, 1 broken, 2 refused, 3 usage error; with several files
+the greatest.
+
+Example: sixel check plots/*.six
+";
+    for line in ["sixel check --help", "sixel help check"] {
+        assert!(rt; says(&rt, line, check)?, "{line}");
+    }
+    Ok(())
+}
+
+#[test]
+fn shows_the_options_of_survey(rt: HostRuntime) -> Result<(), Fail> {
+    let survey = "help Says which rules the picture breaks, how often, and where first
+
+Usage: sixel survey [OPTIONS] [FILE]...
+
+Arguments:
+  [FILE]...  Files to read in turn; without any, or for `-`, standard input
+
+Options:
+      --wide  Use 256 colour registers instead of 16
+  -h, --help  Print help
+
+Reads sixel text from each FILE in turn or, without one, from standard input.
+Writes a line for each broken rule to standard output: the rule, how often it is
+broken, the byte offset of the first time and, for two rules, a pixel. If none
+is broken, it writes `portable` and the size. With files, each line starts with
+`FILE: `. If a file is refused, the reason goes to standard error, and the files
+after it are still read.
+
+Exit status: 0 portable, 1 broken, 2 refused, 3 usage error; with several files
+the greatest.
+
+Example: sixel survey plot.six
+";
+    for line in ["sixel survey --help", "sixel help survey"] {
+        assert!(rt; says(&rt, line, survey)?, "{line}");
+    }
+    Ok(())
+}
+
+#[test]
+fn shows_the_options_of_mend(rt: HostRuntime) -> Result<(), Fail> {
+    let mend = "help Makes a portable picture of what one terminal shows of a broken one
+
+Usage: sixel mend [OPTIONS] [FILE]
+
+Arguments:
+  [FILE]  The file to read; without it, or for `-`, standard input
+
+Options:
+      --wide                Use 256 colour registers instead of 16
+      --background <R,G,B>  The colour of what isn't painted: red, green and blue in percent [default: 0,0,0]
+      --showing             Show each pixel in the final colour of its register
+      --define-selects      Let a colour definition also select its register
+  -h, --help                Print help
+
+Reads sixel text from FILE or, without one, from standard input. Draws it as one
+terminal would, and writes what that shows to standard output, as portable sixel
+text. The terminal has 256 registers, which start as the VT340's 16 colours over
+and over. The picture is as large as the declared box, and larger if something
+is painted outside it. Refused: a picture without pixels, with a side above
+2,048, or of more than 16 colours, or 256 with --wide.
+
+Exit status: 0 done, 2 refused, 3 usage error.
+
+Example: sixel mend --background 100,100,100 plot.six > mended.six
+";
+    for line in ["sixel mend --help", "sixel help mend"] {
+        assert!(rt; says(&rt, line, mend)?, "{line}");
+    }
+    Ok(())
+}
+
+#[test]
+fn shows_the_options_of_show(rt: HostRuntime) -> Result<(), Fail> {
+    let show = "help Draws the picture as one terminal would, and writes its screen as a PPM
+
+Usage: sixel show [OPTIONS] [FILE]
+
+Arguments:
+  [FILE]  The file to read; without it, or for `-`, standard input
+
+Options:
+      --wide            Use 256 colour registers instead of 16
+      --showing         Show each pixel in the final colour of its register
+      --fill            Fill the declared box with register 0
+      --define-selects  Let a colour definition also select its register
+      --width <N>       The screen's width in pixels, 1 to 4096 [default: 800]
+      --height <N>      The screen's height in pixels, 1 to 4096 [default: 480]
+      --box             Make the screen as large as the declared box
+  -h, --help            Print help
+
+Reads sixel text from FILE or, without one, from standard input. Writes the
+screen of one terminal, which the options choose, to standard output as a PPM.
+What is off the screen is left out. Without --wide, register 16 is register 0,
+17 is 1 and so on. --box can't be combined with --width or --height.
+
+Exit status: 0 done, 2 refused, 3 usage error.
+
+Example: sixel show --wide --box plot.six > plot.ppm
+";
+    for line in ["sixel show --help", "sixel help show"] {
+        assert!(rt; says(&rt, line, show)?, "{line}");
+    }
+    Ok(())
+}

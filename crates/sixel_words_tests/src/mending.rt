@@ -1,0 +1,80 @@
+//! Backgrounds of `mend`.
+
+use crate::words::{asks, refuses};
+use std::alloc::AllocError;
+use std::test::Fail;
+
+/// What `mend` asks for, with a background of these percentages.
+fn mending(
+    rt: &HostRuntime,
+    profile: &str,
+    background: &str,
+    showing: bool,
+    selects: bool,
+) -> Result<String, AllocError> {
+    format!(in rt.alloc();
+        "Mend {{ profile: {profile}, background: Colour {{ parts: Rgb({background}) }}, \
+        showing: {showing}, selects: {selects} }}"
+    )
+}
+
+#[test]
+fn names_the_background(rt: HostRuntime) -> Result<(), Fail> {
+    let rows = [
+        ("sixel mend", "Registers16", "0, 0, 0", false, false),
+        ("sixel mend --wide", "Registers256", "0, 0, 0", false, false),
+        ("sixel mend --showing", "Registers16", "0, 0, 0", true, false),
+        (
+            "sixel mend --define-selects --background 100,0,50",
+            "Registers16",
+            "100, 0, 50",
+            false,
+            true,
+        ),
+        (
+            "sixel mend --background=1,2,3 --wide",
+            "Registers256",
+            "1, 2, 3",
+            false,
+            false,
+        ),
+        (
+            "sixel mend --background 007,010,099",
+            "Registers16",
+            "7, 10, 99",
+            false,
+            false,
+        ),
+        (
+            "sixel mend --background 1,2,3 --background 4,5,6",
+            "Registers16",
+            "4, 5, 6",
+            false,
+            false,
+        ),
+    ];
+    for (line, profile, background, showing, selects) in rows {
+        let task = mending(&rt, profile, background, showing, selects)?;
+        assert!(rt; asks(&rt, line, task.as_str(), false, "[]")?, "{line}");
+    }
+    let task = mending(&rt, "Registers16", "0, 0, 0", false, false)?;
+    assert!(rt; asks(&rt, "sixel mend a", task.as_str(), false, "[\"a\"]")?, "a file");
+    Ok(())
+}
+
+/// A background is three percentages of one to three digits each.
+#[test]
+fn refuses_other_backgrounds(rt: HostRuntime) -> Result<(), Fail> {
+    for value in [
+        "0,0,101", "101,0,0", "0,256,0", "0,0", "0,0,0,0", "0", "", ",,", "0,,0", "0000,0,0", "+1,0,0", "0,0,-1",
+        "1.5,0,0", "0;0;0", "red", "0,0,0,",
+    ] {
+        let line = format!(in rt.alloc(); "sixel mend --background={value}")?;
+        let text = format!(in rt.alloc();
+            "usage error: invalid value '{value}' for '--background <R,G,B>': \
+            expected three percentages, as in 100,50,0\n\nUsage: sixel mend [OPTIONS] [FILE]"
+        )?;
+        assert!(rt; refuses(&rt, line.as_str(), text.as_str())?, "{line}");
+    }
+    Ok(())
+}
