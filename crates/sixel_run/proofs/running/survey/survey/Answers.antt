@@ -1,5 +1,4 @@
-use Rattle.std.proofs.lemmas.Result.{err_from_is_err_and}
-use Rattle.sixel_run.proofs.SurveyLemmas.{survey_refused, survey_unwritten, survey_written}
+use Rattle.sixel_run.proofs.SurveyLemmas.{survey_unwritten, survey_written}
 use Rattle.sixel_run.proofs.running.survey.survey.Goals as goal
 
 pub returns-in-Ok-clause-wrote : goal.returns-in-Ok-clause-wrote
@@ -7,7 +6,7 @@ returns-in-Ok-clause-wrote g c =
     survey_written _ (g.S.Source.state c.args.input.now).remaining c.in_ok-surveyed.surveyed _ _
     c.in_ok-surveyed.ensures.surveyed c.in-Ok.ensures.taken
 
-pub returns-clause-wrote : goal.returns-clause-wrote
-returns-clause-wrote g c =
+pub returns-in-Err-clause-wrote : goal.returns-in-Err-clause-wrote
+returns-in-Err-clause-wrote g c =
     survey_unwritten _ (g.S.Source.state c.args.input.now).remaining c.in_ok-surveyed.surveyed _ _
     c.in_ok-surveyed.ensures.surveyed c.in-Err.ensures.taken
