@@ -55,9 +55,9 @@ of_document registers m bytes d w doc is text answer g =
 -- the output of bytes that are no document
 of_fault : (registers : ℕ) (m : Mending) (bytes : List ℕ) (f : Fault) → IsFaultOf bytes f
     → (text : Text) (answer : Result Status RunFault) → MendGives registers m bytes text answer
-    → (text, answer) ≡ ([], Err (Grammar f))
+    → (text ≡ []) × (answer ≡ Err (Grammar f))
 of_fault registers m bytes f is text (Err (Grammar e)) g =
-    ap₂ (λ (t : Text) (k : Fault). (t, Err (Grammar k))) g.0 (fault_once bytes e f g.1 is)
+    (g.0, ap (λ (k : Fault). Err (Grammar k)) (fault_once bytes e f g.1 is))
 of_fault registers m bytes f is text answer g = absurd (fault_no_document bytes f is (g.0, g.1))
 
 -- the answer of mending for the events of a document
@@ -81,8 +81,9 @@ mend-once registers m bytes first second a b g h =
           (of_document registers m bytes d.0 w.0 d.1 w.1 first a g)
           (of_document registers m bytes d.0 w.0 d.1 w.1 second b h)
       | inr f ↦
-          same_parts first second a b ([], Err (Grammar f.0)) (of_fault registers m bytes f.0 f.1 first a g)
-          (of_fault registers m bytes f.0 f.1 second b h)
+          let p = of_fault registers m bytes f.0 f.1 first a g in
+          let q = of_fault registers m bytes f.0 f.1 second b h in
+          (p.0 ∙ sym q.0, p.1 ∙ sym q.1)
     ]
 
 -- ---- at least one output

@@ -76,6 +76,7 @@ fn lines_of_entries_have_room(rt: HostRuntime) {
         place: u64::MAX,
         pixel: Some((u64::MAX, u64::MAX)),
     };
-    let line = b"Outside 18446744073709551615 18446744073709551615 18446744073709551615 18446744073709551615\n";
+    let line =
+        b"Outside 18446744073709551615 18446744073709551615 18446744073709551615 18446744073709551615\n";
     assert!(rt; entry_line(&entry).as_slice() == line.as_slice());
 }

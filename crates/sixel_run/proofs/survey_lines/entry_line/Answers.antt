@@ -8,9 +8,9 @@ returns c =
       c.push_pixel.ensures.items,
       c.push_number-2.ensures.items,
       c.push_number.ensures.items,
+      c.push_all.ensures.items,
       c.as_bytes.ensures.value,
       c.rule_name.ensures.text,
-      c.push_all.ensures.items,
       c.new-line.ensures,
     )
     (simp append_assoc)

@@ -1,4 +1,4 @@
-use Rattle.std.proofs.Common.{◌+◌, ◌∙◌, ◌++◌, List, ℕ, ap, arith, refl}
+use Rattle.std.proofs.Common.{◌+◌, arith, refl}
 use Rattle.sixel_run.proofs.SurveyLineLemmas.{entry_more}
 use Rattle.sixel_run.proofs.survey_lines.entry_lines.Goals as goal
 
@@ -9,8 +9,7 @@ pub loop-entry-preserved : goal.loop-entry-preserved
 loop-entry-preserved c =
     let i = c.loop-entry.entry-index in
     record {
-      items = c.push_line.ensures.items ∙ ap (λ (t : List ℕ). c.loop-entry.lines.items ++ t) c.entry_line.ensures
-          ∙ ap (λ (t : List ℕ). t ++ _) c.loop-entry.invariant.items
-          ∙ entry_more c.args.entries.now i (i + 1) _ c.loop-entry-test.true refl;
+      items = entry_more c.args.entries.now i (i + 1) _ _ _ _ c.loop-entry-test.true refl c.loop-entry.invariant.items
+          c.entry_line.ensures c.push_line.ensures.items;
       len = omega (arith, c.push_line.ensures.len, c.loop-entry.invariant.len);
     }

@@ -1,4 +1,4 @@
-use Rattle.std.proofs.Common.{◌≡◌, ◌∙◌, ◌++◌, List, ℕ, ap, arith, false, true}
+use Rattle.std.proofs.Common.{◌≡◌, ◌∙◌, ◌+◌, ◌≤◌, ◌++◌, List, ℕ, ap, arith, false, length, true}
 use Rattle.std.specs.Prelude.{Result, Ok, Err, IsOk, OnOk}
 use Rattle.sixel_run.proofs.survey_lines.push_line.Goals as goal
 
@@ -15,5 +15,6 @@ returns-clause-items c =
 pub returns-clause-len : goal.returns-clause-len
 returns-clause-len c =
     let put = c.try_extend_from_slice.ensures in
-    let fits = omega (arith, c.requires, c.as_slice.ensures.fits) in
+    let fits : length c.args.lines.now.items + length c.as_slice.result.now ≤ 1344 =
+    omega (arith, c.requires, c.as_slice.ensures.fits) in
     omega (arith, on_ok c.try_extend_from_slice.result (put.variant.1 fits) put.len, c.as_slice.ensures.fits)

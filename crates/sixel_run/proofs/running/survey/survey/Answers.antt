@@ -7,7 +7,7 @@ returns-in-Ok-clause-wrote g c =
     survey_written _ (g.S.Source.state c.args.input.now).remaining c.in_ok-surveyed.surveyed _ _
     c.in_ok-surveyed.ensures.surveyed c.in-Ok.ensures.taken
 
-pub returns-clause-wrote : goal.returns-clause-wrote
-returns-clause-wrote g c =
+pub returns-in-Err-clause-wrote : goal.returns-in-Err-clause-wrote
+returns-in-Err-clause-wrote g c =
     survey_unwritten _ (g.S.Source.state c.args.input.now).remaining c.in_ok-surveyed.surveyed _ _
     c.in_ok-surveyed.ensures.surveyed c.in-Err.ensures.taken
