@@ -6,7 +6,7 @@ _sixel() {
     for ((i = 1; i < COMP_CWORD; i++)); do
         if [[ ! $ended && ${COMP_WORDS[i]} == -- ]]; then
             ended=yes
-        elif [[ ! $ended && ${COMP_WORDS[i]} == @(--width|--height) ]]; then
+        elif [[ ! $ended && ${COMP_WORDS[i]} == @(--width|--height|--background) ]]; then
             ((++i))
             [[ ${COMP_WORDS[i]} != = ]] || ((++i))
         elif [[ ! $ended && ${COMP_WORDS[i]} == -?* ]]; then
@@ -17,26 +17,28 @@ _sixel() {
             ((++operands))
         fi
     done
-    # The word at the cursor is the value of an option, a number.
+    # The word at the cursor is the value of an option: a number, or a colour.
     ((i == COMP_CWORD)) || return
     # For a command that reads any number of files the operands don't count.
     case $command in
         '') options='-h --help -V --version'
-            names='list check render encode show explain help'
+            names='list check survey render encode show mend explain help'
             ;;
         list) options='-h --help' ;;
         check) options='--wide -q --quiet -h --help' operands=0 ;;
+        survey) options='--wide -h --help' operands=0 ;;
         render) options='--wide -h --help' ;;
         encode) options='--wide -h --help' ;;
         show) options='--wide --showing --fill --define-selects --width --height --box -h --help' ;;
+        mend) options='--wide --background --showing --define-selects -h --help' ;;
         explain) options='-h --help'
             names='RasterFirst RasterTwice Ratio BoxSize Register ColourValue RepeatZero Unselected Undefined
                 Redefined Outside Uncovered EightBit NotSixel BadByte NumberTooLarge FieldCount BadRepeat
                 BadTerminator Truncated TooLong Trailing Header Size Maxval Sample TooManyColours Short NotRgb NoBox
-                OutOfMemory Read Write'
+                Empty TooLarge OutOfMemory Read Write'
             ;;
         help)
-            names='list check render encode show explain help'
+            names='list check survey render encode show mend explain help'
             ;;
         *) return ;;
     esac

@@ -13,9 +13,11 @@ complete -c sixel -n __fish_use_subcommand -s h -l help -d 'Print help'
 complete -c sixel -n __fish_use_subcommand -s V -l version -d 'Print version'
 complete -c sixel -n __fish_use_subcommand -a list -d 'Lists the commands of the picture, one per line'
 complete -c sixel -n __fish_use_subcommand -a check -d 'Says whether the picture is portable, or which rule it breaks first'
+complete -c sixel -n __fish_use_subcommand -a survey -d 'Says which rules the picture breaks, how often, and where first'
 complete -c sixel -n __fish_use_subcommand -a render -d 'Converts a portable picture to a PPM'
 complete -c sixel -n __fish_use_subcommand -a encode -d 'Converts a PPM to portable sixel text'
 complete -c sixel -n __fish_use_subcommand -a show -d 'Draws the picture as one terminal would, and writes its screen as a PPM'
+complete -c sixel -n __fish_use_subcommand -a mend -d 'Makes a portable picture of what one terminal shows of a broken one'
 complete -c sixel -n __fish_use_subcommand -a explain -d 'Explains a rule or a refusal by its name, or lists all names'
 complete -c sixel -n __fish_use_subcommand -a help -d 'Print this message or the help of the given subcommand(s)'
 
@@ -26,6 +28,10 @@ complete -c sixel -n '__fish_sixel_is check' -F
 complete -c sixel -n '__fish_sixel_is check' -l wide -d 'Use 256 colour registers instead of 16'
 complete -c sixel -n '__fish_sixel_is check' -s q -l quiet -d 'Print no verdict; use the exit status'
 complete -c sixel -n '__fish_sixel_is check' -s h -l help -d 'Print help'
+
+complete -c sixel -n '__fish_sixel_is survey' -F
+complete -c sixel -n '__fish_sixel_is survey' -l wide -d 'Use 256 colour registers instead of 16'
+complete -c sixel -n '__fish_sixel_is survey' -s h -l help -d 'Print help'
 
 complete -c sixel -n '__fish_sixel_is render' -F
 complete -c sixel -n '__fish_sixel_is render' -l wide -d 'Use 256 colour registers instead of 16'
@@ -44,6 +50,13 @@ complete -c sixel -n '__fish_sixel_is show' -l width -x -d 'The screen\'s width 
 complete -c sixel -n '__fish_sixel_is show' -l height -x -d 'The screen\'s height in pixels, 1 to 4096 [default: 480]'
 complete -c sixel -n '__fish_sixel_is show' -l box -d 'Make the screen as large as the declared box'
 complete -c sixel -n '__fish_sixel_is show' -s h -l help -d 'Print help'
+
+complete -c sixel -n '__fish_sixel_is mend' -F
+complete -c sixel -n '__fish_sixel_is mend' -l wide -d 'Use 256 colour registers instead of 16'
+complete -c sixel -n '__fish_sixel_is mend' -l background -x -d 'The colour of what isn\'t painted: red, green and blue in percent [default: 0,0,0]'
+complete -c sixel -n '__fish_sixel_is mend' -l showing -d 'Show each pixel in the final colour of its register'
+complete -c sixel -n '__fish_sixel_is mend' -l define-selects -d 'Let a colour definition also select its register'
+complete -c sixel -n '__fish_sixel_is mend' -s h -l help -d 'Print help'
 
 complete -c sixel -n '__fish_sixel_is explain' -s h -l help -d 'Print help'
 complete -c sixel -n '__fish_sixel_is explain 2' -a RasterFirst -d 'data, return, new line or terminator before any raster attributes'
@@ -72,18 +85,22 @@ complete -c sixel -n '__fish_sixel_is explain 2' -a Header -d 'not a valid P6 he
 complete -c sixel -n '__fish_sixel_is explain 2' -a Size -d 'a PPM width or height outside 1 to 2,048'
 complete -c sixel -n '__fish_sixel_is explain 2' -a Maxval -d 'a PPM maxval outside 1 to 255'
 complete -c sixel -n '__fish_sixel_is explain 2' -a Sample -d 'a PPM sample above the maxval'
-complete -c sixel -n '__fish_sixel_is explain 2' -a TooManyColours -d 'a PPM of more than 16 colours, or more than 256 with --wide'
+complete -c sixel -n '__fish_sixel_is explain 2' -a TooManyColours -d 'a picture of more than 16 colours, or more than 256 with --wide'
 complete -c sixel -n '__fish_sixel_is explain 2' -a Short -d 'a PPM that ends before its last sample'
 complete -c sixel -n '__fish_sixel_is explain 2' -a NotRgb -d 'a colour of hue, lightness and saturation that would appear in a PPM'
 complete -c sixel -n '__fish_sixel_is explain 2' -a NoBox -d 'a text that declares no box of a possible screen size'
+complete -c sixel -n '__fish_sixel_is explain 2' -a Empty -d 'a text to mend that declares no size and paints nothing'
+complete -c sixel -n '__fish_sixel_is explain 2' -a TooLarge -d 'a text to mend whose picture has a side above 2,048'
 complete -c sixel -n '__fish_sixel_is explain 2' -a OutOfMemory -d 'an allocation failed'
 complete -c sixel -n '__fish_sixel_is explain 2' -a Read -d 'input that couldn\'t be opened or read'
 complete -c sixel -n '__fish_sixel_is explain 2' -a Write -d 'output that couldn\'t be written'
 
 complete -c sixel -n '__fish_sixel_is help 2' -a list -d 'Lists the commands of the picture, one per line'
 complete -c sixel -n '__fish_sixel_is help 2' -a check -d 'Says whether the picture is portable, or which rule it breaks first'
+complete -c sixel -n '__fish_sixel_is help 2' -a survey -d 'Says which rules the picture breaks, how often, and where first'
 complete -c sixel -n '__fish_sixel_is help 2' -a render -d 'Converts a portable picture to a PPM'
 complete -c sixel -n '__fish_sixel_is help 2' -a encode -d 'Converts a PPM to portable sixel text'
 complete -c sixel -n '__fish_sixel_is help 2' -a show -d 'Draws the picture as one terminal would, and writes its screen as a PPM'
+complete -c sixel -n '__fish_sixel_is help 2' -a mend -d 'Makes a portable picture of what one terminal shows of a broken one'
 complete -c sixel -n '__fish_sixel_is help 2' -a explain -d 'Explains a rule or a refusal by its name, or lists all names'
 complete -c sixel -n '__fish_sixel_is help 2' -a help -d 'Print this message or the help of the given subcommand(s)'
