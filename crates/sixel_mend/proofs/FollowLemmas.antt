@@ -8,15 +8,15 @@ use Rattle.sixel_grammar.specs.Document.{Document, events_of}
 use Rattle.sixel_grammar.specs.Stretches.{sixels_from}
 use Rattle.sixel_terminal.specs.Stretches.{sixels_of}
 use Rattle.std.proofs.Common.{ℕ, ◌+◌, ◌-◌, ap₂, arith, drop, length, take}
-use Rattle.std.proofs.lemmas.List.{drop-take, length-drop, take-append-drop, take-take}
+use Rattle.std.proofs.lemmas.List.{append-nil, drop-take, length-drop, take-append-drop, take-take}
 use Rattle.sixel_grammar.proofs.SourceLemmas.{take_past}
 use Rattle.std.specs.Prelude.{Result}
 use Rattle.std.proofs.Common.{Ok, Err, OnOk, IfErr, MatchResult}
 use Rattle.sixel_grammar.specs.declared.fault.Fault.{Fault}
 use Rattle.sixel_grammar.specs.declared.reader.Reader.{Reader}
 use Rattle.sixel_grammar.specs.Faults.{IsFaultOf}
-use Rattle.sixel_grammar.specs.Standing.{StandsAfter}
-use Rattle.sixel_mend.specs.Following.{AreFollowed, FollowsEvents}
+use Rattle.sixel_grammar.specs.Standing.{StandsAfter, Takes}
+use Rattle.sixel_mend.specs.Following.{AreFollowed, FollowsBytes, FollowsEvents}
 
 pub events-then : (xs ys : List Placed) → events_of (xs ++ ys) ≡ events_of xs ++ events_of ys
 events-then [] ys = refl
@@ -31,6 +31,21 @@ follows_both has_followed a b c first second one two = λ f before h.
     (append_assoc before (events_of first) (events_of second)
     ∙ ap (λ (es : List Event). before ++ es) (sym (events-then first second)))
     (two f (before ++ events_of first) (one f before h))
+
+-- a byte that completes nothing
+pub follows_none : {F : Type 0} (has_followed : F → F → List Event → Type 0) (f : F) → FollowsEvents has_followed f f []
+follows_none has_followed f = λ first before h. subst (has_followed first f) (sym (append-nil before)) h
+
+-- a byte was read, and the events that it completed were followed
+pub followed_byte : {F : Type 0} (has_followed : F → F → List Event → Type 0) (reader r : Reader) (old new : F)
+    (byte : ℕ) (more : List Placed) → Takes reader r byte more → FollowsEvents has_followed old new (events_of more)
+    → FollowsBytes has_followed reader old r new (byte ∷ [])
+followed_byte has_followed reader r old new byte more takes follows = λ first prefix a. record {
+  events = a.events ++ more;
+  read = takes a.events prefix a.read;
+  followed = subst (has_followed first new) (sym (events-then a.events more))
+      (follows first (events_of a.events) a.followed);
+}
 
 sixels_are : (place : ℕ) (bytes : List ℕ) → events_of (sixels_from place bytes) ≡ sixels_of bytes
 sixels_are place [] = refl

@@ -1,6 +1,7 @@
 -- What an extent stores, event by event.
 use Rattle.std.proofs.Common.{◌≡◌, ◌==◌, ℕ, ◌+◌, ◌-◌, ◌*◌, ◌≤◌, Bool, true, false, cond, max, min, Option}
-use Rattle.std.proofs.Common.{None, List, [], ◌∷◌, ◌++◌, length, refl, sym, ap, ap₂, subst, ◌∙◌, append_assoc, append-nil}
+use Rattle.std.proofs.Common.{None, List, [], ◌∷◌, ◌++◌, length, refl, sym, ap, ap₂, subst, ◌∙◌, append_assoc}
+use Rattle.std.proofs.Common.{append-nil}
 use Rattle.std.proofs.Common.{arith}
 use Rattle.std.specs.Prelude.{if◌then◌else◌}
 use Rattle.std.specs.Int.{bit_at}
@@ -20,7 +21,8 @@ use Rattle.sixel_terminal.proofs.StandLemmas.{map_or}
 use Rattle.sixel_mend.specs.declared.extent.Extent.{Extent}
 use Rattle.sixel_mend.specs.declared.extent.Sides.{Sides}
 use Rattle.sixel_mend.specs.Extents.{depth, next_height, next_width, reached}
-use Rattle.sixel_mend.specs.Measures.{Measures, most, next_band, next_column, next_declared, reached_column, reached_row}
+use Rattle.sixel_mend.specs.Measures.{Measures, most, next_band, next_column, next_declared, reached_column}
+use Rattle.sixel_mend.specs.Measures.{reached_row}
 use Rattle.sixel_mend.specs.Measures.{sides_of}
 use Rattle.sixel_mend.specs.Screens.{mending_terminal}
 use Rattle.sixel_mend.proofs.ExtentLemmas.{extent_none, extent_push, is_depth}
@@ -84,8 +86,8 @@ pub measures_idle : (e : Extent) (before : List Event) (event : Event)
     → ((command : Command) → event ≡ Step command → ⊥) → Measures e before → Measures e (before ++ event ∷ [])
 measures_idle e before (Step command) no_step s = absurd (no_step command refl)
 measures_idle e before (Start eight parameters) no_step s =
-    measures_push e e before (Start eight parameters) s (omega (arith, s.column_is)) (omega (arith, s.band_is)) refl refl
-    (or_none e.declared)
+    measures_push e e before (Start eight parameters) s (omega (arith, s.column_is)) (omega (arith, s.band_is))
+    refl refl (or_none e.declared)
 measures_idle e before (Finish eight) no_step s =
     measures_push e e before (Finish eight) s (omega (arith, s.column_is)) (omega (arith, s.band_is)) refl refl
     (or_none e.declared)

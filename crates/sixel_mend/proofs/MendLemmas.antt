@@ -1,5 +1,6 @@
 -- The size of a string, judged; and the picture of what a terminal shows of it.
-use Rattle.std.proofs.Common.{◌≡◌, ◌==◌, ◌≤◌, ◌<◌, ◌&&◌, ◌||◌, ◌*◌, ℕ, Bool, true, false, Option, Some, None, List, Ok, Err, max}
+use Rattle.std.proofs.Common.{◌≡◌, ◌==◌, ◌≤◌, ◌<◌, ◌&&◌, ◌||◌, ◌*◌, ℕ, Bool, true, false, Option, Some, None, List}
+use Rattle.std.proofs.Common.{Ok, Err, max}
 use Rattle.std.proofs.Common.{IfOk, IfErr, length, min, nat_lt, refl, sym, ap, subst, ◌∙◌, arith}
 use Rattle.std.specs.Prelude.{Result, if◌then◌else◌}
 use Rattle.std.specs.Option.{option_map, option_map_or}
@@ -16,7 +17,8 @@ use Rattle.sixel_ppm.specs.PpmReading.{distinct, picture_of}
 use Rattle.sixel_mend.specs.declared.extent.Extent.{Extent}
 use Rattle.sixel_mend.specs.declared.extent.Sides.{Sides}
 use Rattle.sixel_mend.specs.declared.mending.MendFault.{MendFault}
-use Rattle.sixel_mend.specs.declared.mending.MendFault.TheVariants.{Grammar, Empty, TooLarge, TooManyColours, OutOfMemory}
+use Rattle.sixel_mend.specs.declared.mending.MendFault.TheVariants.{Grammar, Empty, TooLarge, TooManyColours}
+use Rattle.sixel_mend.specs.declared.mending.MendFault.TheVariants.{OutOfMemory}
 use Rattle.sixel_mend.specs.declared.mending.Mending.{Mending}
 use Rattle.sixel_mend.specs.Judging.{IsReadingFault, judged}
 use Rattle.sixel_mend.specs.Measures.{IsSized, Measures, most, sides_of}

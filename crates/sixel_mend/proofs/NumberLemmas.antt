@@ -68,7 +68,8 @@ seen_there seen c d any =
     let at = position-Some (is_same c) seen found.0 d (position_from-zero (is_same c) seen ∙ found.1) in
     ap (λ (n : ℕ). get_or seen n d) is ∙ sym (same_is c (get_or seen found.0 d) at.1)
 
-register_below : (seen : List Parts) (c : Parts) → list_any (is_same c) seen ≡ true → register_among seen c < length seen
+register_below : (seen : List Parts) (c : Parts) → list_any (is_same c) seen ≡ true
+    → register_among seen c < length seen
 register_below seen c any =
     let found = any_then_position (is_same c) seen 0 any in
     let is : register_among seen c ≡ found.0 = ap (λ (o : Option ℕ). unwrap_or o 0) found.1 in

@@ -13,7 +13,8 @@ use Rattle.sixel_mend.specs.Screens.{mending_choices, starting_colour, starting_
 
 -- one more register
 pub starting_more : (n : ℕ)
-    → map starting_colour (range_with_len 0 (n + 1)) ≡ map starting_colour (range_with_len 0 n) ++ starting_colour n ∷ []
+    → map starting_colour (range_with_len 0 (n + 1))
+    ≡ map starting_colour (range_with_len 0 n) ++ starting_colour n ∷ []
 starting_more n = map-range_with_len_more starting_colour 0 n n (omega arith)
 
 pub count_of_colours : length starting_colours ≡ 256

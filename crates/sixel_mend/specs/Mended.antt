@@ -39,8 +39,8 @@ abbrev pub HasSides : Mending → List Event → Type 0
 HasSides m events =
     (width : ℕ) × (height : ℕ) × IsSize m events width height × IsTrue (is_side width && is_side height)
 
--- what mending gives for these bytes. Grammar: the fault of bytes that are no document; OutOfMemory: only for a document
--- whose size a picture may have; any other answer: that for the document's events
+-- what mending gives for these bytes. Grammar: the fault of bytes that are no document; OutOfMemory: only for a
+-- document whose size a picture may have; any other answer: that for the document's events
 abbrev pub Mends : ℕ → Mending → List ℕ → Result PictureValue MendFault → Type 0
 Mends registers m bytes (Err (Grammar fault)) = IsFaultOf bytes fault
 Mends registers m bytes (Err OutOfMemory) =

@@ -30,9 +30,9 @@ pub(crate) struct Extent {
     pub column: u32,
     /// The band of the next sixel.
     pub band: u32,
-    /// How many columns, from the first one, have all touched points.
+    /// One more than the greatest column of a touched point; 0 if no point is touched.
     pub width: u32,
-    /// How many rows, from the first one, have all touched points.
+    /// The same for rows.
     pub height: u32,
     /// The box of the first raster attributes.
     pub declared: Option<Sides>,

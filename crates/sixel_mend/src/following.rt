@@ -12,11 +12,11 @@ ghost use Rattle.sixel_grammar.specs.Standing.{completions};
 ghost use Rattle.sixel_terminal.specs.Stretches.{sixels_of};
 ghost use Rattle.sixel_mend.specs.Following.{FollowsBytes, FollowsEvents, RefusesBytes};
 
-use sixel_grammar::{Completed, Event, Fault, Placed, Reader};
+use sixel_grammar::{Completed, Event, Fault, Placed, Plain, Reader};
 
 /// What follows the events of a document.
 pub(crate) trait Follower {
-    /// The value that was the first one has followed these events.
+    /// `has_followed first now events`: what was `first` before these events is `now` after them.
     ghost has_followed: { Self → Self → List AnEvent → Type 0 };
 
     /// Follows one more event.
@@ -48,8 +48,30 @@ fn follow_completed<F: Follower>(follower: &mut F, completed: Completed)
     follow_one(follower, second);
 }
 
-/// Reads one byte, and passes on the events that it completes.
+/// Reads one byte, and passes on the events that it completes. Most bytes complete at most one command.
+#[inline(always)]
 fn follow_byte<F: Follower>(reader: &mut Reader, follower: &mut F, byte: u8) -> Result<(), Fault>
+    ensures followed { OnOk result (FollowsBytes F.has_followed reader.old follower.old reader.new follower.new
+        (byte ∷ [])) }
+    ensures refused { IfErr result (RefusesBytes F.has_followed reader.old follower.old (byte ∷ [])) }
+{
+    match reader.feed_command(byte) {
+        Some(Plain::Nothing) => Ok(()),
+        Some(Plain::Command { place: _, command }) => {
+            follower.follow(&Event::Step(command));
+            Ok(())
+        }
+        None => follow_byte_of_any_kind(reader, follower, byte),
+    }
+}
+
+/// Reads one byte of any kind, and passes on the events that it completes.
+#[inline(never)]
+fn follow_byte_of_any_kind<F: Follower>(
+    reader: &mut Reader,
+    follower: &mut F,
+    byte: u8,
+) -> Result<(), Fault>
     ensures followed { OnOk result (FollowsBytes F.has_followed reader.old follower.old reader.new follower.new
         (byte ∷ [])) }
     ensures refused { IfErr result (RefusesBytes F.has_followed reader.old follower.old (byte ∷ [])) }
@@ -74,6 +96,11 @@ fn follow_stretch_or_byte<F: Follower>(
         (take count bytes.now)) }
     ensures refused { IfErr result (RefusesBytes F.has_followed reader.old follower.old (take 1 bytes.now)) }
 {
+    // No byte below `?` is data, so the compiler drops the code for data from this branch.
+    if bytes[0] < b'?' {
+        follow_byte(reader, follower, bytes[0])?;
+        return Ok(1);
+    }
     let stretch = reader.feed_stretch(bytes);
     if stretch.count == 0 {
         follow_byte(reader, follower, bytes[0])?;

@@ -50,8 +50,7 @@ pub fn mend(
 {
     let (width, height) = size_of(bytes)?;
     let screen = screen_of(alloc, mending, width, height, bytes)?;
-    let colours = screen.colours(alloc)?;
-    picture_of(alloc, profile, width, height, &colours)
+    picture_of(alloc, profile, width, height, screen.pixels())
 }
 
 /// The extent of a document.

@@ -9,3 +9,4 @@ pub mod PpmReadLemmas
 pub mod PpmFileLemmas
 pub mod PpmPartLemmas
 pub mod PpmFoundLemmas
+pub mod NumberingLemmas

@@ -5,5 +5,6 @@ pub mod laws;
 mod ppm;
 
 pub use ppm::{
-    Colours, PpmFault, PpmReason, ToRgbx, read_ppm, write_ppm, write_ppm_colours, write_ppm_pixels,
+    Numbering, PpmFault, PpmReason, ToRgbx, read_ppm, write_ppm, write_ppm_colours,
+    write_ppm_pixels,
 };

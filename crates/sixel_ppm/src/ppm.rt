@@ -2,13 +2,14 @@
 
 mod colours;
 mod header;
+mod numbering;
 mod pixel_cache;
 mod read;
 mod samples;
 mod table;
 mod write;
 
-pub use colours::Colours;
+pub use numbering::Numbering;
 pub use read::read_ppm;
 use std::alloc::AllocError;
 pub use table::ToRgbx;

@@ -2,6 +2,7 @@
 
 ghost use Rattle.std.specs.Prelude.{◌≡◌, ◌≤◌};
 ghost use Rattle.sixel_terminal.specs.Pixels.{bytes_of, is_rgb_ink, packed};
+ghost use Rattle.sixel_terminal.specs.Screens.{colour_in_ink};
 ghost use Rattle.sixel_terminal.specs.declared.pixel.Ink.TheVariants.{Fixed as FixedInk, Bound as BoundInk};
 
 use sixel_model::{Colour, Parts};
@@ -93,6 +94,16 @@ impl Pixel {
         ensures { result ≡ is_rgb_ink self.now }
     {
         self.code < 16_777_216
+    }
+
+    /// The colour that the pixel shows after a drawing.
+    pub fn colour(&self) -> Colour
+        ensures { result ≡ colour_in_ink self.now }
+    {
+        match self.ink() {
+            Ink::Fixed(colour) => colour,
+            Ink::Bound(_) => Colour::of_percentages(0, 0, 0),
+        }
     }
 
     /// What the pixel shows.

@@ -3,7 +3,7 @@
 ghost use Rattle.std.specs.Prelude.{◌≡◌, IfOk, map};
 ghost use Rattle.sixel_terminal.specs.Screens.{IsAllFixed, colour_in_ink};
 
-use crate::pixel::{Ink, Pixel};
+use crate::pixel::Pixel;
 use sixel_model::Colour;
 use std::alloc::{AllocError, Global};
 use std::marker::Model;
@@ -31,16 +31,6 @@ impl Model for Screen {
     } };
 
     ghost invariant = { λ s. IsAllFixed s.pixels.items };
-}
-
-/// The colour that a pixel shows after a drawing.
-fn colour_of(pixel: &Pixel) -> Colour
-    ensures { result ≡ colour_in_ink pixel.now }
-{
-    match pixel.ink() {
-        Ink::Fixed(colour) => colour,
-        Ink::Bound(_) => Colour::of_percentages(0, 0, 0),
-    }
 }
 
 impl Screen {
@@ -79,7 +69,7 @@ fn colours_of(alloc: Global, pixels: &[Pixel]) -> Result<Vec<Colour>, AllocError
 {
     let mut colours = Vec::with_capacity(alloc, pixels.len())?;
     for pixel in pixels {
-        colours.push(colour_of(pixel))?;
+        colours.push(pixel.colour())?;
     }
     Ok(colours)
 }

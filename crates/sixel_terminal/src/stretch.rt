@@ -1,16 +1,20 @@
 //! Paints many sixels at once.
 
 ghost use Rattle.std.specs.Prelude.{◌≡◌, ◌&&◌, ◌<◌, ◌≤◌, ◌+◌, ◌-◌, ◌*◌, ◌/◌, ◌%◌, ℕ, EachIndex, IsTrue, length, nat_le, nat_lt};
-ghost use Rattle.std.specs.Prelude.{slice_index, slice_index_or, if◌then◌else◌};
+ghost use Rattle.std.specs.Prelude.{slice_index, slice_index_or, take, if◌then◌else◌};
 ghost use Rattle.sixel_grammar.specs.Bytes.{is_data};
 ghost use Rattle.sixel_model.specs.Geometry.{band_rows};
 ghost use Rattle.sixel_terminal.specs.Canvases.{black};
 ghost use Rattle.sixel_terminal.specs.Stretches.{has_bit, is_stretched};
 
 use crate::pixel::Pixel;
-use sixel_model::is_set;
+use sixel_model::{BAND_ROWS, is_set};
+
+/// The sixels of fewer bytes than this are painted column by column: rows that short have no use for lanes.
+const SHORT: usize = 8;
 
 /// Paints the pixels of a row whose data bytes have the bit. The loop has no branch, so that the compiler uses lanes.
+#[inline(always)]
 fn paint_row(row: &mut [Pixel], bytes: &[u8], bit: u32, ink: &Pixel)
     requires bit { bit < band_rows }
     requires long { length bytes.now ≡ length row.old }
@@ -29,6 +33,7 @@ fn paint_row(row: &mut [Pixel], bytes: &[u8], bit: u32, ink: &Pixel)
 }
 
 /// Paints a row of the screen from the pixel `at` on.
+#[inline(always)]
 fn paint_row_at(pixels: &mut [Pixel], at: usize, bytes: &[u8], bit: u32, ink: &Pixel)
     requires bit { bit < band_rows }
     requires within { at + length bytes.now ≤ length pixels.old }
@@ -42,7 +47,8 @@ fn paint_row_at(pixels: &mut [Pixel], at: usize, bytes: &[u8], bit: u32, ink: &P
 
 /// Paints the first `count` rows of a band, from the row `top` of the screen on, in the columns of the bytes, from `left`
 /// on.
-pub(crate) fn paint_rows(
+#[inline(always)]
+fn paint_rows(
     pixels: &mut [Pixel],
     width: usize,
     left: usize,
@@ -63,5 +69,79 @@ pub(crate) fn paint_rows(
     for bit in 0..count {
         let at = (top + bit as usize) * width + left;
         paint_row_at(pixels, at, bytes, bit, ink);
+    }
+}
+
+/// Paints the first column of a whole band. Returns how many columns that is.
+#[inline(always)]
+fn paint_first(
+    pixels: &mut [Pixel],
+    width: usize,
+    left: usize,
+    top: usize,
+    bytes: &[u8],
+    ink: &Pixel,
+) -> usize
+    requires some { 0 < width }
+    requires more { 0 < length bytes.now }
+    requires columns { left + length bytes.now ≤ width }
+    requires rows { (top + band_rows) * width ≤ length pixels.old }
+    requires data { (k : ℕ) → k < length bytes.now → IsTrue (is_data (slice_index bytes.now k)) }
+    ensures some { 0 < result }
+    ensures within { result ≤ length bytes.now }
+    ensures painted { EachIndex pixels.old (λ i. slice_index_or pixels.new i black
+        ≡ (if is_stretched left top band_rows (take result bytes.now) (i % width) (i / width)
+        then ink.now else slice_index_or pixels.old i black)) }
+{
+    paint_rows(pixels, width, left, top, BAND_ROWS, &bytes[..1], ink);
+    1
+}
+
+/// As `paint_rows` for a whole band, column by column.
+fn paint_columns(
+    pixels: &mut [Pixel],
+    width: usize,
+    left: usize,
+    top: usize,
+    bytes: &[u8],
+    ink: &Pixel,
+)
+    requires some { 0 < width }
+    requires columns { left + length bytes.now ≤ width }
+    requires rows { (top + band_rows) * width ≤ length pixels.old }
+    requires data { (k : ℕ) → k < length bytes.now → IsTrue (is_data (slice_index bytes.now k)) }
+    ensures { EachIndex pixels.old (λ i. slice_index_or pixels.new i black
+        ≡ (if is_stretched left top band_rows bytes.now (i % width) (i / width)
+        then ink.now else slice_index_or pixels.old i black)) }
+{
+    let mut done = 0;
+    while done < bytes.len() {
+        done += paint_first(pixels, width, left + done, top, &bytes[done..], ink);
+    }
+}
+
+/// As `paint_rows`, in the faster of the two orders.
+pub(crate) fn paint_sixels(
+    pixels: &mut [Pixel],
+    width: usize,
+    left: usize,
+    top: usize,
+    count: u32,
+    bytes: &[u8],
+    ink: &Pixel,
+)
+    requires some { 0 < width }
+    requires columns { left + length bytes.now ≤ width }
+    requires band { count ≤ band_rows }
+    requires rows { (top + count) * width ≤ length pixels.old }
+    requires data { (k : ℕ) → k < length bytes.now → IsTrue (is_data (slice_index bytes.now k)) }
+    ensures { EachIndex pixels.old (λ i. slice_index_or pixels.new i black
+        ≡ (if is_stretched left top count bytes.now (i % width) (i / width)
+        then ink.now else slice_index_or pixels.old i black)) }
+{
+    if count == BAND_ROWS && bytes.len() < SHORT {
+        paint_columns(pixels, width, left, top, bytes, ink);
+    } else {
+        paint_rows(pixels, width, left, top, count, bytes, ink);
     }
 }

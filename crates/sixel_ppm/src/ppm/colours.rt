@@ -11,14 +11,14 @@ use sixel_model::{Colour, Palette, Profile};
 
 /// The colours seen so far, numbered in the order in which they first appeared: they have the registers from 0 on.
 #[derive(Debug, Drop)]
-pub struct Colours {
+pub(crate) struct Colours {
     pub(crate) palette: Palette,
     pub(crate) count: u16,
 }
 
 impl Colours {
     /// No colour was seen yet.
-    pub fn new(profile: Profile) -> Colours
+    pub(crate) fn new(profile: Profile) -> Colours
         ensures none { Fills result [] }
         ensures profile { length result.palette ≡ count_of profile }
         ensures unused { IsUnusedFrom result.palette result.count }
@@ -30,7 +30,7 @@ impl Colours {
     }
 
     /// The register of a colour. A new colour gets the next register; `None` if no register is left.
-    pub fn register_of(&mut self, colour: Colour) -> Option<u8>
+    pub(crate) fn register_of(&mut self, colour: Colour) -> Option<u8>
         ensures numbers { (seen : List Parts) → Fills self.old seen → Numbers result self.new (with_colour seen colour)
             colour }
         ensures profile { length self.new.palette ≡ length self.old.palette }
@@ -48,13 +48,5 @@ impl Colours {
         self.palette.set(register as u8, colour);
         self.count = register + 1;
         Some(register as u8)
-    }
-
-    /// The palette with these colours.
-    pub fn into_palette(self) -> Palette
-        ensures { result ≡ self.palette }
-    {
-        let Colours { palette, .. } = self;
-        palette
     }
 }

@@ -86,7 +86,7 @@ impl PixelCache {
     }
 
     /// The register of a pixel, if the cache has it.
-    fn register_of(&self, red: u8, green: u8, blue: u8) -> Option<u8>
+    pub(crate) fn register_of(&self, red: u8, green: u8, blue: u8) -> Option<u8>
         ensures { (maxval : ℕ) (palette : List (Option Parts)) → Knows self.now maxval palette →
             IfSome result (IsHit maxval palette red green blue) }
     {

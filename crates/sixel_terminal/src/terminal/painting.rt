@@ -11,7 +11,7 @@ ghost use Rattle.sixel_terminal.specs.Stretches.{stretch_covers};
 use crate::canvas::{Span, fill};
 use crate::pen::Pen;
 use crate::pixel::Pixel;
-use crate::stretch::paint_rows;
+use crate::stretch::paint_sixels;
 use crate::terminal::Terminal;
 use sixel_model::{BAND_ROWS, is_set};
 
@@ -103,7 +103,7 @@ impl Terminal {
         let width = self.choices.screen_width as usize;
         let count = bytes.len().min((right - left) as usize);
         let rows = BAND_ROWS.min((bottom - top) as u32);
-        paint_rows(
+        paint_sixels(
             inks,
             width,
             left as usize,

@@ -1,23 +1,23 @@
-use Rattle.std.proofs.Common.{◌++◌, ◌∷◌, [], subst, sym, arith, length-append}
-use Rattle.std.proofs.lemmas.Result.{err_from_is_err_and}
-use Rattle.sixel_grammar.proofs.UniqueLemmas.{fault_stays}
-use Rattle.sixel_grammar.specs.Standing.{completions}
-use Rattle.sixel_mend.proofs.FollowLemmas.{events-then}
+use Rattle.std.proofs.Common.{subst}
+use Rattle.sixel_grammar.specs.declared.command.Plain.{Plain}
+use Rattle.sixel_grammar.specs.declared.command.Plain.TheVariants.{Nothing, Command}
+use Rattle.sixel_grammar.specs.Plain.{plain_of}
+use Rattle.sixel_grammar.specs.Standing.{Takes, completions}
+use Rattle.sixel_mend.proofs.FollowLemmas.{followed_byte, follows_none}
 use Rattle.sixel_mend.proofs.following.follow_byte.Goals as goal
 
-pub returns-in_err-completed-clause-refused : goal.returns-in_err-completed-clause-refused
-returns-in_err-completed-clause-refused g c =
-    let failed = err_from_is_err_and c.from_residual.result c.from_residual.ensures.1 in
-    rw (failed.1, failed.2)
-    (λ first prefix a rest.
-    let t = c.in_err-completed.ensures.refused a.events prefix a.read in
-    fault_stays (prefix ++ c.args.byte ∷ []) rest _ t.0 (omega (arith, t.1, length-append prefix (c.args.byte ∷ []))))
+pub returns-in-Some-Nothing-clause-followed : goal.returns-in-Some-Nothing-clause-followed
+returns-in-Some-Nothing-clause-followed g c =
+    let takes = λ (p : Plain). Takes c.args.reader.now c.feed_command.new.self c.args.byte (completions (plain_of p)) in
+    let accepted : takes Nothing = subst takes c.in-Some-Nothing.field-0-is c.in-Some-Nothing.ensures.accepted in
+    followed_byte g.F.Follower.has_followed c.args.reader.now c.feed_command.new.self c.args.follower.now
+    c.args.follower.now c.args.byte (completions (plain_of Nothing)) accepted
+    (follows_none g.F.Follower.has_followed c.args.follower.now)
 
-pub returns-clause-followed : goal.returns-clause-followed
-returns-clause-followed g c = λ first prefix a. record {
-  events = a.events ++ completions c.in_ok-completed.completed;
-  read = c.in_ok-completed.ensures.accepted a.events prefix a.read;
-  followed = subst (g.F.Follower.has_followed first c.follow_completed.new.follower)
-      (sym (events-then a.events (completions c.in_ok-completed.completed)))
-      (c.follow_completed.ensures first _ a.followed);
-}
+pub returns-in-Some-Command-clause-followed : goal.returns-in-Some-Command-clause-followed
+returns-in-Some-Command-clause-followed g c =
+    let plain = Command c.in-Some-Command.field-0-0 c.in-Some-Command.command in
+    let takes = λ (p : Plain). Takes c.args.reader.now c.feed_command.new.self c.args.byte (completions (plain_of p)) in
+    let accepted : takes plain = subst takes c.in-Some-Command.field-0-is c.in-Some-Command.ensures.accepted in
+    followed_byte g.F.Follower.has_followed c.args.reader.now c.feed_command.new.self c.args.follower.now
+    c.follow.new.self c.args.byte (completions (plain_of plain)) accepted c.follow.ensures

@@ -23,26 +23,3 @@ returns g c =
       };
       refused = tt;
     }
-
-pub returns-then-stretch-eq0 : goal.returns-then-stretch-eq0
-returns-then-stretch-eq0 g c =
-    let same = c.feed_stretch-stretch.ensures.kept c.if-stretch-eq0.true in
-    record {
-      some = omega arith;
-      within = omega arith;
-      followed = rw (first_byte c.args.bytes.now c.requires, sym same) c.in_ok-follow_byte.ensures.followed;
-      refused = tt;
-    }
-
-pub returns-in_err-follow_byte : goal.returns-in_err-follow_byte
-returns-in_err-follow_byte g c =
-    let failed = err_from_is_err_and c.from_residual.result c.from_residual.ensures.1 in
-    let same = c.feed_stretch-stretch.ensures.kept c.if-stretch-eq0.true in
-    let first = first_byte c.args.bytes.now c.requires in
-    record {
-      some = rw failed.1 tt;
-      within = rw failed.1 tt;
-      followed = rw failed.1 tt;
-      refused = rw (failed.1, failed.2)
-          (λ start prefix a. rw first (c.in_err-follow_byte.ensures.refused start prefix (rw same a)));
-    }

@@ -1,74 +1,93 @@
 use Rattle.std.proofs.Common.{◌≡◌, ◌≤◌, ◌<◌, ◌+◌, ◌-◌, ◌++◌, ◌∷◌, [], ℕ, List, None, ap, ap₂, arith, drop, length}
-use Rattle.std.proofs.Common.{get_or, subst, sym, take, ◌∙◌, Option}
-use Rattle.std.proofs.lemmas.List.{take-append-drop, take_more}
+use Rattle.std.proofs.Common.{get_or, map, subst, sym, take, ◌∙◌, Option}
+use Rattle.std.proofs.lemmas.List.{map-append, take-append-drop, take_more}
 use Rattle.sixel_model.specs.declared.colour.Parts.{Parts}
 use Rattle.sixel_model.specs.Pictures.{picture_of_parts}
 use Rattle.sixel_ppm.specs.PpmReading.{distinct, picture_of, with_colour}
 use Rattle.sixel_ppm.specs.PpmSamples.{HoldsPixels}
 use Rattle.sixel_ppm.proofs.PpmFileLemmas.{distinct_grows}
 use Rattle.sixel_ppm.proofs.PpmSampleLemmas.{distinct-snoc, holds_more, picture_accepted, picture_is}
+use Rattle.sixel_terminal.specs.declared.pixel.Ink.{Ink}
+use Rattle.sixel_terminal.specs.Screens.{colour_in_ink}
 use Rattle.sixel_terminal.proofs.DrawLemmas.{all_taken}
 use Rattle.sixel_mend.proofs.numbering.picture_of.Goals as goal
+
+-- the colours of the first pixels
+abbrev colours_to : List Ink → ℕ → List Parts
+colours_to pixels i = map colour_in_ink (take i pixels)
 
 pub loop-pixel-init : goal.loop-pixel-init
 loop-pixel-init c = (
   record {
-    fills = c.new-colours.ensures.none;
+    fills = c.new-numbering.ensures.none;
     knows_last = tt;
     numbered = c.in_ok-registers.ensures.items;
     all_seen = tt;
     whole = omega arith;
   },
-  c.new-colours.ensures.profile,
+  c.new-numbering.ensures.profile,
   omega (arith, c.in_ok-registers.ensures.len, c.in_ok-registers.ensures.capacity),
 )
 
--- the pixels up to and including this one
-more_taken : (pixels : List Parts) (i : ℕ) (colour : Parts) → i < length pixels
-    → colour ≡ get_or pixels i colour → take (i + 1) pixels ≡ take i pixels ++ colour ∷ []
-more_taken pixels i colour lt is =
-    take_more pixels i colour lt ∙ ap (λ (x : Parts). take i pixels ++ x ∷ []) (sym is)
+-- the colours of the pixels up to and including this one
+one_more : (pixels : List Ink) (i : ℕ) (pixel : Ink) (colour : Parts) → i < length pixels
+    → pixel ≡ get_or pixels i pixel → colour ≡ colour_in_ink pixel
+    → colours_to pixels (i + 1) ≡ colours_to pixels i ++ colour ∷ []
+one_more pixels i pixel colour lt is shows =
+    let more : take (i + 1) pixels ≡ take i pixels ++ pixel ∷ [] =
+    take_more pixels i pixel lt ∙ ap (λ (x : Ink). take i pixels ++ x ∷ []) (sym is) in
+    ap (λ (xs : List Ink). map colour_in_ink xs) more
+    ∙ map-append colour_in_ink (take i pixels) (pixel ∷ [])
+    ∙ ap (λ (x : Parts). colours_to pixels i ++ x ∷ []) (sym shows)
 
 pub loop-pixel-preserved : goal.loop-pixel-preserved
 loop-pixel-preserved c =
     let i = c.loop-pixel.pixel-index in
     let pixels = c.args.pixels.now in
-    let colour = c.pixel-item.result in
+    let colour = c.colour.result in
     let inv = c.loop-pixel.invariant in
-    let n = c.in-Some.ensures.numbers (distinct (take i pixels)) inv.0.fills in
+    let n = c.in-Some.ensures.numbers (distinct (colours_to pixels i)) inv.0.fills in
     let lt : i < length pixels = c.loop-pixel-test.true in
     let holds =
-    holds_more c.loop-pixel.colours c.register_of.new.self None None 0 c.loop-pixel.registers.items (length pixels - i)
-    (length pixels) (take i pixels) colour c.in-Some.register (length pixels - (i + 1)) (omega (arith, lt)) inv.0 n.1 tt
-    n.0 in (
+    holds_more c.loop-pixel.numbering.colours c.register_of.new.self.colours None None 0 c.loop-pixel.registers.items
+    (length pixels - i) (length pixels) (colours_to pixels i) colour c.in-Some.register (length pixels - (i + 1))
+    (omega (arith, lt)) inv.0 n.1 tt n.0 in (
       subst
-          (λ (rs : List ℕ). HoldsPixels c.register_of.new.self None 0 rs (length pixels - (i + 1)) (length pixels)
-          (take (i + 1) pixels)) (sym c.push_reserved.ensures.items)
+          (λ (rs : List ℕ). HoldsPixels c.register_of.new.self.colours None 0 rs (length pixels - (i + 1))
+          (length pixels) (colours_to pixels (i + 1))) (sym c.push_reserved.ensures.items)
           (subst
-          (λ (cs : List Parts). HoldsPixels c.register_of.new.self None 0
+          (λ (cs : List Parts). HoldsPixels c.register_of.new.self.colours None 0
           (c.loop-pixel.registers.items ++ c.in-Some.register ∷ []) (length pixels - (i + 1)) (length pixels) cs)
-          (sym (more_taken pixels i colour lt c.pixel-item.is)) holds),
+          (sym (one_more pixels i c.pixel-item.result colour lt c.pixel-item.is c.colour.ensures)) holds),
       c.in-Some.ensures.profile ∙ inv.1,
       omega (arith, lt, inv.2, c.push_reserved.ensures.len, c.push_reserved.ensures.capacity),
     )
+
+-- the colours of all pixels are those of the first ones, and others
+then_the_rest : (pixels : List Ink) (i : ℕ)
+    → colours_to pixels i ++ map colour_in_ink (drop i pixels) ≡ map colour_in_ink pixels
+then_the_rest pixels i =
+    sym (map-append colour_in_ink (take i pixels) (drop i pixels))
+    ∙ ap (λ (xs : List Ink). map colour_in_ink xs) (take-append-drop i pixels)
 
 pub returns-in-None-clause-refused : goal.returns-in-None-clause-refused
 returns-in-None-clause-refused c =
     let i = c.loop-pixel.pixel-index in
     let pixels = c.args.pixels.now in
-    let colour = c.pixel-item.result in
+    let colour = c.colour.result in
     let inv = c.loop-pixel.invariant in
     let lt : i < length pixels = c.loop-pixel-test.true in
-    let many = c.in-None.ensures.numbers (distinct (take i pixels)) inv.0.fills in
-    let seen : distinct (take (i + 1) pixels) ≡ with_colour (distinct (take i pixels)) colour =
-    ap distinct (more_taken pixels i colour lt c.pixel-item.is) ∙ distinct-snoc (take i pixels) colour in
-    let grows = distinct_grows (take (i + 1) pixels) (drop (i + 1) pixels) in
-    let whole = ap (λ (cs : List Parts). length (distinct cs)) (take-append-drop (i + 1) pixels) in
+    let many = c.in-None.ensures.numbers (distinct (colours_to pixels i)) inv.0.fills in
+    let seen : distinct (colours_to pixels (i + 1)) ≡ with_colour (distinct (colours_to pixels i)) colour =
+    ap distinct (one_more pixels i c.pixel-item.result colour lt c.pixel-item.is c.colour.ensures)
+    ∙ distinct-snoc (colours_to pixels i) colour in
+    let grows = distinct_grows (colours_to pixels (i + 1)) (map colour_in_ink (drop (i + 1) pixels)) in
+    let whole = ap (λ (cs : List Parts). length (distinct cs)) (then_the_rest pixels (i + 1)) in
     omega (arith, many, ap (λ (cs : List Parts). length cs) seen, grows, whole, c.in-None.ensures.profile, inv.1)
 
 -- after all pixels
-at_end : (pixels : List Parts) (i : ℕ) → length pixels ≤ i → take i pixels ≡ pixels
-at_end pixels i le = all_taken i pixels le
+at_end : (pixels : List Ink) (i : ℕ) → length pixels ≤ i → colours_to pixels i ≡ map colour_in_ink pixels
+at_end pixels i le = ap (λ (xs : List Ink). map colour_in_ink xs) (all_taken i pixels le)
 
 pub of_parts-requires : goal.of_parts-requires
 of_parts-requires c =
@@ -76,11 +95,12 @@ of_parts-requires c =
     let inv = c.loop-pixel.invariant in
     let holds =
     subst
-    (λ (n : ℕ). HoldsPixels c.loop-pixel.colours None 0 c.loop-pixel.registers.items (length c.args.pixels.now - i) n
-    (take i c.args.pixels.now)) c.requires.whole inv.0 in
-    rw c.into_palette.ensures
-    (picture_accepted c.loop-pixel.colours None 0 c.loop-pixel.registers.items (length c.args.pixels.now - i)
-    c.args.width c.args.height (take i c.args.pixels.now) holds (omega (arith, c.loop-pixel-test.false)) c.requires.sides)
+    (λ (n : ℕ). HoldsPixels c.loop-pixel.numbering.colours None 0 c.loop-pixel.registers.items
+    (length c.args.pixels.now - i) n (colours_to c.args.pixels.now i)) c.requires.whole inv.0 in
+    rw c.into_palette-palette.ensures
+    (picture_accepted c.loop-pixel.numbering.colours None 0 c.loop-pixel.registers.items (length c.args.pixels.now - i)
+    c.args.width c.args.height (colours_to c.args.pixels.now i) holds (omega (arith, c.loop-pixel-test.false))
+    c.requires.sides)
 
 pub returns-clause-picture : goal.returns-clause-picture
 returns-clause-picture c =
@@ -88,13 +108,13 @@ returns-clause-picture c =
     let inv = c.loop-pixel.invariant in
     let holds =
     subst
-    (λ (n : ℕ). HoldsPixels c.loop-pixel.colours None 0 c.loop-pixel.registers.items (length c.args.pixels.now - i) n
-    (take i c.args.pixels.now)) c.requires.whole inv.0 in
+    (λ (n : ℕ). HoldsPixels c.loop-pixel.numbering.colours None 0 c.loop-pixel.registers.items
+    (length c.args.pixels.now - i) n (colours_to c.args.pixels.now i)) c.requires.whole inv.0 in
     c.of_parts.ensures
     ∙ ap (λ (p : List (Option Parts)). picture_of_parts c.args.width c.args.height p c.loop-pixel.registers.items)
-    c.into_palette.ensures
-    ∙ picture_is c.loop-pixel.colours None 0 c.loop-pixel.registers.items (length c.args.pixels.now - i)
-    c.args.width c.args.height (take i c.args.pixels.now) holds
+    c.into_palette-palette.ensures
+    ∙ picture_is c.loop-pixel.numbering.colours None 0 c.loop-pixel.registers.items (length c.args.pixels.now - i)
+    c.args.width c.args.height (colours_to c.args.pixels.now i) holds
     ∙ ap₂ (λ (n : ℕ) (cs : List Parts). picture_of n c.args.width c.args.height cs) inv.1
     (at_end c.args.pixels.now i c.loop-pixel-test.false)
 

@@ -1,6 +1,5 @@
-use Rattle.std.proofs.Common.{◌≡◌, ◌∙◌, ◌++◌, List, length, take, drop, refl, sym, subst}
+use Rattle.std.proofs.Common.{◌≡◌, ◌∙◌, ◌++◌, length, take, drop, refl, sym, subst}
 use Rattle.std.proofs.lemmas.List.{take_at}
-use Rattle.sixel_grammar.specs.declared.command.Event.{Event}
 use Rattle.sixel_terminal.specs.Drawings.{Drawn, HasDrawn}
 use Rattle.sixel_terminal.specs.Standing.{StandsAfter}
 use Rattle.sixel_terminal.specs.Stretches.{sixels_of}

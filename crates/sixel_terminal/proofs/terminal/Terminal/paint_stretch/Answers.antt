@@ -56,7 +56,7 @@ returns c = λ i lt.
     omega (arith, rw same at c.min-count.ensures, right_is, across) in
     let rows : c.min-rows.result ≡ min 6 (bottom - top) =
     omega (arith, rw same at c.min-rows.ensures, bottom_is, down) in
-    let painted = rw same at c.paint_rows.ensures in
+    let painted = rw same at c.paint_sixels.ensures in
     let cut = rw (count, rows) at painted in
     let x = i % t.choices.screen_width in
     let y = i / t.choices.screen_width in

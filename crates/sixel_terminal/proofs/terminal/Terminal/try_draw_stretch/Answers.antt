@@ -1,4 +1,4 @@
-use Rattle.std.proofs.Common.{◌≡◌, ◌≤◌, ◌∙◌, ◌++◌, List, length, sym, subst, arith}
+use Rattle.std.proofs.Common.{◌≤◌, ◌∙◌, ◌++◌, sym, subst, arith}
 use Rattle.sixel_terminal.specs.declared.pen.Pen.{Pen}
 use Rattle.sixel_terminal.specs.Standing.{StandsAfter}
 use Rattle.sixel_terminal.specs.Steps.{most}
