@@ -1,0 +1,12 @@
+pub mod ListLemmas
+pub mod EndLemmas
+pub mod OpeningLemmas
+pub mod StringLemmas
+pub mod DocumentLemmas
+pub mod AdvanceLemmas
+pub mod CheckingLemmas
+pub mod ScanLemmas
+pub mod ReportLemmas
+pub mod TextLemmas
+pub mod GivenLemmas
+pub mod TellLemmas

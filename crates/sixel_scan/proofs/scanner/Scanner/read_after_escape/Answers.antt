@@ -1,0 +1,6 @@
+use Rattle.sixel_scan.specs.declared.opening.Opening.TheVariants.{Escape}
+use Rattle.sixel_scan.proofs.scanner.Scanner.read_after_escape.Goals as goal
+
+pub returns-in-Some-clause-stands : goal.returns-in-Some-clause-stands
+returns-in-Some-clause-stands c = λ told bytes r.
+    c.hold.ensures.stands Escape c.args.byte told bytes c.in-Some.ensures.next r

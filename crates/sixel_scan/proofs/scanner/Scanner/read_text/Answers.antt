@@ -1,0 +1,50 @@
+use Rattle.std.proofs.Common.{◌++◌, ◌∷◌, [], length}
+use Rattle.sixel_model.specs.Profiles.{count_of}
+use Rattle.sixel_judge.proofs.GrowthLemmas.{err_says}
+use Rattle.sixel_scan.proofs.ScanLemmas.{to_introduced}
+use Rattle.sixel_scan.proofs.scanner.Scanner.read_text.Goals as goal
+
+pub returns-in_err-check_opening-in-None-clause-memory : goal.returns-in_err-check_opening-in-None-clause-memory
+returns-in_err-check_opening-in-None-clause-memory c =
+    err_says _ c.from_residual.result
+    (λ told bytes r.
+    record {
+      before = r.before;
+      string = r.held ++ c.args.byte ∷ [];
+      bytes_are = r.bytes_are;
+      resumes = r.resumes;
+      grows = c.in_err-check_opening-in-None.ensures.memory (length r.before) r.held r.holds;
+    })
+
+pub returns-in_err-check_opening-in-Some-Introduced-clause-memory :
+    goal.returns-in_err-check_opening-in-Some-Introduced-clause-memory
+returns-in_err-check_opening-in-Some-Introduced-clause-memory c =
+    err_says _ c.from_residual-in_err-check_opening-in-Some-Introduced.result
+    (λ told bytes r.
+    record {
+      before = r.before;
+      string = r.held ++ c.args.byte ∷ [];
+      bytes_are = r.bytes_are;
+      resumes = r.resumes;
+      grows = c.in_err-check_opening-in-Some-Introduced.ensures.memory (length r.before) r.held r.holds;
+    })
+
+pub returns-in_ok-check_opening-in-Some-Introduced-clause-read :
+    goal.returns-in_ok-check_opening-in-Some-Introduced-clause-read
+returns-in_ok-check_opening-in-Some-Introduced-clause-read c =
+    rw c.check_opening-in-Some-Introduced.ensures.rest
+    (λ told bytes r.
+    let s = c.args.self.now in
+    let f = rw c.in-Some-Introduced.field-0-is at c.in-Some-Introduced.ensures.next in
+    to_introduced s.eight (count_of s.profile) s.read s.opened s.check c.check_opening-in-Some-Introduced.new.self.check
+    c.args.opening c.args.byte told bytes f r
+    (c.in_ok-check_opening-in-Some-Introduced.ensures.check (length r.before) r.held r.holds))
+
+pub returns-in-Some : goal.returns-in-Some
+returns-in-Some c = record {
+  read = λ told bytes r.
+      c.hold.ensures.stands c.args.opening c.args.byte told bytes c.in-Some.ensures.next r;
+  memory = tt;
+  profile = c.hold.ensures.profile;
+  eight = c.hold.ensures.eight;
+}

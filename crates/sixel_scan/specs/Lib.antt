@@ -1,0 +1,9 @@
+pub mod Strings
+pub mod Answers
+pub mod Prefixes
+pub mod Scanning
+pub mod Openings
+pub mod Checking
+pub mod Standing
+pub mod Scans
+pub mod Laws
