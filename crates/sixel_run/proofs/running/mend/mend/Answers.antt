@@ -1,4 +1,3 @@
-use Rattle.std.proofs.Common.{subst}
 use Rattle.std.proofs.lemmas.Result.{err_from_is_err_and}
 use Rattle.sixel_run.proofs.MendLemmas.{mend_refused, mend_unread, mend_unwritten, mend_written}
 use Rattle.sixel_run.proofs.running.mend.mend.Goals as goal

@@ -1,5 +1,4 @@
-use Rattle.std.proofs.lemmas.Result.{err_from_is_err_and}
-use Rattle.sixel_run.proofs.SurveyLemmas.{survey_refused, survey_unwritten, survey_written}
+use Rattle.sixel_run.proofs.SurveyLemmas.{survey_unwritten, survey_written}
 use Rattle.sixel_run.proofs.running.survey.survey.Goals as goal
 
 pub returns-in-Ok-clause-wrote : goal.returns-in-Ok-clause-wrote

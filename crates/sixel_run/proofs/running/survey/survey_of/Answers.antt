@@ -1,5 +1,5 @@
 use Rattle.std.proofs.lemmas.Result.{err_from_is_err_and}
-use Rattle.sixel_run.proofs.SurveyLemmas.{box_declared, not_surveyed, surveyed}
+use Rattle.sixel_run.proofs.SurveyLemmas.{not_surveyed, surveyed}
 use Rattle.sixel_run.proofs.running.survey.survey_of.Goals as goal
 
 pub returns-in_err-survey-clause-surveyed : goal.returns-in_err-survey-clause-surveyed
