@@ -1,61 +1,25 @@
 -- Colours as the command line gives them.
-use Rattle.std.proofs.Common.{◌≡◌, ◌≢◌, ◌∙◌, ◌∷◌, ◌++◌, ◌<◌, ◌≤◌, ◌^◌, ℕ, zero, suc, [], List, None, Option, Some, ap}
-use Rattle.std.proofs.Common.{append_assoc, arith, codes, cond, drop, get_or, length, ne_eqb, refl, subst, sym}
+use Rattle.std.proofs.Common.{◌≡◌, ◌≢◌, ◌∙◌, ◌∷◌, ◌++◌, ◌<◌, ℕ, zero, suc, [], List, None, Option, Some, ap, append_assoc}
+use Rattle.std.proofs.Common.{arith, codes, get_or, length, refl, subst, sym}
 use Rattle.std.specs.Borrow.{Bor}
-use Rattle.std.specs.Prelude.{Err, IfSome, IsNone, IsSome, MatchOption, Ok}
+use Rattle.std.specs.Prelude.{IfSome, MatchOption, unwrap_or}
 use Rattle.std.specs.Char.{digit_value}
-use Rattle.std.specs.Str.Parse.{AllDigits, IsNumeral, ParsesUnsigned, digits_value, without_leading_plus}
+use Rattle.std.specs.Str.Parse.{AllDigits}
 use Rattle.std.proofs.lemmas.Str.Pattern.{IsSplitOnceResult, split_after, split_parts}
 use Rattle.sixel_model.specs.declared.colour.Parts.{Parts}
 use Rattle.sixel_model.specs.declared.colour.Parts.TheVariants.{Rgb, Hls}
 use Rattle.clap.specs.Walk.{Text}
 use Rattle.sixel_words.specs.Words.{IsColourText, IsPercentage}
 
--- ---- percentages
-
--- a digit is neither a comma nor a plus
+-- a digit is no comma
 digits_without : (c : ℕ) → (digit_value c < 10 → ⊥) → (ds : Text) → AllDigits 10 ds → (i : ℕ) → i < length ds
     → get_or ds i 0 ≢ c
-digits_without c no [] are i short = let bad : ⊥ = omega (arith, short) in absurd bad
-digits_without c no (d ∷ ds) are zero short = λ is. no (subst (λ (x : ℕ). digit_value x < 10) is are.0)
-digits_without c no (d ∷ ds) are (suc i) short = digits_without c no ds are.1 i (omega (arith, short))
+digits_without c comma [] are i short = let bad : ⊥ = omega (arith, short) in absurd bad
+digits_without c comma (d ∷ ds) are zero short = λ is. comma (subst (λ (x : ℕ). digit_value x < 10) is are.0)
+digits_without c comma (d ∷ ds) are (suc i) short = digits_without c comma ds are.1 i (omega (arith, short))
 
 comma_no_digit : digit_value 44 < 10 → ⊥
 comma_no_digit small = omega (arith, small)
-
-plus_no_digit : digit_value 43 < 10 → ⊥
-plus_no_digit small = omega (arith, small)
-
-pub without_plus : (text : Text) (n : ℕ) → IsPercentage text n → get_or text 0 0 ≢ 43
-without_plus text n is = digits_without 43 plus_no_digit text is.numeral.1 0 is.numeral.0
-
-unplussed : (text : Text) → get_or text 0 0 ≢ 43 → without_leading_plus text ≡ text
-unplussed text no = ap (λ b. drop (cond b 1 0) text) (ne_eqb (get_or text 0 0) 43 no)
-
-pub percentage_read : {E : Type 0} (text : Text) (n : ℕ) → ParsesUnsigned {E = E} 8 10 text (Ok n)
-    → get_or text 0 0 ≢ 43 → length text ≤ 3 → n ≤ 100 → IsPercentage text n
-percentage_read text n parses no short most =
-    let e = unplussed text no in
-    record {
-      numeral = subst (IsNumeral 10) e parses.0.0;
-      short = short;
-      value = sym (parses.1 ∙ ap (digits_value 10) e);
-      most = most;
-    }
-
-pub percentage_unread : {E : Type 0} (text : Text) (error : E) → ParsesUnsigned 8 10 text (Err error) → (n : ℕ)
-    → IsPercentage text n → ⊥
-percentage_unread text error refused n is =
-    let e = unplussed text (without_plus text n is) in
-    let value : digits_value 10 (without_leading_plus text) ≡ n = ap (digits_value 10) e ∙ is.value in
-    refused (subst (IsNumeral 10) (sym e) is.numeral, omega (arith, value, is.most))
-
-pub percentage_above : {E : Type 0} (text : Text) (k : ℕ) → ParsesUnsigned {E = E} 8 10 text (Ok k) → (k ≤ 100 → ⊥)
-    → (n : ℕ) → IsPercentage text n → ⊥
-percentage_above text k parses above n is =
-    let e = unplussed text (without_plus text n is) in
-    let same : k ≡ n = parses.1 ∙ ap (digits_value 10) e ∙ is.value in
-    above (omega (arith, same, is.most))
 
 -- ---- three percentages
 
@@ -119,6 +83,5 @@ pub some_weaker : {X : Type 0} (P Q : X → Type 0) (o : Option X) → ((x : X) 
 some_weaker P Q None is h = tt
 some_weaker P Q (Some x) is h = is x h
 
-pub not_none : {X : Type 0} (o : Option X) → IsSome o → IsNone o → ⊥
-not_none None some none = some
-not_none (Some x) some none = none
+pub same_text : (o : Option Text) (a b : Text) → o ≡ Some a → o ≡ Some b → a ≡ b
+same_text o a b e f = ap (λ (k : Option Text). unwrap_or k []) (sym e ∙ f)

@@ -3,16 +3,18 @@ use Rattle.clap.specs.Walk.{rows_of}
 use Rattle.clap.specs.Matches.{found_of}
 use Rattle.sixel_words.proofs.MatchLemmas.{without_side}
 use Rattle.sixel_words.proofs.words.show_task.Goals as goal
+use Rattle.sixel_words.proofs.words.show_task.Goals.{in_default-via-in-Some+in_default, in_default-via-in_default}
 
 pub returns-in_default-clause-none : goal.returns-in_default-clause-none
 returns-in_default-clause-none c = λ none t is.
-    without_side (rows_of (found_of c.args.matches.now)) t (c.flag_of.ensures ∙ c.if-flag_of.false)
-    (inr (c.in_default.ensures'.none refl)) is
-
-pub returns-in_default-2-clause-none : goal.returns-in_default-2-clause-none
-returns-in_default-2-clause-none c = λ none t is.
-    without_side (rows_of (found_of c.args.matches.now)) t (c.flag_of.ensures ∙ c.if-flag_of.false)
-    (inl (c.side_of.ensures.none (rw c.in_default.is-0 refl))) is
+    elim c.in_default.branch [
+      | in_default-via-in-Some+in_default w ↦
+          without_side (rows_of (found_of c.args.matches.now)) t (c.flag_of.ensures ∙ c.if-flag_of.false)
+          (inr (w.in_default.ensures'.none refl)) is
+      | in_default-via-in_default w ↦
+          without_side (rows_of (found_of c.args.matches.now)) t (c.flag_of.ensures ∙ c.if-flag_of.false)
+          (inl (c.side_of.ensures.none (rw w.in_default.is-0 refl))) is
+    ]
 
 pub returns-in-Some-Some-clause-task : goal.returns-in-Some-Some-clause-task
 returns-in-Some-Some-clause-task c = (
