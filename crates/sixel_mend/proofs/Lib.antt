@@ -5,3 +5,4 @@ pub mod MeasureLemmas
 pub mod FollowLemmas
 pub mod TerminalLemmas
 pub mod MendLemmas
+pub mod RepeatLemmas

@@ -1,17 +1,61 @@
 //! Makes a picture of pixels, whose colours get registers in the order in which they are first seen.
 
-ghost use Rattle.std.specs.Prelude.{◌≡◌, ◌≤◌, ◌*◌, ◌&&◌, IfErr, IfOk, IsTrue, length, map};
+ghost use Rattle.std.specs.Prelude.{◌≡◌, ◌≤◌, ◌*◌, ◌&&◌, IfErr, IfOk, IfSome, IsTrue, List, OnSome, Some, length, map};
+ghost use Rattle.sixel_model.specs.declared.colour.Parts.{Parts};
 ghost use Rattle.sixel_model.specs.Pictures.{is_side};
 ghost use Rattle.sixel_model.specs.Profiles.{count_of};
-ghost use Rattle.sixel_ppm.specs.PpmReading.{distinct, picture_of};
+ghost use Rattle.sixel_ppm.specs.PpmColours.{Fills, Numbers};
+ghost use Rattle.sixel_ppm.specs.PpmReading.{distinct, picture_of, with_colour};
 ghost use Rattle.sixel_terminal.specs.Screens.{colour_in_ink};
-ghost use Rattle.sixel_mend.specs.Numbering.{IsNumberingFault};
+ghost use Rattle.sixel_mend.specs.Numbering.{IsNumberingFault, KnowsLast};
 
 use crate::mending::MendFault;
 use sixel_model::{Picture, Profile};
 use sixel_ppm::Numbering;
 use sixel_terminal::Pixel;
 use std::alloc::Global;
+
+/// A pixel, and the register of its colour.
+#[derive(Clone, Copy, Debug)]
+pub(crate) struct Numbered {
+    pub pixel: Pixel,
+    pub register: u8,
+}
+
+/// The register of the last pixel, if this one shows the same.
+fn repeated(last: &Option<Numbered>, pixel: &Pixel) -> Option<u8>
+    ensures { IfSome result (λ register.
+        last.now ≡ Some (record { pixel = pixel.now; register = register })) }
+{
+    match last {
+        Some(numbered) if numbered.pixel.is_same(pixel) => Some(numbered.register),
+        _ => None,
+    }
+}
+
+/// The register of a pixel's colour. A pixel that repeats the last one needs no lookup.
+fn register_of(numbering: &mut Numbering, last: &mut Option<Numbered>, pixel: &Pixel) -> Option<u8>
+    ensures numbers { (seen : List Parts) → Fills numbering.old.colours seen → KnowsLast last.old seen
+        → Numbers result numbering.new.colours (with_colour seen (colour_in_ink pixel.now))
+        (colour_in_ink pixel.now) }
+    ensures known { (seen : List Parts) → Fills numbering.old.colours seen → KnowsLast last.old seen
+        → OnSome result (KnowsLast last.new (with_colour seen (colour_in_ink pixel.now))) }
+    ensures profile { length numbering.new.colours.palette ≡ length numbering.old.colours.palette }
+{
+    if let Some(register) = repeated(last, pixel) {
+        return Some(register);
+    }
+    match numbering.register_of(pixel.colour()) {
+        None => None,
+        Some(register) => {
+            *last = Some(Numbered {
+                pixel: *pixel,
+                register,
+            });
+            Some(register)
+        }
+    }
+}
 
 /// The picture of the colours that these pixels show, row by row. `TooManyColours`: there are more different ones than
 /// registers.
@@ -30,9 +74,10 @@ pub(crate) fn picture_of(
     ensures refused { IfErr result (IsNumberingFault (count_of profile) (map colour_in_ink pixels.now)) }
 {
     let mut numbering = Numbering::new(profile);
+    let mut last = None;
     let mut registers = Vec::with_capacity(alloc, pixels.len())?;
     for pixel in pixels {
-        match numbering.register_of(pixel.colour()) {
+        match register_of(&mut numbering, &mut last, pixel) {
             Some(register) => registers.push_reserved(register),
             None => return Err(MendFault::TooManyColours),
         }

@@ -1,5 +1,5 @@
 -- RGB colours in a cache of samples: percentages are samples whose maximum is 100.
-use Rattle.std.proofs.Common.{◌≡◌, ◌+◌, ◌*◌, ◌/◌, ℕ, Some, List, arith, ap, refl, sym, subst, ◌∙◌, Option}
+use Rattle.std.proofs.Common.{◌≡◌, ℕ, Some, List, arith, refl, sym, subst, ◌∙◌, Option}
 use Rattle.std.specs.Prelude.{position}
 use Rattle.sixel_model.specs.Colours.{IsColour, is_entry}
 use Rattle.sixel_model.specs.declared.colour.Parts.{Parts}

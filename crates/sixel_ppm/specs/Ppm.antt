@@ -8,7 +8,7 @@ use Rattle.sixel_model.specs.Pictures.{PictureValue}
 use Rattle.sixel_model.specs.declared.colour.Parts.{Parts}
 use Rattle.sixel_model.specs.declared.colour.Parts.TheVariants.{Rgb, Hls}
 use Rattle.sixel_ppm.specs.declared.ppm.PpmFault.{PpmFault}
-use Rattle.sixel_ppm.specs.declared.ppm.PpmFault.TheVariants.{Format, NotRgb, OutOfMemory, Read, Write}
+use Rattle.sixel_ppm.specs.declared.ppm.PpmFault.TheVariants.{NotRgb, Write}
 
 abbrev pub is_rgb : Parts → Bool
 is_rgb (Rgb red green blue) = true

@@ -6,7 +6,7 @@ use Rattle.sixel_ppm.specs.PpmHeader.{header_on}
 use Rattle.sixel_ppm.specs.PpmReading.{Head, at_fault, head_of}
 use Rattle.sixel_ppm.specs.PpmSamples.{LeadsOn}
 use Rattle.sixel_ppm.specs.declared.ppm.PpmFault.{PpmFault}
-use Rattle.sixel_ppm.specs.declared.ppm.PpmFault.TheVariants.{Format, NotRgb, OutOfMemory, Read, Write}
+use Rattle.sixel_ppm.specs.declared.ppm.PpmFault.TheVariants.{Format, Read}
 use Rattle.sixel_ppm.specs.declared.ppm.header.Header.{Header}
 use Rattle.sixel_ppm.specs.declared.ppm.header.Progress.{Progress}
 use Rattle.sixel_ppm.specs.declared.ppm.read.Fed.{Fed}

@@ -11,7 +11,7 @@ use Rattle.sixel_ppm.specs.PpmReading.{◌>>=◌, at_fault, colour_of, distinct,
 use Rattle.sixel_ppm.specs.PpmReading.{with_colour}
 use Rattle.sixel_model.specs.declared.colour.Parts.{Parts}
 use Rattle.sixel_ppm.specs.declared.ppm.PpmFault.{PpmFault}
-use Rattle.sixel_ppm.specs.declared.ppm.PpmFault.TheVariants.{Format, NotRgb, OutOfMemory, Read, Write}
+use Rattle.sixel_ppm.specs.declared.ppm.PpmFault.TheVariants.{Format}
 use Rattle.sixel_ppm.specs.declared.ppm.PpmReason.TheVariants.{TooManyColours}
 use Rattle.sixel_ppm.specs.declared.ppm.colours.Colours.{Colours}
 use Rattle.sixel_ppm.specs.declared.ppm.header.Header.{Header}

@@ -10,7 +10,10 @@ use Rattle.sixel_grammar.specs.declared.command.Event.TheVariants.{Step}
 use Rattle.sixel_terminal.specs.Stretches.{sixels_of}
 use Rattle.std.proofs.Common.{◌+◌, ◌-◌, ◌<◌, arith, get_or, length, take}
 use Rattle.sixel_terminal.specs.Drawings.{Drawn, HasDrawn}
-use Rattle.sixel_run.specs.Draw.{Draws}
+use Rattle.std.proofs.lemmas.List.{append-nil}
+use Rattle.sixel_grammar.specs.declared.reader.Reader.{Reader}
+use Rattle.sixel_grammar.specs.Standing.{Takes}
+use Rattle.sixel_run.specs.Draw.{Draws, DrawsBytes}
 
 -- what holds of known bytes
 pub told : (o : Option (List ℕ)) (P Q : List ℕ → Type 0) → ((bytes : List ℕ) → P bytes → Q bytes) → IfSome o P
@@ -47,3 +50,22 @@ sixels_then events place bytes =
 pub first_byte : (bytes : List ℕ) → 0 < length bytes → take 1 bytes ≡ get_or bytes 0 0 ∷ []
 first_byte [] some = absurd (omega arith)
 first_byte (b ∷ rest) some = refl
+
+-- a byte that completes nothing
+pub draws_none : (d : Drawn) → Draws d d []
+draws_none d = record {
+  terminal = refl;
+  drawn = λ before h. subst (HasDrawn d) (sym (append-nil before)) h;
+}
+
+-- a byte was read, and the events that it completed were drawn
+pub drawn_byte : (reader r : Reader) (drawing d : Drawn) (byte : ℕ) (more : List Placed) → Takes reader r byte more
+    → Draws drawing d (events_of more) → DrawsBytes reader drawing r d (byte ∷ [])
+drawn_byte reader r drawing d byte more takes draws = record {
+  terminal = draws.terminal;
+  drawn = λ prefix a. record {
+    events = a.events ++ more;
+    read = takes a.events prefix a.read;
+    drawn = subst (HasDrawn d) (sym (events-then a.events more)) (draws.drawn (events_of a.events) a.drawn);
+  };
+}

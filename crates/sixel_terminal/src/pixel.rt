@@ -1,6 +1,6 @@
 //! The pixels of a screen during drawing, in four bytes each.
 
-ghost use Rattle.std.specs.Prelude.{◌≡◌, ◌≤◌};
+ghost use Rattle.std.specs.Prelude.{◌≡◌, ◌≤◌, ◌↔◌, IsTrue};
 ghost use Rattle.sixel_terminal.specs.Pixels.{bytes_of, is_rgb_ink, packed};
 ghost use Rattle.sixel_terminal.specs.Screens.{colour_in_ink};
 ghost use Rattle.sixel_terminal.specs.declared.pixel.Ink.TheVariants.{Fixed as FixedInk, Bound as BoundInk};
@@ -94,6 +94,13 @@ impl Pixel {
         ensures { result ≡ is_rgb_ink self.now }
     {
         self.code < 16_777_216
+    }
+
+    /// Whether two pixels show the same.
+    pub fn is_same(&self, other: &Pixel) -> bool
+        ensures { IsTrue result ↔ (self.now ≡ other.now) }
+    {
+        self.code == other.code
     }
 
     /// The colour that the pixel shows after a drawing.

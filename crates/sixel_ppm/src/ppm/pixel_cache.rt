@@ -29,7 +29,7 @@ fn key_of(red: u8, green: u8, blue: u8) -> u32
     ensures value { result ≡ key_of red green blue }
     ensures most { result < 16777216 }
 {
-    red as u32 + 256 * green as u32 + 65_536 * blue as u32
+    red as u32 + 256 * (green as u32 + 256 * blue as u32)
 }
 
 /// The slot of a key. The multiplication spreads keys that are near each other.

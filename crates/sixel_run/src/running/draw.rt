@@ -9,7 +9,7 @@ ghost use Rattle.sixel_grammar.specs.Standing.{completions};
 ghost use Rattle.sixel_terminal.specs.Drawings.{HasDrawn};
 ghost use Rattle.sixel_run.specs.Draw.{Draws, DrawsBytes, RefusesBytes};
 
-use sixel_grammar::{Completed, InputFault, Placed, Reader};
+use sixel_grammar::{Completed, Event, InputFault, Placed, Plain, Reader};
 use sixel_io::{PIECE, Source};
 use sixel_terminal::Drawing;
 
@@ -31,8 +31,29 @@ fn draw_completed(drawing: &mut Drawing, completed: Completed)
     draw_one(drawing, second);
 }
 
-/// Reads one byte, and draws the events that it completes.
+/// Reads one byte, and draws the events that it completes. Most bytes complete at most one command.
+#[inline(always)]
 fn draw_byte(reader: &mut Reader, drawing: &mut Drawing, byte: u8) -> Result<(), InputFault>
+    ensures drawn { OnOk result (DrawsBytes reader.old drawing.old reader.new drawing.new (byte ∷ [])) }
+    ensures refused { IfErr result (RefusesBytes reader.old drawing.old (byte ∷ [])) }
+{
+    match reader.feed_command(byte) {
+        Some(Plain::Nothing) => Ok(()),
+        Some(Plain::Command { place: _, command }) => {
+            drawing.push(&Event::Step(command));
+            Ok(())
+        }
+        None => draw_byte_of_any_kind(reader, drawing, byte),
+    }
+}
+
+/// Reads one byte of any kind, and draws the events that it completes.
+#[inline(never)]
+fn draw_byte_of_any_kind(
+    reader: &mut Reader,
+    drawing: &mut Drawing,
+    byte: u8,
+) -> Result<(), InputFault>
     ensures drawn { OnOk result (DrawsBytes reader.old drawing.old reader.new drawing.new (byte ∷ [])) }
     ensures refused { IfErr result (RefusesBytes reader.old drawing.old (byte ∷ [])) }
 {
@@ -56,6 +77,11 @@ fn draw_stretch_or_byte(
         DrawsBytes reader.old drawing.old reader.new drawing.new (take count bytes.now)) }
     ensures refused { IfErr result (RefusesBytes reader.old drawing.old (take 1 bytes.now)) }
 {
+    // No byte below `?` is data, so the compiler drops the code for data from this branch.
+    if bytes[0] < b'?' {
+        draw_byte(reader, drawing, bytes[0])?;
+        return Ok(1);
+    }
     let stretch = reader.feed_stretch(bytes);
     if stretch.count == 0 {
         draw_byte(reader, drawing, bytes[0])?;

@@ -1,5 +1,4 @@
 use Rattle.std.proofs.Common.{◌≡◌, ◌<◌, ◌++◌, ℕ, List, [], ◌∷◌, arith, get_or, length, refl, subst, sym, take}
-use Rattle.std.proofs.lemmas.Result.{err_from_is_err_and}
 use Rattle.sixel_grammar.specs.Stretches.{sixels_from}
 use Rattle.sixel_mend.proofs.FollowLemmas.{sixels_then}
 use Rattle.sixel_mend.proofs.following.follow_stretch_or_byte.Goals as goal

@@ -1,5 +1,5 @@
 use Rattle.std.proofs.Common.{◌≡◌, ◌≤◌, ◌<◌, ◌+◌, ◌-◌, ◌++◌, ◌∷◌, [], ℕ, List, None, ap, ap₂, arith, drop, length}
-use Rattle.std.proofs.Common.{get_or, map, subst, sym, take, ◌∙◌, Option}
+use Rattle.std.proofs.Common.{get_or, map, refl, subst, sym, take, ◌∙◌, Option}
 use Rattle.std.proofs.lemmas.List.{map-append, take-append-drop, take_more}
 use Rattle.sixel_model.specs.declared.colour.Parts.{Parts}
 use Rattle.sixel_model.specs.Pictures.{picture_of_parts}
@@ -10,6 +10,7 @@ use Rattle.sixel_ppm.proofs.PpmSampleLemmas.{distinct-snoc, holds_more, picture_
 use Rattle.sixel_terminal.specs.declared.pixel.Ink.{Ink}
 use Rattle.sixel_terminal.specs.Screens.{colour_in_ink}
 use Rattle.sixel_terminal.proofs.DrawLemmas.{all_taken}
+use Rattle.sixel_mend.specs.Numbering.{KnowsLast}
 use Rattle.sixel_mend.proofs.numbering.picture_of.Goals as goal
 
 -- the colours of the first pixels
@@ -27,6 +28,7 @@ loop-pixel-init c = (
   },
   c.new-numbering.ensures.profile,
   omega (arith, c.in_ok-registers.ensures.len, c.in_ok-registers.ensures.capacity),
+  tt,
 )
 
 -- the colours of the pixels up to and including this one
@@ -44,23 +46,27 @@ pub loop-pixel-preserved : goal.loop-pixel-preserved
 loop-pixel-preserved c =
     let i = c.loop-pixel.pixel-index in
     let pixels = c.args.pixels.now in
-    let colour = c.colour.result in
+    let colour = colour_in_ink c.pixel-item.result in
     let inv = c.loop-pixel.invariant in
-    let n = c.in-Some.ensures.numbers (distinct (colours_to pixels i)) inv.0.fills in
+    let n = c.in-Some.ensures.numbers (distinct (colours_to pixels i)) inv.0.fills inv.3 in
     let lt : i < length pixels = c.loop-pixel-test.true in
     let holds =
-    holds_more c.loop-pixel.numbering.colours c.register_of.new.self.colours None None 0 c.loop-pixel.registers.items
+    holds_more c.loop-pixel.numbering.colours c.register_of.new.numbering.colours None None 0 c.loop-pixel.registers.items
     (length pixels - i) (length pixels) (colours_to pixels i) colour c.in-Some.register (length pixels - (i + 1))
     (omega (arith, lt)) inv.0 n.1 tt n.0 in (
       subst
-          (λ (rs : List ℕ). HoldsPixels c.register_of.new.self.colours None 0 rs (length pixels - (i + 1))
+          (λ (rs : List ℕ). HoldsPixels c.register_of.new.numbering.colours None 0 rs (length pixels - (i + 1))
           (length pixels) (colours_to pixels (i + 1))) (sym c.push_reserved.ensures.items)
           (subst
-          (λ (cs : List Parts). HoldsPixels c.register_of.new.self.colours None 0
+          (λ (cs : List Parts). HoldsPixels c.register_of.new.numbering.colours None 0
           (c.loop-pixel.registers.items ++ c.in-Some.register ∷ []) (length pixels - (i + 1)) (length pixels) cs)
-          (sym (one_more pixels i c.pixel-item.result colour lt c.pixel-item.is c.colour.ensures)) holds),
+          (sym (one_more pixels i c.pixel-item.result colour lt c.pixel-item.is refl)) holds),
       c.in-Some.ensures.profile ∙ inv.1,
       omega (arith, lt, inv.2, c.push_reserved.ensures.len, c.push_reserved.ensures.capacity),
+      subst (λ (seen : List Parts). KnowsLast c.register_of.new.last seen)
+          (sym (ap distinct (one_more pixels i c.pixel-item.result colour lt c.pixel-item.is refl)
+          ∙ distinct-snoc (colours_to pixels i) colour))
+          (c.in-Some.ensures.known (distinct (colours_to pixels i)) inv.0.fills inv.3),
     )
 
 -- the colours of all pixels are those of the first ones, and others
@@ -74,12 +80,12 @@ pub returns-in-None-clause-refused : goal.returns-in-None-clause-refused
 returns-in-None-clause-refused c =
     let i = c.loop-pixel.pixel-index in
     let pixels = c.args.pixels.now in
-    let colour = c.colour.result in
+    let colour = colour_in_ink c.pixel-item.result in
     let inv = c.loop-pixel.invariant in
     let lt : i < length pixels = c.loop-pixel-test.true in
-    let many = c.in-None.ensures.numbers (distinct (colours_to pixels i)) inv.0.fills in
+    let many = c.in-None.ensures.numbers (distinct (colours_to pixels i)) inv.0.fills inv.3 in
     let seen : distinct (colours_to pixels (i + 1)) ≡ with_colour (distinct (colours_to pixels i)) colour =
-    ap distinct (one_more pixels i c.pixel-item.result colour lt c.pixel-item.is c.colour.ensures)
+    ap distinct (one_more pixels i c.pixel-item.result colour lt c.pixel-item.is refl)
     ∙ distinct-snoc (colours_to pixels i) colour in
     let grows = distinct_grows (colours_to pixels (i + 1)) (map colour_in_ink (drop (i + 1) pixels)) in
     let whole = ap (λ (cs : List Parts). length (distinct cs)) (then_the_rest pixels (i + 1)) in

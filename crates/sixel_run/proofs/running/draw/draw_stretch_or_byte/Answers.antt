@@ -23,26 +23,3 @@ returns c =
       };
       refused = tt;
     }
-
-pub returns-then-stretch-eq0 : goal.returns-then-stretch-eq0
-returns-then-stretch-eq0 c =
-    let same = c.feed_stretch-stretch.ensures.kept c.if-stretch-eq0.true in
-    record {
-      some = omega arith;
-      within = omega arith;
-      drawn = rw (first_byte c.args.bytes.now c.requires, sym same) c.in_ok-draw_byte.ensures.drawn;
-      refused = tt;
-    }
-
-pub returns-in_err-draw_byte : goal.returns-in_err-draw_byte
-returns-in_err-draw_byte c =
-    let failed = err_from_is_err_and c.from_residual.result c.from_residual.ensures.1 in
-    let same = c.feed_stretch-stretch.ensures.kept c.if-stretch-eq0.true in
-    let first = first_byte c.args.bytes.now c.requires in
-    record {
-      some = rw failed.1 tt;
-      within = rw failed.1 tt;
-      drawn = rw failed.1 tt;
-      refused = rw (failed.1, failed.2)
-          (λ prefix a. rw first (c.in_err-draw_byte.ensures.refused prefix (rw same a)));
-    }
