@@ -47,7 +47,8 @@ goes_with eight registers s t told now bytes after profile eight_same ended g r 
 -- a list is split at a place of its second part
 pub split_later : (first rest : List ℕ) (n : ℕ) → first ++ rest ≡ (first ++ take n rest) ++ drop n rest
 split_later first rest n =
-    ap (λ (t : List ℕ). first ++ t) (sym (take-append-drop n rest)) ∙ sym (append_assoc first (take n rest) (drop n rest))
+    ap (λ (t : List ℕ). first ++ t) (sym (take-append-drop n rest))
+    ∙ sym (append_assoc first (take n rest) (drop n rest))
 
 -- the scanner read some of the unread bytes
 pub tells_some : (s t : Scan) (told : List StringAt) (bytes : List ℕ) (count : ℕ) (reports : List Scanned)
