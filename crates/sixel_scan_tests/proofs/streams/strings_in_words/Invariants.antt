@@ -1,4 +1,4 @@
-use Rattle.std.proofs.Common.{ℕ, Some}
+use Rattle.std.proofs.Common.{Some}
 use Rattle.sixel_scan.specs.Scans.{IsReady, steps_left}
 use Rattle.sixel_scan_tests.proofs.streams.strings_in_words.Given as goal
 
