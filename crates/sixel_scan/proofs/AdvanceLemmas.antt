@@ -8,10 +8,12 @@ use Rattle.std.proofs.lemmas.Bool.Decides.{nat_tests}
 use Rattle.std.proofs.lemmas.List.{append-nil, drop_all, drop_at, length-append}
 use Rattle.sixel_grammar.specs.Bytes.{introducer}
 use Rattle.sixel_grammar.proofs.PieceLemmas.{all-append}
-use Rattle.sixel_scan.specs.Openings.{Advances, BeginsNoneIn, IsBegun, IsHeld, after_parameters, is_grown, is_introduced}
+use Rattle.sixel_scan.specs.Openings.{Advances, BeginsNoneIn, IsBegun, IsHeld, after_parameters, is_grown}
+use Rattle.sixel_scan.specs.Openings.{is_introduced}
 use Rattle.sixel_scan.specs.Prefixes.{Resumes}
 use Rattle.sixel_scan.specs.Scanning.{BeginsNone}
-use Rattle.sixel_scan.specs.Strings.{AreParameters, HasNoOpening, IsOpening, Opens, OpensAt, StringAt, final, is_parameter}
+use Rattle.sixel_scan.specs.Strings.{AreParameters, HasNoOpening, IsOpening, Opens, OpensAt, StringAt, final}
+use Rattle.sixel_scan.specs.Strings.{is_parameter}
 use Rattle.sixel_scan.specs.declared.opening.Opening.{Opening}
 use Rattle.sixel_scan.specs.declared.opening.Opening.TheVariants.{Nothing, Escape, Letter, Control, Introduced}
 use Rattle.sixel_scan.proofs.OpeningLemmas.{HasFinal, begun_none, bool_cases, escape_other, final_past}

@@ -67,7 +67,8 @@ end_more eight b body rest inside h = record {
 pub ends_past : (eight : Bool) (inside body rest : List ℕ) → AreInside eight inside → EndsFirst eight body rest
     → EndsFirst eight (inside ++ body) rest
 ends_past eight [] body rest are h = h
-ends_past eight (b ∷ bs) body rest are h = end_more eight b (bs ++ body) rest are.0 (ends_past eight bs body rest are.1 h)
+ends_past eight (b ∷ bs) body rest are h =
+    end_more eight b (bs ++ body) rest are.0 (ends_past eight bs body rest are.1 h)
 
 -- ---- the ends
 

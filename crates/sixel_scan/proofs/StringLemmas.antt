@@ -5,7 +5,8 @@ use Rattle.std.specs.List.{AllByRecursion}
 use Rattle.std.proofs.lemmas.List.{append-nil, append_cancel_left, drop_at, length-append}
 use Rattle.sixel_scan.specs.Prefixes.{Resumes}
 use Rattle.sixel_scan.specs.Scanning.{BeginsNone}
-use Rattle.sixel_scan.specs.Strings.{AreStrings, AreStringsFrom, HasNoOpening, IsNext, IsString, Opens, OpensAt, StringAt}
+use Rattle.sixel_scan.specs.Strings.{AreStrings, AreStringsFrom, HasNoOpening, IsNext, IsString, Opens, OpensAt}
+use Rattle.sixel_scan.specs.Strings.{StringAt}
 use Rattle.sixel_scan.proofs.EndLemmas.{end_once, ending_of}
 use Rattle.sixel_scan.proofs.ListLemmas.{no_less}
 use Rattle.sixel_scan.proofs.OpeningLemmas.{not_opening, nothing_opens, opening_once, opening_or_none}

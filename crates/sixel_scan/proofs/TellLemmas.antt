@@ -5,16 +5,17 @@ use Rattle.std.specs.Prelude.{if◌then◌else◌, is_some}
 use Rattle.std.proofs.Common.{List, [], ◌∷◌, ◌++◌, length, take, drop, refl, sym, ap, subst, append_assoc, arith}
 use Rattle.std.specs.Io.KnownBytes.{Consumes, Keeps}
 use Rattle.std.proofs.KnownBytes.{Consumes-kept, Consumes-nil, Consumes-trans}
-use Rattle.std.proofs.lemmas.List.{append-nil, length-append, take-append-drop}
+use Rattle.std.proofs.lemmas.List.{append-nil, length-append, take-append-drop, take-take, take_all, take_at}
 use Rattle.sixel_model.specs.Profiles.{count_of}
 use Rattle.sixel_scan.specs.declared.answer.Scanned.{Scanned}
 use Rattle.sixel_scan.specs.declared.scan.Scan.{Scan}
 use Rattle.sixel_scan.specs.Prefixes.{AreBeforeGrowth, AreGiven}
 use Rattle.sixel_scan.specs.Scans.{AfterTaking, GoesOn, GrowsWithin, HasTold, IsOver, IsReading, IsReady, IsThrough}
-use Rattle.sixel_scan.specs.Scans.{Tells, TellsAll, TellsNext, most_bytes, steps_left}
+use Rattle.sixel_scan.specs.Scans.{Tells, TellsAll, TellsNext, longest_stream, steps_left}
 use Rattle.sixel_scan.specs.Standing.{AreReported, Reports, ReportsAll}
 use Rattle.sixel_scan.specs.Strings.{AreStrings, StringAt}
-use Rattle.sixel_scan.proofs.GivenLemmas.{given}
+use Rattle.sixel_scan.proofs.GivenLemmas.{ended_of, given}
+use Rattle.sixel_scan.proofs.StringLemmas.{one_list}
 
 -- ---- a scan that goes on
 
@@ -46,7 +47,8 @@ goes_with eight registers s t told now bytes after profile eight_same ended g r 
 -- a list is split at a place of its second part
 pub split_later : (first rest : List ℕ) (n : ℕ) → first ++ rest ≡ (first ++ take n rest) ++ drop n rest
 split_later first rest n =
-    ap (λ (t : List ℕ). first ++ t) (sym (take-append-drop n rest)) ∙ sym (append_assoc first (take n rest) (drop n rest))
+    ap (λ (t : List ℕ). first ++ t) (sym (take-append-drop n rest))
+    ∙ sym (append_assoc first (take n rest) (drop n rest))
 
 -- the scanner read some of the unread bytes
 pub tells_some : (s t : Scan) (told : List StringAt) (bytes : List ℕ) (count : ℕ) (reports : List Scanned)
@@ -215,6 +217,7 @@ next_last s t u old new reports off goes ended over all = λ eight registers tol
         reported = subst (λ (n : ℕ). AreReported n k.found reports) r.2.registers_are k.reported;
         has_told = inr (record {
           ended = ended;
+          within = r.2.reading.within;
           strings = subst (λ (e : Bool). AreStrings e (told ++ k.found) (bytes ++ r.0)) r.2.eight_is k.strings;
           over = over told (bytes ++ r.0) r.2.reading;
         });
@@ -289,7 +292,7 @@ ready_failed s u old new h next = let n = next h.0 h.1 h.2 h.3 h.4 in (h.0, h.1,
 -- a scan that takes more
 pub takes_more : (s t : Scan) (told : List StringAt) (bytes : List ℕ) → IsReading s told bytes
     → IsReading t told (bytes ++ t.unread) → 0 < length t.unread
-    → most_bytes - (t.scanner.read + length t.unread) < most_bytes - (s.scanner.read + length s.unread)
+    → longest_stream - (t.scanner.read + length t.unread) < longest_stream - (s.scanner.read + length s.unread)
 takes_more s t told bytes old new some =
     omega (
       arith,
@@ -372,3 +375,52 @@ pub grows_as : (s t : Scan) (told : List StringAt) (bytes : List ℕ) → t.scan
 grows_as s t told bytes profile eight_same grows =
     subst (λ (n : ℕ). GrowsWithin s.scanner.eight n told bytes) (ap count_of profile)
     (subst (λ (e : Bool). GrowsWithin e (count_of t.scanner.profile) told bytes) eight_same grows)
+
+-- ---- what the strings told are of the stream
+
+-- the bytes taken are the stream, if it is over
+pub stream_over : (rest bytes : List ℕ) → length bytes ≤ longest_stream → IsOver (Some rest) bytes
+    → take longest_stream (bytes ++ rest) ≡ bytes
+stream_over rest bytes within over = elim over [
+  | inl none ↦
+      ap (λ (t : List ℕ). take longest_stream (bytes ++ t)) none ∙ ap (take longest_stream) (append-nil bytes)
+      ∙ take_all longest_stream bytes within
+  | inr full ↦ take_at bytes rest longest_stream full
+]
+
+-- the stream begins with the bytes taken
+stream_begins : (rest bytes : List ℕ) → length bytes ≤ longest_stream
+    → (more : List ℕ) × (take longest_stream (bytes ++ rest) ≡ bytes ++ more)
+stream_begins rest bytes within =
+    let stream = take longest_stream (bytes ++ rest) in
+    let first : take (length bytes) stream ≡ bytes =
+    take-take (length bytes) longest_stream (bytes ++ rest) within ∙ take_at bytes rest (length bytes) refl in (
+      drop (length bytes) stream,
+      sym (take-append-drop (length bytes) stream) ∙ ap (λ (t : List ℕ). t ++ drop (length bytes) stream) first,
+    )
+
+-- the strings told are the first of the stream
+pub told_first : (eight : Bool) (registers : ℕ) (s : Scan) (rest : List ℕ) (told strings : List StringAt)
+    (bytes : List ℕ) → HasTold eight registers s (Some rest) told bytes
+    → AreStrings eight strings (take longest_stream (bytes ++ rest))
+    → (more : List StringAt) × (strings ≡ told ++ more)
+told_first eight registers s rest told strings bytes h are = elim h [
+  | inl g ↦
+      let begins = stream_begins rest bytes g.reading.within in
+      let k = g.reading in
+      let ended = ended_of s.scanner.eight told k.read (length k.stands.before) k.stands.held k.stands.resumes
+      (s.unread ++ begins.0) in
+      let whole : k.read ++ (s.unread ++ begins.0) ≡ take longest_stream (bytes ++ rest) =
+      sym (append_assoc k.read s.unread begins.0)
+      ∙ ap (λ (t : List ℕ). t ++ begins.0) (sym k.bytes_are) ∙ sym begins.1 in
+      let first : AreStrings eight (told ++ ended.0) (take longest_stream (bytes ++ rest)) =
+      subst (AreStrings eight (told ++ ended.0)) whole
+      (subst (λ (e : Bool). AreStrings e (told ++ ended.0) (k.read ++ (s.unread ++ begins.0))) g.eight_is ended.1) in
+      (ended.0, one_list eight strings (told ++ ended.0) (take longest_stream (bytes ++ rest)) are first)
+  | inr t ↦ (
+    [],
+    one_list eight strings told bytes
+        (subst (AreStrings eight strings) (stream_over rest bytes t.within t.over) are) t.strings
+        ∙ sym (append-nil told),
+  )
+]

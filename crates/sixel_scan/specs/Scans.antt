@@ -1,5 +1,6 @@
 -- What a scan has told of a stream, and what its next call tells.
-use Rattle.std.specs.Prelude.{◌≡◌, ◌≤◌, ◌-◌, ◌^◌, ◌⊎◌, ◌++◌, ℕ, Bool, true, false, List, length, Option, Result, Ok, Err}
+use Rattle.std.specs.Prelude.{◌≡◌, ◌≤◌, ◌-◌, ◌^◌, ◌⊎◌, ◌++◌, ℕ, Bool, true, false, List, length, Option, Result}
+use Rattle.std.specs.Prelude.{Ok, Err}
 use Rattle.std.specs.Prelude.{if◌then◌else◌}
 use Rattle.std.specs.Io.KnownBytes.{Consumes, IsAtEnd}
 use Rattle.sixel_io.specs.Devices.{one_more}
@@ -13,18 +14,18 @@ use Rattle.sixel_scan.specs.Standing.{AreReported, Stands}
 use Rattle.sixel_scan.specs.Strings.{AreStrings, StringAt}
 
 -- a stream has at most so many bytes; of a longer source it is the first of them
-abbrev pub most_bytes : ℕ
-most_bytes = 2 ^ 64 - 1
+abbrev pub longest_stream : ℕ
+longest_stream = 2 ^ 64 - 1
 
 -- the stream is over after these bytes: the source is at its end, or has given as many as a stream may have
 abbrev pub IsOver : Option (List ℕ) → List ℕ → Type 0
-IsOver remaining bytes = IsAtEnd remaining ⊎ (length bytes ≡ most_bytes)
+IsOver remaining bytes = IsAtEnd remaining ⊎ (length bytes ≡ longest_stream)
 
 -- the scan has taken these bytes from its source, and goes on
 pub record IsReading (s : Scan) (told : List StringAt) (bytes : List ℕ) : Type 0 where
   pub read : List ℕ
   pub bytes_are : bytes ≡ read ++ s.unread
-  pub within : length bytes ≤ most_bytes
+  pub within : length bytes ≤ longest_stream
   pub stands : Stands s.scanner told read
 
 -- the scan goes on, and so do `eight` and the registers
@@ -38,6 +39,7 @@ pub record GoesOn (eight : Bool) (registers : ℕ) (s : Scan) (told : List Strin
 pub record IsThrough (eight : Bool) (s : Scan) (remaining : Option (List ℕ)) (told : List StringAt) (bytes : List ℕ)
     : Type 0 where
   pub ended : s.ended ≡ true
+  pub within : length bytes ≤ longest_stream
   pub strings : AreStrings eight told bytes
   pub over : IsOver remaining bytes
 

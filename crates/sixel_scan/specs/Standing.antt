@@ -24,8 +24,8 @@ pub record IsOpenString (eight : Bool) (bytes : List ℕ) : Type 0 where
   pub inside : AreInside eight body
   pub bytes_are : bytes ≡ opening ++ body
 
--- the bytes held, of which the first has this offset, are as the stage says; from the first byte after an introducer on,
--- the check has read them
+-- the bytes held, of which the first has this offset, are as the stage says; from the first byte after an introducer
+-- on, the check has read them
 abbrev pub Holds : Bool → ℕ → ℕ → StringCheck → Stage → ℕ → List ℕ → Type 0
 Holds eight registers opened check (Text Nothing) offset held = held ≡ []
 Holds eight registers opened check (Text Escape) offset held = (held ≡ escape ∷ []) × (opened ≡ offset)

@@ -18,6 +18,9 @@ use crate::string_check::{StringCheck, told};
 use sixel_model::Profile;
 use std::alloc::{AllocError, Global};
 
+/// The byte that ends a string after ESC.
+const BACKSLASH: u8 = 0x5c;
+
 /// Where a scan is.
 #[derive(Clone, Copy, Debug)]
 pub(crate) enum Stage {
@@ -251,7 +254,7 @@ impl Scanner {
         ensures profile { self.new.profile ≡ self.old.profile }
         ensures eight { self.new.eight ≡ self.old.eight }
     {
-        if byte == b'\\' {
+        if byte == BACKSLASH {
             self.check.feed(ESCAPE)?;
             self.check.feed(byte)?;
             self.read += 1;

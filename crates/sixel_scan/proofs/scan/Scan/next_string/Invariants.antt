@@ -1,5 +1,5 @@
 use Rattle.std.proofs.Common.{◌≡◌, ◌≤◌, ◌+◌, ◌-◌, length}
-use Rattle.sixel_scan.specs.Scans.{most_bytes}
+use Rattle.sixel_scan.specs.Scans.{longest_stream}
 use Rattle.sixel_scan.proofs.TellLemmas.{Goes}
 use Rattle.sixel_scan.proofs.scan.Scan.next_string.Given as goal
 
@@ -11,4 +11,4 @@ invariant-loop-scanned g l = record {
 }
 
 abbrev pub decreases-loop-scanned : goal.decreases-loop-scanned
-decreases-loop-scanned g l = most_bytes - (l.self.scanner.read + length l.self.unread)
+decreases-loop-scanned g l = longest_stream - (l.self.scanner.read + length l.self.unread)

@@ -15,8 +15,8 @@ returns-in_err-feed-clause-memory c =
     escape_grows c.args.self.now.eight registers told bytes r.before r.held r.holds.0 c.args.byte r.bytes_are r.holds.1
     r.resumes (c.in_err-feed.ensures.memory registers r.holds.0 r.holds.4))
 
-pub feed-requires-then-byte-eq92 : goal.feed-requires-then-byte-eq92
-feed-requires-then-byte-eq92 c =
+pub feed-requires-then-byte-eq-BACKSLASH : goal.feed-requires-then-byte-eq-BACKSLASH
+feed-requires-then-byte-eq-BACKSLASH c =
     let registers = count_of c.args.self.now.profile in
     let r = c.requires.stands.2 in
     (registers, r.holds.0 ++ 27 ∷ [], c.in_ok-feed.ensures.read registers r.holds.0 r.holds.4)
@@ -44,7 +44,7 @@ report-requires c =
     let r = c.requires.stands.2 in
     let string = r.holds.0 in (
       string ++ 27 ∷ c.args.byte ∷ [],
-      two_read registers c.feed-then-byte-eq92.new.self string c.args.byte
+      two_read registers c.feed-then-byte-eq-BACKSLASH.new.self string c.args.byte
           (c.in_ok-feed-2.ensures.read registers (string ++ 27 ∷ [])
           (c.in_ok-feed.ensures.read registers string r.holds.4)),
       room_for s.opened s.read c.requires.stands.1 r.before (string ++ 27 ∷ c.args.byte ∷ []) r.holds.3
@@ -52,20 +52,20 @@ report-requires c =
           c.requires.room,
     )
 
-pub returns-then-byte-eq92-clause-read : goal.returns-then-byte-eq92-clause-read
-returns-then-byte-eq92-clause-read c = λ told bytes r.
+pub returns-then-byte-eq-BACKSLASH-clause-read : goal.returns-then-byte-eq-BACKSLASH-clause-read
+returns-then-byte-eq-BACKSLASH-clause-read c = λ told bytes r.
     let s = c.args.self.now in
     let registers = count_of s.profile in
     let string = r.holds.0 in
     reports_one c.report.new.self told bytes (string ++ 27 ∷ c.args.byte ∷ []) registers s.opened (length r.before)
     c.report.result (ap (λ (x : Scanner). count_of x.profile) c.report.ensures.rest) r.holds.3
     (c.report.ensures.reported (string ++ 27 ∷ c.args.byte ∷ [])
-    (two_read registers c.feed-then-byte-eq92.new.self string c.args.byte
+    (two_read registers c.feed-then-byte-eq-BACKSLASH.new.self string c.args.byte
     (c.in_ok-feed-2.ensures.read registers (string ++ 27 ∷ [])
     (c.in_ok-feed.ensures.read registers string r.holds.4))))
     (rw c.report.ensures.rest
     (to_terminated s.eight registers s.read s.opened s.check c.report.new.self.check c.args.byte told bytes
-    c.if-byte-eq92.true r))
+    c.if-byte-eq-BACKSLASH.true r))
 
 pub returns-clause-read : goal.returns-clause-read
 returns-clause-read c = λ told bytes r.
@@ -79,4 +79,4 @@ returns-clause-read c = λ told bytes r.
     (c.read_after_escape.ensures.stands (told ++ record { place = length r.before; bytes = r.holds.0 } ∷ []) bytes
     (rw c.report-scanned.ensures.rest
     (to_next_escape s.eight registers s.read s.opened s.check c.report-scanned.new.self.check c.args.byte told bytes
-    c.if-byte-eq92.false r)))
+    c.if-byte-eq-BACKSLASH.false r)))

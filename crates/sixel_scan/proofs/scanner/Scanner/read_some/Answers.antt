@@ -1,4 +1,5 @@
-use Rattle.std.proofs.Common.{◌≡◌, ◌∙◌, ◌<◌, ◌≤◌, ℕ, zero, suc, ◌++◌, ◌∷◌, [], List, Bool, ap, arith, get_or, length, refl}
+use Rattle.std.proofs.Common.{◌≡◌, ◌∙◌, ◌<◌, ◌≤◌, ℕ, zero, suc, ◌++◌, ◌∷◌, [], List, Bool, ap, arith, get_or}
+use Rattle.std.proofs.Common.{length, refl}
 use Rattle.std.proofs.Common.{subst, take}
 use Rattle.std.proofs.lemmas.List.{append-nil}
 use Rattle.std.specs.Option.{option_to_list}
