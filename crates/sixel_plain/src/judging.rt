@@ -3,9 +3,9 @@
 use crate::history::{box_of, command_of};
 use crate::pixels::{outside, painted};
 use crate::rules::plain_rule;
-use sixel_judge::{Finding, Rule};
 use sixel_grammar::{Event, InputFault, Placed, read_all};
 use sixel_io::SliceSource;
+use sixel_judge::{Finding, Rule};
 use sixel_model::Profile;
 use std::alloc::{AllocError, Global};
 

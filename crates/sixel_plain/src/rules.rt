@@ -1,8 +1,8 @@
 //! The rules that a command or an end breaks by itself, whatever the pixels are.
 
 use crate::history::{box_of, definition, is_painted_in, known};
-use sixel_judge::Rule;
 use sixel_grammar::{Command, Event, Placed};
+use sixel_judge::Rule;
 use sixel_model::Profile;
 
 /// The lowest-numbered rule that raster attributes break.

@@ -5,8 +5,8 @@
 
 use crate::choice::{Choice, choices_of};
 use crate::history::box_of;
-use sixel_judge::Finding;
 use sixel_grammar::Placed;
+use sixel_judge::Finding;
 use sixel_model::{Colour, Parts, Picture, Profile};
 use sixel_terminal::Terminal;
 use std::alloc::{AllocError, Global};
