@@ -36,10 +36,10 @@ pub struct Wrong {
 pub fn wrong_of(alloc: Global, row: &Row<'_>) -> Result<Option<Wrong>, RowFault> {
     let task = task_of(row.words)?;
     if row.input.len() > MOST_SHORT {
-        return Ok(in_some_pieces(alloc, task, row));
+        return Ok(in_some_pieces(alloc, &task, row));
     }
-    match in_all_pieces(alloc, task, row) {
-        None => Ok(in_two(alloc, task, row)),
+    match in_all_pieces(alloc, &task, row) {
+        None => Ok(in_two(alloc, &task, row)),
         wrong => Ok(wrong),
     }
 }
@@ -47,7 +47,7 @@ pub fn wrong_of(alloc: Global, row: &Row<'_>) -> Result<Option<Wrong>, RowFault>
 /// The first of a few piece sizes for which the run is wrong, and how it ended.
 pub fn wrong_in_some_pieces(alloc: Global, row: &Row<'_>) -> Result<Option<Wrong>, RowFault> {
     let task = task_of(row.words)?;
-    Ok(in_some_pieces(alloc, task, row))
+    Ok(in_some_pieces(alloc, &task, row))
 }
 
 /// Input and output in pieces of this size.
@@ -59,8 +59,8 @@ fn even(piece: usize) -> Cutting {
     }
 }
 
-fn in_some_pieces(alloc: Global, task: Task, row: &Row<'_>) -> Option<Wrong>
-    requires { HasSides task }
+fn in_some_pieces(alloc: Global, task: &Task, row: &Row<'_>) -> Option<Wrong>
+    requires { HasSides task.now }
 {
     for piece in SIZES {
         if let Some(wrong) = wrong_in(alloc, task, row, even(piece)) {
@@ -71,8 +71,8 @@ fn in_some_pieces(alloc: Global, task: Task, row: &Row<'_>) -> Option<Wrong>
 }
 
 /// In pieces of each size, from one byte to one more than the whole input.
-fn in_all_pieces(alloc: Global, task: Task, row: &Row<'_>) -> Option<Wrong>
-    requires { HasSides task }
+fn in_all_pieces(alloc: Global, task: &Task, row: &Row<'_>) -> Option<Wrong>
+    requires { HasSides task.now }
 {
     for less in 0..=row.input.len() {
         if let Some(wrong) = wrong_in(alloc, task, row, even(less.saturating_add(1))) {
@@ -83,8 +83,8 @@ fn in_all_pieces(alloc: Global, task: Task, row: &Row<'_>) -> Option<Wrong>
 }
 
 /// Cut in two at each offset.
-fn in_two(alloc: Global, task: Task, row: &Row<'_>) -> Option<Wrong>
-    requires { HasSides task }
+fn in_two(alloc: Global, task: &Task, row: &Row<'_>) -> Option<Wrong>
+    requires { HasSides task.now }
 {
     for first in 1..row.input.len() {
         let cutting = Cutting {
@@ -99,8 +99,8 @@ fn in_two(alloc: Global, task: Task, row: &Row<'_>) -> Option<Wrong>
 }
 
 /// How a run in this cutting ended, if the row says otherwise.
-fn wrong_in(alloc: Global, task: Task, row: &Row<'_>, cutting: Cutting) -> Option<Wrong>
-    requires { HasSides task }
+fn wrong_in(alloc: Global, task: &Task, row: &Row<'_>, cutting: Cutting) -> Option<Wrong>
+    requires { HasSides task.now }
 {
     let ended = end_of(alloc, task, row.input.as_slice(), cutting);
     if is_right(&ended, row) {
@@ -123,12 +123,12 @@ fn is_right(ended: &Ended, row: &Row<'_>) -> bool
 }
 
 /// Runs the task on the bytes in this cutting.
-fn end_of(alloc: Global, task: Task, bytes: &[u8], cutting: Cutting) -> Ended
-    requires { HasSides task }
+fn end_of(alloc: Global, task: &Task, bytes: &[u8], cutting: Cutting) -> Ended
+    requires { HasSides task.now }
 {
     let mut source = CutSource::new(bytes, cutting);
     let mut sink = KeepingSink::new(alloc, cutting.taken);
-    let answer = run(alloc, task, &mut source, &mut sink);
+    let answer = run(alloc, *task, &mut source, &mut sink);
     Ended {
         status: code_of(&answer),
         said: said_of(task, &answer),
@@ -147,7 +147,7 @@ fn code_of(answer: &Result<Status, RunFault>) -> u8 {
 }
 
 /// The line that goes to standard error: why a run was refused, or why a picture wasn't rendered.
-fn said_of(task: Task, answer: &Result<Status, RunFault>) -> Line {
+fn said_of(task: &Task, answer: &Result<Status, RunFault>) -> Line {
     match answer {
         Ok(Status::Broken(finding)) if matches!(task, Task::Render { .. }) => finding_line(finding),
         Ok(_) => Line::new(),

@@ -240,13 +240,13 @@ const WIDE_RED: Case = Case {
 /// number `take_fails`.
 fn run_in_pieces(
     alloc: Global,
-    case: Case,
+    case: &Case,
     piece: usize,
     fill_fails: Option<u64>,
     take_fails: Option<u64>,
     room: &mut [u8],
 ) -> Ran
-    requires { HasSides case.task }
+    requires { HasSides case.now.task }
 {
     let limits = Limits {
         piece,
@@ -271,8 +271,8 @@ fn lines_of(given: usize) -> &'static [u8] {
 }
 
 /// What is written if the source fails after `given` bytes: only a list writes before the end.
-fn written_text(task: Task, given: usize) -> &'static [u8] {
-    if task == Task::List {
+fn written_text(task: &Task, given: usize) -> &'static [u8] {
+    if matches!(task, Task::List) {
         lines_of(given)
     } else {
         b""
@@ -280,12 +280,12 @@ fn written_text(task: Task, given: usize) -> &'static [u8] {
 }
 
 /// Whether a run stops at this failing fill, and doesn't fill again.
-fn stops_at_fill(alloc: Global, case: Case, piece: usize, fill: u64) -> bool
-    requires { HasSides case.task }
+fn stops_at_fill(alloc: Global, case: &Case, piece: usize, fill: u64) -> bool
+    requires { HasSides case.now.task }
 {
     let mut room = [0; 128];
     let ran = run_in_pieces(alloc, case, piece, Some(fill), None, &mut room);
-    let text = written_text(case.task, piece.saturating_mul(fill as usize));
+    let text = written_text(&case.task, piece.saturating_mul(fill as usize));
     ran.answer == Err(RunFault::Read)
         && room.get(..ran.written) == Some(text)
         && ran.source.fills == fill.saturating_add(1)
@@ -294,14 +294,14 @@ fn stops_at_fill(alloc: Global, case: Case, piece: usize, fill: u64) -> bool
 
 /// Whether this much is written if this take fails. A list writes the lines of each piece on their own, so its takes
 /// aren't all full.
-fn is_prefix(case: Case, piece: usize, take: u64, written: usize) -> bool {
+fn is_prefix(case: &Case, piece: usize, take: u64, written: usize) -> bool {
     let full = piece.saturating_mul(take as usize);
-    (case.task == Task::List && piece > 1) || written == full.min(case.text.len())
+    (matches!(case.task, Task::List) && piece > 1) || written == full.min(case.text.len())
 }
 
 /// Whether a run stops at this failing take or flush, and doesn't call the sink again: a prefix of the text is written.
-fn stops_at_take(alloc: Global, case: Case, piece: usize, take: u64, flushes: u64) -> bool
-    requires { HasSides case.task }
+fn stops_at_take(alloc: Global, case: &Case, piece: usize, take: u64, flushes: u64) -> bool
+    requires { HasSides case.now.task }
 {
     let mut room = [0; 128];
     let ran = run_in_pieces(alloc, case, piece, None, Some(take), &mut room);
@@ -313,8 +313,8 @@ fn stops_at_take(alloc: Global, case: Case, piece: usize, take: u64, flushes: u6
 }
 
 /// Whether a run ends with this many fills and takes. Each device would fail at the call after its last.
-fn is_whole(alloc: Global, case: Case, piece: usize, fills: u64, takes: u64) -> bool
-    requires { HasSides case.task }
+fn is_whole(alloc: Global, case: &Case, piece: usize, fills: u64, takes: u64) -> bool
+    requires { HasSides case.now.task }
 {
     let mut room = [0; 128];
     let never = takes.saturating_add(1);
@@ -327,8 +327,8 @@ fn is_whole(alloc: Global, case: Case, piece: usize, fills: u64, takes: u64) -> 
 }
 
 /// Each call of each device fails in turn, in pieces of this size.
-fn stops_in_pieces(alloc: Global, case: Case, piece: usize, fills: u64, takes: u64) -> bool
-    requires { HasSides case.task }
+fn stops_in_pieces(alloc: Global, case: &Case, piece: usize, fills: u64, takes: u64) -> bool
+    requires { HasSides case.now.task }
 {
     for fill in 0..fills {
         if !stops_at_fill(alloc, case, piece, fill) {
@@ -344,8 +344,8 @@ fn stops_in_pieces(alloc: Global, case: Case, piece: usize, fills: u64, takes: u
 }
 
 /// Whether a sink with room for a part of the text gets that part.
-fn fills_room(alloc: Global, case: Case, count: usize) -> bool
-    requires { HasSides case.task }
+fn fills_room(alloc: Global, case: &Case, count: usize) -> bool
+    requires { HasSides case.now.task }
 {
     let mut whole = [0; 128];
     let (room, _) = whole.split_at_mut(count.min(128));
@@ -357,8 +357,8 @@ fn fills_room(alloc: Global, case: Case, count: usize) -> bool
 
 /// Whether nothing is written, and no device is called again, if both fail at their first call; for the sink that is
 /// the flush.
-fn stops_at_both(alloc: Global, case: Case) -> bool
-    requires { HasSides case.task }
+fn stops_at_both(alloc: Global, case: &Case) -> bool
+    requires { HasSides case.now.task }
 {
     let ran = run_in_pieces(alloc, case, 1, Some(0), Some(0), &mut [0; 128]);
     ran.answer == Err(RunFault::Write)
@@ -369,8 +369,8 @@ fn stops_at_both(alloc: Global, case: Case) -> bool
 }
 
 /// Each call of each device fails in turn, then both at once; and each room is tried that is too small for the text.
-pub(crate) fn stops(alloc: Global, case: Case) -> bool
-    requires { HasSides case.task }
+pub(crate) fn stops(alloc: Global, case: &Case) -> bool
+    requires { HasSides case.now.task }
 {
     for (piece, fills, takes) in case.calls {
         if !stops_in_pieces(alloc, case, piece, fills, takes) {
@@ -387,29 +387,29 @@ pub(crate) fn stops(alloc: Global, case: Case) -> bool
 
 #[test]
 fn each_call_of_a_device_fails(rt: HostRuntime) {
-    assert!(rt; stops(rt.alloc(), LISTED));
-    assert!(rt; stops(rt.alloc(), LISTED_FAULT));
-    assert!(rt; stops(rt.alloc(), CHECKED));
-    assert!(rt; stops(rt.alloc(), LETTERS));
-    assert!(rt; stops(rt.alloc(), UNCOVERED));
-    assert!(rt; stops(rt.alloc(), CHECKED_FAULT));
-    assert!(rt; stops(rt.alloc(), RENDERED));
-    assert!(rt; stops(rt.alloc(), RENDERED_FAULT));
-    assert!(rt; stops(rt.alloc(), RED));
-    assert!(rt; stops(rt.alloc(), SHORT_RED));
-    assert!(rt; stops(rt.alloc(), ENCODED_FAULT));
-    assert!(rt; stops(rt.alloc(), SHOWN));
-    assert!(rt; stops(rt.alloc(), SHOWN_FAULT));
-    assert!(rt; stops(rt.alloc(), BOXED));
-    assert!(rt; stops(rt.alloc(), BOXED_LATE));
-    assert!(rt; stops(rt.alloc(), UNBOXED));
-    assert!(rt; stops(rt.alloc(), BOXED_FAULT));
+    assert!(rt; stops(rt.alloc(), &LISTED));
+    assert!(rt; stops(rt.alloc(), &LISTED_FAULT));
+    assert!(rt; stops(rt.alloc(), &CHECKED));
+    assert!(rt; stops(rt.alloc(), &LETTERS));
+    assert!(rt; stops(rt.alloc(), &UNCOVERED));
+    assert!(rt; stops(rt.alloc(), &CHECKED_FAULT));
+    assert!(rt; stops(rt.alloc(), &RENDERED));
+    assert!(rt; stops(rt.alloc(), &RENDERED_FAULT));
+    assert!(rt; stops(rt.alloc(), &RED));
+    assert!(rt; stops(rt.alloc(), &SHORT_RED));
+    assert!(rt; stops(rt.alloc(), &ENCODED_FAULT));
+    assert!(rt; stops(rt.alloc(), &SHOWN));
+    assert!(rt; stops(rt.alloc(), &SHOWN_FAULT));
+    assert!(rt; stops(rt.alloc(), &BOXED));
+    assert!(rt; stops(rt.alloc(), &BOXED_LATE));
+    assert!(rt; stops(rt.alloc(), &UNBOXED));
+    assert!(rt; stops(rt.alloc(), &BOXED_FAULT));
 }
 
 #[test]
 fn each_call_of_a_device_fails_in_the_wide_profile(rt: HostRuntime) {
-    assert!(rt; stops(rt.alloc(), WIDE_CHECKED));
-    assert!(rt; stops(rt.alloc(), WIDE_RENDERED));
-    assert!(rt; stops(rt.alloc(), WIDE_SHOWN));
-    assert!(rt; stops(rt.alloc(), WIDE_RED));
+    assert!(rt; stops(rt.alloc(), &WIDE_CHECKED));
+    assert!(rt; stops(rt.alloc(), &WIDE_RENDERED));
+    assert!(rt; stops(rt.alloc(), &WIDE_SHOWN));
+    assert!(rt; stops(rt.alloc(), &WIDE_RED));
 }

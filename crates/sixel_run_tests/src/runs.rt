@@ -121,19 +121,16 @@ pub fn agrees(
     ran.answer == answer && room.get(..ran.written) == Some(text) && ran.sink.flushes == 1
 }
 
-/// The same in pieces of three sizes.
-pub fn agrees_in_pieces(
+/// The same of a list, in pieces of three sizes.
+pub fn lists_in_pieces(
     alloc: Global,
-    task: Task,
     bytes: &[u8],
     text: &[u8],
     answer: Result<Status, RunFault>,
-) -> bool
-    requires { HasSides task }
-{
-    agrees(alloc, task, bytes, 1, text, answer)
-        && agrees(alloc, task, bytes, 5, text, answer)
-        && agrees(alloc, task, bytes, 64, text, answer)
+) -> bool {
+    agrees(alloc, Task::List, bytes, 1, text, answer)
+        && agrees(alloc, Task::List, bytes, 5, text, answer)
+        && agrees(alloc, Task::List, bytes, 64, text, answer)
 }
 
 #[test]
@@ -183,7 +180,7 @@ fn lists_documents(rt: HostRuntime) {
     for (bytes, text) in rows {
         let written = text.as_bytes();
         assert!(rt;
-            agrees_in_pieces(rt.alloc(), Task::List, bytes, written, Ok(Status::Done)),
+            lists_in_pieces(rt.alloc(), bytes, written, Ok(Status::Done)),
             "{text}"
         );
     }
@@ -252,7 +249,7 @@ fn lists_what_came_before_a_fault(rt: HostRuntime) {
     for (bytes, text, reason, place) in rows {
         let answer = Err(RunFault::Grammar(Fault { reason, place }));
         assert!(rt;
-            agrees_in_pieces(rt.alloc(), Task::List, bytes, text.as_bytes(), answer),
+            lists_in_pieces(rt.alloc(), bytes, text.as_bytes(), answer),
             "{text}"
         );
     }
@@ -270,5 +267,5 @@ fn lists_places_that_are_carried(rt: HostRuntime) {
     let text =
         b"6 start 7bit 0\n9 sixel 0\n10 sixel 1\n99 sixel 63\n100 sixel 63\n109 sixel 63\n110 sixel 63\n\
         199 sixel 63\n200 sixel 63\n999 sixel 63\n1000 sixel 63\n1001 sixel 9\n1002 end 7bit\n";
-    assert!(rt; agrees_in_pieces(rt.alloc(), Task::List, &bytes, text, Ok(Status::Done)));
+    assert!(rt; lists_in_pieces(rt.alloc(), &bytes, text, Ok(Status::Done)));
 }

@@ -1,5 +1,7 @@
 //! For `survey` and `mend`, each call of a device fails in turn; and the calls of whole runs are counted.
 
+ghost use Rattle.sixel_run.specs.Outputs.{HasSides};
+
 use crate::in_turn::{CHECKED, CHECKED_FAULT, Case, stops};
 use crate::runs::{SURVEY, mend_on_black};
 use sixel_check::{Finding, Rule};
@@ -34,37 +36,51 @@ const SURVEYED_FAULT: Case = Case {
 
 #[test]
 fn each_call_of_a_device_fails_in_a_survey(rt: HostRuntime) {
-    assert!(rt; stops(rt.alloc(), PORTABLE));
-    assert!(rt; stops(rt.alloc(), THREE));
-    assert!(rt; stops(rt.alloc(), SURVEYED_FAULT));
+    assert!(rt; stops(rt.alloc(), &PORTABLE));
+    assert!(rt; stops(rt.alloc(), &THREE));
+    assert!(rt; stops(rt.alloc(), &SURVEYED_FAULT));
 }
 
-#[test]
-fn each_call_of_a_device_fails_in_a_mend(rt: HostRuntime) {
-    let task = mend_on_black(Profile::Registers16);
-    // one pixel: 26 bytes in, 29 out
-    let pixel = Case {
-        task,
+/// One pixel, mended: 26 bytes in, 29 out.
+fn pixel() -> Case
+    ensures { HasSides result.task }
+{
+    Case {
+        task: mend_on_black(Profile::Registers16),
         text: b"\x1bP0;1q\"1;1;1;1#0;2;0;0;0#0@\x1b\\",
         calls: [(1, 27, 29), (5, 7, 6), (64, 2, 1)],
         ..CHECKED
-    };
-    // nothing painted and nothing declared: 5 bytes
-    let empty = Case {
-        task,
+    }
+}
+
+/// Nothing painted and nothing declared: 5 bytes in, and nothing out.
+fn empty() -> Case
+    ensures { HasSides result.task }
+{
+    Case {
+        task: mend_on_black(Profile::Registers16),
         bytes: b"\x1bPq\x1b\\",
         text: b"",
         answer: Err(RunFault::Empty),
         calls: [(1, 6, 0), (5, 2, 0), (64, 2, 0)],
-    };
-    // a fault: it is read no further
-    let fault = Case {
-        task,
-        ..CHECKED_FAULT
-    };
-    for case in [pixel, empty, fault] {
-        assert!(rt; stops(rt.alloc(), case));
     }
+}
+
+/// A fault: no picture, and nothing is read after it.
+fn mended_fault() -> Case
+    ensures { HasSides result.task }
+{
+    Case {
+        task: mend_on_black(Profile::Registers16),
+        ..CHECKED_FAULT
+    }
+}
+
+#[test]
+fn each_call_of_a_device_fails_in_a_mend(rt: HostRuntime) {
+    assert!(rt; stops(rt.alloc(), &pixel()));
+    assert!(rt; stops(rt.alloc(), &empty()));
+    assert!(rt; stops(rt.alloc(), &mended_fault()));
 }
 
 /// The longest line of an entry has 92 bytes.
