@@ -218,7 +218,8 @@ pub fn check_files<F: Folder, S: Source, K: Sink, E: Sink>(
     }
     match flush_verdicts(is_quiet, output) {
         Ok(()) => {
-            put_hint(!is_quiet && is_shown, task.task(), broken, errors);
+            let task = task.task();
+            put_hint(!is_quiet && is_shown, task, broken, errors);
             exit
         }
         Err(_) => unwritten(errors),
