@@ -27,5 +27,9 @@ pub fn colour_of(text: &str) -> Option<Colour>
 {
     let (red, rest) = text.split_once(',')?;
     let (green, blue) = rest.split_once(',')?;
-    Colour::rgb(percentage_of(red)?, percentage_of(green)?, percentage_of(blue)?)
+    Colour::rgb(
+        percentage_of(red)?,
+        percentage_of(green)?,
+        percentage_of(blue)?,
+    )
 }

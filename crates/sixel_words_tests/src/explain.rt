@@ -42,7 +42,10 @@ fn asks_for_an_explanation(rt: HostRuntime) -> Result<(), Fail> {
         ),
         ("sixel explain sixel: NoBox", "explain Some(NoBox)"),
         ("sixel explain Empty", "explain Some(Empty)"),
-        ("sixel explain sixel: a.six: TooLarge", "explain Some(TooLarge)"),
+        (
+            "sixel explain sixel: a.six: TooLarge",
+            "explain Some(TooLarge)",
+        ),
         (
             "sixel explain sixel: TooManyColours",
             "explain Some(Ppm(TooManyColours))",

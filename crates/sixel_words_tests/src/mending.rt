@@ -23,7 +23,13 @@ fn names_the_background(rt: HostRuntime) -> Result<(), Fail> {
     let rows = [
         ("sixel mend", "Registers16", "0, 0, 0", false, false),
         ("sixel mend --wide", "Registers256", "0, 0, 0", false, false),
-        ("sixel mend --showing", "Registers16", "0, 0, 0", true, false),
+        (
+            "sixel mend --showing",
+            "Registers16",
+            "0, 0, 0",
+            true,
+            false,
+        ),
         (
             "sixel mend --define-selects --background 100,0,50",
             "Registers16",
@@ -58,7 +64,10 @@ fn names_the_background(rt: HostRuntime) -> Result<(), Fail> {
         assert!(rt; asks(&rt, line, task.as_str(), false, "[]")?, "{line}");
     }
     let task = mending(&rt, "Registers16", "0, 0, 0", false, false)?;
-    assert!(rt; asks(&rt, "sixel mend a", task.as_str(), false, "[\"a\"]")?, "a file");
+    assert!(rt;
+        asks(&rt, "sixel mend a", task.as_str(), false, "[\"a\"]")?,
+        "a file"
+    );
     Ok(())
 }
 
@@ -66,8 +75,8 @@ fn names_the_background(rt: HostRuntime) -> Result<(), Fail> {
 #[test]
 fn refuses_other_backgrounds(rt: HostRuntime) -> Result<(), Fail> {
     for value in [
-        "0,0,101", "101,0,0", "0,256,0", "0,0", "0,0,0,0", "0", "", ",,", "0,,0", "0000,0,0", "+1,0,0", "0,0,-1",
-        "1.5,0,0", "0;0;0", "red", "0,0,0,",
+        "0,0,101", "101,0,0", "0,256,0", "0,0", "0,0,0,0", "0", "", ",,", "0,,0", "0000,0,0",
+        "+1,0,0", "0,0,-1", "1.5,0,0", "0;0;0", "red", "0,0,0,",
     ] {
         let line = format!(in rt.alloc(); "sixel mend --background={value}")?;
         let text = format!(in rt.alloc();

@@ -58,7 +58,8 @@ Exit status: 0 done, 2 refused, 3 usage error.
 
 Example: sixel show --wide --box plot.six > plot.ppm";
 
-pub const MEND: &str = "Reads sixel text from FILE or, without one, from standard input. Draws it as one
+pub const MEND: &str =
+    "Reads sixel text from FILE or, without one, from standard input. Draws it as one
 terminal would, and writes what that shows to standard output, as portable sixel
 text. The terminal has 256 registers, which start as the VT340's 16 colours over
 and over. The picture is as large as the declared box, and larger if something
