@@ -1,19 +1,19 @@
 -- What is found in an input is lines.
-use Rattle.std.proofs.Common.{◌≡◌, ◌++◌, ◌∷◌, ◌≤◌, ℕ, true, false, Bool, List, [], Option, Some, None, append_assoc}
-use Rattle.std.proofs.Common.{arith, codes, map, ne_eqb, refl, sym}
-use Rattle.std.specs.Prelude.{Result, Ok, Err, decimal, nat_eq, not}
-use Rattle.std.specs.List.{All, list_all}
+use Rattle.std.proofs.Common.{◌≡◌, ◌++◌, ◌∷◌, ◌≤◌, ℕ, true, false, Bool, List, [], Option, Some, None}
+use Rattle.std.proofs.Common.{arith, codes, map, ne_eqb, refl}
+use Rattle.std.specs.Prelude.{◌&&◌, Result, Ok, Err, decimal, nat_eq, not}
+use Rattle.std.specs.List.{All}
 use Rattle.std.specs.Option.{option_to_list}
-use Rattle.std.proofs.lemmas.List.Elements.{All-append, All-cons, All-map, All-nil}
-use Rattle.sixel_judge.specs.declared.rule.Rule.{Rule}
-use Rattle.sixel_judge.specs.declared.rule.Rule.TheVariants as rule
-use Rattle.sixel_judge.specs.declared.verdict.Verdict.{Verdict}
-use Rattle.sixel_judge.specs.declared.verdict.Verdict.TheVariants.{Portable, Broken}
+use Rattle.std.proofs.lemmas.List.Elements.{All-append, All-cons, All-nil}
+use Rattle.sixel_check.specs.declared.rule.Rule.{Rule}
+use Rattle.sixel_check.specs.declared.rule.Rule.TheVariants as rule
+use Rattle.sixel_check.specs.declared.verdict.Verdict.{Verdict}
+use Rattle.sixel_check.specs.declared.verdict.Verdict.TheVariants.{Portable, Broken}
 use Rattle.sixel_survey.specs.declared.entry.Entry.{Entry}
 use Rattle.sixel_survey.specs.declared.entry.Survey.{Survey as ASurvey}
 use Rattle.sixel_run.specs.declared.fault.RunFault.{RunFault}
-use Rattle.sixel_run.specs.Texts.{Text, entry_line, line, pixel_parts, rule_name, size_line, spaced, survey_lines}
-use Rattle.sixel_run.specs.Texts.{verdict_line}
+use Rattle.sixel_run.specs.Texts.{Text, entry_line, line, numbers, pixel_parts, rule_name, size_line, spaced}
+use Rattle.sixel_run.specs.Texts.{survey_lines, verdict_line}
 use Rattle.sixel_words.proofs.PastedLemmas.{AreDigits, number_digits}
 use Rattle.sixel_program.specs.Files.{IsLine}
 use Rattle.sixel_program.specs.Findings.{lines_found, lines_of}
@@ -28,33 +28,39 @@ abbrev AreUnfed : List Text → Type 0
 AreUnfed [] = Unit {0}
 AreUnfed (part ∷ parts) = All IsUnfed part × AreUnfed parts
 
--- the text of a name has none
+-- whether a text has none
 abbrev has_no_feed : Text → Bool
-has_no_feed text = list_all (λ byte. not (nat_eq byte 10)) text
+has_no_feed [] = true
+has_no_feed (byte ∷ text) = not (nat_eq byte 10) && has_no_feed text
+
+both_true : (a b : Bool) → (a && b) ≡ true → (a ≡ true) × (b ≡ true)
+both_true true b e = (refl, e)
+both_true false b e = let bad : false ≡ true = e in cc
+
+not_true : (a : Bool) → not a ≡ true → a ≡ false
+not_true true e = let bad : false ≡ true = e in cc
+not_true false e = refl
 
 name_unfed : (text : Text) → has_no_feed text ≡ true → All IsUnfed text
 name_unfed [] none = All-nil IsUnfed
-name_unfed (b ∷ text) none = go (nat_eq b 10) refl none
-  where
-    go : (is : Bool) → nat_eq b 10 ≡ is → (list_all (λ byte. not (nat_eq byte 10)) (b ∷ text)) ≡ true
-        → All IsUnfed (b ∷ text)
-    go false e all = All-cons IsUnfed b text e (name_unfed text (rw e at all))
-    go true e all = let no : false ≡ true = (rw e at all) in cc
+name_unfed (byte ∷ text) none =
+    let both = both_true (not (nat_eq byte 10)) (has_no_feed text) none in
+    All-cons IsUnfed byte text (not_true (nat_eq byte 10) both.0) (name_unfed text both.1)
 
 rule_unfed : (r : Rule) → All IsUnfed (rule_name r)
-rule_unfed rule.RasterFirst = name_unfed _ refl
-rule_unfed rule.RasterTwice = name_unfed _ refl
-rule_unfed rule.Ratio = name_unfed _ refl
-rule_unfed rule.BoxSize = name_unfed _ refl
-rule_unfed rule.Register = name_unfed _ refl
-rule_unfed rule.ColourValue = name_unfed _ refl
-rule_unfed rule.RepeatZero = name_unfed _ refl
-rule_unfed rule.Unselected = name_unfed _ refl
-rule_unfed rule.Undefined = name_unfed _ refl
-rule_unfed rule.Redefined = name_unfed _ refl
-rule_unfed rule.Outside = name_unfed _ refl
-rule_unfed rule.Uncovered = name_unfed _ refl
-rule_unfed rule.EightBit = name_unfed _ refl
+rule_unfed rule.RasterFirst = name_unfed (codes "RasterFirst") refl
+rule_unfed rule.RasterTwice = name_unfed (codes "RasterTwice") refl
+rule_unfed rule.Ratio = name_unfed (codes "Ratio") refl
+rule_unfed rule.BoxSize = name_unfed (codes "BoxSize") refl
+rule_unfed rule.Register = name_unfed (codes "Register") refl
+rule_unfed rule.ColourValue = name_unfed (codes "ColourValue") refl
+rule_unfed rule.RepeatZero = name_unfed (codes "RepeatZero") refl
+rule_unfed rule.Unselected = name_unfed (codes "Unselected") refl
+rule_unfed rule.Undefined = name_unfed (codes "Undefined") refl
+rule_unfed rule.Redefined = name_unfed (codes "Redefined") refl
+rule_unfed rule.Outside = name_unfed (codes "Outside") refl
+rule_unfed rule.Uncovered = name_unfed (codes "Uncovered") refl
+rule_unfed rule.EightBit = name_unfed (codes "EightBit") refl
 
 -- nor do digits
 digits_unfed : (ds : Text) → AreDigits ds → All IsUnfed ds
@@ -82,20 +88,22 @@ spaced_unfed (part ∷ parts) are =
 is_line : (first : Text) (parts : List Text) → All IsUnfed first → AreUnfed parts → IsLine (line first parts)
 is_line first parts one are = (
   first ++ spaced parts,
-  sym (append_assoc first (spaced parts) (10 ∷ [])),
+  refl,
   All-append IsUnfed first (spaced parts) one (spaced_unfed parts are),
 )
 
 verdict_is_line : (v : Verdict) → IsLine (verdict_line v)
 verdict_is_line (Portable picture) =
-    is_line (codes "portable") _ (name_unfed _ refl) (number_unfed _, (number_unfed _, tt))
+    is_line (codes "portable") (numbers (picture.width ∷ picture.height ∷ [])) (name_unfed (codes "portable") refl)
+    (number_unfed picture.width, (number_unfed picture.height, tt))
 verdict_is_line (Broken f) =
-    is_line (codes "broken") _ (name_unfed _ refl)
+    is_line (codes "broken") (rule_name f.rule ∷ decimal f.place ∷ pixel_parts f.rule f.pixel)
+    (name_unfed (codes "broken") refl)
     (rule_unfed f.rule, (number_unfed f.place, pixel_unfed f.rule f.pixel))
 
 entry_is_line : (e : Entry) → IsLine (entry_line e)
 entry_is_line e =
-    is_line (rule_name e.rule) _ (rule_unfed e.rule)
+    is_line (rule_name e.rule) (decimal e.count ∷ decimal e.place ∷ pixel_parts e.rule e.pixel) (rule_unfed e.rule)
     (number_unfed e.count, (number_unfed e.place, pixel_unfed e.rule e.pixel))
 
 entries_are_lines : (entries : List Entry) → All IsLine (map entry_line entries)
@@ -107,7 +115,8 @@ size_is_line : (size : Option (ℕ × ℕ)) → All IsLine (map (λ size. size_l
 size_is_line None = All-nil IsLine
 size_is_line (Some size) =
     All-cons IsLine (size_line size.0 size.1) []
-    (is_line (codes "portable") _ (name_unfed _ refl) (number_unfed size.0, (number_unfed size.1, tt)))
+    (is_line (codes "portable") (numbers (size.0 ∷ size.1 ∷ [])) (name_unfed (codes "portable") refl)
+    (number_unfed size.0, (number_unfed size.1, tt)))
     (All-nil IsLine)
 
 survey_is_lines : (s : ASurvey) → All IsLine (survey_lines s)

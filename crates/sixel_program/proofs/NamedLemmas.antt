@@ -22,9 +22,9 @@ pub lines_more : (name : Text) (entries : List Entry) (i : ℕ) (d : Entry) → 
 lines_more name entries i d short =
     let e = get_or entries i d in
     sym (
-      ap (named_lines name) (take_more entries i d short)
-      ∙ both_parts name (take i entries) (e ∷ [])
-      ∙ ap (λ (t : Text). named_lines name (take i entries) ++ t) (append-nil (named name (entry_line e)))
+    ap (named_lines name) (take_more entries i d short)
+    ∙ both_parts name (take i entries) (e ∷ [])
+    ∙ ap (λ (t : Text). named_lines name (take i entries) ++ t) (append-nil (named name (entry_line e)))
     )
 
 -- and of those after it

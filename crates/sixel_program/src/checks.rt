@@ -1,6 +1,6 @@
 //! Checks and surveys of files, and quiet checks of standard input.
 
-ghost use Rattle.std.specs.Prelude.{◌≡◌, IfErr, List, None, OnOk, Option, Result, false, map, option_copied, true};
+ghost use Rattle.std.specs.Prelude.{◌≡◌, ◌&&◌, IfErr, List, None, OnOk, Option, Result, false, map, not, option_copied, true};
 ghost use Rattle.std.specs.Io.KnownBytes.{Keeps};
 ghost use Rattle.std.specs.List.{list_any};
 ghost use Rattle.std.specs.String.{string_bytes};
@@ -176,6 +176,13 @@ fn flush_verdicts<K: Sink>(is_quiet: bool, output: &mut K) -> Result<(), DeviceF
     if is_quiet { Ok(()) } else { output.flush() }
 }
 
+/// Whether a hint comes last: if hints are shown and the task isn't quiet.
+fn has_hint(is_quiet: bool, is_shown: bool) -> bool
+    ensures { result ≡ (not is_quiet && is_shown) }
+{
+    !is_quiet && is_shown
+}
+
 /// Checks or surveys the files with these names in turn. A refused file doesn't end this, but a failed write does. The
 /// exit status is the greatest of theirs. If hints are shown (`is_shown`) and the task isn't quiet, one on the first
 /// broken file's rule comes last.
@@ -218,7 +225,8 @@ pub fn check_files<F: Folder, S: Source, K: Sink, E: Sink>(
     }
     match flush_verdicts(is_quiet, output) {
         Ok(()) => {
-            put_hint(!is_quiet && is_shown, task.task(), broken, errors);
+            let has_hint = has_hint(is_quiet, is_shown);
+            put_hint(has_hint, task.task(), broken, errors);
             exit
         }
         Err(_) => unwritten(errors),

@@ -50,20 +50,20 @@ pub fn reads_input(request: &Request) -> bool
 /// broken rule, if hints are shown (`is_shown`). If that can't be written, the exit status stays the same.
 fn report<S: Source, K: Sink, E: Sink>(
     alloc: Global,
-    task: Task,
+    task: &Task,
     is_shown: bool,
     name: Option<&str>,
     input: &mut Peeked<S>,
     output: &mut K,
     errors: &mut E,
 ) -> Exit
-    requires { HasSides task }
-    ensures { RunEnds task is_shown (option_copied name.entry) result
+    requires { HasSides task.now }
+    ensures { RunEnds task.now is_shown (option_copied name.entry) result
         (change (⟦<Peeked<S> as Source>⟧.state input.old) (⟦<Peeked<S> as Source>⟧.state input.new))
         (change (K.state output.old) (K.state output.new)) (change (E.state errors.old) (E.state errors.new)) }
 {
     let format = input.format();
-    let answer = run(alloc, task, input, output);
+    let answer = run(alloc, *task, input, output);
     let _ = put_said(task, name, format, &answer, errors);
     put_hint_after(is_shown, task, &answer, errors);
     exit_of(answer)
@@ -72,7 +72,7 @@ fn report<S: Source, K: Sink, E: Sink>(
 /// Runs a task over the file with this name, or over standard input if the name is `-`.
 fn report_file<F: Folder, S: Source, K: Sink, E: Sink>(
     alloc: Global,
-    task: Task,
+    task: &Task,
     is_shown: bool,
     name: &str,
     folder: &F,
@@ -80,8 +80,8 @@ fn report_file<F: Folder, S: Source, K: Sink, E: Sink>(
     output: &mut K,
     errors: &mut E,
 ) -> Exit
-    requires { HasSides task }
-    ensures ends { FileEnds task is_shown (folder_view (F.opening folder.now) F.Opened.state) name.now result
+    requires { HasSides task.now }
+    ensures ends { FileEnds task.now is_shown (folder_view (F.opening folder.now) F.Opened.state) name.now result
         (change (⟦<Peeked<S> as Source>⟧.state input.old) (⟦<Peeked<S> as Source>⟧.state input.new))
         (change (K.state output.old) (K.state output.new)) (change (E.state errors.old) (E.state errors.new)) }
     ensures unread { is_dash name.now ≡ false → input.new ≡ input.old }
@@ -125,7 +125,7 @@ pub fn answer<F: Folder, S: Source, K: Sink, E: Sink>(
     let is_shown = terminals.errors;
     match (request.task, names) {
         (Task::Check { profile }, []) if is_quiet => check_quietly(alloc, profile, input, errors),
-        (task, []) => report(alloc, task, is_shown, None, input, output, errors),
+        (task, []) => report(alloc, &task, is_shown, None, input, output, errors),
         (Task::Check { profile }, _) => {
             let task = FilesTask::Check { profile };
             check_files(
@@ -141,7 +141,7 @@ pub fn answer<F: Folder, S: Source, K: Sink, E: Sink>(
         (task, [name, ..]) => {
             report_file(
                 alloc,
-                task,
+                &task,
                 is_shown,
                 name.as_str(),
                 folder,

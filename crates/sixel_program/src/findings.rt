@@ -14,7 +14,8 @@ use sixel_check::Verdict;
 use sixel_io::{DeviceFault, Sink, Source};
 use sixel_model::Profile;
 use sixel_run::{
-    RunFault, Status, Surveyed, Task, entry_line, judge, size_line, status_of, survey_of, verdict_line,
+    RunFault, Status, Surveyed, Task, entry_line, judge, size_line, status_of, survey_of,
+    verdict_line,
 };
 use sixel_survey::{Entry, Survey};
 use std::alloc::Global;
@@ -58,11 +59,7 @@ impl Found {
 }
 
 /// Checks or surveys an input, and writes nothing.
-pub fn find<S: Source>(
-    alloc: Global,
-    task: FilesTask,
-    input: &mut S,
-) -> Result<Found, RunFault>
+pub fn find<S: Source>(alloc: Global, task: FilesTask, input: &mut S) -> Result<Found, RunFault>
     ensures found { IfSome (S.state input.old).remaining (λ bytes.
         Wrote (task_of task) bytes (S.state input.new).remaining
         (answer_of result) (Some []) (Some (concat (lines_of result)))) }

@@ -83,11 +83,11 @@ pub fn put_hint<E: Sink>(is_shown: bool, task: Task, broken: Option<Rule>, error
 /// Writes the hint after a run over one input, if it has one.
 pub fn put_hint_after<E: Sink>(
     is_shown: bool,
-    task: Task,
+    task: &Task,
     answer: &Result<Status, RunFault>,
     errors: &mut E,
 )
-    ensures { IsPut (hint_after is_shown task answer.now) (change (E.state errors.old) (E.state errors.new)) }
+    ensures { IsPut (hint_after is_shown task.now answer.now) (change (E.state errors.old) (E.state errors.new)) }
 {
-    put_hint(is_shown, task, rule_of(answer), errors);
+    put_hint(is_shown, *task, rule_of(answer), errors);
 }

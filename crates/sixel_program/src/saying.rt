@@ -98,13 +98,13 @@ pub fn put_refusal<K: Sink>(
 
 /// Writes which rule kept a picture from being rendered.
 fn put_finding<K: Sink>(
-    task: Task,
+    task: &Task,
     name: Option<&str>,
     status: &Status,
     out: &mut K,
 ) -> Result<(), DeviceFault>
     ensures { Writes result (K.state out.old) (K.state out.new)
-        (complaint task (option_copied name.entry) (Ok status.now)) }
+        (complaint task.now (option_copied name.entry) (Ok status.now)) }
 {
     match (status, task) {
         (Status::Broken(finding), Task::Render { .. }) => {
@@ -117,14 +117,14 @@ fn put_finding<K: Sink>(
 /// Writes the line of a run that didn't do its task: why the input was refused, or which rule its picture breaks. Advice
 /// on an input of this format follows.
 pub fn put_said<K: Sink>(
-    task: Task,
+    task: &Task,
     name: Option<&str>,
     format: Option<Format>,
     answer: &Result<Status, RunFault>,
     out: &mut K,
 ) -> Result<(), DeviceFault>
     ensures { Writes result (K.state out.old) (K.state out.new)
-        (complaint task (option_copied name.entry) answer.now ++ advice_for format answer.now) }
+        (complaint task.now (option_copied name.entry) answer.now ++ advice_for format answer.now) }
 {
     match answer {
         Ok(status) => put_finding(task, name, status, out),

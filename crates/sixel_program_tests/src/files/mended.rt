@@ -75,7 +75,12 @@ fn refuses(alloc: Global, name: &str, background: Colour, said: &[u8]) -> Result
         said,
         is_read: false,
     };
-    ends_over(alloc, asked_of(mend_on(background), &[name], PIXEL), STREAMS, ended)
+    ends_over(
+        alloc,
+        asked_of(mend_on(background), &[name], PIXEL),
+        STREAMS,
+        ended,
+    )
 }
 
 /// A refusal has the file's name, and another format its advice. Nothing is written.
@@ -112,6 +117,15 @@ fn too_many_colours(rt: HostRuntime) -> Result<(), Fail> {
     let text = reds(rt.alloc())?;
     let narrow = mend_on(colour(0, 0, 0)?);
     let line = b"sixel: TooManyColours\n";
-    assert!(rt; ends(rt.alloc(), narrow, text.as_str().as_bytes(), Exit::Refused, b"", line));
+    assert!(rt;
+        ends(
+            rt.alloc(),
+            narrow,
+            text.as_str().as_bytes(),
+            Exit::Refused,
+            b"",
+            line
+        )
+    );
     Ok(())
 }

@@ -95,7 +95,14 @@ fn the_wide_profile(rt: HostRuntime) -> Result<(), Fail> {
         written: b"wide: portable 2 1\n",
         ..narrow
     };
-    assert!(rt; ends_over(rt.alloc(), asked_of(wide, &["wide"], PIXEL), STREAMS, portable)?);
+    assert!(rt;
+        ends_over(
+            rt.alloc(),
+            asked_of(wide, &["wide"], PIXEL),
+            STREAMS,
+            portable
+        )?
+    );
     Ok(())
 }
 
