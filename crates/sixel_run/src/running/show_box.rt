@@ -23,7 +23,7 @@ use super::screen::write_screen;
 use super::show::{show_choices, terminal_of};
 use crate::fault::RunFault;
 use crate::task::{MOST_SCREEN_SIDE, Status};
-use sixel_grammar::{Command, Completed, Event, InputFault, Placed, Reader};
+use sixel_grammar::{Command, Completed, Event, InputFault, Placed, Plain, Reader};
 use sixel_io::{PIECE, Sink, Source};
 use sixel_model::Profile;
 use sixel_terminal::{Drawing, Screen};
@@ -232,8 +232,25 @@ fn find_in_part(
     Ok((1, find_in_byte(reader, bytes[0])?))
 }
 
-/// Reads one byte, and returns the first box that it declares.
+/// Reads one byte, and returns the first box that it declares. Most bytes complete at most one command.
+#[inline(always)]
 fn find_in_byte(reader: &mut Reader, byte: u8) -> Result<Option<(u16, u16)>, InputFault>
+    ensures found { IfOk result (λ found. Finds reader.old reader.new found (byte ∷ [])) }
+    ensures refused { IfErr result (Refuses reader.old (byte ∷ [])) }
+{
+    match reader.feed_command(byte) {
+        Some(Plain::Nothing) => Ok(box_of(None)),
+        Some(Plain::Command { place, command }) => Ok(box_of(Some(Placed {
+            place,
+            event: Event::Step(command),
+        }))),
+        None => find_in_byte_of_any_kind(reader, byte),
+    }
+}
+
+/// Reads one byte of any kind, and returns the first box that it declares.
+#[inline(never)]
+fn find_in_byte_of_any_kind(reader: &mut Reader, byte: u8) -> Result<Option<(u16, u16)>, InputFault>
     ensures found { IfOk result (λ found. Finds reader.old reader.new found (byte ∷ [])) }
     ensures refused { IfErr result (Refuses reader.old (byte ∷ [])) }
 {

@@ -1,8 +1,7 @@
 use Rattle.std.proofs.Common.{◌++◌, arith, subst, sym, take}
-use Rattle.std.proofs.lemmas.Result.{err_from_is_err_and}
 use Rattle.sixel_grammar.specs.Stretches.{sixels_from}
 use Rattle.sixel_terminal.specs.Drawings.{HasDrawn}
-use Rattle.sixel_run.proofs.DrawLemmas.{first_byte, sixels_then}
+use Rattle.sixel_run.proofs.DrawLemmas.{sixels_then}
 use Rattle.sixel_run.proofs.running.draw.draw_stretch_or_byte.Goals as goal
 
 pub returns : goal.returns

@@ -1,20 +1,19 @@
-use Rattle.std.proofs.Common.{◌++◌, ◌∷◌, [], arith, length-append}
-use Rattle.std.proofs.lemmas.Result.{err_from_is_err_and}
-use Rattle.sixel_grammar.proofs.UniqueLemmas.{fault_stays}
-use Rattle.sixel_grammar.specs.Standing.{completions}
+use Rattle.std.proofs.Common.{subst}
+use Rattle.sixel_grammar.specs.declared.command.Plain.{Plain}
+use Rattle.sixel_grammar.specs.declared.command.Plain.TheVariants.{Nothing, Command}
+use Rattle.sixel_grammar.specs.Plain.{plain_of}
+use Rattle.sixel_grammar.specs.Standing.{Takes, completions}
 use Rattle.sixel_run.proofs.running.show_box.find_in_byte.Goals as goal
 
-pub returns-in_err-completed-clause-refused : goal.returns-in_err-completed-clause-refused
-returns-in_err-completed-clause-refused c =
-    let failed = err_from_is_err_and c.from_residual.result c.from_residual.ensures.1 in
-    rw (failed.1, failed.2)
-    (λ events bytes s rest.
-    let t = c.in_err-completed.ensures.refused events bytes s in
-    fault_stays (bytes ++ c.args.byte ∷ []) rest _ t.0 (omega (arith, t.1, length-append bytes (c.args.byte ∷ []))))
+pub returns-in-Some-Nothing-clause-found : goal.returns-in-Some-Nothing-clause-found
+returns-in-Some-Nothing-clause-found c = λ events bytes s.
+    let takes = λ (p : Plain). Takes c.args.reader.now c.feed_command.new.self c.args.byte (completions (plain_of p)) in
+    let accepted : takes Nothing = subst takes c.in-Some-Nothing.field-0-is c.in-Some-Nothing.ensures.accepted in
+    (completions (plain_of Nothing), accepted events bytes s, c.box_of.ensures)
 
-pub returns-clause-found : goal.returns-clause-found
-returns-clause-found c = λ events bytes s. (
-  completions c.in_ok-completed.completed,
-  c.in_ok-completed.ensures.accepted events bytes s,
-  c.box_in.ensures,
-)
+pub returns-in-Some-Command-clause-found : goal.returns-in-Some-Command-clause-found
+returns-in-Some-Command-clause-found c = λ events bytes s.
+    let plain = Command c.in-Some-Command.place c.in-Some-Command.command in
+    let takes = λ (p : Plain). Takes c.args.reader.now c.feed_command.new.self c.args.byte (completions (plain_of p)) in
+    let accepted : takes plain = subst takes c.in-Some-Command.field-0-is c.in-Some-Command.ensures.accepted in
+    (completions (plain_of plain), accepted events bytes s, c.box_of-in-Some-Command.ensures)
