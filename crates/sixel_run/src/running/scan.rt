@@ -74,16 +74,16 @@ pub fn scan_with<P: PutLine, S: Source, K: Sink>(
         (change (S.state input.old) (S.state input.new)) (change (K.state output.old) (K.state output.new)) }
 {
     let mut scan = Scan::new(alloc, profile, eight_bit);
-    let mut answer = Err(RunFault::NoString);
+    let mut answer: Result<Status, RunFault> = Err(RunFault::NoString);
     loop {
-        let scanned = match scan.next_string(input)? {
-            Some(scanned) => scanned,
+        let found = scan.next_string(input)?;
+        match found {
+            Some(scanned) => match put.put_line(string_line(&scanned).as_slice(), output) {
+                Ok(()) => answer = with_string(answer, &scanned),
+                Err(_) => return Err(RunFault::Write),
+            },
             None => return answer,
-        };
-        if put.put_line(string_line(&scanned).as_slice(), output).is_err() {
-            return Err(RunFault::Write);
         }
-        answer = with_string(answer, &scanned);
     }
 }
 
