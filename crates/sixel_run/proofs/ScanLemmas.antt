@@ -2,7 +2,7 @@
 use Rattle.std.proofs.Common.{◌≡◌, ◌∙◌, ◌≤◌, ℕ, Bool, true, false, List, [], ◌∷◌, ◌++◌, drop, length, take}
 use Rattle.std.proofs.Common.{ap, append_assoc, arith, inl, inr, refl, subst, sym, Option, Some, None}
 use Rattle.std.specs.List.{concat, list_all}
-use Rattle.std.specs.Prelude.{Result, Ok, Err, IfSome, flat_map, if◌then◌else◌}
+use Rattle.std.specs.Prelude.{◌&&◌, Result, Ok, Err, IfSome, flat_map, if◌then◌else◌}
 use Rattle.std.specs.Io.KnownBytes.{Appends, Consumes}
 use Rattle.std.proofs.KnownBytes.{Consumes-nil, Consumes-trans}
 use Rattle.std.proofs.lemmas.List.{length-append, take-append-drop}
@@ -27,7 +27,7 @@ use Rattle.sixel_run.specs.declared.task.Status.TheVariants.{Done, Unfit}
 use Rattle.sixel_run.specs.Conversions.{of_scan}
 use Rattle.sixel_run.specs.Outputs.{ScanGives, ScansBefore, ScansUnread, WroteWith, failures_by}
 use Rattle.sixel_run.specs.Scanned.{AreBeforeAllocation, AreOfFirst, AreOfGiven, AreOfStream, Finds, MayGrowInString}
-use Rattle.sixel_run.specs.Scanned.{answer_of_strings, is_portable, scan_text, stream_of, string_lines}
+use Rattle.sixel_run.specs.Scanned.{answer_of_strings, answer_with, is_portable, scan_text, stream_of, string_lines}
 use Rattle.sixel_run.specs.Scanning.{PutsText, Scans}
 use Rattle.sixel_run.specs.Texts.{Text, string_line}
 use Rattle.sixel_run.proofs.PutLemmas.{begins-then}
@@ -81,6 +81,39 @@ after_call written eight registers s answer i o new P k after =
     let n = after eight registers k.strings k.taken k.has_told in
     (k.taken ++ n.0, Consumes-trans i.old.remaining i.new.remaining new k.taken n.0 k.consumed n.1, n.2)
 
+-- the answer on some strings and one more
+either_with : (all portable : Bool) (s : Scanned) → is_portable s ≡ portable
+    → answer_with (if all then Ok Done else Ok Unfit) s ≡ (if all && portable then Ok Done else Ok Unfit)
+either_with true portable s is = ap (λ (b : Bool). if b then Ok Done else Ok Unfit) is
+either_with false portable s is = refl
+
+all_more : (xs : List Scanned) (s : Scanned)
+    → list_all is_portable (xs ++ s ∷ []) ≡ (list_all is_portable xs && is_portable s)
+all_more [] s = and_true (is_portable s)
+  where
+    and_true : (b : Bool) → (b && true) ≡ (true && b)
+    and_true true = refl
+    and_true false = refl
+all_more (x ∷ xs) s =
+    ap (λ (b : Bool). is_portable x && b) (all_more xs s)
+    ∙ sym (and_joins (is_portable x) (list_all is_portable xs) (is_portable s))
+  where
+    and_joins : (a b c : Bool) → ((a && b) && c) ≡ (a && (b && c))
+    and_joins true b c = refl
+    and_joins false b c = refl
+
+answer_more : (reports : List Scanned) (s : Scanned)
+    → answer_with (answer_of_strings reports) s ≡ answer_of_strings (reports ++ s ∷ [])
+answer_more [] s = only (is_portable s)
+  where
+    only : (b : Bool) → (let r : Result Status RunFault = if b then Ok Done else Ok Unfit in r)
+        ≡ (if b && true then Ok Done else Ok Unfit)
+    only true = refl
+    only false = refl
+answer_more (r ∷ more) s =
+    either_with (list_all is_portable (r ∷ more)) (is_portable s) s refl
+    ∙ ap (λ (b : Bool). if b then Ok Done else Ok Unfit) (sym (all_more (r ∷ more) s))
+
 -- one more string was told, and its line was written
 pub scanning_more : (written : Text → Text) (eight : Bool) (registers : ℕ) (s t : Scan)
     (answer now : Result Status RunFault) (scanned : Scanned) (i : Change SourceState) (o : Change SinkState)
@@ -90,10 +123,9 @@ pub scanning_more : (written : Text → Text) (eight : Bool) (registers : ℕ) (
     (λ e r told bytes. TellsNext e r t new.remaining told bytes (scanned ∷ []))
     → Appends o.new.taken has.taken (written (string_line scanned))
     → new.failures ≡ i.new.failures → has.failures ≡ o.new.failures
-    → ((reports : List Scanned) → answer ≡ answer_of_strings reports
-    → now ≡ answer_of_strings (reports ++ scanned ∷ []))
+    → now ≡ answer_with answer scanned
     → Scanning written eight registers t now (change i.old new) (change o.old has)
-scanning_more written eight registers s t answer now scanned i o new has k next put reads writes with =
+scanning_more written eight registers s t answer now scanned i o new has k next put reads writes now_is =
     let n = after_call written eight registers s answer i o new.remaining
     (λ e r told bytes. TellsNext e r t new.remaining told bytes (scanned ∷ [])) k next in
     record {
@@ -103,7 +135,8 @@ scanning_more written eight registers s t answer now scanned i o new has k next 
       consumed = n.1;
       has_told = n.2.has_told;
       reported = reports_join registers k.strings n.2.found k.reports (scanned ∷ []) k.reported n.2.reported;
-      answer_is = with k.reports k.answer_is;
+      answer_is = now_is ∙ ap (λ (a : Result Status RunFault). answer_with a scanned) k.answer_is
+          ∙ answer_more k.reports scanned;
       put = Appends-then o.old.taken o.new.taken has.taken (flat_map written (string_lines k.reports))
           (written (string_line scanned)) (flat_map written (string_lines (k.reports ++ scanned ∷ []))) k.put put
           (lines_more written k.reports scanned);

@@ -42,6 +42,11 @@ abbrev pub answer_of_strings : List Scanned → Result Status RunFault
 answer_of_strings [] = Err NoString
 answer_of_strings (s ∷ more) = if list_all is_portable (s ∷ more) then Ok Done else Ok Unfit
 
+-- the answer with one more string
+abbrev pub answer_with : Result Status RunFault → Scanned → Result Status RunFault
+answer_with (Ok Unfit) s = Ok Unfit
+answer_with answer s = if is_portable s then Ok Done else Ok Unfit
+
 -- the reports are of the strings of the stream, as a check with this many registers answers for the bytes of each
 pub record AreOfStream (eight : Bool) (registers : ℕ) (bytes : List ℕ) (reports : List Scanned) : Type 0 where
   pub strings : List StringAt

@@ -1,12 +1,11 @@
 //! Scans a stream, and writes a line for each of its strings as soon as the string has ended.
 
-ghost use Rattle.std.specs.Prelude.{◌≡◌, ◌++◌, ◌∷◌, [], Err, IfSome, List};
+ghost use Rattle.std.specs.Prelude.{◌≡◌, Err, IfSome};
 ghost use Rattle.sixel_io.specs.Devices.{Writes, change};
 ghost use Rattle.sixel_model.specs.Profiles.{count_of};
-ghost use Rattle.sixel_scan.specs.declared.answer.Scanned.{Scanned as AScanned};
 ghost use Rattle.sixel_run.specs.declared.fault.RunFault.TheVariants.{Read};
 ghost use Rattle.sixel_run.specs.Outputs.{CountsWrites, ScanGives, ScansBefore, ScansUnread, WroteWith, failures_by};
-ghost use Rattle.sixel_run.specs.Scanned.{MayGrowInString, answer_of_strings};
+ghost use Rattle.sixel_run.specs.Scanned.{MayGrowInString, answer_with, is_portable};
 ghost use Rattle.sixel_run.specs.Scanning.{Scans};
 ghost use Rattle.sixel_run.specs.Texts.{Text};
 
@@ -89,12 +88,22 @@ pub fn scan_with<P: PutLine, S: Source, K: Sink>(
 
 /// The answer on some strings and one more.
 fn with_string(answer: Result<Status, RunFault>, scanned: &Scanned) -> Result<Status, RunFault>
-    ensures { (reports : List AScanned) → answer ≡ answer_of_strings reports →
-        result ≡ answer_of_strings (reports ++ scanned.now ∷ []) }
+    ensures { result ≡ answer_with answer scanned.now }
 {
-    match (answer, scanned.answer) {
-        (Ok(Status::Unfit), _) => Ok(Status::Unfit),
-        (_, Answer::Portable { .. }) => Ok(Status::Done),
-        _ => Ok(Status::Unfit),
+    if !is_portable(scanned) {
+        return Ok(Status::Unfit);
+    }
+    match answer {
+        Ok(Status::Unfit) => Ok(Status::Unfit),
+        Ok(Status::Done) | Ok(Status::Broken(_)) | Err(_) => Ok(Status::Done),
+    }
+}
+
+fn is_portable(scanned: &Scanned) -> bool
+    ensures { result ≡ is_portable scanned.now }
+{
+    match scanned.answer {
+        Answer::Portable { .. } => true,
+        Answer::Broken(_) | Answer::Refused(_) => false,
     }
 }
