@@ -2,7 +2,7 @@
 use Rattle.std.proofs.Common.{◌≡◌, ◌∙◌, ◌≤◌, ℕ, Bool, true, false, List, [], ◌∷◌, ◌++◌, drop, length, take}
 use Rattle.std.proofs.Common.{ap, append_assoc, arith, inl, inr, refl, subst, sym, Option, Some, None}
 use Rattle.std.specs.List.{concat, list_all}
-use Rattle.std.specs.Prelude.{◌&&◌, Result, Ok, Err, IfSome, flat_map, if◌then◌else◌}
+use Rattle.std.specs.Prelude.{◌&&◌, Result, Ok, Err, IfSome, OnOk, flat_map, if◌then◌else◌}
 use Rattle.std.specs.Io.KnownBytes.{Appends, Consumes}
 use Rattle.std.proofs.KnownBytes.{Consumes-nil, Consumes-trans}
 use Rattle.std.proofs.lemmas.List.{length-append, take-append-drop}
@@ -259,6 +259,10 @@ none_failed Write (Err NoString) n unfailed = refl
 none_failed device (Err other) n unfailed = absurd unfailed
 none_failed device answer n unfailed = refl
 
+always : {A E : Type 0} (answer : Result A E) (P : Type 0) → P → OnOk answer P
+always (Ok x) P p = p
+always (Err e) P p = tt
+
 -- the stream is over
 pub scans_ended : (written : Text → Text) (eight : Bool) (registers : ℕ) (s t : Scan)
     (answer : Result Status RunFault) (i : Change SourceState) (o : Change SinkState) (new : SourceState)
@@ -281,7 +285,9 @@ scans_ended written eight registers s t answer i o new k next all reads =
           (all_strings eight registers i.old.remaining new.remaining k.strings a.0 n.0 k.reports a.1 n.1 within a.2.0
           a.2.1 k.reported);
       put = all_put answer o.old.taken o.new.taken (flat_map written (string_lines k.reports)) unfailed k.put;
-      taken = (n.0, n.1);
+      taken = a.0;
+      consumed = a.1;
+      over = always answer (IsOver new.remaining a.0) a.2.1;
       reads = reads ∙ k.reads ∙ none_failed Read answer i.old.failures unfailed;
       writes = k.writes ∙ none_failed Write answer o.old.failures unfailed;
     }
@@ -308,7 +314,9 @@ scans_stopped written eight registers s t answer scanned i o new has k next put 
       put = puts-joined failed o.old.taken o.new.taken has.taken (flat_map written (string_lines k.reports))
           (written (string_line scanned)) (flat_map written (string_lines (k.reports ++ scanned ∷ [])))
           (lines_more written k.reports scanned) k.put put;
-      taken = (n.0, n.1);
+      taken = n.0;
+      consumed = n.1;
+      over = tt;
       reads = reads ∙ k.reads;
       writes = writes ∙ ap one_more k.writes;
     }
@@ -329,7 +337,9 @@ scans_unread written eight registers s t answer i o new k next reads =
       finds = given_strings eight registers i.old.remaining new.remaining k.strings n.0 k.reports n.1 within n.2.0
           k.reported;
       put = k.put;
-      taken = (n.0, n.1);
+      taken = n.0;
+      consumed = n.1;
+      over = tt;
       reads = reads ∙ ap one_more k.reads;
       writes = k.writes;
     }
@@ -346,7 +356,9 @@ scans_grown written eight registers s answer i o new k next reads =
       reports = k.reports;
       finds = grown_strings eight registers i.old.remaining new.remaining k.strings n.0 k.reports n.1 n.2 k.reported;
       put = k.put;
-      taken = (n.0, n.1);
+      taken = n.0;
+      consumed = n.1;
+      over = tt;
       reads = reads ∙ k.reads;
       writes = k.writes;
     }
@@ -387,6 +399,18 @@ scan_wrote eight registers bytes left had has (Err Write) reports finds put = (
 )
 scan_wrote eight registers bytes left had has answer reports finds put =
     (scan_text reports, (reports, finds.0, refl, finds.1), put)
+
+-- the lines of a scan, whatever it wrote
+pub file_wrote : (eight : Bool) (registers : ℕ) (bytes : List ℕ) (left : Option (List ℕ))
+    (answer : Result Status RunFault) (reports : List Scanned) → Finds eight registers bytes left answer reports
+    → WroteWith (ScanGives eight registers bytes) (ScansUnread eight registers bytes left)
+    (ScansBefore eight registers bytes) answer (Some []) (Some (scan_text reports))
+file_wrote eight registers bytes left (Err OutOfMemory) reports finds = (reports, finds, refl)
+file_wrote eight registers bytes left (Err Read) reports finds = (reports, finds, refl)
+file_wrote eight registers bytes left (Err Write) reports finds =
+    (scan_text reports, refl, scan-begins eight registers bytes reports finds)
+file_wrote eight registers bytes left answer reports finds =
+    (scan_text reports, (reports, finds.0, refl, finds.1), refl)
 
 wrote_if : (eight : Bool) (registers : ℕ) (old left had has : Option (List ℕ))
     (answer : Result Status RunFault) (reports : List Scanned)

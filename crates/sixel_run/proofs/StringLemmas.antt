@@ -1,8 +1,8 @@
 -- The strings of a stream and their reports: a stream has one list of both.
 use Rattle.std.proofs.Common.{◌≡◌, ◌∙◌, ◌≤◌, ℕ, Bool, true, false, List, [], ◌∷◌, ◌++◌, length, take, Option, Some, None}
 use Rattle.std.proofs.Common.{ap, ap₂, append_assoc, arith, inl, inr, map, refl, subst, sym}
-use Rattle.std.specs.List.{concat}
-use Rattle.std.specs.Prelude.{◌+◌, Result, Ok, Err, flat_map}
+use Rattle.std.specs.List.{concat, list_all}
+use Rattle.std.specs.Prelude.{◌+◌, Result, Ok, Err, flat_map, if◌then◌else◌}
 use Rattle.std.proofs.lemmas.List.{append-nil, length-take, map-append}
 use Rattle.std.proofs.lemmas.List.Folds.{concat-append}
 use Rattle.sixel_grammar.specs.declared.fault.Fault.{Fault}
@@ -23,13 +23,15 @@ use Rattle.sixel_scan.specs.Scans.{longest_stream}
 use Rattle.sixel_scan.specs.Standing.{AreReported}
 use Rattle.sixel_scan.specs.Strings.{AreStrings, StringAt}
 use Rattle.sixel_scan.proofs.GivenLemmas.{ended_of}
-use Rattle.sixel_scan.proofs.StringLemmas.{one_list, some_strings}
+use Rattle.sixel_scan.proofs.StringLemmas.{none_in_nothing, one_list, some_strings}
 use Rattle.sixel_scan.proofs.TellLemmas.{stream_begins}
 use Rattle.sixel_run.specs.declared.fault.RunFault.{RunFault}
+use Rattle.sixel_run.specs.declared.fault.RunFault.TheVariants as run
 use Rattle.sixel_run.specs.declared.task.Status.{Status}
+use Rattle.sixel_run.specs.declared.task.Status.TheVariants as status
 use Rattle.sixel_run.specs.Outputs.{ScanGives}
 use Rattle.sixel_run.specs.Scanned.{AreBeforeAllocation, AreOfFirst, AreOfGiven, AreOfStream, answer_of_strings}
-use Rattle.sixel_run.specs.Scanned.{scan_text, stream_of, string_lines}
+use Rattle.sixel_run.specs.Scanned.{is_portable, scan_text, stream_of, string_lines}
 use Rattle.sixel_run.specs.Texts.{Text, BeginsWith, string_line}
 use Rattle.sixel_run.proofs.CheckLemmas.{same_verdict}
 
@@ -197,6 +199,38 @@ before_first eight registers bytes reports b =
       are = subst (AreStrings eight (b.strings ++ all.0)) (sym grows.2) all.1;
       reported = b.reported;
     }
+
+-- no bytes were given
+pub none_given : (eight : Bool) (registers : ℕ) (bytes : List ℕ) → AreOfGiven eight registers bytes (Some bytes) []
+none_given eight registers bytes = record {
+  given = [];
+  consumed = refl;
+  within = omega arith;
+  strings = [];
+  are = record { ended = λ more. some_strings eight more; all = inl (none_in_nothing eight) };
+  reported = tt;
+}
+
+-- a scan of no bytes has no string
+pub nothing_scanned : (eight : Bool) (registers : ℕ) (text : Text) (status : Status)
+    → ScanGives eight registers [] text (Ok status) → ⊥
+nothing_scanned eight registers text status g =
+    let strings = one_list eight g.1.strings [] [] g.1.are (none_in_nothing eight) in
+    let none : g.0 ≡ [] =
+    sym (reports_once registers [] [] g.0 tt
+    (subst (λ (s : List StringAt). AreReported registers s g.0) strings g.1.reported)) in
+    let no : Ok status ≡ answer_of_strings [] = g.3 ∙ ap answer_of_strings none in cc
+
+either_status : (all : Bool) (f : Fault)
+    → (let r : Result Status RunFault = Err (run.Grammar f) in r) ≡ (if all then Ok status.Done else Ok status.Unfit) → ⊥
+either_status true f is = cc
+either_status false f is = cc
+
+-- the answer of a scan is no fault of the grammar
+pub not_a_fault : (reports : List Scanned) (f : Fault)
+    → (let r : Result Status RunFault = Err (run.Grammar f) in r) ≡ answer_of_strings reports → ⊥
+not_a_fault [] f is = cc
+not_a_fault (s ∷ more) f is = either_status (list_all is_portable (s ∷ more)) f is
 
 pub short_take : (n : ℕ) (xs : List ℕ) → length (take n xs) ≤ n
 short_take n xs = omega (arith, length-take n xs)

@@ -1,7 +1,8 @@
 -- How a scan that writes something for the line of each string ends.
-use Rattle.std.specs.Prelude.{◌≡◌, ℕ, Bool, List, take, Option, IfSome, Result, Err, flat_map}
+use Rattle.std.specs.Prelude.{◌≡◌, ℕ, Bool, List, take, Option, IfSome, OnOk, Result, Err, flat_map}
 use Rattle.std.specs.Io.KnownBytes.{Appends, Consumes}
 use Rattle.sixel_io.specs.Devices.{Change, SinkState, SourceState}
+use Rattle.sixel_scan.specs.Scans.{IsOver}
 use Rattle.sixel_scan.specs.declared.answer.Scanned.{Scanned}
 use Rattle.sixel_run.specs.declared.fault.RunFault.{RunFault}
 use Rattle.sixel_run.specs.declared.fault.RunFault.TheVariants.{Read, Write}
@@ -21,6 +22,9 @@ pub record Scans (written : Text → Text) (eight : Bool) (registers : ℕ) (ans
   pub reports : List Scanned
   pub finds : IfSome input.old.remaining (λ bytes. Finds eight registers bytes input.new.remaining answer reports)
   pub put : PutsText answer output.old.taken output.new.taken (flat_map written (string_lines reports))
-  pub taken : (bytes : List ℕ) × Consumes input.old.remaining input.new.remaining bytes
+  -- what was read; after an Ok the stream is over
+  pub taken : List ℕ
+  pub consumed : Consumes input.old.remaining input.new.remaining taken
+  pub over : OnOk answer (IsOver input.new.remaining taken)
   pub reads : input.new.failures ≡ failures_by Read answer input.old.failures
   pub writes : CountsWrites answer output.old.failures output.new.failures
