@@ -6,6 +6,7 @@ pub mod FilesLemmas
 pub mod FindingLemmas
 pub mod NamedLemmas
 pub mod EntryLemmas
+pub mod StringLineLemmas
 pub mod RequestLemmas
 pub mod SeveralLemmas
 pub mod StatusLemmas

@@ -17,15 +17,13 @@ use Rattle.std.proofs.lemmas.Grind.{flat_map-append}
 use Rattle.std.proofs.lemmas.List.Elements.{All-contains}
 use Rattle.std.proofs.lemmas.List.Splits.{slice_split-cons_no}
 use Rattle.std.proofs.lemmas.Slice.Eq.{ends_is}
-use Rattle.sixel_grammar.specs.declared.fault.Fault.{Fault}
 use Rattle.sixel_judge.specs.declared.rule.Rule.{Rule as ARule}
 use Rattle.sixel_judge.specs.declared.rule.Rule.TheVariants as rule
 use Rattle.sixel_judge.specs.declared.verdict.Finding.{Finding}
 use Rattle.sixel_ppm.specs.declared.ppm.PpmReason.TheVariants as ppm
 use Rattle.sixel_run.specs.declared.fault.RunFault.{RunFault}
 use Rattle.sixel_run.specs.declared.fault.RunFault.TheVariants as fault
-use Rattle.sixel_run.specs.Texts.{Text, fault_parts, finding_line, line, pixel_parts, reason_name, refusal_line}
-use Rattle.sixel_run.specs.Texts.{rule_name, spaced}
+use Rattle.sixel_run.specs.Texts.{Text, fault_parts, finding_line, line, pixel_parts, rule_name, spaced}
 use Rattle.sixel_words.specs.declared.explanations.Topic.{Topic}
 use Rattle.sixel_words.specs.declared.explanations.Topic.TheVariants as topic
 use Rattle.sixel_words.specs.Explanations.{ArePasted, ends_in, last_name, line_of, listed_names, name_called, name_in}
@@ -493,15 +491,3 @@ finding_pasted before f said are =
     (are ∙ ap (λ (t : Text). 32 ∷ t) (line_after before (codes "broken") parts)))
     ∙ finding_named (low (32 ∷ (before ++ codes "broken"))) f.rule f.place (pixel_parts f.rule f.pixel)
     (two_numbers f.rule f.pixel)
-
--- the line of a refused string, whatever is before it
-pub refusal_pasted : (before : Text) (f : Fault) (said : List Text) → ArePasted said (before ++ refusal_line f)
-    → name_in (line_of said) ≡ Some (reason_name f.reason)
-refusal_pasted before f said are =
-    let parts = reason_name f.reason ∷ decimal f.place ∷ [] in
-    let text = low (32 ∷ (before ++ codes "refused")) in
-    ap name_in
-    (pasted said (before ++ codes "refused") parts
-    (are ∙ ap (λ (t : Text). 32 ∷ t) (line_after before (codes "refused") parts))
-    ∙ ap (λ (d : Text). text ++ spaced (low (reason_name f.reason) ∷ d ∷ [])) (low_number f.place))
-    ∙ name_before_number text (topic.Grammar f.reason) [] f.place (number_nameless f.place, tt)
