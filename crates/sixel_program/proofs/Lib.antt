@@ -4,6 +4,7 @@ pub mod PutLemmas
 pub mod EndLemmas
 pub mod FilesLemmas
 pub mod FindingLemmas
+pub mod ScanLemmas
 pub mod NamedLemmas
 pub mod EntryLemmas
 pub mod StringLineLemmas

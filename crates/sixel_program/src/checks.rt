@@ -1,6 +1,6 @@
 //! Checks, surveys and scans of files, and quiet checks of standard input.
 
-ghost use Rattle.std.specs.Prelude.{◌≡◌, ◌&&◌, IfErr, None, OnOk, false, map, not, option_copied, true};
+ghost use Rattle.std.specs.Prelude.{◌≡◌, ◌≢◌, ◌&&◌, Err, IfErr, None, OnOk, false, map, not, option_copied, true};
 ghost use Rattle.std.specs.Io.KnownBytes.{Keeps};
 ghost use Rattle.std.specs.List.{list_any};
 ghost use Rattle.std.specs.String.{string_bytes};
@@ -138,10 +138,18 @@ fn scan_named<S: Source, K: Sink, E: Sink>(
 {
     let format = input.format();
     let answer = scan_with(alloc, profile, eight_bit, &AfterName { name }, input, output);
-    match answer {
-        Err(RunFault::Write) => Err(DeviceFault),
-        _ => Ok(say_answer(Some(name), format, answer, errors)),
+    if is_unwritten(&answer) {
+        return Err(DeviceFault);
     }
+    Ok(say_answer(Some(name), format, answer, errors))
+}
+
+/// Whether the output failed.
+fn is_unwritten(answer: &Result<Status, RunFault>) -> bool
+    ensures yes { result ≡ true → answer.now ≡ Err RunFault.Write }
+    ensures no { result ≡ false → answer.now ≢ Err RunFault.Write }
+{
+    matches!(answer, Err(RunFault::Write))
 }
 
 /// Checks, surveys or scans an open file, or standard input by its name. Returns the answer, or an `Err` if `output`
