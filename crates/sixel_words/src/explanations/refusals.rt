@@ -285,10 +285,10 @@ write raster attributes with the true size.
 
 pub const NO_STRING: &str = "NoString: input to scan that has no sixel string
 
-Refused: scan needs a sixel string at least: ESC P, digits and semicolons or
+Refused: scan needs at least one sixel string: ESC P, digits and semicolons or
 none, and q. Nothing is written.
 
-Bytes: x
+String: x
 Output of scan: sixel: NoString
 
 Fix: look at whether the program writes pictures at all when its output isn't a
