@@ -26,12 +26,12 @@ pub broken_gives : (t : Task) (told left : Option (List ℕ)) (a : Result Status
     → IfSome told (λ bytes. Wrote t bytes left a had has) → exit_for_answer a ≡ exit.Broken
     → IsBrokenOver t told
 broken_gives t None left a had has wrote is = tt
-broken_gives t (Some bytes) left (Ok status.Done) had has wrote is = let no : exit.Done ≡ exit.Broken = is in cc
+broken_gives t (Some bytes) left (Ok status.Done) had has wrote is = λ all. let no : exit.Done ≡ exit.Broken = is in cc
 broken_gives t (Some bytes) left (Ok (status.Broken finding)) had has wrote is = λ all.
     (wrote.0, status.Broken finding, (λ done. cc), wrote.1)
 broken_gives t (Some bytes) left (Ok status.Unfit) had has wrote is = λ all.
     (wrote.0, status.Unfit, (λ done. cc), wrote.1)
-broken_gives t (Some bytes) left (Err fault) had has wrote is = let no : exit.Refused ≡ exit.Broken = is in cc
+broken_gives t (Some bytes) left (Err fault) had has wrote is = λ all. let no : exit.Refused ≡ exit.Broken = is in cc
 
 -- what holds of a source's bytes holds of the bytes that it was made from
 pub kept : (P : List ℕ → Type 0) (told has : Option (List ℕ)) → Keeps told has → IfSome has P → IfSome told P

@@ -181,17 +181,18 @@ unwritten_ok (Err e) answer other = tt
 -- a check and a survey read to the end
 at_end : (t : Task) (answer : Result Status RunFault) (left : Option (List ℕ)) (bytes : List ℕ)
     → scans t ≡ false → OnOk answer (IsAtEnd left) → OnOk answer (IsOverFor t left bytes)
-at_end (task.Scan profile eight) answer left bytes found ended = let no : true ≡ false = found in cc
-at_end t answer left bytes found ended = ended
+at_end (task.Scan profile eight) answer left bytes unscanned ended =
+    absurd (let no : true ≡ false = unscanned in cc)
+at_end t answer left bytes unscanned ended = ended
 
 pub found_over : (t : Task) → scans t ≡ false → (answer : Result Status RunFault)
     (told has left : Option (List ℕ)) → Keeps told has → ReadsToEnd answer has left → ReadsOver t answer told left
-found_over t found answer told has left same reads =
+found_over t unscanned answer told has left same reads =
     let whole = read_kept answer told has left same reads in
     record {
       bytes = whole.read.0;
       read = whole.read.1;
-      ended = at_end t answer left whole.read.0 found whole.ended;
+      ended = at_end t answer left whole.read.0 unscanned whole.ended;
     }
 
 -- ---- strings

@@ -67,10 +67,10 @@ module _ (profile : Profile) (eight : Bool) (name : Text) (format : Option Forma
         (Some (concat (string_lines k.reports))) same
         (lines_wrote profile eight mid.remaining i.new.remaining answer k.reports k.finds);
     are_lines = strings_are_lines k.reports;
-    refused = λ is. let no : true ≡ false = is in cc;
+    refused = λ is. absurd (let no : true ≡ false = is in cc);
     memory = λ is. memory_kept (Scan profile eight) i.old.remaining mid.remaining same
         (scans_grew (named name) eight (count_of profile) answer (change mid i.new) o k is);
-    written = λ is. let no : true ≡ false = is in cc;
+    written = λ is. absurd (let no : true ≡ false = is in cc);
     reads = over_kept (Scan profile eight) answer i.old.remaining mid.remaining i.new.remaining same
         (record { bytes = k.taken; read = k.consumed; ended = k.over });
     is_format = is_format;

@@ -63,7 +63,7 @@ TakesAll t bytes = ⊤
 -- for these bytes, if they are known, the task finds a broken rule, or a string that isn't portable
 abbrev pub IsBrokenOver : Task → Option (List ℕ) → Type 0
 IsBrokenOver t told = IfSome told (λ bytes. TakesAll t bytes
-    → (text : Text) × (status : Status) × (status ≢ status.Done) × Gives t bytes text (Ok status))
+    → (text : Text) × (found : Status) × (found ≢ status.Done) × Gives t bytes text (Ok found))
 
 -- for these bytes, if they are known, the task has a status, so it doesn't refuse them
 abbrev pub IsJudgedOver : Task → Option (List ℕ) → Type 0

@@ -1,7 +1,8 @@
 -- A scan of one string says what a check says.
-use Rattle.std.proofs.Common.{◌≡◌, ◌∙◌, ◌≤◌, ◌+◌, ℕ, Bool, false, List, [], ◌∷◌, ◌++◌, ap, arith, codes, refl, subst, sym}
-use Rattle.std.proofs.Common.{length}
+use Rattle.std.proofs.Common.{◌≡◌, ◌∙◌, ◌≤◌, ◌+◌, ℕ, Bool, false, List, [], ◌∷◌, ◌++◌, ap, arith, codes, length, refl}
+use Rattle.std.proofs.Common.{subst, sym}
 use Rattle.std.specs.Prelude.{Result, Ok}
+use Rattle.std.proofs.lemmas.Fmt.{decimal_digit}
 use Rattle.std.proofs.lemmas.List.{append-nil, take_all}
 use Rattle.sixel_grammar.specs.Bytes.{introducer}
 use Rattle.sixel_grammar.specs.Document.{Document}
@@ -20,26 +21,32 @@ use Rattle.sixel_scan.specs.Answers.{IsReported}
 use Rattle.sixel_scan.specs.Scans.{longest_stream}
 use Rattle.sixel_scan.specs.Strings.{AreStrings, StringAt}
 use Rattle.sixel_scan.proofs.DocumentLemmas.{one_string}
+use Rattle.sixel_run.specs.declared.fault.RunFault.{RunFault}
 use Rattle.sixel_run.specs.declared.task.Status.{Status}
 use Rattle.sixel_run.specs.Laws.{ScanIsCheck, status_alone}
 use Rattle.sixel_run.specs.Outputs.{ScanGives, status_of}
 use Rattle.sixel_run.specs.Scanned.{answer_of_strings, stream_of}
-use Rattle.sixel_run.specs.Texts.{Text, finding_line, string_line, verdict_line}
+use Rattle.sixel_run.specs.Texts.{Text, answer_line, finding_line, string_line, verdict_line}
 use Rattle.sixel_run.proofs.StringLemmas.{tells_so, told_as}
 
 -- the report of one string with this verdict
-alone : Verdict → Scanned
-alone v = let checked : Result Verdict Fault = Ok v in record { place = 0; answer = told_as 0 checked }
+abbrev alone : Verdict → Scanned
+alone v = record { place = 0; answer = told_as 0 (Ok v) }
 
-one_line : (v : Verdict) → string_line (alone v) ≡ codes "0 " ++ verdict_line v
-one_line (Portable picture) = refl
-one_line (Broken f) =
-    ap (λ (n : ℕ). codes "0 " ++ finding_line (record f { place = n })) (from_zero f.place)
+told_line : (v : Verdict) → answer_line (told_as 0 (Ok v)) ≡ verdict_line v
+told_line (Portable picture) = refl
+told_line (Broken f) = ap (λ (n : ℕ). finding_line (record f { place = n })) (from_zero f.place)
   where
     from_zero : (n : ℕ) → 0 + n ≡ n
     from_zero n = omega arith
 
-one_status : (v : Verdict) → Ok (status_alone (status_of v)) ≡ answer_of_strings (alone v ∷ [])
+one_line : (v : Verdict) → string_line (alone v) ≡ codes "0 " ++ verdict_line v
+one_line v =
+    ap (λ (t : Text). t ++ 32 ∷ answer_line (told_as 0 (Ok v))) (decimal_digit 0 (omega arith))
+    ∙ ap (λ (t : Text). codes "0 " ++ t) (told_line v)
+
+one_status : (v : Verdict)
+    → (let r : Result Status RunFault = Ok (status_alone (status_of v)) in r) ≡ answer_of_strings (alone v ∷ [])
 one_status (Portable picture) = refl
 one_status (Broken f) = refl
 

@@ -1,6 +1,6 @@
 -- What a run of `scan` owes.
 use Rattle.std.proofs.Common.{◌≡◌, ◌∙◌, ◌≤◌, ℕ, Bool, true, false, List, [], ◌∷◌, ◌++◌, drop, length, take}
-use Rattle.std.proofs.Common.{ap, append_assoc, arith, inl, inr, refl, subst, sym, Option, Some, None}
+use Rattle.std.proofs.Common.{Option, Some, None, ap, append_assoc, arith, inl, inr, refl, subst, sym}
 use Rattle.std.specs.List.{concat, list_all}
 use Rattle.std.specs.Prelude.{◌&&◌, Result, Ok, Err, IfSome, OnOk, flat_map, if◌then◌else◌}
 use Rattle.std.specs.Io.KnownBytes.{Appends, Consumes}
@@ -81,10 +81,14 @@ after_call written eight registers s answer i o new P k after =
     let n = after eight registers k.strings k.taken k.has_told in
     (k.taken ++ n.0, Consumes-trans i.old.remaining i.new.remaining new k.taken n.0 k.consumed n.1, n.2)
 
+-- the answer on some strings, if all of them are portable, and if not
+abbrev chosen : Bool → Result Status RunFault
+chosen all = if all then Ok Done else Ok Unfit
+
 -- the answer on some strings and one more
 either_with : (all portable : Bool) (s : Scanned) → is_portable s ≡ portable
-    → answer_with (if all then Ok Done else Ok Unfit) s ≡ (if all && portable then Ok Done else Ok Unfit)
-either_with true portable s is = ap (λ (b : Bool). if b then Ok Done else Ok Unfit) is
+    → answer_with (chosen all) s ≡ chosen (all && portable)
+either_with true portable s is = ap chosen is
 either_with false portable s is = refl
 
 all_more : (xs : List Scanned) (s : Scanned)
@@ -106,13 +110,12 @@ answer_more : (reports : List Scanned) (s : Scanned)
     → answer_with (answer_of_strings reports) s ≡ answer_of_strings (reports ++ s ∷ [])
 answer_more [] s = only (is_portable s)
   where
-    only : (b : Bool) → (let r : Result Status RunFault = if b then Ok Done else Ok Unfit in r)
-        ≡ (if b && true then Ok Done else Ok Unfit)
+    only : (b : Bool) → chosen b ≡ chosen (b && true)
     only true = refl
     only false = refl
 answer_more (r ∷ more) s =
     either_with (list_all is_portable (r ∷ more)) (is_portable s) s refl
-    ∙ ap (λ (b : Bool). if b then Ok Done else Ok Unfit) (sym (all_more (r ∷ more) s))
+    ∙ ap chosen (sym (all_more (r ∷ more) s))
 
 -- one more string was told, and its line was written
 pub scanning_more : (written : Text → Text) (eight : Bool) (registers : ℕ) (s t : Scan)
@@ -227,7 +230,7 @@ IsUnfailed (Ok status) = Unit {0}
 IsUnfailed (Err NoString) = Unit {0}
 IsUnfailed _ = ⊥
 
-either_unfailed : (all : Bool) → IsUnfailed (if all then Ok Done else Ok Unfit)
+either_unfailed : (all : Bool) → IsUnfailed (chosen all)
 either_unfailed true = tt
 either_unfailed false = tt
 
@@ -250,14 +253,15 @@ all_put (Ok status) had has text unfailed put = put
 all_put (Err NoString) had has text unfailed put = put
 all_put (Err other) had has text unfailed put = absurd unfailed
 
-none_failed : (device : RunFault) (answer : Result Status RunFault) (n : ℕ) → IsUnfailed answer
-    → n ≡ failures_by device answer n
-none_failed Read (Ok status) n unfailed = refl
-none_failed Read (Err NoString) n unfailed = refl
-none_failed Write (Ok status) n unfailed = refl
-none_failed Write (Err NoString) n unfailed = refl
-none_failed device (Err other) n unfailed = absurd unfailed
-none_failed device answer n unfailed = refl
+none_read : (answer : Result Status RunFault) (n : ℕ) → IsUnfailed answer → n ≡ failures_by Read answer n
+none_read (Ok status) n unfailed = refl
+none_read (Err NoString) n unfailed = refl
+none_read (Err other) n unfailed = absurd unfailed
+
+none_written : (answer : Result Status RunFault) (n : ℕ) → IsUnfailed answer → n ≡ failures_by Write answer n
+none_written (Ok status) n unfailed = refl
+none_written (Err NoString) n unfailed = refl
+none_written (Err other) n unfailed = absurd unfailed
 
 always : {A E : Type 0} (answer : Result A E) (P : Type 0) → P → OnOk answer P
 always (Ok x) P p = p
@@ -288,8 +292,8 @@ scans_ended written eight registers s t answer i o new k next all reads =
       taken = a.0;
       consumed = a.1;
       over = always answer (IsOver new.remaining a.0) a.2.1;
-      reads = reads ∙ k.reads ∙ none_failed Read answer i.old.failures unfailed;
-      writes = k.writes ∙ none_failed Write answer o.old.failures unfailed;
+      reads = reads ∙ k.reads ∙ none_read answer i.old.failures unfailed;
+      writes = k.writes ∙ none_written answer o.old.failures unfailed;
     }
 
 -- the line of the string that was told couldn't be written

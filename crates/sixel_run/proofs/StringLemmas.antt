@@ -1,6 +1,6 @@
 -- The strings of a stream and their reports: a stream has one list of both.
-use Rattle.std.proofs.Common.{◌≡◌, ◌∙◌, ◌≤◌, ℕ, Bool, true, false, List, [], ◌∷◌, ◌++◌, length, take, Option, Some, None}
-use Rattle.std.proofs.Common.{ap, ap₂, append_assoc, arith, inl, inr, map, refl, subst, sym}
+use Rattle.std.proofs.Common.{◌≡◌, ◌∙◌, ◌≤◌, ℕ, Bool, true, false, List, [], ◌∷◌, ◌++◌, length, take, Option, Some}
+use Rattle.std.proofs.Common.{None, ap, ap₂, append_assoc, arith, inl, inr, map, refl, subst, sym}
 use Rattle.std.specs.List.{concat, list_all}
 use Rattle.std.specs.Prelude.{◌+◌, Result, Ok, Err, flat_map, if◌then◌else◌}
 use Rattle.std.proofs.lemmas.List.{append-nil, length-take, map-append}
@@ -65,7 +65,7 @@ answer_once registers bytes (Err f) (Ok v) p q = absurd (fault_no_document bytes
 answer_once registers bytes (Err f) (Err e) p q = ap (λ (x : Fault). Err x) (fault_once bytes f e p q)
 
 -- what a scan tells of it
-pub told_as : ℕ → Result Verdict Fault → Answer
+abbrev pub told_as : ℕ → Result Verdict Fault → Answer
 told_as place (Ok (Portable picture)) = SaysPortable picture.width picture.height
 told_as place (Ok (Broken finding)) = SaysBroken (record finding { place = place + finding.place })
 told_as place (Err fault) = Refused (record fault { place = place + fault.place })
@@ -222,7 +222,8 @@ nothing_scanned eight registers text status g =
     let no : Ok status ≡ answer_of_strings [] = g.3 ∙ ap answer_of_strings none in cc
 
 either_status : (all : Bool) (f : Fault)
-    → (let r : Result Status RunFault = Err (run.Grammar f) in r) ≡ (if all then Ok status.Done else Ok status.Unfit) → ⊥
+    → (let r : Result Status RunFault = Err (run.Grammar f) in r) ≡ (if all then Ok status.Done else Ok status.Unfit)
+    → ⊥
 either_status true f is = cc
 either_status false f is = cc
 
