@@ -149,8 +149,8 @@ pub record ReadsOver (t : Task) (answer : Result Status RunFault) (old new : Opt
   pub read : Consumes old new bytes
   pub ended : OnOk answer (IsOverFor t new bytes)
 
--- how the check, the survey or the scan of a file ended: why it couldn't be opened, if it couldn't; the file's bytes and
--- what it had left, if they are known; its format; the lines found; and the answer
+-- how the check, the survey or the scan of a file ended: why it couldn't be opened, if it couldn't; the file's bytes
+-- and what it had left, if they are known; its format; the lines found; and the answer
 pub record FileEnd : Type 0 where
   pub name : Text
   pub unopened : Option Unopened
@@ -247,8 +247,8 @@ SaysOfFile name (Some reason) format answer errors = IsPut (unopened_line name r
 
 -- what the task over the file with this name and this format did to the two sinks, given its lines and its answer.
 -- `Ok`: the text for the file was appended to the output, and the message about it was put to the errors. `Err`: the
--- output failed after a prefix of that text, and nothing was put to the errors: there was nothing to say of the file, or
--- the task wrote while it read. This can't happen if the task is quiet
+-- output failed after a prefix of that text, and nothing was put to the errors: there was nothing to say of the file,
+-- or the task wrote while it read. This can't happen if the task is quiet
 abbrev pub IsOutcome : {E : Type 0} → Bool → Text → Option Unopened → Option Format → List Text
     → Result Status RunFault → Result (Result Status RunFault) E → Change SinkState → Change SinkState → Type 0
 IsOutcome is_quiet name unopened format lines answer (Ok answered) output errors =

@@ -158,6 +158,7 @@ pub fn put_found<K: Sink>(name: &str, found: &Found, out: &mut K) -> Result<(), 
 }
 
 /// Lines after a file's name, each in one piece.
+#[derive(Clone, Copy)]
 pub struct AfterName<'a> {
     pub name: &'a str,
 }

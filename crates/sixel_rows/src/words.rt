@@ -58,7 +58,7 @@ pub fn task_of(words: &str) -> Result<Task, RowFault>
     }
 }
 
-/// Whether there is no option except `--wide`, and whether there is no option at all.
+/// Whether there is no option except `--wide` and `--eight-bit`, and whether there is none except `--eight-bit`.
 fn kind_of(options: Options<'_>) -> (bool, bool) {
     let is_wide = !options.showing
         && !options.fill

@@ -100,7 +100,8 @@ SurveyGives registers bytes text (Err fault) = ⊥
 
 -- ---- strings of a stream
 
--- a line for each string of the stream, as a check with this many registers answers for its bytes, and the answer on them
+-- a line for each string of the stream, as a check with this many registers answers for its bytes; and the answer on
+-- these strings
 abbrev pub ScanGives : Bool → ℕ → List ℕ → Text → Result Status RunFault → Type 0
 ScanGives eight registers bytes text answer =
     (reports : List Scanned) × AreOfStream eight registers bytes reports

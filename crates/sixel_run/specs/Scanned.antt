@@ -77,8 +77,8 @@ pub record AreOfFirst (eight : Bool) (registers : ℕ) (bytes : List ℕ) (repor
   pub are : AreStrings eight (strings ++ rest) (stream_of bytes)
   pub reported : AreReported registers strings reports
 
--- a scan of these bytes, of which `left` is unread, may have found these strings if it answers so. Read and
--- OutOfMemory: those told before the failure; Write: up to the one whose line couldn't be written; any other answer: all
+-- a scan of these bytes, of which `left` is unread, may have found these strings if it answers so. Read, OutOfMemory:
+-- those told before the failure; Write: up to the one whose line couldn't be written; any other answer: all
 abbrev pub Finds : Bool → ℕ → List ℕ → Option (List ℕ) → Result Status RunFault → List Scanned → Type 0
 Finds eight registers bytes left (Err OutOfMemory) reports = AreBeforeAllocation eight registers bytes reports
 Finds eight registers bytes left (Err Read) reports = AreOfGiven eight registers bytes left reports
@@ -88,4 +88,5 @@ Finds eight registers bytes left answer reports =
 
 -- a checker may allocate in one of the strings
 abbrev pub MayGrowInString : Bool → ℕ → List ℕ → Type 0
-MayGrowInString eight registers bytes = (strings : List StringAt) × GrowsWithin eight registers strings (stream_of bytes)
+MayGrowInString eight registers bytes =
+    (strings : List StringAt) × GrowsWithin eight registers strings (stream_of bytes)

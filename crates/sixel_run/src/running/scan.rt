@@ -28,6 +28,7 @@ pub trait PutLine {
 }
 
 /// Lines as they are.
+#[derive(Clone, Copy)]
 struct Plain;
 
 impl PutLine for Plain {
