@@ -78,10 +78,13 @@ pub fn scan_with<P: PutLine, S: Source, K: Sink>(
     loop {
         let found = scan.next_string(input)?;
         match found {
-            Some(scanned) => match put.put_line(string_line(&scanned).as_slice(), output) {
-                Ok(()) => answer = with_string(answer, &scanned),
-                Err(_) => return Err(RunFault::Write),
-            },
+            Some(scanned) => {
+                let line = string_line(&scanned);
+                match put.put_line(line.as_slice(), output) {
+                    Ok(()) => answer = with_string(answer, &scanned),
+                    Err(_) => return Err(RunFault::Write),
+                }
+            }
             None => return answer,
         }
     }
