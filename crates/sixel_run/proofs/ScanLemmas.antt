@@ -1,7 +1,7 @@
 -- What a run of `scan` owes.
 use Rattle.std.proofs.Common.{◌≡◌, ◌∙◌, ◌≤◌, ℕ, Bool, true, false, List, [], ◌∷◌, ◌++◌, drop, length, take}
 use Rattle.std.proofs.Common.{Option, Some, None, ap, append_assoc, arith, inl, inr, refl, subst, sym}
-use Rattle.std.specs.List.{concat, list_all}
+use Rattle.std.specs.List.{list_all}
 use Rattle.std.specs.Prelude.{◌&&◌, Result, Ok, Err, IfSome, OnOk, flat_map, if◌then◌else◌}
 use Rattle.std.specs.Io.KnownBytes.{Appends, Consumes}
 use Rattle.std.proofs.KnownBytes.{Consumes-nil, Consumes-trans}
