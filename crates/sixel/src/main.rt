@@ -1,4 +1,4 @@
-//! The program `sixel`: checks, lists, draws and writes sixel pictures.
+//! The program `sixel`: checks, lists, draws, mends and writes sixel pictures.
 #![tactic(auto)]
 
 use sixel_io::{FromRead, ToWrite};

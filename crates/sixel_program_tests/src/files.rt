@@ -115,20 +115,20 @@ struct Ended<'a> {
 
 /// Bytes as standard input; it counts the reads.
 #[derive(Drop)]
-struct Counted<'a> {
+struct Counted<'a, 'b> {
     rest: &'a [u8],
-    reads: &'a mut u64,
+    reads: &'b mut u64,
 }
 
-impl Read for Counted<'_> {
+impl Read for Counted<'_, '_> {
     fn read(&mut self, buf: &mut [u8]) -> io::Result<usize> {
         *self.reads = self.reads.saturating_add(1);
         self.rest.read(buf)
     }
 }
 
-fn request_of(alloc: Global, asked: Asked<'_>) -> Result<Request, AllocError>
-    ensures { IfOk result (λ request. request.task ≡ asked.entry.task) }
+fn request_of(alloc: Global, asked: &Asked<'_>) -> Result<Request, AllocError>
+    ensures { IfOk result (λ request. request.task ≡ asked.now.task) }
 {
     let mut files = Vec::new(alloc);
     for name in asked.names {
@@ -144,11 +144,11 @@ fn request_of(alloc: Global, asked: Asked<'_>) -> Result<Request, AllocError>
 /// Whether the request ends so over these streams.
 fn ends_over(
     alloc: Global,
-    asked: Asked<'_>,
+    asked: &Asked<'_>,
     streams: Streams,
     ended: Ended<'_>,
 ) -> Result<bool, AllocError>
-    requires { HasSides asked.task }
+    requires { HasSides asked.now.task }
 {
     let request = request_of(alloc, asked)?;
     let mut reads = 0;
@@ -216,8 +216,8 @@ fn check_ends(
         ..ended
     };
     Ok(
-        ends_over(alloc, check_of(false, names, input), STREAMS, ended)?
-            && ends_over(alloc, check_of(true, names, input), STREAMS, quiet)?,
+        ends_over(alloc, &check_of(false, names, input), STREAMS, ended)?
+            && ends_over(alloc, &check_of(true, names, input), STREAMS, quiet)?,
     )
 }
 
@@ -294,7 +294,7 @@ fn files_in_the_wide_profile(rt: HostRuntime) -> Result<(), Fail> {
         said: b"",
         is_read: false,
     };
-    assert!(rt; ends_over(rt.alloc(), asked, STREAMS, ended)?);
+    assert!(rt; ends_over(rt.alloc(), &asked, STREAMS, ended)?);
     Ok(())
 }
 

@@ -62,25 +62,25 @@ fn fills(written: &[u8], line: &[u8], room: usize) -> bool {
 /// Whether the task on these bytes ends so, writes this text, and on standard error as much of the line as has room.
 fn ends_in(
     alloc: Global,
-    task: Task,
+    task: &Task,
     bytes: &[u8],
     exit: Exit,
     text: &[u8],
     line: &[u8],
     room: usize,
 ) -> bool
-    requires { HasSides task }
+    requires { HasSides task.now }
 {
     let mut output = Vec::new(alloc);
     let mut said = Vec::new(alloc);
     let errors = Narrow::new(&mut said, room);
-    let ended = exit_over(alloc, task, bytes, &mut output, errors);
+    let ended = exit_over(alloc, *task, bytes, &mut output, errors);
     ended == exit && output.as_slice() == text && fills(said.as_slice(), line, room)
 }
 
 /// The same for any room of standard error.
-fn ends_so(alloc: Global, task: Task, bytes: &[u8], exit: Exit, text: &[u8], line: &[u8]) -> bool
-    requires { HasSides task }
+fn ends_so(alloc: Global, task: &Task, bytes: &[u8], exit: Exit, text: &[u8], line: &[u8]) -> bool
+    requires { HasSides task.now }
 {
     ends_in(alloc, task, bytes, exit, text, line, 0)
         && ends_in(alloc, task, bytes, exit, text, line, 1)
@@ -94,7 +94,7 @@ fn a_standard_error_that_fails(rt: HostRuntime) {
     assert!(rt;
         ends_so(
             rt.alloc(),
-            Task::List,
+            &Task::List,
             b"\x1bPq\x1b\\",
             Exit::Done,
             b"0 start 7bit 0\n3 end 7bit\n",
@@ -105,7 +105,7 @@ fn a_standard_error_that_fails(rt: HostRuntime) {
     assert!(rt;
         ends_so(
             rt.alloc(),
-            SHOW,
+            &SHOW,
             hue,
             Exit::Refused,
             b"",
@@ -116,7 +116,7 @@ fn a_standard_error_that_fails(rt: HostRuntime) {
     assert!(rt;
         ends_so(
             rt.alloc(),
-            SHOW_BOX,
+            &SHOW_BOX,
             b"\x1bPq\"1;1;1;1#0@\x1b\\",
             Exit::Done,
             dot,
@@ -127,7 +127,7 @@ fn a_standard_error_that_fails(rt: HostRuntime) {
     assert!(rt;
         ends_so(
             rt.alloc(),
-            SHOW_BOX,
+            &SHOW_BOX,
             unboxed,
             Exit::Refused,
             b"",
@@ -137,7 +137,7 @@ fn a_standard_error_that_fails(rt: HostRuntime) {
     assert!(rt;
         ends_so(
             rt.alloc(),
-            Task::List,
+            &Task::List,
             b"\x1bPq!65536~",
             Exit::Refused,
             b"0 start 7bit 0\n",
@@ -146,12 +146,12 @@ fn a_standard_error_that_fails(rt: HostRuntime) {
     );
     let uncovered = b"\x1bPq\"1;1;2;1#0;2;0;0;0#0@\x1b\\";
     let line = b"broken Uncovered 24 1 0\n";
-    assert!(rt; ends_so(rt.alloc(), RENDER, uncovered, Exit::Broken, b"", line));
-    assert!(rt; ends_so(rt.alloc(), CHECK, uncovered, Exit::Broken, line, b""));
+    assert!(rt; ends_so(rt.alloc(), &RENDER, uncovered, Exit::Broken, b"", line));
+    assert!(rt; ends_so(rt.alloc(), &CHECK, uncovered, Exit::Broken, line, b""));
     assert!(rt;
         ends_so(
             rt.alloc(),
-            RENDER,
+            &RENDER,
             b"\x1bPq\"1;1;1;1#0;1;360;50;100#0@\x1b\\",
             Exit::Refused,
             b"",
@@ -161,7 +161,7 @@ fn a_standard_error_that_fails(rt: HostRuntime) {
     assert!(rt;
         ends_so(
             rt.alloc(),
-            ENCODE,
+            &ENCODE,
             b"P6 1 1 256\n",
             Exit::Refused,
             b"",
@@ -171,7 +171,7 @@ fn a_standard_error_that_fails(rt: HostRuntime) {
     assert!(rt;
         ends_so(
             rt.alloc(),
-            CHECK,
+            &CHECK,
             b"\x1bPq\"1;1;1;1#0;2;0;0;0#0@\x1b\\",
             Exit::Done,
             b"portable 1 1\n",

@@ -21,7 +21,9 @@ pub fn sixel_command<'a>(alloc: Global) -> Result<Command<'a>, AllocError>
     ensures { IfOk result (λ c. app_of c ≡ sixel_app) }
 {
     Command::new(alloc, "sixel")
-        .about("Checks, lists, draws and writes sixel pictures, from files or standard input")
+        .about(
+            "Checks, lists, draws, mends and writes sixel pictures, from files or standard input",
+        )
         .version(VERSION)
         .subcommand_required(true)
         .args_override_self(true)

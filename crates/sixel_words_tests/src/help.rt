@@ -5,7 +5,8 @@ use std::test::Fail;
 
 #[test]
 fn shows_help(rt: HostRuntime) -> Result<(), Fail> {
-    let whole = "help Checks, lists, draws and writes sixel pictures, from files or standard input
+    let whole =
+        "help Checks, lists, draws, mends and writes sixel pictures, from files or standard input
 
 Usage: sixel <COMMAND>
 

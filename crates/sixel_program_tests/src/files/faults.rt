@@ -29,7 +29,7 @@ fn is_cut(
         said,
         is_read: false,
     };
-    ends_over(alloc, check_of(false, names, PIXEL), narrow(room), ended)
+    ends_over(alloc, &check_of(false, names, PIXEL), narrow(room), ended)
 }
 
 /// The line names no file, and the remaining inputs aren't read, standard input included.
@@ -62,7 +62,7 @@ fn an_output_that_is_not_flushed(rt: HostRuntime) -> Result<(), Fail> {
         is_read: false,
     };
     let asked = check_of(false, &["ratio", "none", "pixel"], RATIO);
-    assert!(rt; ends_over(rt.alloc(), asked, streams, ended)?);
+    assert!(rt; ends_over(rt.alloc(), &asked, streams, ended)?);
     Ok(())
 }
 
@@ -75,13 +75,13 @@ fn an_output_that_nothing_is_written_to(rt: HostRuntime) -> Result<(), Fail> {
         said: b"",
         is_read: true,
     };
-    assert!(rt; ends_over(rt.alloc(), check_of(true, &[], RATIO), narrow(0), broken)?);
+    assert!(rt; ends_over(rt.alloc(), &check_of(true, &[], RATIO), narrow(0), broken)?);
     let streams = Streams {
         is_flushable: false,
         ..narrow(0)
     };
     let asked = check_of(true, &["pixel", "-"], RATIO);
-    assert!(rt; ends_over(rt.alloc(), asked, streams, broken)?);
+    assert!(rt; ends_over(rt.alloc(), &asked, streams, broken)?);
     Ok(())
 }
 
@@ -104,14 +104,14 @@ fn errors_that_fail(rt: HostRuntime) -> Result<(), Fail> {
             is_read: false,
         };
         let asked = check_of(false, &["text", "ratio", "none", "pixel"], RATIO);
-        assert!(rt; ends_over(rt.alloc(), asked, streams, ended)?);
+        assert!(rt; ends_over(rt.alloc(), &asked, streams, ended)?);
     }
     Ok(())
 }
 
 /// How many files a check of these opens, if standard output has room for only these bytes.
 fn opened(alloc: Global, is_quiet: bool, names: &[&str], room: usize) -> Result<u64, AllocError> {
-    let request = request_of(alloc, check_of(is_quiet, names, b""))?;
+    let request = request_of(alloc, &check_of(is_quiet, names, b""))?;
     let mut written = Vec::new(alloc);
     let mut said = Vec::new(alloc);
     let folder = Watched {

@@ -22,15 +22,15 @@ const TERMINAL: Streams = Streams {
 const EXPLAIN_RATIO: &[u8] = b"sixel: 'sixel explain Ratio' tells how to fix it\n";
 
 /// Whether a check writes this, and then this hint where standard error is a terminal, and none where it isn't.
-fn hints(
+fn hints<'a>(
     alloc: Global,
-    asked: Asked<'_>,
+    asked: &Asked<'_>,
     exit: Exit,
-    written: &[u8],
+    written: &'a [u8],
     is_read: bool,
-    hint: &[u8],
+    hint: &'a [u8],
 ) -> Result<bool, AllocError>
-    requires { HasSides asked.task }
+    requires { HasSides asked.now.task }
 {
     let ended = Ended {
         exit,
@@ -47,13 +47,13 @@ fn a_broken_picture(rt: HostRuntime) -> Result<(), Fail> {
     let alloc = rt.alloc();
     let plain = check_of(false, &[], RATIO);
     let broken = b"broken Ratio 3\n";
-    assert!(rt; hints(alloc, plain, Exit::Broken, broken, true, EXPLAIN_RATIO)?);
+    assert!(rt; hints(alloc, &plain, Exit::Broken, broken, true, EXPLAIN_RATIO)?);
     let named = check_of(false, &["ratio"], PIXEL);
     let broken = b"ratio: broken Ratio 3\n";
-    assert!(rt; hints(alloc, named, Exit::Broken, broken, false, EXPLAIN_RATIO)?);
+    assert!(rt; hints(alloc, &named, Exit::Broken, broken, false, EXPLAIN_RATIO)?);
     let portable = check_of(false, &["pixel"], RATIO);
     let line = b"pixel: portable 1 1\n";
-    assert!(rt; hints(alloc, portable, Exit::Done, line, false, b"")?);
+    assert!(rt; hints(alloc, &portable, Exit::Done, line, false, b"")?);
     Ok(())
 }
 
@@ -64,7 +64,7 @@ fn no_hint(rt: HostRuntime) -> Result<(), Fail> {
     assert!(rt;
         hints(
             alloc,
-            check_of(true, &[], RATIO),
+            &check_of(true, &[], RATIO),
             Exit::Broken,
             b"",
             true,
@@ -74,7 +74,7 @@ fn no_hint(rt: HostRuntime) -> Result<(), Fail> {
     assert!(rt;
         hints(
             alloc,
-            check_of(true, &["ratio"], PIXEL),
+            &check_of(true, &["ratio"], PIXEL),
             Exit::Broken,
             b"",
             false,
@@ -87,7 +87,7 @@ fn no_hint(rt: HostRuntime) -> Result<(), Fail> {
         said: b"broken Ratio 3\n",
         is_read: true,
     };
-    assert!(rt; ends_over(alloc, asked_of(RENDER, &[], RATIO), TERMINAL, ended)?);
+    assert!(rt; ends_over(alloc, &asked_of(RENDER, &[], RATIO), TERMINAL, ended)?);
     Ok(())
 }
 
@@ -101,7 +101,7 @@ fn a_register(rt: HostRuntime) -> Result<(), Fail> {
     assert!(rt;
         hints(
             alloc,
-            narrow,
+            &narrow,
             Exit::Broken,
             b"broken Register 11\n",
             true,
@@ -114,7 +114,7 @@ fn a_register(rt: HostRuntime) -> Result<(), Fail> {
     assert!(rt;
         hints(
             alloc,
-            wide,
+            &wide,
             Exit::Broken,
             b"broken Register 11\n",
             true,
@@ -135,7 +135,7 @@ fn several_files(rt: HostRuntime) -> Result<(), Fail> {
             sixel: 'sixel explain Ratio' tells how to fix it\n",
         is_read: false,
     };
-    assert!(rt; ends_over(rt.alloc(), check_of(false, &names, PIXEL), TERMINAL, ended)?);
+    assert!(rt; ends_over(rt.alloc(), &check_of(false, &names, PIXEL), TERMINAL, ended)?);
     Ok(())
 }
 
@@ -153,6 +153,6 @@ fn an_output_that_fails(rt: HostRuntime) -> Result<(), Fail> {
         ..TERMINAL
     };
     let asked = check_of(false, &["ratio", "pixel"], PIXEL);
-    assert!(rt; ends_over(rt.alloc(), asked, full, ended)?);
+    assert!(rt; ends_over(rt.alloc(), &asked, full, ended)?);
     Ok(())
 }

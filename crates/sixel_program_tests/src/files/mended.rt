@@ -77,7 +77,7 @@ fn refuses(alloc: Global, name: &str, background: Colour, said: &[u8]) -> Result
     };
     ends_over(
         alloc,
-        asked_of(mend_on(background), &[name], PIXEL),
+        &asked_of(mend_on(background), &[name], PIXEL),
         STREAMS,
         ended,
     )

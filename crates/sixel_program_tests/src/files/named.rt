@@ -42,7 +42,7 @@ fn refuses(alloc: Global, task: Task, name: &str, said: &[u8]) -> Result<bool, A
         said,
         is_read: false,
     };
-    ends_over(alloc, asked_of(task, &[name], PIXEL), STREAMS, ended)
+    ends_over(alloc, &asked_of(task, &[name], PIXEL), STREAMS, ended)
 }
 
 #[test]
@@ -131,7 +131,7 @@ fn goes_so(
     after: &str,
     most: u64,
 ) -> Result<bool, AllocError> {
-    let request = request_of(alloc, check_of(false, &[name], b""))?;
+    let request = request_of(alloc, &check_of(false, &[name], b""))?;
     let mut taken = Vec::new(alloc);
     let mut said = Vec::new(alloc);
     let mut writes: u64 = 0;

@@ -30,14 +30,14 @@ const WAITING: &[u8] = b"sixel: waiting for sixel text on standard input\n";
 const WAITING_FOR_PPM: &[u8] = b"sixel: waiting for a PPM on standard input\n";
 
 /// Whether the request is done with this notice if standard input is a terminal, and without one if not.
-fn says(
+fn says<'a>(
     alloc: Global,
-    asked: Asked<'_>,
-    written: &[u8],
+    asked: &Asked<'_>,
+    written: &'a [u8],
     is_read: bool,
-    said: &[u8],
+    said: &'a [u8],
 ) -> Result<bool, AllocError>
-    requires { HasSides asked.task }
+    requires { HasSides asked.now.task }
 {
     let ended = Ended {
         exit: Exit::Done,
@@ -52,21 +52,21 @@ fn says(
 #[test]
 fn a_check_that_reads_a_terminal(rt: HostRuntime) -> Result<(), Fail> {
     let plain = check_of(false, &[], PIXEL);
-    assert!(rt; says(rt.alloc(), plain, b"portable 1 1\n", true, WAITING)?);
+    assert!(rt; says(rt.alloc(), &plain, b"portable 1 1\n", true, WAITING)?);
     let named = check_of(false, &["-"], PIXEL);
-    assert!(rt; says(rt.alloc(), named, b"-: portable 1 1\n", true, WAITING)?);
+    assert!(rt; says(rt.alloc(), &named, b"-: portable 1 1\n", true, WAITING)?);
     let last = check_of(false, &["pixel", "-"], PIXEL);
     let written = b"pixel: portable 1 1\n-: portable 1 1\n";
-    assert!(rt; says(rt.alloc(), last, written, true, WAITING)?);
+    assert!(rt; says(rt.alloc(), &last, written, true, WAITING)?);
     Ok(())
 }
 
 #[test]
 fn a_quiet_check(rt: HostRuntime) -> Result<(), Fail> {
     let plain = check_of(true, &[], PIXEL);
-    assert!(rt; says(rt.alloc(), plain, b"", true, b"")?);
+    assert!(rt; says(rt.alloc(), &plain, b"", true, b"")?);
     let first = check_of(true, &["-", "pixel"], PIXEL);
-    assert!(rt; says(rt.alloc(), first, b"", true, b"")?);
+    assert!(rt; says(rt.alloc(), &first, b"", true, b"")?);
     Ok(())
 }
 
@@ -81,24 +81,24 @@ fn the_notice_comes_first(rt: HostRuntime) -> Result<(), Fail> {
         is_read: true,
     };
     let asked = check_of(false, &["text", "-", "-"], PIXEL);
-    assert!(rt; ends_over(rt.alloc(), asked, TERMINAL, ended)?);
+    assert!(rt; ends_over(rt.alloc(), &asked, TERMINAL, ended)?);
     Ok(())
 }
 
 #[test]
 fn files_alone(rt: HostRuntime) -> Result<(), Fail> {
     let one = check_of(false, &["pixel"], PIXEL);
-    assert!(rt; says(rt.alloc(), one, b"pixel: portable 1 1\n", false, b"")?);
+    assert!(rt; says(rt.alloc(), &one, b"pixel: portable 1 1\n", false, b"")?);
     let two = check_of(false, &["-x", "a b"], PIXEL);
     let written = b"-x: portable 1 1\na b: portable 1 1\n";
-    assert!(rt; says(rt.alloc(), two, written, false, b"")?);
+    assert!(rt; says(rt.alloc(), &two, written, false, b"")?);
     let quiet = check_of(true, &["pixel"], PIXEL);
-    assert!(rt; says(rt.alloc(), quiet, b"", false, b"")?);
+    assert!(rt; says(rt.alloc(), &quiet, b"", false, b"")?);
     let black = b"P6\n1 1\n100\n\0\0\0";
     assert!(rt;
         says(
             rt.alloc(),
-            asked_of(RENDER, &["pixel"], RATIO),
+            &asked_of(RENDER, &["pixel"], RATIO),
             black,
             false,
             b""
@@ -111,40 +111,40 @@ fn files_alone(rt: HostRuntime) -> Result<(), Fail> {
 #[test]
 fn a_survey_that_reads_a_terminal(rt: HostRuntime) -> Result<(), Fail> {
     let plain = asked_of(SURVEY, &[], PIXEL);
-    assert!(rt; says(rt.alloc(), plain, b"portable 1 1\n", true, WAITING)?);
+    assert!(rt; says(rt.alloc(), &plain, b"portable 1 1\n", true, WAITING)?);
     let last = asked_of(SURVEY, &["pixel", "-"], PIXEL);
     let written = b"pixel: portable 1 1\n-: portable 1 1\n";
-    assert!(rt; says(rt.alloc(), last, written, true, WAITING)?);
+    assert!(rt; says(rt.alloc(), &last, written, true, WAITING)?);
     let file = asked_of(SURVEY, &["pixel"], PIXEL);
-    assert!(rt; says(rt.alloc(), file, b"pixel: portable 1 1\n", false, b"")?);
+    assert!(rt; says(rt.alloc(), &file, b"pixel: portable 1 1\n", false, b"")?);
     Ok(())
 }
 
 /// Whether the task on standard input, without a name and as `-`, writes this and gives this notice.
 fn waits(
     alloc: Global,
-    task: Task,
+    task: &Task,
     input: &[u8],
     written: &[u8],
     said: &[u8],
 ) -> Result<bool, AllocError>
-    requires { HasSides task }
+    requires { HasSides task.now }
 {
-    let plain = asked_of(task, &[], input);
-    let named = asked_of(task, &["-"], input);
-    Ok(says(alloc, plain, written, true, said)? && says(alloc, named, written, true, said)?)
+    let plain = asked_of(*task, &[], input);
+    let named = asked_of(*task, &["-"], input);
+    Ok(says(alloc, &plain, written, true, said)? && says(alloc, &named, written, true, said)?)
 }
 
 #[test]
 fn other_tasks(rt: HostRuntime) -> Result<(), Fail> {
     let empty = b"0 start 7bit 0\n3 end 7bit\n";
-    assert!(rt; waits(rt.alloc(), Task::List, b"\x1bPq\x1b\\", empty, WAITING)?);
+    assert!(rt; waits(rt.alloc(), &Task::List, b"\x1bPq\x1b\\", empty, WAITING)?);
     let black = b"P6\n1 1\n100\n\0\0\0";
-    assert!(rt; waits(rt.alloc(), RENDER, PIXEL, black, WAITING)?);
-    assert!(rt; waits(rt.alloc(), SHOW, PIXEL, black, WAITING)?);
-    assert!(rt; waits(rt.alloc(), SHOW_BOX, PIXEL, black, WAITING)?);
+    assert!(rt; waits(rt.alloc(), &RENDER, PIXEL, black, WAITING)?);
+    assert!(rt; waits(rt.alloc(), &SHOW, PIXEL, black, WAITING)?);
+    assert!(rt; waits(rt.alloc(), &SHOW_BOX, PIXEL, black, WAITING)?);
     let red = b"\x1bP0;1q\"1;1;1;1#0;2;100;0;0#0@\x1b\\";
-    assert!(rt; waits(rt.alloc(), ENCODE, RED, red, WAITING_FOR_PPM)?);
+    assert!(rt; waits(rt.alloc(), &ENCODE, RED, red, WAITING_FOR_PPM)?);
     Ok(())
 }
 
@@ -162,7 +162,7 @@ fn errors_that_fail(rt: HostRuntime) -> Result<(), Fail> {
             said,
             is_read: true,
         };
-        assert!(rt; ends_over(rt.alloc(), check_of(false, &[], PIXEL), streams, ended)?);
+        assert!(rt; ends_over(rt.alloc(), &check_of(false, &[], PIXEL), streams, ended)?);
     }
     Ok(())
 }

@@ -39,7 +39,7 @@ fn is_redirected(alloc: Global, task: Task, names: &[&str]) -> Result<bool, Allo
         is_read: false,
     };
     let asked = asked_of(task, names, PIXEL);
-    Ok(ends_over(alloc, asked, SCREEN, ended)? && ends_over(alloc, asked, ALL, ended)?)
+    Ok(ends_over(alloc, &asked, SCREEN, ended)? && ends_over(alloc, &asked, ALL, ended)?)
 }
 
 #[test]
@@ -66,7 +66,7 @@ fn errors_that_fail(rt: HostRuntime) -> Result<(), Fail> {
         said: b"sixel: a termin",
         is_read: false,
     };
-    assert!(rt; ends_over(rt.alloc(), asked_of(RENDER, &[], PIXEL), streams, ended)?);
+    assert!(rt; ends_over(rt.alloc(), &asked_of(RENDER, &[], PIXEL), streams, ended)?);
     Ok(())
 }
 
@@ -79,17 +79,17 @@ fn text_is_written_to_a_terminal(rt: HostRuntime) -> Result<(), Fail> {
         said: b"",
         is_read: true,
     };
-    assert!(rt; ends_over(rt.alloc(), check_of(false, &[], PIXEL), SCREEN, ended)?);
+    assert!(rt; ends_over(rt.alloc(), &check_of(false, &[], PIXEL), SCREEN, ended)?);
     let list = Ended {
         written: b"0 start 7bit 0\n3 end 7bit\n",
         ..ended
     };
     let asked = asked_of(Task::List, &[], b"\x1bPq\x1b\\");
-    assert!(rt; ends_over(rt.alloc(), asked, SCREEN, list)?);
+    assert!(rt; ends_over(rt.alloc(), &asked, SCREEN, list)?);
     let red = Ended {
         written: b"\x1bP0;1q\"1;1;1;1#0;2;100;0;0#0@\x1b\\",
         ..ended
     };
-    assert!(rt; ends_over(rt.alloc(), asked_of(ENCODE, &[], RED), SCREEN, red)?);
+    assert!(rt; ends_over(rt.alloc(), &asked_of(ENCODE, &[], RED), SCREEN, red)?);
     Ok(())
 }

@@ -2,9 +2,9 @@
 
 use super::{Ended, PIXEL, RATIO, STREAMS, Streams, asked_of, ends_over};
 use crate::ends::{NO_TERMINALS, SCAN};
+use sixel_model::Profile;
 use sixel_program::{Exit, Terminals};
 use sixel_run::Task;
-use sixel_model::Profile;
 use std::alloc::{AllocError, Global};
 use std::test::Fail;
 
@@ -15,7 +15,7 @@ fn scans(
     input: &[u8],
     ended: Ended<'_>,
 ) -> Result<bool, AllocError> {
-    ends_over(alloc, asked_of(SCAN, names, input), STREAMS, ended)
+    ends_over(alloc, &asked_of(SCAN, names, input), STREAMS, ended)
 }
 
 /// Each line has the name of its file before it.
@@ -85,7 +85,7 @@ fn options(rt: HostRuntime) -> Result<(), Fail> {
         is_read: false,
     };
     let asked = asked_of(task, &["wide", "eight"], PIXEL);
-    assert!(rt; ends_over(rt.alloc(), asked, STREAMS, ended)?);
+    assert!(rt; ends_over(rt.alloc(), &asked, STREAMS, ended)?);
     Ok(())
 }
 
@@ -103,7 +103,7 @@ fn an_output_that_fails(rt: HostRuntime) -> Result<(), Fail> {
         ..STREAMS
     };
     let asked = asked_of(SCAN, &["log", "-"], PIXEL);
-    assert!(rt; ends_over(rt.alloc(), asked, narrow, ended)?);
+    assert!(rt; ends_over(rt.alloc(), &asked, narrow, ended)?);
     Ok(())
 }
 
@@ -123,6 +123,13 @@ fn no_hint(rt: HostRuntime) -> Result<(), Fail> {
         said: b"",
         is_read: false,
     };
-    assert!(rt; ends_over(rt.alloc(), asked_of(SCAN, &["ratio"], PIXEL), terminal, ended)?);
+    assert!(rt;
+        ends_over(
+            rt.alloc(),
+            &asked_of(SCAN, &["ratio"], PIXEL),
+            terminal,
+            ended
+        )?
+    );
     Ok(())
 }

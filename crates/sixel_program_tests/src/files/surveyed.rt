@@ -15,7 +15,7 @@ fn surveys(
     input: &[u8],
     ended: Ended<'_>,
 ) -> Result<bool, AllocError> {
-    ends_over(alloc, asked_of(SURVEY, names, input), STREAMS, ended)
+    ends_over(alloc, &asked_of(SURVEY, names, input), STREAMS, ended)
 }
 
 /// Each line has the name of its file before it.
@@ -98,7 +98,7 @@ fn the_wide_profile(rt: HostRuntime) -> Result<(), Fail> {
     assert!(rt;
         ends_over(
             rt.alloc(),
-            asked_of(wide, &["wide"], PIXEL),
+            &asked_of(wide, &["wide"], PIXEL),
             STREAMS,
             portable
         )?
@@ -120,7 +120,7 @@ fn an_output_that_fails(rt: HostRuntime) -> Result<(), Fail> {
         ..STREAMS
     };
     let asked = asked_of(SURVEY, &["three", "-"], PIXEL);
-    assert!(rt; ends_over(rt.alloc(), asked, narrow, ended)?);
+    assert!(rt; ends_over(rt.alloc(), &asked, narrow, ended)?);
     Ok(())
 }
 
@@ -140,13 +140,20 @@ fn a_hint(rt: HostRuntime) -> Result<(), Fail> {
         said: b"sixel: 'sixel explain Ratio' tells how to fix it\n",
         is_read: true,
     };
-    assert!(rt; ends_over(rt.alloc(), asked_of(SURVEY, &[], RATIO), terminal, plain)?);
+    assert!(rt; ends_over(rt.alloc(), &asked_of(SURVEY, &[], RATIO), terminal, plain)?);
     let named = Ended {
         written: b"pixel: portable 1 1\nratio: Ratio 1 3\nratio: Uncovered 1 11 0 0\n",
         is_read: false,
         ..plain
     };
     let names = ["pixel", "ratio"];
-    assert!(rt; ends_over(rt.alloc(), asked_of(SURVEY, &names, PIXEL), terminal, named)?);
+    assert!(rt;
+        ends_over(
+            rt.alloc(),
+            &asked_of(SURVEY, &names, PIXEL),
+            terminal,
+            named
+        )?
+    );
     Ok(())
 }

@@ -21,7 +21,7 @@ fn files_of_the_system(rt: HostRuntime) -> Result<(), Fail> {
         "/dev/\u{FFFD}",
         "/dev/null",
     ];
-    let request = request_of(rt.alloc(), check_of(false, &names, b""))?;
+    let request = request_of(rt.alloc(), &check_of(false, &names, b""))?;
     let mut written = Vec::new(rt.alloc());
     let mut said = Vec::new(rt.alloc());
     let exit = execute(

@@ -20,19 +20,19 @@ fn ends_with(
 ) -> Result<bool, AllocError>
     requires { HasSides task }
 {
-    ends_over(alloc, asked_of(task, &[name], input), streams, ended)
+    ends_over(alloc, &asked_of(task, &[name], input), streams, ended)
 }
 
 /// Whether the task writes this for these bytes: on standard input, without a name and as `-`; and in the file with
 /// this name, with other bytes on standard input that it doesn't read.
 fn writes(
     alloc: Global,
-    task: Task,
+    task: &Task,
     name: &str,
     bytes: &[u8],
     written: &[u8],
 ) -> Result<bool, AllocError>
-    requires { HasSides task }
+    requires { HasSides task.now }
 {
     let ended = Ended {
         exit: Exit::Done,
@@ -45,9 +45,9 @@ fn writes(
         ..ended
     };
     Ok(
-        ends_over(alloc, asked_of(task, &[], bytes), STREAMS, ended)?
-            && ends_with(alloc, task, "-", bytes, STREAMS, ended)?
-            && ends_with(alloc, task, name, WIDE, STREAMS, unread)?,
+        ends_over(alloc, &asked_of(*task, &[], bytes), STREAMS, ended)?
+            && ends_with(alloc, *task, "-", bytes, STREAMS, ended)?
+            && ends_with(alloc, *task, name, WIDE, STREAMS, unread)?,
     )
 }
 
@@ -55,13 +55,13 @@ fn writes(
 fn a_file_is_as_standard_input(rt: HostRuntime) -> Result<(), Fail> {
     let list =
         b"0 start 7bit 0\n3 raster 1 1 1 1\n11 define 0 2 0 0 0\n21 select 0\n23 sixel 1\n24 end 7bit\n";
-    assert!(rt; writes(rt.alloc(), Task::List, "pixel", PIXEL, list)?);
+    assert!(rt; writes(rt.alloc(), &Task::List, "pixel", PIXEL, list)?);
     let black = b"P6\n1 1\n100\n\0\0\0";
-    assert!(rt; writes(rt.alloc(), RENDER, "pixel", PIXEL, black)?);
-    assert!(rt; writes(rt.alloc(), SHOW, "pixel", PIXEL, black)?);
-    assert!(rt; writes(rt.alloc(), SHOW_BOX, "a b", PIXEL, black)?);
+    assert!(rt; writes(rt.alloc(), &RENDER, "pixel", PIXEL, black)?);
+    assert!(rt; writes(rt.alloc(), &SHOW, "pixel", PIXEL, black)?);
+    assert!(rt; writes(rt.alloc(), &SHOW_BOX, "a b", PIXEL, black)?);
     let red = b"\x1bP0;1q\"1;1;1;1#0;2;100;0;0#0@\x1b\\";
-    assert!(rt; writes(rt.alloc(), ENCODE, "red", RED, red)?);
+    assert!(rt; writes(rt.alloc(), &ENCODE, "red", RED, red)?);
     Ok(())
 }
 
