@@ -22,11 +22,12 @@ _sixel() {
     # For a command that reads any number of files the operands don't count.
     case $command in
         '') options='-h --help -V --version'
-            names='list check survey render encode show mend explain help'
+            names='list check survey scan render encode show mend explain help'
             ;;
         list) options='-h --help' ;;
         check) options='--wide -q --quiet -h --help' operands=0 ;;
         survey) options='--wide -h --help' operands=0 ;;
+        scan) options='--wide --eight-bit -h --help' operands=0 ;;
         render) options='--wide -h --help' ;;
         encode) options='--wide -h --help' ;;
         show) options='--wide --showing --fill --define-selects --width --height --box -h --help' ;;
@@ -35,10 +36,10 @@ _sixel() {
             names='RasterFirst RasterTwice Ratio BoxSize Register ColourValue RepeatZero Unselected Undefined
                 Redefined Outside Uncovered EightBit NotSixel BadByte NumberTooLarge FieldCount BadRepeat
                 BadTerminator Truncated TooLong Trailing Header Size Maxval Sample TooManyColours Short NotRgb NoBox
-                Empty TooLarge OutOfMemory Read Write'
+                NoString Empty TooLarge OutOfMemory Read Write'
             ;;
         help)
-            names='list check survey render encode show mend explain help'
+            names='list check survey scan render encode show mend explain help'
             ;;
         *) return ;;
     esac

@@ -14,6 +14,7 @@ complete -c sixel -n __fish_use_subcommand -s V -l version -d 'Print version'
 complete -c sixel -n __fish_use_subcommand -a list -d 'Lists the commands of the picture, one per line'
 complete -c sixel -n __fish_use_subcommand -a check -d 'Says whether the picture is portable, or which rule it breaks first'
 complete -c sixel -n __fish_use_subcommand -a survey -d 'Says which rules the picture breaks, how often, and where first'
+complete -c sixel -n __fish_use_subcommand -a scan -d 'Checks each picture in what a program writes to a terminal'
 complete -c sixel -n __fish_use_subcommand -a render -d 'Converts a portable picture to a PPM'
 complete -c sixel -n __fish_use_subcommand -a encode -d 'Converts a PPM to portable sixel text'
 complete -c sixel -n __fish_use_subcommand -a show -d 'Draws the picture as one terminal would, and writes its screen as a PPM'
@@ -32,6 +33,11 @@ complete -c sixel -n '__fish_sixel_is check' -s h -l help -d 'Print help'
 complete -c sixel -n '__fish_sixel_is survey' -F
 complete -c sixel -n '__fish_sixel_is survey' -l wide -d 'Use 256 colour registers instead of 16'
 complete -c sixel -n '__fish_sixel_is survey' -s h -l help -d 'Print help'
+
+complete -c sixel -n '__fish_sixel_is scan' -F
+complete -c sixel -n '__fish_sixel_is scan' -l wide -d 'Use 256 colour registers instead of 16'
+complete -c sixel -n '__fish_sixel_is scan' -l eight-bit -d 'Let the bytes 90 and 9C start and end a picture, too'
+complete -c sixel -n '__fish_sixel_is scan' -s h -l help -d 'Print help'
 
 complete -c sixel -n '__fish_sixel_is render' -F
 complete -c sixel -n '__fish_sixel_is render' -l wide -d 'Use 256 colour registers instead of 16'
@@ -89,6 +95,7 @@ complete -c sixel -n '__fish_sixel_is explain 2' -a TooManyColours -d 'a picture
 complete -c sixel -n '__fish_sixel_is explain 2' -a Short -d 'a PPM that ends before its last sample'
 complete -c sixel -n '__fish_sixel_is explain 2' -a NotRgb -d 'a colour of hue, lightness and saturation that would appear in a PPM'
 complete -c sixel -n '__fish_sixel_is explain 2' -a NoBox -d 'a text that declares no box of a possible screen size'
+complete -c sixel -n '__fish_sixel_is explain 2' -a NoString -d 'input to scan that has no sixel string'
 complete -c sixel -n '__fish_sixel_is explain 2' -a Empty -d 'a text to mend that declares no size and paints nothing'
 complete -c sixel -n '__fish_sixel_is explain 2' -a TooLarge -d 'a text to mend whose picture has a side above 2,048'
 complete -c sixel -n '__fish_sixel_is explain 2' -a OutOfMemory -d 'an allocation failed'
@@ -98,6 +105,7 @@ complete -c sixel -n '__fish_sixel_is explain 2' -a Write -d 'output that couldn
 complete -c sixel -n '__fish_sixel_is help 2' -a list -d 'Lists the commands of the picture, one per line'
 complete -c sixel -n '__fish_sixel_is help 2' -a check -d 'Says whether the picture is portable, or which rule it breaks first'
 complete -c sixel -n '__fish_sixel_is help 2' -a survey -d 'Says which rules the picture breaks, how often, and where first'
+complete -c sixel -n '__fish_sixel_is help 2' -a scan -d 'Checks each picture in what a program writes to a terminal'
 complete -c sixel -n '__fish_sixel_is help 2' -a render -d 'Converts a portable picture to a PPM'
 complete -c sixel -n '__fish_sixel_is help 2' -a encode -d 'Converts a PPM to portable sixel text'
 complete -c sixel -n '__fish_sixel_is help 2' -a show -d 'Draws the picture as one terminal would, and writes its screen as a PPM'

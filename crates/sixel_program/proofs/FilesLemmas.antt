@@ -2,7 +2,7 @@
 use Rattle.std.proofs.Common.{◌≡◌, ◌∙◌, ◌+◌, ◌<◌, ℕ, Bool, true, false, List, [], ◌∷◌, ◌++◌, length, take}
 use Rattle.std.proofs.Common.{drop, Option, Some, None, refl, sym, ap, ap₂, subst, arith, inl, inr, flat_map}
 use Rattle.std.proofs.Common.{fold, map}
-use Rattle.std.specs.Prelude.{Result, Ok, Err, IfSome, String, string_bytes}
+use Rattle.std.specs.Prelude.{◌⊎◌, ◌≢◌, Result, Ok, Err, IfSome, String, string_bytes}
 use Rattle.std.specs.Global.{Global}
 use Rattle.std.specs.Io.KnownBytes.{Appends, Consumes, Keeps}
 use Rattle.std.specs.Option.{option_or}
@@ -18,7 +18,9 @@ use Rattle.std.proofs.lemmas.List.Sums.{fold_push}
 use Rattle.sixel_io.specs.Devices.{Change, ReadsToEnd, SinkState, SourceState, change, one_more}
 use Rattle.sixel_io.proofs.SinkLemmas.{Appends-keeps, Appends-none}
 use Rattle.sixel_io.proofs.DeviceLemmas.{Appends-then}
+use Rattle.sixel_model.specs.Profiles.{count_of}
 use Rattle.sixel_model.specs.declared.profile.Profile.{Profile}
+use Rattle.sixel_run.proofs.StringLemmas.{none_given}
 use Rattle.sixel_judge.specs.declared.rule.Rule.{Rule}
 use Rattle.sixel_program.specs.declared.exit.Exit.{Exit}
 use Rattle.sixel_program.specs.declared.exit.Exit.TheVariants as exit
@@ -33,7 +35,7 @@ use Rattle.sixel_program.specs.Exits.{IsPut, RunEnds, complaint, exit_for_answer
 use Rattle.sixel_program.specs.declared.formats.Format.{Format}
 use Rattle.sixel_program.specs.Formats.{IsFormat, advice_for, advice_on, format_of}
 use Rattle.sixel_program.specs.Files.{AreChecked, AreDone, ArePut, AreCut, FileEnd, IsChecked, IsFileEnd, IsFileOpening}
-use Rattle.sixel_program.specs.Files.{IsLine}
+use Rattle.sixel_program.specs.Files.{IsLine, ReadsOver}
 use Rattle.sixel_program.specs.Findings.{task_of}
 use Rattle.sixel_program.specs.declared.findings.FilesTask.{FilesTask}
 use Rattle.sixel_program.specs.declared.findings.FilesTask.TheVariants as files
@@ -63,6 +65,7 @@ pub said_quietly : (profile : Profile) (format : Option Format) (answer : Result
     → IsPut (complaint (Check profile) None answer ++ advice_for format answer) (change a b)
 said_quietly profile format (Ok status.Done) a b same = rw same (inl (Appends-none a.taken, refl))
 said_quietly profile format (Ok (status.Broken finding)) a b same = rw same (inl (Appends-none a.taken, refl))
+said_quietly profile format (Ok status.Unfit) a b same = rw same (inl (Appends-none a.taken, refl))
 said_quietly profile format (Err fault) a b put = put
 
 -- ---- what is put
@@ -121,6 +124,7 @@ unfolding Tells
 none_checked t q folder i o e = record {
   names_are = refl;
   each = λ i e short. let no : ⊥ = omega (arith, short) in absurd no;
+  written = λ i e short. let no : ⊥ = omega (arith, short) in absurd no;
   openings = λ i e short. let no : ⊥ = omega (arith, short) in absurd no;
   tells = refl;
   counted = refl;
@@ -204,6 +208,7 @@ module _ (t : Task) (q : Bool) {O : Type 0} (folder : FolderView O) (ends : List
       names_are = ap₂ (λ (ns : List Text) (n : Text). ns ++ n ∷ []) before.names_are (sym one.name_is)
           ∙ sym (names_more ends one.e);
       each = All-push (IsFileEnd t) ends one.e before.each one.is_end;
+      written = All-push (λ (e : FileEnd). e.answer ≢ Err run.Write) ends one.e before.written one.written;
       openings = All-push (IsFileOpening folder) ends one.e before.openings one.opening;
       tells = tells_more (bytes_of folder.opening) i₀.remaining i₁.remaining i₂.remaining ends one.e before.tells
           (rw one.name_is one.told) (rw one.name_is one.left);
@@ -239,6 +244,7 @@ module _ (t : Task) (q : Bool) {O : Type 0} (folder : FolderView O) (ends : List
             (ap₂ (λ (ns : List Text) (n : Text). ns ++ n ∷ []) before.names_are (sym one.name_is)
             ∙ sym (names_more ends one.e));
         each = All-push (IsFileEnd t) ends one.e before.each one.is_end;
+        written = before.written;
         openings = All-push (IsFileOpening folder) ends one.e before.openings one.opening;
         tells = tells_more (bytes_of folder.opening) i₀.remaining i₁.remaining i₂.remaining ends one.e before.tells
             (rw one.name_is one.told) (rw one.name_is one.left);
@@ -247,8 +253,9 @@ module _ (t : Task) (q : Bool) {O : Type 0} (folder : FolderView O) (ends : List
         lines = Appends-trans o₀.taken o₁.taken o₂.taken (files_text q ends) _ before.lines
             (rw (append-nil (text_of_end q one.e)) cut.1);
         failed = one.outcome.2 ∙ ap one_more before.unfailed;
-        silent = All-cons (λ (e : FileEnd). said_of e ≡ []) one.e [] (rw one.name_is one.outcome.3)
-            (All-nil (λ (e : FileEnd). said_of e ≡ []));
+        silent = All-cons (λ (e : FileEnd). (said_of e ≡ []) ⊎ (e.answer ≡ Err run.Write)) one.e []
+            (rw one.name_is one.outcome.3)
+            (All-nil (λ (e : FileEnd). (said_of e ≡ []) ⊎ (e.answer ≡ Err run.Write)));
         said = put_then (complaints_of ends) (fault_line run.Write ∷ []) e₀ e₁ e₃ before.said
             (one_put (fault_line run.Write) e₁ e₃
             (subst (λ (e : SinkState). IsPut (fault_line run.Write) (change e e₃)) one.outcome.4 put));
@@ -265,6 +272,7 @@ pub memory_kept : (t : Task) (told has : Option (List ℕ)) → Keeps told has �
 memory_kept task.List told has same takes = absurd takes
 memory_kept (task.Check profile) told has same takes = kept _ told has same takes
 memory_kept (task.Survey profile) told has same takes = kept _ told has same takes
+memory_kept (task.Scan profile eight) told has same takes = kept _ told has same takes
 memory_kept (task.Render profile) told has same takes = kept _ told has same takes
 memory_kept (task.Encode profile) told has same takes = kept _ told has same takes
 memory_kept (task.Show profile showing fill selects width height) told has same takes = tt
@@ -278,19 +286,27 @@ format_kept format told has same is =
     is
 
 -- what was read of a source was read of the bytes that the source was made from
+consumed_kept : (bytes : List ℕ) (told has left : Option (List ℕ)) → Keeps told has → Consumes has left bytes
+    → Consumes told left bytes
+consumed_kept bytes None has left same all = tt
+consumed_kept bytes (Some had) None left same all = absurd same
+consumed_kept bytes (Some had) (Some more) None same all = absurd all
+consumed_kept bytes (Some had) (Some more) (Some rest) same all = let is : more ≡ had = same in sym is ∙ all
+
 pub read_kept : {A E : Type 0} (answer : Result A E) (told has left : Option (List ℕ)) → Keeps told has
     → ReadsToEnd answer has left → ReadsToEnd answer told left
 read_kept answer told has left same reads = record {
-  read = (reads.read.0, consumed reads.read.0 told has left same reads.read.1);
+  read = (reads.read.0, consumed_kept reads.read.0 told has left same reads.read.1);
   ended = reads.ended;
 }
-  where
-    consumed : (bytes : List ℕ) (told has left : Option (List ℕ)) → Keeps told has → Consumes has left bytes
-        → Consumes told left bytes
-    consumed bytes None has left same all = tt
-    consumed bytes (Some had) None left same all = absurd same
-    consumed bytes (Some had) (Some more) None same all = absurd all
-    consumed bytes (Some had) (Some more) (Some rest) same all = let is : more ≡ had = same in sym is ∙ all
+
+pub over_kept : (t : Task) (answer : Result Status RunFault) (told has left : Option (List ℕ)) → Keeps told has
+    → ReadsOver t answer has left → ReadsOver t answer told left
+over_kept t answer told has left same reads = record {
+  bytes = reads.bytes;
+  read = consumed_kept reads.bytes told has left same reads.read;
+  ended = reads.ended;
+}
 
 pub wrote_kept : (t : Task) (told has left : Option (List ℕ)) (answer : Result Status RunFault)
     (was is : Option (List ℕ)) → Keeps told has → IfSome has (λ bytes. Wrote t bytes left answer was is)
@@ -341,8 +357,9 @@ unopened f name reason told = record {
   wrote = nothing f told;
   are_lines = All-nil IsLine;
   memory = λ is. cc;
-  written = λ is. cc;
-  reads = record { read = ([], Consumes-nil told); ended = tt };
+  refused = λ found fault is. refl;
+  written = λ found is. cc;
+  reads = record { bytes = []; read = Consumes-nil told; ended = tt };
   is_format = no_format told;
 }
   where
@@ -351,6 +368,7 @@ unopened f name reason told = record {
     nothing f None = tt
     nothing (files.Check profile) (Some bytes) = refl
     nothing (files.Survey profile) (Some bytes) = refl
+    nothing (files.Scan profile eight) (Some bytes) = ([], none_given eight (count_of profile) bytes, refl)
 
 -- behind the name
 pub named_tail : (fault : RunFault)
@@ -367,6 +385,7 @@ module _ (t : Task) (q : Bool) {O : Type 0} (folder : FolderView O) (ends : List
   checked_flushed kept same = record {
     names_are = before.names_are;
     each = before.each;
+    written = before.written;
     openings = before.openings;
     tells = before.tells;
     counted = before.counted;
@@ -401,6 +420,7 @@ module _ (t : Task) (q : Bool) {O : Type 0} (folder : FolderView O) (ends : List
         wanted = wanted;
         names_are = before.names_are ∙ sym (append-nil (names_of (ends ++ [])) ∙ ap names_of none);
         each = rw none before.each;
+        written = before.written;
         openings = rw none before.openings;
         tells = rw none before.tells;
         counted = rw none before.counted;
@@ -408,7 +428,7 @@ module _ (t : Task) (q : Bool) {O : Type 0} (folder : FolderView O) (ends : List
         lines = rw (append-nil (files_text q ends))
             (Appends-keeps o₀.taken o₁.taken o₂.taken (files_text q ends) before.lines kept);
         failed = failed ∙ ap one_more before.unfailed;
-        silent = All-nil (λ (e : FileEnd). said_of e ≡ []);
+        silent = All-nil (λ (e : FileEnd). (said_of e ≡ []) ⊎ (e.answer ≡ Err run.Write));
         said = put_then (complaints_of ends) (fault_line run.Write ∷ []) e₀ e₁ e₂ before.said
             (one_put (fault_line run.Write) e₁ e₂ put);
       }

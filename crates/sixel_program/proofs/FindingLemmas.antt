@@ -1,22 +1,35 @@
--- What is found in an input is lines.
+-- What is found in an input is lines, and how the reading ends.
 use Rattle.std.proofs.Common.{◌≡◌, ◌++◌, ◌∷◌, ◌≤◌, ℕ, true, false, Bool, List, [], Option, Some, None}
-use Rattle.std.proofs.Common.{arith, codes, map, ne_eqb, refl}
-use Rattle.std.specs.Prelude.{◌&&◌, Result, Ok, Err, decimal, nat_eq, not}
+use Rattle.std.proofs.Common.{ap, append_assoc, arith, codes, map, ne_eqb, refl, sym, ◌∙◌}
+use Rattle.std.specs.Prelude.{◌&&◌, ◌≢◌, OnOk, Result, Ok, Err, decimal, nat_eq, not}
+use Rattle.std.specs.Io.KnownBytes.{IsAtEnd, Keeps}
 use Rattle.std.specs.List.{All}
 use Rattle.std.specs.Option.{option_to_list}
 use Rattle.std.proofs.lemmas.List.Elements.{All-append, All-cons, All-nil}
+use Rattle.sixel_io.specs.Devices.{ReadsToEnd}
+use Rattle.sixel_grammar.specs.declared.fault.Reason.{Reason}
+use Rattle.sixel_grammar.specs.declared.fault.Reason.TheVariants as reason
 use Rattle.sixel_judge.specs.declared.rule.Rule.{Rule}
 use Rattle.sixel_judge.specs.declared.rule.Rule.TheVariants as rule
 use Rattle.sixel_judge.specs.declared.verdict.Verdict.{Verdict}
 use Rattle.sixel_judge.specs.declared.verdict.Verdict.TheVariants.{Portable, Broken}
 use Rattle.sixel_survey.specs.declared.entry.Entry.{Entry}
 use Rattle.sixel_survey.specs.declared.entry.Survey.{Survey as ASurvey}
+use Rattle.sixel_scan.specs.declared.answer.Answer.{Answer}
+use Rattle.sixel_scan.specs.declared.answer.Answer.TheVariants as scanned
+use Rattle.sixel_scan.specs.declared.answer.Scanned.{Scanned}
 use Rattle.sixel_run.specs.declared.fault.RunFault.{RunFault}
+use Rattle.sixel_run.specs.declared.fault.RunFault.TheVariants as run
+use Rattle.sixel_run.specs.declared.task.Status.{Status}
+use Rattle.sixel_run.specs.declared.task.Task.{Task}
+use Rattle.sixel_run.specs.declared.task.Task.TheVariants as task
+use Rattle.sixel_run.specs.Scanned.{string_lines}
 use Rattle.sixel_run.specs.Texts.{Text, entry_line, line, numbers, pixel_parts, rule_name, size_line, spaced}
-use Rattle.sixel_run.specs.Texts.{survey_lines, verdict_line}
+use Rattle.sixel_run.specs.Texts.{answer_line, reason_name, string_line, survey_lines, verdict_line}
 use Rattle.sixel_words.proofs.PastedLemmas.{AreDigits, number_digits}
-use Rattle.sixel_program.specs.Files.{IsLine}
-use Rattle.sixel_program.specs.Findings.{lines_found, lines_of}
+use Rattle.sixel_program.specs.Files.{IsLine, IsOverFor, ReadsOver, scans}
+use Rattle.sixel_program.specs.Findings.{answer_of, lines_found, lines_of}
+use Rattle.sixel_program.proofs.FilesLemmas.{read_kept}
 use Rattle.sixel_program.specs.declared.findings.Found.{Found}
 use Rattle.sixel_program.specs.declared.findings.Found.TheVariants as found
 
@@ -101,6 +114,28 @@ verdict_is_line (Broken f) =
     (name_unfed (codes "broken") refl)
     (rule_unfed f.rule, (number_unfed f.place, pixel_unfed f.rule f.pixel))
 
+reason_unfed : (r : Reason) → All IsUnfed (reason_name r)
+reason_unfed reason.NotSixel = name_unfed (codes "NotSixel") refl
+reason_unfed reason.BadByte = name_unfed (codes "BadByte") refl
+reason_unfed reason.NumberTooLarge = name_unfed (codes "NumberTooLarge") refl
+reason_unfed reason.FieldCount = name_unfed (codes "FieldCount") refl
+reason_unfed reason.BadRepeat = name_unfed (codes "BadRepeat") refl
+reason_unfed reason.BadTerminator = name_unfed (codes "BadTerminator") refl
+reason_unfed reason.Truncated = name_unfed (codes "Truncated") refl
+reason_unfed reason.TooLong = name_unfed (codes "TooLong") refl
+reason_unfed reason.Trailing = name_unfed (codes "Trailing") refl
+
+-- a number, a space and a line are a line
+after_place : (place : ℕ) (first : Text) (parts : List Text) → All IsUnfed first → AreUnfed parts
+    → IsLine (decimal place ++ 32 ∷ line first parts)
+after_place place first parts one are =
+    let whole = is_line first parts one are in (
+      decimal place ++ 32 ∷ whole.0,
+      ap (λ (t : Text). decimal place ++ 32 ∷ t) whole.1
+          ∙ sym (append_assoc (decimal place) (32 ∷ whole.0) (10 ∷ [])),
+      All-append IsUnfed (decimal place) (32 ∷ whole.0) (number_unfed place) (All-cons IsUnfed 32 whole.0 refl whole.2),
+    )
+
 entry_is_line : (e : Entry) → IsLine (entry_line e)
 entry_is_line e =
     is_line (rule_name e.rule) (decimal e.count ∷ decimal e.place ∷ pixel_parts e.rule e.pixel) (rule_unfed e.rule)
@@ -132,3 +167,50 @@ found_is_lines (found.Survey surveyed) = survey_is_lines surveyed.survey
 pub lines_are_lines : (r : Result Found RunFault) → All IsLine (lines_of r)
 lines_are_lines (Ok f) = found_is_lines f
 lines_are_lines (Err fault) = All-nil IsLine
+
+-- what is refused has none
+pub no_lines : (r : Result Found RunFault) (fault : RunFault) → answer_of r ≡ Err fault → lines_of r ≡ []
+no_lines (Ok f) fault is = cc
+no_lines (Err other) fault is = refl
+
+pub unwritten_ok : {E : Type 0} (result : Result (Result Status RunFault) E) (answer : Result Status RunFault)
+    → answer ≢ Err run.Write → OnOk result (answer ≢ Err run.Write)
+unwritten_ok (Ok x) answer other = other
+unwritten_ok (Err e) answer other = tt
+
+-- a check and a survey read to the end
+at_end : (t : Task) (answer : Result Status RunFault) (left : Option (List ℕ)) (bytes : List ℕ)
+    → scans t ≡ false → OnOk answer (IsAtEnd left) → OnOk answer (IsOverFor t left bytes)
+at_end (task.Scan profile eight) answer left bytes unscanned ended =
+    absurd (let no : true ≡ false = unscanned in cc)
+at_end t answer left bytes unscanned ended = ended
+
+pub found_over : (t : Task) → scans t ≡ false → (answer : Result Status RunFault)
+    (told has left : Option (List ℕ)) → Keeps told has → ReadsToEnd answer has left → ReadsOver t answer told left
+found_over t unscanned answer told has left same reads =
+    let whole = read_kept answer told has left same reads in
+    record {
+      bytes = whole.read.0;
+      read = whole.read.1;
+      ended = at_end t answer left whole.read.0 unscanned whole.ended;
+    }
+
+-- ---- strings
+
+answer_is_line : (place : ℕ) (a : Answer) → IsLine (decimal place ++ 32 ∷ answer_line a)
+answer_is_line place (scanned.Portable width height) =
+    after_place place (codes "portable") (numbers (width ∷ height ∷ [])) (name_unfed (codes "portable") refl)
+    (number_unfed width, (number_unfed height, tt))
+answer_is_line place (scanned.Broken f) =
+    after_place place (codes "broken") (rule_name f.rule ∷ decimal f.place ∷ pixel_parts f.rule f.pixel)
+    (name_unfed (codes "broken") refl)
+    (rule_unfed f.rule, (number_unfed f.place, pixel_unfed f.rule f.pixel))
+answer_is_line place (scanned.Refused f) =
+    after_place place (codes "refused") (reason_name f.reason ∷ decimal f.place ∷ [])
+    (name_unfed (codes "refused") refl) (reason_unfed f.reason, (number_unfed f.place, tt))
+
+pub strings_are_lines : (reports : List Scanned) → All IsLine (string_lines reports)
+strings_are_lines [] = All-nil IsLine
+strings_are_lines (r ∷ reports) =
+    All-cons IsLine (string_line r) (string_lines reports) (answer_is_line r.place r.answer)
+    (strings_are_lines reports)

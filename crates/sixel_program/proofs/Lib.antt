@@ -4,8 +4,10 @@ pub mod PutLemmas
 pub mod EndLemmas
 pub mod FilesLemmas
 pub mod FindingLemmas
+pub mod ScanLemmas
 pub mod NamedLemmas
 pub mod EntryLemmas
+pub mod StringLineLemmas
 pub mod RequestLemmas
 pub mod SeveralLemmas
 pub mod StatusLemmas

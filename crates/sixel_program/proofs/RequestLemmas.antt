@@ -83,6 +83,10 @@ module _ {O : Type 0} (folder : FolderView O) (x : Exit) (i : Change SourceState
       inl (codes "-", refl, run_ends (task.Survey profile) h None x i o e ended)
   request_read (task.Survey profile) q h (name ∷ more) ended =
       inr (files.Survey profile, false, refl, refl, ended)
+  request_read (task.Scan profile eight) q h [] ended =
+      inl (codes "-", refl, run_ends (task.Scan profile eight) h None x i o e ended)
+  request_read (task.Scan profile eight) q h (name ∷ more) ended =
+      inr (files.Scan profile eight, false, refl, refl, ended)
   request_read task.List q h [] ended =
       inl (codes "-", refl, run_ends task.List h None x i o e ended)
   request_read task.List q h (name ∷ more) ended =
@@ -116,6 +120,7 @@ module _ {O : Type 0} (folder : FolderView O) (x : Exit) (i : Change SourceState
 answer_no_usage : (a : Result Status RunFault) → exit_for_answer a ≢ exit.Usage
 answer_no_usage (Ok status.Done) = λ (is : exit.Done ≡ exit.Usage). cc
 answer_no_usage (Ok (status.Broken finding)) = λ (is : exit.Broken ≡ exit.Usage). cc
+answer_no_usage (Ok status.Unfit) = λ (is : exit.Broken ≡ exit.Usage). cc
 answer_no_usage (Err fault) = λ (is : exit.Refused ≡ exit.Usage). cc
 
 one_of_two : (b : Bool) (x y : Exit) → x ≢ exit.Usage → y ≢ exit.Usage → (if b then y else x) ≢ exit.Usage

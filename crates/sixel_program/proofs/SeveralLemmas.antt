@@ -18,10 +18,11 @@ use Rattle.sixel_run.specs.declared.fault.RunFault.TheVariants as run
 use Rattle.sixel_run.specs.declared.task.Status.{Status}
 use Rattle.sixel_program.specs.Exits.{IsPut, exit_code}
 use Rattle.sixel_program.specs.Files.{ArePut, FileEnd, IsFileEnd, IsSaid, exit_of_end, file_text, files_exit}
-use Rattle.sixel_program.specs.Files.{files_text, worse}
+use Rattle.sixel_program.specs.Files.{files_text, scans, worse}
 use Rattle.sixel_program.specs.Findings.{task_of}
 use Rattle.sixel_program.specs.declared.findings.FilesTask.{FilesTask}
 use Rattle.sixel_program.specs.declared.findings.FilesTask.TheVariants as files
+use Rattle.sixel_run.proofs.StringLemmas.{not_a_fault}
 use Rattle.sixel_run.specs.Outputs.{Gives, Wrote}
 use Rattle.sixel_run.specs.Texts.{Text}
 
@@ -138,18 +139,26 @@ said_whole texts sink are =
 
 -- ---- the line of one
 
-silent : (name : Text) (lines : List Text) (answer : Result Status RunFault) → file_text true name lines answer ≡ []
-silent name lines (Ok status) = refl
-silent name lines (Err fault) = refl
+no_text : (is_quiet : Bool) (name : Text) → file_text is_quiet name [] ≡ []
+no_text true name = refl
+no_text false name = refl
+
+-- a file that a check or a survey refuses has no text
+pub refused : (f : FilesTask) (is_quiet : Bool) (e : FileEnd) (fault : RunFault) → IsFileEnd (task_of f) e
+    → scans (task_of f) ≡ false → e.answer ≡ Err fault → files_text is_quiet (e ∷ []) ≡ []
+refused f is_quiet e fault is found answer =
+    append-nil (file_text is_quiet e.name e.lines)
+    ∙ ap (file_text is_quiet e.name) (is.refused found fault answer) ∙ no_text is_quiet e.name
 
 pub quiet : (ends : List FileEnd) → files_text true ends ≡ []
 quiet [] = refl
-quiet (e ∷ ends) = ap₂ (λ (a b : Text). a ++ b) (silent e.name e.lines e.answer) (quiet ends)
+quiet (e ∷ ends) = ap₂ (λ (a b : Text). a ++ b) refl (quiet ends)
 
 refuses : (f : FilesTask) (bytes text : Text) (fault : Fault) → Gives (task_of f) bytes text (Err (run.Grammar fault))
     → Gives (task_of f) bytes [] (Err (run.Grammar fault))
 refuses (files.Check profile) bytes text fault gives = (refl, gives.1)
 refuses (files.Survey profile) bytes text fault gives = (refl, gives.1)
+refuses (files.Scan profile eight) bytes text fault gives = absurd (not_a_fault gives.0 fault gives.3)
 
 pub faulty : (f : FilesTask) (e : FileEnd) (bytes : List ℕ) (fault : Fault) → IsFileEnd (task_of f) e
     → e.told ≡ Some bytes → e.answer ≡ Err (run.Grammar fault)

@@ -1,10 +1,11 @@
 -- What an exit status says of each file that was read.
 use Rattle.std.proofs.Common.{◌≡◌, ◌∙◌, ◌≤◌, ◌∷◌, ℕ, Bool, true, false, List, [], Option, Some, None, arith, inl, inr}
-use Rattle.std.proofs.Common.{map, refl, subst, suc, sym, zero}
+use Rattle.std.proofs.Common.{ap, length, map, refl, subst, suc, sym, zero}
+use Rattle.std.proofs.lemmas.List.{length-append, nil_from_length}
 use Rattle.std.specs.List.{concat}
 use Rattle.std.specs.Prelude.{All, Contains, Err, IfSome, Ok, Result, if◌then◌else◌, slice_index_or}
 use Rattle.std.proofs.lemmas.List.Elements.{All-cons, All-head, All-nil, All-tail, All-weaker}
-use Rattle.sixel_io.specs.Devices.{Change, ReadsToEnd, SinkState, SourceState}
+use Rattle.sixel_io.specs.Devices.{Change, SinkState, SourceState}
 use Rattle.sixel_program.specs.declared.exit.Exit.{Exit}
 use Rattle.sixel_program.specs.declared.exit.Exit.TheVariants as exit
 use Rattle.sixel_run.specs.declared.fault.RunFault.{RunFault}
@@ -14,11 +15,12 @@ use Rattle.sixel_run.specs.declared.task.Task.{Task}
 use Rattle.sixel_program.specs.Exits.{exit_code, exit_for_answer}
 use Rattle.sixel_run.specs.Outputs.{Gives, Wrote}
 use Rattle.sixel_run.proofs.CheckLemmas.{nothing_unjudged}
+use Rattle.sixel_run.proofs.StringLemmas.{nothing_scanned}
 use Rattle.sixel_model.specs.Profiles.{count_of}
 use Rattle.sixel_program.specs.Files.{FileEnd, FilesEnd, IsBrokenOver, IsDoneOver, IsFileEnd, IsJudgedOver}
 use Rattle.sixel_program.specs.Files.{RequestEnds, Tells, exit_of_end, files_exit, is_dash}
 use Rattle.sixel_program.specs.Files.{left_after, names_of, names_read}
-use Rattle.sixel_program.specs.Files.{told_of}
+use Rattle.sixel_program.specs.Files.{ReadsOver, TakesAll, told_of}
 use Rattle.sixel_program.specs.Findings.{task_of}
 use Rattle.sixel_program.specs.Openings.{FolderView, bytes_of}
 use Rattle.sixel_program.specs.declared.findings.FilesTask.{FilesTask}
@@ -66,6 +68,7 @@ judged_gives t None left a had has wrote below = tt
 judged_gives t (Some bytes) left (Ok status.Done) had has wrote below = (wrote.0, status.Done, wrote.1)
 judged_gives t (Some bytes) left (Ok (status.Broken finding)) had has wrote below =
     (wrote.0, status.Broken finding, wrote.1)
+judged_gives t (Some bytes) left (Ok status.Unfit) had has wrote below = (wrote.0, status.Unfit, wrote.1)
 judged_gives t (Some bytes) left (Err fault) had has wrote below = absurd (omega (arith, below))
 
 module _ (t : Task) (ends : List FileEnd) (each : All (IsFileEnd t) ends) where
@@ -87,25 +90,45 @@ module _ (t : Task) (ends : List FileEnd) (each : All (IsFileEnd t) ends) where
       judged_gives t e.told e.left e.answer (Some []) (Some (concat e.lines)) (each k d short).wrote
       (each_below is k d short)
 
--- no bytes are no document, so nothing is found in them
+-- no bytes are no document, and have no string, so nothing is found in them
 unfound : (f : FilesTask) (text : Text) (s : Status) → Gives (task_of f) [] text (Ok s) → ⊥
 unfound (files.Check profile) text s gives = nothing_unjudged (count_of profile) text s gives
 unfound (files.Survey profile) text s gives =
     let verdict = gives.3 in
     nothing_unjudged (count_of profile) (verdict_line verdict.0) s
     (gives.0, gives.1, (verdict.0, verdict.1, refl, verdict.2))
+unfound (files.Scan profile eight) text s gives = nothing_scanned eight (count_of profile) text s gives
 
--- a task that found something has left nothing of its input, so it finds nothing in what it left
-rest_unbroken : (f : FilesTask) (told left : Option (List ℕ)) (a : Result Status RunFault) → ReadsToEnd a told left
+-- a task that takes all of its input, and found something, has left nothing of it
+nothing_left : (f : FilesTask) (bytes rest : List ℕ) (s : Status)
+    → ReadsOver (task_of f) (Ok s) (Some bytes) (Some rest) → TakesAll (task_of f) bytes → rest ≡ []
+nothing_left (files.Check profile) bytes rest s reads all = reads.ended
+nothing_left (files.Survey profile) bytes rest s reads all = reads.ended
+nothing_left (files.Scan profile eight) bytes rest s reads all = elim reads.ended [
+  | inl none ↦ none
+  | inr full ↦
+      nil_from_length rest (omega (arith, ap length reads.read, length-append reads.bytes rest, full, all))
+]
+
+-- of nothing, each task takes all
+none_taken : (f : FilesTask) (rest : List ℕ) → rest ≡ [] → TakesAll (task_of f) rest
+none_taken (files.Check profile) rest none = tt
+none_taken (files.Survey profile) rest none = tt
+none_taken (files.Scan profile eight) rest none = omega (arith, ap length none)
+
+-- so it finds nothing in what it left
+rest_unbroken : (f : FilesTask) (told left : Option (List ℕ)) (a : Result Status RunFault)
+    → ReadsOver (task_of f) a told left
     → exit_code (exit_for_answer a) ≤ exit_code exit.Broken
     → IsBrokenOver (task_of f) left → IsBrokenOver (task_of f) told
 rest_unbroken f None left a reads below broken = tt
-rest_unbroken f (Some bytes) None a reads below broken = absurd reads.read.1
+rest_unbroken f (Some bytes) None a reads below broken = absurd reads.read
 rest_unbroken f (Some bytes) (Some rest) (Err fault) reads below broken = absurd (omega (arith, below))
-rest_unbroken f (Some bytes) (Some rest) (Ok s) reads below broken =
-    let none : rest ≡ [] = reads.ended in
-    absurd (unfound f broken.0 (status.Broken broken.1)
-    (subst (λ (t : List ℕ). Gives (task_of f) t broken.0 (Ok (status.Broken broken.1))) none broken.2))
+rest_unbroken f (Some bytes) (Some rest) (Ok s) reads below broken = λ all.
+    let none : rest ≡ [] = nothing_left f bytes rest s reads all in
+    let found = broken (none_taken f rest none) in
+    absurd (unfound f found.0 found.1
+    (subst (λ (t : List ℕ). Gives (task_of f) t found.0 (Ok found.1)) none found.3))
 
 -- what holds of a name when it is read after a file holds of it before that, if what holds of the rest of standard
 -- input holds of all of it

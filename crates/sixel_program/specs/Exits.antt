@@ -33,6 +33,7 @@ exit_code Usage = 3
 abbrev pub exit_for_answer : Result Status RunFault → Exit
 exit_for_answer (Ok status.Done) = Done
 exit_for_answer (Ok (status.Broken finding)) = Broken
+exit_for_answer (Ok status.Unfit) = Broken
 exit_for_answer (Err fault) = Refused
 
 -- ---- what is said of a run
@@ -54,6 +55,7 @@ fault_said (Some name) fault = named_fault_line name fault
 -- the message about a run: why it was refused, or which rule kept its picture from being rendered; otherwise none
 abbrev pub complaint : Task → Option Text → Result Status RunFault → Text
 complaint t name (Ok status.Done) = []
+complaint t name (Ok status.Unfit) = []
 complaint t name (Ok (status.Broken finding)) = if is_render t then labelled name (finding_line finding) else []
 complaint t name (Err fault) = fault_said name fault
 

@@ -1,23 +1,23 @@
 -- How requests end: over standard input or files, quiet or not.
 use Rattle.std.specs.Prelude.{◌≡◌, ◌≢◌, ◌⊎◌, ◌-◌, ◌^◌, ◌<◌, ◌&&◌, ◌∷◌, ◌++◌, ℕ, Bool, not, true, false, List, []}
 use Rattle.std.specs.Prelude.{Option, Some, None, IfSome, Result, Ok, Err, codes, flat_map, fold, map, take, nat_lt}
-use Rattle.std.specs.Prelude.{nat_eq, option_to_list, if◌then◌else◌}
-use Rattle.std.specs.Io.KnownBytes.{Appends}
+use Rattle.std.specs.Prelude.{◌≤◌, OnOk, length, nat_eq, option_to_list, if◌then◌else◌, ⊤}
+use Rattle.std.specs.Io.KnownBytes.{Appends, Consumes, IsAtEnd}
 use Rattle.std.specs.List.{All, concat, list_any}
 use Rattle.std.specs.Str.{bytes_eq}
 use Rattle.sixel_io.specs.Devices.{Change, ReadsToEnd, SinkState, SourceState, change, one_more}
 use Rattle.sixel_model.specs.declared.profile.Profile.{Profile}
 use Rattle.sixel_judge.specs.declared.rule.Rule.{Rule}
-use Rattle.sixel_judge.specs.declared.verdict.Finding.{Finding}
 use Rattle.sixel_program.specs.declared.exit.Exit.{Exit}
 use Rattle.sixel_program.specs.declared.folder.Unopened.{Unopened}
 use Rattle.sixel_program.specs.declared.exit.Exit.TheVariants.{Done, Refused}
+use Rattle.sixel_scan.specs.Scans.{IsOver, longest_stream}
 use Rattle.sixel_run.specs.declared.fault.RunFault.{RunFault}
 use Rattle.sixel_run.specs.declared.fault.RunFault.TheVariants as run
 use Rattle.sixel_run.specs.declared.task.Status.{Status}
 use Rattle.sixel_run.specs.declared.task.Status.TheVariants as status
 use Rattle.sixel_run.specs.declared.task.Task.{Task}
-use Rattle.sixel_run.specs.declared.task.Task.TheVariants.{Check, Encode, Render, Show, ShowBox, Survey}
+use Rattle.sixel_run.specs.declared.task.Task.TheVariants.{Check, Encode, Render, Scan, Show, ShowBox, Survey}
 use Rattle.sixel_program.specs.declared.formats.Format.{Format}
 use Rattle.sixel_program.specs.declared.terminals.Terminals.{Terminals}
 use Rattle.sixel_program.specs.Formats.{IsFormat, advice_for, advice_on}
@@ -38,12 +38,13 @@ is_dash name = bytes_eq name (codes "-")
 abbrev pub told_of : (Text → Option (List ℕ)) → Option (List ℕ) → Text → Option (List ℕ)
 told_of contents input name = if is_dash name then input else contents name
 
--- the names of what a task reads: `-` if there are none; for a check or a survey all of them, and for any other task
--- the first
+-- the names of what a task reads: `-` if there are none; for a check, a survey or a scan all of them, and for any other
+-- task the first
 abbrev pub names_read : Task → List Text → List Text
 names_read t [] = codes "-" ∷ []
 names_read (Check profile) (name ∷ more) = name ∷ more
 names_read (Survey profile) (name ∷ more) = name ∷ more
+names_read (Scan profile eight) (name ∷ more) = name ∷ more
 names_read t (name ∷ more) = name ∷ []
 
 -- whether the task reads standard input
@@ -54,10 +55,15 @@ reads_input t names = list_any is_dash (names_read t names)
 abbrev pub IsDoneOver : Task → Option (List ℕ) → Type 0
 IsDoneOver t told = IfSome told (λ bytes. (text : Text) × Gives t bytes text (Ok status.Done))
 
--- for these bytes, if they are known, the task finds a broken rule
+-- a scan takes all of these bytes: they are no more than a stream has; any other task takes all
+abbrev pub TakesAll : Task → List ℕ → Type 0
+TakesAll (Scan profile eight) bytes = length bytes ≤ longest_stream
+TakesAll t bytes = ⊤
+
+-- for these bytes, if they are known, the task finds a broken rule, or a string that isn't portable
 abbrev pub IsBrokenOver : Task → Option (List ℕ) → Type 0
-IsBrokenOver t told =
-    IfSome told (λ bytes. (text : Text) × (finding : Finding) × Gives t bytes text (Ok (status.Broken finding)))
+IsBrokenOver t told = IfSome told (λ bytes. TakesAll t bytes
+    → (text : Text) × (found : Status) × (found ≢ status.Done) × Gives t bytes text (Ok found))
 
 -- for these bytes, if they are known, the task has a status, so it doesn't refuse them
 abbrev pub IsJudgedOver : Task → Option (List ℕ) → Type 0
@@ -121,14 +127,30 @@ pub record FileEnds {O : Type 0} (t : Task) (is_shown : Bool) (folder : FolderVi
   pub ended : (RunEnds t is_shown (Some name) exit file output errors × IsOpened folder name file)
       ⊎ IsUnopened (folder.opening name) name exit output errors
 
--- ---- checks and surveys of several files
+-- ---- checks, surveys and scans of several files
 
 -- the text is one line: its only line feed is its last byte
 abbrev pub IsLine : Text → Type 0
 IsLine text = (front : Text) × (text ≡ front ++ 10 ∷ []) × All (λ byte. nat_eq byte 10 ≡ false) front
 
--- how the check or the survey of a file ended: why it couldn't be opened, if it couldn't; the file's bytes and what it
--- had left, if they are known; its format; the lines; and the answer
+-- the task writes while it reads
+abbrev pub scans : Task → Bool
+scans (Scan profile eight) = true
+scans t = false
+
+-- these bytes were read, and these are left: nothing, or for a scan what is behind the stream
+abbrev pub IsOverFor : Task → Option (List ℕ) → List ℕ → Type 0
+IsOverFor (Scan profile eight) left bytes = IsOver left bytes
+IsOverFor t left bytes = IsAtEnd left
+
+-- a prefix of the bytes was read, perhaps none, and the rest is still to come; after an `Ok` it is over for the task
+pub record ReadsOver (t : Task) (answer : Result Status RunFault) (old new : Option (List ℕ)) : Type 0 where
+  pub bytes : List ℕ
+  pub read : Consumes old new bytes
+  pub ended : OnOk answer (IsOverFor t new bytes)
+
+-- how the check, the survey or the scan of a file ended: why it couldn't be opened, if it couldn't; the file's bytes
+-- and what it had left, if they are known; its format; the lines found; and the answer
 pub record FileEnd : Type 0 where
   pub name : Text
   pub unopened : Option Unopened
@@ -138,13 +160,16 @@ pub record FileEnd : Type 0 where
   pub lines : List Text
   pub answer : Result Status RunFault
 
--- the task over those bytes may end so, and these are the lines of what it writes
+-- the task over those bytes may end so, and these are the lines of what it writes. After Write, which only a scan
+-- answers, they are those of the strings up to the one whose line couldn't be written
 pub record IsFileEnd (t : Task) (e : FileEnd) : Type 0 where
   pub wrote : IfSome e.told (λ bytes. Wrote t bytes e.left e.answer (Some []) (Some (concat e.lines)))
   pub are_lines : All IsLine e.lines
+  -- a check or a survey that is refused has no line
+  pub refused : scans t ≡ false → (fault : RunFault) → e.answer ≡ Err fault → e.lines ≡ []
   pub memory : e.answer ≡ Err run.OutOfMemory → TakesMemory t e.told
-  pub written : e.answer ≢ Err run.Write
-  pub reads : ReadsToEnd e.answer e.told e.left
+  pub written : scans t ≡ false → e.answer ≢ Err run.Write
+  pub reads : ReadsOver t e.answer e.told e.left
   pub is_format : IsFormat e.told e.format
 
 -- the file was opened, or couldn't be, which counts as a failed read. Standard input is never opened
@@ -154,13 +179,12 @@ pub record IsFileOpening {O : Type 0} (folder : FolderView O) (e : FileEnd) : Ty
   pub unread : (reason : Unopened) → e.unopened ≡ Some reason → e.answer ≡ Err run.Read
   pub counted : is_dash e.name ≡ false → e.unopened ≡ None → FailsWith folder e.answer
 
--- the output for a file: each line after the file's name; nothing if the task is quiet or the file is refused
-abbrev pub file_text : Bool → Text → List Text → Result Status RunFault → Text
-file_text is_quiet name lines (Ok status) = if is_quiet then [] else flat_map (named name) lines
-file_text is_quiet name lines (Err fault) = []
+-- the output for a file: each line after the file's name; nothing if the task is quiet
+abbrev pub file_text : Bool → Text → List Text → Text
+file_text is_quiet name lines = if is_quiet then [] else flat_map (named name) lines
 
 abbrev pub text_of_end : Bool → FileEnd → Text
-text_of_end is_quiet e = file_text is_quiet e.name e.lines e.answer
+text_of_end is_quiet e = file_text is_quiet e.name e.lines
 
 -- the output for several files
 abbrev pub files_text : Bool → List FileEnd → Text
@@ -223,17 +247,18 @@ SaysOfFile name (Some reason) format answer errors = IsPut (unopened_line name r
 
 -- what the task over the file with this name and this format did to the two sinks, given its lines and its answer.
 -- `Ok`: the text for the file was appended to the output, and the message about it was put to the errors. `Err`: the
--- output failed after a prefix of that text, and nothing was put to the errors. This can't happen if the task is quiet
+-- output failed after a prefix of that text, and nothing was put to the errors: there was nothing to say of the file,
+-- or the task wrote while it read. This can't happen if the task is quiet
 abbrev pub IsOutcome : {E : Type 0} → Bool → Text → Option Unopened → Option Format → List Text
     → Result Status RunFault → Result (Result Status RunFault) E → Change SinkState → Change SinkState → Type 0
 IsOutcome is_quiet name unopened format lines answer (Ok answered) output errors =
     (answered ≡ answer)
-    × Appends output.old.taken output.new.taken (file_text is_quiet name lines answer)
+    × Appends output.old.taken output.new.taken (file_text is_quiet name lines)
     × (output.new.failures ≡ output.old.failures) × SaysOfFile name unopened format answer errors
 IsOutcome is_quiet name unopened format lines answer (Err fault) output errors =
-    ((count : ℕ) × Appends output.old.taken output.new.taken (take count (file_text is_quiet name lines answer)))
+    ((count : ℕ) × Appends output.old.taken output.new.taken (take count (file_text is_quiet name lines)))
     × (is_quiet ≡ false) × (output.new.failures ≡ one_more output.old.failures)
-    × (said_of_file name unopened format answer ≡ []) × (errors.new ≡ errors.old)
+    × ((said_of_file name unopened format answer ≡ []) ⊎ (answer ≡ Err run.Write)) × (errors.new ≡ errors.old)
 
 -- the bytes of each file in turn, if they are known; standard input had `had` before them and has `has` after them
 unfoldable pub Tells : (Text → Option (List ℕ)) → Option (List ℕ) → List FileEnd → Option (List ℕ) → Type 0
@@ -246,6 +271,26 @@ Tells contents had (e ∷ rest) has =
 abbrev pub failures_past : ℕ → FileEnd → ℕ
 failures_past count e = if is_dash e.name then failures_by run.Read e.answer count else count
 
+-- how the task over an open file, or over standard input by its name, ended, and what it did to the two sinks
+pub record IsNamedEnd {E : Type 0} (t : Task) (is_quiet : Bool) (name : Text)
+    (result : Result (Result Status RunFault) E) (input : Change SourceState) (output errors : Change SinkState)
+    : Type 0 where
+  pub format : Option Format
+  pub lines : List Text
+  pub answer : Result Status RunFault
+  pub is_end : IsFileEnd t (record {
+    name = name;
+    unopened = None;
+    told = input.old.remaining;
+    left = input.new.remaining;
+    format = format;
+    lines = lines;
+    answer = answer;
+  })
+  pub counted : input.new.failures ≡ failures_by run.Read answer input.old.failures
+  pub written : OnOk result (answer ≢ Err run.Write)
+  pub outcome : IsOutcome is_quiet name None format lines answer result output errors
+
 -- how the task over the file with this name ended, beside standard input, and what it did to the two sinks
 pub record IsChecked {O E : Type 0} (t : Task) (is_quiet : Bool) (folder : FolderView O)
     (name : Text) (result : Result (Result Status RunFault) E) (input : Change SourceState)
@@ -257,6 +302,7 @@ pub record IsChecked {O E : Type 0} (t : Task) (is_quiet : Bool) (folder : Folde
   pub is_end : IsFileEnd t e
   pub opening : IsFileOpening folder e
   pub counted : input.new.failures ≡ failures_past input.old.failures e
+  pub written : OnOk result (e.answer ≢ Err run.Write)
   pub outcome : IsOutcome is_quiet name e.unopened e.format e.lines e.answer result output errors
 
 -- a call on a sink failed: its count of failures rose, or is the greatest `u64`
@@ -273,6 +319,7 @@ pub record AreChecked {O : Type 0} (t : Task) (is_quiet : Bool) (folder : Folder
     (names : List Text) (exit : Exit) (input : Change SourceState) (output errors : Change SinkState) : Type 0 where
   pub names_are : names ≡ names_of ends
   pub each : All (IsFileEnd t) ends
+  pub written : All (λ e. e.answer ≢ Err run.Write) ends
   pub openings : All (IsFileOpening folder) ends
   pub tells : Tells (bytes_of folder.opening) input.old.remaining ends input.new.remaining
   pub counted : input.new.failures ≡ fold failures_past input.old.failures ends
@@ -294,6 +341,7 @@ pub record AreCut {O : Type 0} (t : Task) (is_quiet : Bool) (folder : FolderView
   -- if the output failed at no file, it failed at the flush, after all files
   pub at_the_end : last ≡ None → rest ≡ []
   pub each : All (IsFileEnd t) (whole ++ option_to_list last)
+  pub written : All (λ e. e.answer ≢ Err run.Write) whole
   pub openings : All (IsFileOpening folder) (whole ++ option_to_list last)
   pub tells : Tells (bytes_of folder.opening) input.old.remaining (whole ++ option_to_list last) input.new.remaining
   pub counted : input.new.failures ≡ fold failures_past input.old.failures (whole ++ option_to_list last)
@@ -301,7 +349,8 @@ pub record AreCut {O : Type 0} (t : Task) (is_quiet : Bool) (folder : FolderView
   pub lines : Appends output.old.taken output.new.taken
       (files_text is_quiet whole ++ take count (files_text is_quiet (option_to_list last)))
   pub failed : output.new.failures ≡ one_more output.old.failures
-  pub silent : All (λ e. said_of e ≡ []) (option_to_list last)
+  -- there was nothing to say of the last file, or the task wrote while it read
+  pub silent : All (λ e. (said_of e ≡ []) ⊎ (e.answer ≡ Err run.Write)) (option_to_list last)
   pub said : ArePut (complaints_of whole ++ fault_line run.Write ∷ []) errors
 
 -- all files were checked, and the output is flushed unless the task is quiet. Then the errors got the hint on the first
@@ -339,8 +388,8 @@ pub record QuietEnds (profile : Profile) (exit : Exit) (input : Change SourceSta
   pub ends : exit ≡ exit_for_answer answer
   pub said : IsPut (complaint (Check profile) None answer ++ advice_for format answer) errors
 
--- how a request ended. Without names the task is over standard input. Otherwise a check or a survey is of all files
--- that are named, and any other task is over the first. A survey is never quiet
+-- how a request ended. Without names the task is over standard input. Otherwise a check, a survey or a scan is of all
+-- files that are named, and any other task is over the first. A survey and a scan are never quiet
 abbrev pub RequestEnds : {O : Type 0} → Task → Bool → Bool → List Text → FolderView O → Exit → Change SourceState
     → Change SinkState → Change SinkState → Type 0
 RequestEnds (Check profile) true is_shown [] folder exit input output errors =
@@ -350,6 +399,8 @@ RequestEnds (Check profile) is_quiet is_shown (name ∷ more) folder exit input 
     FilesEnd (Check profile) is_quiet is_shown folder (name ∷ more) exit input output errors
 RequestEnds (Survey profile) is_quiet is_shown (name ∷ more) folder exit input output errors =
     FilesEnd (Survey profile) false is_shown folder (name ∷ more) exit input output errors
+RequestEnds (Scan profile eight) is_quiet is_shown (name ∷ more) folder exit input output errors =
+    FilesEnd (Scan profile eight) false is_shown folder (name ∷ more) exit input output errors
 RequestEnds t is_quiet is_shown (name ∷ more) folder exit input output errors =
     FileEnds t is_shown folder name exit input output errors
 

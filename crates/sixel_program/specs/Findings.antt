@@ -1,7 +1,7 @@
--- What a check or a survey of an input finds.
+-- Tasks over any number of files, and what a check or a survey of an input finds.
 use Rattle.std.specs.Prelude.{List, [], ◌∷◌, Result, Ok, Err}
 use Rattle.sixel_program.specs.declared.findings.FilesTask.{FilesTask}
-use Rattle.sixel_program.specs.declared.findings.FilesTask.TheVariants.{Check, Survey}
+use Rattle.sixel_program.specs.declared.findings.FilesTask.TheVariants.{Check, Scan, Survey}
 use Rattle.sixel_program.specs.declared.findings.Found.{Found}
 use Rattle.sixel_program.specs.declared.findings.Found.TheVariants as found
 use Rattle.sixel_run.specs.declared.fault.RunFault.{RunFault}
@@ -15,6 +15,7 @@ use Rattle.sixel_run.specs.Texts.{Text, survey_lines, verdict_line}
 abbrev pub task_of : FilesTask → Task
 task_of (Check profile) = task.Check profile
 task_of (Survey profile) = task.Survey profile
+task_of (Scan profile eight) = task.Scan profile eight
 
 abbrev pub status_found : Found → Status
 status_found (found.Verdict verdict) = status_of verdict

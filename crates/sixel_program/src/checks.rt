@@ -1,24 +1,20 @@
-//! Checks and surveys of files, and quiet checks of standard input.
+//! Checks, surveys and scans of files, and quiet checks of standard input.
 
-ghost use Rattle.std.specs.Prelude.{◌≡◌, ◌&&◌, IfErr, List, None, OnOk, Option, Result, false, map, not, option_copied, true};
+ghost use Rattle.std.specs.Prelude.{◌≡◌, ◌≢◌, ◌&&◌, Err, IfErr, None, OnOk, false, map, not, option_copied, true};
 ghost use Rattle.std.specs.Io.KnownBytes.{Keeps};
 ghost use Rattle.std.specs.List.{list_any};
 ghost use Rattle.std.specs.String.{string_bytes};
 ghost use Rattle.sixel_io.specs.Devices.{CountsFailure, change};
 ghost use Rattle.sixel_program.specs.Exits.{IsPut};
-ghost use Rattle.sixel_program.specs.Files.{FilesEnd, IsChecked, IsFileEnd, IsOutcome, QuietEnds, SaysOfCheck};
-ghost use Rattle.sixel_program.specs.Files.{is_dash, worse};
+ghost use Rattle.sixel_program.specs.Files.{FilesEnd, IsChecked, IsNamedEnd, IsOutcome, QuietEnds, SaysOfCheck};
+ghost use Rattle.sixel_program.specs.Files.{is_dash, scans, worse};
 ghost use Rattle.sixel_program.specs.Findings.{answer_of, lines_of, task_of};
-ghost use Rattle.sixel_program.specs.declared.formats.Format.{Format as AFormat};
 ghost use Rattle.sixel_program.specs.Openings.{folder_view};
-ghost use Rattle.sixel_run.specs.Outputs.{failures_by};
-ghost use Rattle.sixel_run.specs.Texts.{Text, fault_line};
-ghost use Rattle.sixel_run.specs.declared.fault.RunFault.{RunFault as AFault};
-ghost use Rattle.sixel_run.specs.declared.fault.RunFault.TheVariants.{Read as ReadFault};
-ghost use Rattle.sixel_run.specs.declared.task.Status.{Status as AStatus};
+ghost use Rattle.sixel_run.specs.Texts.{fault_line};
+ghost use Rattle.sixel_run.specs.declared.task.Task.TheVariants.{Check, Scan, Survey};
 
 use crate::exit::{Exit, code_of, exit_of};
-use crate::findings::{FilesTask, Found, find, put_found};
+use crate::findings::{AfterName, FilesTask, Found, answer_of, find_survey, find_verdict, put_found};
 use crate::folder::{Folder, open_file};
 use crate::formats::Format;
 use crate::hints::{put_hint, rule_of};
@@ -26,23 +22,23 @@ use crate::peeked::Peeked;
 use crate::saying::{put_refusal, put_unopened};
 use sixel_io::{DeviceFault, Sink, Source};
 use sixel_model::Profile;
-use sixel_run::{RunFault, Status, write_fault};
+use sixel_run::{RunFault, Status, scan_with, write_fault};
 use std::alloc::Global;
 
 /// Writes why an input was refused, if it was. The input has this name or none, and this format. Returns the answer of
 /// the task.
-fn say_judged<E: Sink>(
+fn say_answer<E: Sink>(
     name: Option<&str>,
     format: Option<Format>,
-    judged: Result<Found, RunFault>,
+    answer: Result<Status, RunFault>,
     errors: &mut E,
 ) -> Result<Status, RunFault>
-    ensures answer { result ≡ answer_of judged }
-    ensures said { SaysOfCheck (option_copied name.entry) format (answer_of judged)
+    ensures answer { result ≡ answer }
+    ensures said { SaysOfCheck (option_copied name.entry) format answer
         (change (E.state errors.old) (E.state errors.new)) }
 {
-    match judged {
-        Ok(found) => Ok(found.status()),
+    match answer {
+        Ok(status) => Ok(status),
         Err(fault) => {
             let _ = put_refusal(name, format, &fault, errors);
             Err(fault)
@@ -62,8 +58,8 @@ pub fn check_quietly<S: Source, E: Sink>(
         (change (E.state errors.old) (E.state errors.new)) }
 {
     let format = input.format();
-    let judged = find(alloc, FilesTask::Check { profile }, input);
-    exit_of(say_judged(None, format, judged, errors))
+    let judged = find_verdict(alloc, profile, input);
+    exit_of(say_answer(None, format, answer_of(&judged), errors))
 }
 
 /// Writes the lines on a file, unless the task is quiet, or why the file was refused. Returns the answer of the task,
@@ -84,11 +80,81 @@ fn put_judged<K: Sink, E: Sink>(
             put_found(name, found, output)?;
         }
     }
-    Ok(say_judged(Some(name), format, judged, errors))
+    Ok(say_answer(Some(name), format, answer_of(&judged), errors))
 }
 
-/// Checks or surveys an open file, or standard input by its name. Returns the answer, or an `Err` if `output` failed.
+/// Checks an open file, or standard input by its name. Returns the answer, or an `Err` if `output` failed.
 fn check_named<S: Source, K: Sink, E: Sink>(
+    alloc: Global,
+    profile: Profile,
+    is_quiet: bool,
+    name: &str,
+    input: &mut Peeked<S>,
+    output: &mut K,
+    errors: &mut E,
+) -> Result<Result<Status, RunFault>, DeviceFault>
+    ensures { IsNamedEnd (Check profile) is_quiet name.now result
+        (change (⟦<Peeked<S> as Source>⟧.state input.old) (⟦<Peeked<S> as Source>⟧.state input.new))
+        (change (K.state output.old) (K.state output.new)) (change (E.state errors.old) (E.state errors.new)) }
+{
+    let format = input.format();
+    let judged = find_verdict(alloc, profile, input);
+    put_judged(is_quiet, name, format, judged, output, errors)
+}
+
+/// Surveys an open file, or standard input by its name. Returns the answer, or an `Err` if `output` failed.
+fn survey_named<S: Source, K: Sink, E: Sink>(
+    alloc: Global,
+    profile: Profile,
+    is_quiet: bool,
+    name: &str,
+    input: &mut Peeked<S>,
+    output: &mut K,
+    errors: &mut E,
+) -> Result<Result<Status, RunFault>, DeviceFault>
+    ensures { IsNamedEnd (Survey profile) is_quiet name.now result
+        (change (⟦<Peeked<S> as Source>⟧.state input.old) (⟦<Peeked<S> as Source>⟧.state input.new))
+        (change (K.state output.old) (K.state output.new)) (change (E.state errors.old) (E.state errors.new)) }
+{
+    let format = input.format();
+    let judged = find_survey(alloc, profile, input);
+    put_judged(is_quiet, name, format, judged, output, errors)
+}
+
+/// Scans an open file, or standard input by its name, and writes the line of each string as soon as the string has
+/// ended. Returns the answer, or an `Err` if `output` failed.
+fn scan_named<S: Source, K: Sink, E: Sink>(
+    alloc: Global,
+    profile: Profile,
+    eight_bit: bool,
+    name: &str,
+    input: &mut Peeked<S>,
+    output: &mut K,
+    errors: &mut E,
+) -> Result<Result<Status, RunFault>, DeviceFault>
+    ensures { IsNamedEnd (Scan profile eight_bit) false name.now result
+        (change (⟦<Peeked<S> as Source>⟧.state input.old) (⟦<Peeked<S> as Source>⟧.state input.new))
+        (change (K.state output.old) (K.state output.new)) (change (E.state errors.old) (E.state errors.new)) }
+{
+    let format = input.format();
+    let answer = scan_with(alloc, profile, eight_bit, &AfterName { name }, input, output);
+    if is_unwritten(&answer) {
+        return Err(DeviceFault);
+    }
+    Ok(say_answer(Some(name), format, answer, errors))
+}
+
+/// Whether the output failed.
+fn is_unwritten(answer: &Result<Status, RunFault>) -> bool
+    ensures yes { result ≡ true → answer.now ≡ Err RunFault.Write }
+    ensures no { result ≡ false → answer.now ≢ Err RunFault.Write }
+{
+    matches!(answer, Err(RunFault::Write))
+}
+
+/// Checks, surveys or scans an open file, or standard input by its name. Returns the answer, or an `Err` if `output`
+/// failed.
+fn answer_named<S: Source, K: Sink, E: Sink>(
     alloc: Global,
     task: FilesTask,
     is_quiet: bool,
@@ -97,28 +163,26 @@ fn check_named<S: Source, K: Sink, E: Sink>(
     output: &mut K,
     errors: &mut E,
 ) -> Result<Result<Status, RunFault>, DeviceFault>
-    ensures { (format : Option AFormat) × (lines : List Text) × (answer : Result AStatus AFault)
-        × IsFileEnd (task_of task) (record {
-          name = name.now;
-          unopened = None;
-          told = (⟦<Peeked<S> as Source>⟧.state input.old).remaining;
-          left = (⟦<Peeked<S> as Source>⟧.state input.new).remaining;
-          format = format;
-          lines = lines;
-          answer = answer;
-        })
-        × ((⟦<Peeked<S> as Source>⟧.state input.new).failures
-        ≡ failures_by ReadFault answer (⟦<Peeked<S> as Source>⟧.state input.old).failures)
-        × IsOutcome is_quiet name.now None format lines answer result
+    requires { scans (task_of task) ≡ true → is_quiet ≡ false }
+    ensures { IsNamedEnd (task_of task) is_quiet name.now result
+        (change (⟦<Peeked<S> as Source>⟧.state input.old) (⟦<Peeked<S> as Source>⟧.state input.new))
         (change (K.state output.old) (K.state output.new)) (change (E.state errors.old) (E.state errors.new)) }
 {
-    let format = input.format();
-    let judged = find(alloc, task, input);
-    put_judged(is_quiet, name, format, judged, output, errors)
+    match task {
+        FilesTask::Check { profile } => {
+            check_named(alloc, profile, is_quiet, name, input, output, errors)
+        }
+        FilesTask::Survey { profile } => {
+            survey_named(alloc, profile, is_quiet, name, input, output, errors)
+        }
+        FilesTask::Scan { profile, eight_bit } => {
+            scan_named(alloc, profile, eight_bit, name, input, output, errors)
+        }
+    }
 }
 
-/// Checks or surveys the file with this name, or standard input if the name is `-`. Returns the answer, or an `Err` if
-/// `output` failed.
+/// Checks, surveys or scans the file with this name, or standard input if the name is `-`. Returns the answer, or an
+/// `Err` if `output` failed.
 fn check_file<F: Folder, S: Source, K: Sink, E: Sink>(
     alloc: Global,
     task: FilesTask,
@@ -129,18 +193,19 @@ fn check_file<F: Folder, S: Source, K: Sink, E: Sink>(
     output: &mut K,
     errors: &mut E,
 ) -> Result<Result<Status, RunFault>, DeviceFault>
+    requires { scans (task_of task) ≡ true → is_quiet ≡ false }
     ensures checked { IsChecked (task_of task) is_quiet (folder_view (F.opening folder.now) F.Opened.state) name.now result
         (change (⟦<Peeked<S> as Source>⟧.state input.old) (⟦<Peeked<S> as Source>⟧.state input.new))
         (change (K.state output.old) (K.state output.new)) (change (E.state errors.old) (E.state errors.new)) }
     ensures unread { is_dash name.now ≡ false → input.new ≡ input.old }
 {
     if name == "-" {
-        return check_named(alloc, task, is_quiet, name, input, output, errors);
+        return answer_named(alloc, task, is_quiet, name, input, output, errors);
     }
     match open_file(folder, name) {
         Ok(file) => {
             let mut file = Peeked::new(file);
-            check_named(alloc, task, is_quiet, name, &mut file, output, errors)
+            answer_named(alloc, task, is_quiet, name, &mut file, output, errors)
         }
         Err(reason) => {
             let _ = put_unopened(name, reason, errors);
@@ -183,8 +248,8 @@ fn has_hint(is_quiet: bool, is_shown: bool) -> bool
     !is_quiet && is_shown
 }
 
-/// Checks or surveys the files with these names in turn. A refused file doesn't end this, but a failed write does. The
-/// exit status is the greatest of theirs. If hints are shown (`is_shown`) and the task isn't quiet, one on the first
+/// Checks, surveys or scans the files with these names in turn. A refused file doesn't end this, but a failed write
+/// does. The exit status is the greatest of theirs. If hints are shown (`is_shown`) and the task isn't quiet, one on the first
 /// broken file's rule comes last.
 pub fn check_files<F: Folder, S: Source, K: Sink, E: Sink>(
     alloc: Global,
@@ -197,6 +262,7 @@ pub fn check_files<F: Folder, S: Source, K: Sink, E: Sink>(
     output: &mut K,
     errors: &mut E,
 ) -> Exit
+    requires { scans (task_of task) ≡ true → is_quiet ≡ false }
     ensures checked { FilesEnd (task_of task) is_quiet is_shown (folder_view (F.opening folder.now) F.Opened.state)
         (map string_bytes names.now) result
         (change (⟦<Peeked<S> as Source>⟧.state input.old) (⟦<Peeked<S> as Source>⟧.state input.new))

@@ -18,7 +18,7 @@ use std::alloc::{AllocError, Global};
 #[derive(Clone, Copy, Debug, PartialEq, Eq)]
 pub enum Exit {
     Done,
-    /// A rule is broken.
+    /// A rule is broken, or a string of a stream isn't portable.
     Broken,
     /// The input was refused, or an allocation, a read or a write failed.
     Refused,
@@ -44,7 +44,7 @@ pub fn exit_of(answer: Result<Status, RunFault>) -> Exit
 {
     match answer {
         Ok(Status::Done) => Exit::Done,
-        Ok(Status::Broken(_)) => Exit::Broken,
+        Ok(Status::Broken(_)) | Ok(Status::Unfit) => Exit::Broken,
         Err(_) => Exit::Refused,
     }
 }

@@ -40,7 +40,7 @@ pub fn reads_input(request: &Request) -> bool
 {
     match (request.task, request.files.as_slice()) {
         (_, []) => true,
-        (Task::Check { .. } | Task::Survey { .. }, names) => names_input(names),
+        (Task::Check { .. } | Task::Survey { .. } | Task::Scan { .. }, names) => names_input(names),
         (_, [name, ..]) => name.as_str() == "-",
     }
 }
@@ -101,8 +101,8 @@ fn report_file<F: Folder, S: Source, K: Sink, E: Sink>(
     }
 }
 
-/// Carries out a request. A check and a survey read all files that are named, and end with a hint on the first broken
-/// rule if `errors` is a terminal and the check isn't quiet; any other task reads the first file.
+/// Carries out a request. A check, a survey and a scan read all files that are named; any other task reads the first. A
+/// check and a survey end with a hint on the first broken rule if `errors` is a terminal and the check isn't quiet.
 pub fn answer<F: Folder, S: Source, K: Sink, E: Sink>(
     alloc: Global,
     request: &Request,
@@ -134,6 +134,12 @@ pub fn answer<F: Folder, S: Source, K: Sink, E: Sink>(
         }
         (Task::Survey { profile }, _) => {
             let task = FilesTask::Survey { profile };
+            check_files(
+                alloc, task, false, is_shown, names, folder, input, output, errors,
+            )
+        }
+        (Task::Scan { profile, eight_bit }, _) => {
+            let task = FilesTask::Scan { profile, eight_bit };
             check_files(
                 alloc, task, false, is_shown, names, folder, input, output, errors,
             )

@@ -1,4 +1,4 @@
-//! What a check or a survey finds in an input, and its lines after a file's name.
+//! Tasks over any number of files; what a check or a survey finds in an input, and lines after a file's name.
 
 ghost use Rattle.std.specs.Prelude.{◌≡◌, ◌≢◌, [], Err, IfSome, Some, flat_map, map};
 ghost use Rattle.std.specs.List.{concat};
@@ -8,13 +8,14 @@ ghost use Rattle.sixel_program.specs.Names.{named};
 ghost use Rattle.sixel_run.specs.Outputs.{TakesMemory, Wrote, failures_by};
 ghost use Rattle.sixel_run.specs.Texts.{entry_line, survey_lines};
 ghost use Rattle.sixel_run.specs.declared.fault.RunFault.TheVariants.{Read as ReadFault};
+ghost use Rattle.sixel_run.specs.declared.task.Task.TheVariants.{Check, Survey};
 
 use crate::names::put_named;
 use sixel_check::Verdict;
 use sixel_io::{DeviceFault, Sink, Source};
 use sixel_model::Profile;
 use sixel_run::{
-    RunFault, Status, Surveyed, Task, entry_line, judge, size_line, status_of, survey_of,
+    PutLine, RunFault, Status, Surveyed, Task, entry_line, judge, size_line, status_of, survey_of,
     verdict_line,
 };
 use sixel_survey::{Entry, Survey};
@@ -25,9 +26,10 @@ use std::alloc::Global;
 pub enum FilesTask {
     Check { profile: Profile },
     Survey { profile: Profile },
+    Scan { profile: Profile, eight_bit: bool },
 }
 
-/// What such a task finds in an input.
+/// What a check or a survey finds in an input.
 #[derive(Debug, Drop)]
 pub enum Found {
     Verdict(Verdict),
@@ -42,6 +44,7 @@ impl FilesTask {
         match self {
             FilesTask::Check { profile } => Task::Check { profile },
             FilesTask::Survey { profile } => Task::Survey { profile },
+            FilesTask::Scan { profile, eight_bit } => Task::Scan { profile, eight_bit },
         }
     }
 }
@@ -58,27 +61,57 @@ impl Found {
     }
 }
 
-/// Checks or surveys an input, and writes nothing.
-pub fn find<S: Source>(alloc: Global, task: FilesTask, input: &mut S) -> Result<Found, RunFault>
+/// The answer of a run that found this.
+pub fn answer_of(found: &Result<Found, RunFault>) -> Result<Status, RunFault>
+    ensures { result ≡ answer_of found.now }
+{
+    match found {
+        Ok(found) => Ok(found.status()),
+        Err(fault) => Err(*fault),
+    }
+}
+
+/// Checks an input, and writes nothing.
+pub fn find_verdict<S: Source>(
+    alloc: Global,
+    profile: Profile,
+    input: &mut S,
+) -> Result<Found, RunFault>
     ensures found { IfSome (S.state input.old).remaining (λ bytes.
-        Wrote (task_of task) bytes (S.state input.new).remaining
+        Wrote (Check profile) bytes (S.state input.new).remaining
         (answer_of result) (Some []) (Some (concat (lines_of result)))) }
     ensures memory { answer_of result ≡ Err RunFault.OutOfMemory →
-        TakesMemory (task_of task) (S.state input.old).remaining }
+        TakesMemory (Check profile) (S.state input.old).remaining }
     ensures reads { (S.state input.new).failures
         ≡ failures_by ReadFault (answer_of result) (S.state input.old).failures }
     ensures left { ReadsToEnd (answer_of result) (S.state input.old).remaining (S.state input.new).remaining }
     ensures unwritten { answer_of result ≢ Err RunFault.Write }
 {
-    match task {
-        FilesTask::Check { profile } => match judge(alloc, profile, input) {
-            Ok(verdict) => Ok(Found::Verdict(verdict)),
-            Err(fault) => Err(fault),
-        },
-        FilesTask::Survey { profile } => match survey_of(alloc, profile, input) {
-            Ok(surveyed) => Ok(Found::Survey(surveyed)),
-            Err(fault) => Err(fault),
-        },
+    match judge(alloc, profile, input) {
+        Ok(verdict) => Ok(Found::Verdict(verdict)),
+        Err(fault) => Err(fault),
+    }
+}
+
+/// Surveys an input, and writes nothing.
+pub fn find_survey<S: Source>(
+    alloc: Global,
+    profile: Profile,
+    input: &mut S,
+) -> Result<Found, RunFault>
+    ensures found { IfSome (S.state input.old).remaining (λ bytes.
+        Wrote (Survey profile) bytes (S.state input.new).remaining
+        (answer_of result) (Some []) (Some (concat (lines_of result)))) }
+    ensures memory { answer_of result ≡ Err RunFault.OutOfMemory →
+        TakesMemory (Survey profile) (S.state input.old).remaining }
+    ensures reads { (S.state input.new).failures
+        ≡ failures_by ReadFault (answer_of result) (S.state input.old).failures }
+    ensures left { ReadsToEnd (answer_of result) (S.state input.old).remaining (S.state input.new).remaining }
+    ensures unwritten { answer_of result ≢ Err RunFault.Write }
+{
+    match survey_of(alloc, profile, input) {
+        Ok(surveyed) => Ok(Found::Survey(surveyed)),
+        Err(fault) => Err(fault),
     }
 }
 
@@ -121,5 +154,19 @@ pub fn put_found<K: Sink>(name: &str, found: &Found, out: &mut K) -> Result<(), 
             put_named(out, b"", name, b": ", verdict_line(verdict).as_slice())
         }
         Found::Survey(surveyed) => put_survey(name, &surveyed.survey, out),
+    }
+}
+
+/// Lines after a file's name, each in one piece.
+#[derive(Clone, Copy)]
+pub struct AfterName<'a> {
+    pub name: &'a str,
+}
+
+impl<'a> PutLine for AfterName<'a> {
+    ghost written = { λ label line. named label.name.now line };
+
+    fn put_line<K: Sink>(&self, line: &[u8], out: &mut K) -> Result<(), DeviceFault> {
+        put_named(out, b"", self.name, b": ", line)
     }
 }

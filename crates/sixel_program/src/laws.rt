@@ -14,28 +14,30 @@ ghost use Rattle.sixel_words.specs.declared.explanations.Topic.TheVariants.{Read
 ghost use Rattle.sixel_program.specs.declared.folder.Unopened.{Unopened};
 ghost use Rattle.sixel_program.specs.Exits.{exit_code, fault_said, labelled};
 ghost use Rattle.sixel_program.specs.Files.{ArePut, FileEnd, IsFileEnd, IsLine, IsSaid, exit_of_end, files_exit};
-ghost use Rattle.sixel_program.specs.Files.{files_text};
+ghost use Rattle.sixel_program.specs.Files.{files_text, scans};
 ghost use Rattle.sixel_program.specs.Findings.{task_of};
 ghost use Rattle.sixel_program.specs.declared.findings.FilesTask.{FilesTask};
 ghost use Rattle.sixel_program.specs.Names.{is_control, printed, unopened_line};
 ghost use Rattle.sixel_run.specs.Outputs.{Gives};
-ghost use Rattle.sixel_run.specs.Texts.{Text, entry_line, finding_line, rule_name};
+ghost use Rattle.sixel_run.specs.Texts.{Text, entry_line, finding_line, reason_name, rule_name, string_line};
+ghost use Rattle.sixel_scan.specs.declared.answer.Answer.TheVariants.{Broken, Refused};
 ghost use Rattle.sixel_survey.specs.declared.entry.Entry.{Entry};
 
-/// The output of a check or a survey of several files is their lines joined. Each line begins with the file's name, and
-/// without it they are the lines that the task writes over only this file's bytes. A refused file has no line, and a
-/// grammar fault is the one that the task finds in only this file's bytes. A quiet check writes no lines. The exit status
-/// is the greatest: it is that of one of the files, and no file has a greater one. Texts that were put to a sink in turn
-/// are appended to it joined, unless a call on the sink failed.
+/// The output of a check, a survey or a scan of several files is their lines joined. Each line begins with the file's
+/// name, and without it they are the lines that the task writes over only this file's bytes. A file that a check or a
+/// survey refuses has no line, and a grammar fault is the one that the task finds in only this file's bytes. A quiet
+/// check writes no lines. The exit status is the greatest: it is that of one of the files, and no file has a greater one.
+/// Texts that were put to a sink in turn are appended to it joined, unless a call on the sink failed.
 pub fn several_files_are_checked_one_by_one()
     ensures joined { (is_quiet : Bool) (prefix rest : List FileEnd) →
         files_text is_quiet (prefix ++ rest) ≡ files_text is_quiet prefix ++ files_text is_quiet rest }
-    ensures named { (e : FileEnd) (status : Status) → e.answer ≡ Ok status →
+    ensures named { (e : FileEnd) →
         files_text false (e ∷ []) ≡ flat_map (λ line. printed e.name ++ codes ": " ++ line) e.lines }
     ensures lines { (task : FilesTask) (e : FileEnd) → IsFileEnd (task_of task) e → All IsLine e.lines }
     ensures alone { (task : FilesTask) (e : FileEnd) (bytes : List ℕ) (status : Status) → IsFileEnd (task_of task) e →
         e.told ≡ Some bytes → e.answer ≡ Ok status → Gives (task_of task) bytes (concat e.lines) (Ok status) }
-    ensures refused { (is_quiet : Bool) (e : FileEnd) (fault : RunFault) → e.answer ≡ Err fault →
+    ensures refused { (task : FilesTask) (is_quiet : Bool) (e : FileEnd) (fault : RunFault) →
+        IsFileEnd (task_of task) e → scans (task_of task) ≡ false → e.answer ≡ Err fault →
         files_text is_quiet (e ∷ []) ≡ [] }
     ensures quiet { (ends : List FileEnd) → files_text true ends ≡ [] }
     ensures faulty { (task : FilesTask) (e : FileEnd) (bytes : List ℕ) (fault : Fault) → IsFileEnd (task_of task) e →
@@ -55,13 +57,19 @@ pub fn names_are_printed_without_controls()
 {}
 
 /// Each line that the program writes about a broken rule, a fault or a file that can't be opened asks for its topic, if
-/// it is pasted after `explain`. This holds for the lines of `check` and of `survey`, and for lines with a file's name
-/// and those without one.
+/// it is pasted after `explain`. This holds for the lines of `check`, of `survey` and of `scan`, and for lines with a
+/// file's name and those without one.
 pub fn each_line_can_be_explained()
     ensures broken { (name : Option Text) (finding : Finding) (said : List Text) →
         ArePasted said (labelled name (finding_line finding)) → Asks (Some said) (Some (rule_name finding.rule)) }
     ensures surveyed { (name : Option Text) (entry : Entry) (said : List Text) →
         ArePasted said (labelled name (entry_line entry)) → Asks (Some said) (Some (rule_name entry.rule)) }
+    ensures scanned { (name : Option Text) (place : ℕ) (finding : Finding) (said : List Text) →
+        ArePasted said (labelled name (string_line (record { place = place; answer = Broken finding }))) →
+        Asks (Some said) (Some (rule_name finding.rule)) }
+    ensures scan_refused { (name : Option Text) (place : ℕ) (fault : Fault) (said : List Text) →
+        ArePasted said (labelled name (string_line (record { place = place; answer = Refused fault }))) →
+        Asks (Some said) (Some (reason_name fault.reason)) }
     ensures refused { (name : Option Text) (fault : RunFault) (said : List Text) →
         ArePasted said (fault_said name fault) → Asks (Some said) (Some (topic_name (topic_of fault))) }
     ensures unopened { (name : Text) (reason : Unopened) (said : List Text) →

@@ -19,6 +19,11 @@ pub const SURVEY: Task = Task::Survey {
     profile: Profile::Registers16,
 };
 
+pub const SCAN: Task = Task::Scan {
+    profile: Profile::Registers16,
+    eight_bit: false,
+};
+
 pub const RENDER: Task = Task::Render {
     profile: Profile::Registers16,
 };

@@ -9,6 +9,7 @@ mod mended;
 mod named;
 mod notices;
 mod redirection;
+mod scanned;
 mod surveyed;
 mod system;
 mod tasks;
@@ -37,6 +38,13 @@ const RATIO: &[u8] = b"\x1bPq\"2;1;1;1\x1b\\";
 /// A picture that breaks three rules: register 17 at 11, register 0 without a colour at 29, and five pixels unpainted.
 const THREE: &[u8] = b"\x1bPq\"1;1;4;2#17;2;0;0;0#17@@#0@\x1b\\";
 
+/// A portable string at offset 2, and at offset 30 one with a wrong ratio.
+const LOG: &[u8] =
+    b"ab\x1bPq\"1;1;1;1#0;2;0;0;0#0@\x1b\\cd\x1bPq\"2;1;1;1#0;2;0;0;0#0@\x1b\\";
+
+/// A portable string, and the first bytes of another.
+const HALVED: &[u8] = b"\x1bPq\"1;1;1;1#0;2;0;0;0#0@\x1b\\\x1bPq\"1";
+
 const PNG: &[u8] = b"\x89PNG\r\n\x1a\n\0\0\0\rIHDR";
 
 /// One red pixel.
@@ -57,8 +65,10 @@ const FOLDER: MemoryFolder<'static> = MemoryFolder {
         ("png", PNG),
         ("bitmap", b"BM"),
         ("red", RED),
+        ("log", LOG),
+        ("eight", b"\x90q\"1;1;1;1#0;2;0;0;0#0@\x9c"),
     ],
-    cut: &[("cut", b"\x1bPq\"1;1;1;1#0;2")],
+    cut: &[("cut", b"\x1bPq\"1;1;1;1#0;2"), ("halved", HALVED)],
     refused: &[
         ("locked", Unopened::PermissionDenied),
         ("folder", Unopened::IsFolder),

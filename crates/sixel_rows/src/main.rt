@@ -27,10 +27,11 @@ use std::fs;
 use std::process::ExitCode;
 
 /// The files of rows, one for each task.
-const FILES: [&str; 7] = [
+const FILES: [&str; 8] = [
     "list.rows",
     "check.rows",
     "survey.rows",
+    "scan.rows",
     "render.rows",
     "show.rows",
     "encode.rows",

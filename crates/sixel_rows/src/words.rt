@@ -12,6 +12,7 @@ use sixel_run::{MOST_SCREEN_SIDE, Task};
 #[derive(Clone, Copy, Default)]
 struct Options<'a> {
     wide: bool,
+    eight_bit: bool,
     showing: bool,
     fill: bool,
     selects: bool,
@@ -39,6 +40,11 @@ pub fn task_of(words: &str) -> Result<Task, RowFault>
     let (is_wide, is_plain) = kind_of(options);
     let profile = profile_of(options.wide);
     match name {
+        "scan" if is_wide => Ok(Task::Scan {
+            profile,
+            eight_bit: options.eight_bit,
+        }),
+        _ if options.eight_bit => Err(RowFault::Words),
         "list" if is_plain => Ok(Task::List),
         "check" if is_wide => Ok(Task::Check { profile }),
         "survey" if is_wide => Ok(Task::Survey { profile }),
@@ -52,7 +58,7 @@ pub fn task_of(words: &str) -> Result<Task, RowFault>
     }
 }
 
-/// Whether there is no option except `--wide`, and whether there is no option at all.
+/// Whether there is no option except `--wide` and `--eight-bit`, and whether there is none except `--eight-bit`.
 fn kind_of(options: Options<'_>) -> (bool, bool) {
     let is_wide = !options.showing
         && !options.fill
@@ -164,6 +170,7 @@ fn take_word<'a>(
         (Awaited::Width, _) => options.width = Some(word),
         (Awaited::Height, _) => options.height = Some(word),
         (_, "--wide") => options.wide = true,
+        (_, "--eight-bit") => options.eight_bit = true,
         (_, "--showing") => options.showing = true,
         (_, "--fill") => options.fill = true,
         (_, "--define-selects") => options.selects = true,

@@ -19,7 +19,7 @@ use Rattle.sixel_judge.specs.Verdicts.{IsVerdict}
 use Rattle.sixel_judge.proofs.DecideLemmas.{verdict_exists}
 use Rattle.sixel_judge.proofs.VerdictLemmas.{verdict_once}
 use Rattle.sixel_run.specs.declared.fault.RunFault.{RunFault}
-use Rattle.sixel_run.specs.declared.fault.RunFault.TheVariants.{Grammar, Ppm, NotRgb, NoBox, Empty, TooLarge}
+use Rattle.sixel_run.specs.declared.fault.RunFault.TheVariants.{Grammar, Ppm, NotRgb, NoBox, NoString, Empty, TooLarge}
 use Rattle.sixel_run.specs.declared.fault.RunFault.TheVariants.{TooManyColours, OutOfMemory, Read, Write}
 use Rattle.sixel_run.specs.declared.task.Status.{Status}
 use Rattle.sixel_run.specs.Conversions.{of_input}
@@ -68,6 +68,7 @@ check-once registers bytes first second (Err (Grammar f)) (Err (Grammar e)) g h 
 check-once registers bytes first second (Ok s) (Err (Ppm reason place)) g h = absurd h
 check-once registers bytes first second (Ok s) (Err NotRgb) g h = absurd h
 check-once registers bytes first second (Ok s) (Err NoBox) g h = absurd h
+check-once registers bytes first second (Ok s) (Err NoString) g h = absurd h
 check-once registers bytes first second (Ok s) (Err Empty) g h = absurd h
 check-once registers bytes first second (Ok s) (Err TooLarge) g h = absurd h
 check-once registers bytes first second (Ok s) (Err TooManyColours) g h = absurd h
@@ -77,6 +78,7 @@ check-once registers bytes first second (Ok s) (Err Write) g h = absurd h
 check-once registers bytes first second (Err (Grammar f)) (Err (Ppm reason place)) g h = absurd h
 check-once registers bytes first second (Err (Grammar f)) (Err NotRgb) g h = absurd h
 check-once registers bytes first second (Err (Grammar f)) (Err NoBox) g h = absurd h
+check-once registers bytes first second (Err (Grammar f)) (Err NoString) g h = absurd h
 check-once registers bytes first second (Err (Grammar f)) (Err Empty) g h = absurd h
 check-once registers bytes first second (Err (Grammar f)) (Err TooLarge) g h = absurd h
 check-once registers bytes first second (Err (Grammar f)) (Err TooManyColours) g h = absurd h

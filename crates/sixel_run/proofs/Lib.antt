@@ -11,6 +11,9 @@ pub mod ScreenLemmas
 pub mod DrawLemmas
 pub mod StageLemmas
 pub mod BoxLemmas
+pub mod StringLemmas
+pub mod ScanLemmas
+pub mod OneStringLemmas
 pub mod RunLemmas
 pub mod RoundTripLemmas
 pub mod SixelLineLemmas

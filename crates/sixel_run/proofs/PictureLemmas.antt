@@ -23,7 +23,7 @@ use Rattle.sixel_check.specs.Answers.{Answers as CheckAnswers}
 use Rattle.sixel_judge.specs.Verdicts.{IsVerdict}
 use Rattle.sixel_judge.proofs.DecideLemmas.{verdict_exists}
 use Rattle.sixel_run.specs.declared.fault.RunFault.{RunFault}
-use Rattle.sixel_run.specs.declared.fault.RunFault.TheVariants.{Grammar, Ppm, NotRgb, NoBox, Empty, TooLarge}
+use Rattle.sixel_run.specs.declared.fault.RunFault.TheVariants.{Grammar, Ppm, NotRgb, NoBox, NoString, Empty, TooLarge}
 use Rattle.sixel_run.specs.declared.fault.RunFault.TheVariants.{TooManyColours, OutOfMemory, Read, Write}
 use Rattle.sixel_run.specs.declared.task.Status.{Status}
 use Rattle.sixel_run.specs.declared.task.Status.TheVariants as status
@@ -62,6 +62,8 @@ either registers bytes text (Err (Ppm reason place)) g =
 either registers bytes text (Err NotRgb) g =
     inr (record { events = g.0; document = g.1; verdict = g.2.0; is = g.2.1; output = g.2.2 })
 either registers bytes text (Err NoBox) g =
+    inr (record { events = g.0; document = g.1; verdict = g.2.0; is = g.2.1; output = g.2.2 })
+either registers bytes text (Err NoString) g =
     inr (record { events = g.0; document = g.1; verdict = g.2.0; is = g.2.1; output = g.2.2 })
 either registers bytes text (Err Empty) g =
     inr (record { events = g.0; document = g.1; verdict = g.2.0; is = g.2.1; output = g.2.2 })

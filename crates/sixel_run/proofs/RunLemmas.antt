@@ -1,5 +1,5 @@
 -- Lemmas for any run: a task gives one text and answer, and if the flush fails a prefix of the text was written.
-use Rattle.std.proofs.Common.{◌≡◌, ◌∙◌, ℕ, List, [], take, Option, Some, None, refl, sym, ap, subst, inl, inr}
+use Rattle.std.proofs.Common.{◌≡◌, ◌∙◌, ℕ, Bool, List, [], take, Option, Some, None, refl, sym, ap, subst, inl, inr}
 use Rattle.std.specs.Prelude.{Result, Ok, Err, IfSome}
 use Rattle.std.specs.Io.KnownBytes.{Appends, Keeps}
 use Rattle.std.proofs.lemmas.List.{append-nil}
@@ -7,14 +7,18 @@ use Rattle.sixel_grammar.specs.declared.fault.Fault.{Fault}
 use Rattle.sixel_grammar.specs.Prefixes.{CompleteIn}
 use Rattle.sixel_grammar.proofs.UniqueLemmas.{complete_once, document_once, fault_no_document, fault_once}
 use Rattle.sixel_run.specs.declared.fault.RunFault.{RunFault}
-use Rattle.sixel_run.specs.declared.fault.RunFault.TheVariants.{Grammar, Ppm, NotRgb, NoBox, Empty, TooLarge}
+use Rattle.sixel_run.specs.declared.fault.RunFault.TheVariants.{Grammar, Ppm, NotRgb, NoBox, NoString, Empty, TooLarge}
 use Rattle.sixel_run.specs.declared.fault.RunFault.TheVariants.{TooManyColours, OutOfMemory, Read, Write}
+use Rattle.sixel_model.specs.Profiles.{count_of}
+use Rattle.sixel_model.specs.declared.profile.Profile.{Profile}
+use Rattle.sixel_scan.specs.declared.answer.Scanned.{Scanned}
 use Rattle.sixel_run.specs.declared.task.Status.{Status}
 use Rattle.sixel_run.specs.declared.task.Status.TheVariants.{Done}
 use Rattle.sixel_run.specs.declared.task.Task.{Task}
 use Rattle.sixel_run.specs.declared.task.Task.TheVariants.{List as Listing, Check, Survey, Render, Show, ShowBox, Encode}
-use Rattle.sixel_run.specs.declared.task.Task.TheVariants.{Mend}
-use Rattle.sixel_run.specs.Outputs.{Gives, ListGives, ListsUnread, Wrote, WroteUnread, mending}
+use Rattle.sixel_run.specs.declared.task.Task.TheVariants.{Mend, Scan}
+use Rattle.sixel_run.specs.Outputs.{Gives, ListGives, ListsUnread, Wrote, WroteBefore, WroteUnread, mending}
+use Rattle.sixel_run.specs.Scanned.{AreOfFirst, scan_text}
 use Rattle.sixel_run.specs.Screens.{screen_terminal, show_choices, show_terminal}
 use Rattle.sixel_run.specs.Texts.{Text, BeginsWith, list_text}
 use Rattle.sixel_run.proofs.OutputLemmas.{gives-begins}
@@ -24,6 +28,7 @@ use Rattle.sixel_run.proofs.FileLemmas.{encode-gives, encode-once}
 use Rattle.sixel_run.proofs.MendLemmas.{mend-gives, mend-once}
 use Rattle.sixel_run.proofs.PictureLemmas.{render-gives, render-once}
 use Rattle.sixel_run.proofs.ScreenLemmas.{show-gives, show-once}
+use Rattle.sixel_run.proofs.StringLemmas.{before_first, given_first, scan-begins, scan-gives, scan-once}
 use Rattle.sixel_run.proofs.SurveyLemmas.{survey-gives, survey-once}
 use Rattle.sixel_io.proofs.SinkLemmas.{Appends-keeps}
 use Rattle.sixel_grammar.proofs.TotalLemmas.{judged, viable_before}
@@ -49,6 +54,7 @@ list-once bytes first second (Err (Grammar f)) (Err (Grammar e)) g h =
 list-once bytes first second (Ok s) (Err (Ppm reason place)) g h = absurd h
 list-once bytes first second (Ok s) (Err NotRgb) g h = absurd h
 list-once bytes first second (Ok s) (Err NoBox) g h = absurd h
+list-once bytes first second (Ok s) (Err NoString) g h = absurd h
 list-once bytes first second (Ok s) (Err Empty) g h = absurd h
 list-once bytes first second (Ok s) (Err TooLarge) g h = absurd h
 list-once bytes first second (Ok s) (Err TooManyColours) g h = absurd h
@@ -58,6 +64,7 @@ list-once bytes first second (Ok s) (Err Write) g h = absurd h
 list-once bytes first second (Err (Grammar f)) (Err (Ppm reason place)) g h = absurd h
 list-once bytes first second (Err (Grammar f)) (Err NotRgb) g h = absurd h
 list-once bytes first second (Err (Grammar f)) (Err NoBox) g h = absurd h
+list-once bytes first second (Err (Grammar f)) (Err NoString) g h = absurd h
 list-once bytes first second (Err (Grammar f)) (Err Empty) g h = absurd h
 list-once bytes first second (Err (Grammar f)) (Err TooLarge) g h = absurd h
 list-once bytes first second (Err (Grammar f)) (Err TooManyColours) g h = absurd h
@@ -82,6 +89,7 @@ gives-once (Check profile) bytes first second a b g h = check-once _ bytes first
 gives-once (Render profile) bytes first second a b g h = render-once _ bytes first second a b g h
 gives-once (Encode profile) bytes first second a b g h = encode-once _ bytes first second a b g h
 gives-once (Survey profile) bytes first second a b g h = survey-once _ bytes first second a b g h
+gives-once (Scan profile eight) bytes first second a b g h = scan-once eight _ bytes first second a b g h
 gives-once (Mend profile background showing selects) bytes first second a b g h =
     mend-once _ (mending background showing selects) bytes first second a b g h
 gives-once (Show profile showing fill selects width height) bytes first second a b g h =
@@ -96,6 +104,7 @@ gives (Check profile) bytes = check-gives _ bytes
 gives (Render profile) bytes = render-gives _ bytes
 gives (Encode profile) bytes = encode-gives _ bytes
 gives (Survey profile) bytes = survey-gives _ bytes
+gives (Scan profile eight) bytes = scan-gives eight _ bytes
 gives (Mend profile background showing selects) bytes = mend-gives _ (mending background showing selects) bytes
 gives (Show profile showing fill selects width height) bytes =
     show-gives (show_terminal profile (show_choices showing fill selects width height)) bytes
@@ -117,10 +126,31 @@ unflushed-list bytes (Some rest) had mid has w kept = (
       (gives-begins bytes w.0 rest w.3.1.0 w.2 w.3.1.1 w.3.0 text answer g),
 )
 
+-- the lines of the first strings are a prefix of the text of `scan`
+unflushed-scan : (profile : Profile) (eight : Bool) (bytes : List ℕ) (left had mid has : Option (List ℕ))
+    (reports : List Scanned) → AreOfFirst eight (count_of profile) bytes reports
+    → Appends had mid (scan_text reports) → Keeps mid has → Wrote (Scan profile eight) bytes left (Err Write) had has
+unflushed-scan profile eight bytes left had mid has reports first put kept = (
+  scan_text reports,
+  Appends-keeps had mid has (scan_text reports) put kept,
+  scan-begins eight (count_of profile) bytes reports first,
+)
+
 unflushed-unread : (task : Task) (bytes : List ℕ) (left had mid has : Option (List ℕ))
     → WroteUnread task bytes left had mid → Keeps mid has → Wrote task bytes left (Err Write) had has
 unflushed-unread Listing bytes left had mid has w kept = unflushed-list bytes left had mid has w kept
+unflushed-unread (Scan profile eight) bytes left had mid has w kept =
+    unflushed-scan profile eight bytes left had mid has w.0
+    (given_first eight (count_of profile) bytes left w.0 w.1) w.2 kept
 unflushed-unread _ bytes left had mid has w kept =
+    ([], Appends-keeps had mid has [] w kept, λ text answer g. (text, refl))
+
+unflushed-before : (task : Task) (bytes : List ℕ) (left had mid has : Option (List ℕ))
+    → WroteBefore task bytes had mid → Keeps mid has → Wrote task bytes left (Err Write) had has
+unflushed-before (Scan profile eight) bytes left had mid has w kept =
+    unflushed-scan profile eight bytes left had mid has w.0
+    (before_first eight (count_of profile) bytes w.0 w.1) w.2 kept
+unflushed-before _ bytes left had mid has w kept =
     ([], Appends-keeps had mid has [] w kept, λ text answer g. (text, refl))
 
 unflushed-text : (task : Task) (bytes : List ℕ) (left had mid has : Option (List ℕ)) (answer : Result Status RunFault)
@@ -135,7 +165,7 @@ unflushed-text task bytes left had mid has answer text g put kept = (
 unflushed-run : (task : Task) (bytes : List ℕ) (left had mid has : Option (List ℕ)) (answer : Result Status RunFault)
     → Wrote task bytes left answer had mid → Keeps mid has → Wrote task bytes left (Err Write) had has
 unflushed-run task bytes left had mid has (Err OutOfMemory) w kept =
-    ([], Appends-keeps had mid has [] w kept, λ text answer g. (text, refl))
+    unflushed-before task bytes left had mid has w kept
 unflushed-run task bytes left had mid has (Err Read) w kept = unflushed-unread task bytes left had mid has w kept
 unflushed-run task bytes left had mid has (Err Write) w kept = (w.0, Appends-keeps had mid has w.0 w.1 kept, w.2)
 unflushed-run task bytes left had mid has answer w kept =
@@ -147,11 +177,19 @@ flushed-unread : (task : Task) (bytes : List ℕ) (left had mid has : Option (Li
     → WroteUnread task bytes left had mid → Keeps mid has → WroteUnread task bytes left had has
 flushed-unread Listing bytes left had mid has w kept =
     (w.0, w.1, w.2, w.3, Appends-keeps had mid has w.1 w.4 kept)
+flushed-unread (Scan profile eight) bytes left had mid has w kept =
+    (w.0, w.1, Appends-keeps had mid has (scan_text w.0) w.2 kept)
 flushed-unread _ bytes left had mid has w kept = Appends-keeps had mid has [] w kept
+
+flushed-before : (task : Task) (bytes : List ℕ) (had mid has : Option (List ℕ))
+    → WroteBefore task bytes had mid → Keeps mid has → WroteBefore task bytes had has
+flushed-before (Scan profile eight) bytes had mid has w kept =
+    (w.0, w.1, Appends-keeps had mid has (scan_text w.0) w.2 kept)
+flushed-before _ bytes had mid has w kept = Appends-keeps had mid has [] w kept
 
 flushed-run : (task : Task) (bytes : List ℕ) (left had mid has : Option (List ℕ)) (answer : Result Status RunFault)
     → Wrote task bytes left answer had mid → Keeps mid has → Wrote task bytes left answer had has
-flushed-run task bytes left had mid has (Err OutOfMemory) w kept = Appends-keeps had mid has [] w kept
+flushed-run task bytes left had mid has (Err OutOfMemory) w kept = flushed-before task bytes had mid has w kept
 flushed-run task bytes left had mid has (Err Read) w kept = flushed-unread task bytes left had mid has w kept
 flushed-run task bytes left had mid has (Err Write) w kept = (w.0, Appends-keeps had mid has w.0 w.1 kept, w.2)
 flushed-run task bytes left had mid has answer w kept = (w.0, w.1, Appends-keeps had mid has w.0 w.2 kept)

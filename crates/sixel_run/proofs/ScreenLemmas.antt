@@ -29,7 +29,7 @@ use Rattle.sixel_terminal.specs.Displays.{Display}
 use Rattle.sixel_model.proofs.GridLemmas.{length_rows}
 use Rattle.sixel_terminal.specs.Drawing.{screen_on, shown_on}
 use Rattle.sixel_run.specs.declared.fault.RunFault.{RunFault}
-use Rattle.sixel_run.specs.declared.fault.RunFault.TheVariants.{Grammar, Ppm, NotRgb, NoBox, Empty, TooLarge}
+use Rattle.sixel_run.specs.declared.fault.RunFault.TheVariants.{Grammar, Ppm, NotRgb, NoBox, NoString, Empty, TooLarge}
 use Rattle.sixel_run.specs.declared.fault.RunFault.TheVariants.{TooManyColours, OutOfMemory, Read, Write}
 use Rattle.sixel_run.specs.declared.task.Status.{Status}
 use Rattle.sixel_run.specs.declared.task.Status.TheVariants.{Done}
@@ -71,6 +71,7 @@ show-once t bytes first second (Err (Grammar f)) (Err NotRgb) g h = absurd
 show-once t bytes first second (Err (Grammar f)) (Err (Grammar e)) g h =
     (g.0 ∙ sym h.0, ap (λ (k : Fault). Err (Grammar k)) (fault_once bytes f e g.1 h.1))
 show-once t bytes first second (Ok s) (Err NoBox) g h = absurd h
+show-once t bytes first second (Ok s) (Err NoString) g h = absurd h
 show-once t bytes first second (Ok s) (Err Empty) g h = absurd h
 show-once t bytes first second (Ok s) (Err TooLarge) g h = absurd h
 show-once t bytes first second (Ok s) (Err TooManyColours) g h = absurd h
@@ -79,6 +80,7 @@ show-once t bytes first second (Ok s) (Err OutOfMemory) g h = absurd h
 show-once t bytes first second (Ok s) (Err Read) g h = absurd h
 show-once t bytes first second (Ok s) (Err Write) g h = absurd h
 show-once t bytes first second (Err NotRgb) (Err NoBox) g h = absurd h
+show-once t bytes first second (Err NotRgb) (Err NoString) g h = absurd h
 show-once t bytes first second (Err NotRgb) (Err Empty) g h = absurd h
 show-once t bytes first second (Err NotRgb) (Err TooLarge) g h = absurd h
 show-once t bytes first second (Err NotRgb) (Err TooManyColours) g h = absurd h
@@ -87,6 +89,7 @@ show-once t bytes first second (Err NotRgb) (Err OutOfMemory) g h = absurd h
 show-once t bytes first second (Err NotRgb) (Err Read) g h = absurd h
 show-once t bytes first second (Err NotRgb) (Err Write) g h = absurd h
 show-once t bytes first second (Err (Grammar f)) (Err NoBox) g h = absurd h
+show-once t bytes first second (Err (Grammar f)) (Err NoString) g h = absurd h
 show-once t bytes first second (Err (Grammar f)) (Err Empty) g h = absurd h
 show-once t bytes first second (Err (Grammar f)) (Err TooLarge) g h = absurd h
 show-once t bytes first second (Err (Grammar f)) (Err TooManyColours) g h = absurd h

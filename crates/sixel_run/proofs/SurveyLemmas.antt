@@ -25,7 +25,7 @@ use Rattle.sixel_survey.specs.Surveys.{IsSurvey}
 use Rattle.sixel_survey.proofs.FirstEntryLemmas.{empty_if_none, first_is_verdict}
 use Rattle.sixel_survey.proofs.OneSurveyLemmas.{survey_exists, survey_once}
 use Rattle.sixel_run.specs.declared.fault.RunFault.{RunFault}
-use Rattle.sixel_run.specs.declared.fault.RunFault.TheVariants.{Grammar, Ppm, NotRgb, NoBox, Empty, TooLarge}
+use Rattle.sixel_run.specs.declared.fault.RunFault.TheVariants.{Grammar, Ppm, NotRgb, NoBox, NoString, Empty, TooLarge}
 use Rattle.sixel_run.specs.declared.fault.RunFault.TheVariants.{TooManyColours, OutOfMemory, Read, Write}
 use Rattle.sixel_run.specs.declared.running.survey.Surveyed.{Surveyed}
 use Rattle.sixel_run.specs.declared.task.Status.{Status}
@@ -62,6 +62,7 @@ survey-once registers bytes first second (Err (Grammar f)) (Err (Grammar e)) g h
 survey-once registers bytes first second (Ok s) (Err (Ppm reason place)) g h = absurd h
 survey-once registers bytes first second (Ok s) (Err NotRgb) g h = absurd h
 survey-once registers bytes first second (Ok s) (Err NoBox) g h = absurd h
+survey-once registers bytes first second (Ok s) (Err NoString) g h = absurd h
 survey-once registers bytes first second (Ok s) (Err Empty) g h = absurd h
 survey-once registers bytes first second (Ok s) (Err TooLarge) g h = absurd h
 survey-once registers bytes first second (Ok s) (Err TooManyColours) g h = absurd h
@@ -71,6 +72,7 @@ survey-once registers bytes first second (Ok s) (Err Write) g h = absurd h
 survey-once registers bytes first second (Err (Grammar f)) (Err (Ppm reason place)) g h = absurd h
 survey-once registers bytes first second (Err (Grammar f)) (Err NotRgb) g h = absurd h
 survey-once registers bytes first second (Err (Grammar f)) (Err NoBox) g h = absurd h
+survey-once registers bytes first second (Err (Grammar f)) (Err NoString) g h = absurd h
 survey-once registers bytes first second (Err (Grammar f)) (Err Empty) g h = absurd h
 survey-once registers bytes first second (Err (Grammar f)) (Err TooLarge) g h = absurd h
 survey-once registers bytes first second (Err (Grammar f)) (Err TooManyColours) g h = absurd h
@@ -105,6 +107,7 @@ status_is registers bytes events survey (status.Broken f) doc is first = (
       (first_is_verdict registers events bytes survey first.0 doc is first.1),
   refl,
 )
+status_is registers bytes events survey status.Unfit doc is never = absurd never
 
 pub surveyed : (registers : ℕ) (a : Option (List ℕ)) (survey : Survey) (s : Status)
     → IfSome a (Answers registers (Ok survey)) → IsStatusOf survey s

@@ -5,6 +5,8 @@ use Rattle.sixel_ppm.specs.declared.ppm.PpmFault.{PpmFault}
 use Rattle.sixel_ppm.specs.declared.ppm.PpmFault.TheVariants as ppm
 use Rattle.sixel_mend.specs.declared.mending.MendFault.{MendFault}
 use Rattle.sixel_mend.specs.declared.mending.MendFault.TheVariants as mend
+use Rattle.sixel_scan.specs.declared.fault.ScanFault.{ScanFault}
+use Rattle.sixel_scan.specs.declared.fault.ScanFault.TheVariants as scan
 use Rattle.sixel_run.specs.declared.fault.RunFault.{RunFault}
 use Rattle.sixel_run.specs.declared.fault.RunFault.TheVariants.{Grammar, Ppm, NotRgb, Empty, TooLarge, TooManyColours}
 use Rattle.sixel_run.specs.declared.fault.RunFault.TheVariants.{OutOfMemory, Read, Write}
@@ -27,3 +29,7 @@ of_mend mend.Empty = Empty
 of_mend mend.TooLarge = TooLarge
 of_mend mend.TooManyColours = TooManyColours
 of_mend mend.OutOfMemory = OutOfMemory
+
+abbrev pub of_scan : ScanFault → RunFault
+of_scan scan.OutOfMemory = OutOfMemory
+of_scan scan.Read = Read

@@ -1,5 +1,6 @@
--- The laws of encoded pictures and of shown boxes.
-use Rattle.std.specs.Prelude.{◌≡◌, ◌↔◌, ℕ, Bool, List, [], Option, Some, None, Result, Ok, Err, ⊤}
+-- The laws of encoded pictures, of shown boxes and of scanned strings.
+use Rattle.std.specs.Prelude.{◌≡◌, ◌↔◌, ◌++◌, ℕ, Bool, false, List, [], Option, Some, None, Result, Ok, Err, codes, ⊤}
+use Rattle.sixel_grammar.specs.Bytes.{introducer}
 use Rattle.sixel_grammar.specs.declared.command.Placed.{Placed}
 use Rattle.sixel_grammar.specs.declared.fault.Fault.{Fault}
 use Rattle.sixel_grammar.specs.declared.fault.InputFault.{InputFault}
@@ -17,9 +18,9 @@ use Rattle.sixel_encode.specs.Canon.{canon_text}
 use Rattle.sixel_run.specs.declared.fault.RunFault.{RunFault}
 use Rattle.sixel_run.specs.declared.fault.RunFault.TheVariants.{NoBox}
 use Rattle.sixel_run.specs.declared.task.Status.{Status}
-use Rattle.sixel_run.specs.declared.task.Status.TheVariants.{Done}
+use Rattle.sixel_run.specs.declared.task.Status.TheVariants.{Done, Broken, Unfit}
 use Rattle.sixel_run.specs.declared.task.Task.{Task}
-use Rattle.sixel_run.specs.declared.task.Task.TheVariants.{Show, ShowBox}
+use Rattle.sixel_run.specs.declared.task.Task.TheVariants.{Check, Scan, Show, ShowBox}
 use Rattle.sixel_run.specs.Outputs.{CheckGives, Gives, HasSides}
 use Rattle.sixel_run.specs.Screens.{declared_screen}
 use Rattle.sixel_run.specs.Texts.{Text, portable_line}
@@ -78,3 +79,18 @@ abbrev pub FaultIsShown : Type 0
 FaultIsShown = (profile : Profile) (showing fill selects : Bool) (width height : ℕ) (bytes : List ℕ) (fault : Fault)
     → IsFaultOf bytes fault
     → GiveTheSame bytes (ShowBox profile showing fill selects) (Show profile showing fill selects width height)
+
+-- ---- scans
+
+-- the status of a scan of one string, from that of a check
+abbrev pub status_alone : Status → Status
+status_alone Done = Done
+status_alone (Broken finding) = Unfit
+status_alone Unfit = Unfit
+
+-- for a document that begins with ESC P, and has no filler after its end, a scan writes the line of a check after `0 `
+abbrev pub ScanIsCheck : Type 0
+ScanIsCheck = (profile : Profile) (eight : Bool) (events : List Placed) (bytes more : List ℕ)
+    (document : Document events bytes) (text : Text) (status : Status) → bytes ≡ introducer false ++ more
+    → document.parses.after ≡ [] → Gives (Check profile) bytes text (Ok status)
+    → Gives (Scan profile eight) bytes (codes "0 " ++ text) (Ok (status_alone status))

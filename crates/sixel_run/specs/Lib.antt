@@ -2,8 +2,10 @@ pub mod Texts
 pub mod SixelLines
 pub mod Conversions
 pub mod Screens
+pub mod Scanned
 pub mod Outputs
 pub mod Surveyed
+pub mod Scanning
 pub mod Draw
 pub mod Boxes
 pub mod Feeding

@@ -26,6 +26,7 @@ use Rattle.sixel_survey.specs.Surveys.{IsSurvey}
 use Rattle.sixel_mend.specs.declared.mending.MendFault.{MendFault}
 use Rattle.sixel_mend.specs.declared.mending.Mending.{Mending}
 use Rattle.sixel_mend.specs.Mended.{MendsEvents}
+use Rattle.sixel_scan.specs.declared.answer.Scanned.{Scanned}
 use Rattle.sixel_run.specs.Conversions.{of_mend, of_ppm}
 use Rattle.sixel_run.specs.declared.fault.RunFault.{RunFault}
 use Rattle.sixel_run.specs.declared.fault.RunFault.TheVariants.{Grammar, NotRgb, NoBox, OutOfMemory, Read, Write}
@@ -34,7 +35,9 @@ use Rattle.sixel_run.specs.declared.task.Status.TheVariants as status
 use Rattle.sixel_run.specs.declared.task.Status.TheVariants.{Done}
 use Rattle.sixel_run.specs.declared.task.Task.{Task}
 use Rattle.sixel_run.specs.declared.task.Task.TheVariants.{List as Listing, Check, Survey, Render, Show, ShowBox, Encode}
-use Rattle.sixel_run.specs.declared.task.Task.TheVariants.{Mend}
+use Rattle.sixel_run.specs.declared.task.Task.TheVariants.{Mend, Scan}
+use Rattle.sixel_run.specs.Scanned.{AreBeforeAllocation, AreOfGiven, AreOfStream, MayGrowInString, answer_of_strings}
+use Rattle.sixel_run.specs.Scanned.{scan_text}
 use Rattle.sixel_run.specs.Screens.{declared_screen, screen_terminal, screen_text, show_choices, show_terminal}
 use Rattle.sixel_run.specs.Texts.{Text, BeginsWith, list_text, survey_text, verdict_line}
 
@@ -94,6 +97,26 @@ SurveyGives registers bytes text (Ok status) =
     × ((verdict : Verdict) × IsVerdict registers events verdict × (status ≡ status_of verdict))
 SurveyGives registers bytes text (Err (Grammar fault)) = (text ≡ []) × IsFaultOf bytes fault
 SurveyGives registers bytes text (Err fault) = ⊥
+
+-- ---- strings of a stream
+
+-- a line for each string of the stream, as a check with this many registers answers for its bytes; and the answer on
+-- these strings
+abbrev pub ScanGives : Bool → ℕ → List ℕ → Text → Result Status RunFault → Type 0
+ScanGives eight registers bytes text answer =
+    (reports : List Scanned) × AreOfStream eight registers bytes reports
+    × (text ≡ scan_text reports) × (answer ≡ answer_of_strings reports)
+
+-- the lines of the strings of the bytes given so far, those before `left`, were appended, without one of a string that
+-- ends only because these bytes do
+abbrev pub ScansUnread : Bool → ℕ → List ℕ → Option (List ℕ) → Option (List ℕ) → Option (List ℕ) → Type 0
+ScansUnread eight registers bytes left had has =
+    (reports : List Scanned) × AreOfGiven eight registers bytes left reports × Appends had has (scan_text reports)
+
+-- the lines of the strings before one in which a checker may allocate were appended
+abbrev pub ScansBefore : Bool → ℕ → List ℕ → Option (List ℕ) → Option (List ℕ) → Type 0
+ScansBefore eight registers bytes had has =
+    (reports : List Scanned) × AreBeforeAllocation eight registers bytes reports × Appends had has (scan_text reports)
 
 -- ---- pictures
 
@@ -180,6 +203,7 @@ abbrev pub Gives : Task → List ℕ → Text → Result Status RunFault → Typ
 Gives Listing bytes text answer = ListGives bytes text answer
 Gives (Check profile) bytes text answer = CheckGives (count_of profile) bytes text answer
 Gives (Survey profile) bytes text answer = SurveyGives (count_of profile) bytes text answer
+Gives (Scan profile eight) bytes text answer = ScanGives eight (count_of profile) bytes text answer
 Gives (Render profile) bytes text answer = RenderGives (count_of profile) bytes text answer
 Gives (Encode profile) bytes text answer = EncodeGives (count_of profile) bytes text answer
 Gives (Mend profile background showing selects) bytes text answer =
@@ -196,36 +220,50 @@ WroteNothing had has = Appends had has []
 -- what a task has appended to what the sink `had` when reading these bytes fails before `left`
 abbrev pub WroteUnread : Task → List ℕ → Option (List ℕ) → Option (List ℕ) → Option (List ℕ) → Type 0
 WroteUnread Listing bytes left had has = ListsUnread bytes left had has
+WroteUnread (Scan profile eight) bytes left had has = ScansUnread eight (count_of profile) bytes left had has
 WroteUnread t bytes left had has = WroteNothing had has
 
+-- what a task over these bytes has appended to what the sink `had` when an allocation fails
+abbrev pub WroteBefore : Task → List ℕ → Option (List ℕ) → Option (List ℕ) → Type 0
+WroteBefore (Scan profile eight) bytes had has = ScansBefore eight (count_of profile) bytes had has
+WroteBefore t bytes had has = WroteNothing had has
+
 -- a run of the task over these bytes, if they are known, may run out of memory: a check or a render only if a checker
--- may allocate in them, a survey only if a box in range is declared in them, an encode only after a whole header, a list
--- never
+-- may allocate in them, a scan only if it may in one of the strings, a survey only if a box in range is declared in
+-- them, an encode only after a whole header, a list never
 abbrev pub TakesMemory : Task → Option (List ℕ) → Type 0
 TakesMemory Listing told = ⊥
 TakesMemory (Check profile) told = IfSome told (MayGrowIn (count_of profile))
 TakesMemory (Survey profile) told = IfSome told DeclareBoxIn
+TakesMemory (Scan profile eight) told = IfSome told (MayGrowInString eight (count_of profile))
 TakesMemory (Render profile) told = IfSome told (MayGrowIn (count_of profile))
 TakesMemory (Encode profile) told = IfSome told HasWholeHeader
 TakesMemory (Mend profile background showing selects) told = Unit {0}
 TakesMemory (Show profile showing fill selects width height) told = Unit {0}
 TakesMemory (ShowBox profile showing fill selects) told = Unit {0}
 
--- what a run with this answer appended to what the sink `had`. OutOfMemory: nothing; Read: what `unread` says; Write: a
--- prefix of each text that `gives` allows; any other answer: a text that `gives` allows with that answer
-abbrev pub WroteBy : (Text → Result Status RunFault → Type 0) → (Option (List ℕ) → Option (List ℕ) → Type 0)
+-- what a run with this answer appended to what the sink `had`. OutOfMemory: what `before` says; Read: what `unread`
+-- says; Write: a prefix of each text that `gives` allows; any other answer: a text that `gives` allows with that answer
+abbrev pub WroteWith : (Text → Result Status RunFault → Type 0) → (Option (List ℕ) → Option (List ℕ) → Type 0)
+    → (Option (List ℕ) → Option (List ℕ) → Type 0)
     → Result Status RunFault → Option (List ℕ) → Option (List ℕ) → Type 0
-WroteBy gives unread (Err OutOfMemory) had has = WroteNothing had has
-WroteBy gives unread (Err Read) had has = unread had has
-WroteBy gives unread (Err Write) had has =
+WroteWith gives unread before (Err OutOfMemory) had has = before had has
+WroteWith gives unread before (Err Read) had has = unread had has
+WroteWith gives unread before (Err Write) had has =
     (part : Text) × Appends had has part
     × ((text : Text) (answer : Result Status RunFault) → gives text answer → BeginsWith text part)
-WroteBy gives unread answer had has = (text : Text) × gives text answer × Appends had has text
+WroteWith gives unread before answer had has = (text : Text) × gives text answer × Appends had has text
+
+-- the same of a task that has written nothing when an allocation fails
+abbrev pub WroteBy : (Text → Result Status RunFault → Type 0) → (Option (List ℕ) → Option (List ℕ) → Type 0)
+    → Result Status RunFault → Option (List ℕ) → Option (List ℕ) → Type 0
+WroteBy gives unread answer had has = WroteWith gives unread WroteNothing answer had has
 
 -- what a run of the task over these bytes, with `left` unread, appended to what the sink `had`, for this answer
 abbrev pub Wrote : Task → List ℕ → Option (List ℕ)
     → Result Status RunFault → Option (List ℕ) → Option (List ℕ) → Type 0
-Wrote task bytes left answer had has = WroteBy (Gives task bytes) (WroteUnread task bytes left) answer had has
+Wrote task bytes left answer had has =
+    WroteWith (Gives task bytes) (WroteUnread task bytes left) (WroteBefore task bytes) answer had has
 
 -- ---- failures of devices
 

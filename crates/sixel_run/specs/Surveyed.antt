@@ -5,13 +5,14 @@ use Rattle.sixel_survey.specs.Laws.{IsFirstFinding}
 use Rattle.sixel_run.specs.declared.fault.RunFault.{RunFault}
 use Rattle.sixel_run.specs.declared.running.survey.Surveyed.{Surveyed}
 use Rattle.sixel_run.specs.declared.task.Status.{Status}
-use Rattle.sixel_run.specs.declared.task.Status.TheVariants.{Done, Broken}
+use Rattle.sixel_run.specs.declared.task.Status.TheVariants.{Done, Broken, Unfit}
 use Rattle.sixel_run.specs.Texts.{Text, survey_lines, survey_text}
 
 -- the status after a survey: Done without an entry, else Broken with the first one's finding
 abbrev pub IsStatusOf : Survey → Status → Type 0
 IsStatusOf survey Done = survey.entries.items ≡ []
 IsStatusOf survey (Broken finding) = IsFirstFinding survey.entries.items finding
+IsStatusOf survey Unfit = ⊥
 
 -- the answer of a run that found this
 abbrev pub answer_of : Result Surveyed RunFault → Result Status RunFault

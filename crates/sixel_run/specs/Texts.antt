@@ -9,6 +9,7 @@ use Rattle.sixel_grammar.specs.declared.command.Command.TheVariants.{CarriageRet
 use Rattle.sixel_grammar.specs.declared.command.Event.{Event}
 use Rattle.sixel_grammar.specs.declared.command.Event.TheVariants.{Start, Step, Finish}
 use Rattle.sixel_grammar.specs.declared.command.Placed.{Placed}
+use Rattle.sixel_grammar.specs.declared.fault.Fault.{Fault}
 use Rattle.sixel_grammar.specs.declared.fault.Reason.{Reason}
 use Rattle.sixel_grammar.specs.declared.fault.Reason.TheVariants.{NotSixel, BadByte, NumberTooLarge, FieldCount}
 use Rattle.sixel_grammar.specs.declared.fault.Reason.TheVariants.{BadRepeat, BadTerminator, Truncated, TooLong}
@@ -23,8 +24,11 @@ use Rattle.sixel_judge.specs.declared.verdict.Verdict.{Verdict}
 use Rattle.sixel_judge.specs.declared.verdict.Verdict.TheVariants.{Portable, Broken}
 use Rattle.sixel_survey.specs.declared.entry.Entry.{Entry}
 use Rattle.sixel_survey.specs.declared.entry.Survey.{Survey}
+use Rattle.sixel_scan.specs.declared.answer.Answer.{Answer}
+use Rattle.sixel_scan.specs.declared.answer.Answer.TheVariants as scanned
+use Rattle.sixel_scan.specs.declared.answer.Scanned.{Scanned}
 use Rattle.sixel_run.specs.declared.fault.RunFault.{RunFault}
-use Rattle.sixel_run.specs.declared.fault.RunFault.TheVariants.{Grammar, Ppm, NotRgb, NoBox, Empty, TooLarge}
+use Rattle.sixel_run.specs.declared.fault.RunFault.TheVariants.{Grammar, Ppm, NotRgb, NoBox, NoString, Empty, TooLarge}
 use Rattle.sixel_run.specs.declared.fault.RunFault.TheVariants.{TooManyColours, OutOfMemory, Read, Write}
 
 abbrev pub Text : Type 0
@@ -106,6 +110,7 @@ fault_parts (Grammar fault) = reason_name fault.reason ∷ codes "at" ∷ decima
 fault_parts (Ppm reason place) = ppm_reason_name reason ∷ codes "at" ∷ decimal place ∷ []
 fault_parts NotRgb = codes "NotRgb" ∷ []
 fault_parts NoBox = codes "NoBox" ∷ []
+fault_parts NoString = codes "NoString" ∷ []
 fault_parts Empty = codes "Empty" ∷ []
 fault_parts TooLarge = codes "TooLarge" ∷ []
 fault_parts TooManyColours = codes "TooManyColours" ∷ []
@@ -173,3 +178,18 @@ survey_lines s =
 -- these lines, one after the other
 abbrev pub survey_text : Survey → Text
 survey_text s = concat (survey_lines s)
+
+-- ---- strings of a stream
+
+-- the line of a string that is no document: the reason, and its offset
+abbrev pub refusal_line : Fault → Text
+refusal_line fault = line (codes "refused") (reason_name fault.reason ∷ decimal fault.place ∷ [])
+
+abbrev pub answer_line : Answer → Text
+answer_line (scanned.Portable width height) = size_line width height
+answer_line (scanned.Broken finding) = finding_line finding
+answer_line (scanned.Refused fault) = refusal_line fault
+
+-- the line of a string: its offset, and after a space the line of its answer
+abbrev pub string_line : Scanned → Text
+string_line s = decimal s.place ++ 32 ∷ answer_line s.answer

@@ -3,6 +3,7 @@
 use sixel_grammar::{Fault, InputFault};
 use sixel_mend::MendFault;
 use sixel_ppm::{PpmFault, PpmReason};
+use sixel_scan::ScanFault;
 use std::alloc::AllocError;
 use thiserror::Error;
 
@@ -23,6 +24,9 @@ pub enum RunFault {
     /// 4,096 pixels. Nothing was written.
     #[error("NoBox")]
     NoBox,
+    /// The stream has no sixel string. Nothing was written.
+    #[error("NoString")]
+    NoString,
     /// A side of the mended picture is 0: nothing is painted, and no box with both sides is declared. Nothing was
     /// written.
     #[error("Empty")]
@@ -89,6 +93,20 @@ impl From<MendFault> for RunFault {
             MendFault::TooLarge => RunFault::TooLarge,
             MendFault::TooManyColours => RunFault::TooManyColours,
             MendFault::OutOfMemory => RunFault::OutOfMemory,
+        }
+    }
+}
+
+impl From<ScanFault> for RunFault {
+    ghost use Rattle.std.specs.Prelude.{◌≡◌};
+    ghost use Rattle.sixel_run.specs.Conversions.{of_scan};
+
+    ghost from_gives = { λ fault result. result ≡ of_scan fault };
+
+    fn from(fault: ScanFault) -> RunFault {
+        match fault {
+            ScanFault::OutOfMemory => RunFault::OutOfMemory,
+            ScanFault::Read => RunFault::Read,
         }
     }
 }

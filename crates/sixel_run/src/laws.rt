@@ -7,7 +7,7 @@ ghost use Rattle.sixel_run.specs.declared.fault.RunFault.{RunFault};
 ghost use Rattle.sixel_run.specs.declared.task.Status.{Status};
 ghost use Rattle.sixel_run.specs.declared.task.Task.{Task};
 ghost use Rattle.sixel_run.specs.Laws.{BoxIsShown, EncodedAnswers, EncodedChecks, EncodedIsPortable, FaultIsShown};
-ghost use Rattle.sixel_run.specs.Laws.{NoBoxIsShown};
+ghost use Rattle.sixel_run.specs.Laws.{NoBoxIsShown, ScanIsCheck};
 ghost use Rattle.sixel_run.specs.Outputs.{Gives};
 ghost use Rattle.sixel_run.specs.Texts.{Text};
 
@@ -38,4 +38,10 @@ pub fn a_box_is_shown_as_its_screen()
     ensures shown { BoxIsShown }
     ensures refused { NoBoxIsShown }
     ensures faulty { FaultIsShown }
+{}
+
+/// Of a document that begins with ESC P, and has no filler after its end, `scan` writes what `check` writes, after the
+/// offset 0 and a space, whether 8-bit controls count or not. It is done exactly if the picture is portable.
+pub fn a_scan_of_one_string_is_its_check()
+    ensures { ScanIsCheck }
 {}

@@ -6,6 +6,7 @@ pub mod laws;
 mod lines;
 mod running;
 mod sixel_line;
+mod string_lines;
 mod survey_lines;
 mod task;
 
@@ -15,6 +16,8 @@ pub use lines::{
 };
 pub use running::check::{judge, status_of};
 pub use running::run;
+pub use running::scan::{PutLine, scan_with};
 pub use running::survey::{Surveyed, survey_of};
+pub use string_lines::{StringLine, string_line};
 pub use survey_lines::{entry_line, size_line, write_survey};
 pub use task::{MOST_SCREEN_SIDE, Status, Task};

@@ -131,7 +131,7 @@ pub fn event_line(placed: &Placed) -> Line
     line
 }
 
-fn reason_name(reason: Reason) -> &'static str
+pub(crate) fn reason_name(reason: Reason) -> &'static str
     ensures text { result.now ≡ reason_name reason }
     ensures short { length result.now ≤ 14 }
 {
@@ -185,6 +185,7 @@ pub fn fault_line(fault: &RunFault) -> Line
         RunFault::Ppm { reason, place } => push_reason(&mut line, ppm_reason_name(*reason), *place),
         RunFault::NotRgb => push_all(&mut line, b"NotRgb"),
         RunFault::NoBox => push_all(&mut line, b"NoBox"),
+        RunFault::NoString => push_all(&mut line, b"NoString"),
         RunFault::Empty => push_all(&mut line, b"Empty"),
         RunFault::TooLarge => push_all(&mut line, b"TooLarge"),
         RunFault::TooManyColours => push_all(&mut line, b"TooManyColours"),

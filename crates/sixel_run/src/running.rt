@@ -9,6 +9,7 @@ mod encode;
 mod list;
 mod mend;
 mod render;
+pub mod scan;
 mod screen;
 mod show;
 mod show_box;
@@ -22,7 +23,8 @@ use std::alloc::Global;
 
 /// Runs a task: reads the input as far as the task needs it, writes the output, and flushes once at the end.
 ///
-/// The output is written in blocks, and what a piece of input completes is written before the next piece is read. A
+/// The output is written in blocks, and what a piece of input completes is written before the next piece is read. The
+/// line of a string of a stream is written as soon as the string has ended. A
 /// device that failed isn't called again; if both failed, the answer is `Write`. The sides of a screen to show must be
 /// from 1 to 4,096 pixels.
 pub fn run<S: Source, K: Sink>(
@@ -67,6 +69,7 @@ fn perform<S: Source, K: Sink>(
         Task::List => list::list(input, output),
         Task::Check { profile } => check::check(alloc, profile, input, output),
         Task::Survey { profile } => survey::survey(alloc, profile, input, output),
+        Task::Scan { profile, eight_bit } => scan::scan(alloc, profile, eight_bit, input, output),
         Task::Render { profile } => render::render(alloc, profile, input, output),
         Task::Encode { profile } => encode::encode(alloc, profile, input, output),
         Task::Mend {

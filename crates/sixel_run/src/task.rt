@@ -23,6 +23,15 @@ pub enum Task {
     Survey {
         profile: Profile,
     },
+    /// A line for each sixel string of a stream, as a program writes it to a terminal: text, control sequences, several
+    /// pictures. The line has the string's offset, and then what a check of its bytes by themselves says, with the
+    /// registers of the profile: `portable` or `broken` as `Check` has it, or `refused`, the reason and its offset.
+    /// Offsets are counted from the start of the stream.
+    Scan {
+        profile: Profile,
+        /// The 8-bit controls count: 90 introduces a string, and 9C ends one (hexadecimal).
+        eight_bit: bool,
+    },
     /// A sixel picture that is portable in the profile, as a Netpbm PPM with a maxval of 100.
     Render {
         profile: Profile,
@@ -71,8 +80,10 @@ pub enum Task {
 /// How a task ended that wasn't refused.
 #[derive(Clone, Copy, Debug, PartialEq, Eq)]
 pub enum Status {
-    /// The task is done; for a check or a survey, no rule is broken.
+    /// The task is done; for a check or a survey, no rule is broken; for a scan, each string is portable.
     Done,
     /// The picture isn't portable: its first broken rule.
     Broken(Finding),
+    /// A string of the stream isn't portable.
+    Unfit,
 }

@@ -63,6 +63,16 @@ fn runs(alloc: Global, task: Task, text: &[u8]) -> Option<bool>
     }
 }
 
+/// A scan with 8-bit controls.
+fn scan_of(profile: Profile) -> Task
+    ensures { HasSides result }
+{
+    Task::Scan {
+        profile,
+        eight_bit: true,
+    }
+}
+
 /// A call that allocates. A check pushes the events, and one push makes the plane.
 #[derive(Clone, Copy)]
 enum Call {
@@ -73,10 +83,11 @@ enum Call {
     RunCheck(Profile),
     RunRender(Profile),
     RunSurvey(Profile),
+    RunScan(Profile),
     RunMend(Profile),
 }
 
-const CALLS: [Call; 10] = [
+const CALLS: [Call; 11] = [
     Call::BlankOfBytes,
     Call::BlankOfBands,
     Call::ReadPpm(Profile::Registers16),
@@ -86,6 +97,7 @@ const CALLS: [Call; 10] = [
     Call::RunCheck(Profile::Registers16),
     Call::RunRender(Profile::Registers256),
     Call::RunSurvey(Profile::Registers16),
+    Call::RunScan(Profile::Registers256),
     Call::RunMend(Profile::Registers16),
 ];
 
@@ -100,6 +112,7 @@ fn answer(alloc: Global, call: Call) -> Option<bool> {
         Call::RunCheck(profile) => runs(alloc, Task::Check { profile }, b"portable 1 1\n"),
         Call::RunRender(profile) => runs(alloc, Task::Render { profile }, b"P6\n1 1\n100\n\0\0\0"),
         Call::RunSurvey(profile) => runs(alloc, Task::Survey { profile }, b"portable 1 1\n"),
+        Call::RunScan(profile) => runs(alloc, scan_of(profile), b"0 portable 1 1\n"),
         Call::RunMend(profile) => runs(alloc, mend_on_black(profile), MENDED_PIXEL),
     }
 }

@@ -14,6 +14,8 @@ mod round_trip;
 #[cfg(test)]
 mod runs;
 #[cfg(test)]
+mod scans;
+#[cfg(test)]
 mod show_box;
 #[cfg(test)]
 mod surveys_and_mends;

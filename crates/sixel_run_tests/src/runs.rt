@@ -21,6 +21,12 @@ pub const SURVEY: Task = Task::Survey {
     profile: Profile::Registers16,
 };
 
+/// Without 8-bit controls.
+pub const SCAN: Task = Task::Scan {
+    profile: Profile::Registers16,
+    eight_bit: false,
+};
+
 pub const ENCODE: Task = Task::Encode {
     profile: Profile::Registers16,
 };

@@ -74,6 +74,7 @@ grows_some s told bytes r grows = (
   drop 1 s.unread,
   r.bytes_are ∙ split_later r.read s.unread 1,
   grows,
+  r.within,
 )
 
 -- all that was taken is read
@@ -93,7 +94,7 @@ tells_all s told bytes reports none r k = record {
 pub grows_all : (s : Scan) (told : List StringAt) (bytes : List ℕ) → (r : IsReading s told bytes)
     → AreBeforeGrowth s.scanner.eight (count_of s.scanner.profile) told r.read
     → GrowsWithin s.scanner.eight (count_of s.scanner.profile) told bytes
-grows_all s told bytes r grows = (r.read, s.unread, r.bytes_are, grows)
+grows_all s told bytes r grows = (r.read, s.unread, r.bytes_are, grows, r.within)
 
 nothing_found : (registers : ℕ) (found : List StringAt) → AreReported registers found [] → found ≡ []
 nothing_found registers [] h = refl
@@ -389,7 +390,7 @@ stream_over rest bytes within over = elim over [
 ]
 
 -- the stream begins with the bytes taken
-stream_begins : (rest bytes : List ℕ) → length bytes ≤ longest_stream
+pub stream_begins : (rest bytes : List ℕ) → length bytes ≤ longest_stream
     → (more : List ℕ) × (take longest_stream (bytes ++ rest) ≡ bytes ++ more)
 stream_begins rest bytes within =
     let stream = take longest_stream (bytes ++ rest) in

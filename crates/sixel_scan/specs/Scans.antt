@@ -69,10 +69,12 @@ pub record TellsNext (eight : Bool) (registers : ℕ) (s : Scan) (remaining : Op
   pub reported : AreReported registers found reports
   pub has_told : HasTold eight registers s remaining (told ++ found) bytes
 
--- the strings told are those before one in which a check with this many registers may allocate, within the bytes
+-- the strings told are those before one in which a check with this many registers may allocate, within the bytes, which
+-- are no more than a stream has
 abbrev pub GrowsWithin : Bool → ℕ → List StringAt → List ℕ → Type 0
 GrowsWithin eight registers told bytes =
     (first rest : List ℕ) × (bytes ≡ first ++ rest) × AreBeforeGrowth eight registers told first
+    × (length bytes ≤ longest_stream)
 
 -- the scan reports these strings besides those told, and goes on
 pub record Tells (s : Scan) (told : List StringAt) (bytes : List ℕ) (reports : List Scanned) : Type 0 where

@@ -18,7 +18,7 @@ use Rattle.clap.specs.declared.parser.matches.SubCommand.{SubCommand}
 use Rattle.clap.specs.declared.parser.matches.ArgMatches.TheViews.{out-SubCommand}
 use Rattle.sixel_run.specs.declared.task.Task.{Task}
 use Rattle.sixel_run.specs.declared.task.Task.TheVariants.{List as Listing, Check, Survey, Render, Show, ShowBox, Mend}
-use Rattle.sixel_run.specs.declared.task.Task.TheVariants.{Encode}
+use Rattle.sixel_run.specs.declared.task.Task.TheVariants.{Encode, Scan}
 use Rattle.sixel_words.specs.declared.request.Request.{Request}
 use Rattle.sixel_model.specs.declared.colour.Parts.{Parts}
 use Rattle.sixel_words.specs.Words.{HasColour, HasSide, IsSideText, IsTask, files_of, is_given, is_named, is_of_words}
@@ -109,6 +109,9 @@ not_encode is = let first : 115 ≡ 101 = ap (λ (t : Text). slice_index t 0) is
 not_survey : codes "show" ≡ codes "survey" → ⊥
 not_survey is = let second : 104 ≡ 117 = ap (λ (t : Text). slice_index t 1) is in omega (arith, second)
 
+not_scan : codes "show" ≡ codes "scan" → ⊥
+not_scan is = let second : 104 ≡ 99 = ap (λ (t : Text). slice_index t 1) is in omega (arith, second)
+
 not_mend : codes "show" ≡ codes "mend" → ⊥
 not_mend is = let first : 115 ≡ 109 = ap (λ (t : Text). slice_index t 0) is in omega (arith, first)
 
@@ -121,6 +124,7 @@ without_side rows (Check profile) plain none is = not_check is.0
 without_side rows (Render profile) plain none is = not_render is.0
 without_side rows (Encode profile) plain none is = not_encode is.0
 without_side rows (Survey profile) plain none is = not_survey is.0
+without_side rows (Scan profile eight) plain none is = not_scan is.0
 without_side rows (Mend profile background showing selects) plain none is = not_mend is.0
 without_side rows (Show profile showing fill selects width height) plain (inl none) is = none width is.6
 without_side rows (Show profile showing fill selects width height) plain (inr none) is = none height is.7
@@ -134,6 +138,7 @@ box_beside rows (Check profile) boxed side is = not_check is.0
 box_beside rows (Render profile) boxed side is = not_render is.0
 box_beside rows (Encode profile) boxed side is = not_encode is.0
 box_beside rows (Survey profile) boxed side is = not_survey is.0
+box_beside rows (Scan profile eight) boxed side is = not_scan is.0
 box_beside rows (Mend profile background showing selects) boxed side is = not_mend is.0
 box_beside rows (Show profile showing fill selects width height) boxed side is = not_both _ boxed is.5
 box_beside rows (ShowBox profile showing fill selects) boxed (inl named) is = not_both _ named is.6
@@ -151,6 +156,7 @@ pub without_colour : (rows : List Row) (t : Task) → ((c : Parts) → HasColour
 without_colour rows Listing none is = other_first (codes "list") 108 refl (λ e. omega (arith, e)) is
 without_colour rows (Check profile) none is = other_first (codes "check") 99 refl (λ e. omega (arith, e)) is.0
 without_colour rows (Survey profile) none is = other_first (codes "survey") 115 refl (λ e. omega (arith, e)) is.0
+without_colour rows (Scan profile eight) none is = other_first (codes "scan") 115 refl (λ e. omega (arith, e)) is.0
 without_colour rows (Render profile) none is = other_first (codes "render") 114 refl (λ e. omega (arith, e)) is.0
 without_colour rows (Encode profile) none is = other_first (codes "encode") 101 refl (λ e. omega (arith, e)) is.0
 without_colour rows (Show profile showing fill selects width height) none is =

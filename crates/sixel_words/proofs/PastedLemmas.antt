@@ -436,6 +436,9 @@ fault_pasted first fault.NotRgb said are =
     (λ x. no_ending x (codes " notrgb") (omega arith) refl refl refl refl refl) are
 fault_pasted first fault.NoBox said are =
     name_last first topic.NoBox said (λ x. no_ending x (codes " nobox") (omega arith) refl refl refl refl refl) are
+fault_pasted first fault.NoString said are =
+    name_last first topic.NoString said
+    (λ x. no_ending x (codes " nostring") (omega arith) refl refl refl refl refl) are
 fault_pasted first fault.Empty said are = name_last first topic.Empty said empty_unended are
 fault_pasted first fault.TooLarge said are = name_last first topic.TooLarge said too_large_unended are
 fault_pasted first fault.TooManyColours said are =

@@ -15,7 +15,7 @@ use Rattle.sixel_grammar.specs.declared.fault.Reason.TheVariants.{Trailing}
 use Rattle.sixel_ppm.specs.declared.ppm.PpmReason.TheVariants.{Header, Size, Maxval, Sample, Short, TooManyColours}
 use Rattle.sixel_words.specs.declared.explanations.Topic.{Topic}
 use Rattle.sixel_words.specs.declared.explanations.Topic.TheVariants.{Rule, Grammar, Ppm, NotRgb, NoBox, OutOfMemory}
-use Rattle.sixel_words.specs.declared.explanations.Topic.TheVariants.{Empty, TooLarge, Read, Write}
+use Rattle.sixel_words.specs.declared.explanations.Topic.TheVariants.{NoString, Empty, TooLarge, Read, Write}
 use Rattle.sixel_run.specs.declared.fault.RunFault.{RunFault}
 use Rattle.sixel_run.specs.declared.fault.RunFault.TheVariants as fault
 use Rattle.sixel_run.specs.Texts.{Text, ppm_reason_name, reason_name, rule_name}
@@ -27,6 +27,7 @@ topic_name (Grammar reason) = reason_name reason
 topic_name (Ppm reason) = ppm_reason_name reason
 topic_name NotRgb = codes "NotRgb"
 topic_name NoBox = codes "NoBox"
+topic_name NoString = codes "NoString"
 topic_name Empty = codes "Empty"
 topic_name TooLarge = codes "TooLarge"
 topic_name OutOfMemory = codes "OutOfMemory"
@@ -39,6 +40,7 @@ topic_of (fault.Grammar f) = Grammar f.reason
 topic_of (fault.Ppm reason place) = Ppm reason
 topic_of fault.NotRgb = NotRgb
 topic_of fault.NoBox = NoBox
+topic_of fault.NoString = NoString
 topic_of fault.Empty = Empty
 topic_of fault.TooLarge = TooLarge
 topic_of fault.TooManyColours = Ppm TooManyColours
@@ -61,7 +63,7 @@ refusals_of_pictures =
     Ppm Header ∷ Ppm Size ∷ Ppm Maxval ∷ Ppm Sample ∷ Ppm TooManyColours ∷ Ppm Short ∷ []
 
 abbrev pub refusals_of_runs : List Topic
-refusals_of_runs = NotRgb ∷ NoBox ∷ Empty ∷ TooLarge ∷ OutOfMemory ∷ Read ∷ Write ∷ []
+refusals_of_runs = NotRgb ∷ NoBox ∷ NoString ∷ Empty ∷ TooLarge ∷ OutOfMemory ∷ Read ∷ Write ∷ []
 
 -- the listed names, in this order
 abbrev pub listed_names : List Text

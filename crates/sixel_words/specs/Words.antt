@@ -81,6 +81,11 @@ check_app = with_rule (with_rule (with_rule (new_app (codes "check")) (flag (cod
 abbrev pub survey_app : App
 survey_app = with_rule (with_rule (new_app (codes "survey")) (flag (codes "wide"))) files
 
+-- `scan`
+abbrev pub scan_app : App
+scan_app = with_rule (with_rule (with_rule (new_app (codes "scan")) (flag (codes "wide"))) (flag (codes "eight-bit")))
+    files
+
 -- `show`
 abbrev pub show_app : App
 show_app =
@@ -113,10 +118,10 @@ explain_app =
 abbrev pub sixel_app : App
 sixel_app =
     with_subcommand (with_subcommand (with_subcommand (with_subcommand (with_subcommand (with_subcommand
-    (with_subcommand (with_subcommand
+    (with_subcommand (with_subcommand (with_subcommand
     (on_top (λ s. record s { has_version = true; subcommand_required = true; args_override_self = true })
     (new_app (codes "sixel")))
-    (plain_app (codes "list")).top) check_app.top) survey_app.top) (profiled_app (codes "render")).top)
+    (plain_app (codes "list")).top) check_app.top) survey_app.top) scan_app.top) (profiled_app (codes "render")).top)
     (profiled_app (codes "encode")).top) show_app.top) mend_app.top) explain_app.top
 
 -- the flags of `check`
@@ -185,6 +190,8 @@ abbrev pub IsTask : Text → List Row → Task → Type 0
 IsTask name rows task.List = name ≡ codes "list"
 IsTask name rows (task.Check profile) = (name ≡ codes "check") × (profile_of rows ≡ profile)
 IsTask name rows (task.Survey profile) = (name ≡ codes "survey") × (profile_of rows ≡ profile)
+IsTask name rows (task.Scan profile eight) = (name ≡ codes "scan") × (profile_of rows ≡ profile)
+    × (is_given (codes "eight-bit") rows ≡ eight)
 IsTask name rows (task.Render profile) = (name ≡ codes "render") × (profile_of rows ≡ profile)
 IsTask name rows (task.Encode profile) = (name ≡ codes "encode") × (profile_of rows ≡ profile)
 IsTask name rows (task.Show profile showing fill selects width height) = (name ≡ codes "show")

@@ -5,7 +5,7 @@ ghost use Rattle.clap.specs.Walk.{rule_of};
 ghost use Rattle.clap.specs.Simple.{app_of};
 ghost use Rattle.clap.specs.declared.builder.command.Command.TheViews.{out-Command as fields_of};
 ghost use Rattle.sixel_words.specs.Words.{background, check_app, explain_app, file, files, flag, mend_app, plain_app};
-ghost use Rattle.sixel_words.specs.Words.{profiled_app, quiet, show_app, side, sixel_app, survey_app};
+ghost use Rattle.sixel_words.specs.Words.{profiled_app, quiet, scan_app, show_app, side, sixel_app, survey_app};
 
 mod help;
 
@@ -30,6 +30,7 @@ pub fn sixel_command<'a>(alloc: Global) -> Result<Command<'a>, AllocError>
         .subcommand(list_command(alloc)?)?
         .subcommand(check_command(alloc)?)?
         .subcommand(survey_command(alloc)?)?
+        .subcommand(scan_command(alloc)?)?
         .subcommand(render_command(alloc)?)?
         .subcommand(encode_command(alloc)?)?
         .subcommand(show_command(alloc)?)?
@@ -129,6 +130,23 @@ fn survey_command<'a>(alloc: Global) -> Result<Command<'a>, AllocError>
         .about("Says which rules the picture breaks, how often, and where first")
         .after_help(help::SURVEY)
         .arg(wide_arg(alloc))?
+        .arg(files_arg(alloc))
+}
+
+/// `scan`, with two options and any number of files.
+fn scan_command<'a>(alloc: Global) -> Result<Command<'a>, AllocError>
+    ensures app { IfOk result (λ c. app_of c ≡ scan_app) }
+    ensures local { IfOk result (λ c. (fields_of c).has_globals ≡ false) }
+{
+    Command::new(alloc, "scan")
+        .about("Checks each picture in what a program writes to a terminal")
+        .after_help(help::SCAN)
+        .arg(wide_arg(alloc))?
+        .arg(flag_arg(
+            alloc,
+            "eight-bit",
+            "Let the bytes 90 and 9C start and end a picture, too",
+        ))?
         .arg(files_arg(alloc))
 }
 

@@ -26,6 +26,8 @@ pub enum Topic {
     Ppm(PpmReason),
     NotRgb,
     NoBox,
+    /// A stream has no sixel string.
+    NoString,
     /// A mended picture has no pixels.
     Empty,
     /// A side of a mended picture is above 2,048.
@@ -50,6 +52,7 @@ fn topic_named(name: &str) -> Option<Topic>
                 None => match name {
                     "notrgb" => Some(Topic::NotRgb),
                     "nobox" => Some(Topic::NoBox),
+                    "nostring" => Some(Topic::NoString),
                     "empty" => Some(Topic::Empty),
                     "toolarge" => Some(Topic::TooLarge),
                     "outofmemory" => Some(Topic::OutOfMemory),
@@ -73,6 +76,7 @@ pub fn explanation(topic: Option<Topic>) -> &'static str
         Some(Topic::Ppm(reason)) => of_ppm_reason(reason),
         Some(Topic::NotRgb) => refusals::NOT_RGB,
         Some(Topic::NoBox) => refusals::NO_BOX,
+        Some(Topic::NoString) => refusals::NO_STRING,
         Some(Topic::Empty) => refusals::EMPTY,
         Some(Topic::TooLarge) => refusals::TOO_LARGE,
         Some(Topic::OutOfMemory) => refusals::OUT_OF_MEMORY,
@@ -111,6 +115,7 @@ TooManyColours: a picture of more than 16 colours, or more than 256 with --wide
 Short: a PPM that ends before its last sample
 NotRgb: a colour of hue, lightness and saturation that would appear in a PPM
 NoBox: a text that declares no box of a possible screen size
+NoString: input to scan that has no sixel string
 Empty: a text to mend that declares no size and paints nothing
 TooLarge: a text to mend whose picture has a side above 2,048
 OutOfMemory: an allocation failed

@@ -12,7 +12,8 @@ ghost use Rattle.clap.specs.declared.error.kind.ErrorKind.TheVariants.{UnknownAr
 ghost use Rattle.sixel_words.specs.declared.explanations.Topic.{Topic};
 ghost use Rattle.sixel_run.specs.declared.fault.RunFault.{RunFault};
 ghost use Rattle.sixel_run.specs.declared.task.Task.{Task};
-ghost use Rattle.sixel_run.specs.declared.task.Task.TheVariants.{Check, List as Listing, Mend, Show, ShowBox, Survey};
+ghost use Rattle.sixel_run.specs.declared.task.Task.TheVariants.{Check, List as Listing, Mend, Scan, Show, ShowBox};
+ghost use Rattle.sixel_run.specs.declared.task.Task.TheVariants.{Survey};
 ghost use Rattle.sixel_words.specs.Explanations.{line_of, listed_names, name_in, topic_name, topic_of};
 ghost use Rattle.sixel_run.specs.Texts.{Text, rule_name};
 ghost use Rattle.sixel_words.specs.Words.{AsksFor, IsRequestOf, IsTaskOf, check_flags, is_among, kinds_of};
@@ -31,6 +32,16 @@ pub fn the_word_survey_gives_a_survey()
     ensures files { (program : Text) →
         IsRequestOf (program ∷ codes "survey" ∷ codes "--wide" ∷ codes "a" ∷ codes "b" ∷ [])
         (Survey Registers256) false (codes "a" ∷ codes "b" ∷ []) }
+{}
+
+/// `sixel scan` is accepted, and scans with 16 registers and without 8-bit controls. With `--wide` and `--eight-bit`, and
+/// over files in turn, it has 256 and counts these controls.
+pub fn the_word_scan_gives_a_scan()
+    ensures taken { (program : Text) → takes sixel_app (program ∷ codes "scan" ∷ []) ≡ true }
+    ensures task { (program : Text) → IsTaskOf (program ∷ codes "scan" ∷ []) (Scan Registers16 false) }
+    ensures files { (program : Text) →
+        IsRequestOf (program ∷ codes "scan" ∷ codes "--wide" ∷ codes "--eight-bit" ∷ codes "a" ∷ codes "b" ∷ [])
+        (Scan Registers256 true) false (codes "a" ∷ codes "b" ∷ []) }
 {}
 
 /// `sixel mend` is accepted, and mends without any flag, with 16 registers and a black background. The colour of

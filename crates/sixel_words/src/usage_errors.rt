@@ -172,7 +172,7 @@ fn second_file_reason(alloc: Global, name: &str, told: &str) -> Result<Option<St
     }
     let (reason, _) = told.split_once("\n\n").unwrap_or((told, ""));
     let reason = format!(in alloc;
-        "{reason}\n\n  tip: '{name}' reads one file; only 'check' and 'survey' read several"
+        "{reason}\n\n  tip: '{name}' reads one file; only 'check', 'survey' and 'scan' read several"
     )?;
     Ok(Some(reason))
 }

@@ -235,6 +235,10 @@ fn task_of(name: &str, matches: &ArgMatches<'_>) -> Option<Task>
         "survey" => Some(Task::Survey {
             profile: profile_of(matches),
         }),
+        "scan" => Some(Task::Scan {
+            profile: profile_of(matches),
+            eight_bit: flag_of(matches, "eight-bit"),
+        }),
         "render" => Some(Task::Render {
             profile: profile_of(matches),
         }),

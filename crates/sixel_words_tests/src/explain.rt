@@ -13,6 +13,15 @@ fn asks_for_an_explanation(rt: HostRuntime) -> Result<(), Fail> {
         ("sixel explain BadByte", "explain Some(Grammar(BadByte))"),
         ("sixel explain Trailing", "explain Some(Grammar(Trailing))"),
         ("sixel explain Short", "explain Some(Ppm(Short))"),
+        ("sixel explain NoString", "explain Some(NoString)"),
+        (
+            "sixel explain log: 30 broken Uncovered 54 1 0",
+            "explain Some(Rule(Uncovered))",
+        ),
+        (
+            "sixel explain 0 refused Truncated 11",
+            "explain Some(Grammar(Truncated))",
+        ),
         ("sixel explain OutOfMemory", "explain Some(OutOfMemory)"),
         ("sixel explain uncovered", "explain Some(Rule(Uncovered))"),
         ("sixel explain MAXVAL", "explain Some(Ppm(Maxval))"),

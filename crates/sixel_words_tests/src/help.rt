@@ -14,6 +14,7 @@ Commands:
   list     Lists the commands of the picture, one per line
   check    Says whether the picture is portable, or which rule it breaks first
   survey   Says which rules the picture breaks, how often, and where first
+  scan     Checks each picture in what a program writes to a terminal
   render   Converts a portable picture to a PPM
   encode   Converts a PPM to portable sixel text
   show     Draws the picture as one terminal would, and writes its screen as a PPM
@@ -85,6 +86,10 @@ fn shows_the_exit_status(rt: HostRuntime) -> Result<(), Fail> {
             "Exit status: 0 portable, 1 broken, 2 refused, 3 usage error; with several files\nthe greatest.\n",
         ),
         (
+            "sixel scan --help",
+            "Exit status: 0 all portable, 1 one isn't, 2 refused or none, 3 usage error; with\nseveral files the greatest.\n",
+        ),
+        (
             "sixel show --help",
             "Exit status: 0 done, 2 refused, 3 usage error.\n",
         ),
@@ -129,6 +134,43 @@ Example: sixel check plots/*.six
 ";
     for line in ["sixel check --help", "sixel help check"] {
         assert!(rt; says(&rt, line, check)?, "{line}");
+    }
+    Ok(())
+}
+
+#[test]
+fn shows_the_options_of_scan(rt: HostRuntime) -> Result<(), Fail> {
+    let scan = "help Checks each picture in what a program writes to a terminal
+
+Usage: sixel scan [OPTIONS] [FILE]...
+
+Arguments:
+  [FILE]...  Files to read in turn; without any, or for `-`, standard input
+
+Options:
+      --wide       Use 256 colour registers instead of 16
+      --eight-bit  Let the bytes 90 and 9C start and end a picture, too
+  -h, --help       Print help
+
+Reads what a program writes to a terminal, such as text, control sequences and
+several pictures, from each FILE in turn or, without one, from standard input.
+Writes a line for each picture to standard output as soon as it has ended: its
+byte offset, and what check says of it by itself, or `refused`, the reason and
+its offset. With files, each line starts with `FILE: `. If a file has no picture
+or can't be read, the reason goes to standard error, and the files after it are
+still read.
+
+A picture starts with ESC P, numbers and q, and ends after ESC \\, before another
+ESC, or after the byte 18 or 1A. --eight-bit is for terminals that take the bytes
+90 and 9C as controls; in UTF-8 they are parts of letters.
+
+Exit status: 0 all portable, 1 one isn't, 2 refused or none, 3 usage error; with
+several files the greatest.
+
+Example: ./test-suite | sixel scan
+";
+    for line in ["sixel scan --help", "sixel help scan"] {
+        assert!(rt; says(&rt, line, scan)?, "{line}");
     }
     Ok(())
 }

@@ -85,6 +85,14 @@ fn names_the_task(rt: HostRuntime) -> Result<(), Fail> {
         ("sixel check --wide", "Check { profile: Registers256 }"),
         ("sixel survey", "Survey { profile: Registers16 }"),
         ("sixel survey --wide", "Survey { profile: Registers256 }"),
+        (
+            "sixel scan",
+            "Scan { profile: Registers16, eight_bit: false }",
+        ),
+        (
+            "sixel scan --eight-bit --wide",
+            "Scan { profile: Registers256, eight_bit: true }",
+        ),
         ("sixel render", "Render { profile: Registers16 }"),
         ("sixel render --wide", "Render { profile: Registers256 }"),
         ("sixel encode", "Encode { profile: Registers16 }"),
@@ -204,7 +212,23 @@ fn names_the_files_to_survey(rt: HostRuntime) -> Result<(), Fail> {
     Ok(())
 }
 
-/// Each task except `check` and `survey` may have one file.
+#[test]
+fn names_the_files_to_scan(rt: HostRuntime) -> Result<(), Fail> {
+    let rows = [
+        ("sixel scan a b", "false", "[\"a\", \"b\"]"),
+        ("sixel scan - a --eight-bit", "true", "[\"-\", \"a\"]"),
+        ("sixel scan -- --wide", "false", "[\"--wide\"]"),
+    ];
+    for (line, eight_bit, files) in rows {
+        let task = format!(in rt.alloc();
+            "Scan {{ profile: Registers16, eight_bit: {eight_bit} }}"
+        )?;
+        assert!(rt; asks(&rt, line, task.as_str(), false, files)?, "{line}");
+    }
+    Ok(())
+}
+
+/// Each task except `check`, `survey` and `scan` may have one file.
 #[test]
 fn names_the_file_of_a_task(rt: HostRuntime) -> Result<(), Fail> {
     let rows = [
@@ -254,7 +278,7 @@ fn names_the_file_of_a_task(rt: HostRuntime) -> Result<(), Fail> {
 }
 
 const NO_COMMAND: &str = "usage error: 'sixel' requires a subcommand but one was not provided
-  [subcommands: list, check, survey, render, encode, show, mend, explain, help]
+  [subcommands: list, check, survey, scan, render, encode, show, mend, explain, help]
 
 Usage: sixel <COMMAND>";
 
@@ -270,7 +294,7 @@ const NOT_QUIET: &str = "usage error: unexpected argument '-q' found
 
 Usage: sixel list [FILE]";
 
-/// A second file. Only `check` and `survey` read several.
+/// A second file. Only `check`, `survey` and `scan` read several.
 #[test]
 fn refuses_a_second_file(rt: HostRuntime) -> Result<(), Fail> {
     let rows = [
@@ -284,7 +308,7 @@ fn refuses_a_second_file(rt: HostRuntime) -> Result<(), Fail> {
         let text = format!(in rt.alloc();
             "usage error: unexpected argument 'b' found
 
-  tip: '{name}' reads one file; only 'check' and 'survey' read several
+  tip: '{name}' reads one file; only 'check', 'survey' and 'scan' read several
 
 Usage: sixel {name} {usage}"
         )?;

@@ -33,6 +33,24 @@ the greatest.
 
 Example: sixel survey plot.six";
 
+pub const SCAN: &str =
+    "Reads what a program writes to a terminal, such as text, control sequences and
+several pictures, from each FILE in turn or, without one, from standard input.
+Writes a line for each picture to standard output as soon as it has ended: its
+byte offset, and what check says of it by itself, or `refused`, the reason and
+its offset. With files, each line starts with `FILE: `. If a file has no picture
+or can't be read, the reason goes to standard error, and the files after it are
+still read.
+
+A picture starts with ESC P, numbers and q, and ends after ESC \\, before another
+ESC, or after the byte 18 or 1A. --eight-bit is for terminals that take the bytes
+90 and 9C as controls; in UTF-8 they are parts of letters.
+
+Exit status: 0 all portable, 1 one isn't, 2 refused or none, 3 usage error; with
+several files the greatest.
+
+Example: ./test-suite | sixel scan";
+
 pub const RENDER: &str = "Reads sixel text from FILE or, without one, from standard input. Writes a
 portable picture to standard output as a PPM. If the picture is broken, it
 writes the broken rule to standard error, and no PPM.

@@ -149,6 +149,7 @@ const NAMES: [&str; 35] = [
     "Short",
     "NotRgb",
     "NoBox",
+    "NoString",
     "Empty",
     "TooLarge",
     "OutOfMemory",

@@ -283,6 +283,19 @@ Fix: leave out --box, and give the screen's sides by --width and --height; or
 write raster attributes with the true size.
 ";
 
+pub const NO_STRING: &str = "NoString: input to scan that has no sixel string
+
+Refused: scan needs at least one sixel string: ESC P, digits and semicolons or
+none, and q. Nothing is written.
+
+String: x
+Output of scan: sixel: NoString
+
+Fix: look at whether the program writes pictures at all when its output isn't a
+terminal. If it writes the bytes 90 and 9C in place of ESC P and ESC \\, give
+--eight-bit. What a multiplexer such as tmux wraps has to be unwrapped first.
+";
+
 pub const EMPTY: &str = "Empty: a text to mend that declares no size and paints nothing
 
 Refused: mend needs a picture of at least one pixel. A text without raster

@@ -34,66 +34,69 @@ returns-in-Err-clause-checked g c =
         counted = λ is none. cc;
       };
       counted = rw file refl;
+      written = λ is. cc;
       outcome = (refl, Appends-none _, refl, is_put c.put_unopened.result _ _ _ c.put_unopened.ensures);
     }
 
 pub returns-in-Ok-clause-checked : goal.returns-in-Ok-clause-checked
 returns-in-Ok-clause-checked g c =
     let file : is_dash c.args.name.now ≡ false = sym c.eq.ensures ∙ c.if-eq.false in
-    let checked = c.check_named-in-Ok.ensures in
+    let checked = c.answer_named-in-Ok.ensures in
     record {
       e = record {
         name = c.args.name.now;
         unopened = None;
         told = _;
         left = _;
-        format = checked.0;
-        lines = checked.1;
-        answer = checked.2;
+        format = checked.format;
+        lines = checked.lines;
+        answer = checked.answer;
       };
       name_is = refl;
       told = rw file
           (ap (λ (s : SourceState). s.remaining) c.new-file.ensures
           ∙ ap (λ (s : SourceState). s.remaining) c.in-Ok.ensures.bytes);
       left = rw file refl;
-      is_end = checked.3;
+      is_end = checked.is_end;
       opening = record {
         input = λ is. refl;
         opening = λ is. c.in-Ok.ensures.ended;
         unread = λ reason is. cc;
         counted = λ is none.
-            fails_with (folder_view (g.F.Folder.opening c.args.folder.now) g.F.Opened.Source.state) checked.2 _ _ _
-            (ap (λ (s : SourceState). s.failures) (c.new-file.ensures ∙ c.in-Ok.ensures.bytes)) checked.4
-            (source_failed _ _ _ c.check_named-in-Ok.new.input.counted);
+            fails_with (folder_view (g.F.Folder.opening c.args.folder.now) g.F.Opened.Source.state) checked.answer _ _ _
+            (ap (λ (s : SourceState). s.failures) (c.new-file.ensures ∙ c.in-Ok.ensures.bytes)) checked.counted
+            (source_failed _ _ _ c.answer_named-in-Ok.new.input.counted);
       };
       counted = rw file refl;
-      outcome = checked.5;
+      written = checked.written;
+      outcome = checked.outcome;
     }
 
 pub returns-then-eq-clause-checked : goal.returns-then-eq-clause-checked
 returns-then-eq-clause-checked g c =
     let dash : is_dash c.args.name.now ≡ true = sym c.eq.ensures ∙ c.if-eq.true in
-    let checked = c.check_named.ensures in
+    let checked = c.answer_named.ensures in
     record {
       e = record {
         name = c.args.name.now;
         unopened = None;
         told = _;
         left = _;
-        format = checked.0;
-        lines = checked.1;
-        answer = checked.2;
+        format = checked.format;
+        lines = checked.lines;
+        answer = checked.answer;
       };
       name_is = refl;
       told = rw dash refl;
       left = rw dash refl;
-      is_end = checked.3;
+      is_end = checked.is_end;
       opening = record {
         input = λ is. refl;
         opening = λ is. let no : true ≡ false = sym dash ∙ is in cc;
         unread = λ reason is. cc;
         counted = λ is none. let no : true ≡ false = sym dash ∙ is in cc;
       };
-      counted = rw dash checked.4;
-      outcome = checked.5;
+      counted = rw dash checked.counted;
+      written = checked.written;
+      outcome = checked.outcome;
     }

@@ -1,14 +1,17 @@
-use Rattle.std.proofs.Common.{◌≡◌, ◌∙◌, ◌∷◌, ◌++◌, [], List, None, Option, Some, ap, append_assoc, codes, sym}
+use Rattle.std.proofs.Common.{◌≡◌, ◌∙◌, ◌∷◌, ◌++◌, ℕ, [], List, None, Option, Some, ap, append_assoc, codes, sym}
+use Rattle.sixel_grammar.specs.declared.fault.Fault.{Fault}
 use Rattle.sixel_judge.specs.declared.verdict.Finding.{Finding}
 use Rattle.sixel_run.specs.declared.fault.RunFault.{RunFault}
 use Rattle.sixel_run.specs.declared.fault.RunFault.TheVariants as fault
 use Rattle.sixel_survey.specs.declared.entry.Entry.{Entry}
-use Rattle.sixel_run.specs.Texts.{Text, entry_line, finding_line, rule_name}
+use Rattle.sixel_scan.specs.declared.answer.Answer.TheVariants.{Broken, Refused}
+use Rattle.sixel_run.specs.Texts.{Text, entry_line, finding_line, reason_name, rule_name, string_line}
 use Rattle.sixel_words.specs.declared.explanations.Topic.TheVariants.{Read}
 use Rattle.sixel_words.specs.Explanations.{ArePasted, line_of, name_in, topic_name, topic_of}
 use Rattle.sixel_words.proofs.PastedLemmas.{ending_pasted, fault_pasted, finding_pasted, is_a_folder, no_such_file}
 use Rattle.sixel_words.proofs.PastedLemmas.{not_utf8, permission_denied, read_failed}
 use Rattle.sixel_program.proofs.EntryLemmas.{entry_pasted, entry_pasted_after}
+use Rattle.sixel_program.proofs.StringLineLemmas.{string_finding_pasted, string_refusal_pasted}
 use Rattle.sixel_program.specs.declared.folder.Unopened.{Unopened}
 use Rattle.sixel_program.specs.declared.folder.Unopened.TheVariants.{Failed, IsFolder, NotFound, NotText}
 use Rattle.sixel_program.specs.declared.folder.Unopened.TheVariants.{PermissionDenied}
@@ -37,6 +40,19 @@ surveyed (Some name) entry said are =
     (append_assoc (printed name) (codes ": ") (entry_line entry)
     ∙ sym (append_assoc (printed name) (codes ":") (32 ∷ entry_line entry))))
 
+scanned : (name : Option Text) (place : ℕ) (finding : Finding) (said : List Text)
+    → ArePasted said (labelled name (string_line (record { place = place; answer = Broken finding })))
+    → name_in (line_of said) ≡ Some (rule_name finding.rule)
+scanned None place finding said are = string_finding_pasted [] place finding said are
+scanned (Some name) place finding said are =
+    string_finding_pasted (printed name ++ codes ": ") place finding said are
+
+scan_refused : (name : Option Text) (place : ℕ) (f : Fault) (said : List Text)
+    → ArePasted said (labelled name (string_line (record { place = place; answer = Refused f })))
+    → name_in (line_of said) ≡ Some (reason_name f.reason)
+scan_refused None place f said are = string_refusal_pasted [] place f said are
+scan_refused (Some name) place f said are = string_refusal_pasted (printed name ++ codes ": ") place f said are
+
 refused : (name : Option Text) (f : RunFault) (said : List Text) → ArePasted said (fault_said name f)
     → name_in (line_of said) ≡ Some (topic_name (topic_of f))
 refused None f said are = fault_pasted (codes "sixel:") f said are
@@ -45,6 +61,7 @@ refused (Some name) (fault.Grammar f) said are = fault_pasted (begun name) (faul
 refused (Some name) (fault.Ppm reason place) said are = fault_pasted (begun name) (fault.Ppm reason place) said are
 refused (Some name) fault.NotRgb said are = fault_pasted (begun name) fault.NotRgb said are
 refused (Some name) fault.NoBox said are = fault_pasted (begun name) fault.NoBox said are
+refused (Some name) fault.NoString said are = fault_pasted (begun name) fault.NoString said are
 refused (Some name) fault.Empty said are = fault_pasted (begun name) fault.Empty said are
 refused (Some name) fault.TooLarge said are = fault_pasted (begun name) fault.TooLarge said are
 refused (Some name) fault.TooManyColours said are = fault_pasted (begun name) fault.TooManyColours said are
@@ -61,4 +78,11 @@ unopened name NotText said are = ending_pasted (begun name) (reason_text NotText
 unopened name Failed said are = ending_pasted (begun name) (reason_text Failed) Read said read_failed are
 
 pub returns : goal.returns
-returns c = record { broken = broken; surveyed = surveyed; refused = refused; unopened = unopened }
+returns c = record {
+  broken = broken;
+  surveyed = surveyed;
+  scanned = scanned;
+  scan_refused = scan_refused;
+  refused = refused;
+  unopened = unopened;
+}

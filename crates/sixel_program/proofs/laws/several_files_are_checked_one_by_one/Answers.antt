@@ -1,18 +1,18 @@
-use Rattle.std.proofs.Common.{flat_map, refl}
+use Rattle.std.proofs.Common.{flat_map}
 use Rattle.std.proofs.lemmas.Grind.{flat_map-append}
 use Rattle.std.proofs.lemmas.List.{append-nil}
 use Rattle.sixel_program.specs.Files.{text_of_end}
 use Rattle.sixel_program.specs.Names.{named}
-use Rattle.sixel_program.proofs.SeveralLemmas.{alone, faulty, greatest_of, quiet, reached, said_whole}
+use Rattle.sixel_program.proofs.SeveralLemmas.{alone, faulty, greatest_of, quiet, reached, refused, said_whole}
 use Rattle.sixel_program.proofs.laws.several_files_are_checked_one_by_one.Goals as goal
 
 pub returns : goal.returns
 returns c = record {
   joined = λ is_quiet prefix rest. flat_map-append (text_of_end is_quiet) prefix rest;
-  named = λ e status answer. rw answer (append-nil (flat_map (named e.name) e.lines));
+  named = λ e. append-nil (flat_map (named e.name) e.lines);
   lines = λ task e is. is.are_lines;
   alone = alone;
-  refused = λ is_quiet e fault answer. rw answer refl;
+  refused = refused;
   quiet = quiet;
   faulty = faulty;
   greatest = greatest_of;

@@ -24,13 +24,15 @@ returns c =
     c.in_ok-subcommand-2.ensures in
     let survey = with_sub check c.in_ok-survey_command.ensures.app c.in_ok-survey_command.ensures.local
     c.in_ok-subcommand-3.ensures in
-    let render = with_sub survey c.in_ok-render_command.ensures.app c.in_ok-render_command.ensures.local
+    let scan = with_sub survey c.in_ok-scan_command.ensures.app c.in_ok-scan_command.ensures.local
     c.in_ok-subcommand-4.ensures in
-    let encode = with_sub render c.in_ok-encode_command.ensures.app c.in_ok-encode_command.ensures.local
+    let render = with_sub scan c.in_ok-render_command.ensures.app c.in_ok-render_command.ensures.local
     c.in_ok-subcommand-5.ensures in
-    let show = with_sub encode c.in_ok-show_command.ensures.app c.in_ok-show_command.ensures.local
+    let encode = with_sub render c.in_ok-encode_command.ensures.app c.in_ok-encode_command.ensures.local
     c.in_ok-subcommand-6.ensures in
-    let mend = with_sub show c.in_ok-mend_command.ensures.app c.in_ok-mend_command.ensures.local
+    let show = with_sub encode c.in_ok-show_command.ensures.app c.in_ok-show_command.ensures.local
     c.in_ok-subcommand-7.ensures in
-    IfOk-weaker c.subcommand-8.result _ _ (λ r h. with_sub mend c.in_ok-explain_command.ensures.app
-    c.in_ok-explain_command.ensures.local h) c.subcommand-8.ensures
+    let mend = with_sub show c.in_ok-mend_command.ensures.app c.in_ok-mend_command.ensures.local
+    c.in_ok-subcommand-8.ensures in
+    IfOk-weaker c.subcommand-9.result _ _ (λ r h. with_sub mend c.in_ok-explain_command.ensures.app
+    c.in_ok-explain_command.ensures.local h) c.subcommand-9.ensures

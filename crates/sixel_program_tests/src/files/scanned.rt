@@ -1,0 +1,135 @@
+//! Scans of files and of standard input.
+
+use super::{Ended, PIXEL, RATIO, STREAMS, Streams, asked_of, ends_over};
+use crate::ends::{NO_TERMINALS, SCAN};
+use sixel_model::Profile;
+use sixel_program::{Exit, Terminals};
+use sixel_run::Task;
+use std::alloc::{AllocError, Global};
+use std::test::Fail;
+
+/// Whether a scan of these files, where standard input has these bytes, ends so.
+fn scans(
+    alloc: Global,
+    names: &[&str],
+    input: &[u8],
+    ended: Ended<'_>,
+) -> Result<bool, AllocError> {
+    ends_over(alloc, &asked_of(SCAN, names, input), STREAMS, ended)
+}
+
+/// Each line has the name of its file before it.
+#[test]
+fn a_file_with_two_strings(rt: HostRuntime) -> Result<(), Fail> {
+    let ended = Ended {
+        exit: Exit::Broken,
+        written: b"log: 2 portable 1 1\nlog: 30 broken Ratio 33\n",
+        said: b"",
+        is_read: false,
+    };
+    assert!(rt; scans(rt.alloc(), &["log"], PIXEL, ended)?);
+    Ok(())
+}
+
+/// The status is the greatest. What was written of a file before its refusal stays, and the scan goes on.
+#[test]
+fn files_of_each_kind(rt: HostRuntime) -> Result<(), Fail> {
+    let done = Ended {
+        exit: Exit::Done,
+        written: b"pixel: 0 portable 1 1\na b: 0 portable 1 1\n",
+        said: b"",
+        is_read: false,
+    };
+    assert!(rt; scans(rt.alloc(), &["pixel", "a b"], RATIO, done)?);
+    let refused = Ended {
+        exit: Exit::Refused,
+        written: b"halved: 0 portable 1 1\nlarge: 0 broken BoxSize 3\n",
+        said: b"sixel: text: NoString\nsixel: none: no such file\nsixel: halved: read failed\n",
+        ..done
+    };
+    let names = ["text", "none", "halved", "large"];
+    assert!(rt; scans(rt.alloc(), &names, PIXEL, refused)?);
+    Ok(())
+}
+
+/// Standard input has no name, and as `-` has that. It is at its end when it is read again.
+#[test]
+fn standard_input(rt: HostRuntime) -> Result<(), Fail> {
+    let plain = Ended {
+        exit: Exit::Broken,
+        written: b"0 broken Ratio 3\n",
+        said: b"",
+        is_read: true,
+    };
+    assert!(rt; scans(rt.alloc(), &[], RATIO, plain)?);
+    let named = Ended {
+        exit: Exit::Refused,
+        written: b"pixel: 0 portable 1 1\n-: 0 broken Ratio 3\n",
+        said: b"sixel: -: NoString\n",
+        ..plain
+    };
+    assert!(rt; scans(rt.alloc(), &["pixel", "-", "-"], RATIO, named)?);
+    Ok(())
+}
+
+#[test]
+fn options(rt: HostRuntime) -> Result<(), Fail> {
+    let task = Task::Scan {
+        profile: Profile::Registers256,
+        eight_bit: true,
+    };
+    let ended = Ended {
+        exit: Exit::Broken,
+        written: b"wide: 0 portable 2 1\neight: 0 broken EightBit 0\n",
+        said: b"",
+        is_read: false,
+    };
+    let asked = asked_of(task, &["wide", "eight"], PIXEL);
+    assert!(rt; ends_over(rt.alloc(), &asked, STREAMS, ended)?);
+    Ok(())
+}
+
+/// What fits of the lines is written, and no further file is read.
+#[test]
+fn an_output_that_fails(rt: HostRuntime) -> Result<(), Fail> {
+    let ended = Ended {
+        exit: Exit::Refused,
+        written: b"log: 2 portable 1 1\nlog: 3",
+        said: b"sixel: write failed\n",
+        is_read: false,
+    };
+    let narrow = Streams {
+        room: 26,
+        ..STREAMS
+    };
+    let asked = asked_of(SCAN, &["log", "-"], PIXEL);
+    assert!(rt; ends_over(rt.alloc(), &asked, narrow, ended)?);
+    Ok(())
+}
+
+/// A scan has no hint: each of its lines may name another rule.
+#[test]
+fn no_hint(rt: HostRuntime) -> Result<(), Fail> {
+    let terminal = Streams {
+        terminals: Terminals {
+            errors: true,
+            ..NO_TERMINALS
+        },
+        ..STREAMS
+    };
+    let ended = Ended {
+        exit: Exit::Broken,
+        written: b"ratio: 0 broken Ratio 3\n",
+        said: b"",
+        is_read: false,
+    };
+    assert!(rt;
+        ends_over(
+            rt.alloc(),
+            &asked_of(SCAN, &["ratio"], PIXEL),
+            terminal,
+            ended
+        )?
+    );
+    Ok(())
+}

@@ -1,0 +1,95 @@
+-- A scan of one string says what a check says.
+use Rattle.std.proofs.Common.{◌≡◌, ◌∙◌, ◌≤◌, ◌+◌, ℕ, Bool, false, List, [], ◌∷◌, ◌++◌, ap, arith, codes, length, refl}
+use Rattle.std.proofs.Common.{subst, sym}
+use Rattle.std.specs.Prelude.{Result, Ok}
+use Rattle.std.proofs.lemmas.Fmt.{decimal_digit}
+use Rattle.std.proofs.lemmas.List.{append-nil, take_all}
+use Rattle.sixel_grammar.specs.Bytes.{introducer}
+use Rattle.sixel_grammar.specs.Document.{Document}
+use Rattle.sixel_grammar.specs.declared.command.Placed.{Placed}
+use Rattle.sixel_grammar.specs.declared.fault.Fault.{Fault}
+use Rattle.sixel_grammar.proofs.TotalLemmas.{document_whole}
+use Rattle.sixel_grammar.proofs.UniqueLemmas.{document_once}
+use Rattle.sixel_model.specs.Profiles.{count_of}
+use Rattle.sixel_judge.specs.Verdicts.{IsVerdict}
+use Rattle.sixel_judge.specs.declared.verdict.Verdict.{Verdict}
+use Rattle.sixel_judge.specs.declared.verdict.Verdict.TheVariants.{Portable, Broken}
+use Rattle.sixel_judge.proofs.AnswerLemmas.{verdict_everywhere}
+use Rattle.sixel_judge.proofs.DifferenceLemmas.{no_false_alarm}
+use Rattle.sixel_scan.specs.declared.answer.Scanned.{Scanned}
+use Rattle.sixel_scan.specs.Answers.{IsReported}
+use Rattle.sixel_scan.specs.Scans.{longest_stream}
+use Rattle.sixel_scan.specs.Strings.{AreStrings, StringAt}
+use Rattle.sixel_scan.proofs.DocumentLemmas.{one_string}
+use Rattle.sixel_run.specs.declared.fault.RunFault.{RunFault}
+use Rattle.sixel_run.specs.declared.task.Status.{Status}
+use Rattle.sixel_run.specs.Laws.{ScanIsCheck, status_alone}
+use Rattle.sixel_run.specs.Outputs.{ScanGives, status_of}
+use Rattle.sixel_run.specs.Scanned.{answer_of_strings, stream_of}
+use Rattle.sixel_run.specs.Texts.{Text, answer_line, finding_line, string_line, verdict_line}
+use Rattle.sixel_run.proofs.StringLemmas.{tells_so, told_as}
+
+-- the report of one string with this verdict
+abbrev alone : Verdict → Scanned
+alone v = record { place = 0; answer = told_as 0 (Ok v) }
+
+told_line : (v : Verdict) → answer_line (told_as 0 (Ok v)) ≡ verdict_line v
+told_line (Portable picture) = refl
+told_line (Broken f) = ap (λ (n : ℕ). finding_line (record f { place = n })) (from_zero f.place)
+  where
+    from_zero : (n : ℕ) → 0 + n ≡ n
+    from_zero n = omega arith
+
+one_line : (v : Verdict) → string_line (alone v) ≡ codes "0 " ++ verdict_line v
+one_line v =
+    ap (λ (t : Text). t ++ 32 ∷ answer_line (told_as 0 (Ok v))) (decimal_digit 0 (omega arith))
+    ∙ ap (λ (t : Text). codes "0 " ++ t) (told_line v)
+
+one_status : (v : Verdict)
+    → (let r : Result Status RunFault = Ok (status_alone (status_of v)) in r) ≡ answer_of_strings (alone v ∷ [])
+one_status (Portable picture) = refl
+one_status (Broken f) = refl
+
+-- a document is the whole stream
+whole_stream : (events : List Placed) (bytes : List ℕ) → Document events bytes → stream_of bytes ≡ bytes
+whole_stream events bytes d =
+    take_all longest_stream bytes (let short = d.short in omega (arith, short))
+
+one_given : (registers : ℕ) (eight : Bool) (events : List Placed) (bytes more : List ℕ)
+    (document : Document events bytes) (v : Verdict) → bytes ≡ introducer false ++ more
+    → document.parses.after ≡ [] → IsVerdict registers events v
+    → ScanGives eight registers bytes (codes "0 " ++ verdict_line v) (Ok (status_alone (status_of v)))
+one_given registers eight events bytes more document v starts bare is =
+    let whole = document_whole events bytes document in (
+      alone v ∷ [],
+      record {
+        strings = record { place = 0; bytes = bytes } ∷ [];
+        are = subst (AreStrings eight (record { place = 0; bytes = bytes } ∷ []))
+            (sym (whole_stream events bytes document)) (one_string eight events bytes more document starts bare);
+        reported = (
+          record {
+            place = refl;
+            checked = Ok v;
+            answers = (
+              events,
+              document,
+              is,
+              verdict_everywhere registers events v whole is,
+              no_false_alarm registers events v whole is,
+            );
+            tells = tells_so 0 (Ok v);
+          },
+          tt,
+        );
+      },
+      sym (append-nil (string_line (alone v)) ∙ one_line v),
+      one_status v,
+    )
+
+pub scan_is_check : ScanIsCheck
+scan_is_check profile eight events bytes more document text status starts bare given =
+    let v = given.2.0 in
+    let is = subst (λ (l : List Placed). IsVerdict (count_of profile) l v)
+    (document_once bytes given.0 events given.1 document) given.2.1 in
+    rw (given.2.2, given.2.3)
+    (one_given (count_of profile) eight events bytes more document v starts bare is)

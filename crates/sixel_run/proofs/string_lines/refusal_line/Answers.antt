@@ -1,0 +1,15 @@
+use Rattle.std.proofs.Common.{append_assoc}
+use Rattle.sixel_run.proofs.string_lines.refusal_line.Goals as goal
+
+pub returns : goal.returns
+returns c =
+    rw (
+      c.push.ensures.items,
+      c.push_number.ensures.items,
+      c.push_all-2.ensures.items,
+      c.as_bytes.ensures.value,
+      c.reason_name.ensures.text,
+      c.push_all.ensures.items,
+      c.new-line.ensures,
+    )
+    (simp append_assoc)

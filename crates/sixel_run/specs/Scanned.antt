@@ -1,0 +1,92 @@
+-- What a scan finds in a stream, and what it answers.
+use Rattle.std.specs.Prelude.{◌≡◌, ◌≤◌, ◌++◌, ℕ, Bool, true, false, List, [], ◌∷◌, length, map, take, Option, Some}
+use Rattle.std.specs.Prelude.{Result, Ok, Err, if◌then◌else◌}
+use Rattle.std.specs.Io.KnownBytes.{Consumes}
+use Rattle.std.specs.List.{concat, list_all}
+use Rattle.sixel_scan.specs.declared.answer.Answer.{Answer}
+use Rattle.sixel_scan.specs.declared.answer.Answer.TheVariants.{Portable, Broken, Refused}
+use Rattle.sixel_scan.specs.declared.answer.Scanned.{Scanned}
+use Rattle.sixel_scan.specs.Prefixes.{AreGiven}
+use Rattle.sixel_scan.specs.Scans.{GrowsWithin, longest_stream}
+use Rattle.sixel_scan.specs.Standing.{AreReported}
+use Rattle.sixel_scan.specs.Strings.{AreStrings, StringAt}
+use Rattle.sixel_run.specs.declared.fault.RunFault.{RunFault}
+use Rattle.sixel_run.specs.declared.fault.RunFault.TheVariants.{NoString, OutOfMemory, Read, Write}
+use Rattle.sixel_run.specs.declared.task.Status.{Status}
+use Rattle.sixel_run.specs.declared.task.Status.TheVariants.{Done, Unfit}
+use Rattle.sixel_run.specs.Texts.{Text, string_line}
+
+-- the stream that a source with these bytes gives: of more than a stream has, the first
+abbrev pub stream_of : List ℕ → List ℕ
+stream_of bytes = take longest_stream bytes
+
+-- a line for each string
+abbrev pub string_lines : List Scanned → List Text
+string_lines reports = map string_line reports
+
+-- these lines, one after the other
+abbrev pub scan_text : List Scanned → Text
+scan_text reports = concat (string_lines reports)
+
+abbrev pub is_portable_answer : Answer → Bool
+is_portable_answer (Portable width height) = true
+is_portable_answer (Broken finding) = false
+is_portable_answer (Refused fault) = false
+
+-- the string is portable
+abbrev pub is_portable : Scanned → Bool
+is_portable s = is_portable_answer s.answer
+
+-- the answer on these strings: NoString if there are none; Done if each is portable, otherwise Unfit
+abbrev pub answer_of_strings : List Scanned → Result Status RunFault
+answer_of_strings [] = Err NoString
+answer_of_strings (s ∷ more) = if list_all is_portable (s ∷ more) then Ok Done else Ok Unfit
+
+-- the answer with one more string
+abbrev pub answer_with : Result Status RunFault → Scanned → Result Status RunFault
+answer_with (Ok Unfit) s = Ok Unfit
+answer_with answer s = if is_portable s then Ok Done else Ok Unfit
+
+-- the reports are of the strings of the stream, as a check with this many registers answers for the bytes of each
+pub record AreOfStream (eight : Bool) (registers : ℕ) (bytes : List ℕ) (reports : List Scanned) : Type 0 where
+  pub strings : List StringAt
+  pub are : AreStrings eight strings (stream_of bytes)
+  pub reported : AreReported registers strings reports
+
+-- the reports are of the strings of the bytes given so far, those before `left`, without one that ends only because
+-- these bytes do
+pub record AreOfGiven (eight : Bool) (registers : ℕ) (bytes : List ℕ) (left : Option (List ℕ)) (reports : List Scanned)
+    : Type 0 where
+  pub given : List ℕ
+  pub consumed : Consumes (Some bytes) left given
+  pub within : length given ≤ longest_stream
+  pub strings : List StringAt
+  pub are : AreGiven eight strings given
+  pub reported : AreReported registers strings reports
+
+-- the reports are of the strings before one in which a checker may allocate
+pub record AreBeforeAllocation (eight : Bool) (registers : ℕ) (bytes : List ℕ) (reports : List Scanned) : Type 0 where
+  pub strings : List StringAt
+  pub grows : GrowsWithin eight registers strings (stream_of bytes)
+  pub reported : AreReported registers strings reports
+
+-- the reports are of the first strings of the stream
+pub record AreOfFirst (eight : Bool) (registers : ℕ) (bytes : List ℕ) (reports : List Scanned) : Type 0 where
+  pub strings : List StringAt
+  pub rest : List StringAt
+  pub are : AreStrings eight (strings ++ rest) (stream_of bytes)
+  pub reported : AreReported registers strings reports
+
+-- a scan of these bytes, of which `left` is unread, may have found these strings if it answers so. Read, OutOfMemory:
+-- those told before the failure; Write: up to the one whose line couldn't be written; any other answer: all
+abbrev pub Finds : Bool → ℕ → List ℕ → Option (List ℕ) → Result Status RunFault → List Scanned → Type 0
+Finds eight registers bytes left (Err OutOfMemory) reports = AreBeforeAllocation eight registers bytes reports
+Finds eight registers bytes left (Err Read) reports = AreOfGiven eight registers bytes left reports
+Finds eight registers bytes left (Err Write) reports = AreOfFirst eight registers bytes reports
+Finds eight registers bytes left answer reports =
+    AreOfStream eight registers bytes reports × (answer ≡ answer_of_strings reports)
+
+-- a checker may allocate in one of the strings
+abbrev pub MayGrowInString : Bool → ℕ → List ℕ → Type 0
+MayGrowInString eight registers bytes =
+    (strings : List StringAt) × GrowsWithin eight registers strings (stream_of bytes)

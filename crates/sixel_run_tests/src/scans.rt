@@ -1,0 +1,86 @@
+//! Scans: when the line of a string is written, and what is written if a device fails.
+
+use crate::runs::{Limits, SCAN, run_counted};
+use sixel_check::{Finding, Rule};
+use sixel_run::{RunFault, Status, string_line};
+use sixel_scan::{Answer, Scanned};
+
+/// A portable string at offset 2, and a broken one at offset 30. They end at offsets 28 and 56.
+const TWO: &[u8] =
+    b"ab\x1bPq\"1;1;1;1#0;2;0;0;0#0@\x1b\\cd\x1bPq\"1;1;2;1#0;2;0;0;0#0@\x1b\\";
+
+/// The lines of both, of 15 and 27 bytes.
+const LINES: &[u8] = b"2 portable 1 1\n30 broken Uncovered 54 1 0\n";
+
+/// How many bytes of the lines are written when so many bytes have been given.
+fn written_after(given: u64) -> usize {
+    match given {
+        0..=27 => 0,
+        28..=55 => 15,
+        _ => 42,
+    }
+}
+
+/// Each line is written before the source is asked for more.
+#[test]
+fn lines_are_written_when_strings_end(rt: HostRuntime) {
+    for fill in 0..=56 {
+        let limits = Limits {
+            fill_fails: Some(fill),
+            ..Limits::unfailing(1, 64)
+        };
+        let mut room = [0; 64];
+        let ran = run_counted(rt.alloc(), SCAN, TWO, limits, &mut room);
+        assert!(rt; ran.answer == Err(RunFault::Read), "{fill}");
+        assert!(rt;
+            room.get(..ran.written) == LINES.get(..written_after(fill)),
+            "{fill}"
+        );
+        assert!(rt; ran.sink.flushes == 1, "{fill}");
+    }
+}
+
+/// After a failed write, no more is read.
+#[test]
+fn a_failed_write_ends_the_scan(rt: HostRuntime) {
+    for take in 0..42 {
+        let limits = Limits {
+            take_fails: Some(take),
+            ..Limits::unfailing(1, 1)
+        };
+        let mut room = [0; 64];
+        let ran = run_counted(rt.alloc(), SCAN, TWO, limits, &mut room);
+        assert!(rt; ran.answer == Err(RunFault::Write), "{take}");
+        assert!(rt; room.get(..ran.written) == LINES.get(..take as usize), "{take}");
+        let fills = if take < 15 { 28 } else { 56 };
+        assert!(rt; ran.source.fills == fills && ran.sink.flushes == 0, "{take}");
+    }
+}
+
+#[test]
+fn a_whole_scan(rt: HostRuntime) {
+    for piece in [1, 5, 64] {
+        let mut room = [0; 64];
+        let limits = Limits::unfailing(piece, 64);
+        let ran = run_counted(rt.alloc(), SCAN, TWO, limits, &mut room);
+        assert!(rt; ran.answer == Ok(Status::Unfit), "{piece}");
+        assert!(rt; room.get(..ran.written) == Some(LINES), "{piece}");
+        assert!(rt; ran.sink.takes == 2 && ran.sink.flushes == 1, "{piece}");
+    }
+}
+
+/// The longest line has 103 bytes.
+#[test]
+fn lines_of_strings_have_room(rt: HostRuntime) {
+    let scanned = Scanned {
+        place: u64::MAX,
+        answer: Answer::Broken(Finding {
+            rule: Rule::Uncovered,
+            place: u64::MAX,
+            pixel: Some((u64::MAX, u64::MAX)),
+        }),
+    };
+    let line =
+        b"18446744073709551615 broken Uncovered 18446744073709551615 18446744073709551615 18446744073709551615\n";
+    assert!(rt; string_line(&scanned).as_slice() == line.as_slice());
+}
