@@ -6,6 +6,7 @@
     blank-*     a box of one pixel, and then blank data: single sixels, or repeats of nine bytes each, so that as many
                 bytes make a ninth of the events
     each-*      a box of one pixel, and then one command or filler again and again
+    stream-*    100 MB of text without a control, and 100 MB of random bytes
 """
 
 import math
@@ -29,6 +30,11 @@ EACH = {
         "select-return": b"#0$",
     }.items()
 }
+
+# The streams, which have this many million bytes, and a line of the text.
+STREAM_SIZE = 100
+STREAMS = {"stream-text.log": "text", "stream-random": "random bytes"}
+LINE = b"test 123 of 456: parser::reads_a_long_document ... ok (0.25 s)\n"
 
 # The colours of noisy.ppm: of the gradients from one end to the other, and of the square.
 GRADIENT = [bytes((20 + 15 * place, 240 - 15 * place, 130)) for place in range(14)]
@@ -99,6 +105,11 @@ def again(item, size):
     return b'\x1bPq"1;1;1;1#0;2;0;0;0#0@' + item * (size * 1_000_000 // len(item)) + b"\x1b\\"
 
 
+def stream(kind):
+    size = STREAM_SIZE * 1_000_000
+    return random.Random(kind).randbytes(size) if kind != "text" else LINE * (size // len(LINE))
+
+
 def make(folder):
     folder = Path(folder)
     folder.mkdir(parents=True, exist_ok=True)
@@ -108,3 +119,5 @@ def make(folder):
         (folder / name).write_bytes(again(item, size))
     for name, item in EACH.items():
         (folder / name).write_bytes(again(item, EACH_SIZE))
+    for name, kind in STREAMS.items():
+        (folder / name).write_bytes(stream(kind))

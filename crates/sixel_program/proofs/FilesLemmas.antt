@@ -35,7 +35,7 @@ use Rattle.sixel_program.specs.Exits.{IsPut, RunEnds, complaint, exit_for_answer
 use Rattle.sixel_program.specs.declared.formats.Format.{Format}
 use Rattle.sixel_program.specs.Formats.{IsFormat, advice_for, advice_on, format_of}
 use Rattle.sixel_program.specs.Files.{AreChecked, AreDone, ArePut, AreCut, FileEnd, IsChecked, IsFileEnd, IsFileOpening}
-use Rattle.sixel_program.specs.Files.{IsLine, ReadsOver}
+use Rattle.sixel_program.specs.Files.{IsLine}
 use Rattle.sixel_program.specs.Findings.{task_of}
 use Rattle.sixel_program.specs.declared.findings.FilesTask.{FilesTask}
 use Rattle.sixel_program.specs.declared.findings.FilesTask.TheVariants as files
@@ -286,27 +286,19 @@ format_kept format told has same is =
     is
 
 -- what was read of a source was read of the bytes that the source was made from
-consumed_kept : (bytes : List ℕ) (told has left : Option (List ℕ)) → Keeps told has → Consumes has left bytes
-    → Consumes told left bytes
-consumed_kept bytes None has left same all = tt
-consumed_kept bytes (Some had) None left same all = absurd same
-consumed_kept bytes (Some had) (Some more) None same all = absurd all
-consumed_kept bytes (Some had) (Some more) (Some rest) same all = let is : more ≡ had = same in sym is ∙ all
-
 pub read_kept : {A E : Type 0} (answer : Result A E) (told has left : Option (List ℕ)) → Keeps told has
     → ReadsToEnd answer has left → ReadsToEnd answer told left
 read_kept answer told has left same reads = record {
-  read = (reads.read.0, consumed_kept reads.read.0 told has left same reads.read.1);
+  read = (reads.read.0, consumed reads.read.0 told has left same reads.read.1);
   ended = reads.ended;
 }
-
-pub over_kept : (t : Task) (answer : Result Status RunFault) (told has left : Option (List ℕ)) → Keeps told has
-    → ReadsOver t answer has left → ReadsOver t answer told left
-over_kept t answer told has left same reads = record {
-  bytes = reads.bytes;
-  read = consumed_kept reads.bytes told has left same reads.read;
-  ended = reads.ended;
-}
+  where
+    consumed : (bytes : List ℕ) (told has left : Option (List ℕ)) → Keeps told has → Consumes has left bytes
+        → Consumes told left bytes
+    consumed bytes None has left same all = tt
+    consumed bytes (Some had) None left same all = absurd same
+    consumed bytes (Some had) (Some more) None same all = absurd all
+    consumed bytes (Some had) (Some more) (Some rest) same all = let is : more ≡ had = same in sym is ∙ all
 
 pub wrote_kept : (t : Task) (told has left : Option (List ℕ)) (answer : Result Status RunFault)
     (was is : Option (List ℕ)) → Keeps told has → IfSome has (λ bytes. Wrote t bytes left answer was is)

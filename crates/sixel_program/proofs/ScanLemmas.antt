@@ -1,7 +1,7 @@
 -- How the scan of a file ends.
 use Rattle.std.proofs.Common.{◌≡◌, ◌∙◌, ℕ, Bool, true, false, List, [], Option, Some, None, flat_map, inr, refl, take}
 use Rattle.std.specs.Prelude.{◌≢◌, Result, Ok, Err, IfSome}
-use Rattle.std.specs.Io.KnownBytes.{Appends, Keeps}
+use Rattle.std.specs.Io.KnownBytes.{Appends}
 use Rattle.std.specs.List.{concat}
 use Rattle.sixel_io.specs.Devices.{Change, SinkState, SourceState, change, one_more}
 use Rattle.sixel_model.specs.Profiles.{count_of}
@@ -16,11 +16,9 @@ use Rattle.sixel_run.specs.Scanned.{Finds, string_lines}
 use Rattle.sixel_run.specs.Scanning.{PutsText, Scans}
 use Rattle.sixel_run.specs.Texts.{Text}
 use Rattle.sixel_run.proofs.ScanLemmas.{file_wrote, scans_grew}
-use Rattle.sixel_program.specs.declared.formats.Format.{Format}
 use Rattle.sixel_program.specs.Files.{IsFileEnd, IsNamedEnd, SaysOfCheck}
-use Rattle.sixel_program.specs.Formats.{IsFormat}
 use Rattle.sixel_program.specs.Names.{named}
-use Rattle.sixel_program.proofs.FilesLemmas.{memory_kept, over_kept, wrote_kept}
+use Rattle.sixel_program.proofs.FilesLemmas.{no_format}
 use Rattle.sixel_program.proofs.FindingLemmas.{strings_are_lines}
 
 lines_wrote : (profile : Profile) (eight : Bool) (old left : Option (List ℕ)) (answer : Result Status RunFault)
@@ -49,45 +47,36 @@ cut_count : (answer : Result Status RunFault) (old new : ℕ) → answer ≡ Err
     → CountsWrites answer old new → new ≡ one_more old
 cut_count answer old new is counts = rw is at counts
 
-module _ (profile : Profile) (eight : Bool) (name : Text) (format : Option Format) (answer : Result Status RunFault)
-    (i : Change SourceState) (mid : SourceState) (o : Change SinkState) (same : Keeps i.old.remaining mid.remaining)
-    (failures : mid.failures ≡ i.old.failures) (is_format : IsFormat i.old.remaining format)
-    (k : Scans (named name) eight (count_of profile) answer (change mid i.new) o) where
+module _ (profile : Profile) (eight : Bool) (name : Text) (answer : Result Status RunFault) (i : Change SourceState)
+    (o : Change SinkState) (k : Scans (named name) eight (count_of profile) answer i o) where
   scan_end : IsFileEnd (Scan profile eight) (record {
         name = name;
         unopened = None;
         told = i.old.remaining;
         left = i.new.remaining;
-        format = format;
+        format = None;
         lines = string_lines k.reports;
         answer = answer;
       })
   scan_end = record {
-    wrote = wrote_kept (Scan profile eight) i.old.remaining mid.remaining i.new.remaining answer (Some [])
-        (Some (concat (string_lines k.reports))) same
-        (lines_wrote profile eight mid.remaining i.new.remaining answer k.reports k.finds);
+    wrote = lines_wrote profile eight i.old.remaining i.new.remaining answer k.reports k.finds;
     are_lines = strings_are_lines k.reports;
     refused = λ is. absurd (let no : true ≡ false = is in cc);
-    memory = λ is. memory_kept (Scan profile eight) i.old.remaining mid.remaining same
-        (scans_grew (named name) eight (count_of profile) answer (change mid i.new) o k is);
+    memory = λ is. scans_grew (named name) eight (count_of profile) answer i o k is;
     written = λ is. absurd (let no : true ≡ false = is in cc);
-    reads = over_kept (Scan profile eight) answer i.old.remaining mid.remaining i.new.remaining same
-        (record { bytes = k.taken; read = k.consumed; ended = k.over });
-    is_format = is_format;
+    reads = record { bytes = k.taken; read = k.consumed; ended = k.over };
+    is_format = no_format i.old.remaining;
   }
-
-  scan_counted : i.new.failures ≡ failures_by run.Read answer i.old.failures
-  scan_counted = rw failures at k.reads
 
   -- the output failed
   pub scan_cut : {E : Type 0} (f : E) (e : SinkState) → answer ≡ Err run.Write
       → IsNamedEnd {E = E} (Scan profile eight) false name (Err f) i o (change e e)
   scan_cut f e is = record {
-    format = format;
+    format = None;
     lines = string_lines k.reports;
     answer = answer;
     is_end = scan_end;
-    counted = scan_counted;
+    counted = k.reads;
     written = tt;
     outcome = (
       cut_put answer o.old.taken o.new.taken (flat_map (named name) (string_lines k.reports)) is k.put,
@@ -100,14 +89,14 @@ module _ (profile : Profile) (eight : Bool) (name : Text) (format : Option Forma
 
   -- or it didn't, and the message was put
   pub scan_said : {E : Type 0} (answered : Result Status RunFault) (e : Change SinkState) → answer ≢ Err run.Write
-      → answered ≡ answer → SaysOfCheck (Some name) format answer e
+      → answered ≡ answer → SaysOfCheck (Some name) None answer e
       → IsNamedEnd {E = E} (Scan profile eight) false name (Ok answered) i o e
   scan_said answered e other is says = record {
-    format = format;
+    format = None;
     lines = string_lines k.reports;
     answer = answer;
     is_end = scan_end;
-    counted = scan_counted;
+    counted = k.reads;
     written = other;
     outcome = (
       is,

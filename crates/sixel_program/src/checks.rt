@@ -136,12 +136,11 @@ fn scan_named<S: Source, K: Sink, E: Sink>(
         (change (⟦<Peeked<S> as Source>⟧.state input.old) (⟦<Peeked<S> as Source>⟧.state input.new))
         (change (K.state output.old) (K.state output.new)) (change (E.state errors.old) (E.state errors.new)) }
 {
-    let format = input.format();
     let answer = scan_with(alloc, profile, eight_bit, &AfterName { name }, input, output);
     if is_unwritten(&answer) {
         return Err(DeviceFault);
     }
-    Ok(say_answer(Some(name), format, answer, errors))
+    Ok(say_answer(Some(name), None, answer, errors))
 }
 
 /// Whether the output failed.
@@ -249,8 +248,8 @@ fn has_hint(is_quiet: bool, is_shown: bool) -> bool
 }
 
 /// Checks, surveys or scans the files with these names in turn. A refused file doesn't end this, but a failed write
-/// does. The exit status is the greatest of theirs. If hints are shown (`is_shown`) and the task isn't quiet, one on the first
-/// broken file's rule comes last.
+/// does. The exit status is the greatest of theirs. If hints are shown (`is_shown`), one on the first broken file's rule
+/// comes last, but not after a quiet check or a scan.
 pub fn check_files<F: Folder, S: Source, K: Sink, E: Sink>(
     alloc: Global,
     task: FilesTask,

@@ -1,11 +1,13 @@
 //! Requests over standard input or files.
 
-ghost use Rattle.std.specs.Prelude.{◌≡◌, false, map, option_copied};
+ghost use Rattle.std.specs.Prelude.{◌≡◌, false, map, option_copied, true};
+ghost use Rattle.std.specs.Io.KnownBytes.{Keeps};
 ghost use Rattle.std.specs.List.{list_any};
 ghost use Rattle.std.specs.String.{string_bytes};
 ghost use Rattle.sixel_io.specs.Devices.{change};
 ghost use Rattle.sixel_program.specs.Exits.{RunEnds};
-ghost use Rattle.sixel_program.specs.Files.{FileEnds, RequestEnds, is_dash, reads_input};
+ghost use Rattle.sixel_program.specs.Files.{FileEnds, RequestEnds, is_dash, reads_input, scans};
+ghost use Rattle.sixel_program.specs.Formats.{IsFormat};
 ghost use Rattle.sixel_program.specs.Openings.{folder_view};
 ghost use Rattle.sixel_run.specs.Outputs.{HasSides};
 
@@ -13,6 +15,7 @@ use crate::checks::{check_files, check_quietly};
 use crate::exit::{Exit, exit_of};
 use crate::findings::FilesTask;
 use crate::folder::{Folder, open_file};
+use crate::formats::Format;
 use crate::hints::put_hint_after;
 use crate::peeked::Peeked;
 use crate::saying::{put_said, put_unopened};
@@ -45,6 +48,29 @@ pub fn reads_input(request: &Request) -> bool
     }
 }
 
+/// Whether the task writes while it reads.
+fn scans(task: &Task) -> bool
+    ensures { result ≡ scans task.now }
+{
+    matches!(task, Task::Scan { .. })
+}
+
+/// The format of the input of a task, told by its first bytes. A scan has no use for it, and doesn't look: a string may
+/// end in these bytes, and its line is written before more are read.
+fn format_for<S: Source>(task: &Task, input: &mut Peeked<S>) -> Option<Format>
+    ensures told { Keeps (⟦<Peeked<S> as Source>⟧.state input.old).remaining
+        (⟦<Peeked<S> as Source>⟧.state input.new).remaining }
+    ensures failures { (⟦<Peeked<S> as Source>⟧.state input.new).failures
+        ≡ (⟦<Peeked<S> as Source>⟧.state input.old).failures }
+    ensures format { IsFormat (⟦<Peeked<S> as Source>⟧.state input.old).remaining result }
+    ensures unread { scans task.now ≡ true → input.new ≡ input.old }
+{
+    if scans(task) {
+        return None;
+    }
+    input.format()
+}
+
 /// Runs a task over an input, which has this name or none. Writes to `errors` why the input was refused, or which rule
 /// kept its picture from being rendered, and how to convert an input of another format; and after a check the hint on a
 /// broken rule, if hints are shown (`is_shown`). If that can't be written, the exit status stays the same.
@@ -62,7 +88,7 @@ fn report<S: Source, K: Sink, E: Sink>(
         (change (⟦<Peeked<S> as Source>⟧.state input.old) (⟦<Peeked<S> as Source>⟧.state input.new))
         (change (K.state output.old) (K.state output.new)) (change (E.state errors.old) (E.state errors.new)) }
 {
-    let format = input.format();
+    let format = format_for(task, input);
     let answer = run(alloc, *task, input, output);
     let _ = put_said(task, name, format, &answer, errors);
     put_hint_after(is_shown, task, &answer, errors);

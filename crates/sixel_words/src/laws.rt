@@ -34,8 +34,8 @@ pub fn the_word_survey_gives_a_survey()
         (Survey Registers256) false (codes "a" ∷ codes "b" ∷ []) }
 {}
 
-/// `sixel scan` is accepted, and scans with 16 registers and without 8-bit controls. With `--wide` and `--eight-bit`, and
-/// over files in turn, it has 256 and counts these controls.
+/// `sixel scan` is accepted, and scans with 16 registers and without 8-bit controls. With `--wide` and `--eight-bit`,
+/// and over files in turn, it has 256 and counts these controls.
 pub fn the_word_scan_gives_a_scan()
     ensures taken { (program : Text) → takes sixel_app (program ∷ codes "scan" ∷ []) ≡ true }
     ensures task { (program : Text) → IsTaskOf (program ∷ codes "scan" ∷ []) (Scan Registers16 false) }

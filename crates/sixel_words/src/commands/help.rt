@@ -43,8 +43,8 @@ or can't be read, the reason goes to standard error, and the files after it are
 still read.
 
 A picture starts with ESC P, numbers and q, and ends after ESC \\, before another
-ESC, or after the byte 18 or 1A. --eight-bit is for terminals that take the bytes
-90 and 9C as controls; in UTF-8 they are parts of letters.
+ESC, or after the byte 18 or 1A. --eight-bit is for terminals that take the
+bytes 90 and 9C as controls; in UTF-8 they are parts of letters.
 
 Exit status: 0 all portable, 1 one isn't, 2 refused or none, 3 usage error; with
 several files the greatest.

@@ -118,7 +118,7 @@ fn edits(alloc: Global, name: &str, word: &str) -> Result<usize, AllocError>
 }
 
 /// The listed names.
-const NAMES: [&str; 35] = [
+const NAMES: [&str; 36] = [
     "RasterFirst",
     "RasterTwice",
     "Ratio",
