@@ -8,7 +8,7 @@ ghost use Rattle.sixel_program.specs.Names.{named};
 ghost use Rattle.sixel_run.specs.Outputs.{TakesMemory, Wrote, failures_by};
 ghost use Rattle.sixel_run.specs.Texts.{entry_line, survey_lines};
 ghost use Rattle.sixel_run.specs.declared.fault.RunFault.TheVariants.{Read as ReadFault};
-ghost use Rattle.sixel_run.specs.declared.task.Task.TheVariants.{Check, Survey};
+ghost use Rattle.sixel_run.specs.declared.task.Task.TheVariants.{Check, Survey as Surveying};
 
 use crate::names::put_named;
 use sixel_check::Verdict;
@@ -100,10 +100,10 @@ pub fn find_survey<S: Source>(
     input: &mut S,
 ) -> Result<Found, RunFault>
     ensures found { IfSome (S.state input.old).remaining (λ bytes.
-        Wrote (Survey profile) bytes (S.state input.new).remaining
+        Wrote (Surveying profile) bytes (S.state input.new).remaining
         (answer_of result) (Some []) (Some (concat (lines_of result)))) }
     ensures memory { answer_of result ≡ Err RunFault.OutOfMemory →
-        TakesMemory (Survey profile) (S.state input.old).remaining }
+        TakesMemory (Surveying profile) (S.state input.old).remaining }
     ensures reads { (S.state input.new).failures
         ≡ failures_by ReadFault (answer_of result) (S.state input.old).failures }
     ensures left { ReadsToEnd (answer_of result) (S.state input.old).remaining (S.state input.new).remaining }

@@ -26,8 +26,8 @@ ghost use Rattle.sixel_survey.specs.declared.entry.Entry.{Entry};
 /// The output of a check, a survey or a scan of several files is their lines joined. Each line begins with the file's
 /// name, and without it they are the lines that the task writes over only this file's bytes. A file that a check or a
 /// survey refuses has no line, and a grammar fault is the one that the task finds in only this file's bytes. A quiet
-/// check writes no lines. The exit status is the greatest: it is that of one of the files, and no file has a greater one.
-/// Texts that were put to a sink in turn are appended to it joined, unless a call on the sink failed.
+/// check writes no lines. The exit status is the greatest: it is that of one of the files, and no file has a greater
+/// one. Texts that were put to a sink in turn are appended to it joined, unless a call on the sink failed.
 pub fn several_files_are_checked_one_by_one()
     ensures joined { (is_quiet : Bool) (prefix rest : List FileEnd) →
         files_text is_quiet (prefix ++ rest) ≡ files_text is_quiet prefix ++ files_text is_quiet rest }
