@@ -24,9 +24,8 @@ use std::alloc::Global;
 /// Runs a task: reads the input as far as the task needs it, writes the output, and flushes once at the end.
 ///
 /// The output is written in blocks, and what a piece of input completes is written before the next piece is read. The
-/// line of a string of a stream is written as soon as the string has ended. A
-/// device that failed isn't called again; if both failed, the answer is `Write`. The sides of a screen to show must be
-/// from 1 to 4,096 pixels.
+/// line of a string of a stream is written as soon as the string has ended. A device that failed isn't called again; if
+/// both failed, the answer is `Write`. The sides of a screen to show must be from 1 to 4,096 pixels.
 pub fn run<S: Source, K: Sink>(
     alloc: Global,
     task: Task,

@@ -6,8 +6,7 @@ use sixel_run::{RunFault, Status, string_line};
 use sixel_scan::{Answer, Scanned};
 
 /// A portable string at offset 2, and a broken one at offset 30. They end at offsets 28 and 56.
-const TWO: &[u8] =
-    b"ab\x1bPq\"1;1;1;1#0;2;0;0;0#0@\x1b\\cd\x1bPq\"1;1;2;1#0;2;0;0;0#0@\x1b\\";
+const TWO: &[u8] = b"ab\x1bPq\"1;1;1;1#0;2;0;0;0#0@\x1b\\cd\x1bPq\"1;1;2;1#0;2;0;0;0#0@\x1b\\";
 
 /// The lines of both, of 15 and 27 bytes.
 const LINES: &[u8] = b"2 portable 1 1\n30 broken Uncovered 54 1 0\n";
@@ -51,9 +50,15 @@ fn a_failed_write_ends_the_scan(rt: HostRuntime) {
         let mut room = [0; 64];
         let ran = run_counted(rt.alloc(), SCAN, TWO, limits, &mut room);
         assert!(rt; ran.answer == Err(RunFault::Write), "{take}");
-        assert!(rt; room.get(..ran.written) == LINES.get(..take as usize), "{take}");
+        assert!(rt;
+            room.get(..ran.written) == LINES.get(..take as usize),
+            "{take}"
+        );
         let fills = if take < 15 { 28 } else { 56 };
-        assert!(rt; ran.source.fills == fills && ran.sink.flushes == 0, "{take}");
+        assert!(rt;
+            ran.source.fills == fills && ran.sink.flushes == 0,
+            "{take}"
+        );
     }
 }
 

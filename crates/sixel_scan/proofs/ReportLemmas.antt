@@ -17,9 +17,10 @@ use Rattle.sixel_scan.specs.Answers.{IsReported}
 use Rattle.sixel_scan.specs.Checking.{HasRead}
 use Rattle.sixel_scan.specs.Openings.{is_introduced, is_longer}
 use Rattle.sixel_scan.specs.Prefixes.{AreBeforeGrowth, Resumes}
-use Rattle.sixel_scan.specs.Standing.{Holds, ReadsNextWith, Reports, ReportsAll, Stands, StandsWith}
+use Rattle.sixel_scan.specs.Standing.{Holds, IsOpenString, ReadsNextWith, Reports, ReportsAll, Stands, StandsWith}
 use Rattle.sixel_scan.specs.Strings.{AreStringsFrom, IsString, StringAt}
 use Rattle.sixel_scan.proofs.AdvanceLemmas.{held_in}
+use Rattle.sixel_scan.proofs.GrowthLemmas.{opens_escaped}
 use Rattle.sixel_scan.proofs.OpeningLemmas.{bool_cases}
 use Rattle.sixel_scan.proofs.ScanLemmas.{reads_next, text_held}
 use Rattle.sixel_scan.proofs.StringLemmas.{begin_with, none_in_nothing, resumes_to_end}
@@ -80,13 +81,14 @@ next_at eight registers read opened check stage now byte told bytes is at =
 -- where a check may allocate at the ESC, and a byte follows
 pub escape_grows : (eight : Bool) (registers : ℕ) (told : List StringAt) (bytes before held string : List ℕ) (byte : ℕ)
     → bytes ≡ before ++ (held ++ byte ∷ []) → held ≡ string ++ 27 ∷ []
-    → Resumes eight told bytes (length before) (held ++ byte ∷ []) → MayGrowIn registers (string ++ 27 ∷ [])
-    → AreBeforeGrowth eight registers told bytes
-escape_grows eight registers told bytes before held string byte are is r grows = record {
+    → Resumes eight told bytes (length before) (held ++ byte ∷ []) → IsOpenString eight string
+    → MayGrowIn registers (string ++ 27 ∷ []) → AreBeforeGrowth eight registers told bytes
+escape_grows eight registers told bytes before held string byte are is r is_open grows = record {
   before = before;
   string = (string ++ 27 ∷ []) ++ byte ∷ [];
   bytes_are = are ∙ ap (λ (t : List ℕ). before ++ (t ++ byte ∷ [])) is;
   resumes = subst (λ (t : List ℕ). Resumes eight told bytes (length before) (t ++ byte ∷ [])) is r;
+  opens = opens_escaped eight string (byte ∷ []) is_open;
   grows = grows_for_on registers OutOfMemory (string ++ 27 ∷ []) (byte ∷ []) ((string ++ 27 ∷ []) ++ byte ∷ []) refl
       grows;
 }

@@ -1,7 +1,7 @@
 -- What is known of the strings of a stream of which only the first bytes are known.
 use Rattle.std.specs.Prelude.{◌≡◌, ◌⊎◌, ℕ, Bool, List, [], ◌∷◌, ◌++◌, length}
 use Rattle.sixel_judge.specs.Growth.{MayGrowIn}
-use Rattle.sixel_scan.specs.Strings.{AreStrings, AreStringsFrom, StringAt}
+use Rattle.sixel_scan.specs.Strings.{AreStrings, AreStringsFrom, Opens, StringAt}
 
 -- whatever follows the bytes, the strings of all are those told, and then those of the bytes held and of what follows;
 -- the first byte held has this offset
@@ -26,10 +26,12 @@ pub record AreGiven (eight : Bool) (told : List StringAt) (bytes : List ℕ) : T
   pub ended : AreEnded eight told bytes
   pub all : AreStrings eight told bytes ⊎ LeavesOpen eight told bytes
 
--- the strings before the one that the bytes end in, in which a check with this many registers may allocate
+-- the strings before the one that the bytes end in, which begins with an opening, and in which a check with this many
+-- registers may allocate
 pub record AreBeforeGrowth (eight : Bool) (registers : ℕ) (told : List StringAt) (bytes : List ℕ) : Type 0 where
   pub before : List ℕ
   pub string : List ℕ
   pub bytes_are : bytes ≡ before ++ string
   pub resumes : Resumes eight told bytes (length before) string
+  pub opens : Opens eight string
   pub grows : MayGrowIn registers string

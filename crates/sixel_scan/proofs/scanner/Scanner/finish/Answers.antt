@@ -4,6 +4,7 @@ use Rattle.sixel_judge.proofs.GrowthLemmas.{err_says}
 use Rattle.sixel_scan.specs.declared.scanner.Stage.TheVariants.{Escaped, Inside}
 use Rattle.sixel_scan.specs.Prefixes.{Resumes}
 use Rattle.sixel_scan.proofs.EndLemmas.{end_at_last_escape, end_of_stream}
+use Rattle.sixel_scan.proofs.GrowthLemmas.{opens_before}
 use Rattle.sixel_scan.proofs.ReportLemmas.{all_told, last_told, room_at_end, stands_at}
 use Rattle.sixel_scan.proofs.ScanLemmas.{string_ends, string_ends_here}
 use Rattle.sixel_scan.proofs.scanner.Scanner.finish.Goals as goal
@@ -41,6 +42,7 @@ returns-in_err-feed-in-Escaped-clause-memory c =
       string = r.holds.0 ++ 27 ∷ [];
       bytes_are = r.bytes_are ∙ ap (λ (t : List ℕ). r.before ++ t) r.holds.1;
       resumes = subst (Resumes s.eight told bytes (length r.before)) r.holds.1 r.resumes;
+      opens = opens_before s.eight r.holds.0 (27 ∷ []) r.holds.2;
       grows = c.in_err-feed-in-Escaped.ensures.memory (count_of s.profile) r.holds.0 r.holds.4;
     })
 

@@ -3,6 +3,7 @@ use Rattle.sixel_model.specs.Profiles.{count_of}
 use Rattle.sixel_judge.proofs.GrowthLemmas.{err_says}
 use Rattle.sixel_scan.specs.declared.scanner.Scanner.{Scanner}
 use Rattle.sixel_scan.specs.Prefixes.{Resumes}
+use Rattle.sixel_scan.proofs.GrowthLemmas.{opens_escaped}
 use Rattle.sixel_scan.proofs.ReportLemmas.{escape_grows, reports_one, room_for, two_read}
 use Rattle.sixel_scan.proofs.ScanLemmas.{to_next_escape, to_terminated, two_more}
 use Rattle.sixel_scan.proofs.scanner.Scanner.read_escaped.Goals as goal
@@ -13,7 +14,7 @@ returns-in_err-feed-clause-memory c =
     (λ told bytes r.
     let registers = count_of c.args.self.now.profile in
     escape_grows c.args.self.now.eight registers told bytes r.before r.held r.holds.0 c.args.byte r.bytes_are r.holds.1
-    r.resumes (c.in_err-feed.ensures.memory registers r.holds.0 r.holds.4))
+    r.resumes r.holds.2 (c.in_err-feed.ensures.memory registers r.holds.0 r.holds.4))
 
 pub feed-requires-then-byte-eq-BACKSLASH : goal.feed-requires-then-byte-eq-BACKSLASH
 feed-requires-then-byte-eq-BACKSLASH c =
@@ -33,6 +34,7 @@ returns-in_err-feed-2-clause-memory c =
       resumes = subst
           (λ (t : List ℕ). Resumes c.args.self.now.eight told bytes (length r.before) (t ++ c.args.byte ∷ []))
           r.holds.1 r.resumes;
+      opens = opens_escaped c.args.self.now.eight r.holds.0 (c.args.byte ∷ []) r.holds.2;
       grows = c.in_err-feed-2.ensures.memory registers (r.holds.0 ++ 27 ∷ [])
           (c.in_ok-feed.ensures.read registers r.holds.0 r.holds.4);
     })

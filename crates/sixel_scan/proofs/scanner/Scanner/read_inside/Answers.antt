@@ -4,6 +4,7 @@ use Rattle.sixel_judge.proofs.GrowthLemmas.{err_says}
 use Rattle.sixel_scan.specs.declared.scanner.Scanner.{Scanner}
 use Rattle.sixel_scan.specs.declared.scanner.Stage.{Stage}
 use Rattle.sixel_scan.specs.Standing.{StandsWith}
+use Rattle.sixel_scan.proofs.GrowthLemmas.{opens_before}
 use Rattle.sixel_scan.proofs.ReportLemmas.{reports_none, reports_one, room_for}
 use Rattle.sixel_scan.proofs.ScanLemmas.{to_ended, to_escaped, to_inside}
 use Rattle.sixel_scan.proofs.scanner.Scanner.read_inside.Goals as goal
@@ -23,6 +24,7 @@ returns-in_err-feed-clause-memory c =
       string = r.held ++ c.args.byte ∷ [];
       bytes_are = r.bytes_are;
       resumes = r.resumes;
+      opens = opens_before c.args.self.now.eight r.held (c.args.byte ∷ []) r.holds.0;
       grows = c.in_err-feed.ensures.memory (count_of c.args.self.now.profile) r.held r.holds.2;
     })
 

@@ -1,18 +1,23 @@
 use Rattle.std.proofs.Common.{◌++◌, ◌∷◌, [], length}
 use Rattle.sixel_model.specs.Profiles.{count_of}
 use Rattle.sixel_judge.proofs.GrowthLemmas.{err_says}
-use Rattle.sixel_scan.proofs.ScanLemmas.{to_introduced}
+use Rattle.sixel_scan.proofs.GrowthLemmas.{begun_grows_not, opens_now}
+use Rattle.sixel_scan.proofs.ScanLemmas.{text_held, to_introduced}
 use Rattle.sixel_scan.proofs.scanner.Scanner.read_text.Goals as goal
 
 pub returns-in_err-check_opening-in-None-clause-memory : goal.returns-in_err-check_opening-in-None-clause-memory
 returns-in_err-check_opening-in-None-clause-memory c =
     err_says _ c.from_residual.result
     (λ told bytes r.
+    let s = c.args.self.now in
     record {
       before = r.before;
       string = r.held ++ c.args.byte ∷ [];
       bytes_are = r.bytes_are;
       resumes = r.resumes;
+      opens = opens_now s.eight (r.held ++ c.args.byte ∷ [])
+          (c.in-None.ensures.next r.held
+          (text_held s.eight (count_of s.profile) s.opened s.check c.args.opening (length r.before) r.held r.holds));
       grows = c.in_err-check_opening-in-None.ensures.memory (length r.before) r.held r.holds;
     })
 
@@ -21,13 +26,11 @@ pub returns-in_err-check_opening-in-Some-Introduced-clause-memory :
 returns-in_err-check_opening-in-Some-Introduced-clause-memory c =
     err_says _ c.from_residual-in_err-check_opening-in-Some-Introduced.result
     (λ told bytes r.
-    record {
-      before = r.before;
-      string = r.held ++ c.args.byte ∷ [];
-      bytes_are = r.bytes_are;
-      resumes = r.resumes;
-      grows = c.in_err-check_opening-in-Some-Introduced.ensures.memory (length r.before) r.held r.holds;
-    })
+    let s = c.args.self.now in
+    let f = rw c.in-Some-Introduced.field-0-is at c.in-Some-Introduced.ensures.next in
+    let held = text_held s.eight (count_of s.profile) s.opened s.check c.args.opening (length r.before) r.held r.holds in
+    absurd (begun_grows_not s.eight (count_of s.profile) r.held c.args.byte (f r.held held)
+    (c.in_err-check_opening-in-Some-Introduced.ensures.memory (length r.before) r.held r.holds)))
 
 pub returns-in_ok-check_opening-in-Some-Introduced-clause-read :
     goal.returns-in_ok-check_opening-in-Some-Introduced-clause-read
