@@ -1,9 +1,8 @@
 -- Numbering colours. Only contracts of private functions cite these.
-use Rattle.std.specs.Prelude.{◌≡◌, ◌<◌, ℕ, true, IfSome, List, Option, length}
-use Rattle.std.specs.List.{list_any}
-use Rattle.sixel_model.specs.Colours.{is_same}
+use Rattle.std.specs.Prelude.{◌<◌, ℕ, IfSome, List, Option, length}
 use Rattle.sixel_model.specs.declared.colour.Parts.{Parts}
-use Rattle.sixel_ppm.specs.PpmReading.{distinct, register_among}
+use Rattle.sixel_ppm.specs.PpmColours.{HasRegister}
+use Rattle.sixel_ppm.specs.PpmReading.{distinct}
 use Rattle.sixel_terminal.specs.Screens.{colour_in_ink}
 use Rattle.sixel_mend.specs.declared.numbering.Numbered.{Numbered}
 use Rattle.sixel_mend.specs.declared.mending.MendFault.{MendFault}
@@ -17,6 +16,4 @@ IsNumberingFault registers colours fault = ⊥
 
 -- the last pixel's colour was seen, and has that register
 abbrev pub KnowsLast : Option Numbered → List Parts → Type 0
-KnowsLast last seen =
-    IfSome last (λ l. (list_any (is_same (colour_in_ink l.pixel)) seen ≡ true)
-    × (l.register ≡ register_among seen (colour_in_ink l.pixel)))
+KnowsLast last seen = IfSome last (λ l. HasRegister seen (colour_in_ink l.pixel) l.register)

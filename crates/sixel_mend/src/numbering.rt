@@ -4,7 +4,7 @@ ghost use Rattle.std.specs.Prelude.{◌≡◌, ◌≤◌, ◌*◌, ◌&&◌, IfE
 ghost use Rattle.sixel_model.specs.declared.colour.Parts.{Parts};
 ghost use Rattle.sixel_model.specs.Pictures.{is_side};
 ghost use Rattle.sixel_model.specs.Profiles.{count_of};
-ghost use Rattle.sixel_ppm.specs.PpmColours.{Fills, Numbers};
+ghost use Rattle.sixel_ppm.specs.PpmColours.{Fills, HasRegister, Numbers};
 ghost use Rattle.sixel_ppm.specs.PpmReading.{distinct, picture_of, with_colour};
 ghost use Rattle.sixel_terminal.specs.Screens.{colour_in_ink};
 ghost use Rattle.sixel_mend.specs.Numbering.{IsNumberingFault, KnowsLast};
@@ -33,7 +33,19 @@ fn repeated(last: &Option<Numbered>, pixel: &Pixel) -> Option<u8>
     }
 }
 
-/// The register of a pixel's colour. A pixel that repeats the last one needs no lookup.
+/// The register of a pixel's colour, if it is an RGB colour that the cache has.
+fn cached(numbering: &Numbering, pixel: &Pixel) -> Option<u8>
+    ensures { (seen : List Parts) → Fills numbering.now.colours seen
+        → IfSome result (HasRegister seen (colour_in_ink pixel.now)) }
+{
+    if !pixel.is_rgb() {
+        return None;
+    }
+    let percentages = pixel.bytes();
+    numbering.cached(percentages[0], percentages[1], percentages[2])
+}
+
+/// The register of a pixel's colour. A pixel that repeats the last one needs no search, even without the cache.
 fn register_of(numbering: &mut Numbering, last: &mut Option<Numbered>, pixel: &Pixel) -> Option<u8>
     ensures numbers { (seen : List Parts) → Fills numbering.old.colours seen → KnowsLast last.old seen
         → Numbers result numbering.new.colours (with_colour seen (colour_in_ink pixel.now))
@@ -42,6 +54,9 @@ fn register_of(numbering: &mut Numbering, last: &mut Option<Numbered>, pixel: &P
         → OnSome result (KnowsLast last.new (with_colour seen (colour_in_ink pixel.now))) }
     ensures profile { length numbering.new.colours.palette ≡ length numbering.old.colours.palette }
 {
+    if let Some(register) = cached(numbering, pixel) {
+        return Some(register);
+    }
     if let Some(register) = repeated(last, pixel) {
         return Some(register);
     }

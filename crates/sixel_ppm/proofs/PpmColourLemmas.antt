@@ -13,7 +13,7 @@ use Rattle.std.proofs.lemmas.List.Sums.{fails_before_first, position_or_len_is}
 use Rattle.std.proofs.lemmas.Iterator.Adapters.{position_from-zero}
 use Rattle.sixel_model.specs.Colours.{is_entry, is_same, palette_at}
 use Rattle.sixel_ppm.specs.PpmReading.{palette_of, register_among, with_colour}
-use Rattle.sixel_ppm.specs.PpmColours.{Fills, IsUnusedFrom, KeepsRegisters}
+use Rattle.sixel_ppm.specs.PpmColours.{Fills, HasRegister, IsUnusedFrom, KeepsRegisters}
 use Rattle.sixel_model.specs.declared.colour.Parts.{Parts}
 use Rattle.sixel_model.specs.declared.colour.Parts.TheVariants.{Rgb, Hls}
 use Rattle.sixel_ppm.specs.declared.ppm.colours.Colours.{Colours}
@@ -114,6 +114,13 @@ numbered_before c seen colour o i is found fills =
     let at : position_from (is_same colour) 0 seen ≡ Some i = index_among c seen colour o fills found ∙ is in
     let any : list_any (is_same colour) seen ≡ true = position_then_any (is_same colour) seen 0 i at in
     rw any (sym (ap (λ (o : Option ℕ). unwrap_or o 0) at), fills)
+
+-- the register at which the palette has a colour
+pub register_seen : (c : Colours) (seen : List Parts) (colour : Parts) (i : ℕ)
+    → position (is_entry colour) c.palette ≡ Some i → Fills c seen → HasRegister seen colour i
+register_seen c seen colour i is fills =
+    let at : position_from (is_same colour) 0 seen ≡ Some i = index_among c seen colour (Some i) fills (sym is) in
+    (position_then_any (is_same colour) seen 0 i at, sym (ap (λ (o : Option ℕ). unwrap_or o 0) at))
 
 -- a colour that is new
 new_colour : (c : Colours) (seen : List Parts) (colour : Parts) (o : Option ℕ) → o ≡ None

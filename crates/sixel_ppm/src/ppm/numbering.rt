@@ -4,7 +4,8 @@ ghost use Rattle.std.specs.Prelude.{◌≡◌, List, [], IfSome, Option, Some, l
 ghost use Rattle.sixel_model.specs.Colours.{is_entry};
 ghost use Rattle.sixel_model.specs.Profiles.{count_of};
 ghost use Rattle.sixel_model.specs.declared.colour.Parts.{Parts as AColour};
-ghost use Rattle.sixel_ppm.specs.PpmColours.{Fills, IsUnusedFrom, Numbers};
+ghost use Rattle.sixel_model.specs.declared.colour.Parts.TheVariants.{Rgb};
+ghost use Rattle.sixel_ppm.specs.PpmColours.{Fills, HasRegister, IsUnusedFrom, Numbers};
 ghost use Rattle.sixel_ppm.specs.PpmPixelCache.{Knows};
 ghost use Rattle.sixel_ppm.specs.PpmReading.{with_colour};
 
@@ -54,6 +55,14 @@ impl Numbering {
             colours: Colours::new(profile),
             cache: PixelCache::new(),
         }
+    }
+
+    /// The register of an RGB colour, given by its percentages, if the cache has it.
+    pub fn cached(&self, red: u8, green: u8, blue: u8) -> Option<u8>
+        ensures { (seen : List AColour) → Fills self.now.colours seen
+            → IfSome result (HasRegister seen (Rgb red green blue)) }
+    {
+        self.cache.register_of(red, green, blue)
     }
 
     /// The register of a colour. A new colour gets the next register; `None` if no register is left.
