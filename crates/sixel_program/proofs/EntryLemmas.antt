@@ -6,10 +6,10 @@ use Rattle.std.specs.Char.{to_ascii_lowercase}
 use Rattle.sixel_judge.specs.declared.rule.Rule.{Rule as ARule}
 use Rattle.sixel_survey.specs.declared.entry.Entry.{Entry}
 use Rattle.sixel_run.specs.Texts.{Text, entry_line, pixel_parts, rule_name, spaced}
-use Rattle.sixel_words.specs.declared.explanations.Topic.TheVariants as topic
-use Rattle.sixel_words.specs.Explanations.{ArePasted, line_of, name_in}
-use Rattle.sixel_words.proofs.PastedLemmas.{line_after, low, low_number, name_before_number, number_nameless, pasted}
-use Rattle.sixel_words.proofs.PastedLemmas.{two_numbers}
+use Rattle.sixel_explain.specs.declared.explanations.Topic.TheVariants as topic
+use Rattle.sixel_explain.specs.Explanations.{ArePasted, line_of, name_in}
+use Rattle.sixel_explain.proofs.PastedLemmas.{line_after, low, low_number, name_before_number, number_nameless, pasted}
+use Rattle.sixel_explain.proofs.PastedLemmas.{two_numbers}
 
 entry_named : (text : Text) (r : ARule) (count place : ℕ) (pixel : List Text)
     → (pixel ≡ []) ⊎ ((x : ℕ) × (y : ℕ) × (pixel ≡ decimal x ∷ decimal y ∷ []))

@@ -26,7 +26,7 @@ use Rattle.sixel_run.specs.declared.task.Task.TheVariants as task
 use Rattle.sixel_run.specs.Scanned.{string_lines}
 use Rattle.sixel_run.specs.Texts.{Text, entry_line, line, numbers, pixel_parts, rule_name, size_line, spaced}
 use Rattle.sixel_run.specs.Texts.{answer_line, reason_name, string_line, survey_lines, verdict_line}
-use Rattle.sixel_words.proofs.PastedLemmas.{AreDigits, number_digits}
+use Rattle.sixel_explain.proofs.PastedLemmas.{AreDigits, number_digits}
 use Rattle.sixel_program.specs.Files.{IsLine, IsOverFor, ReadsOver, scans}
 use Rattle.sixel_program.specs.Findings.{answer_of, lines_found, lines_of}
 use Rattle.sixel_program.proofs.FilesLemmas.{read_kept}

@@ -5,10 +5,10 @@ use Rattle.sixel_grammar.specs.declared.fault.Fault.{Fault}
 use Rattle.sixel_judge.specs.declared.verdict.Finding.{Finding}
 use Rattle.sixel_scan.specs.declared.answer.Answer.TheVariants.{Broken, Refused}
 use Rattle.sixel_run.specs.Texts.{Text, finding_line, reason_name, refusal_line, rule_name, spaced, string_line}
-use Rattle.sixel_words.specs.declared.explanations.Topic.TheVariants as topic
-use Rattle.sixel_words.specs.Explanations.{ArePasted, line_of, name_in}
-use Rattle.sixel_words.proofs.PastedLemmas.{finding_pasted, line_after, low, low_number, name_before_number}
-use Rattle.sixel_words.proofs.PastedLemmas.{number_nameless, pasted}
+use Rattle.sixel_explain.specs.declared.explanations.Topic.TheVariants as topic
+use Rattle.sixel_explain.specs.Explanations.{ArePasted, line_of, name_in}
+use Rattle.sixel_explain.proofs.PastedLemmas.{finding_pasted, line_after, low, low_number, name_before_number}
+use Rattle.sixel_explain.proofs.PastedLemmas.{number_nameless, pasted}
 
 -- the line of a string that is no document, whatever is before it
 refusal_pasted : (before : Text) (f : Fault) (said : List Text) → ArePasted said (before ++ refusal_line f)

@@ -14,7 +14,7 @@ use Rattle.sixel_run.specs.declared.task.Task.TheVariants as task
 use Rattle.sixel_words.specs.declared.words.WordsFault.{WordsFault}
 use Rattle.sixel_words.specs.declared.words.WordsFault.TheVariants as fault
 use Rattle.sixel_run.specs.declared.fault.RunFault.TheVariants as run
-use Rattle.sixel_words.specs.Explanations.{IsExplanation}
+use Rattle.sixel_explain.specs.Explanations.{IsExplanation}
 use Rattle.sixel_program.specs.declared.formats.Format.{Format}
 use Rattle.sixel_program.specs.Formats.{IsFormat, advice_for}
 use Rattle.sixel_program.specs.Hints.{hint_after}

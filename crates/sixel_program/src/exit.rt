@@ -5,13 +5,14 @@ ghost use Rattle.std.specs.Io.{StartsWith};
 ghost use Rattle.std.specs.String.{string_bytes};
 ghost use Rattle.sixel_io.specs.Devices.{CountsFailure, Puts, change};
 ghost use Rattle.sixel_program.specs.Exits.{IsShown, IsUsageSaid, WordsEnd, exit_code, exit_for_answer};
-ghost use Rattle.sixel_words.specs.Explanations.{IsExplanation};
+ghost use Rattle.sixel_explain.specs.Explanations.{IsExplanation};
 ghost use Rattle.sixel_run.specs.Texts.{Text};
 
 use clap::Error;
+use sixel_explain::{Topic, explanation};
 use sixel_io::{DeviceFault, Sink, put_all};
 use sixel_run::{RunFault, Status, write_fault};
-use sixel_words::{Topic, WordsFault, explanation};
+use sixel_words::WordsFault;
 use std::alloc::{AllocError, Global};
 
 /// The exit status.

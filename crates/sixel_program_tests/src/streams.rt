@@ -3,11 +3,12 @@
 ghost use Rattle.sixel_run.specs.Outputs.{HasSides};
 
 use crate::ends::{CHECK, ENCODE, RENDER, SHOW, SHOW_BOX, exit_over};
+use sixel_explain::{Topic, explanation};
 use sixel_io::ToWrite;
 use sixel_ppm::PpmReason;
 use sixel_program::{Exit, tell};
 use sixel_run::Task;
-use sixel_words::{Topic, WordsFault, explanation, parse_words, task_in};
+use sixel_words::{WordsFault, parse_words, task_in};
 use std::alloc::{AllocError, Global};
 use std::io;
 use std::io::{Error, Write};

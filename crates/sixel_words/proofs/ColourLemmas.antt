@@ -1,6 +1,6 @@
 -- Colours as the command line gives them.
-use Rattle.std.proofs.Common.{◌≡◌, ◌≢◌, ◌∙◌, ◌∷◌, ◌++◌, ◌<◌, ℕ, zero, suc, [], List, None, Option, Some, ap, append_assoc}
-use Rattle.std.proofs.Common.{arith, codes, get_or, length, refl, subst, sym}
+use Rattle.std.proofs.Common.{◌≡◌, ◌≢◌, ◌∙◌, ◌∷◌, ◌++◌, ◌<◌, ℕ, zero, suc, [], None, Option, Some, ap, append_assoc}
+use Rattle.std.proofs.Common.{arith, codes, get_or, length, subst, sym}
 use Rattle.std.specs.Borrow.{Bor}
 use Rattle.std.specs.Prelude.{IfSome, MatchOption, unwrap_or}
 use Rattle.std.specs.Char.{digit_value}

@@ -3,10 +3,10 @@ use Rattle.std.proofs.Common.{◌≡◌, ◌∙◌, Option, Some, None, ap, code
 use Rattle.std.specs.Prelude.{option_map}
 use Rattle.clap.specs.Simple.{subcommand_of}
 use Rattle.clap.specs.Walk.{Row, all_of}
-use Rattle.sixel_words.specs.declared.explanations.Topic.{Topic}
+use Rattle.sixel_explain.specs.declared.explanations.Topic.{Topic}
 use Rattle.sixel_words.specs.declared.words.WordsFault.{WordsFault}
 use Rattle.sixel_words.specs.declared.words.WordsFault.TheVariants as fault
-use Rattle.sixel_words.specs.Explanations.{Asks, line_of, name_in, topic_name}
+use Rattle.sixel_explain.specs.Explanations.{Asks, line_of, name_in, topic_name}
 use Rattle.sixel_run.specs.Texts.{Text}
 use Rattle.sixel_words.proofs.MatchLemmas.{same_parts}
 use Rattle.sixel_words.specs.Words.{AsksFor, IsAskedBy, IsAskedIn, IsNoHelp, IsRefusal, IsUnexplained, sixel_app}

@@ -6,12 +6,12 @@ use Rattle.clap.specs.Values.{kind_of}
 use Rattle.clap.specs.declared.error.Error.{Error}
 use Rattle.clap.specs.declared.error.kind.ErrorKind.{ErrorKind}
 use Rattle.clap.specs.declared.error.kind.ErrorKind.TheVariants as kind
-use Rattle.sixel_words.specs.declared.explanations.Topic.{Topic}
+use Rattle.sixel_explain.specs.declared.explanations.Topic.{Topic}
 use Rattle.sixel_words.specs.declared.words.WordsFault.{WordsFault}
 use Rattle.sixel_words.specs.declared.words.WordsFault.TheVariants as fault
 use Rattle.sixel_run.specs.declared.task.Task.{Task}
 use Rattle.sixel_run.specs.Texts.{Text}
-use Rattle.sixel_words.specs.Explanations.{topic_name}
+use Rattle.sixel_explain.specs.Explanations.{topic_name}
 use Rattle.sixel_words.specs.Words.{AsksFor, HoldsError, IsExplanationOf, IsFaultFor, IsFoundIn, IsNoHelp, IsTaskOf}
 use Rattle.sixel_words.specs.Words.{IsUnexplained, kinds_of}
 

@@ -2,11 +2,7 @@ pub mod CommandLemmas
 pub mod MatchLemmas
 pub mod ExplainLemmas
 pub mod FaultLemmas
-pub mod NameLemmas
 pub mod WishLemmas
-pub mod LineLemmas
-pub mod PastedLemmas
-pub mod NearLemmas
 pub mod FlagLemmas
 pub mod ArgumentLemmas
 pub mod ColourLemmas

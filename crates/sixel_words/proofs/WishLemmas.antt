@@ -1,25 +1,16 @@
 -- Arguments that ask for a name to be explained.
-use Rattle.std.proofs.Common.{◌≡◌, ◌∷◌, List, [], None, Option, Some, codes, map, refl, true}
-use Rattle.std.specs.List.{All}
+use Rattle.std.proofs.Common.{◌≡◌, ◌∷◌, List, [], None, Option, Some, codes, refl, true}
 use Rattle.std.specs.Option.{option_and_then}
-use Rattle.std.proofs.lemmas.List.Elements.{All-cons, All-contains, All-nil}
+use Rattle.std.proofs.lemmas.List.Elements.{All-contains}
 use Rattle.clap.specs.Simple.{subcommand_of}
 use Rattle.clap.specs.Takes.{takes, walk_passes}
 use Rattle.clap.specs.Walk.{all_of, walked}
-use Rattle.sixel_words.specs.declared.explanations.Topic.{Topic}
-use Rattle.sixel_words.specs.Explanations.{Asks, line_of, listed_names, name_in, topic_name}
+use Rattle.sixel_explain.specs.declared.explanations.Topic.{Topic}
+use Rattle.sixel_explain.specs.Explanations.{Asks, line_of, listed_names, name_in, topic_name}
 use Rattle.sixel_run.specs.Texts.{Text}
 use Rattle.sixel_words.proofs.MatchLemmas.{rows_in}
-use Rattle.sixel_words.proofs.NameLemmas.{name_listed}
+use Rattle.sixel_explain.proofs.NameLemmas.{each, name_listed}
 use Rattle.sixel_words.specs.Words.{AsksFor, sixel_app}
-
--- two functions that agree on a list agree on each item
-pub each : {X Y : Type 0} (f g : X → Y) (xs : List X) → map f xs ≡ map g xs → All (λ x. f x ≡ g x) xs
-each f g [] e = All-nil (λ x. f x ≡ g x)
-each f g (x ∷ xs) e =
-    let here : f x ≡ g x = cc in
-    let rest : map f xs ≡ map g xs = cc in
-    All-cons (λ y. f y ≡ g y) x xs here (each f g xs rest)
 
 abbrev explain : Text → Text → List Text
 explain program name = program ∷ codes "explain" ∷ name ∷ []

@@ -25,10 +25,10 @@ use Rattle.clap.specs.declared.parser.matches.ValueSource.{ValueSource}
 use Rattle.clap.specs.declared.parser.matches.ValueSource.TheVariants.{CommandLine}
 use Rattle.sixel_run.specs.declared.task.Task.{Task}
 use Rattle.sixel_run.specs.declared.task.Task.TheVariants as task
-use Rattle.sixel_words.specs.declared.explanations.Topic.{Topic}
+use Rattle.sixel_explain.specs.declared.explanations.Topic.{Topic}
 use Rattle.sixel_words.specs.declared.words.WordsFault.{WordsFault}
 use Rattle.sixel_words.specs.declared.words.WordsFault.TheVariants as fault
-use Rattle.sixel_words.specs.Explanations.{Asks, topic_name}
+use Rattle.sixel_explain.specs.Explanations.{Asks, topic_name}
 
 -- ---- the commands
 

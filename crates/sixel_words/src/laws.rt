@@ -2,20 +2,17 @@
 
 ghost use Rattle.std.specs.Prelude.{◌≡◌, ◌∷◌, ◌||◌, [], All, Contains, List, None, Some};
 ghost use Rattle.std.specs.Prelude.{codes, false, if◌then◌else◌, map, true};
-ghost use Rattle.std.specs.Str.{str_to_ascii_lowercase};
 ghost use Rattle.sixel_model.specs.declared.colour.Parts.TheVariants.{Rgb};
 ghost use Rattle.sixel_model.specs.declared.profile.Profile.TheVariants.{Registers16, Registers256};
-ghost use Rattle.sixel_judge.specs.declared.rule.Rule.{Rule};
 ghost use Rattle.clap.specs.Takes.{takes};
 ghost use Rattle.clap.specs.declared.error.kind.ErrorKind.TheVariants.{DisplayHelp, DisplayVersion, MissingSubcommand};
 ghost use Rattle.clap.specs.declared.error.kind.ErrorKind.TheVariants.{UnknownArgument, ValueValidation};
-ghost use Rattle.sixel_words.specs.declared.explanations.Topic.{Topic};
-ghost use Rattle.sixel_run.specs.declared.fault.RunFault.{RunFault};
+ghost use Rattle.sixel_explain.specs.declared.explanations.Topic.{Topic};
 ghost use Rattle.sixel_run.specs.declared.task.Task.{Task};
 ghost use Rattle.sixel_run.specs.declared.task.Task.TheVariants.{Check, List as Listing, Mend, Scan, Show, ShowBox};
 ghost use Rattle.sixel_run.specs.declared.task.Task.TheVariants.{Survey};
-ghost use Rattle.sixel_words.specs.Explanations.{line_of, listed_names, name_in, topic_name, topic_of};
-ghost use Rattle.sixel_run.specs.Texts.{Text, rule_name};
+ghost use Rattle.sixel_explain.specs.Explanations.{topic_name};
+ghost use Rattle.sixel_run.specs.Texts.{Text};
 ghost use Rattle.sixel_words.specs.Words.{AsksFor, IsRequestOf, IsTaskOf, check_flags, is_among, kinds_of};
 ghost use Rattle.sixel_words.specs.Words.{sixel_app, subcommands};
 
@@ -113,12 +110,6 @@ pub fn an_option_may_come_again()
         ∷ codes "--width" ∷ codes "2" ∷ []) (Show Registers16 false false false 2 480) }
 {}
 
-/// `explain` lists the name of each rule and of each fault of a run.
-pub fn each_name_is_listed()
-    ensures rules { (rule : Rule) → Contains listed_names (rule_name rule) }
-    ensures faults { (fault : RunFault) → Contains listed_names (topic_name (topic_of fault)) }
-{}
-
 /// `sixel explain` is accepted, and asks for the list of names.
 pub fn the_word_explain_asks_for_the_list()
     ensures taken { (program : Text) → takes sixel_app (program ∷ codes "explain" ∷ []) ≡ true }
@@ -131,11 +122,4 @@ pub fn each_name_can_be_asked_for()
         takes sixel_app (program ∷ codes "explain" ∷ topic_name topic ∷ []) ≡ true }
     ensures asked { (program : Text) (topic : Topic) →
         AsksFor (program ∷ codes "explain" ∷ topic_name topic ∷ []) (Some (topic_name topic)) }
-{}
-
-/// `explain` takes a name in any case of letters.
-pub fn a_name_may_be_in_any_case()
-    ensures { (topic : Topic) (word : Text) →
-        str_to_ascii_lowercase word ≡ str_to_ascii_lowercase (topic_name topic) →
-        name_in (line_of (word ∷ [])) ≡ Some (topic_name topic) }
 {}

@@ -4,13 +4,11 @@
 mod arguments;
 mod colours;
 mod commands;
-mod explanations;
 pub mod laws;
 mod request;
 mod usage_errors;
 mod words;
 
 pub use arguments::{Arguments, Process, arguments_of, task_in};
-pub use explanations::{Topic, explanation};
 pub use request::Request;
 pub use words::{WordsFault, parse_request, parse_words};

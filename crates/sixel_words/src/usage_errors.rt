@@ -8,9 +8,9 @@ use crate::commands::{
     encode_command, explain_command, list_command, mend_command, render_command, show_command,
     sixel_command,
 };
-use crate::explanations::nearest;
 use clap::error::ErrorKind;
 use clap::{Command, Error};
+use sixel_explain::nearest;
 use std::alloc::{AllocError, Global};
 
 /// What clap's text of a usage error begins with.

@@ -14,17 +14,17 @@ ghost use Rattle.sixel_words.specs.Words.{HasColour, HoldsError, IsExplanationOf
 ghost use Rattle.sixel_words.specs.Words.{IsRefusal, IsRequestOf, IsNoHelp, IsSortedOut, IsTask, IsTaskOf};
 ghost use Rattle.sixel_words.specs.Words.{IsUnexplained};
 ghost use Rattle.sixel_words.specs.Words.{files_of, is_given, is_named, kinds_of, profile_of};
-ghost use Rattle.sixel_words.specs.Explanations.{Asks, topic_name};
-ghost use Rattle.sixel_words.specs.declared.explanations.Topic.{Topic as ATopic};
+ghost use Rattle.sixel_explain.specs.Explanations.{Asks, topic_name};
+ghost use Rattle.sixel_explain.specs.declared.explanations.Topic.{Topic as ATopic};
 
 use crate::colours::colour_of;
 use crate::commands::sixel_command;
-use crate::explanations::{Topic, topic_asked};
 use crate::request::Request;
 use crate::usage_errors::{background_error, conflict_error, unnamed_error, usage_error, with_tip};
 use clap::error::ErrorKind;
 use clap::parser::ValueSource;
 use clap::{ArgMatches, Error};
+use sixel_explain::{Topic, topic_asked};
 use sixel_model::{Colour, Profile};
 use sixel_run::{MOST_SCREEN_SIDE, Task};
 use std::alloc::{AllocError, Global};

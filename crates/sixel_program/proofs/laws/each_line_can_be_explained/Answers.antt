@@ -6,10 +6,10 @@ use Rattle.sixel_run.specs.declared.fault.RunFault.TheVariants as fault
 use Rattle.sixel_survey.specs.declared.entry.Entry.{Entry}
 use Rattle.sixel_scan.specs.declared.answer.Answer.TheVariants.{Broken, Refused}
 use Rattle.sixel_run.specs.Texts.{Text, entry_line, finding_line, reason_name, rule_name, string_line}
-use Rattle.sixel_words.specs.declared.explanations.Topic.TheVariants.{Read}
-use Rattle.sixel_words.specs.Explanations.{ArePasted, line_of, name_in, topic_name, topic_of}
-use Rattle.sixel_words.proofs.PastedLemmas.{ending_pasted, fault_pasted, finding_pasted, is_a_folder, no_such_file}
-use Rattle.sixel_words.proofs.PastedLemmas.{not_utf8, permission_denied, read_failed}
+use Rattle.sixel_explain.specs.declared.explanations.Topic.TheVariants.{Read}
+use Rattle.sixel_explain.specs.Explanations.{ArePasted, line_of, name_in, topic_name, topic_of}
+use Rattle.sixel_explain.proofs.PastedLemmas.{ending_pasted, fault_pasted, finding_pasted, is_a_folder, no_such_file}
+use Rattle.sixel_explain.proofs.PastedLemmas.{not_utf8, permission_denied, read_failed}
 use Rattle.sixel_program.proofs.EntryLemmas.{entry_pasted, entry_pasted_after}
 use Rattle.sixel_program.proofs.StringLineLemmas.{string_finding_pasted, string_refusal_pasted}
 use Rattle.sixel_program.specs.declared.folder.Unopened.{Unopened}

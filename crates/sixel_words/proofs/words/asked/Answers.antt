@@ -3,7 +3,7 @@ use Rattle.std.specs.Prelude.{option_map}
 use Rattle.clap.specs.Walk.{Text, all_of, rows_of}
 use Rattle.clap.specs.Matches.{found_of}
 use Rattle.clap.proofs.WalkLemmas.{raw_values-rows}
-use Rattle.sixel_words.specs.Explanations.{Asks, topic_name}
+use Rattle.sixel_explain.specs.Explanations.{Asks, topic_name}
 use Rattle.sixel_words.proofs.ExplainLemmas.{none_asked, none_said, one_asked, refused_unhelped}
 use Rattle.sixel_words.proofs.words.asked.Goals as goal
 use Rattle.sixel_words.proofs.words.asked.Goals.{In-None, In-Some}

@@ -1,0 +1,4 @@
+pub mod NameLemmas
+pub mod LineLemmas
+pub mod PastedLemmas
+pub mod NearLemmas

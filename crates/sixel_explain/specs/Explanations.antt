@@ -1,0 +1,152 @@
+-- What `explain` says, and of which topics.
+use Rattle.std.specs.Prelude.{◌≡◌, ◌∷◌, ◌++◌, ◌==◌, ℕ, Bool, List, [], Option, Some, None, codes, find, map}
+use Rattle.std.specs.Prelude.{◌<◌, ◌≤◌, All, Contains, chars, length, nat_eq, option_map, ⊤}
+use Rattle.std.specs.Io.{StartsWith}
+use Rattle.std.specs.List.{after_first, concat, ends_with, slice_split}
+use Rattle.std.specs.Option.{option_or}
+use Rattle.std.specs.Str.{bytes_eq, str_to_ascii_lowercase}
+use Rattle.strsim.specs.Edits.{osa_table}
+use Rattle.sixel_judge.specs.declared.rule.Rule.TheVariants.{RasterFirst, RasterTwice, Ratio, BoxSize, Register}
+use Rattle.sixel_judge.specs.declared.rule.Rule.TheVariants.{ColourValue, RepeatZero, Unselected, Undefined, Redefined}
+use Rattle.sixel_judge.specs.declared.rule.Rule.TheVariants.{Outside, Uncovered, EightBit}
+use Rattle.sixel_grammar.specs.declared.fault.Reason.TheVariants.{NotSixel, BadByte, NumberTooLarge, FieldCount}
+use Rattle.sixel_grammar.specs.declared.fault.Reason.TheVariants.{BadRepeat, BadTerminator, Truncated, TooLong}
+use Rattle.sixel_grammar.specs.declared.fault.Reason.TheVariants.{Trailing}
+use Rattle.sixel_ppm.specs.declared.ppm.PpmReason.TheVariants.{Header, Size, Maxval, Sample, Short, TooManyColours}
+use Rattle.sixel_explain.specs.declared.explanations.Topic.{Topic}
+use Rattle.sixel_explain.specs.declared.explanations.Topic.TheVariants.{Rule, Grammar, Ppm, NotRgb, NoBox, OutOfMemory}
+use Rattle.sixel_explain.specs.declared.explanations.Topic.TheVariants.{NoString, Empty, TooLarge, Read, Write}
+use Rattle.sixel_run.specs.declared.fault.RunFault.{RunFault}
+use Rattle.sixel_run.specs.declared.fault.RunFault.TheVariants as fault
+use Rattle.sixel_run.specs.Texts.{Text, ppm_reason_name, reason_name, rule_name}
+
+-- the name of a topic; for a rule and for a reason it is the name in the line of `check` or of a fault
+abbrev pub topic_name : Topic → Text
+topic_name (Rule rule) = rule_name rule
+topic_name (Grammar reason) = reason_name reason
+topic_name (Ppm reason) = ppm_reason_name reason
+topic_name NotRgb = codes "NotRgb"
+topic_name NoBox = codes "NoBox"
+topic_name NoString = codes "NoString"
+topic_name Empty = codes "Empty"
+topic_name TooLarge = codes "TooLarge"
+topic_name OutOfMemory = codes "OutOfMemory"
+topic_name Read = codes "Read"
+topic_name Write = codes "Write"
+
+-- the topic of a run's fault; one covers too many colours in a PPM and in a mended picture
+abbrev pub topic_of : RunFault → Topic
+topic_of (fault.Grammar f) = Grammar f.reason
+topic_of (fault.Ppm reason place) = Ppm reason
+topic_of fault.NotRgb = NotRgb
+topic_of fault.NoBox = NoBox
+topic_of fault.NoString = NoString
+topic_of fault.Empty = Empty
+topic_of fault.TooLarge = TooLarge
+topic_of fault.TooManyColours = Ppm TooManyColours
+topic_of fault.OutOfMemory = OutOfMemory
+topic_of fault.Read = Read
+topic_of fault.Write = Write
+
+abbrev pub rules : List Topic
+rules = Rule RasterFirst ∷ Rule RasterTwice ∷ Rule Ratio ∷ Rule BoxSize ∷ Rule Register ∷ Rule ColourValue
+    ∷ Rule RepeatZero ∷ Rule Unselected ∷ Rule Undefined ∷ Rule Redefined ∷ Rule Outside ∷ Rule Uncovered
+    ∷ Rule EightBit ∷ []
+
+abbrev pub refusals_of_text : List Topic
+refusals_of_text = Grammar NotSixel ∷ Grammar BadByte ∷ Grammar NumberTooLarge ∷ Grammar FieldCount ∷ Grammar BadRepeat
+    ∷ Grammar BadTerminator ∷ Grammar Truncated ∷ Grammar TooLong ∷ Grammar Trailing ∷ []
+
+-- without `Trailing`, whose name is also that of a reason for sixel text
+abbrev pub refusals_of_pictures : List Topic
+refusals_of_pictures =
+    Ppm Header ∷ Ppm Size ∷ Ppm Maxval ∷ Ppm Sample ∷ Ppm TooManyColours ∷ Ppm Short ∷ []
+
+abbrev pub refusals_of_runs : List Topic
+refusals_of_runs = NotRgb ∷ NoBox ∷ NoString ∷ Empty ∷ TooLarge ∷ OutOfMemory ∷ Read ∷ Write ∷ []
+
+-- the listed names, in this order
+abbrev pub listed_names : List Text
+listed_names = map topic_name (rules ++ refusals_of_text ++ refusals_of_pictures ++ refusals_of_runs)
+
+abbrev pub is_line_feed : ℕ → Bool
+is_line_feed byte = nat_eq byte 10
+
+-- the text has one line for each name, which begins with the name and a colon
+abbrev pub ListsNames : List Text → Text → Type 0
+ListsNames [] text = text ≡ []
+ListsNames (name ∷ more) text =
+    StartsWith text (name ++ codes ": ") × ListsNames more (after_first is_line_feed text)
+
+-- the explanation of a topic begins with its name and a colon; without a topic, it is the list of names
+abbrev pub IsExplanation : Option Topic → Text → Type 0
+IsExplanation None text = ListsNames listed_names text
+IsExplanation (Some topic) text = StartsWith text (topic_name topic ++ codes ": ")
+
+-- ---- which name a line asks for
+
+-- the words after `explain` as one line, in small letters and with a space before each word
+abbrev pub line_of : List Text → Text
+line_of said = str_to_ascii_lowercase (concat (map (λ word. codes " " ++ word) said))
+
+-- the listed name that is this word in small letters
+abbrev pub name_called : Text → Option Text
+name_called word = find (λ name. bytes_eq (str_to_ascii_lowercase name) word) listed_names
+
+-- the last of these words that is a name. In a line of the program only numbers and `at` follow the name, and before it
+-- there may be words of a file's name
+abbrev pub last_name : List Text → Option Text
+last_name [] = None
+last_name (word ∷ more) = option_or (last_name more) (name_called word)
+
+-- how the program's lines without a name end, in small letters, and the topic of each
+abbrev pub endings : List (Text × Topic)
+endings =
+    (codes " out of memory", OutOfMemory) ∷ (codes " read failed", Read) ∷ (codes " no such file", Read)
+    ∷ (codes " permission denied", Read) ∷ (codes " is a folder", Read) ∷ (codes " name is not valid utf-8", Read)
+    ∷ (codes " write failed", Write) ∷ []
+
+abbrev pub ends_in : Text → Text → Bool
+ends_in line text = ends_with (λ a b. a == b) line text
+
+-- the topic of the ending that the line has, if it has one
+abbrev pub topic_of_end : Text → Option Topic
+topic_of_end line = option_map (λ ending. ending.1) (find (λ ending. ends_in line ending.0) endings)
+
+-- the words of a line, which spaces separate
+abbrev pub words_of : Text → List Text
+words_of line = slice_split (λ byte. byte == 32) line
+
+-- the name that the line asks for: the one that explains its end, or else the last of its words that is a name
+abbrev pub name_in : Text → Option Text
+name_in line = option_or (option_map topic_name (topic_of_end line)) (last_name (words_of line))
+
+-- these words are a line of the program, which was cut at some of its spaces, without its line feed
+abbrev pub ArePasted : List Text → Text → Type 0
+ArePasted said line = concat (map (λ word. codes " " ++ word) said) ++ 10 ∷ [] ≡ codes " " ++ line
+
+-- these words after `explain` ask for this name; no words ask for the list of names
+abbrev pub Asks : Option (List Text) → Option Text → Type 0
+Asks None None = ⊤
+Asks None (Some name) = ⊥
+Asks (Some said) None = ⊥
+Asks (Some said) (Some name) = name_in (line_of said) ≡ Some name
+
+-- ---- similar names
+
+-- how many edits lead from one text to the other, in any case of letters. An edit inserts, deletes or replaces a
+-- character, or swaps two neighbours
+abbrev pub edits : Text → Text → ℕ
+edits name word =
+    let spelled = chars (str_to_ascii_lowercase word) in
+    (osa_table (chars (str_to_ascii_lowercase name)) spelled).last_row (length spelled)
+
+-- how many edits a misspelled name may need
+abbrev pub most_edits : ℕ
+most_edits = 2
+
+-- among these names, the one that is fewest edits away from the word; none if each is too far
+abbrev pub IsNearest : List Text → Text → Option Text → Type 0
+IsNearest names word None = All (λ name. most_edits < edits name word) names
+IsNearest names word (Some name) =
+    Contains names name × (edits name word ≤ most_edits) × All (λ other. edits name word ≤ edits other word) names

@@ -1,0 +1,120 @@
+//! What `explain` prints about rules and refusals.
+
+ghost use Rattle.std.specs.Prelude.{◌≡◌, IfSome, IsNone};
+ghost use Rattle.std.specs.Str.{str_to_ascii_lowercase};
+ghost use Rattle.sixel_explain.specs.Explanations.{IsExplanation, topic_name};
+ghost use Rattle.sixel_explain.specs.declared.explanations.Topic.{Topic as ATopic};
+
+use crate::refusals;
+use crate::refusals::{of_ppm_reason, of_reason, ppm_reason_named, reason_named};
+use crate::rules::{of_rule, rule_named};
+use sixel_check::Rule;
+use sixel_grammar::Reason;
+use sixel_ppm::PpmReason;
+
+/// What can be explained: a rule, or why a run was refused.
+#[derive(Clone, Copy, Debug, PartialEq, Eq, Drop)]
+pub enum Topic {
+    Rule(Rule),
+    /// Why bytes are no sixel document.
+    Grammar(Reason),
+    /// Why bytes are no PPM.
+    Ppm(PpmReason),
+    NotRgb,
+    NoBox,
+    /// A stream has no sixel string.
+    NoString,
+    /// A mended picture has no pixels.
+    Empty,
+    /// A side of a mended picture is above 2,048.
+    TooLarge,
+    OutOfMemory,
+    Read,
+    Write,
+}
+
+/// The topic whose name this is in small letters. `trailing` gives the one of sixel text; a PPM's has the same
+/// explanation.
+pub(crate) fn topic_named(name: &str) -> Option<Topic>
+    ensures found { IfSome result (λ topic. str_to_ascii_lowercase (topic_name topic) ≡ name.now) }
+    ensures none { IsNone result → (topic : ATopic) → str_to_ascii_lowercase (topic_name topic) ≡ name.now → ⊥ }
+{
+    match rule_named(name) {
+        Some(rule) => Some(Topic::Rule(rule)),
+        None => match reason_named(name) {
+            Some(reason) => Some(Topic::Grammar(reason)),
+            None => match ppm_reason_named(name) {
+                Some(reason) => Some(Topic::Ppm(reason)),
+                None => match name {
+                    "notrgb" => Some(Topic::NotRgb),
+                    "nobox" => Some(Topic::NoBox),
+                    "nostring" => Some(Topic::NoString),
+                    "empty" => Some(Topic::Empty),
+                    "toolarge" => Some(Topic::TooLarge),
+                    "outofmemory" => Some(Topic::OutOfMemory),
+                    "read" => Some(Topic::Read),
+                    "write" => Some(Topic::Write),
+                    _ => None,
+                },
+            },
+        },
+    }
+}
+
+/// The explanation of a topic, or the list of all names, one per line. It ends with a line feed.
+pub fn explanation(topic: Option<Topic>) -> &'static str
+    ensures { IsExplanation topic result.now }
+{
+    match topic {
+        None => LIST,
+        Some(Topic::Rule(rule)) => of_rule(rule),
+        Some(Topic::Grammar(reason)) => of_reason(reason),
+        Some(Topic::Ppm(reason)) => of_ppm_reason(reason),
+        Some(Topic::NotRgb) => refusals::NOT_RGB,
+        Some(Topic::NoBox) => refusals::NO_BOX,
+        Some(Topic::NoString) => refusals::NO_STRING,
+        Some(Topic::Empty) => refusals::EMPTY,
+        Some(Topic::TooLarge) => refusals::TOO_LARGE,
+        Some(Topic::OutOfMemory) => refusals::OUT_OF_MEMORY,
+        Some(Topic::Read) => refusals::READ,
+        Some(Topic::Write) => refusals::WRITE,
+    }
+}
+
+const LIST: &str = "RasterFirst: data, return, new line or terminator before any raster attributes
+RasterTwice: raster attributes more than once
+Ratio: a pixel aspect ratio not written as 1;1
+BoxSize: a width or height outside 1 to 2,048
+Register: a register above 15, or above 255 with --wide
+ColourValue: a colour system other than 1 or 2, or a coordinate out of range
+RepeatZero: a repeat of 0
+Unselected: painting while no register is known
+Undefined: painting in a register that is not defined yet
+Redefined: a different colour for a register already painted in
+Outside: a set bit outside the box
+Uncovered: a pixel of the box that no set bit covers, at the terminator
+EightBit: the byte 90 as the introducer, or 9C as the terminator
+NotSixel: input that doesn't start like a sixel string
+BadByte: unexpected byte
+NumberTooLarge: a number above 65,535
+FieldCount: too many or too few numbers in a command
+BadRepeat: a repeat without a sixel after its count
+BadTerminator: an ESC that isn't followed by \\
+Truncated: input that ends before the terminator is complete
+TooLong: input of more than 268,435,456 bytes
+Trailing: data after the terminator, or after the last sample of a PPM
+Header: not a valid P6 header
+Size: a PPM width or height outside 1 to 2,048
+Maxval: a PPM maxval outside 1 to 255
+Sample: a PPM sample above the maxval
+TooManyColours: a picture of more than 16 colours, or more than 256 with --wide
+Short: a PPM that ends before its last sample
+NotRgb: a colour of hue, lightness and saturation that would appear in a PPM
+NoBox: a text that declares no box of a possible screen size
+NoString: input to scan that has no sixel string
+Empty: a text to mend that declares no size and paints nothing
+TooLarge: a text to mend whose picture has a side above 2,048
+OutOfMemory: an allocation failed
+Read: input that couldn't be opened or read
+Write: output that couldn't be written
+";
