@@ -35,7 +35,7 @@ use Rattle.sixel_program.specs.Exits.{IsPut, RunEnds, complaint, exit_for_answer
 use Rattle.sixel_program.specs.declared.formats.Format.{Format}
 use Rattle.sixel_program.specs.Formats.{IsFormat, advice_for, advice_on, format_of}
 use Rattle.sixel_program.specs.Files.{AreChecked, AreDone, ArePut, AreCut, FileEnd, IsChecked, IsFileEnd, IsFileOpening}
-use Rattle.sixel_program.specs.Files.{IsLine}
+use Rattle.sixel_program.specs.Files.{IsLine, file_text}
 use Rattle.sixel_program.specs.Findings.{task_of}
 use Rattle.sixel_program.specs.declared.findings.FilesTask.{FilesTask}
 use Rattle.sixel_program.specs.declared.findings.FilesTask.TheVariants as files
@@ -325,6 +325,11 @@ run_kept t h name x told i o e same ended = record {
   said = ended.said;
   hinted = ended.hinted;
 }
+
+-- without lines there is no text
+pub no_text : (is_quiet : Bool) (name : Text) → file_text is_quiet name [] ≡ []
+no_text true name = refl
+no_text false name = refl
 
 -- a file was opened without a failure; if calls on an input over it failed, calls on it did
 pub fails_with : {O : Type 0} (folder : FolderView O) (answer : Result Status RunFault) (file : O) (old new : ℕ)

@@ -1,9 +1,9 @@
 -- What is found in an input is lines, and how the reading ends.
 use Rattle.std.proofs.Common.{◌≡◌, ◌++◌, ◌∷◌, ◌≤◌, ℕ, true, false, Bool, List, [], Option, Some, None}
 use Rattle.std.proofs.Common.{ap, append_assoc, arith, codes, map, ne_eqb, refl, sym, ◌∙◌}
-use Rattle.std.specs.Prelude.{◌&&◌, ◌≢◌, OnOk, Result, Ok, Err, decimal, nat_eq, not}
+use Rattle.std.specs.Prelude.{◌&&◌, ◌≢◌, IfSome, OnOk, Result, Ok, Err, decimal, nat_eq, not}
 use Rattle.std.specs.Io.KnownBytes.{IsAtEnd, Keeps}
-use Rattle.std.specs.List.{All}
+use Rattle.std.specs.List.{All, concat}
 use Rattle.std.specs.Option.{option_to_list}
 use Rattle.std.proofs.lemmas.List.Elements.{All-append, All-cons, All-nil}
 use Rattle.sixel_io.specs.Devices.{ReadsToEnd}
@@ -23,13 +23,16 @@ use Rattle.sixel_run.specs.declared.fault.RunFault.TheVariants as run
 use Rattle.sixel_run.specs.declared.task.Status.{Status}
 use Rattle.sixel_run.specs.declared.task.Task.{Task}
 use Rattle.sixel_run.specs.declared.task.Task.TheVariants as task
+use Rattle.sixel_run.specs.Outputs.{TakesMemory, Wrote}
 use Rattle.sixel_run.specs.Scanned.{string_lines}
 use Rattle.sixel_run.specs.Texts.{Text, entry_line, line, numbers, pixel_parts, rule_name, size_line, spaced}
 use Rattle.sixel_run.specs.Texts.{answer_line, reason_name, string_line, survey_lines, verdict_line}
 use Rattle.sixel_explain.proofs.PastedLemmas.{AreDigits, number_digits}
-use Rattle.sixel_program.specs.Files.{IsLine, IsOverFor, ReadsOver, scans}
+use Rattle.sixel_program.specs.declared.formats.Format.{Format}
+use Rattle.sixel_program.specs.Files.{IsFileEnd, IsLine, IsOverFor, ReadsOver, scans}
 use Rattle.sixel_program.specs.Findings.{answer_of, lines_found, lines_of}
-use Rattle.sixel_program.proofs.FilesLemmas.{read_kept}
+use Rattle.sixel_program.specs.Formats.{IsFormat}
+use Rattle.sixel_program.proofs.FilesLemmas.{memory_kept, read_kept, wrote_kept}
 use Rattle.sixel_program.specs.declared.findings.Found.{Found}
 use Rattle.sixel_program.specs.declared.findings.Found.TheVariants as found
 
@@ -164,12 +167,12 @@ found_is_lines (found.Verdict verdict) =
     All-cons IsLine (verdict_line verdict) [] (verdict_is_line verdict) (All-nil IsLine)
 found_is_lines (found.Survey surveyed) = survey_is_lines surveyed.survey
 
-pub lines_are_lines : (r : Result Found RunFault) → All IsLine (lines_of r)
+lines_are_lines : (r : Result Found RunFault) → All IsLine (lines_of r)
 lines_are_lines (Ok f) = found_is_lines f
 lines_are_lines (Err fault) = All-nil IsLine
 
 -- what is refused has none
-pub no_lines : (r : Result Found RunFault) (fault : RunFault) → answer_of r ≡ Err fault → lines_of r ≡ []
+no_lines : (r : Result Found RunFault) (fault : RunFault) → answer_of r ≡ Err fault → lines_of r ≡ []
 no_lines (Ok f) fault is = cc
 no_lines (Err other) fault is = refl
 
@@ -185,7 +188,7 @@ at_end (task.Scan profile eight) answer left bytes unscanned ended =
     absurd (let no : true ≡ false = unscanned in cc)
 at_end t answer left bytes unscanned ended = ended
 
-pub found_over : (t : Task) → scans t ≡ false → (answer : Result Status RunFault)
+found_over : (t : Task) → scans t ≡ false → (answer : Result Status RunFault)
     (told has left : Option (List ℕ)) → Keeps told has → ReadsToEnd answer has left → ReadsOver t answer told left
 found_over t unscanned answer told has left same reads =
     let whole = read_kept answer told has left same reads in
@@ -194,6 +197,30 @@ found_over t unscanned answer told has left same reads =
       read = whole.read.1;
       ended = at_end t answer left whole.read.0 unscanned whole.ended;
     }
+
+-- what is found in a file, of whose bytes some were looked at
+pub found_end : (t : Task) → scans t ≡ false → (name : Text) (format : Option Format) (found : Result Found RunFault)
+    (told has left : Option (List ℕ)) → Keeps told has → ReadsToEnd (answer_of found) has left → IsFormat told format
+    → IfSome has (λ bytes. Wrote t bytes left (answer_of found) (Some []) (Some (concat (lines_of found))))
+    → (answer_of found ≡ Err run.OutOfMemory → TakesMemory t has) → answer_of found ≢ Err run.Write
+    → IsFileEnd t (record {
+      name = name;
+      unopened = None;
+      told = told;
+      left = left;
+      format = format;
+      lines = lines_of found;
+      answer = answer_of found;
+    })
+found_end t unscanned name format found told has left same reads is wrote memory unwritten = record {
+  wrote = wrote_kept t told has left (answer_of found) (Some []) (Some (concat (lines_of found))) same wrote;
+  are_lines = lines_are_lines found;
+  refused = λ none fault refused. no_lines found fault refused;
+  memory = λ out. memory_kept t told has same (memory out);
+  written = λ none. unwritten;
+  reads = found_over t unscanned (answer_of found) told has left same reads;
+  is_format = is;
+}
 
 -- ---- strings
 

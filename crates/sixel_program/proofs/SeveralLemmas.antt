@@ -1,5 +1,5 @@
 -- The exit statuses of several files, and the line of each.
-use Rattle.std.proofs.Common.{ap, ap₂, append_assoc, Result, Err, ◌++◌}
+use Rattle.std.proofs.Common.{ap, append_assoc, Result, Err, ◌++◌}
 use Rattle.std.proofs.Common.{◌≡◌, ◌≤◌, ◌∷◌, ℕ, Bool, true, false, List, [], Some, arith, refl, sym, fold, length, map}
 use Rattle.std.proofs.Common.{slice_index_or, subst, suc, zero, inl, inr, ◌<◌, ◌+◌, ◌-◌, ◌^◌, ◌∙◌}
 use Rattle.std.specs.Prelude.{◌⊎◌, All, Contains, Ok, nat_lt, if◌then◌else◌}
@@ -18,6 +18,7 @@ use Rattle.sixel_run.specs.declared.fault.RunFault.TheVariants as run
 use Rattle.sixel_run.specs.declared.task.Status.{Status}
 use Rattle.sixel_program.specs.Exits.{IsPut, exit_code}
 use Rattle.sixel_program.specs.Files.{ArePut, FileEnd, IsFileEnd, IsSaid, exit_of_end, file_text, files_exit}
+use Rattle.sixel_program.proofs.FilesLemmas.{no_text}
 use Rattle.sixel_program.specs.Files.{files_text, scans, worse}
 use Rattle.sixel_program.specs.Findings.{task_of}
 use Rattle.sixel_program.specs.declared.findings.FilesTask.{FilesTask}
@@ -139,10 +140,6 @@ said_whole texts sink are =
 
 -- ---- the line of one
 
-no_text : (is_quiet : Bool) (name : Text) → file_text is_quiet name [] ≡ []
-no_text true name = refl
-no_text false name = refl
-
 -- a file that a check or a survey refuses has no text
 pub refused : (f : FilesTask) (is_quiet : Bool) (e : FileEnd) (fault : RunFault) → IsFileEnd (task_of f) e
     → scans (task_of f) ≡ false → e.answer ≡ Err fault → files_text is_quiet (e ∷ []) ≡ []
@@ -152,7 +149,7 @@ refused f is_quiet e fault is found answer =
 
 pub quiet : (ends : List FileEnd) → files_text true ends ≡ []
 quiet [] = refl
-quiet (e ∷ ends) = ap₂ (λ (a b : Text). a ++ b) refl (quiet ends)
+quiet (e ∷ ends) = quiet ends
 
 refuses : (f : FilesTask) (bytes text : Text) (fault : Fault) → Gives (task_of f) bytes text (Err (run.Grammar fault))
     → Gives (task_of f) bytes [] (Err (run.Grammar fault))

@@ -6,7 +6,7 @@ use Rattle.sixel_io.specs.Devices.{SourceState}
 use Rattle.sixel_run.specs.declared.fault.RunFault.TheVariants.{Read}
 use Rattle.sixel_program.specs.Files.{is_dash}
 use Rattle.sixel_program.specs.Openings.{bytes_of, folder_view}
-use Rattle.sixel_program.proofs.FilesLemmas.{fails_with, unopened}
+use Rattle.sixel_program.proofs.FilesLemmas.{fails_with, no_text, unopened}
 use Rattle.sixel_program.proofs.PeekedLemmas.{source_failed}
 use Rattle.sixel_program.proofs.checks.check_file.Goals as goal
 
@@ -35,7 +35,7 @@ returns-in-Err-clause-checked g c =
       };
       counted = rw file refl;
       written = λ is. cc;
-      outcome = (refl, Appends-none _, refl, is_put c.put_unopened.result _ _ _ c.put_unopened.ensures);
+      outcome = (refl, rw (no_text c.args.is_quiet c.args.name.now) (Appends-none _), refl, is_put c.put_unopened.result _ _ _ c.put_unopened.ensures);
     }
 
 pub returns-in-Ok-clause-checked : goal.returns-in-Ok-clause-checked
