@@ -2,8 +2,8 @@
 #![tactic(auto)]
 
 use sixel_io::{FromRead, ToWrite};
-use sixel_program::{Input, Peeked, System, Terminals, code_of, execute, tell};
-use sixel_words::{Process, arguments_of, task_in};
+use sixel_program::{Input, Peeked, System, Terminals, code_of, execute};
+use sixel_words::{Process, arguments_of, task_in, tell};
 use std::io::IsTerminal;
 use std::process::ExitCode;
 

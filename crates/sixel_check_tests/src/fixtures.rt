@@ -54,10 +54,7 @@ fn picture_in_words(rt: &impl AllocGlobal, picture: &Picture) -> Result<String, 
     format!(in rt.alloc(); "portable {width} {height}")
 }
 
-pub(crate) fn finding_in_words(
-    rt: &impl AllocGlobal,
-    finding: &Finding,
-) -> Result<String, AllocError> {
+fn finding_in_words(rt: &impl AllocGlobal, finding: &Finding) -> Result<String, AllocError> {
     let Finding { rule, place, pixel } = *finding;
     match pixel {
         Some((x, y)) => format!(in rt.alloc(); "broken {rule:?} {place} {x} {y}"),
@@ -105,11 +102,6 @@ pub(crate) fn agrees_by(
 ) -> Result<bool, Fail> {
     let bytes = bytes_of(rt, text)?;
     is_said(rt, &check_bytes(rt.alloc(), profile, &bytes), expected)
-}
-
-/// The same, for 16 registers.
-pub(crate) fn agrees(rt: &impl AllocGlobal, text: &str, expected: &str) -> Result<bool, Fail> {
-    agrees_by(rt, Profile::Registers16, text, expected)
 }
 
 /// Each text, with `E` for ESC, has its answer, for the profile.

@@ -2,8 +2,6 @@
 #![tactic(auto)]
 
 #[cfg(test)]
-mod differences;
-#[cfg(test)]
 mod documents;
 #[cfg(test)]
 mod events;
@@ -25,5 +23,3 @@ mod profiles;
 mod steps;
 #[cfg(test)]
 mod stretches;
-#[cfg(test)]
-mod terminals;

@@ -14,9 +14,9 @@ use crate::exit::Exit;
 use crate::files::answer;
 use crate::folder::Folder;
 use crate::peeked::Peeked;
+use crate::request::Request;
 use crate::terminals::{Terminals, announce, is_misdirected, put_redirection};
 use sixel_io::{Sink, Source};
-use sixel_words::Request;
 use std::alloc::Global;
 
 /// Carries out a request over `input` and the files of `folder`. Results go to `output`, messages to `errors`. A task

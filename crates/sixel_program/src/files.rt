@@ -18,11 +18,11 @@ use crate::folder::{Folder, open_file};
 use crate::formats::Format;
 use crate::hints::put_hint_after;
 use crate::peeked::Peeked;
+use crate::request::Request;
 use crate::saying::{put_said, put_unopened};
 use crate::terminals::Terminals;
 use sixel_io::{Sink, Source};
 use sixel_run::{Task, run};
-use sixel_words::Request;
 use std::alloc::Global;
 
 /// Whether one of the names is `-`.

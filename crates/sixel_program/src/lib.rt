@@ -12,11 +12,13 @@ mod hints;
 pub mod laws;
 mod names;
 mod peeked;
+mod request;
 mod saying;
 mod terminals;
 
 pub use execution::execute;
-pub use exit::{Exit, code_of, tell};
+pub use exit::{Exit, code_of};
 pub use folder::{Folder, Input, System, Unopened};
 pub use peeked::Peeked;
+pub use request::Request;
 pub use terminals::Terminals;

@@ -7,9 +7,9 @@ ghost use Rattle.sixel_program.specs.Exits.{IsPut};
 ghost use Rattle.sixel_program.specs.Files.{is_misdirected, notice, redirection, waiting_line};
 
 use crate::files::reads_input;
+use crate::request::Request;
 use sixel_io::{Sink, put_all};
 use sixel_run::Task;
-use sixel_words::Request;
 
 /// Which of the standard streams are terminals.
 #[derive(Clone, Copy, Debug, PartialEq, Eq)]

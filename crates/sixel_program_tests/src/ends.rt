@@ -5,9 +5,8 @@ ghost use Rattle.sixel_run.specs.Outputs.{HasSides};
 use crate::memory_folder::MemoryFolder;
 use sixel_io::{FromRead, ToWrite};
 use sixel_model::{Colour, Profile};
-use sixel_program::{Exit, Peeked, Terminals, execute};
+use sixel_program::{Exit, Peeked, Request, Terminals, execute};
 use sixel_run::Task;
-use sixel_words::Request;
 use std::alloc::Global;
 use std::io::{Read, Write};
 

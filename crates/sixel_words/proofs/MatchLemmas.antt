@@ -19,7 +19,7 @@ use Rattle.clap.specs.declared.parser.matches.ArgMatches.TheViews.{out-SubComman
 use Rattle.sixel_run.specs.declared.task.Task.{Task}
 use Rattle.sixel_run.specs.declared.task.Task.TheVariants.{List as Listing, Check, Survey, Render, Show, ShowBox, Mend}
 use Rattle.sixel_run.specs.declared.task.Task.TheVariants.{Encode, Scan}
-use Rattle.sixel_words.specs.declared.request.Request.{Request}
+use Rattle.sixel_program.specs.declared.request.Request.{Request}
 use Rattle.sixel_model.specs.declared.colour.Parts.{Parts}
 use Rattle.sixel_words.specs.Words.{HasColour, HasSide, IsSideText, IsTask, files_of, is_given, is_named, is_of_words}
 

@@ -8,8 +8,8 @@ ghost use Rattle.sixel_run.specs.Outputs.{HasSides};
 ghost use Rattle.sixel_words.specs.Arguments.{IsCopied};
 ghost use Rattle.sixel_words.specs.Words.{IsFaultFor, IsRequestOf, IsTaskOf, kinds_of};
 
-use crate::request::Request;
 use crate::words::{WordsFault, parse_request};
+use sixel_program::Request;
 use std::alloc::{AllocError, Global};
 use std::env::{Env, FillError};
 

@@ -5,10 +5,10 @@ mod arguments;
 mod colours;
 mod commands;
 pub mod laws;
-mod request;
+mod telling;
 mod usage_errors;
 mod words;
 
 pub use arguments::{Arguments, Process, arguments_of, task_in};
-pub use request::Request;
+pub use telling::tell;
 pub use words::{WordsFault, parse_request, parse_words};

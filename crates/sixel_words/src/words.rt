@@ -19,13 +19,13 @@ ghost use Rattle.sixel_explain.specs.declared.explanations.Topic.{Topic as ATopi
 
 use crate::colours::colour_of;
 use crate::commands::sixel_command;
-use crate::request::Request;
 use crate::usage_errors::{background_error, conflict_error, unnamed_error, usage_error, with_tip};
 use clap::error::ErrorKind;
 use clap::parser::ValueSource;
 use clap::{ArgMatches, Error};
 use sixel_explain::{Topic, topic_asked};
 use sixel_model::{Colour, Profile};
+use sixel_program::Request;
 use sixel_run::{MOST_SCREEN_SIDE, Task};
 use std::alloc::{AllocError, Global};
 

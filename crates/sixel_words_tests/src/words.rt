@@ -1,6 +1,7 @@
 //! Command lines, and what they ask for.
 
-use sixel_words::{Request, WordsFault, parse_request, parse_words, task_in};
+use sixel_program::Request;
+use sixel_words::{WordsFault, parse_request, parse_words, task_in};
 use std::alloc::{AllocError, Global};
 use std::test::Fail;
 

@@ -1,6 +1,6 @@
 use Rattle.std.proofs.Common.{inr, refl}
 use Rattle.sixel_program.proofs.PutLemmas.{is_put}
-use Rattle.sixel_program.proofs.exit.tell.Goals as goal
+use Rattle.sixel_words.proofs.telling.tell.Goals as goal
 
 pub returns-in-Err : goal.returns-in-Err
 returns-in-Err g c =

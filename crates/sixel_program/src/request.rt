@@ -1,4 +1,4 @@
-//! What the arguments ask for.
+//! What the program is to do.
 
 use sixel_run::Task;
 

@@ -1,5 +1,5 @@
 use Rattle.sixel_program.proofs.PutLemmas.{stays_put}
-use Rattle.sixel_program.proofs.exit.write_explanation.Goals as goal
+use Rattle.sixel_words.proofs.telling.write_explanation.Goals as goal
 
 pub returns-clause-bytes : goal.returns-clause-bytes
 returns-clause-bytes g c = (

@@ -1,0 +1,99 @@
+//! What the program does if its arguments name no task.
+
+ghost use Rattle.std.specs.Prelude.{◌≡◌, IfOk, OnOk, codes, true};
+ghost use Rattle.std.specs.Io.{StartsWith};
+ghost use Rattle.std.specs.String.{string_bytes};
+ghost use Rattle.sixel_io.specs.Devices.{CountsFailure, Puts, change};
+ghost use Rattle.sixel_explain.specs.Explanations.{IsExplanation};
+ghost use Rattle.sixel_run.specs.Texts.{Text};
+ghost use Rattle.sixel_words.specs.Telling.{IsShown, IsUsageSaid, WordsEnd};
+
+use crate::words::WordsFault;
+use clap::Error;
+use sixel_explain::{Topic, explanation};
+use sixel_io::{DeviceFault, Sink, put_all};
+use sixel_program::Exit;
+use sixel_run::{RunFault, write_fault};
+use std::alloc::{AllocError, Global};
+
+/// Ends a program whose arguments name no task: it shows the help or the explanation that was asked for, or
+/// says what is wrong. An explanation that can't be written gives `Refused`; any other text that can't be made or
+/// written leaves the exit status as it is.
+pub fn tell<K: Sink, E: Sink>(
+    alloc: Global,
+    fault: WordsFault,
+    output: &mut K,
+    errors: &mut E,
+) -> Exit
+    ensures { WordsEnd fault result
+        (change (K.state output.old) (K.state output.new)) (change (E.state errors.old) (E.state errors.new)) }
+{
+    match fault {
+        WordsFault::Help(text) => {
+            show(alloc, &text, output);
+            Exit::Done
+        }
+        WordsFault::Explanation(topic) => match write_explanation(topic, output) {
+            Ok(()) => Exit::Done,
+            Err(_) => {
+                let _ = write_fault(&RunFault::Write, errors);
+                Exit::Refused
+            }
+        },
+        WordsFault::Usage(text) => {
+            say_usage(alloc, &text, errors);
+            Exit::Usage
+        }
+        WordsFault::OutOfMemory => {
+            let _ = write_fault(&RunFault::OutOfMemory, errors);
+            Exit::Refused
+        }
+    }
+}
+
+/// What clap's text of a usage error begins with.
+const ERROR: &str = "error: ";
+
+/// Writes a usage error. Without enough memory to make its text, it writes that.
+fn say_usage<E: Sink>(alloc: Global, error: &Error, errors: &mut E)
+    ensures { IsUsageSaid (change (E.state errors.old) (E.state errors.new)) }
+{
+    match usage_text(alloc, error) {
+        Ok(text) => {
+            let _ = put_all(errors, text.as_bytes());
+        }
+        Err(_) => {
+            let _ = write_fault(&RunFault::OutOfMemory, errors);
+        }
+    }
+}
+
+/// The text of a usage error. It begins with `sixel: `, like every other message, instead of clap's `error: `.
+fn usage_text(alloc: Global, error: &Error) -> Result<String, AllocError>
+    ensures { IfOk result (λ text. StartsWith (string_bytes text) (codes "sixel: ")) }
+{
+    let told = format!(in alloc; "{error}")?;
+    let mut text = String::from_str(alloc, "sixel: ")?;
+    text.push_str(told.as_str().strip_prefix(ERROR).unwrap_or(told.as_str()))?;
+    Ok(text)
+}
+
+/// Writes a text of help, if there is enough memory to make it.
+fn show<K: Sink>(alloc: Global, text: &Error, out: &mut K)
+    ensures { IsShown (change (K.state out.old) (K.state out.new)) }
+{
+    if let Ok(text) = format!(in alloc; "{text}") {
+        let _ = put_all(out, text.as_bytes());
+    }
+}
+
+/// Writes an explanation, or on an `Err` a prefix of it, and flushes.
+fn write_explanation<K: Sink>(topic: Option<Topic>, out: &mut K) -> Result<(), DeviceFault>
+    ensures bytes { (text : Text) × IsExplanation topic text
+        × Puts result (K.state out.old).taken (K.state out.new).taken text }
+    ensures failures { CountsFailure result (K.state out.old).failures (K.state out.new).failures }
+    ensures flushed { OnOk result ((K.state out.new).is_flushed ≡ true) }
+{
+    put_all(out, explanation(topic).as_bytes())?;
+    out.flush()
+}
