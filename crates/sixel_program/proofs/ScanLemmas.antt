@@ -50,14 +50,14 @@ cut_count answer old new is counts = rw is at counts
 module _ (profile : Profile) (eight : Bool) (name : Text) (answer : Result Status RunFault) (i : Change SourceState)
     (o : Change SinkState) (k : Scans (named name) eight (count_of profile) answer i o) where
   scan_end : IsFileEnd (Scan profile eight) (record {
-        name = name;
-        unopened = None;
-        told = i.old.remaining;
-        left = i.new.remaining;
-        format = None;
-        lines = string_lines k.reports;
-        answer = answer;
-      })
+    name = name;
+    unopened = None;
+    told = i.old.remaining;
+    left = i.new.remaining;
+    format = None;
+    lines = string_lines k.reports;
+    answer = answer;
+  })
   scan_end = record {
     wrote = lines_wrote profile eight i.old.remaining i.new.remaining answer k.reports k.finds;
     are_lines = strings_are_lines k.reports;

@@ -14,7 +14,9 @@ ghost use Rattle.sixel_run.specs.Texts.{fault_line};
 ghost use Rattle.sixel_run.specs.declared.task.Task.TheVariants.{Check, Scan, Survey};
 
 use crate::exit::{Exit, code_of, exit_of};
-use crate::findings::{AfterName, FilesTask, Found, answer_of, find_survey, find_verdict, put_found};
+use crate::findings::{
+    AfterName, FilesTask, Found, answer_of, find_survey, find_verdict, put_found,
+};
 use crate::folder::{Folder, open_file};
 use crate::formats::Format;
 use crate::hints::{put_hint, rule_of};
@@ -136,7 +138,14 @@ fn scan_named<S: Source, K: Sink, E: Sink>(
         (change (⟦<Peeked<S> as Source>⟧.state input.old) (⟦<Peeked<S> as Source>⟧.state input.new))
         (change (K.state output.old) (K.state output.new)) (change (E.state errors.old) (E.state errors.new)) }
 {
-    let answer = scan_with(alloc, profile, eight_bit, &AfterName { name }, input, output);
+    let answer = scan_with(
+        alloc,
+        profile,
+        eight_bit,
+        &AfterName { name },
+        input,
+        output,
+    );
     if is_unwritten(&answer) {
         return Err(DeviceFault);
     }

@@ -39,8 +39,7 @@ const RATIO: &[u8] = b"\x1bPq\"2;1;1;1\x1b\\";
 const THREE: &[u8] = b"\x1bPq\"1;1;4;2#17;2;0;0;0#17@@#0@\x1b\\";
 
 /// A portable string at offset 2, and at offset 30 one with a wrong ratio.
-const LOG: &[u8] =
-    b"ab\x1bPq\"1;1;1;1#0;2;0;0;0#0@\x1b\\cd\x1bPq\"2;1;1;1#0;2;0;0;0#0@\x1b\\";
+const LOG: &[u8] = b"ab\x1bPq\"1;1;1;1#0;2;0;0;0#0@\x1b\\cd\x1bPq\"2;1;1;1#0;2;0;0;0#0@\x1b\\";
 
 /// A portable string, and the first bytes of another.
 const HALVED: &[u8] = b"\x1bPq\"1;1;1;1#0;2;0;0;0#0@\x1b\\\x1bPq\"1";
