@@ -234,8 +234,10 @@ class Terminal:
         return self.heard.count(b"c") >= self.asked
 
     def close(self):
-        self.line.close()
+        """Ends the terminal while its program still runs: konsole starts another process after the end of that, which
+        would stay if konsole ended in this moment."""
         end(self.process)
+        self.line.close()
 
 
 if __name__ == "__main__":
