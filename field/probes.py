@@ -3,6 +3,7 @@
 A probe is a string, and how its answer is read from what is seen then. Columns and rows count from the picture's top
 left.
 """
+import re
 from dataclasses import dataclass, field
 from typing import Callable
 
@@ -63,6 +64,11 @@ def rows(seen):
     return f"{count / 6:g}" if count else NOTHING
 
 
+def columns(seen):
+    """How many columns of the first row are changed."""
+    return str(next((x for x in range(99, -1, -1) if seen.colour(x, 0) != "background"), -1) + 1)
+
+
 # Colours that can be told apart whatever the formula: of each sample none, half or all.
 PALETTE = [(50 * (i // 9), 50 * (i // 3 % 3), 50 * (i % 3)) for i in range(27)]
 
@@ -120,7 +126,8 @@ def selected(seen):
 
 def told(seen):
     """What it answers to the question how many registers it has."""
-    return seen.heard.partition(b"S")[0].rpartition(b";")[2].decode() or "no answer"
+    answer = re.search(rb"\?1;0;(\d+)S", seen.heard)
+    return answer[1].decode() if answer else "no answer"
 
 
 def ends(seen):
@@ -199,15 +206,17 @@ PROBES = [
       for options in ([{}, BIG] if max(width, height) > 1000 else [{}])],
     *[Probe(OUTSIDE, f"a run of {count} columns without a set bit, in a box of 1 by 1",
             picture(f'"1;1;1;1{RED}#1@!{count}?'), ends) for count in (1000, 32000, 32766, 32767, 32800, 65535)],
-    *[Probe(OUTSIDE, f"right of the box, {text}", picture(body), at([(15, 3)], {
-        ("background",): "left alone", ("black",): "filled with register 0"}))
-      for text, body in [("raster attributes first", BOX + RED + "#1!12~"),
-                         ("a definition before the raster attributes", RED + BOX + "#1!12~")]],
-    Probe(OUTSIDE, "a definition with a return right after it", picture(BOX + RED + "$#1!6~"),
-          first(**{"red": "counts", "3333cc": "is lost"})),
-    Probe(OUTSIDE, "right of the box, with a return right after the raster attributes",
-          picture(BOX + "$" + RED + "#1!12~"), at([(15, 3)], {
-              ("background",): "left alone", ("black",): "filled with register 0"})),
+    *[Probe(OUTSIDE, f"columns filled in a box of 1 by 1, {text}", picture(body + "#1@"), columns)
+      for text, body in [("raster attributes first", '"1;1;1;1' + RED),
+                         ("a definition before the raster attributes", RED + '"1;1;1;1'),
+                         ("a selection before them", '#1"1;1;1;1' + RED),
+                         ("a return right after them", '"1;1;1;1$' + RED),
+                         ("a line feed and a return after them", '"1;1;1;1\n$' + RED),
+                         ("a selection and a return after them", '"1;1;1;1#1$' + RED)]],
+    *[Probe(OUTSIDE, f"a definition with {text} right after it", picture(BOX + RED + body + "#1!6~" + "-#1!6~"),
+            at([(3, 9)], {("red",): "counts", ("3333cc",): "is lost"}))
+      for text, body in [("a return", "$"), ("a new line", "-"), ("a line feed and a return", "\n$"),
+                         ("a selection and a return", "#1$")]],
     Probe(OUTSIDE, "below a box of 12 by 1", picture('"1;1;12;1' + RED + "#1!12@"), at([(3, 3)], {
         ("background",): "left alone", ("black",): "filled with register 0"})),
 

@@ -1,42 +1,49 @@
 """Starts a terminal on a screen that nobody sees, sends it bytes, and reads the screen. `field/terminals` uses it.
 
-Each process that it starts it ends by its own id, in `Screen.close` and `Terminal.close`; it ends no other process.
-Started as a program inside a terminal, it writes a file to that terminal: `screens.py FILE ANSWER`.
+How fast the machine is doesn't matter: after a string the terminal draws marks, and the screen is read when they were
+seen. Each process that it starts it ends by its own id, in `Screen.close` and `Terminal.close`; it ends no other one.
+Started as a program inside a terminal, it passes bytes on between a socket and the terminal: `screens.py SOCKET`.
 """
+import contextlib
 import os
 import pathlib
 import select
 import shutil
+import socket
 import struct
 import subprocess
 import sys
 import tempfile
-import termios
 import time
 import tty
 
 WIDTH, HEIGHT = 1000, 2200
 BACKGROUND = "204060"
-# How long a terminal may take to start, in seconds.
-PATIENCE = 120
+# A mark is the last cell of the last line. It is in this corner of the screen, where nothing is compared. Its colour is
+# one of the 256 that terminals of today have.
+CORNER = 75, 100
+READY, DRAWN, OVER = (201, (255, 0, 255)), (51, (0, 255, 255)), (226, (255, 255, 0))
+# How long a terminal may take to draw a mark, in seconds; and when it is sent again, since the terminal may have got
+# another size.
+PATIENCE, AGAIN = 300, 3
 HERE = pathlib.Path(__file__).resolve()
 
 
-def say(path, answer):
-    """Inside a terminal: sends it the file and a question, and notes what it answers. An answer shows that the terminal
-    has read all that was sent before."""
+def relay(path):
+    """Inside a terminal: passes on what comes from the socket, and the terminal's answers back."""
     tty.setraw(0)
-    data = pathlib.Path(path).read_bytes()
-    while data:
-        data = data[os.write(1, data):]
-    os.write(1, b"\x1b[c")
-    heard = b""
-    while select.select([0], [], [], 10)[0] and not heard.endswith(b"c"):
-        heard += os.read(0, 4096)
-    pathlib.Path(answer + ".new").write_bytes(heard)
-    os.rename(answer + ".new", answer)
-    termios.tcflush(0, termios.TCIFLUSH)
-    time.sleep(600)
+    with socket.socket(socket.AF_UNIX) as line, contextlib.suppress(OSError):
+        line.connect(path)
+        while True:
+            ready = select.select([0, line], [], [])[0]
+            if 0 in ready:
+                line.sendall(os.read(0, 4096))
+            if line in ready:
+                data = line.recv(65536)
+                if not data:
+                    return
+                while data:
+                    data = data[os.write(1, data):]
 
 
 def end(process):
@@ -84,18 +91,35 @@ class Screen:
             ["weston", "--backend=x11-backend.so", "--use-pixman", "--shell=kiosk-shell.so", "--no-config",
              f"--width={self.width}", f"--height={self.height}", "--socket=field", "--idle-time=0"])
         self.environment["WAYLAND_DISPLAY"] = "field"
-        if not wait_for((self.folder / "run" / "field").exists, PATIENCE):
+        if not wait_for(lambda: accepts(self.folder / "run" / "field"), PATIENCE):
             raise TimeoutError("weston didn't start")
-        time.sleep(1)
 
-    def picture(self):
-        """The screen as a PIL image. The server keeps it in a file, after a head of the format of xwd."""
+    def picture(self, top=0):
+        """The screen as a PIL image, from a row down. The server keeps it in a file, after a head of the format of
+        xwd."""
         from PIL import Image
-        data = (self.folder / "Xvfb_screen0").read_bytes()
-        head = struct.unpack(">25I", data[:100])
-        start = head[0] + 12 * head[19]
-        pixels = data[start:start + head[5] * head[12]]
-        return Image.frombytes("RGB", (head[4], head[5]), pixels, "raw", "BGRX", head[12])
+        with open(self.folder / "Xvfb_screen0", "rb") as kept:
+            head = struct.unpack(">25I", kept.read(100))
+            kept.seek(head[0] + 12 * head[19] + top * head[12])
+            pixels = kept.read((self.height - top) * head[12])
+        return Image.frombytes("RGB", (self.width, self.height - top), pixels, "raw", "BGRX", head[12])
+
+    def at_rest(self):
+        """The screen, once two pictures of it are the same."""
+        last = self.picture()
+        until = time.monotonic() + PATIENCE
+        while time.monotonic() < until:
+            time.sleep(0.1)
+            last, before = self.picture(), last
+            if last == before:
+                return last
+        raise TimeoutError("the screen doesn't come to rest")
+
+    def has(self, colour):
+        """Whether a pixel of the corner has this colour."""
+        width, height = CORNER
+        corner = self.picture(self.height - height).crop((self.width - width, 0, self.width, height))
+        return any(pixel == colour for _, pixel in corner.getcolors(width * height))
 
     def close(self):
         if self.compositor:
@@ -103,6 +127,12 @@ class Screen:
         end(self.server)
         self.log.close()
         shutil.rmtree(self.folder, ignore_errors=True)
+
+
+def accepts(path):
+    """Whether someone listens at a socket."""
+    with socket.socket(socket.AF_UNIX) as line:
+        return line.connect_ex(str(path)) == 0
 
 
 def wait_for(test, seconds):
@@ -121,8 +151,9 @@ def xterm(screen, program, background, options):
 
 
 def mlterm(screen, program, background, options):
-    return ["mlterm", "--geometry=200x200+0+0", "--sbmod=none", "--borderless=true", "--fg=white",
-            f"--bg=#{background}", *options, "-e", *program]
+    # A cell of this font has 10 by 22 pixels.
+    return ["mlterm", "--type=xcore", "--fontsize=16", "--geometry=100x100+0+0", "--sbmod=none", "--borderless=true",
+            "--fg=white", f"--bg=#{background}", *options, "-e", *program]
 
 
 def foot(screen, program, background, options):
@@ -151,36 +182,63 @@ TERMINALS = {"xterm": xterm, "mlterm": mlterm, "foot": foot, "konsole": konsole}
 
 
 class Terminal:
-    """One terminal, started fresh, that was sent one string."""
+    """One terminal, started fresh."""
 
-    def __init__(self, screen, name, data, background=BACKGROUND, options=()):
-        self.screen = screen
-        sent, answer = screen.folder / "sent", screen.folder / "answer"
-        answer.unlink(missing_ok=True)
-        sent.write_bytes(b"\x1b[?25l\x1b[2J\x1b[H" + data)
-        program = [sys.executable, str(HERE), str(sent), str(answer)]
-        self.process = screen.start(TERMINALS[name](screen, program, background, options))
-        if not wait_for(lambda: answer.exists() or self.process.poll() is not None, PATIENCE):
-            end(self.process)
-            raise TimeoutError(f"{name} didn't start within {PATIENCE} seconds")
-        self.heard = answer.read_bytes() if answer.exists() else b""
+    def __init__(self, screen, name, background=BACKGROUND, options=()):
+        self.screen, self.name, self.heard, self.asked = screen, name, b"", 0
+        path = screen.folder / "line"
+        path.unlink(missing_ok=True)
+        with socket.socket(socket.AF_UNIX) as listener:
+            listener.bind(str(path))
+            listener.listen()
+            program = [sys.executable, str(HERE), str(path)]
+            self.process = screen.start(TERMINALS[name](screen, program, background, options))
+            wait_for(lambda: select.select([listener], [], [], 0)[0] or self.ended(), PATIENCE)
+            if not select.select([listener], [], [], 0)[0]:
+                end(self.process)
+                raise TimeoutError(f"{name} didn't start within {PATIENCE} seconds")
+            self.line = listener.accept()[0]
 
-    def picture(self):
-        """The screen, once three pictures of it are the same."""
-        seen = []
-        for _ in range(200):
-            time.sleep(0.15)
-            seen = [*seen[-2:], self.screen.picture().tobytes()]
-            if len(seen) == 3 and len(set(seen)) == 1:
-                return self.screen.picture()
-        raise TimeoutError("the screen doesn't come to rest")
+    def show(self, data):
+        """Sends a string. After it two marks are drawn, one after the other: a terminal that meets its end by the
+        string has then met it. The status, if it has ended."""
+        self.mark(READY)
+        self.send(b"\x1b[2J\x1b[H" + data)
+        self.mark(DRAWN)
+        self.mark(OVER)
+        return self.process.poll()
+
+    def mark(self, mark):
+        """Draws a mark and asks a question, and waits until the one is seen and the other answered, or the terminal has
+        ended."""
+        number, colour = mark
+        until = time.monotonic() + PATIENCE
+        while time.monotonic() < until:
+            self.send(f"\x1b[?25l\x1b[999;999H\x1b[48;5;{number}m \x1b[m\x1b[c".encode())
+            self.asked += 1
+            if wait_for(lambda: self.ended() or self.screen.has(colour) and self.answered(), AGAIN):
+                return
+        raise TimeoutError(f"{self.name} drew no mark within {PATIENCE} seconds")
+
+    def send(self, data):
+        with contextlib.suppress(OSError):
+            self.line.sendall(data)
+
+    def ended(self):
+        return self.process.poll() is not None
+
+    def answered(self):
+        """Whether all questions were answered."""
+        with contextlib.suppress(OSError):
+            self.heard += self.line.recv(65536, socket.MSG_DONTWAIT)
+        return self.heard.count(b"c") >= self.asked
 
     def close(self):
-        """Ends the terminal, and says with which status it ended by itself, if it did."""
-        status = self.process.poll()
+        """Ends the terminal while its program still runs: konsole starts another process after the end of that, which
+        would stay if konsole ended in this moment."""
         end(self.process)
-        return status
+        self.line.close()
 
 
 if __name__ == "__main__":
-    say(*sys.argv[1:])
+    relay(sys.argv[1])
