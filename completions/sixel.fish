@@ -96,7 +96,7 @@ complete -c sixel -n '__fish_sixel_is explain 2' -a Short -d 'a PPM that ends be
 complete -c sixel -n '__fish_sixel_is explain 2' -a NotRgb -d 'a colour of hue, lightness and saturation that would appear in a PPM'
 complete -c sixel -n '__fish_sixel_is explain 2' -a NoBox -d 'a text that declares no box of a possible screen size'
 complete -c sixel -n '__fish_sixel_is explain 2' -a NoString -d 'input to scan that has no sixel string'
-complete -c sixel -n '__fish_sixel_is explain 2' -a Empty -d 'a text to mend that declares no size and paints nothing'
+complete -c sixel -n '__fish_sixel_is explain 2' -a Empty -d 'a text to mend that paints nothing and declares no width or no height'
 complete -c sixel -n '__fish_sixel_is explain 2' -a TooLarge -d 'a text to mend whose picture has a side above 2,048'
 complete -c sixel -n '__fish_sixel_is explain 2' -a OutOfMemory -d 'an allocation failed'
 complete -c sixel -n '__fish_sixel_is explain 2' -a Read -d 'input that couldn\'t be opened or read'

@@ -112,7 +112,7 @@ Short: a PPM that ends before its last sample
 NotRgb: a colour of hue, lightness and saturation that would appear in a PPM
 NoBox: a text that declares no box of a possible screen size
 NoString: input to scan that has no sixel string
-Empty: a text to mend that declares no size and paints nothing
+Empty: a text to mend that paints nothing and declares no width or no height
 TooLarge: a text to mend whose picture has a side above 2,048
 OutOfMemory: an allocation failed
 Read: input that couldn't be opened or read

@@ -245,8 +245,8 @@ Output of encode: sixel: TooManyColours at 60
 
 Fix: reduce the picture to 16 colours first, for example by pnmquant 16. With
 --wide, pnmquant 256 is enough: then the text is for terminals with 256
-registers or more, and check needs --wide too. Of a text to mend, mend --wide
-and then render --wide make a PPM to reduce, or else show does.
+registers or more, and check needs --wide too. A text to mend can be reduced too:
+sixel mend --wide FILE | sixel render --wide | pnmquant 16 | sixel encode
 ";
 
 const SHORT: &str = "Short: a PPM that ends before its last sample
@@ -296,7 +296,7 @@ terminal. If it writes the bytes 90 and 9C in place of ESC P and ESC \\, give
 --eight-bit. What a multiplexer such as tmux wraps has to be unwrapped first.
 ";
 
-pub const EMPTY: &str = "Empty: a text to mend that declares no size and paints nothing
+pub const EMPTY: &str = "Empty: a text to mend that paints nothing and declares no width or no height
 
 Refused: mend needs a picture of at least one pixel. A text without raster
 attributes, or with a width or a height of 0 in them, has one only if a bit is

@@ -226,7 +226,8 @@ Reads sixel text from FILE or, without one, from standard input. Draws it as one
 terminal would, and writes what that shows to standard output, as portable sixel
 text. The terminal has 256 registers, which start as the VT340's 16 colours over
 and over. The picture is as large as the declared box, and larger if something
-is painted outside it. Refused: a picture without pixels, with a side above
+is painted outside it. Black ink is lost on a black background: for a plot or a
+page, choose a white one. Refused: a picture without pixels, with a side above
 2,048, or of more than 16 colours, or 256 with --wide.
 
 Exit status: 0 done, 2 refused, 3 usage error.
