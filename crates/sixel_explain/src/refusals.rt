@@ -296,7 +296,8 @@ terminal. If it writes the bytes 90 and 9C in place of ESC P and ESC \\, give
 --eight-bit. What a multiplexer such as tmux wraps has to be unwrapped first.
 ";
 
-pub const EMPTY: &str = "Empty: a text to mend that paints nothing and declares no width or no height
+pub const EMPTY: &str =
+    "Empty: a text to mend that paints nothing and declares no width or no height
 
 Refused: mend needs a picture of at least one pixel. A text without raster
 attributes, or with a width or a height of 0 in them, has one only if a bit is

@@ -16,11 +16,11 @@ mod tasks;
 
 use crate::ends::{CHECK, NO_TERMINALS};
 use crate::memory_folder::MemoryFolder;
-use crate::streams::Narrow;
 use sixel_io::{FromRead, ToWrite};
 use sixel_model::Profile;
 use sixel_program::{Exit, Peeked, Request, Terminals, Unopened, execute};
 use sixel_run::Task;
+use sixel_test_devices::Narrow;
 use std::alloc::{AllocError, Global};
 use std::io;
 use std::io::Read;

@@ -10,4 +10,6 @@ mod help;
 #[cfg(test)]
 mod mending;
 #[cfg(test)]
+mod telling;
+#[cfg(test)]
 mod words;

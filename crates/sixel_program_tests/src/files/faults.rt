@@ -3,9 +3,9 @@
 use super::{Ended, FOLDER, PIXEL, RATIO, STREAMS, Streams, check_of, ends_over, request_of};
 use crate::ends::NO_TERMINALS;
 use crate::memory_folder::Watched;
-use crate::streams::Narrow;
 use sixel_io::{FromRead, ToWrite};
 use sixel_program::{Exit, Peeked, execute};
+use sixel_test_devices::Narrow;
 use std::alloc::{AllocError, Global};
 use std::cell::Cell;
 use std::test::Fail;

@@ -2,11 +2,11 @@
 
 use super::{Ended, FOLDER, PIXEL, RATIO, STREAMS, Streams, asked_of, ends_over, request_of};
 use crate::ends::{NO_TERMINALS, SCAN};
-use crate::streams::Narrow;
 use sixel_io::{FromRead, ToWrite};
 use sixel_model::Profile;
 use sixel_program::{Exit, Peeked, Terminals, execute};
 use sixel_run::Task;
+use sixel_test_devices::Narrow;
 use std::alloc::{AllocError, Global};
 use std::io;
 use std::io::Read;
