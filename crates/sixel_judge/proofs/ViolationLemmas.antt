@@ -26,7 +26,7 @@ use Rattle.sixel_judge.specs.declared.rule.Rule.TheVariants.{ColourValue, Repeat
 use Rattle.sixel_judge.specs.Violations.{BreaksNoRule, NoneBelow, is_colour_of, raster_first_in, raster_twice_in}
 use Rattle.sixel_judge.specs.Violations.{redefined_in, rule_in, undefined_in, unselected_in}
 use Rattle.sixel_judge.specs.Judging.{IsStateAfter, IsGood}
-use Rattle.sixel_judge.specs.DrawingState.{known_in, next_painted, next_palette}
+use Rattle.sixel_judge.specs.DrawingState.{IsColouredIfPainted, known_in, next_painted, next_palette}
 use Rattle.sixel_judge.specs.Verdicts.{IsPixel, number_of}
 use Rattle.sixel_judge.proofs.DrawingStateLemmas.{given, keeps, known_below, known_is}
 
@@ -189,6 +189,30 @@ none_redefined n m before e s none palette painted =
         → redefined_in m e ≡ redefined_in n e
     moved n m (Step (Define r s x y z)) palette painted = rw (palette, painted) refl
     moved n m e palette painted = refl
+
+not_none : {A : Type 0} (o : Option A) → is_none o ≡ false → IsSome o
+not_none None h = cc
+not_none (Some x) h = refl
+
+has : {A : Type 0} (o : Option A) → IsSome o → is_none o ≡ false
+has None h = cc
+has (Some x) h = refl
+
+-- a register that a command painted in has a colour
+painted_coloured : {registers : ℕ} (n : DrawingState) (before : List Event) (r : ℕ) → IsStateAfter registers n before
+    → IsTrue (get_or n.painted r false) → r < length n.palette → IsSome (palette_at n.palette r)
+painted_coloured {registers} n before r s painted lt =
+    let low : r < registers = rw (s.palette_is, length_left registers before) at lt in
+    let defined : IsSome (definition_of before r) = s.defined r (sym (s.painted_is r low) ∙ painted) in
+    not_none (palette_at n.palette r)
+    (ap is_none (colour_by_state n before r s low)
+    ∙ defined_none registers r (definition_of before r) (s.in_range r) ∙ has (definition_of before r) defined)
+
+pub coloured_if_painted : {registers : ℕ} (n m : DrawingState) (before : List Event) (e : Event)
+    → IsStateAfter registers n before → m.palette ≡ n.palette → m.painted ≡ next_painted n e → IsColouredIfPainted m e
+coloured_if_painted n m before (Step (Define r s x y z)) h palette painted =
+    rw (palette, painted) (λ p lt. painted_coloured n before r h p lt)
+coloured_if_painted n m before e h palette painted = tt
 
 four : (a b c d : Bool) → (a && b && c && d) ≡ true → (a ≡ true) × (b ≡ true) × (c ≡ true) × (d ≡ true)
 four true true true true h = (refl, refl, refl, refl)

@@ -31,7 +31,7 @@ pub(crate) struct DrawingState {
 
 impl DrawingState {
     ghost use Rattle.sixel_judge.specs.Judging.{IsStateAfter};
-    ghost use Rattle.sixel_judge.specs.DrawingState.{IsBelow, known_in, next_band, next_column, next_named};
+    ghost use Rattle.sixel_judge.specs.DrawingState.{IsBelow, IsColouredIfPainted, known_in, next_band, next_column, next_named};
     ghost use Rattle.sixel_judge.specs.DrawingState.{next_painted, next_palette, next_selected};
 
     /// The state before any event.
@@ -106,7 +106,7 @@ impl DrawingState {
     /// repeats its colour, and nothing changes.
     #[inline(always)]
     fn define(&mut self, event: &Event)
-        ensures { redefined_in self.old event.now ≡ false
+        ensures { redefined_in self.old event.now ≡ false → IsColouredIfPainted self.old event.now
             → self.new ≡ record self.old { palette = next_palette self.old event.now } }
     {
         let Event::Step(
@@ -124,7 +124,7 @@ impl DrawingState {
         if *register >= self.palette.profile().count() {
             return;
         }
-        if self.is_painted_in(*register as u8) {
+        if self.painted[*register as usize] {
             return;
         }
         if let Some(colour) = colour_in(*system, *x, *y, *z) {

@@ -1,7 +1,7 @@
 use Rattle.std.proofs.Common.{◌≡◌, false, refl}
 use Rattle.sixel_judge.specs.Violations.{redefined_in}
 use Rattle.sixel_judge.proofs.DrawingStateLemmas.{state_push}
-use Rattle.sixel_judge.proofs.ViolationLemmas.{none_redefined}
+use Rattle.sixel_judge.proofs.ViolationLemmas.{coloured_if_painted, none_redefined}
 use Rattle.sixel_judge.proofs.drawing_state.DrawingState.take.Goals as goal
 
 pub returns : goal.returns
@@ -11,5 +11,9 @@ returns c = λ registers before s none.
     none_redefined c.args.self.now before_define before c.args.event.now s none
     (rw (c.name.ensures, c.move_on.ensures, c.mark.ensures) refl)
     (rw (c.name.ensures, c.move_on.ensures, c.mark.ensures) refl) in
-    rw (c.define.ensures redefines, c.name.ensures, c.move_on.ensures, c.mark.ensures)
+    let coloured =
+    coloured_if_painted c.args.self.now before_define before c.args.event.now s
+    (rw (c.name.ensures, c.move_on.ensures, c.mark.ensures) refl)
+    (rw (c.name.ensures, c.move_on.ensures, c.mark.ensures) refl) in
+    rw (c.define.ensures redefines coloured, c.name.ensures, c.move_on.ensures, c.mark.ensures)
     (state_push c.args.self.now before c.args.event.now s none)
