@@ -7,4 +7,4 @@ pub mod laws;
 
 pub use checking::{check, check_bytes};
 pub use sixel_judge::{Checker, Finding, Rule, Verdict};
-pub use sixel_survey::{Entry, RULES, Survey, survey};
+pub use sixel_survey::{Entry, RULE_COUNT, Survey, survey};

@@ -2,7 +2,7 @@
 use Rattle.std.proofs.Common.{◌≡◌, ℕ, ◌+◌, ◌<◌, ◌≤◌, ◌==◌, ◌&&◌, ◌||◌, Bool, true, false, cond, Option, Some, None}
 use Rattle.std.proofs.Common.{IsTrue, IsFalse, List, [], ◌∷◌, ◌++◌, length, get_or, set, refl, sym, ap, ◌∙◌, subst}
 use Rattle.std.proofs.Common.{arith, replicate}
-use Rattle.std.specs.Prelude.{IfSome, nat_lt, if◌then◌else◌}
+use Rattle.std.specs.Prelude.{IfSome, IsSome, is_none, nat_lt, if◌then◌else◌}
 use Rattle.std.specs.Bool.{then_some}
 use Rattle.std.specs.Option.{option_map_or, option_or}
 use Rattle.std.proofs.lemmas.Bool.{eqb-true, eqb-false, leb-false, lt-ltb, not-false}
@@ -16,8 +16,8 @@ use Rattle.sixel_model.specs.Events.{Definition, columns_of, definition_where, i
 use Rattle.sixel_model.specs.Events.{is_painting, is_return, named_by, select_of}
 use Rattle.sixel_model.specs.Geometry.{band, column}
 use Rattle.sixel_model.specs.Positions.{latest, since, any_at, any_below}
-use Rattle.sixel_model.specs.Rules.{Breaks, breaks_colour_value, breaks_eight_bit, breaks_register, definition_of}
-use Rattle.sixel_model.specs.Rules.{gives_colour}
+use Rattle.sixel_model.specs.Rules.{Breaks, breaks_colour_value, breaks_eight_bit, breaks_register, breaks_undefined}
+use Rattle.sixel_model.specs.Rules.{definition_of, gives_colour}
 use Rattle.sixel_model.specs.RuleNumbers.{eight_bit_rule}
 use Rattle.sixel_model.specs.Rules.{is_painted_in, is_that, known, known_by, palette_left, colour_of}
 use Rattle.sixel_model.proofs.LeftLemmas.{left_define, left_idle, left_start, length_left}
@@ -74,6 +74,37 @@ unfolding breaks_register breaks_colour_value
 defined_good registers (Step (Define register system x y z)) r h k =
     where_good (register == r) register r _ refl (leb-false registers register h) (not-false _ k)
 defined_good registers _ r h k = tt
+
+-- a register that is painted in, by the event or before it, has a definition before the event
+defined_by : (b : Bool) (o : Option ℕ) (r : ℕ) (f : ℕ → Option Definition) (p : Bool)
+    → (b && option_map_or (λ q. is_none (f q)) o false) ≡ false → (IsTrue p → IsSome (f r))
+    → IsTrue ((b && is_that r o) || p) → IsSome (f r)
+defined_by false o r f p h before k = before k
+defined_by true None r f p h before k = before k
+defined_by true (Some q) r f p h before k = split (q == r) refl k
+  where
+    some_of : (o : Option Definition) → is_none o ≡ false → IsSome o
+    some_of None h = cc
+    some_of (Some d) h = refl
+
+    split : (b : Bool) → (q == r) ≡ b → IsTrue (b || p) → IsSome (f r)
+    split true e k = subst (λ (i : ℕ). IsSome (f i)) (eqb-true q r e) (some_of (f q) h)
+    split false e k = before k
+
+some_or : {A : Type 0} (o p : Option A) → IsSome p → IsSome (option_or o p)
+some_or None p h = h
+some_or (Some x) p h = refl
+
+-- the same after an event that keeps Undefined
+defined_push : (before : List Event) (e : Event) (r : ℕ) → IsFalse (breaks_undefined before e)
+    → (IsTrue (is_painted_in before r) → IsSome (definition_of before r)) → IsTrue (is_painted_in (before ++ e ∷ []) r)
+    → IsSome (definition_of (before ++ e ∷ []) r)
+unfolding breaks_undefined
+defined_push before e r h defined painted =
+    subst (λ (o : Option Definition). IsSome o) (sym (definition_push before e r))
+    (some_or (definition_where (λ q. q == r) e) (definition_of before r)
+    (defined_by (is_painting e) (known before) r (definition_of before) (is_painted_in before r) h defined
+    (sym (painted_in_push before e r) ∙ painted)))
 
 -- ---- the palette
 
@@ -154,6 +185,7 @@ state_start {registers} palette few h = record {
   named_is = refl;
   palette_is = h ∙ left_start registers;
   in_range = λ r. tt;
+  defined = λ r h. cc;
   bytes = few;
   marks = refl;
   painted_is = λ r lt. get_or-replicate 256 r false false (omega (arith, lt, few));
@@ -191,6 +223,7 @@ state_push {registers} n before e s none =
           subst (λ (o : Option Definition). IfSome o (IsGood registers r)) (sym (definition_push before e r))
           (or_each (IsGood registers r) (definition_where (λ q. q == r) e) (definition_of before r)
           (defined_good _ e r k.register k.colour_value) (s.in_range r));
+      defined = λ r. defined_push before e r k.undefined (s.defined r);
       bytes = s.bytes;
       marks = length_painted (is_painting e) (known_in n) n.painted ∙ s.marks;
       painted_is = λ r lt.

@@ -1,16 +1,16 @@
 -- On the rules that don't look at pixels, and on the lowest-numbered broken one.
 use Rattle.std.proofs.Common.{◌≡◌, ◌≢◌, ℕ, zero, suc, ◌<◌, ◌≤◌, ◌==◌, ◌&&◌, Bool, true, false, Option, Some, None}
-use Rattle.std.proofs.Common.{IsTrue, List, length, get_or, refl, sym, ap, ◌∙◌, subst, arith}
-use Rattle.std.specs.Prelude.{IfSome, not, nat_lt, is_none, is_some, if◌then◌else◌}
+use Rattle.std.proofs.Common.{IsTrue, List, [], ◌∷◌, length, get_or, set, refl, sym, ap, ◌∙◌, subst, arith}
+use Rattle.std.specs.Prelude.{IfSome, IsSome, not, nat_lt, is_none, is_some, if◌then◌else◌}
 use Rattle.std.specs.Option.{option_and_then, option_flatten, option_map_or}
-use Rattle.std.proofs.lemmas.Bool.{eq-eqb, eqb-true, eqb-false, ne_eqb, ltb-true, ltb-false}
+use Rattle.std.proofs.lemmas.Bool.{eq-eqb, eqb-true, eqb-false, ne_eqb, ltb-true, ltb-false, not-false}
 use Rattle.std.proofs.lemmas.Option.{slice_get_past}
 use Rattle.sixel_grammar.specs.declared.command.Command.TheVariants.{Define}
 use Rattle.sixel_grammar.specs.declared.command.Event.{Event}
 use Rattle.sixel_grammar.specs.declared.command.Event.TheVariants.{Step}
 use Rattle.sixel_model.specs.declared.colour.Parts.{Parts}
 use Rattle.sixel_model.specs.declared.colour.Parts.TheVariants.{Rgb, Hls}
-use Rattle.sixel_model.specs.Colours.{palette_at}
+use Rattle.sixel_model.specs.Colours.{colour_in, is_colour, palette_at}
 use Rattle.sixel_model.specs.Events.{Definition, is_painting, is_same_definition}
 use Rattle.sixel_model.specs.Rules.{Breaks, breaks_raster_first, breaks_raster_twice, breaks_ratio, breaks_box_size}
 use Rattle.sixel_model.specs.Rules.{breaks_register, breaks_colour_value, breaks_repeat_zero, breaks_unselected}
@@ -23,12 +23,12 @@ use Rattle.sixel_judge.specs.declared.drawing_state.DrawingState.{DrawingState}
 use Rattle.sixel_judge.specs.declared.rule.Rule.{Rule}
 use Rattle.sixel_judge.specs.declared.rule.Rule.TheVariants.{RasterFirst, RasterTwice, Ratio, BoxSize, Register}
 use Rattle.sixel_judge.specs.declared.rule.Rule.TheVariants.{ColourValue, RepeatZero, Unselected, Undefined, Redefined}
-use Rattle.sixel_judge.specs.Violations.{NoneBelow, is_colour_of, raster_first_in, raster_twice_in, redefined_in}
-use Rattle.sixel_judge.specs.Violations.{rule_in, undefined_in, unselected_in}
+use Rattle.sixel_judge.specs.Violations.{BreaksNoRule, NoneBelow, is_colour_of, raster_first_in, raster_twice_in}
+use Rattle.sixel_judge.specs.Violations.{redefined_in, rule_in, undefined_in, unselected_in}
 use Rattle.sixel_judge.specs.Judging.{IsStateAfter, IsGood}
-use Rattle.sixel_judge.specs.DrawingState.{known_in}
+use Rattle.sixel_judge.specs.DrawingState.{IsColouredIfPainted, known_in, next_painted, next_palette}
 use Rattle.sixel_judge.specs.Verdicts.{IsPixel, number_of}
-use Rattle.sixel_judge.proofs.DrawingStateLemmas.{given, known_below, known_is}
+use Rattle.sixel_judge.proofs.DrawingStateLemmas.{given, keeps, known_below, known_is}
 
 -- ---- the lowest-numbered rule
 
@@ -175,6 +175,97 @@ unfolding breaks_redefined
 redefined_is {registers} n before (Step (Define r k x y z)) s =
     redefined_at n before r k x y z s (nat_lt r registers) refl
 redefined_is {registers} n before _ s = refl
+
+-- ---- a definition that repeats the colour of its register
+
+-- an event that breaks no rule redefines nothing; what it paints, moves and names doesn't matter to that
+pub none_redefined : {registers : ℕ} (n m : DrawingState) (before : List Event) (e : Event)
+    → IsStateAfter registers n before → BreaksNoRule registers before e → m.palette ≡ n.palette
+    → m.painted ≡ next_painted n e → redefined_in m e ≡ false
+none_redefined n m before e s none palette painted =
+    moved n m e palette painted ∙ redefined_is n before e s ∙ (keeps before e none).redefined
+  where
+    moved : (n m : DrawingState) (e : Event) → m.palette ≡ n.palette → m.painted ≡ next_painted n e
+        → redefined_in m e ≡ redefined_in n e
+    moved n m (Step (Define r s x y z)) palette painted = rw (palette, painted) refl
+    moved n m e palette painted = refl
+
+not_none : {A : Type 0} (o : Option A) → is_none o ≡ false → IsSome o
+not_none None h = cc
+not_none (Some x) h = refl
+
+has : {A : Type 0} (o : Option A) → IsSome o → is_none o ≡ false
+has None h = cc
+has (Some x) h = refl
+
+-- a register that a command painted in has a colour
+painted_coloured : {registers : ℕ} (n : DrawingState) (before : List Event) (r : ℕ) → IsStateAfter registers n before
+    → IsTrue (get_or n.painted r false) → r < length n.palette → IsSome (palette_at n.palette r)
+painted_coloured {registers} n before r s painted lt =
+    let low : r < registers = rw (s.palette_is, length_left registers before) at lt in
+    let defined : IsSome (definition_of before r) = s.defined r (sym (s.painted_is r low) ∙ painted) in
+    not_none (palette_at n.palette r)
+    (ap is_none (colour_by_state n before r s low)
+    ∙ defined_none registers r (definition_of before r) (s.in_range r) ∙ has (definition_of before r) defined)
+
+pub coloured_if_painted : {registers : ℕ} (n m : DrawingState) (before : List Event) (e : Event)
+    → IsStateAfter registers n before → m.palette ≡ n.palette → m.painted ≡ next_painted n e → IsColouredIfPainted m e
+coloured_if_painted n m before (Step (Define r s x y z)) h palette painted =
+    rw (palette, painted) (λ p lt. painted_coloured n before r h p lt)
+coloured_if_painted n m before e h palette painted = tt
+
+four : (a b c d : Bool) → (a && b && c && d) ≡ true → (a ≡ true) × (b ≡ true) × (c ≡ true) × (d ≡ true)
+four true true true true h = (refl, refl, refl, refl)
+four true true true false h = cc
+four true true false d h = cc
+four true false c d h = cc
+four false b c d h = cc
+
+-- a colour is the one with its coordinates in its system
+with_coordinates : (c : Parts) (s x y z : ℕ) → is_colour_of c s x y z ≡ true → colour_in s x y z ≡ Some c
+with_coordinates (Rgb red green blue) s x y z h =
+    let parts = four (s == 2) (red == x) (green == y) (blue == z) h in
+    rw (eqb-true s 2 parts.0, eqb-true red x parts.1, eqb-true green y parts.2, eqb-true blue z parts.3) refl
+with_coordinates (Hls hue lightness saturation) s x y z h =
+    let parts = four (s == 1) (hue == x) (lightness == y) (saturation == z) h in
+    rw (eqb-true s 1 parts.0, eqb-true hue x parts.1, eqb-true lightness y parts.2, eqb-true saturation z parts.3) refl
+
+-- setting a register to the colour that it has changes nothing
+set_again : (palette : List (Option Parts)) (r : ℕ) (c : Parts) → palette_at palette r ≡ Some c
+    → set palette r (Some c) ≡ palette
+set_again [] r c h = cc
+set_again (x ∷ palette) zero c h = ap (λ (o : Option Parts). o ∷ palette) (sym h)
+set_again (x ∷ palette) (suc r) c h = ap (λ (p : List (Option Parts)). x ∷ p) (set_again palette r c h)
+
+set_within : (palette : List (Option Parts)) (r : ℕ) (c : Parts) (low good : Bool) → palette_at palette r ≡ Some c
+    → (if low then option_map_or (λ c. set palette r (Some c)) (if good then Some c else None) palette else palette)
+    ≡ palette
+set_within palette r c true true h = set_again palette r c h
+set_within palette r c true false h = refl
+set_within palette r c false good h = refl
+
+-- a definition that redefines nothing leaves the palette as it is, if its register has a colour and was painted in
+repeated : (n : DrawingState) (r s x y z : ℕ) → redefined_in n (Step (Define r s x y z)) ≡ false
+    → get_or n.painted r false ≡ true → IsSome (palette_at n.palette r)
+    → next_palette n (Step (Define r s x y z)) ≡ n.palette
+repeated n r s x y z none painted coloured = split (palette_at n.palette r) refl
+  where
+    split : (o : Option Parts) → palette_at n.palette r ≡ o → next_palette n (Step (Define r s x y z)) ≡ n.palette
+    split None h = let nothing : is_some (palette_at n.palette r) ≡ false = ap is_some h in cc
+    split (Some c) h =
+        let same : is_colour_of c s x y z ≡ true = not-false _ (rw (painted, h) at none) in
+        ap (λ (o : Option Parts). if nat_lt r (length n.palette)
+        then option_map_or (λ c. set n.palette r (Some c)) (option_and_then (λ c. if is_colour c then Some c else None) o)
+        n.palette else n.palette) (with_coordinates c s x y z same)
+        ∙ set_within n.palette r c (nat_lt r (length n.palette)) (is_colour c) h
+
+pub repeats : (n : DrawingState) (e : Event) (r s x y z : ℕ) → e ≡ Step (Define r s x y z) → redefined_in n e ≡ false
+    → get_or n.painted r false ≡ true → IsSome (palette_at n.palette r)
+    → n ≡ record n { palette = next_palette n e }
+repeats n e r s x y z is none painted coloured =
+    let stays : next_palette n e ≡ n.palette =
+    rw is (repeated n r s x y z (rw is at none) painted coloured) in
+    ap (λ (p : List (Option Parts)). record n { palette = p }) (sym stays)
 
 -- ---- the first of the ten
 

@@ -1,12 +1,12 @@
 -- How an event that breaks no rule changes the drawing state.
 use Rattle.std.specs.Prelude.{◌+◌, ◌<◌, ◌≤◌, ℕ, Bool, true, Option, Some, None, List, IfSome, length, nat_lt, slice_set}
-use Rattle.std.specs.Prelude.{if◌then◌else◌}
+use Rattle.std.specs.Prelude.{false, IsSome, IsTrue, slice_index_or, if◌then◌else◌}
 use Rattle.std.specs.Option.{option_and_then, option_map_or, option_or}
 use Rattle.sixel_grammar.specs.declared.command.Event.{Event}
 use Rattle.sixel_grammar.specs.declared.command.Event.TheVariants.{Step}
 use Rattle.sixel_grammar.specs.declared.command.Command.TheVariants.{Define}
 use Rattle.sixel_model.specs.declared.colour.Parts.{Parts}
-use Rattle.sixel_model.specs.Colours.{colour_in, is_colour}
+use Rattle.sixel_model.specs.Colours.{colour_in, is_colour, palette_at}
 use Rattle.sixel_model.specs.Events.{columns_of, is_next_line, is_painting, is_return, named_by, select_of}
 use Rattle.sixel_model.specs.Rules.{known_by}
 use Rattle.sixel_judge.specs.declared.drawing_state.DrawingState.{DrawingState}
@@ -41,6 +41,13 @@ next_palette n (Step (Define register system x y z)) =
     then option_map_or (λ c. slice_set n.palette register (Some c)) (colour_within system x y z) n.palette
     else n.palette
 next_palette n _ = n.palette
+
+-- if the event defines a register that a command painted in, the register has a colour
+abbrev pub IsColouredIfPainted : DrawingState → Event → Type 0
+IsColouredIfPainted n (Step (Define register system x y z)) =
+    IsTrue (slice_index_or n.painted register false) → register < length n.palette
+    → IsSome (palette_at n.palette register)
+IsColouredIfPainted n _ = Unit {0}
 
 abbrev pub next_painted : DrawingState → Event → List Bool
 next_painted n e =

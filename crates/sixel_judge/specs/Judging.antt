@@ -44,8 +44,8 @@ IsGridAfter (Some s) events = IsDrawn s events
 abbrev pub IsGood : ℕ → ℕ → Definition → Type 0
 IsGood registers r d = (r < registers) × IsTrue (gives_colour d)
 
--- the drawing state after these events; the selected register and the last definitions are in range, and there are at
--- most 256 registers
+-- the drawing state after these events; the selected register and the last definitions are in range, a register that a
+-- command painted in has a definition, and there are at most 256 registers
 pub record IsStateAfter (registers : ℕ) (state : DrawingState) (events : List Event) : Type 0 where
   pub column_is : state.column ≡ capped (column 0 events)
   pub band_is : state.band ≡ capped (band events)
@@ -54,6 +54,7 @@ pub record IsStateAfter (registers : ℕ) (state : DrawingState) (events : List 
   pub named_is : state.named ≡ latest named_by events
   pub palette_is : state.palette ≡ palette_left registers events
   pub in_range : (r : ℕ) → IfSome (definition_of events r) (IsGood registers r)
+  pub defined : (r : ℕ) → IsTrue (is_painted_in events r) → IsSome (definition_of events r)
   pub bytes : registers ≤ 256
   pub marks : length state.painted ≡ 256
   pub painted_is : (r : ℕ) → r < registers → slice_index_or state.painted r false ≡ is_painted_in events r

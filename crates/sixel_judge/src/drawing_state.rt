@@ -5,7 +5,7 @@ ghost use Rattle.std.specs.Prelude.{None, false, slice_index_or, true};
 ghost use Rattle.sixel_model.specs.Colours.{palette_at};
 ghost use Rattle.sixel_grammar.specs.declared.command.Event.{Event as EventValue};
 ghost use Rattle.sixel_model.specs.Profiles.{count_of};
-ghost use Rattle.sixel_judge.specs.Violations.{BreaksNoRule};
+ghost use Rattle.sixel_judge.specs.Violations.{BreaksNoRule, redefined_in};
 
 use crate::colours::colour_in;
 use crate::events::{columns_of, is_next_line, is_painting, is_return, named_by, select_of};
@@ -31,7 +31,7 @@ pub(crate) struct DrawingState {
 
 impl DrawingState {
     ghost use Rattle.sixel_judge.specs.Judging.{IsStateAfter};
-    ghost use Rattle.sixel_judge.specs.DrawingState.{IsBelow, known_in, next_band, next_column, next_named};
+    ghost use Rattle.sixel_judge.specs.DrawingState.{IsBelow, IsColouredIfPainted, known_in, next_band, next_column, next_named};
     ghost use Rattle.sixel_judge.specs.DrawingState.{next_painted, next_palette, next_selected};
 
     /// The state before any event.
@@ -102,11 +102,14 @@ impl DrawingState {
         }
     }
 
+    /// Sets the colour of a definition that breaks no rule. If a command painted in the register, the definition
+    /// repeats its colour, and nothing changes.
     #[inline(always)]
     fn define(&mut self, event: &Event)
-        ensures { self.new ≡ record self.old { palette = next_palette self.old event.now } }
+        ensures { redefined_in self.old event.now ≡ false → IsColouredIfPainted self.old event.now
+            → self.new ≡ record self.old { palette = next_palette self.old event.now } }
     {
-        if let Event::Step(
+        let Event::Step(
             Command::Define {
                 register,
                 system,
@@ -115,9 +118,16 @@ impl DrawingState {
                 z,
             },
         ) = event
-            && *register < self.palette.profile().count()
-            && let Some(colour) = colour_in(*system, *x, *y, *z)
-        {
+        else {
+            return;
+        };
+        if *register >= self.palette.profile().count() {
+            return;
+        }
+        if self.painted[*register as usize] {
+            return;
+        }
+        if let Some(colour) = colour_in(*system, *x, *y, *z) {
             self.palette.set(*register as u8, colour);
         }
     }

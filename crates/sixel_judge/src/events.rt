@@ -8,7 +8,7 @@ ghost use Rattle.sixel_judge.specs.Standing.{is_start as start_test};
 
 use sixel_grammar::{Command, Event};
 
-/// The bits of a sixel or repeat; 0 for any other event.
+/// The bits of a sixel or a repeat: bit 0 is the top pixel. 0 for any other event.
 pub fn bits_of(event: &Event) -> u8
     ensures value { result ≡ said.bits_of event.now }
     ensures below { IsSpellable event.now → result ≤ 63 }
@@ -20,7 +20,7 @@ pub fn bits_of(event: &Event) -> u8
     }
 }
 
-/// The number of columns of a sixel or repeat; 0 for any other event.
+/// The number of columns of a sixel or a repeat; 0 for any other event.
 pub fn columns_of(event: &Event) -> u16
     ensures { result ≡ said.columns_of 0 event.now }
 {
@@ -31,13 +31,14 @@ pub fn columns_of(event: &Event) -> u16
     }
 }
 
-/// Whether it is a sixel or repeat with at least one of the six bits set.
+/// Whether it is a sixel or a repeat with at least one of the six bits set. A repeat of 0 is one too.
 pub fn is_painting(event: &Event) -> bool
     ensures { result ≡ said.is_painting event.now }
 {
     bits_of(event) % 64 != 0
 }
 
+/// Whether it is a sixel or a repeat.
 pub fn is_data_command(event: &Event) -> bool
     ensures { result ≡ said.is_data_command event.now }
 {
@@ -47,6 +48,7 @@ pub fn is_data_command(event: &Event) -> bool
     )
 }
 
+/// Whether it is a repeat whose count is 0.
 pub fn is_repeat_of_zero(event: &Event) -> bool
     ensures { result ≡ said.is_repeat_of_zero event.now }
 {
@@ -56,13 +58,14 @@ pub fn is_repeat_of_zero(event: &Event) -> bool
     }
 }
 
+/// Whether it goes to the next band.
 pub fn is_next_line(event: &Event) -> bool
     ensures { result ≡ said.is_next_line event.now }
 {
     matches!(event, Event::Step(Command::NextLine))
 }
 
-/// Whether it goes to the left margin.
+/// Whether it goes to the left margin, in the same band or the next.
 pub fn is_return(event: &Event) -> bool
     ensures { result ≡ said.is_return event.now }
 {
@@ -72,13 +75,14 @@ pub fn is_return(event: &Event) -> bool
     )
 }
 
+/// Whether it is the terminator.
 pub fn is_finish(event: &Event) -> bool
     ensures { result ≡ said.is_finish event.now }
 {
     matches!(event, Event::Finish { .. })
 }
 
-/// Whether it is a start or a finish written as an 8-bit control.
+/// Whether it is an introducer or a terminator that is written as an 8-bit control.
 pub fn is_eight_bit(event: &Event) -> bool
     ensures { result ≡ said.is_eight_bit event.now }
 {
@@ -88,7 +92,7 @@ pub fn is_eight_bit(event: &Event) -> bool
     )
 }
 
-/// The register that a select names.
+/// The register that a select names, whether or not the profile has it.
 pub fn select_of(event: &Event) -> Option<u16>
     ensures { result ≡ said.select_of event.now }
 {
@@ -98,7 +102,7 @@ pub fn select_of(event: &Event) -> Option<u16>
     }
 }
 
-/// The register that a select or a definition names.
+/// The register that a select or a definition names, whether or not the profile has it.
 pub fn named_by(event: &Event) -> Option<u16>
     ensures { result ≡ said.named_by event.now }
 {
@@ -109,13 +113,14 @@ pub fn named_by(event: &Event) -> Option<u16>
     }
 }
 
+/// Whether it is raster attributes.
 pub fn is_raster(event: &Event) -> bool
     ensures { result ≡ is_some (said.raster_of event.now) }
 {
     matches!(event, Event::Step(Command::Raster { .. }))
 }
 
-/// The width and the height of the box that raster attributes declare.
+/// The width and the height in pixels of the box that raster attributes declare, in range or not.
 pub fn sides_of(event: &Event) -> Option<(u32, u32)>
     ensures { result ≡ option_map (λ a. (a.width, a.height)) (said.raster_of event.now) }
 {
@@ -125,6 +130,7 @@ pub fn sides_of(event: &Event) -> Option<(u32, u32)>
     }
 }
 
+/// Whether it is the introducer.
 pub fn is_start(event: &Event) -> bool
     ensures { result ≡ start_test event.now }
 {

@@ -1,6 +1,7 @@
 -- The covered pixels after one more event.
-use Rattle.std.proofs.Common.{◌≡◌, ◌<◌, ◌≤◌, ◌+◌, ◌-◌, ◌*◌, ◌/◌, ◌%◌, ◌^◌, ◌&&◌, ◌||◌, ℕ, suc, Bool, true, false, not, min, Option}
-use Rattle.std.proofs.Common.{Some, None, List, [], ◌∷◌, ◌++◌, length, take, refl, sym, ap, ap₂, subst, ◌∙◌, arith, map, cond, zero, ◌⊎◌, inl, inr}
+use Rattle.std.proofs.Common.{◌≡◌, ◌<◌, ◌≤◌, ◌+◌, ◌-◌, ◌*◌, ◌/◌, ◌%◌, ◌^◌, ◌&&◌, ◌||◌, ℕ, suc, Bool, true, false, not}
+use Rattle.std.proofs.Common.{min, Option, Some, None, List, [], ◌∷◌, ◌++◌, length, take, refl, sym, ap, ap₂, subst}
+use Rattle.std.proofs.Common.{◌∙◌, arith, map, cond, zero, ◌⊎◌, inl, inr}
 use Rattle.std.specs.Prelude.{IsSomeAnd, IsTrue, bit_and, count_by, filter, is_none, is_some, nat_le}
 use Rattle.std.specs.Prelude.{unwrap_or, if◌then◌else◌}
 use Rattle.std.specs.Int.{bit_at}
@@ -39,8 +40,8 @@ use Rattle.sixel_survey.proofs.TellLemmas.{Passes, passes_somewhere}
 -- ---- before the box is declared
 
 -- if no command painted, no point is covered
-pub early_item : (before : List Event) (p : Passes (λ earlier e. is_painting e && is_none (raster_before earlier)) before)
-    → paints_early before ≡ true
+pub early_item : (before : List Event)
+    (p : Passes (λ earlier e. is_painting e && is_none (raster_before earlier)) before) → paints_early before ≡ true
 unfolding paints_early any_at
 early_item before p =
     let test = λ (earlier : List Event) (e : Event). is_painting e && is_none (raster_before earlier) in
@@ -82,7 +83,8 @@ no_bits e a is = of_event e is
 late_before : (before : List Event) (e : Event) → paints_early (before ++ e ∷ []) ≡ false
     → paints_early before ≡ false
 late_before before e late =
-    (or_parts (is_painting e && is_none (raster_before before)) (paints_early before) (sym (early_push before e) ∙ late)).1
+    (or_parts (is_painting e && is_none (raster_before before)) (paints_early before)
+    (sym (early_push before e) ∙ late)).1
 
 -- the first raster attributes, with both sides in range
 pub cover_first : (before : List Event) (e : Event) (a : Attributes) → raster_before before ≡ None

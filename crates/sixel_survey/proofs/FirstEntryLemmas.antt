@@ -88,17 +88,17 @@ record Listed (registers : ℕ) (placed : List Placed) (f : Rule → Option Entr
   is_entry : IsEntryAt registers placed e at
   is_listed : f e.rule ≡ Some e
 
-listed_as : (registers : ℕ) (placed : List Placed) (f : Rule → Option Entry) (rule : Rule) (e : Entry) (o : Option Entry)
-    → f rule ≡ o → o ≡ Some e → IsEntryOf registers placed rule o → Listed registers placed f e
+listed_as : (registers : ℕ) (placed : List Placed) (f : Rule → Option Entry) (rule : Rule) (e : Entry)
+    (o : Option Entry) → f rule ≡ o → o ≡ Some e → IsEntryOf registers placed rule o → Listed registers placed f e
 listed_as registers placed f rule e None is same h = cc
 listed_as registers placed f rule e (Some d) is same h =
     let one : d ≡ e = cc in
     subst (Listed registers placed f) one
     (record { at = h.1; is_entry = h.2; is_listed = ap f h.0 ∙ is })
 
--- each entry of a entries is one
-listed : (registers : ℕ) (placed : List Placed) (entries : List Entry) (s : AreEntries registers placed entries) (e : Entry)
-    → Contains entries e → Listed registers placed s.entry_of e
+-- each of the entries is one
+listed : (registers : ℕ) (placed : List Placed) (entries : List Entry) (s : AreEntries registers placed entries)
+    (e : Entry) → Contains entries e → Listed registers placed s.entry_of e
 listed registers placed entries s e h =
     let result = All-contains (IsResult s.entry_of) (filter_map s.entry_of all_rules) e
     (All-from_recursion (IsResult s.entry_of) (filter_map s.entry_of all_rules) (results s.entry_of all_rules))
@@ -195,8 +195,9 @@ place_order registers placed bytes e d i j document at other late =
 
 -- the entry of the first broken rule is the first entry
 first_entry : (registers : ℕ) (placed : List Placed) (bytes : List ℕ) (entries : List Entry)
-    (s : AreEntries registers placed entries) (f : Finding) (i : ℕ) → Document placed bytes → IsFinding registers placed f i
-    → (e : Found registers placed f i (s.entry_of f.rule)) → IsFirstEntry entries e.entry
+    (s : AreEntries registers placed entries) (f : Finding) (i : ℕ) → Document placed bytes
+    → IsFinding registers placed f i → (e : Found registers placed f i (s.entry_of f.rule))
+    → IsFirstEntry entries e.entry
 first_entry registers placed bytes entries s f i document is e =
     let order = λ (d : Entry) (l : Listed registers placed s.entry_of d).
     place_order registers placed bytes e.entry d i l.at document e.is_entry l.is_entry
@@ -246,8 +247,8 @@ entry_of_first : (registers : ℕ) (placed : List Placed) (entries : List Entry)
 entry_of_first registers placed entries s f i is =
     finding_entry registers placed f i (s.entry_of f.rule) is (s.each f.rule)
 
-pub none_if_empty : (registers : ℕ) (placed : List Placed) (entries : List Entry) (s : AreEntries registers placed entries)
-    (v : Verdict) → entries ≡ [] → IsVerdict registers placed v
+pub none_if_empty : (registers : ℕ) (placed : List Placed) (entries : List Entry)
+    (s : AreEntries registers placed entries) (v : Verdict) → entries ≡ [] → IsVerdict registers placed v
     → BreaksNone registers last_rule (events_of placed)
 none_if_empty registers placed entries s (Portable p) none is = is.0
 none_if_empty registers placed entries s (Broken f) none is =
@@ -291,8 +292,8 @@ first_rules entries e d f g =
     f.among (sym place) in
     same_rule e.rule d.rule (omega (arith, fewer, more))
 
-verdict_of : (registers : ℕ) (events : List Placed) (bytes : List ℕ) (entries : List Entry) (entry : Entry) (v : Verdict)
-    → Document events bytes → AreEntries registers events entries → IsFirstEntry entries entry
+verdict_of : (registers : ℕ) (events : List Placed) (bytes : List ℕ) (entries : List Entry) (entry : Entry)
+    (v : Verdict) → Document events bytes → AreEntries registers events entries → IsFirstEntry entries entry
     → IsVerdict registers events v → IsVerdict registers events (Broken (finding_of entry))
 verdict_of registers events bytes entries entry (Portable p) document s first is =
     absurd (not_among_none entries entry (no_entries registers events entries s is.0) first.among)

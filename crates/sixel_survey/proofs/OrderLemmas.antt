@@ -1,7 +1,7 @@
 -- The first of some entries, one by one.
-use Rattle.std.proofs.Common.{◌≡◌, ◌==◌, ◌<◌, ◌≤◌, ◌+◌, ◌&&◌, ◌||◌, ◌⊎◌, ℕ, Bool, true, false, inl, inr, Option, Some, None}
-use Rattle.std.proofs.Common.{List, [], ◌∷◌, ◌++◌, length, get_or, take, refl, sym, ap, subst, ◌∙◌, arith}
-use Rattle.std.specs.Prelude.{All, Contains, MatchOption, nat_lt, if◌then◌else◌}
+use Rattle.std.proofs.Common.{◌≡◌, ◌==◌, ◌<◌, ◌≤◌, ◌+◌, ◌⊎◌, ℕ, Bool, true, false, inl, inr, Option, Some}
+use Rattle.std.proofs.Common.{None, List, [], ◌∷◌, ◌++◌, length, get_or, take, sym, ap, subst, ◌∙◌, arith}
+use Rattle.std.specs.Prelude.{MatchOption, nat_lt, if◌then◌else◌}
 use Rattle.std.specs.Option.{option_map_or}
 use Rattle.std.proofs.lemmas.Bool.{and_from, and_parts, eq-eqb, eqb-true, lt-ltb, ltb-true, or_cases, or_left, or_right}
 use Rattle.std.proofs.lemmas.List.{take_more}
@@ -47,7 +47,8 @@ first_new : (entries : List Entry) (e b : Entry) → IsFirstEntry entries b → 
     → IsFirstEntry (entries ++ e ∷ []) e
 first_new entries e b f h =
     let order = earlier_parts e b h in
-    let at_most : e.place ≤ b.place = elim order [ inl lt ↦ omega (arith, lt) | inr beside ↦ omega (arith, beside.0) ] in
+    let at_most : e.place ≤ b.place =
+    elim order [ inl lt ↦ omega (arith, lt) | inr beside ↦ omega (arith, beside.0) ] in
     let below : e.place ≡ b.place → number_of e.rule < number_of b.rule = λ same.
     elim order [ inl lt ↦ absurd (omega (arith, lt, same)) | inr beside ↦ beside.1 ] in
     record {
@@ -74,8 +75,9 @@ first_stays entries e b f h =
           f.least_number order.1;
     }
 
-first_push : (entries : List Entry) (e : Entry) (o : Option Entry) (b : Bool) → option_map_or (comes_before e) o true ≡ b
-    → IsFirstOf entries o → IsFirstOf (entries ++ e ∷ []) (if b then Some e else o)
+first_push : (entries : List Entry) (e : Entry) (o : Option Entry) (b : Bool)
+    → option_map_or (comes_before e) o true ≡ b → IsFirstOf entries o
+    → IsFirstOf (entries ++ e ∷ []) (if b then Some e else o)
 first_push entries e None true h none =
     subst (λ (l : List Entry). IsFirstEntry (l ++ e ∷ []) e) (sym none) (first_alone e)
 first_push entries e None false h none = cc

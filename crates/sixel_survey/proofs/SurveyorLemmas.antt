@@ -1,7 +1,7 @@
 -- The tallies of all rules, and the survey that they make.
 use Rattle.std.proofs.Common.{◌≡◌, ◌≢◌, ◌==◌, ◌<◌, ◌≤◌, ◌+◌, ◌-◌, ◌⊎◌, ℕ, zero, suc, true, false, inl, inr, Option}
-use Rattle.std.proofs.Common.{Some, None, List, [], ◌∷◌, ◌++◌, length, get_or, set, take, refl, sym, ap, subst, ◌∙◌, arith}
-use Rattle.std.proofs.Common.{length-append, not, ◌&&◌, ap₂, replicate}
+use Rattle.std.proofs.Common.{Some, None, List, [], ◌∷◌, ◌++◌, length, get_or, set, take, refl, sym, ap, subst, ◌∙◌}
+use Rattle.std.proofs.Common.{arith, length-append, not, ◌&&◌, ap₂, replicate}
 use Rattle.std.specs.Prelude.{IsSome, filter_map, is_none, slice_get}
 use Rattle.std.specs.Option.{option_flatten, option_map, option_map_or, option_to_list}
 use Rattle.std.proofs.lemmas.List.{take_more}
@@ -289,8 +289,8 @@ plain_entry registers seen bytes t i d other at =
     (often_plain registers t.rule (events_of seen) t.count other (exact registers seen bytes t i d at))
 
 -- the entry that a tally makes
-pub entry_of_tally : (registers : ℕ) (seen : List Placed) (bytes : List ℕ) (grid : Option Grid) (blank : ℕ) (rule : Rule)
-    (o : Option Entry) → Document seen bytes → IsCoverAfter grid (events_of seen)
+pub entry_of_tally : (registers : ℕ) (seen : List Placed) (bytes : List ℕ) (grid : Option Grid) (blank : ℕ)
+    (rule : Rule) (o : Option Entry) → Document seen bytes → IsCoverAfter grid (events_of seen)
     → blank ≡ option_map_or blank_cells grid 0 → IsTallyOf registers seen rule o
     → IsEntryOf registers seen rule (option_map (entry_from blank rule) o)
 entry_of_tally registers seen bytes grid blank rule None d cover is h = h
@@ -402,10 +402,6 @@ kept_more {Y = Y} f xs i j d o lt next is =
     ∙ ap (filter_map f) (take_more xs i d lt)
     ∙ filter_map-append f (take i xs) (get_or xs i d ∷ [])
     ∙ ap (λ (l : List Y). filter_map f (take i xs) ++ l) (cons_one (f (get_or xs i d)) ∙ ap option_to_list (sym is))
-
-pub no_items : {X : Type 0} (xs : List X) → length xs ≡ 0 → xs ≡ []
-no_items [] h = refl
-no_items (x ∷ xs) h = absurd (omega (arith, h))
 
 -- ---- before any event
 

@@ -3,8 +3,8 @@
 -- A rule counts where it's broken, except where another rule tells the same mistake:
 -- `Register` tells of a register that the profile doesn't have, `BoxSize` of a box with a side out of range, and
 -- `RasterFirst` of a command that paints before the box is declared.
-use Rattle.std.specs.Prelude.{◌≡◌, ◌↔◌, ℕ, Bool, true, false, not, ◌&&◌, Option, IsSomeAnd, IsTrue, List, filter, length}
-use Rattle.std.specs.Prelude.{is_none, nat_lt}
+use Rattle.std.specs.Prelude.{◌≡◌, ◌↔◌, ℕ, Bool, true, false, not, ◌&&◌, Option, IsSomeAnd, IsTrue, List, filter}
+use Rattle.std.specs.Prelude.{length, is_none, nat_lt}
 use Rattle.std.specs.List.{range_with_len}
 use Rattle.std.specs.Option.{option_map_or}
 use Rattle.sixel_grammar.specs.declared.command.Event.{Event}

@@ -1,6 +1,6 @@
 -- The pixels of the declared box that the events cover.
-use Rattle.std.specs.Prelude.{◌≡◌, ◌*◌, ◌/◌, ◌%◌, ◌<◌, ◌||◌, ℕ, false, Option, Some, None, IsTrue, List, count_by, length}
-use Rattle.std.specs.Prelude.{is_none, is_some}
+use Rattle.std.specs.Prelude.{◌≡◌, ◌*◌, ◌/◌, ◌%◌, ◌<◌, ◌||◌, ℕ, false, Option, Some, None, IsTrue, List, count_by}
+use Rattle.std.specs.Prelude.{length, is_none, is_some}
 use Rattle.std.specs.List.{range_with_len}
 use Rattle.sixel_grammar.specs.declared.command.Event.{Event}
 use Rattle.sixel_model.specs.Events.{Attributes}

@@ -1,7 +1,7 @@
 //! Covering the pixels of the box.
 
-ghost use Rattle.std.specs.Prelude.{◌≡◌, ◌≤◌, ◌<◌, ◌*◌, ◌+◌, ◌-◌, ◌^◌, ◌++◌, ◌∷◌, [], ℕ, List, IsSomeAnd, IsTrue, OnErr, OnOk};
-ghost use Rattle.std.specs.Prelude.{IfOk, None, false, is_none};
+ghost use Rattle.std.specs.Prelude.{◌≡◌, ◌≤◌, ◌<◌, ◌*◌, ◌+◌, ◌-◌, ◌^◌, ◌++◌, ◌∷◌, [], ℕ, List, IsSomeAnd, IsTrue};
+ghost use Rattle.std.specs.Prelude.{OnErr, OnOk, IfOk, None, false, is_none};
 ghost use Rattle.std.specs.Int.{bit_at};
 ghost use Rattle.std.specs.Option.{option_map};
 ghost use Rattle.sixel_grammar.specs.declared.command.Event.{Event as EventValue};

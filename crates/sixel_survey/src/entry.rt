@@ -4,7 +4,7 @@ use arrayvec::ArrayVec;
 use sixel_judge::Rule;
 
 /// How many rules there are.
-pub const RULES: usize = 13;
+pub const RULE_COUNT: usize = 13;
 
 /// A broken rule: how often it counts, and where it counts first.
 ///
@@ -28,7 +28,7 @@ pub struct Entry {
 #[derive(Debug, Drop)]
 pub struct Survey {
     /// An entry for each rule that counts anywhere, in order of the rules' numbers.
-    pub entries: ArrayVec<Entry, RULES>,
+    pub entries: ArrayVec<Entry, RULE_COUNT>,
     /// The width and the height of the picture in pixels, if there are no entries.
     pub size: Option<(u32, u32)>,
 }

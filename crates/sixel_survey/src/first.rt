@@ -12,21 +12,7 @@ use sixel_judge::{Finding, Rule};
 fn number(rule: Rule) -> u8
     ensures { result ≡ number_of rule }
 {
-    match rule {
-        Rule::RasterFirst => 1,
-        Rule::RasterTwice => 2,
-        Rule::Ratio => 3,
-        Rule::BoxSize => 4,
-        Rule::Register => 5,
-        Rule::ColourValue => 6,
-        Rule::RepeatZero => 7,
-        Rule::Unselected => 8,
-        Rule::Undefined => 9,
-        Rule::Redefined => 10,
-        Rule::Outside => 11,
-        Rule::Uncovered => 12,
-        Rule::EightBit => 13,
-    }
+    rule as u8
 }
 
 /// Whether the entry has a smaller place than the other, or the same place and a smaller number; true without another.

@@ -11,5 +11,5 @@ mod surveying;
 mod surveyor;
 mod tally;
 
-pub use entry::{Entry, RULES, Survey};
+pub use entry::{Entry, RULE_COUNT, Survey};
 pub use surveying::survey;

@@ -1,6 +1,6 @@
 //! Surveying events one by one.
 
-ghost use Rattle.std.specs.Prelude.{◌≡◌, ◌<◌, ◌++◌, ◌∷◌, [], ℕ, List, None, OnErr, OnOk, filter_map, get_or};
+ghost use Rattle.std.specs.Prelude.{◌≡◌, ◌≢◌, ◌<◌, ◌++◌, ◌∷◌, [], ℕ, List, None, OnErr, OnOk, filter_map, get_or};
 ghost use Rattle.sixel_judge.specs.declared.rule.Rule.TheVariants.{EightBit};
 ghost use Rattle.std.specs.Option.{option_map, option_map_or};
 ghost use Rattle.sixel_grammar.specs.declared.command.Placed.{Placed as PlacedValue};
@@ -14,7 +14,7 @@ ghost use Rattle.sixel_survey.specs.Surveys.{IsSurvey, all_rules as rules_in_ord
 ghost use Rattle.sixel_survey.specs.Tallies.{entry_from as entry_made, entry_in};
 
 use crate::cover::{count_blank, draw};
-use crate::entry::{Entry, RULES, Survey};
+use crate::entry::{Entry, RULE_COUNT, Survey};
 use crate::hits::hit_of;
 use crate::notes::Notes;
 use crate::tally::with_event;
@@ -27,36 +27,32 @@ use std::alloc::{AllocError, Global};
 use std::marker::Model;
 
 /// The rules, in order of number.
-fn all_rules() -> [Rule; RULES]
-    ensures { result ≡ rules_in_order }
-{
-    [
-        Rule::RasterFirst,
-        Rule::RasterTwice,
-        Rule::Ratio,
-        Rule::BoxSize,
-        Rule::Register,
-        Rule::ColourValue,
-        Rule::RepeatZero,
-        Rule::Unselected,
-        Rule::Undefined,
-        Rule::Redefined,
-        Rule::Outside,
-        Rule::Uncovered,
-        Rule::EightBit,
-    ]
-}
+const ALL_RULES: [Rule; RULE_COUNT] = [
+    Rule::RasterFirst,
+    Rule::RasterTwice,
+    Rule::Ratio,
+    Rule::BoxSize,
+    Rule::Register,
+    Rule::ColourValue,
+    Rule::RepeatZero,
+    Rule::Unselected,
+    Rule::Undefined,
+    Rule::Redefined,
+    Rule::Outside,
+    Rule::Uncovered,
+    Rule::EightBit,
+];
 
 /// The rule at this place in the order, counted from 0.
 fn rule_at(index: usize) -> Rule
     requires { index < 13 }
     ensures { result ≡ get_or rules_in_order index EightBit }
 {
-    all_rules()[index]
+    ALL_RULES[index]
 }
 
 /// The tally of the rule at this place in the order.
-fn tally_at(tallies: &[Option<Entry>; RULES], index: usize) -> Option<Entry>
+fn tally_at(tallies: &[Option<Entry>; RULE_COUNT], index: usize) -> Option<Entry>
     requires { index < 13 }
     ensures { result ≡ get_or tallies.now index None }
 {
@@ -65,7 +61,7 @@ fn tally_at(tallies: &[Option<Entry>; RULES], index: usize) -> Option<Entry>
 
 /// Counts an event for each rule.
 fn tally<P: Plane>(
-    tallies: &mut [Option<Entry>; RULES],
+    tallies: &mut [Option<Entry>; RULE_COUNT],
     profile: Profile,
     notes: &Notes,
     plane: &Option<P>,
@@ -76,7 +72,7 @@ fn tally<P: Plane>(
         → AreTallies (count_of profile) seen tallies.old
         → AreTallies (count_of profile) (seen ++ placed.now ∷ []) tallies.new }
 {
-    for index in 0..RULES {
+    for index in 0..RULE_COUNT {
         let rule = rule_at(index);
         let hit = hit_of(profile, notes, plane, &placed.event, rule);
         let tally = tally_at(tallies, index);
@@ -98,7 +94,7 @@ fn entry_from(blank: u64, rule: Rule, tally: Entry) -> Entry
 }
 
 /// The entry of the rule at this place in the order, if the rule counted.
-fn entry_at(tallies: &[Option<Entry>; RULES], blank: u64, index: usize) -> Option<Entry>
+fn entry_at(tallies: &[Option<Entry>; RULE_COUNT], blank: u64, index: usize) -> Option<Entry>
     requires { index < 13 }
     ensures { result ≡ entry_in tallies.now blank (get_or rules_in_order index EightBit) }
 {
@@ -109,11 +105,11 @@ fn entry_at(tallies: &[Option<Entry>; RULES], blank: u64, index: usize) -> Optio
 }
 
 /// The entries of the rules that counted, in order of number.
-fn entries_of(tallies: &[Option<Entry>; RULES], blank: u64) -> ArrayVec<Entry, RULES>
+fn entries_of(tallies: &[Option<Entry>; RULE_COUNT], blank: u64) -> ArrayVec<Entry, RULE_COUNT>
     ensures { result.items ≡ filter_map (entry_in tallies.now blank) rules_in_order }
 {
     let mut entries = ArrayVec::new();
-    for index in 0..RULES {
+    for index in 0..RULE_COUNT {
         match entry_at(tallies, blank, index) {
             Some(entry) => entries.push(entry),
             None => {}
@@ -142,6 +138,18 @@ fn size_of<P: Plane>(plane: &Option<P>) -> Option<(u32, u32)>
     }
 }
 
+/// The size of the picture in pixels, which a survey has if it has no entries.
+fn size_without<P: Plane>(entries: &[Entry], plane: &Option<P>) -> Option<(u32, u32)>
+    ensures none { entries.now ≡ [] → result ≡ size_in (option_map P.grid plane.now) }
+    ensures some { entries.now ≢ [] → result ≡ None }
+{
+    if entries.is_empty() {
+        size_of(plane)
+    } else {
+        None
+    }
+}
+
 /// What a survey knows after some events.
 #[derive(Drop)]
 pub(crate) struct Surveyor<P: Plane> {
@@ -150,7 +158,7 @@ pub(crate) struct Surveyor<P: Plane> {
     /// The pixels of the box, from the first raster attributes on, if both sides are in range.
     plane: Option<P>,
     /// For each rule, in order of number: where it counted first, and how often it counted.
-    tallies: [Option<Entry>; RULES],
+    tallies: [Option<Entry>; RULE_COUNT],
 }
 
 impl<P: Plane> Model for Surveyor<P> {
@@ -176,7 +184,7 @@ impl<P: Plane> Surveyor<P> {
             profile,
             notes: Notes::new(),
             plane: None,
-            tallies: [None; RULES],
+            tallies: [None; RULE_COUNT],
         }
     }
 
@@ -207,11 +215,7 @@ impl<P: Plane> Surveyor<P> {
             → Document seen bytes → IsSurvey registers seen result }
     {
         let entries = entries_of(&self.tallies, blank_in(&self.plane));
-        let size = if entries.is_empty() {
-            size_of(&self.plane)
-        } else {
-            None
-        };
+        let size = size_without(entries.as_slice(), &self.plane);
         Survey { entries, size }
     }
 }

@@ -1,4 +1,4 @@
-use Rattle.std.proofs.Common.{◌+◌, ◌<◌, ◌≡◌, ◌∙◌, true, false, length, refl, sym}
+use Rattle.std.proofs.Common.{◌+◌, ◌<◌, ◌∙◌, true, false, length, refl, sym}
 use Rattle.sixel_survey.proofs.OrderLemmas.{first_more}
 use Rattle.sixel_survey.proofs.first.first_entry.Goals as goal
 use Rattle.sixel_survey.proofs.first.first_entry.Goals.{then-is_before, else-is_before}
