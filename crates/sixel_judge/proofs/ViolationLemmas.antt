@@ -254,9 +254,10 @@ repeated n r s x y z none painted coloured = split (palette_at n.palette r) refl
     split None h = let nothing : is_some (palette_at n.palette r) ≡ false = ap is_some h in cc
     split (Some c) h =
         let same : is_colour_of c s x y z ≡ true = not-false _ (rw (painted, h) at none) in
+        let good = λ (c : Parts). if is_colour c then Some c else None in
         ap (λ (o : Option Parts). if nat_lt r (length n.palette)
-        then option_map_or (λ c. set n.palette r (Some c)) (option_and_then (λ c. if is_colour c then Some c else None) o)
-        n.palette else n.palette) (with_coordinates c s x y z same)
+        then option_map_or (λ c. set n.palette r (Some c)) (option_and_then good o) n.palette
+        else n.palette) (with_coordinates c s x y z same)
         ∙ set_within n.palette r c (nat_lt r (length n.palette)) (is_colour c) h
 
 pub repeats : (n : DrawingState) (e : Event) (r s x y z : ℕ) → e ≡ Step (Define r s x y z) → redefined_in n e ≡ false

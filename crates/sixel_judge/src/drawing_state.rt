@@ -31,8 +31,8 @@ pub(crate) struct DrawingState {
 
 impl DrawingState {
     ghost use Rattle.sixel_judge.specs.Judging.{IsStateAfter};
-    ghost use Rattle.sixel_judge.specs.DrawingState.{IsBelow, IsColouredIfPainted, known_in, next_band, next_column, next_named};
-    ghost use Rattle.sixel_judge.specs.DrawingState.{next_painted, next_palette, next_selected};
+    ghost use Rattle.sixel_judge.specs.DrawingState.{IsBelow, IsColouredIfPainted, known_in, next_band, next_column};
+    ghost use Rattle.sixel_judge.specs.DrawingState.{next_named, next_painted, next_palette, next_selected};
 
     /// The state before any event.
     pub(crate) fn new(profile: Profile) -> DrawingState

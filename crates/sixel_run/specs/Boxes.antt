@@ -31,6 +31,11 @@ abbrev pub Finds : Reader → Reader → Option (ℕ × ℕ) → List ℕ → Ty
 Finds old new found more = (events : List Placed) (bytes : List ℕ) → StandsAfter old events bytes
     → (later : List Placed) × StandsAfter new (events ++ later) (bytes ++ more) × (found ≡ box_in (events_of later))
 
+-- the same, whichever box they declare
+abbrev pub Reads : Reader → Reader → List ℕ → Type 0
+Reads old new more = (events : List Placed) (bytes : List ℕ) → StandsAfter old events bytes
+    → (later : List Placed) × StandsAfter new (events ++ later) (bytes ++ more)
+
 -- after some bytes were read, the fault is that of any bytes that begin with those and `more`
 abbrev pub Refuses : Reader → List ℕ → InputFault → Type 0
 Refuses old more fault =

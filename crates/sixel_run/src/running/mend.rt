@@ -6,7 +6,7 @@ ghost use Rattle.sixel_model.specs.Profiles.{count_of};
 ghost use Rattle.sixel_run.specs.declared.fault.RunFault.TheVariants.{Read};
 ghost use Rattle.sixel_run.specs.Outputs.{CountsWrites, MendGives, WroteBy, WroteNothing, failures_by};
 
-use super::show_box::find_box;
+use super::show_box::read_on;
 use crate::fault::RunFault;
 use crate::task::Status;
 use sixel_grammar::{InputFault, Reader};
@@ -55,7 +55,7 @@ fn read_document<S: Source>(alloc: Global, input: &mut S) -> Result<Vec<u8>, Inp
             reader.finish()?;
             return Ok(bytes);
         }
-        find_box(&mut reader, &piece[..count])?;
+        read_on(&mut reader, &piece[..count])?;
         bytes.extend_from_slice(&piece[..count])?;
     }
 }

@@ -1,7 +1,7 @@
 //! Shows a sixel picture on a screen as large as its declared box, as a PPM.
 
 ghost use Rattle.std.specs.Prelude.{◌≡◌, ◌++◌, ◌∷◌, [], ◌<◌, ◌≤◌, ℕ, List, IfErr, IfOk, IfSome, IsTrue, length};
-ghost use Rattle.std.specs.Prelude.{option_map, take};
+ghost use Rattle.std.specs.Prelude.{OnOk, option_map, take};
 ghost use Rattle.std.specs.Option.{option_to_list};
 ghost use Rattle.sixel_grammar.specs.declared.command.Event.{Event as AnEvent};
 ghost use Rattle.sixel_grammar.specs.declared.command.Placed.{Placed as Place};
@@ -13,7 +13,8 @@ ghost use Rattle.sixel_ppm.specs.Ppm.{is_file_side};
 ghost use Rattle.sixel_model.specs.Events.{raster_of};
 ghost use Rattle.sixel_terminal.specs.Displays.{Display};
 ghost use Rattle.sixel_terminal.specs.Drawings.{HasDrawn};
-ghost use Rattle.sixel_run.specs.Boxes.{Finds, HasRead, IsShownInBox, IsStageAfter, Refuses, box_in, terminal_of_kind};
+ghost use Rattle.sixel_run.specs.Boxes.{Finds, HasRead, IsShownInBox, IsStageAfter, Reads, Refuses, box_in};
+ghost use Rattle.sixel_run.specs.Boxes.{terminal_of_kind};
 ghost use Rattle.sixel_run.specs.declared.fault.RunFault.TheVariants.{Read};
 ghost use Rattle.sixel_run.specs.Outputs.{CountsWrites, ShowBoxGives, WroteBy, WroteNothing, failures_by};
 ghost use Rattle.sixel_run.specs.Screens.{screen_terminal, sides_of_box};
@@ -125,7 +126,7 @@ impl Stage {
                 Ok(Stage::Drawn(drawing))
             }
             Stage::Unshowable => {
-                find_box(reader, piece)?;
+                read_on(reader, piece)?;
                 Ok(Stage::Unshowable)
             }
         }
@@ -197,8 +198,17 @@ fn draw_bytes(
     Ok(drawing)
 }
 
+/// Reads the bytes of a piece, whichever box they declare.
+pub fn read_on(reader: &mut Reader, piece: &[u8]) -> Result<(), InputFault>
+    ensures read { OnOk result (Reads reader.old reader.new piece.now) }
+    ensures refused { IfErr result (Refuses reader.old piece.now) }
+{
+    find_box(reader, piece)?;
+    Ok(())
+}
+
 /// Reads the bytes of a piece. Returns the first box that they declare: its width and its height.
-pub fn find_box(reader: &mut Reader, piece: &[u8]) -> Result<Option<(u16, u16)>, InputFault>
+fn find_box(reader: &mut Reader, piece: &[u8]) -> Result<Option<(u16, u16)>, InputFault>
     ensures found { IfOk result (λ found. Finds reader.old reader.new found piece.now) }
     ensures refused { IfErr result (Refuses reader.old piece.now) }
 {

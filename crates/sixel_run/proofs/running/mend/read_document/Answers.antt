@@ -38,26 +38,26 @@ returns-in_err-finish-clause-refused g c =
     (subst (λ t. IsFaultOf t c.in_err-finish.field-0.0) (sym (ap (λ t. bytes ++ t) none ∙ append-nil bytes))
     (c.in_err-finish.ensures.answer i.0 bytes i.1).0))
 
-pub returns-in_err-find_box-clause-refused : goal.returns-in_err-find_box-clause-refused
-returns-in_err-find_box-clause-refused g c =
+pub returns-in_err-read_on-clause-refused : goal.returns-in_err-read_on-clause-refused
+returns-in_err-read_on-clause-refused g c =
     let i = c.loop-bytes.invariant in
     let bytes = c.loop-bytes.bytes.items in
-    let exit = c.from_residual-in_err-find_box in
+    let exit = c.from_residual-in_err-read_on in
     let failed = err_from_is_err_and exit.result exit.ensures.1 in
     rw (failed.1, failed.2)
     (refused_early _ _ _ (bytes ++ take c.in_ok-count.count c.fill.new.piece)
     (consumes-then _ _ _ bytes (take c.in_ok-count.count c.fill.new.piece) i.2 c.in_ok-count.ensures.bytes.0)
-    (c.in_err-find_box.ensures.refused i.0 bytes i.1))
+    (c.in_err-read_on.ensures.refused i.0 bytes i.1))
 
-pub returns-in_err-find_box-clause-failures : goal.returns-in_err-find_box-clause-failures
-returns-in_err-find_box-clause-failures g c =
+pub returns-in_err-read_on-clause-failures : goal.returns-in_err-read_on-clause-failures
+returns-in_err-read_on-clause-failures g c =
     let i = c.loop-bytes.invariant in
-    let exit = c.from_residual-in_err-find_box in
+    let exit = c.from_residual-in_err-read_on in
     let failed = err_from_is_err_and exit.result exit.ensures.1 in
-    let h = c.in_err-find_box.ensures.refused i.0 c.loop-bytes.bytes.items i.1 in
+    let h = c.in_err-read_on.ensures.refused i.0 c.loop-bytes.bytes.items i.1 in
     rw (failed.1, failed.2)
     (◌∙◌ {b = (g.S.Source.state c.loop-bytes.input).failures} c.in_ok-count.ensures.failures i.3
-    ∙ not_failed (Unit {0}) c.in_err-find_box.field-0.0 _ _ h)
+    ∙ not_failed (Unit {0}) c.in_err-read_on.field-0.0 _ _ h)
 
 pub returns-in_err-extend_from_slice-clause-refused : goal.returns-in_err-extend_from_slice-clause-refused
 returns-in_err-extend_from_slice-clause-refused g c =
@@ -69,10 +69,10 @@ pub loop-bytes-preserved : goal.loop-bytes-preserved
 loop-bytes-preserved g c =
     let i = c.loop-bytes.invariant in
     let bytes = c.loop-bytes.bytes.items in
-    let f = c.in_ok-find_box.ensures.found i.0 bytes i.1 in
+    let f = c.in_ok-read_on.ensures.read i.0 bytes i.1 in
     let more = c.in_ok-extend_from_slice.ensures.items in (
       i.0 ++ f.0,
-      subst (StandsAfter c.find_box.new.reader (i.0 ++ f.0)) (sym more) f.1,
+      subst (StandsAfter c.read_on.new.reader (i.0 ++ f.0)) (sym more) f.1,
       subst (Consumes (g.S.Source.state c.args.input.now).remaining (g.S.Source.state c.fill.new.self).remaining)
           (sym more)
           (consumes-then _ _ _ bytes (take c.in_ok-count.count c.fill.new.piece) i.2 c.in_ok-count.ensures.bytes.0),
@@ -96,8 +96,8 @@ loop-bytes-smaller g c =
     let i = c.loop-bytes.invariant in
     let bytes = c.loop-bytes.bytes.items in
     let old : left_of c.loop-bytes.reader + length bytes ≡ most_bytes = i.1.left in
-    let new : left_of c.find_box.new.reader + length (bytes ++ take c.in_ok-count.count c.fill.new.piece) ≡ most_bytes =
-    (c.in_ok-find_box.ensures.found i.0 bytes i.1).1.left in
+    let new : left_of c.read_on.new.reader + length (bytes ++ take c.in_ok-count.count c.fill.new.piece) ≡ most_bytes =
+    (c.in_ok-read_on.ensures.read i.0 bytes i.1).1.left in
     let some : 0 < c.in_ok-count.count = omega arith in
     let long : c.in_ok-count.count ≤ length c.fill.new.piece =
     omega (arith, c.in_ok-count.ensures.bound, c.fill.auto.piece) in

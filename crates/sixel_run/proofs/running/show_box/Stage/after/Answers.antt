@@ -4,19 +4,19 @@ use Rattle.sixel_run.specs.Boxes.{terminal_of_kind}
 use Rattle.sixel_run.proofs.StageLemmas.{drawn-stays, unfit-stays}
 use Rattle.sixel_run.proofs.running.show_box.Stage.after.Goals as goal
 
-pub returns-in_err-find_box-in-Unshowable-clause-refused : goal.returns-in_err-find_box-in-Unshowable-clause-refused
-returns-in_err-find_box-in-Unshowable-clause-refused c =
-    let exit = c.from_residual-in_err-find_box-in-Unshowable in
+pub returns-in_err-read_on-in-Unshowable-clause-refused : goal.returns-in_err-read_on-in-Unshowable-clause-refused
+returns-in_err-read_on-in-Unshowable-clause-refused c =
+    let exit = c.from_residual-in_err-read_on-in-Unshowable in
     let failed = err_from_is_err_and exit.result exit.ensures.1 in
-    rw (failed.1, failed.2) (λ bytes h. c.in_err-find_box-in-Unshowable.ensures.refused h.events bytes h.read)
+    rw (failed.1, failed.2) (λ bytes h. c.in_err-read_on-in-Unshowable.ensures.refused h.events bytes h.read)
 
 pub returns-in_ok-draw_piece-in-Drawn-clause-read : goal.returns-in_ok-draw_piece-in-Drawn-clause-read
 returns-in_ok-draw_piece-in-Drawn-clause-read c = λ bytes h.
     drawn-stays (terminal_of_kind c.args.kind) c.args.reader.now c.draw_piece.new.reader c.in-Drawn.drawing
     c.draw_piece.new.drawing c.args.piece.now bytes c.in_ok-draw_piece-in-Drawn.ensures.drawn (rw c.in-Drawn.is at h)
 
-pub returns-in_ok-find_box-in-Unshowable-clause-read : goal.returns-in_ok-find_box-in-Unshowable-clause-read
-returns-in_ok-find_box-in-Unshowable-clause-read c = λ bytes h.
+pub returns-in_ok-read_on-in-Unshowable-clause-read : goal.returns-in_ok-read_on-in-Unshowable-clause-read
+returns-in_ok-read_on-in-Unshowable-clause-read c = λ bytes h.
     let known = rw c.in-Unshowable.is at h in
-    let f = c.in_ok-find_box-in-Unshowable.ensures.found known.events bytes known.read in
+    let f = c.in_ok-read_on-in-Unshowable.ensures.read known.events bytes known.read in
     record { events = known.events ++ f.0; read = f.1; stands = unfit-stays known.events f.0 known.stands }
