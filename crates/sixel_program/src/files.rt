@@ -65,10 +65,8 @@ fn format_for<S: Source>(task: &Task, input: &mut Peeked<S>) -> Option<Format>
     ensures format { IsFormat (⟦<Peeked<S> as Source>⟧.state input.old).remaining result }
     ensures unread { scans task.now ≡ true → input.new ≡ input.old }
 {
-    if scans(task) {
-        return None;
-    }
-    input.format()
+    let is_scan = scans(task);
+    if is_scan { None } else { input.format() }
 }
 
 /// Runs a task over an input, which has this name or none. Writes to `errors` why the input was refused, or which rule
