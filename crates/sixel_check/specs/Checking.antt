@@ -1,4 +1,4 @@
--- A reader and a checker over the same bytes. Only contracts of private functions cite these.
+-- A reader and a checker over the same bytes. Of public contracts only that of `read_piece` cites these.
 use Rattle.std.specs.Prelude.{◌++◌, ℕ, List, Option, IfSome, IsTrue}
 use Rattle.std.specs.Option.{option_to_list}
 use Rattle.sixel_grammar.specs.Reading.{ExplainsAlways}

@@ -273,8 +273,10 @@ fn read_stretch_or_byte<P: Plane>(
     Ok(stretch.count)
 }
 
-/// Reads the bytes of a piece.
-fn read_piece<P: Plane>(
+/// Reads the bytes of a piece, and pushes the events that they complete. `Grammar`: the fault of the bytes read so far,
+/// whatever follows; the reader and the checker are of no use then. `OutOfMemory`: an allocation for the pixels failed.
+/// Never `Read`.
+pub fn read_piece<P: Plane>(
     reader: &mut Reader,
     checker: &mut Checker<P>,
     piece: &[u8],

@@ -5,6 +5,6 @@
 mod checking;
 pub mod laws;
 
-pub use checking::{check, check_bytes};
+pub use checking::{check, check_bytes, read_piece};
 pub use sixel_judge::{Checker, Finding, Rule, Verdict};
 pub use sixel_survey::{Entry, RULE_COUNT, Survey, survey};

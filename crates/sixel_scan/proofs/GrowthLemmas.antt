@@ -1,12 +1,12 @@
 -- Where a check may allocate: in a string whose opening is complete.
-use Rattle.std.proofs.Common.{◌≡◌, ◌≢◌, ◌∙◌, ℕ, ◌≤◌, inl, inr, Bool, true, false, IsTrue, List, [], ◌∷◌}
+use Rattle.std.proofs.Common.{◌≡◌, ◌≢◌, ◌∙◌, ℕ, ◌≤◌, inl, inr, Bool, true, false, List, [], ◌∷◌}
 use Rattle.std.proofs.Common.{◌++◌, length, take, drop, refl, sym, ap, subst, append_assoc, arith}
 use Rattle.std.specs.List.{AllByRecursion}
-use Rattle.std.specs.Prelude.{Some, nat_le, slice_get, if◌then◌else◌}
+use Rattle.std.specs.Prelude.{Some, nat_le, slice_get}
 use Rattle.std.proofs.lemmas.Bool.Decides.{nat_tests}
 use Rattle.std.proofs.lemmas.List.{append-nil, take-append-drop}
 use Rattle.sixel_grammar.specs.Bytes.{introducer}
-use Rattle.sixel_grammar.specs.Document.{AreWhole, Parses, Piece, bytes_of, events_in, events_of, joined}
+use Rattle.sixel_grammar.specs.Document.{AreWhole, Parses, Piece, bytes_of, events_in, joined}
 use Rattle.sixel_grammar.specs.Prefixes.{complete_from, completed_at}
 use Rattle.sixel_grammar.specs.Spelling.{Spells}
 use Rattle.sixel_grammar.specs.declared.command.Event.{Event}
@@ -16,10 +16,14 @@ use Rattle.sixel_grammar.proofs.PieceLemmas.{all-append}
 use Rattle.sixel_judge.specs.Growth.{MayGrowAmong, MayGrowIn}
 use Rattle.sixel_scan.specs.declared.opening.Opening.TheVariants.{Introduced}
 use Rattle.sixel_scan.specs.Openings.{Advances, IsBegun}
-use Rattle.sixel_scan.specs.Standing.{IsOpenString}
-use Rattle.sixel_scan.specs.Strings.{AreParameters, IsOpening, Opens, final, is_parameter}
+use Rattle.sixel_scan.specs.declared.scanner.Stage.TheVariants.{Inside}
+use Rattle.sixel_scan.specs.declared.string_check.StringCheck.{StringCheck}
+use Rattle.sixel_scan.specs.Prefixes.{AreBeforeGrowth}
+use Rattle.sixel_scan.specs.Standing.{IsOpenString, StandsWith}
+use Rattle.sixel_scan.specs.Strings.{AreParameters, IsOpening, Opens, StringAt, final, is_parameter}
 use Rattle.sixel_scan.proofs.ListLemmas.{shorter_first}
 use Rattle.sixel_scan.proofs.OpeningLemmas.{bool_cases}
+use Rattle.sixel_scan.proofs.StringLemmas.{resumes_more}
 
 -- ---- bytes without a `q`
 
@@ -122,3 +126,16 @@ pub opens_escaped : (eight : Bool) (string more : List ℕ) → IsOpenString eig
     → Opens eight ((string ++ 27 ∷ []) ++ more)
 opens_escaped eight string more h =
     subst (Opens eight) (sym (append_assoc string (27 ∷ []) more)) (opens_before eight string (27 ∷ more) h)
+
+-- in an open string and bytes after it
+pub stretch_grows : (eight : Bool) (registers read opened : ℕ) (check : StringCheck) (told : List StringAt)
+    (bytes run : List ℕ) (at : StandsWith eight registers read opened check Inside told bytes)
+    → MayGrowIn registers (at.held ++ run) → AreBeforeGrowth eight registers told (bytes ++ run)
+stretch_grows eight registers read opened check told bytes run at grows = record {
+  before = at.before;
+  string = at.held ++ run;
+  bytes_are = ap (λ (t : List ℕ). t ++ run) at.bytes_are ∙ append_assoc at.before at.held run;
+  resumes = resumes_more eight told bytes (length at.before) at.held run at.resumes;
+  opens = opens_before eight at.held run at.holds.0;
+  grows = grows;
+}

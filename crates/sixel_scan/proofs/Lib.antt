@@ -6,6 +6,7 @@ pub mod DocumentLemmas
 pub mod AdvanceLemmas
 pub mod CheckingLemmas
 pub mod ScanLemmas
+pub mod StretchLemmas
 pub mod GrowthLemmas
 pub mod ReportLemmas
 pub mod TextLemmas

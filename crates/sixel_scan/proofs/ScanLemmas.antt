@@ -11,7 +11,7 @@ use Rattle.sixel_scan.specs.declared.string_check.StringCheck.{StringCheck}
 use Rattle.sixel_scan.specs.Checking.{HasRead}
 use Rattle.sixel_scan.specs.Openings.{Advances, IsHeld, is_grown, is_introduced, is_longer}
 use Rattle.sixel_scan.specs.Prefixes.{Resumes}
-use Rattle.sixel_scan.specs.Scanning.{IsInside}
+use Rattle.sixel_scan.specs.Scanning.{AreInside, IsInside}
 use Rattle.sixel_scan.specs.Standing.{AdvancesFrom, Holds, IsOpenString, ReadsNextWith, StandsWith}
 use Rattle.sixel_scan.specs.Strings.{EndsFirst, IsOpening, IsString, StringAt}
 use Rattle.sixel_scan.proofs.AdvanceLemmas.{resumes_past_none}
@@ -83,15 +83,19 @@ opens_string eight bytes is = record {
   bytes_are = sym (append-nil bytes);
 }
 
+pub string_longer : (eight : Bool) (bytes run : List ℕ) → IsOpenString eight bytes → AreInside eight run
+    → IsOpenString eight (bytes ++ run)
+string_longer eight bytes run s inside = record {
+  opening = s.opening;
+  body = s.body ++ run;
+  opens = s.opens;
+  inside = all-append (IsInside eight) s.body run s.inside inside;
+  bytes_are = ap (λ (t : List ℕ). t ++ run) s.bytes_are ∙ append_assoc s.opening s.body run;
+}
+
 pub string_more : (eight : Bool) (bytes : List ℕ) (byte : ℕ) → IsOpenString eight bytes → IsInside eight byte
     → IsOpenString eight (bytes ++ byte ∷ [])
-string_more eight bytes byte s inside = record {
-  opening = s.opening;
-  body = s.body ++ byte ∷ [];
-  opens = s.opens;
-  inside = all-append (IsInside eight) s.body (byte ∷ []) s.inside (inside, tt);
-  bytes_are = ap (λ (t : List ℕ). t ++ byte ∷ []) s.bytes_are ∙ append_assoc s.opening s.body (byte ∷ []);
-}
+string_more eight bytes byte s inside = string_longer eight bytes (byte ∷ []) s (inside, tt)
 
 -- the string ends with these bytes
 pub string_ends : (eight : Bool) (bytes last rest : List ℕ) → IsOpenString eight bytes → EndsFirst eight last rest
@@ -345,6 +349,20 @@ pub to_inside : (eight : Bool) (registers read opened : ℕ) (check now : String
 to_inside eight registers read opened check now byte told bytes r inside new =
     to_string eight registers read opened check now Inside byte told bytes r r.holds.1
     (string_more eight r.held byte r.holds.0 inside) new
+
+-- bytes at which the string doesn't end
+pub past_inside : (eight : Bool) (registers read opened : ℕ) (check now : StringCheck) (told : List StringAt)
+    (bytes run : List ℕ) (at : StandsWith eight registers read opened check Inside told bytes) → AreInside eight run
+    → HasRead registers now (at.held ++ run)
+    → StandsWith eight registers (read + length run) opened now Inside told (bytes ++ run)
+past_inside eight registers read opened check now told bytes run at inside new = record {
+  before = at.before;
+  held = at.held ++ run;
+  bytes_are = ap (λ (t : List ℕ). t ++ run) at.bytes_are ∙ append_assoc at.before at.held run;
+  read_is = omega (arith, at.read_is, length-append bytes run);
+  resumes = resumes_more eight told bytes (length at.before) at.held run at.resumes;
+  holds = (string_longer eight at.held run at.holds.0 inside, at.holds.1, new);
+}
 
 pub to_escaped : (eight : Bool) (registers read opened : ℕ) (check : StringCheck) (byte : ℕ)
     (told : List StringAt) (bytes : List ℕ) → byte ≡ 27

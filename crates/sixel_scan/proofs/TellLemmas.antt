@@ -67,13 +67,13 @@ tells_some s t told bytes count reports rest r k = record {
 }
 
 pub grows_some : (s : Scan) (told : List StringAt) (bytes : List ℕ) → (r : IsReading s told bytes)
-    → AreBeforeGrowth s.scanner.eight (count_of s.scanner.profile) told (r.read ++ take 1 s.unread)
+    → (n : ℕ) × AreBeforeGrowth s.scanner.eight (count_of s.scanner.profile) told (r.read ++ take n s.unread)
     → GrowsWithin s.scanner.eight (count_of s.scanner.profile) told bytes
 grows_some s told bytes r grows = (
-  r.read ++ take 1 s.unread,
-  drop 1 s.unread,
-  r.bytes_are ∙ split_later r.read s.unread 1,
-  grows,
+  r.read ++ take grows.0 s.unread,
+  drop grows.0 s.unread,
+  r.bytes_are ∙ split_later r.read s.unread grows.0,
+  grows.1,
   r.within,
 )
 

@@ -1,18 +1,21 @@
 -- What a check of a string has read. Only contracts of private functions cite these.
-use Rattle.std.specs.Prelude.{◌≡◌, ◌++◌, ◌⊎◌, ℕ, List, Some}
+use Rattle.std.specs.Prelude.{◌≡◌, ◌++◌, ◌⊎◌, ℕ, List, None, Some}
 use Rattle.sixel_grammar.specs.Faults.{IsFaultOf}
-use Rattle.sixel_grammar.specs.Standing.{fault_of}
 use Rattle.sixel_grammar.specs.declared.fault.Fault.{Fault}
-use Rattle.sixel_grammar.specs.declared.reader.Reader.{Reader}
 use Rattle.sixel_check.specs.Checking.{AreAfter}
 use Rattle.sixel_scan.specs.declared.string_check.StringCheck.{StringCheck}
 
--- the reader keeps the fault of these bytes, which is that of any longer ones
-pub record HasRefused (reader : Reader) (bytes : List ℕ) : Type 0 where
+-- the check keeps no fault, and its reader and its checker have read these bytes
+pub record HasTaken (registers : ℕ) (check : StringCheck) (bytes : List ℕ) : Type 0 where
+  pub unrefused : check.refused ≡ None
+  pub after : AreAfter registers check.reader check.checker bytes
+
+-- the check keeps the fault of these bytes, which is that of any longer ones
+pub record HasRefused (check : StringCheck) (bytes : List ℕ) : Type 0 where
   pub fault : Fault
-  pub kept : fault_of reader ≡ Some fault
+  pub kept : check.refused ≡ Some fault
   pub always : (rest : List ℕ) → IsFaultOf (bytes ++ rest) fault
 
--- the check has read these bytes: its reader and its checker have, or its reader keeps their fault
+-- the check has read these bytes
 abbrev pub HasRead : ℕ → StringCheck → List ℕ → Type 0
-HasRead registers check bytes = AreAfter registers check.reader check.checker bytes ⊎ HasRefused check.reader bytes
+HasRead registers check bytes = HasTaken registers check bytes ⊎ HasRefused check bytes

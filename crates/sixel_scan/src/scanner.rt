@@ -1,4 +1,4 @@
-//! Finds the strings of a stream, byte by byte, and checks each.
+//! Finds the strings of a stream, and checks each.
 
 ghost use Rattle.std.specs.Prelude.{◌≡◌, ◌+◌, ◌<◌, ◌≤◌, ◌^◌, ◌++◌, ◌∷◌, [], ℕ, List, IfOk, OnErr, OnOk, length, take};
 ghost use Rattle.std.specs.Option.{option_to_list};
@@ -12,7 +12,7 @@ ghost use Rattle.sixel_scan.specs.Strings.{StringAt};
 ghost use Rattle.sixel_scan.specs.Answers.{IsReported};
 
 use crate::answer::Scanned;
-use crate::ending::ends_after;
+use crate::ending::{ends_after, string_bytes_in};
 use crate::opening::{EIGHT_BIT_INTRODUCER, ESCAPE, Opening, text_bytes_in};
 use crate::string_check::{StringCheck, told};
 use sixel_model::Profile;
@@ -336,7 +336,47 @@ impl Scanner {
         }
     }
 
-    /// Passes text, or else reads one byte.
+    /// Reads the bytes of a string that the piece begins with, up to an ESC or a byte that ends the string. Returns how
+    /// many.
+    fn read_string(&mut self, piece: &[u8]) -> Result<usize, AllocError>
+        requires stands { (told : List StringAt) × (bytes : List ℕ) × Stands self.old told bytes }
+        requires stage { self.old.stage ≡ Stage.Inside }
+        requires room { self.old.read + length piece.now < 2 ^ 64 }
+        ensures within { IfOk result (λ count. count ≤ length piece.now) }
+        ensures stands { IfOk result (λ count. (told : List StringAt) (bytes : List ℕ) → Stands self.old told bytes
+            → Stands self.new told (bytes ++ take count piece.now)) }
+        ensures read { IfOk result (λ count. self.new.read ≡ self.old.read + count) }
+        ensures memory { OnErr result ((told : List StringAt) (bytes : List ℕ) → Stands self.old told bytes
+            → (n : ℕ) × AreBeforeGrowth self.old.eight (count_of self.old.profile) told (bytes ++ take n piece.now)) }
+        ensures profile { self.new.profile ≡ self.old.profile }
+        ensures eight { self.new.eight ≡ self.old.eight }
+    {
+        let count = string_bytes_in(piece, self.eight);
+        self.check.read(&piece[..count])?;
+        self.read += count as u64;
+        Ok(count)
+    }
+
+    /// Reads the bytes that the piece begins with and at which no opening begins and no string ends. Returns how many.
+    fn read_stretch(&mut self, piece: &[u8]) -> Result<usize, AllocError>
+        requires stands { (told : List StringAt) × (bytes : List ℕ) × Stands self.old told bytes }
+        requires room { self.old.read + length piece.now < 2 ^ 64 }
+        ensures within { IfOk result (λ count. count ≤ length piece.now) }
+        ensures stands { IfOk result (λ count. (told : List StringAt) (bytes : List ℕ) → Stands self.old told bytes
+            → Stands self.new told (bytes ++ take count piece.now)) }
+        ensures read { IfOk result (λ count. self.new.read ≡ self.old.read + count) }
+        ensures memory { OnErr result ((told : List StringAt) (bytes : List ℕ) → Stands self.old told bytes
+            → (n : ℕ) × AreBeforeGrowth self.old.eight (count_of self.old.profile) told (bytes ++ take n piece.now)) }
+        ensures profile { self.new.profile ≡ self.old.profile }
+        ensures eight { self.new.eight ≡ self.old.eight }
+    {
+        match self.stage {
+            Stage::Inside => self.read_string(piece),
+            _ => Ok(self.pass_text(piece)),
+        }
+    }
+
+    /// Reads a stretch, or else one byte.
     pub(crate) fn read_some(&mut self, piece: &[u8]) -> Result<Step, AllocError>
         requires some { 0 < length piece.now }
         requires stands { (told : List StringAt) × (bytes : List ℕ) × Stands self.old told bytes }
@@ -346,11 +386,11 @@ impl Scanner {
         ensures reports { IfOk result (λ step. (told : List StringAt) (bytes : List ℕ) → Stands self.old told bytes
             → Reports self.new told (bytes ++ take step.count piece.now) (option_to_list step.scanned)) }
         ensures memory { OnErr result ((told : List StringAt) (bytes : List ℕ) → Stands self.old told bytes
-            → AreBeforeGrowth self.old.eight (count_of self.old.profile) told (bytes ++ take 1 piece.now)) }
+            → (n : ℕ) × AreBeforeGrowth self.old.eight (count_of self.old.profile) told (bytes ++ take n piece.now)) }
         ensures profile { self.new.profile ≡ self.old.profile }
         ensures eight { self.new.eight ≡ self.old.eight }
     {
-        let count = self.pass_text(piece);
+        let count = self.read_stretch(piece)?;
         if count > 0 {
             return Ok(Step {
                 count,

@@ -1,19 +1,15 @@
-//! The check of one string, byte by byte.
+//! The check of one string.
 
 ghost use Rattle.std.specs.Prelude.{◌≡◌, ◌+◌, ◌<◌, ◌≤◌, ◌^◌, ◌++◌, ◌∷◌, [], ℕ, List, IfErr, IfOk, OnErr, OnOk, length};
-ghost use Rattle.std.specs.Option.{option_to_list};
-ghost use Rattle.sixel_grammar.specs.Standing.{completions};
-ghost use Rattle.sixel_grammar.specs.declared.command.Placed.{Placed as PlacedValue};
 ghost use Rattle.sixel_model.specs.Profiles.{count_of};
 ghost use Rattle.sixel_check.specs.Answers.{Answers};
-ghost use Rattle.sixel_check.specs.Checking.{MayCome, MayComplete, MayGrowOver, TakesEvents};
+ghost use Rattle.sixel_check.specs.Checking.{AreAfter};
 ghost use Rattle.sixel_judge.specs.Growth.{MayGrowIn};
-ghost use Rattle.sixel_judge.specs.Standing.{StandsAfter};
 ghost use Rattle.sixel_scan.specs.Answers.{IsPlacedWithin, Tells, as_checked};
 
 use crate::answer::Answer;
-use sixel_check::{Checker, Finding, Verdict};
-use sixel_grammar::{Completed, Fault, Placed, Reader};
+use sixel_check::{Checker, Finding, Verdict, read_piece};
+use sixel_grammar::{Fault, InputFault, Reader};
 use sixel_model::Profile;
 use sixel_plane::BandPlane;
 use std::alloc::{AllocError, Global};
@@ -24,10 +20,12 @@ use std::alloc::{AllocError, Global};
 pub(crate) struct StringCheck {
     reader: Reader,
     checker: Checker<BandPlane>,
+    /// The fault of the bytes, if there was one.
+    refused: Option<Fault>,
 }
 
 impl StringCheck {
-    ghost use Rattle.sixel_scan.specs.Checking.{HasRead};
+    ghost use Rattle.sixel_scan.specs.Checking.{HasRead, HasTaken};
 
     /// A check that has read nothing. This allocates nothing.
     pub(crate) fn new(alloc: Global, profile: Profile) -> StringCheck
@@ -36,6 +34,40 @@ impl StringCheck {
         StringCheck {
             reader: Reader::new(),
             checker: Checker::new(alloc, profile),
+            refused: None,
+        }
+    }
+
+    /// Reads some bytes. `AllocError`: an allocation for the pixels failed.
+    pub(crate) fn read(&mut self, piece: &[u8]) -> Result<(), AllocError>
+        requires { (registers : ℕ) × (bytes : List ℕ) × HasRead registers self.old bytes }
+        ensures read { OnOk result ((registers : ℕ) (bytes : List ℕ) → HasRead registers self.old bytes
+            → HasRead registers self.new (bytes ++ piece.now)) }
+        ensures memory { OnErr result ((registers : ℕ) (bytes : List ℕ) → HasRead registers self.old bytes
+            → MayGrowIn registers (bytes ++ piece.now)) }
+    {
+        match self.refused {
+            Some(_) => Ok(()),
+            None => self.read_on(piece),
+        }
+    }
+
+    /// Reads some bytes, if there was no fault before them.
+    fn read_on(&mut self, piece: &[u8]) -> Result<(), AllocError>
+        requires { (registers : ℕ) × (bytes : List ℕ) × HasTaken registers self.old bytes }
+        ensures read { OnOk result ((registers : ℕ) (bytes : List ℕ) → HasTaken registers self.old bytes
+            → HasRead registers self.new (bytes ++ piece.now)) }
+        ensures memory { OnErr result ((registers : ℕ) (bytes : List ℕ) → HasTaken registers self.old bytes
+            → MayGrowIn registers (bytes ++ piece.now)) }
+    {
+        match read_piece(&mut self.reader, &mut self.checker, piece) {
+            Ok(()) => Ok(()),
+            Err(InputFault::Grammar(fault)) => {
+                self.refused = Some(fault);
+                Ok(())
+            }
+            Err(InputFault::OutOfMemory) => Err(AllocError),
+            Err(InputFault::Read) => Err(AllocError),
         }
     }
 
@@ -47,10 +79,7 @@ impl StringCheck {
         ensures memory { OnErr result ((registers : ℕ) (bytes : List ℕ) → HasRead registers self.old bytes
             → MayGrowIn registers (bytes ++ byte ∷ [])) }
     {
-        match self.reader.feed(byte) {
-            Ok(completed) => keep(&mut self.checker, completed),
-            Err(_) => Ok(()),
-        }
+        self.read(&[byte])
     }
 
     /// The answer at the end of the string.
@@ -61,35 +90,28 @@ impl StringCheck {
         ensures within { (registers : ℕ) (bytes : List ℕ) → HasRead registers self bytes
             → IsPlacedWithin (length bytes) result }
     {
-        let StringCheck { reader, checker } = self;
-        reader.finish()?;
-        Ok(checker.finish().unwrap())
+        let StringCheck {
+            reader,
+            checker,
+            refused,
+        } = self;
+        match refused {
+            Some(fault) => Err(fault),
+            None => conclude(&reader, checker),
+        }
     }
 }
 
-/// Pushes the events that a byte completed.
-fn keep(checker: &mut Checker<BandPlane>, completed: Completed) -> Result<(), AllocError>
-    requires { (registers : ℕ) × (seen : List PlacedValue) × StandsAfter registers checker.old seen
-        × MayComplete seen completed }
-    ensures kept { OnOk result (TakesEvents checker.old checker.new (completions completed)) }
-    ensures grows { OnErr result (MayGrowOver checker.old (completions completed)) }
+/// The answer at the end of bytes without a fault before it.
+fn conclude(reader: &Reader, checker: Checker<BandPlane>) -> Result<Verdict, Fault>
+    requires { (registers : ℕ) × (bytes : List ℕ) × AreAfter registers reader.now checker bytes }
+    ensures answer { (registers : ℕ) (bytes : List ℕ) → AreAfter registers reader.now checker bytes
+        → Answers registers (as_checked result) bytes }
+    ensures within { (registers : ℕ) (bytes : List ℕ) → AreAfter registers reader.now checker bytes
+        → IsPlacedWithin (length bytes) result }
 {
-    let Completed { first, second } = completed;
-    keep_one(checker, first)?;
-    keep_one(checker, second)
-}
-
-/// Pushes an event, if there is one.
-fn keep_one(checker: &mut Checker<BandPlane>, placed: Option<Placed>) -> Result<(), AllocError>
-    requires { (registers : ℕ) × (seen : List PlacedValue) × StandsAfter registers checker.old seen
-        × MayCome seen placed }
-    ensures kept { OnOk result (TakesEvents checker.old checker.new (option_to_list placed)) }
-    ensures grows { OnErr result (MayGrowOver checker.old (option_to_list placed)) }
-{
-    match placed {
-        None => Ok(()),
-        Some(placed) => checker.push(&placed),
-    }
+    reader.finish()?;
+    Ok(checker.finish().unwrap())
 }
 
 /// The answer of a string at `place`, from that of its bytes.

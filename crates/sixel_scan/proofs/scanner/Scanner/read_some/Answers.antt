@@ -20,39 +20,41 @@ one_byte bytes (b ∷ rest) (suc count) byte none some is = absurd (omega (arith
 
 pub returns-then-count-gt0-clause-reports : goal.returns-then-count-gt0-clause-reports
 returns-then-count-gt0-clause-reports c = λ told bytes h.
-    reports_none _ told (bytes ++ take c.pass_text-count.result c.args.piece.now)
-    (c.pass_text-count.ensures.stands told bytes h)
+    reports_none _ told (bytes ++ take c.in_ok-count.count c.args.piece.now)
+    (c.in_ok-count.ensures.stands told bytes h)
 
 pub read_byte-requires-clause-stands : goal.read_byte-requires-clause-stands
 read_byte-requires-clause-stands c =
     let t = c.requires.stands in (
       t.0,
-      t.1 ++ take c.pass_text-count.result c.args.piece.now,
-      c.pass_text-count.ensures.stands t.0 t.1 t.2,
+      t.1 ++ take c.in_ok-count.count c.args.piece.now,
+      c.in_ok-count.ensures.stands t.0 t.1 t.2,
     )
 
 pub returns-in_err-scanned-clause-memory : goal.returns-in_err-scanned-clause-memory
 returns-in_err-scanned-clause-memory c =
-    err_says _ c.from_residual.result
+    err_says _ c.from_residual-in_err-scanned.result
     (λ told bytes h.
     let s = c.args.self.now in
     let piece = c.args.piece.now in
-    let count = c.pass_text-count.result in
-    let q = c.pass_text-count.new.self in
-    let at = c.pass_text-count.ensures.stands told bytes h in
-    subst (λ (n : ℕ). AreBeforeGrowth s.eight n told (bytes ++ take 1 piece))
-    (ap count_of c.pass_text-count.ensures.profile)
-    (subst (λ (e : Bool). AreBeforeGrowth e (count_of q.profile) told (bytes ++ take 1 piece))
-    c.pass_text-count.ensures.eight
-    (subst (AreBeforeGrowth q.eight (count_of q.profile) told)
-    (one_byte bytes piece count _ c.if-count-gt0.false c.requires.some refl)
-    (c.in_err-scanned.ensures.memory told (bytes ++ take count piece) at))))
+    let count = c.in_ok-count.count in
+    let q = c.read_stretch.new.self in
+    let at = c.in_ok-count.ensures.stands told bytes h in (
+      1,
+      subst (λ (n : ℕ). AreBeforeGrowth s.eight n told (bytes ++ take 1 piece))
+          (ap count_of c.in_ok-count.ensures.profile)
+          (subst (λ (e : Bool). AreBeforeGrowth e (count_of q.profile) told (bytes ++ take 1 piece))
+          c.in_ok-count.ensures.eight
+          (subst (AreBeforeGrowth q.eight (count_of q.profile) told)
+          (one_byte bytes piece count _ c.if-count-gt0.false c.requires.some refl)
+          (c.in_err-scanned.ensures.memory told (bytes ++ take count piece) at))),
+    ))
 
 pub returns-clause-reports : goal.returns-clause-reports
 returns-clause-reports c = λ told bytes h.
     let piece = c.args.piece.now in
-    let count = c.pass_text-count.result in
-    let at = c.pass_text-count.ensures.stands told bytes h in
+    let count = c.in_ok-count.count in
+    let at = c.in_ok-count.ensures.stands told bytes h in
     subst (λ (t : List ℕ). Reports c.read_byte.new.self told t (option_to_list c.in_ok-scanned.scanned))
     (one_byte bytes piece count _ c.if-count-gt0.false c.requires.some refl)
     (c.in_ok-scanned.ensures.read told (bytes ++ take count piece) at)

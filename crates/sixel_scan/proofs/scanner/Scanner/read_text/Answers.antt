@@ -28,8 +28,9 @@ returns-in_err-check_opening-in-Some-Introduced-clause-memory c =
     (λ told bytes r.
     let s = c.args.self.now in
     let f = rw c.in-Some-Introduced.field-0-is at c.in-Some-Introduced.ensures.next in
-    let held = text_held s.eight (count_of s.profile) s.opened s.check c.args.opening (length r.before) r.held r.holds in
-    absurd (begun_grows_not s.eight (count_of s.profile) r.held c.args.byte (f r.held held)
+    let registers = count_of s.profile in
+    let held = text_held s.eight registers s.opened s.check c.args.opening (length r.before) r.held r.holds in
+    absurd (begun_grows_not s.eight registers r.held c.args.byte (f r.held held)
     (c.in_err-check_opening-in-Some-Introduced.ensures.memory (length r.before) r.held r.holds)))
 
 pub returns-in_ok-check_opening-in-Some-Introduced-clause-read :
