@@ -1,13 +1,11 @@
 -- A scan of one string says what a check says.
-use Rattle.std.proofs.Common.{◌≡◌, ◌∙◌, ◌≤◌, ◌+◌, ℕ, Bool, false, List, [], ◌∷◌, ◌++◌, ap, arith, codes, length, refl}
-use Rattle.std.proofs.Common.{subst, sym}
+use Rattle.std.proofs.Common.{◌≡◌, ◌∙◌, ◌+◌, ℕ, Bool, false, List, [], ◌∷◌, ◌++◌, ap, arith, codes, refl, subst, sym}
 use Rattle.std.specs.Prelude.{Result, Ok}
 use Rattle.std.proofs.lemmas.Fmt.{decimal_digit}
 use Rattle.std.proofs.lemmas.List.{append-nil, take_all}
 use Rattle.sixel_grammar.specs.Bytes.{introducer}
 use Rattle.sixel_grammar.specs.Document.{Document}
 use Rattle.sixel_grammar.specs.declared.command.Placed.{Placed}
-use Rattle.sixel_grammar.specs.declared.fault.Fault.{Fault}
 use Rattle.sixel_grammar.proofs.TotalLemmas.{document_whole}
 use Rattle.sixel_grammar.proofs.UniqueLemmas.{document_once}
 use Rattle.sixel_model.specs.Profiles.{count_of}
@@ -17,9 +15,8 @@ use Rattle.sixel_judge.specs.declared.verdict.Verdict.TheVariants.{Portable, Bro
 use Rattle.sixel_judge.proofs.AnswerLemmas.{verdict_everywhere}
 use Rattle.sixel_judge.proofs.DifferenceLemmas.{no_false_alarm}
 use Rattle.sixel_scan.specs.declared.answer.Scanned.{Scanned}
-use Rattle.sixel_scan.specs.Answers.{IsReported}
 use Rattle.sixel_scan.specs.Scans.{longest_stream}
-use Rattle.sixel_scan.specs.Strings.{AreStrings, StringAt}
+use Rattle.sixel_scan.specs.Strings.{AreStrings}
 use Rattle.sixel_scan.proofs.DocumentLemmas.{one_string}
 use Rattle.sixel_run.specs.declared.fault.RunFault.{RunFault}
 use Rattle.sixel_run.specs.declared.task.Status.{Status}

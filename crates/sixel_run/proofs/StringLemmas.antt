@@ -8,7 +8,6 @@ use Rattle.std.proofs.lemmas.List.Folds.{concat-append}
 use Rattle.sixel_grammar.specs.declared.fault.Fault.{Fault}
 use Rattle.sixel_grammar.proofs.TotalLemmas.{document_whole, judged}
 use Rattle.sixel_grammar.proofs.UniqueLemmas.{fault_no_document, fault_once}
-use Rattle.sixel_judge.specs.declared.verdict.Finding.{Finding}
 use Rattle.sixel_judge.specs.declared.verdict.Verdict.{Verdict}
 use Rattle.sixel_judge.specs.declared.verdict.Verdict.TheVariants.{Portable, Broken}
 use Rattle.sixel_judge.proofs.AnswerLemmas.{verdict_everywhere}
@@ -19,7 +18,6 @@ use Rattle.sixel_scan.specs.declared.answer.Answer.{Answer}
 use Rattle.sixel_scan.specs.declared.answer.Answer.TheVariants.{Portable as SaysPortable, Broken as SaysBroken, Refused}
 use Rattle.sixel_scan.specs.declared.answer.Scanned.{Scanned}
 use Rattle.sixel_scan.specs.Answers.{IsReported, Tells, as_checked}
-use Rattle.sixel_scan.specs.Scans.{longest_stream}
 use Rattle.sixel_scan.specs.Standing.{AreReported}
 use Rattle.sixel_scan.specs.Strings.{AreStrings, StringAt}
 use Rattle.sixel_scan.proofs.GivenLemmas.{ended_of}
@@ -30,7 +28,7 @@ use Rattle.sixel_run.specs.declared.fault.RunFault.TheVariants as run
 use Rattle.sixel_run.specs.declared.task.Status.{Status}
 use Rattle.sixel_run.specs.declared.task.Status.TheVariants as status
 use Rattle.sixel_run.specs.Outputs.{ScanGives}
-use Rattle.sixel_run.specs.Scanned.{AreBeforeAllocation, AreOfFirst, AreOfGiven, AreOfStream, answer_of_strings}
+use Rattle.sixel_run.specs.Scanned.{AreBeforeAllocation, AreOfFirst, AreOfGiven, answer_of_strings}
 use Rattle.sixel_run.specs.Scanned.{is_portable, scan_text, stream_of, string_lines}
 use Rattle.sixel_run.specs.Texts.{Text, BeginsWith, string_line}
 use Rattle.sixel_run.proofs.CheckLemmas.{same_verdict}

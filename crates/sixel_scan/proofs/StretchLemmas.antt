@@ -96,5 +96,5 @@ inside_on piece first second n m at is next ends =
     inside_part true m n piece short
     (inside_with (take m (take n piece))
     (all_take (IsInside false) m (take n piece) (inside_off piece first n at is))
-    (before_first (is_byte 156) (λ b. b ≢ 156) (λ b fails. unlike (is_byte 156) b 156 fails refl) (take n piece) second m last
-    ends))
+    (before_first (is_byte 156) (λ b. b ≢ 156) (λ b fails. unlike (is_byte 156) b 156 fails refl) (take n piece) second
+    m last ends))

@@ -1,7 +1,6 @@
 //! A scan of the stream that a source gives.
 
-ghost use Rattle.std.specs.Prelude.{◌≡◌, ◌≢◌, ◌<◌, ◌≤◌, ◌++◌, [], ℕ, Bool, List, Option, None, Ok, Err, true};
-ghost use Rattle.std.specs.Prelude.{false, length};
+ghost use Rattle.std.specs.Prelude.{◌≡◌, ◌≢◌, ◌<◌, ◌++◌, [], ℕ, List, Option, None, Ok, Err, true, false, length};
 ghost use Rattle.std.specs.Prelude.{IfOk, IsSome, OnErr, OnOk};
 ghost use Rattle.std.specs.Option.{option_to_list};
 ghost use Rattle.std.specs.Io.KnownBytes.{Consumes, Keeps};

@@ -1,4 +1,3 @@
-use Rattle.sixel_io.specs.Devices.{change}
 use Rattle.sixel_run.proofs.ScanLemmas.{scans_grew, scans_wrote}
 use Rattle.sixel_run.proofs.running.scan.scan.Goals as goal
 
