@@ -1,4 +1,4 @@
-//! The command line: what its arguments ask for, and what `explain` says.
+//! The command line: what its arguments ask for, and what is said if they name no task.
 #![tactic(auto)]
 
 mod arguments;
