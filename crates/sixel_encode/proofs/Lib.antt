@@ -4,6 +4,7 @@ pub mod BitLemmas
 pub mod PartedLemmas
 pub mod RunLemmas
 pub mod TextLemmas
+pub mod DecimalLemmas
 pub mod RepeatLemmas
 pub mod StretchLemmas
 pub mod StepLemmas

@@ -9,17 +9,15 @@ ghost use Rattle.sixel_encode.specs.Canon.{band_commands, commands_text, most_ba
 ghost use Rattle.sixel_encode.specs.Columns.{AreSixels, part, sixel_commands};
 
 use crate::columns::find_sixels;
+use crate::commands::{Text, put_command};
 use crate::groups::band_groups;
 use crate::repeats::{find_repeat, ink_end, run_end};
-use sixel_grammar::{Command, Event, put_event};
-use sixel_io::{Block, DeviceFault, Sink};
+use sixel_grammar::{Command, Event};
+use sixel_io::{DeviceFault, Sink};
 use sixel_model::Picture;
 
 /// The greatest width of a picture, in pixels.
 const MOST_COLUMNS: usize = 2048;
-
-/// Text on its way to a sink, buffered in blocks of 65,536 bytes.
-pub(crate) type Text = Block<65_536>;
 
 /// Writes the registers of a band, each with its columns, with a carriage return between two.
 pub(crate) fn put_band<K: Sink>(
@@ -81,19 +79,6 @@ pub(crate) fn put_between<K: Sink>(
     } else {
         put_command(text, command, out)
     }
-}
-
-/// Writes a command.
-pub(crate) fn put_command<K: Sink>(
-    text: &mut Text,
-    command: Command,
-    out: &mut K,
-) -> Result<(), DeviceFault>
-    requires { IsSpellable (Event.Step command) }
-    ensures { WritesThrough result (K.state out.old) (K.state out.new) text.old text.new
-        (commands_text (command ∷ [])) }
-{
-    put_event(text, &Event::Step(command), out)
 }
 
 /// Writes a select, and the columns of the register.

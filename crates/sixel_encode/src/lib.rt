@@ -3,6 +3,7 @@
 
 mod band;
 mod columns;
+mod commands;
 mod groups;
 mod lanes;
 pub mod laws;

@@ -9,7 +9,8 @@ ghost use Rattle.sixel_encode.specs.Canon.{band_commands, canon_commands, canon_
 ghost use Rattle.sixel_encode.specs.Canon.{define_command, define_commands, opening_commands, picture_commands};
 ghost use Rattle.sixel_encode.specs.Canon.{most_bands};
 
-use crate::band::{Text, put_band, put_between, put_command};
+use crate::band::{put_band, put_between};
+use crate::commands::{Text, put_command};
 use arrayvec::ArrayVec;
 use sixel_grammar::{Command, Event, put_event};
 use sixel_io::{DeviceFault, Sink};
