@@ -17,5 +17,6 @@ pub mod NotSixelLemmas
 pub mod DataByteLemmas
 pub mod SixelLemmas
 pub mod SourceLemmas
+pub mod RunLemmas
 pub mod WritableLemmas
 pub mod TotalLemmas

@@ -31,7 +31,7 @@ sixel_ends events n bytes b at t e =
     (sym at) went
 
 -- a run of sixels
-sixels_end : (prefix : List ℕ) (events : List Placed) (n : ℕ) (bytes : List ℕ) → n ≡ length bytes
+pub sixels_end : (prefix : List ℕ) (events : List Placed) (n : ℕ) (bytes : List ℕ) → n ≡ length bytes
     → ((k : ℕ) → k < length prefix → is_data (get_or prefix k 0) ≡ true)
     → EndsIn NoCommand events n bytes
     → EndsIn NoCommand (events ++ sixels_from n prefix) (n + length prefix) (bytes ++ prefix)

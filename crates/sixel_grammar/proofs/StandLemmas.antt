@@ -55,7 +55,7 @@ handed events opened n bytes (Some x) (Some y) e =
     append_assoc events (record { place = opened; event = x } ∷ []) (record { place = length bytes; event = y } ∷ [])
     ∙ ap (λ (k : ℕ). events ++ record { place = opened; event = x } ∷ record { place = k; event = y } ∷ []) (sym e)
 
-second-same : (opened n : ℕ) (bytes : List ℕ) (first : Option Event) → n ≡ length bytes
+pub second-same : (opened n : ℕ) (bytes : List ℕ) (first : Option Event) → n ≡ length bytes
     → second_place opened bytes first ≡ moved opened n first
 second-same opened n bytes None e = refl
 second-same opened n bytes (Some x) e = sym e
@@ -204,7 +204,7 @@ chosen-none (Some x) y e g d h =
     ended_at None = None
     ended_at (Some p) = p.0
 
-ends-unfinished : (f : Form) (b : ℕ) (e : Event) (g : Form) (d : Option Event)
+pub ends-unfinished : (f : Form) (b : ℕ) (e : Event) (g : Form) (d : Option Event)
     → next_of f b ≡ Some (Some e, g, d) → is_idle f ≡ false
 ends-unfinished NothingYet b e g d h = absurd (chosen-none (within NothingYet b) (begin b) e g d h)
 ends-unfinished Introducing b e g d h = refl

@@ -9,6 +9,7 @@ pub mod Prefixes
 pub mod Faults
 pub mod Standing
 pub mod Stretches
+pub mod Runs
 pub mod Plain
 pub mod Next
 pub mod Pending

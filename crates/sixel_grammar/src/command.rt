@@ -87,6 +87,40 @@ pub struct Stretch {
     pub count: usize,
 }
 
+/// Columns that were read at once, perhaps after a select.
+#[derive(Clone, Copy, Debug, PartialEq, Eq)]
+pub struct Run {
+    /// The offset of the first byte, in bytes from 0.
+    pub place: u64,
+    /// The register, if a select comes before the columns.
+    pub select: Option<u16>,
+    /// How many bytes come before the columns: those of the select.
+    pub start: usize,
+    /// How many bytes there are in all.
+    pub length: usize,
+    pub columns: Columns,
+}
+
+/// The columns of a run.
+#[derive(Clone, Copy, Debug, PartialEq, Eq)]
+pub enum Columns {
+    /// Each byte is a single sixel.
+    Sixels,
+    /// The bytes are one repeat.
+    Repeat { count: u16, bits: u8 },
+}
+
+/// Two commands that one byte completed: one that it ended, and its own.
+#[derive(Clone, Copy, Debug, PartialEq, Eq)]
+pub struct TwoCommands {
+    /// The offset of the ended command, in bytes from 0.
+    pub place: u64,
+    pub ended: Command,
+    /// The offset of the byte, in bytes from 0.
+    pub own_place: u64,
+    pub own: Command,
+}
+
 impl Completed {
     #[inline]
     pub(crate) fn of_none() -> Completed

@@ -10,10 +10,11 @@ pub mod laws;
 mod pending;
 mod reader;
 mod reading;
+mod run;
 mod stretch;
 mod writing;
 
-pub use command::{Command, Completed, Event, Placed, Plain, Stretch};
+pub use command::{Columns, Command, Completed, Event, Placed, Plain, Run, Stretch, TwoCommands};
 pub use fault::{Fault, InputFault, Reason};
 pub use reader::Reader;
 pub use reading::read_all;

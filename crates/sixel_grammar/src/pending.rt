@@ -18,6 +18,10 @@ use crate::command::{Command, Event};
 use crate::fault::Reason;
 use arrayvec::ArrayVec;
 
+mod ending;
+
+pub(crate) use ending::Ending;
+
 const ESCAPE: u8 = 0x1b;
 
 /// The reader's state: what is open, if anything.

@@ -18,6 +18,8 @@ use crate::fault::{Fault, Reason};
 use crate::pending::{Pending, is_data, is_filler};
 use crate::stretch::data_bytes_in;
 
+mod at_once;
+
 /// The greatest length of a document.
 const MOST_BYTES: u64 = 268_435_456;
 
