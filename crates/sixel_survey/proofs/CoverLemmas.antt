@@ -8,7 +8,7 @@ use Rattle.std.specs.Int.{bit_at}
 use Rattle.std.specs.List.{range_with_len}
 use Rattle.std.specs.Option.{option_map_or, option_or}
 use Rattle.std.proofs.lemmas.Bool.{agree_below_at, leb-true}
-use Rattle.std.proofs.lemmas.Nat.Bits.{bit_at-lt, bit_at_and, bit_at_ones, bit_at_ones_above}
+use Rattle.std.proofs.lemmas.Nat.Bits.{bit_at-lt, bit_at-zero, bit_at_and, bit_at_ones, bit_at_ones_above}
 use Rattle.std.proofs.lemmas.Bool.{and_from, and_parts, false_from_ne_true, not-false, not-true, or_parts}
 use Rattle.std.proofs.lemmas.List.Sums.{length-filter}
 use Rattle.std.proofs.lemmas.Nat.{mod_below}
@@ -286,6 +286,16 @@ covered_none s left count line bits none = record {
   pixels = λ long. long;
   covered = λ x y p q. rw (none x y p q) refl;
 }
+
+-- a run without a bit changes nothing
+pub covered_blank : (s : Grid) (left count line bits : ℕ) → bits ≡ 0 → IsCoveredBy s left count line bits s
+covered_blank s left count line bits blank =
+    covered_none s left count line bits (λ x y p q.
+    false_from_ne_true (covers left count line 1 bits x y) (λ is.
+    let u = lies_under left count line bits x y is in
+    let clear : bit_at bits u.bit ≡ 0 = ap (λ b. bit_at b u.bit) blank ∙ bit_at-zero u.bit in
+    let set : bit_at bits u.bit ≡ 1 = u.set in
+    cc))
 
 -- the part of a run is painted, in any register
 pub covered_part : (s : Grid) (left count line bits column band part_count part r : ℕ)

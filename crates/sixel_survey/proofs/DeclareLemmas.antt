@@ -77,3 +77,15 @@ declares_byte registers old new surveyor c byte prefix takes d a =
     declares_here (prefix ++ byte ∷ []) (a.events ++ grammar.completions c)
     (read_complete new (a.events ++ grammar.completions c) (prefix ++ byte ∷ []) (takes a.events prefix a.read))
     (d a.events a.surveyed)
+
+-- the reader and the surveyor after one more byte
+pub after_byte : (registers : ℕ) (old new : Reader) (kept more : SurveyorValue) (c : Completed) (prefix : List ℕ)
+    (byte : ℕ) → grammar.Takes old new byte (grammar.completions c)
+    → ((seen : List Placed) → HasSurveyed registers kept seen
+    → HasSurveyed registers more (seen ++ grammar.completions c))
+    → AreAfter registers old kept prefix → AreAfter registers new more (prefix ++ byte ∷ [])
+after_byte registers old new kept more c prefix byte takes keeps a = record {
+  events = a.events ++ grammar.completions c;
+  read = takes a.events prefix a.read;
+  surveyed = keeps a.events a.surveyed;
+}

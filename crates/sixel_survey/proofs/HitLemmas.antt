@@ -7,7 +7,7 @@ use Rattle.std.proofs.lemmas.Bool.{and_from, and_parts, ltb-true}
 use Rattle.sixel_grammar.specs.declared.command.Command.TheVariants.{Define}
 use Rattle.sixel_grammar.specs.declared.command.Event.{Event}
 use Rattle.sixel_grammar.specs.declared.command.Event.TheVariants.{Step}
-use Rattle.sixel_model.specs.Events.{Definition, is_finish, is_painting}
+use Rattle.sixel_model.specs.Events.{Attributes, Definition, is_finish, is_painting}
 use Rattle.sixel_model.specs.Events.{is_same_definition, named_by}
 use Rattle.sixel_model.specs.Grids.{Grid}
 use Rattle.sixel_model.specs.Pictures.{is_side}
@@ -15,7 +15,7 @@ use Rattle.sixel_model.specs.Rules.{Breaks, BreaksOutside, BreaksUncovered, Fall
 use Rattle.sixel_model.specs.Rules.{breaks_eight_bit, breaks_raster_first, breaks_raster_twice, breaks_redefined}
 use Rattle.sixel_model.specs.Rules.{breaks_box_size, breaks_colour_value, breaks_ratio, breaks_register}
 use Rattle.sixel_model.specs.Rules.{breaks_repeat_zero, breaks_undefined, breaks_unselected, definition_of}
-use Rattle.sixel_model.specs.Rules.{is_painted_in, known}
+use Rattle.sixel_model.specs.Rules.{is_painted_in, known, raster_before}
 use Rattle.sixel_model.specs.Grids.{first_blank}
 use Rattle.sixel_judge.specs.declared.rule.Rule.{Rule}
 use Rattle.sixel_judge.specs.declared.rule.Rule.TheVariants.{RasterFirst, RasterTwice, Ratio, BoxSize, Register}
@@ -173,23 +173,30 @@ notes_hit registers n before e EightBit few s p q =
 abbrev pub hit_at : Option (ℕ × ℕ) → Option Hit
 hit_at o = option_map (λ (p : ℕ × ℕ). record { pixel = Some p }) o
 
-box_told : (s : Grid) (before : List Event) → IsCoverOf s before → has_box before ≡ true
+pub box_told : (s : Grid) (before : List Event) → IsCoverOf s before → has_box before ≡ true
 box_told s before c =
     rw c.box_is (and_from (is_side c.box.width) (is_side c.box.height)
     (subst (λ (n : ℕ). IsTrue (is_side n)) (sym c.width_is) c.width)
     (subst (λ (n : ℕ). IsTrue (is_side n)) (sym c.height_is) c.height))
 
+-- the first pixel outside a declared box in range
+pub outside_in : (registers : ℕ) (box : Attributes) (before : List Event) (e : Event) → raster_before before ≡ Some box
+    → has_box before ≡ true → (o : Option (ℕ × ℕ)) → IsFirstIfAny (FallsOutside before e box) o
+    → IsHit registers Outside before e (hit_at o)
+unfolding Breaks BreaksOutside
+outside_in registers box before e is told None first =
+    λ (k : Counts registers Outside before e).
+    let point = rw is at k.broken in first point.0 point.1 point.2
+outside_in registers box before e is told (Some pixel) first = (
+  record { broken = rw is (first.0, first.1, (first.2).holds); told = told },
+  rw is first,
+)
+
 pub outside_hit : (registers : ℕ) (s : Grid) (before : List Event) (e : Event) (c : IsCoverOf s before)
     (o : Option (ℕ × ℕ)) → IsFirstIfAny (FallsOutside before e c.box) o
     → IsHit registers Outside before e (hit_at o)
-unfolding Breaks BreaksOutside
-outside_hit registers s before e c None first =
-    λ (k : Counts registers Outside before e).
-    let point = rw c.box_is at k.broken in first point.0 point.1 point.2
-outside_hit registers s before e c (Some pixel) first = (
-  record { broken = rw c.box_is (first.0, first.1, (first.2).holds); told = box_told s before c },
-  rw c.box_is first,
-)
+outside_hit registers s before e c o first =
+    outside_in registers c.box before e c.box_is (box_told s before c) o first
 
 pub outside_none : (registers : ℕ) (before : List Event) (e : Event) → has_box before ≡ false
     → IsHit registers Outside before e None

@@ -8,5 +8,7 @@ pub mod CoverLemmas
 pub mod HitLemmas
 pub mod DeclareLemmas
 pub mod AnswerLemmas
+pub mod TallyingLemmas
+pub mod StretchLemmas
 pub mod SurveyorLemmas
 pub mod OrderLemmas

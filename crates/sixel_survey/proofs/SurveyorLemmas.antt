@@ -1,13 +1,12 @@
 -- The tallies of all rules, and the survey that they make.
 use Rattle.std.proofs.Common.{◌≡◌, ◌≢◌, ◌==◌, ◌<◌, ◌≤◌, ◌+◌, ◌-◌, ◌⊎◌, ℕ, zero, suc, true, false, inl, inr, Option}
-use Rattle.std.proofs.Common.{Some, None, List, [], ◌∷◌, ◌++◌, length, get_or, set, take, refl, sym, ap, subst, ◌∙◌}
+use Rattle.std.proofs.Common.{Some, None, List, [], ◌∷◌, ◌++◌, length, get_or, take, refl, sym, ap, subst, ◌∙◌}
 use Rattle.std.proofs.Common.{arith, length-append, not, ◌&&◌, ap₂, replicate}
 use Rattle.std.specs.Prelude.{IsSome, filter_map, is_none, slice_get}
 use Rattle.std.specs.Option.{option_flatten, option_map, option_map_or, option_to_list}
 use Rattle.std.proofs.lemmas.List.{take_more}
 use Rattle.std.proofs.lemmas.List.Elements.{filter_map-append}
 use Rattle.std.proofs.lemmas.Bool.{agree_below_at, and_parts, cases_lt, eqb-true, false_from_ne_true, not-true}
-use Rattle.std.proofs.lemmas.List.{length-set}
 use Rattle.sixel_grammar.specs.declared.command.Event.{Event}
 use Rattle.sixel_grammar.specs.declared.command.Placed.{Placed}
 use Rattle.sixel_grammar.specs.Document.{Document, Piece, IsPiece, bytes_of, events_of, joined, most_bytes, placed_from}
@@ -23,28 +22,27 @@ use Rattle.sixel_model.proofs.FirstLemmas.{earliest_all, earliest_later}
 use Rattle.sixel_model.proofs.LatestLemmas.{Gives}
 use Rattle.sixel_model.proofs.RuleLemmas.{nowhere}
 use Rattle.sixel_judge.specs.declared.rule.Rule.{Rule}
-use Rattle.sixel_judge.specs.declared.rule.Rule.TheVariants.{RasterFirst, Uncovered, EightBit}
+use Rattle.sixel_judge.specs.declared.rule.Rule.TheVariants.{Uncovered, EightBit}
 use Rattle.sixel_judge.specs.Portable.{IsPortable}
 use Rattle.sixel_judge.specs.Verdicts.{number_of}
 use Rattle.sixel_judge.proofs.AlarmLemmas.{taken_get, taken_twice}
 use Rattle.sixel_judge.proofs.DecideLemmas.{verdict_exists}
 use Rattle.sixel_judge.proofs.ShownLemmas.{left_is_portable}
-use Rattle.sixel_judge.proofs.VerdictLemmas.{same_rule}
 use Rattle.sixel_survey.specs.declared.entry.Entry.{Entry}
 use Rattle.sixel_survey.specs.declared.entry.Survey.{Survey}
 use Rattle.sixel_survey.specs.declared.notes.Notes.{Notes}
-use Rattle.sixel_survey.specs.declared.tally.Hit.{Hit}
 use Rattle.sixel_survey.specs.Notes.{IsNotesAfter}
 use Rattle.sixel_model.specs.Profiles.{count_of}
 use Rattle.sixel_model.specs.declared.profile.Profile.{Profile}
 use Rattle.sixel_survey.specs.Counting.{Counts, HoldsOften, IsHowOften, has_box, paints_early}
 use Rattle.sixel_survey.specs.Covering.{IsCoverAfter, blank_cells, size_in}
-use Rattle.sixel_survey.specs.Surveying.{AreTallies, HasSurveyed, SurveyorValue}
+use Rattle.sixel_survey.specs.Surveying.{HasSurveyed, SurveyorValue}
 use Rattle.sixel_survey.specs.Surveys.{AreEntries, IsEntryAt, IsEntryOf, IsSurvey, all_rules, size_if_none}
-use Rattle.sixel_survey.specs.Tallies.{IsHit, IsTallyAt, IsTallyOf, entry_from, entry_in, next_tally, tally_in}
+use Rattle.sixel_survey.specs.Tallies.{IsTallyAt, IsTallyOf, entry_from, entry_in, tally_in}
 use Rattle.sixel_survey.proofs.CoverLemmas.{blanks_are, early_item}
 use Rattle.sixel_survey.proofs.FirstEntryLemmas.{none_if_empty}
-use Rattle.sixel_survey.proofs.TallyLemmas.{often_within, tally_push}
+use Rattle.sixel_survey.proofs.TallyingLemmas.{flat_at}
+use Rattle.sixel_survey.proofs.TallyLemmas.{often_within}
 use Rattle.sixel_survey.proofs.TellLemmas.{Passes, earliest_gives, if_box, passes_somewhere, sides_break}
 
 -- ---- the tallies in order
@@ -54,109 +52,6 @@ pub number_at : (k : ℕ) → k < 13 → number_of (get_or all_rules k EightBit)
 number_at k lt =
     eqb-true _ _
     (agree_below_at (λ k. number_of (get_or all_rules k EightBit) == suc k) (λ k. true) 13 k refl lt)
-
-some_number : (rule : Rule) → 1 ≤ number_of rule
-some_number RasterFirst = omega arith
-some_number _ = omega arith
-
-flat_same : (ts : List (Option Entry)) (k : ℕ) (x : Option Entry) → k < length ts
-    → option_flatten (slice_get (set ts k x) k) ≡ x
-flat_same [] k x lt = absurd (omega arith)
-flat_same (t ∷ ts) zero x lt = refl
-flat_same (t ∷ ts) (suc k) x lt = flat_same ts k x (omega arith)
-
-flat_other : (ts : List (Option Entry)) (k j : ℕ) (x : Option Entry) → k ≢ j
-    → option_flatten (slice_get (set ts k x) j) ≡ option_flatten (slice_get ts j)
-flat_other [] k j x n = refl
-flat_other (t ∷ ts) zero zero x n = absurd (n refl)
-flat_other (t ∷ ts) zero (suc j) x n = refl
-flat_other (t ∷ ts) (suc k) zero x n = refl
-flat_other (t ∷ ts) (suc k) (suc j) x n = flat_other ts k j x (λ e. n (ap suc e))
-
-flat_at : (ts : List (Option Entry)) (k : ℕ) → option_flatten (slice_get ts k) ≡ get_or ts k None
-flat_at [] k = refl
-flat_at (t ∷ ts) zero = refl
-flat_at (t ∷ ts) (suc k) = flat_at ts k
-
--- the tallies of the first k rules are those after the event, and the others are those before it
-pub record TalliedUpTo (registers : ℕ) (seen : List Placed) (p : Placed) (tallies : List (Option Entry)) (k : ℕ) : Type
-    0 where
-  pub long : length tallies ≡ 13
-  pub done : (rule : Rule) → number_of rule ≤ k → IsTallyOf registers (seen ++ p ∷ []) rule (tally_in tallies rule)
-  pub left : (rule : Rule) → k < number_of rule → IsTallyOf registers seen rule (tally_in tallies rule)
-
-pub tallied_start : (registers : ℕ) (seen : List Placed) (p : Placed) (tallies : List (Option Entry))
-    → AreTallies registers seen tallies → TalliedUpTo registers seen p tallies 0
-tallied_start registers seen p tallies are = record {
-  long = are.rules;
-  done = λ rule le. let some = some_number rule in absurd (omega (arith, le, some));
-  left = λ rule lt. are.each rule;
-}
-
-most_number : (rule : Rule) → number_of rule ≤ 13
-most_number RasterFirst = omega arith
-most_number _ = omega arith
-
-pub tallied_all : (registers : ℕ) (seen : List Placed) (p : Placed) (tallies : List (Option Entry)) (k : ℕ) → 13 ≤ k
-    → TalliedUpTo registers seen p tallies k → AreTallies registers (seen ++ p ∷ []) tallies
-tallied_all registers seen p tallies k le t = record {
-  rules = t.long;
-  each = λ rule. t.done rule (let most = most_number rule in omega (arith, le, most));
-}
-
--- the tally of the next rule
-pub tallied_step : (registers : ℕ) (seen : List Placed) (p : Placed) (tallies : List (Option Entry)) (k : ℕ)
-    (hit : Option Hit) → k < 13
-    → IsHit registers (get_or all_rules k EightBit) (events_of seen) p.event hit
-    → TalliedUpTo registers seen p tallies k
-    → TalliedUpTo registers seen p
-    (set tallies k (next_tally (get_or all_rules k EightBit) p.place hit (get_or tallies k None))) (k + 1)
-tallied_step registers seen p tallies k hit lt here t =
-    let this : Rule = get_or all_rules k EightBit in
-    let number : number_of this ≡ suc k = number_at k lt in
-    let next : Option Entry = next_tally this p.place hit (get_or tallies k None) in
-    let long : k < length tallies = omega (arith, lt, t.long) in
-    let old : IsTallyOf registers seen this (get_or tallies k None) =
-    subst (IsTallyOf registers seen this)
-    (ap (λ (n : ℕ). option_flatten (slice_get tallies n)) (omega (arith, number)) ∙ flat_at tallies k)
-    (t.left this (omega (arith, number))) in
-    let new : IsTallyOf registers (seen ++ p ∷ []) this next =
-    tally_push registers this seen p hit (get_or tallies k None) here old in
-    let same : (rule : Rule) → k ≢ number_of rule - 1
-    → tally_in (set tallies k next) rule ≡ tally_in tallies rule =
-    λ rule other. flat_other tallies k (number_of rule - 1) next other in
-    record {
-      long = length-set tallies k next ∙ t.long;
-      done = λ rule le. by_place rule (cases_lt k (number_of rule)) le number long new same;
-      left = λ rule more.
-          subst (IsTallyOf registers seen rule)
-          (sym (same rule (λ e. absurd (omega (arith, e, more)))))
-          (t.left rule (omega (arith, more)));
-    }
-  where
-    by_place : (rule : Rule) → (k < number_of rule) ⊎ (number_of rule ≤ k) → number_of rule ≤ k + 1
-        → number_of (get_or all_rules k EightBit) ≡ suc k → k < length tallies
-        → IsTallyOf registers (seen ++ p ∷ []) (get_or all_rules k EightBit)
-        (next_tally (get_or all_rules k EightBit) p.place hit (get_or tallies k None))
-        → ((rule : Rule) → k ≢ number_of rule - 1
-        → tally_in (set tallies k (next_tally (get_or all_rules k EightBit) p.place hit (get_or tallies k None))) rule
-        ≡ tally_in tallies rule)
-        → IsTallyOf registers (seen ++ p ∷ []) rule
-        (tally_in (set tallies k (next_tally (get_or all_rules k EightBit) p.place hit (get_or tallies k None))) rule)
-    by_place rule (inl more) le number long new same =
-        let one : get_or all_rules k EightBit ≡ rule =
-        same_rule (get_or all_rules k EightBit) rule (omega (arith, number, more, le)) in
-        let at : number_of rule - 1 ≡ k = omega (arith, more, le) in
-        let next : Option Entry = next_tally (get_or all_rules k EightBit) p.place hit (get_or tallies k None) in
-        let is : tally_in (set tallies k next) rule ≡ next =
-        ap (λ (n : ℕ). option_flatten (slice_get (set tallies k next) n)) at ∙ flat_same tallies k next long in
-        subst (IsTallyOf registers (seen ++ p ∷ []) rule) (sym is)
-        (subst (λ (r : Rule). IsTallyOf registers (seen ++ p ∷ []) r next) one new)
-    by_place rule (inr before) le number long new same =
-        let some = some_number rule in
-        subst (IsTallyOf registers (seen ++ p ∷ []) rule)
-        (sym (same rule (λ e. absurd (omega (arith, e, before, some)))))
-        (t.done rule before)
 
 -- ---- how often
 

@@ -6,4 +6,5 @@ pub mod Declaring
 pub mod Notes
 pub mod Covering
 pub mod Tallies
+pub mod Stretches
 pub mod Surveying

@@ -83,10 +83,13 @@ is_early_with n e = n.early || (is_painting e && not n.declared)
 
 -- ---- the rules that don't look at pixels
 
+-- the known register is one of this many, and has no definition
+abbrev pub lacks_definition_in : ℕ → Notes → Bool
+lacks_definition_in registers n =
+    option_map_or (λ r. nat_lt r registers && is_none (said_of n.definitions r)) (known_in n) false
+
 abbrev pub undefined_in : ℕ → Notes → Event → Bool
-undefined_in registers n e =
-    is_painting e
-    && option_map_or (λ r. nat_lt r registers && is_none (said_of n.definitions r)) (known_in n) false
+undefined_in registers n e = is_painting e && lacks_definition_in registers n
 
 abbrev pub redefined_in : ℕ → Notes → Event → Bool
 redefined_in registers n (Step (Define register system x y z)) =

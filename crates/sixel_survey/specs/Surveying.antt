@@ -1,5 +1,7 @@
 -- What a surveyor has seen. Only contracts of private functions cite these.
 use Rattle.std.specs.Prelude.{◌≡◌, ◌++◌, ℕ, List, Option, length}
+use Rattle.sixel_grammar.specs.declared.command.Command.{Command}
+use Rattle.sixel_grammar.specs.declared.command.Event.TheVariants.{Step}
 use Rattle.sixel_grammar.specs.declared.command.Placed.{Placed}
 use Rattle.sixel_grammar.specs.declared.fault.InputFault.{InputFault}
 use Rattle.sixel_grammar.specs.declared.reader.Reader.{Reader}
@@ -41,6 +43,9 @@ pub record AreAfter (registers : ℕ) (reader : Reader) (surveyor : SurveyorValu
   pub events : List Placed
   pub read : grammar.StandsAfter reader events bytes
   pub surveyed : HasSurveyed registers surveyor events
+
+abbrev pub command_at : ℕ → Command → Placed
+command_at place command = record { place = place; event = Step command }
 
 -- a surveyor that had seen some events before (old) has now (new) seen those and `more`
 abbrev pub TakesEvents : SurveyorValue → SurveyorValue → List Placed → Type 0

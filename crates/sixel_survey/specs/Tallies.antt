@@ -1,11 +1,13 @@
 -- How often each rule has counted so far, and where first.
-use Rattle.std.specs.Prelude.{◌≡◌, ◌+◌, ◌-◌, ◌<◌, ℕ, Option, Some, None, List, slice_get}
+use Rattle.std.specs.Prelude.{◌≡◌, ◌==◌, ◌||◌, ◌+◌, ◌-◌, ◌<◌, ℕ, Bool, true, false, Option, Some, None, List, []}
+use Rattle.std.specs.Prelude.{◌∷◌, ◌++◌, length, slice_get}
 use Rattle.std.specs.Option.{option_flatten, option_map}
 use Rattle.sixel_grammar.specs.declared.command.Event.{Event}
 use Rattle.sixel_grammar.specs.declared.command.Placed.{Placed}
 use Rattle.sixel_grammar.specs.Document.{events_of}
 use Rattle.sixel_model.specs.Positions.{HoldsAtPosition, HoldsNowhere}
 use Rattle.sixel_judge.specs.declared.rule.Rule.{Rule}
+use Rattle.sixel_judge.specs.declared.rule.Rule.TheVariants.{RasterFirst, RepeatZero, Unselected, Undefined, Outside}
 use Rattle.sixel_judge.specs.declared.rule.Rule.TheVariants.{Uncovered}
 use Rattle.sixel_judge.specs.Verdicts.{IsPixel, capped, number_of}
 use Rattle.sixel_survey.specs.declared.entry.Entry.{Entry}
@@ -50,3 +52,22 @@ entry_from blank _ tally = tally
 -- the entry of the rule, by the tallies and the number of blank pixels
 abbrev pub entry_in : List (Option Entry) → ℕ → Rule → Option Entry
 entry_in tallies blank rule = option_map (entry_from blank rule) (tally_in tallies rule)
+
+-- ---- rule by rule
+
+-- the rule is one of these
+abbrev pub is_one_of : List Rule → Rule → Bool
+is_one_of [] rule = false
+is_one_of (r ∷ rs) rule = (number_of r == number_of rule) || is_one_of rs rule
+
+-- the rules that a sixel or a repeat can break
+abbrev pub of_columns : List Rule
+of_columns = Outside ∷ Undefined ∷ Unselected ∷ RepeatZero ∷ RasterFirst ∷ []
+
+-- the tallies of these rules are those after `more`, and the others are those before it
+pub record AreTalliedFor (registers : ℕ) (seen more : List Placed) (done : List Rule) (tallies : List (Option Entry)) :
+    Type 0 where
+  pub rules : length tallies ≡ 13
+  pub after : (rule : Rule) → is_one_of done rule ≡ true
+      → IsTallyOf registers (seen ++ more) rule (tally_in tallies rule)
+  pub before : (rule : Rule) → is_one_of done rule ≡ false → IsTallyOf registers seen rule (tally_in tallies rule)

@@ -21,6 +21,7 @@ use sixel_plane::Plane;
 use std::alloc::{AllocError, Global};
 
 /// The lowest bits: as many as there are rows, which are at most six.
+#[inline(always)]
 fn lowest_bits(rows: u64) -> u8
     requires { rows ≤ 6 }
     ensures { result ≡ 2 ^ rows - 1 }
@@ -37,6 +38,7 @@ fn lowest_bits(rows: u64) -> u8
 }
 
 /// The bits of a band whose rows lie above the height.
+#[inline(always)]
 fn bits_within(bits: u8, band: u32, height: u32) -> u8
     ensures within { result ≤ 63 }
     ensures kept { (k : ℕ) → k < band_rows → band_rows * band + k < height → bit_at result k ≡ bit_at bits k }
@@ -49,10 +51,14 @@ fn bits_within(bits: u8, band: u32, height: u32) -> u8
 
 /// Covers the pixels of the box that `count` columns from `column` on paint, in the rows of the band whose bits are
 /// set. What lies outside the box is left out. A column or band of `u64::MAX` means that number or any greater one.
-fn cover<P: Plane>(plane: &mut P, column: u64, band: u64, count: u16, bits: u8)
+#[inline(always)]
+pub(crate) fn cover<P: Plane>(plane: &mut P, column: u64, band: u64, count: u16, bits: u8)
     ensures { (left line : ℕ) → column ≡ capped left → band ≡ capped line
         → IsCoveredBy (P.grid plane.old) left count line bits (P.grid plane.new) }
 {
+    if bits == 0 {
+        return;
+    }
     let width = plane.width();
     let height = plane.height();
     if column >= width as u64 {
@@ -68,6 +74,7 @@ fn cover<P: Plane>(plane: &mut P, column: u64, band: u64, count: u16, bits: u8)
 }
 
 /// A blank plane of the declared size, for the first raster attributes, if both sides are in range.
+#[inline(never)]
 fn first_plane<P: Plane>(
     alloc: Global,
     notes: &Notes,
@@ -91,6 +98,7 @@ fn first_plane<P: Plane>(
 }
 
 /// Makes the plane at the first raster attributes, and covers its pixels after that.
+#[inline(always)]
 pub(crate) fn draw<P: Plane>(
     alloc: Global,
     notes: &Notes,

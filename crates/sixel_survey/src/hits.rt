@@ -29,6 +29,7 @@ use sixel_plane::Plane;
 
 /// A select or a definition of a register that the profile doesn't have.
 #[tactic(auto, unfolding(sixel_model::specs::Rules::breaks_register))]
+#[inline(always)]
 fn names_above(profile: Profile, event: &Event) -> bool
     ensures { result ≡ of.breaks_register (count_of profile) event.now }
 {
@@ -39,16 +40,11 @@ fn names_above(profile: Profile, event: &Event) -> bool
 }
 
 /// A painting command whose known register is one of the profile's and has no definition.
+#[inline(always)]
 fn paints_undefined(profile: Profile, notes: &Notes, event: &Event) -> bool
     ensures { result ≡ undefined_in (count_of profile) notes.now event.now }
 {
-    if !is_painting(event) {
-        return false;
-    }
-    match notes.known() {
-        Some(register) => { register < profile.count() && notes.definition(register).is_none() }
-        None => false,
-    }
+    is_painting(event) && notes.lacks_definition(profile)
 }
 
 /// Whether there is a definition that says something else.
@@ -67,6 +63,7 @@ fn differs(definition: Option<Definition>, other: Definition) -> bool
 }
 
 /// A definition of one of the profile's registers that was painted in and defined, unless it repeats the last one.
+#[inline(always)]
 fn redefines(profile: Profile, notes: &Notes, event: &Event) -> bool
     ensures { result ≡ redefined_in (count_of profile) notes.now event.now }
 {
@@ -95,6 +92,7 @@ fn redefines(profile: Profile, notes: &Notes, event: &Event) -> bool
 }
 
 /// Whether the rule counts at the event, if it isn't one of the two rules on pixels.
+#[inline(always)]
 fn counts_by_notes(profile: Profile, notes: &Notes, event: &Event, rule: Rule) -> bool
     ensures { result ≡ counts_in (count_of profile) notes.now event.now rule }
 {
@@ -115,6 +113,7 @@ fn counts_by_notes(profile: Profile, notes: &Notes, event: &Event, rule: Rule) -
 }
 
 /// The first pixel outside the box, in row order, that the event paints.
+#[inline(always)]
 fn pixel_outside<P: Plane>(notes: &Notes, plane: &P, event: &Event) -> Option<(u64, u64)>
     ensures { (before : List EventValue) → IsNotesAfter notes.now before → (c : IsCoverOf (P.grid plane.now) before)
         → IsFirstIfAny (FallsOutside before event.now c.box) result }
@@ -130,6 +129,7 @@ fn pixel_outside<P: Plane>(notes: &Notes, plane: &P, event: &Event) -> Option<(u
 }
 
 /// The first blank pixel of the box.
+#[inline(always)]
 fn pixel_blank<P: Plane>(plane: &P) -> Option<(u64, u64)>
     ensures { (before : List EventValue) → (c : IsCoverOf (P.grid plane.now) before) → paints_early before ≡ false
         → IsFirstIfAny (StaysBlank before c.box) result }
@@ -140,6 +140,7 @@ fn pixel_blank<P: Plane>(plane: &P) -> Option<(u64, u64)>
     }
 }
 
+#[inline(always)]
 fn hit_at(pixel: Option<(u64, u64)>) -> Option<Hit>
     ensures { result ≡ option_map (λ p. record { pixel = Some p }) pixel }
 {
@@ -150,6 +151,7 @@ fn hit_at(pixel: Option<(u64, u64)>) -> Option<Hit>
 }
 
 /// Where `Outside` counts.
+#[inline(always)]
 fn hit_outside<P: Plane>(notes: &Notes, plane: &Option<P>, event: &Event) -> Option<Hit>
     ensures { (registers : ℕ) (before : List EventValue) → IsNotesAfter notes.now before
         → IsCoverAfter (option_map P.grid plane.now) before → IsHit registers Outside before event.now result }
@@ -161,6 +163,7 @@ fn hit_outside<P: Plane>(notes: &Notes, plane: &Option<P>, event: &Event) -> Opt
 }
 
 /// Where `Uncovered` counts.
+#[inline(always)]
 fn hit_uncovered<P: Plane>(notes: &Notes, plane: &Option<P>, event: &Event) -> Option<Hit>
     ensures { (registers : ℕ) (before : List EventValue) → IsNotesAfter notes.now before
         → IsCoverAfter (option_map P.grid plane.now) before → IsHit registers Uncovered before event.now result }
@@ -178,6 +181,7 @@ fn hit_uncovered<P: Plane>(notes: &Notes, plane: &Option<P>, event: &Event) -> O
 }
 
 /// Where a rule that doesn't look at pixels counts.
+#[inline(always)]
 fn hit_by_notes(profile: Profile, notes: &Notes, event: &Event, rule: Rule) -> Option<Hit>
     ensures { result ≡ (if counts_in (count_of profile) notes.now event.now rule
         then Some (record { pixel = None }) else None) }
@@ -190,6 +194,7 @@ fn hit_by_notes(profile: Profile, notes: &Notes, event: &Event, rule: Rule) -> O
 }
 
 /// Where the rule counts at the event.
+#[inline(always)]
 pub(crate) fn hit_of<P: Plane>(
     profile: Profile,
     notes: &Notes,

@@ -7,9 +7,11 @@ mod first;
 mod hits;
 pub mod laws;
 mod notes;
+mod stretch;
 mod surveying;
 mod surveyor;
 mod tally;
+mod tallying;
 
 pub use entry::{Entry, RULE_COUNT, Survey};
 pub use surveying::survey;

@@ -1,15 +1,20 @@
 //! What a survey remembers of the events, except the pixels.
 
-ghost use Rattle.std.specs.Prelude.{◌≡◌, ◌<◌, ◌++◌, ◌∷◌, [], List, false, slice_index_or};
+ghost use Rattle.std.specs.Prelude.{◌≡◌, ◌<◌, ◌++◌, ◌∷◌, ◌||◌, [], ℕ, List, false, not, slice_index_or};
 ghost use Rattle.std.specs.Option.{option_map};
 ghost use Rattle.sixel_grammar.specs.declared.command.Event.{Event as EventValue};
+ghost use Rattle.sixel_grammar.specs.declared.command.Placed.{Placed};
+ghost use Rattle.sixel_grammar.specs.Document.{events_of};
+ghost use Rattle.sixel_grammar.specs.Stretches.{sixels_from};
+ghost use Rattle.sixel_survey.specs.Stretches.{AreSixels};
 ghost use Rattle.sixel_survey.specs.Notes.{next_definitions, next_painted, said, said_of};
 
+use crate::stretch::paints;
 use sixel_grammar::{Command, Event};
 use sixel_judge::events::{
     columns_of, is_next_line, is_painting, is_raster, is_return, named_by, select_of,
 };
-use sixel_model::MOST_REGISTERS;
+use sixel_model::{MOST_REGISTERS, Profile};
 
 /// What a definition of a register says, in range or not.
 #[derive(Clone, Copy, Debug, PartialEq, Eq, Drop)]
@@ -42,8 +47,10 @@ pub(crate) struct Notes {
 }
 
 impl Notes {
-    ghost use Rattle.sixel_survey.specs.Notes.{IsNotesAfter, known_in, next_band, next_column, next_named};
-    ghost use Rattle.sixel_survey.specs.Notes.{is_declared_with, is_early_with, next_selected};
+    ghost use Rattle.sixel_model.specs.Profiles.{count_of};
+    ghost use Rattle.sixel_survey.specs.Notes.{IsNotesAfter, known_in, lacks_definition_in, marked, next_band};
+    ghost use Rattle.sixel_survey.specs.Notes.{is_declared_with, is_early_with, next_column, next_named};
+    ghost use Rattle.sixel_survey.specs.Notes.{next_selected};
 
     /// The notes before any event.
     pub(crate) fn new() -> Notes
@@ -62,6 +69,7 @@ impl Notes {
     }
 
     /// The known register: the one of the last select, if the last select or definition names it too.
+    #[inline(always)]
     pub(crate) fn known(&self) -> Option<u16>
         ensures { result ≡ known_in self.now }
     {
@@ -72,6 +80,7 @@ impl Notes {
     }
 
     /// The last definition of the register, which must be the number of a byte.
+    #[inline(always)]
     pub(crate) fn definition(&self, register: u16) -> Option<Definition>
         requires { register < 256 }
         ensures { option_map said result ≡ said_of self.now.definitions register }
@@ -80,6 +89,7 @@ impl Notes {
     }
 
     /// Whether a command painted in the register, which must be the number of a byte.
+    #[inline(always)]
     pub(crate) fn is_painted_in(&self, register: u16) -> bool
         requires { register < 256 }
         ensures { result ≡ slice_index_or self.now.painted register false }
@@ -87,6 +97,7 @@ impl Notes {
         self.painted[register as usize]
     }
 
+    #[inline(always)]
     fn mark(&mut self, event: &Event)
         ensures { self.new ≡ record self.old { painted = next_painted self.old event.now } }
     {
@@ -98,6 +109,7 @@ impl Notes {
         }
     }
 
+    #[inline(always)]
     fn move_on(&mut self, event: &Event)
         ensures { self.new ≡ record self.old {
           column = next_column self.old event.now;
@@ -114,6 +126,7 @@ impl Notes {
         }
     }
 
+    #[inline(always)]
     fn name(&mut self, event: &Event)
         ensures { self.new ≡ record self.old {
           selected = next_selected self.old event.now;
@@ -124,6 +137,7 @@ impl Notes {
         self.named = named_by(event).or(self.named);
     }
 
+    #[inline(always)]
     fn define(&mut self, event: &Event)
         ensures { self.new ≡ record self.old { definitions = next_definitions self.old.definitions event.now } }
     {
@@ -147,6 +161,7 @@ impl Notes {
         }
     }
 
+    #[inline(always)]
     fn declare(&mut self, event: &Event)
         ensures { self.new ≡ record self.old {
           declared = is_declared_with self.old event.now;
@@ -157,7 +172,48 @@ impl Notes {
         self.declared = self.declared || is_raster(event);
     }
 
+    /// Whether the known register is one of the profile's and has no definition.
+    #[inline(always)]
+    pub(crate) fn lacks_definition(&self, profile: Profile) -> bool
+        ensures { result ≡ lacks_definition_in (count_of profile) self.now }
+    {
+        match self.known() {
+            Some(register) => { register < profile.count() && self.definition(register).is_none() }
+            None => false,
+        }
+    }
+
+    /// Notes a stretch of sixels.
+    #[inline(always)]
+    pub(crate) fn take_stretch(&mut self, stretch: &[u8])
+        requires { AreSixels stretch.now }
+        ensures { (seen : List Placed) (place : ℕ) → IsNotesAfter self.old (events_of seen)
+            → IsNotesAfter self.new (events_of (seen ++ sixels_from place stretch.now)) }
+    {
+        self.column = self.column.saturating_add(stretch.len() as u64);
+        if paints(stretch) {
+            self.paint();
+        }
+    }
+
+    /// Notes that a sixel or a repeat painted.
+    #[inline(always)]
+    fn paint(&mut self)
+        ensures { self.new ≡ record self.old {
+          painted = marked self.old.painted (known_in self.old);
+          early = self.old.early || not self.old.declared;
+        } }
+    {
+        if let Some(register) = self.known()
+            && (register as usize) < MOST_REGISTERS
+        {
+            self.painted[register as usize] = true;
+        }
+        self.early = self.early || !self.declared;
+    }
+
     /// Notes the next event, whether or not it breaks a rule.
+    #[inline(always)]
     pub(crate) fn take(&mut self, event: &Event)
         ensures { (before : List EventValue) → IsNotesAfter self.old before
             → IsNotesAfter self.new (before ++ event.now ∷ []) }

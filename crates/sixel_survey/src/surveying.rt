@@ -1,6 +1,7 @@
 //! Surveying the bytes of a document.
 
-ghost use Rattle.std.specs.Prelude.{◌≡◌, ◌≢◌, ◌++◌, ◌∷◌, [], ℕ, List, Err, IfErr, IfSome, OnErr, OnOk};
+ghost use Rattle.std.specs.Prelude.{◌≡◌, ◌≢◌, ◌<◌, ◌≤◌, ◌++◌, ◌∷◌, [], ℕ, List, Err, IfErr, IfOk, IfSome, OnErr, OnOk};
+ghost use Rattle.std.specs.Prelude.{length, take};
 ghost use Rattle.sixel_io.specs.Devices.{ReadsToEnd};
 ghost use Rattle.std.specs.Option.{option_to_list};
 ghost use Rattle.sixel_grammar.specs.Reading.{NoFaultBefore, failures_after};
@@ -10,11 +11,11 @@ ghost use Rattle.sixel_model.specs.Profiles.{count_of};
 ghost use Rattle.sixel_survey.specs.Answers.{Answers};
 ghost use Rattle.sixel_survey.specs.Declaring.{DeclareBoxIn};
 ghost use Rattle.sixel_survey.specs.Surveying.{AreAfter, DeclaresForBytes, DeclaresOver, RefusesBytes, TakesBytes};
-ghost use Rattle.sixel_survey.specs.Surveying.{TakesEvents};
+ghost use Rattle.sixel_survey.specs.Surveying.{TakesEvents, command_at};
 
 use crate::entry::Survey;
 use crate::surveyor::Surveyor;
-use sixel_grammar::{Completed, InputFault, Placed, Reader};
+use sixel_grammar::{Command, Completed, Event, InputFault, Placed, Plain, Reader};
 use sixel_io::{PIECE, Source};
 use sixel_model::Profile;
 use sixel_plane::{BandPlane, Plane};
@@ -49,7 +50,75 @@ fn take_completed<P: Plane>(
     take_one(surveyor, alloc, second)
 }
 
-/// Reads one byte, and takes the events that it completes.
+/// Takes a command. It is inlined, so that a caller that knows the kind keeps only the code for that kind.
+#[inline(always)]
+fn take_command<P: Plane>(
+    surveyor: &mut Surveyor<P>,
+    alloc: Global,
+    place: u64,
+    command: Command,
+) -> Result<(), AllocError>
+    ensures taken { OnOk result (TakesEvents surveyor.old surveyor.new (command_at place command ∷ [])) }
+    ensures declares { OnErr result (DeclaresOver surveyor.old (command_at place command ∷ [])) }
+{
+    let event = Event::Step(command);
+    surveyor.take(alloc, &Placed { place, event })
+}
+
+/// Takes a command of any kind.
+#[inline(never)]
+fn take_rarely<P: Plane>(
+    surveyor: &mut Surveyor<P>,
+    alloc: Global,
+    place: u64,
+    command: Command,
+) -> Result<(), AllocError>
+    ensures taken { OnOk result (TakesEvents surveyor.old surveyor.new (command_at place command ∷ [])) }
+    ensures declares { OnErr result (DeclaresOver surveyor.old (command_at place command ∷ [])) }
+{
+    take_command(surveyor, alloc, place, command)
+}
+
+/// Takes a command that a byte below `?` completed: each kind that is frequent gets its own inlined call.
+#[inline(always)]
+fn take_sign<P: Plane>(
+    surveyor: &mut Surveyor<P>,
+    alloc: Global,
+    place: u64,
+    command: Command,
+) -> Result<(), AllocError>
+    ensures taken { OnOk result (TakesEvents surveyor.old surveyor.new (command_at place command ∷ [])) }
+    ensures declares { OnErr result (DeclaresOver surveyor.old (command_at place command ∷ [])) }
+{
+    match command {
+        Command::CarriageReturn | Command::NextLine => {
+            take_command(surveyor, alloc, place, command)
+        }
+        Command::Select(_) => take_command(surveyor, alloc, place, command),
+        Command::Define { .. } => take_command(surveyor, alloc, place, command),
+        other => take_rarely(surveyor, alloc, place, other),
+    }
+}
+
+/// Takes a command that a data byte completed: a repeat gets its own inlined call.
+#[inline(always)]
+fn take_repeat<P: Plane>(
+    surveyor: &mut Surveyor<P>,
+    alloc: Global,
+    place: u64,
+    command: Command,
+) -> Result<(), AllocError>
+    ensures taken { OnOk result (TakesEvents surveyor.old surveyor.new (command_at place command ∷ [])) }
+    ensures declares { OnErr result (DeclaresOver surveyor.old (command_at place command ∷ [])) }
+{
+    match command {
+        Command::Repeat { .. } => take_command(surveyor, alloc, place, command),
+        other => take_rarely(surveyor, alloc, place, other),
+    }
+}
+
+/// Reads one byte of any kind, and takes the events that it completes.
+#[inline(never)]
 fn read_byte<P: Plane>(
     reader: &mut Reader,
     surveyor: &mut Surveyor<P>,
@@ -64,6 +133,92 @@ fn read_byte<P: Plane>(
     Ok(take_completed(surveyor, alloc, completed)?)
 }
 
+/// As `read_byte`. The result has a local of its own here, so that the fast paths write no memory for it.
+#[inline(always)]
+fn read_otherwise<P: Plane>(
+    reader: &mut Reader,
+    surveyor: &mut Surveyor<P>,
+    alloc: Global,
+    byte: u8,
+) -> Result<(), InputFault>
+    ensures read { OnOk result (TakesBytes reader.old surveyor.old reader.new surveyor.new (byte ∷ [])) }
+    ensures refused { IfErr result (RefusesBytes reader.old surveyor.old (byte ∷ [])) }
+    ensures memory { IfErr result (DeclaresForBytes reader.old surveyor.old (byte ∷ [])) }
+{
+    read_byte(reader, surveyor, alloc, byte)
+}
+
+/// Reads one byte, and takes the events that it completes. It is for bytes below `?`.
+#[inline(always)]
+fn read_sign<P: Plane>(
+    reader: &mut Reader,
+    surveyor: &mut Surveyor<P>,
+    alloc: Global,
+    byte: u8,
+) -> Result<(), InputFault>
+    ensures read { OnOk result (TakesBytes reader.old surveyor.old reader.new surveyor.new (byte ∷ [])) }
+    ensures refused { IfErr result (RefusesBytes reader.old surveyor.old (byte ∷ [])) }
+    ensures memory { IfErr result (DeclaresForBytes reader.old surveyor.old (byte ∷ [])) }
+{
+    match reader.feed_command(byte) {
+        Some(Plain::Nothing) => Ok(()),
+        Some(Plain::Command { place, command }) => Ok(take_sign(surveyor, alloc, place, command)?),
+        None => read_otherwise(reader, surveyor, alloc, byte),
+    }
+}
+
+/// Reads one byte, and takes the events that it completes. It is for data bytes that begin no stretch.
+#[inline(always)]
+fn read_data<P: Plane>(
+    reader: &mut Reader,
+    surveyor: &mut Surveyor<P>,
+    alloc: Global,
+    byte: u8,
+) -> Result<(), InputFault>
+    ensures read { OnOk result (TakesBytes reader.old surveyor.old reader.new surveyor.new (byte ∷ [])) }
+    ensures refused { IfErr result (RefusesBytes reader.old surveyor.old (byte ∷ [])) }
+    ensures memory { IfErr result (DeclaresForBytes reader.old surveyor.old (byte ∷ [])) }
+{
+    match reader.feed_plain(byte) {
+        Some(Plain::Nothing) => Ok(()),
+        Some(Plain::Command { place, command }) => {
+            Ok(take_repeat(surveyor, alloc, place, command)?)
+        }
+        None => read_otherwise(reader, surveyor, alloc, byte),
+    }
+}
+
+/// Reads the data bytes that `feed_stretch` takes at the beginning of `bytes`, or else one byte. Returns how many it
+/// read.
+#[inline(always)]
+fn read_stretch_or_byte<P: Plane>(
+    reader: &mut Reader,
+    surveyor: &mut Surveyor<P>,
+    alloc: Global,
+    bytes: &[u8],
+) -> Result<usize, InputFault>
+    requires some { 0 < length bytes.now }
+    ensures some { IfOk result (λ count. 0 < count) }
+    ensures within { IfOk result (λ count. count ≤ length bytes.now) }
+    ensures read { IfOk result (λ count.
+        TakesBytes reader.old surveyor.old reader.new surveyor.new (take count bytes.now)) }
+    ensures refused { IfErr result (RefusesBytes reader.old surveyor.old (take 1 bytes.now)) }
+    ensures memory { IfErr result (DeclaresForBytes reader.old surveyor.old (take 1 bytes.now)) }
+{
+    // No byte below `?` is data, so the compiler drops the code for data from this branch.
+    if bytes[0] < b'?' {
+        read_sign(reader, surveyor, alloc, bytes[0])?;
+        return Ok(1);
+    }
+    let stretch = reader.feed_stretch(bytes);
+    if stretch.count == 0 {
+        read_data(reader, surveyor, alloc, bytes[0])?;
+        return Ok(1);
+    }
+    surveyor.take_stretch(stretch.place, bytes, stretch.count);
+    Ok(stretch.count)
+}
+
 /// Reads the bytes of a piece.
 fn read_piece<P: Plane>(
     reader: &mut Reader,
@@ -75,8 +230,9 @@ fn read_piece<P: Plane>(
     ensures refused { IfErr result (RefusesBytes reader.old surveyor.old piece.now) }
     ensures memory { IfErr result (DeclaresForBytes reader.old surveyor.old piece.now) }
 {
-    for byte in piece {
-        read_byte(reader, surveyor, alloc, *byte)?;
+    let mut read = 0;
+    while read < piece.len() {
+        read += read_stretch_or_byte(reader, surveyor, alloc, &piece[read..])?;
     }
     Ok(())
 }

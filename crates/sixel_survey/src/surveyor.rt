@@ -1,23 +1,25 @@
 //! Surveying events one by one.
 
-ghost use Rattle.std.specs.Prelude.{◌≡◌, ◌≢◌, ◌<◌, ◌++◌, ◌∷◌, [], ℕ, List, None, OnErr, OnOk, filter_map, get_or};
+ghost use Rattle.std.specs.Prelude.{◌≡◌, ◌≢◌, ◌<◌, ◌≤◌, ◌+◌, ◌++◌, ◌∷◌, [], ℕ, List, IsTrue, None, OnErr, OnOk};
+ghost use Rattle.std.specs.Prelude.{filter_map, get_or, length, slice_index, take};
+ghost use Rattle.sixel_grammar.specs.Bytes.{is_data};
+ghost use Rattle.sixel_grammar.specs.Stretches.{sixels_from};
 ghost use Rattle.sixel_judge.specs.declared.rule.Rule.TheVariants.{EightBit};
 ghost use Rattle.std.specs.Option.{option_map, option_map_or};
 ghost use Rattle.sixel_grammar.specs.declared.command.Placed.{Placed as PlacedValue};
-ghost use Rattle.sixel_grammar.specs.Document.{Document, events_of};
+ghost use Rattle.sixel_grammar.specs.Document.{Document, events_of, most_bytes};
 ghost use Rattle.sixel_model.specs.Profiles.{count_of};
 ghost use Rattle.sixel_survey.specs.Covering.{IsCoverAfter, blank_cells, size_in};
 ghost use Rattle.sixel_survey.specs.Declaring.{DeclaresBox};
-ghost use Rattle.sixel_survey.specs.Notes.{IsNotesAfter};
-ghost use Rattle.sixel_survey.specs.Surveying.{AreTallies, HasSurveyed};
+ghost use Rattle.sixel_survey.specs.Surveying.{HasSurveyed};
 ghost use Rattle.sixel_survey.specs.Surveys.{IsSurvey, all_rules as rules_in_order};
 ghost use Rattle.sixel_survey.specs.Tallies.{entry_from as entry_made, entry_in};
 
 use crate::cover::{count_blank, draw};
 use crate::entry::{Entry, RULE_COUNT, Survey};
-use crate::hits::hit_of;
 use crate::notes::Notes;
-use crate::tally::with_event;
+use crate::stretch::{draw_stretch, tally_stretch};
+use crate::tallying::tally;
 use arrayvec::ArrayVec;
 use sixel_grammar::Placed;
 use sixel_judge::Rule;
@@ -57,27 +59,6 @@ fn tally_at(tallies: &[Option<Entry>; RULE_COUNT], index: usize) -> Option<Entry
     ensures { result ≡ get_or tallies.now index None }
 {
     tallies[index]
-}
-
-/// Counts an event for each rule.
-fn tally<P: Plane>(
-    tallies: &mut [Option<Entry>; RULE_COUNT],
-    profile: Profile,
-    notes: &Notes,
-    plane: &Option<P>,
-    placed: &Placed,
-)
-    ensures { (seen : List PlacedValue) → IsNotesAfter notes.now (events_of seen)
-        → IsCoverAfter (option_map P.grid plane.now) (events_of seen)
-        → AreTallies (count_of profile) seen tallies.old
-        → AreTallies (count_of profile) (seen ++ placed.now ∷ []) tallies.new }
-{
-    for index in 0..RULE_COUNT {
-        let rule = rule_at(index);
-        let hit = hit_of(profile, notes, plane, &placed.event, rule);
-        let tally = tally_at(tallies, index);
-        tallies[index] = with_event(tally, rule, placed.place, hit);
-    }
 }
 
 /// The entry that a tally makes. For `Uncovered` it has the number of blank pixels.
@@ -189,6 +170,7 @@ impl<P: Plane> Surveyor<P> {
     }
 
     /// Takes the next event. Only the plane is allocated.
+    #[inline(always)]
     pub(crate) fn take(&mut self, alloc: Global, placed: &Placed) -> Result<(), AllocError>
         ensures ok { OnOk result ((registers : ℕ) (seen : List PlacedValue) → HasSurveyed registers self.old seen
             → HasSurveyed registers self.new (seen ++ placed.now ∷ [])) }
@@ -205,6 +187,28 @@ impl<P: Plane> Surveyor<P> {
         draw(alloc, &self.notes, &mut self.plane, &placed.event)?;
         self.notes.take(&placed.event);
         Ok(())
+    }
+
+    /// Takes the first `count` bytes of `bytes`, all of them data, as sixels; the first has the offset `place`.
+    #[inline(always)]
+    pub(crate) fn take_stretch(&mut self, place: u64, bytes: &[u8], count: usize)
+        requires sixels { (k : ℕ) → k < count → IsTrue (is_data (slice_index bytes.now k)) }
+        requires bytes { count ≤ length bytes.now }
+        requires place { place + count ≤ most_bytes }
+        ensures { (registers : ℕ) (seen : List PlacedValue) → HasSurveyed registers self.old seen
+            → HasSurveyed registers self.new (seen ++ sixels_from place (take count bytes.now)) }
+    {
+        let stretch = &bytes[..count];
+        tally_stretch(
+            &mut self.tallies,
+            self.profile,
+            &self.notes,
+            &self.plane,
+            place,
+            stretch,
+        );
+        draw_stretch(&self.notes, &mut self.plane, bytes, count);
+        self.notes.take_stretch(stretch);
     }
 
     /// The survey of a document.

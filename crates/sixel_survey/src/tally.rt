@@ -14,7 +14,8 @@ pub(crate) struct Hit {
 }
 
 /// The tally of a rule after an event at this offset, at which the rule counts. The count stops at `u64::MAX`.
-fn counted(tally: Option<Entry>, rule: Rule, place: u64, hit: Hit) -> Entry
+#[inline(always)]
+pub(crate) fn counted(tally: Option<Entry>, rule: Rule, place: u64, hit: Hit) -> Entry
     ensures { Some result ≡ next_tally rule place (Some hit) tally }
 {
     match tally {
@@ -28,20 +29,5 @@ fn counted(tally: Option<Entry>, rule: Rule, place: u64, hit: Hit) -> Entry
             count: tally.count.saturating_add(1),
             ..tally
         },
-    }
-}
-
-/// The tally of a rule after an event at this offset.
-pub(crate) fn with_event(
-    tally: Option<Entry>,
-    rule: Rule,
-    place: u64,
-    hit: Option<Hit>,
-) -> Option<Entry>
-    ensures { result ≡ next_tally rule place hit tally }
-{
-    match hit {
-        None => tally,
-        Some(hit) => Some(counted(tally, rule, place, hit)),
     }
 }

@@ -1,6 +1,10 @@
 use Rattle.std.proofs.Common.{◌≤◌, ◌<◌, arith, inl, inr}
-use Rattle.sixel_survey.proofs.CoverLemmas.{IsRun, covered_none, covered_part, inside_covers, outside_covers}
+use Rattle.sixel_survey.proofs.CoverLemmas.{IsRun, covered_blank, covered_none, covered_part, inside_covers, outside_covers}
 use Rattle.sixel_survey.proofs.cover.cover.Goals as goal
+
+pub returns-then-bits-eq0 : goal.returns-then-bits-eq0
+returns-then-bits-eq0 g c = λ left line column_is band_is.
+    covered_blank (g.P.Plane.grid c.args.plane.now) left c.args.count line c.args.bits (omega arith)
 
 pub returns-then-column-width : goal.returns-then-column-width
 returns-then-column-width g c = λ left line column_is band_is.

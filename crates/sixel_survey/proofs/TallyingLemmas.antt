@@ -1,0 +1,271 @@
+-- The tallies rule by rule, and the rules that an event can't break.
+use Rattle.std.proofs.Common.{◌≡◌, ◌≢◌, ◌==◌, ◌<◌, ◌≤◌, ◌-◌, ◌&&◌, ◌||◌, ℕ, zero, suc, Bool, true, false, not}
+use Rattle.std.proofs.Common.{Option, Some, None, List, [], ◌∷◌, ◌++◌, length, get_or, set, refl, sym, ap, subst, ◌∙◌}
+use Rattle.std.proofs.Common.{arith}
+use Rattle.std.specs.Prelude.{is_none, is_some, slice_get}
+use Rattle.std.specs.Option.{option_flatten, option_map_or}
+use Rattle.std.proofs.lemmas.Bool.{eqb-false, eqb-true, or_parts}
+use Rattle.std.proofs.lemmas.List.{length-set}
+use Rattle.sixel_grammar.specs.declared.command.Command.TheVariants.{Sixel, Repeat, Select, Define, Raster}
+use Rattle.sixel_grammar.specs.declared.command.Command.TheVariants.{CarriageReturn, NextLine}
+use Rattle.sixel_grammar.specs.declared.command.Event.{Event}
+use Rattle.sixel_grammar.specs.declared.command.Event.TheVariants.{Start, Step, Finish}
+use Rattle.sixel_grammar.specs.declared.command.Placed.{Placed}
+use Rattle.sixel_grammar.specs.Document.{events_of}
+use Rattle.sixel_model.specs.Events.{definition_where, is_data_command, is_eight_bit, is_finish, is_painting}
+use Rattle.sixel_model.specs.Events.{is_repeat_of_zero, is_return, named_by, raster_of}
+use Rattle.sixel_model.specs.Rules.{Breaks, BreaksOutside, breaks_box_size, breaks_colour_value, breaks_ratio}
+use Rattle.sixel_model.specs.Rules.{breaks_register, breaks_repeat_zero, raster_before}
+use Rattle.sixel_judge.specs.declared.rule.Rule.{Rule}
+use Rattle.sixel_judge.specs.declared.rule.Rule.TheVariants.{RasterFirst, RasterTwice, Ratio, BoxSize, Register}
+use Rattle.sixel_judge.specs.declared.rule.Rule.TheVariants.{ColourValue, RepeatZero, Unselected, Undefined, Redefined}
+use Rattle.sixel_judge.specs.declared.rule.Rule.TheVariants.{Outside, Uncovered, EightBit}
+use Rattle.sixel_judge.specs.Verdicts.{number_of}
+use Rattle.sixel_judge.proofs.DrawLemmas.{falls_paints}
+use Rattle.sixel_judge.proofs.VerdictLemmas.{same_rule}
+use Rattle.sixel_survey.specs.declared.entry.Entry.{Entry}
+use Rattle.sixel_survey.specs.declared.notes.Notes.{Notes}
+use Rattle.sixel_survey.specs.Counting.{Counts}
+use Rattle.sixel_survey.specs.Notes.{IsNotesAfter, counts_in, known_in, lacks_definition_in}
+use Rattle.sixel_survey.specs.Surveying.{AreTallies}
+use Rattle.sixel_survey.specs.Tallies.{AreTalliedFor, IsHit, IsTallyOf, is_one_of, of_columns, tally_in}
+use Rattle.sixel_survey.proofs.HitLemmas.{hit_if, notes_hit, uncovered_goes_on}
+use Rattle.sixel_survey.proofs.TallyLemmas.{tally_push}
+use Rattle.sixel_survey.proofs.TellLemmas.{if_box}
+
+-- ---- one tally of the list
+
+some_number : (rule : Rule) → 1 ≤ number_of rule
+some_number RasterFirst = omega arith
+some_number _ = omega arith
+
+most_number : (rule : Rule) → number_of rule ≤ 13
+most_number RasterFirst = omega arith
+most_number _ = omega arith
+
+flat_same : (ts : List (Option Entry)) (k : ℕ) (x : Option Entry) → k < length ts
+    → option_flatten (slice_get (set ts k x) k) ≡ x
+flat_same [] k x lt = absurd (omega arith)
+flat_same (t ∷ ts) zero x lt = refl
+flat_same (t ∷ ts) (suc k) x lt = flat_same ts k x (omega arith)
+
+flat_other : (ts : List (Option Entry)) (k j : ℕ) (x : Option Entry) → k ≢ j
+    → option_flatten (slice_get (set ts k x) j) ≡ option_flatten (slice_get ts j)
+flat_other [] k j x n = refl
+flat_other (t ∷ ts) zero zero x n = absurd (n refl)
+flat_other (t ∷ ts) zero (suc j) x n = refl
+flat_other (t ∷ ts) (suc k) zero x n = refl
+flat_other (t ∷ ts) (suc k) (suc j) x n = flat_other ts k j x (λ e. n (ap suc e))
+
+pub flat_at : (ts : List (Option Entry)) (k : ℕ) → option_flatten (slice_get ts k) ≡ get_or ts k None
+flat_at [] k = refl
+flat_at (t ∷ ts) zero = refl
+flat_at (t ∷ ts) (suc k) = flat_at ts k
+
+-- ---- one more rule
+
+-- before any rule
+pub tallied_none : (registers : ℕ) (seen more : List Placed) (tallies : List (Option Entry))
+    → AreTallies registers seen tallies → AreTalliedFor registers seen more [] tallies
+tallied_none registers seen more tallies are = record {
+  rules = are.rules;
+  after = λ rule is. cc;
+  before = λ rule is. are.each rule;
+}
+
+-- the tally of one more rule, where the others stay
+one_more : (registers : ℕ) (seen more : List Placed) (done : List Rule) (rule : Rule) (old new : List (Option Entry))
+    → length new ≡ 13 → IsTallyOf registers (seen ++ more) rule (tally_in new rule)
+    → ((other : Rule) → number_of rule ≢ number_of other → tally_in new other ≡ tally_in old other)
+    → AreTalliedFor registers seen more done old → AreTalliedFor registers seen more (rule ∷ done) new
+one_more registers seen more done rule old new long this others t = record {
+  rules = long;
+  after = λ other is. after_of other (number_of rule == number_of other) refl is;
+  before = λ other is.
+      let parts = or_parts (number_of rule == number_of other) (is_one_of done other) is in
+      subst (IsTallyOf registers seen other)
+      (sym (others other (eqb-false (number_of rule) (number_of other) parts.0)))
+      (t.before other parts.1);
+}
+  where
+    after_of : (other : Rule) (b : Bool) → (number_of rule == number_of other) ≡ b
+        → (b || is_one_of done other) ≡ true
+        → IsTallyOf registers (seen ++ more) other (tally_in new other)
+    after_of other true same is =
+        subst (λ (r : Rule). IsTallyOf registers (seen ++ more) r (tally_in new r))
+        (same_rule rule other (eqb-true (number_of rule) (number_of other) same)) this
+    after_of other false differ is =
+        subst (IsTallyOf registers (seen ++ more) other)
+        (sym (others other (eqb-false (number_of rule) (number_of other) differ))) (t.after other is)
+
+-- the tally of the rule stays
+pub tallied_kept : (registers : ℕ) (seen more : List Placed) (done : List Rule) (rule : Rule)
+    (tallies : List (Option Entry))
+    → IsTallyOf registers (seen ++ more) rule (tally_in tallies rule)
+    → AreTalliedFor registers seen more done tallies → AreTalliedFor registers seen more (rule ∷ done) tallies
+tallied_kept registers seen more done rule tallies this t =
+    one_more registers seen more done rule tallies tallies t.rules this (λ other differ. refl) t
+
+-- the tally of the rule is set
+pub tallied_set : (registers : ℕ) (seen more : List Placed) (done : List Rule) (rule : Rule)
+    (tallies : List (Option Entry)) (tally : Option Entry)
+    → IsTallyOf registers (seen ++ more) rule tally
+    → AreTalliedFor registers seen more done tallies
+    → AreTalliedFor registers seen more (rule ∷ done) (set tallies (number_of rule - 1) tally)
+tallied_set registers seen more done rule tallies tally this t =
+    let some = some_number rule in
+    let most = most_number rule in
+    let here : number_of rule - 1 < length tallies = omega (arith, some, most, t.rules) in
+    one_more registers seen more done rule tallies (set tallies (number_of rule - 1) tally)
+    (length-set tallies (number_of rule - 1) tally ∙ t.rules)
+    (subst (IsTallyOf registers (seen ++ more) rule) (sym (flat_same tallies (number_of rule - 1) tally here)) this)
+    (λ other differ.
+    flat_other tallies (number_of rule - 1) (number_of other - 1) tally
+    (λ e. differ (let more_than = some_number other in omega (arith, e, some, more_than))))
+    t
+
+-- all rules are done, if the tallies of the others stay
+pub tallied_rest : (registers : ℕ) (seen more : List Placed) (done : List Rule) (tallies : List (Option Entry))
+    → AreTalliedFor registers seen more done tallies
+    → ((rule : Rule) → is_one_of done rule ≡ false → IsTallyOf registers seen rule (tally_in tallies rule)
+    → IsTallyOf registers (seen ++ more) rule (tally_in tallies rule))
+    → AreTallies registers (seen ++ more) tallies
+tallied_rest registers seen more done tallies t stays = record {
+  rules = t.rules;
+  each = λ rule. by_place rule (is_one_of done rule) refl;
+}
+  where
+    by_place : (rule : Rule) (b : Bool) → is_one_of done rule ≡ b
+        → IsTallyOf registers (seen ++ more) rule (tally_in tallies rule)
+    by_place rule true is = t.after rule is
+    by_place rule false is = stays rule is (t.before rule is)
+
+-- ---- the rules that an event can't break
+
+-- an event of this kind can break the rule
+abbrev pub can_break : Rule → Event → Bool
+can_break RasterFirst e = is_data_command e || is_return e || is_finish e
+can_break RasterTwice e = is_some (raster_of e)
+can_break Ratio e = is_some (raster_of e)
+can_break BoxSize e = is_some (raster_of e)
+can_break Register e = is_some (named_by e)
+can_break ColourValue e = is_some (definition_where (λ r. true) e)
+can_break RepeatZero e = is_repeat_of_zero e
+can_break Unselected e = is_painting e
+can_break Undefined e = is_painting e
+can_break Redefined e = is_some (definition_where (λ r. true) e)
+can_break Outside e = is_painting e
+can_break Uncovered e = is_finish e
+can_break EightBit e = is_eight_bit e
+
+no_and : (b : Bool) → (b && false) ≡ false
+no_and true = refl
+no_and false = refl
+
+no_map : {A : Type 0} (p : A → Bool) (o : Option A) → is_some o ≡ false → option_map_or p o false ≡ false
+no_map p None h = refl
+no_map p (Some a) h = cc
+
+never_in : (registers : ℕ) (n : Notes) (e : Event) (rule : Rule) → can_break rule e ≡ false
+    → counts_in registers n e rule ≡ false
+unfolding breaks_ratio breaks_box_size breaks_register breaks_colour_value breaks_repeat_zero
+never_in registers n e RasterFirst h = ap (λ (b : Bool). not n.declared && b) h ∙ no_and (not n.declared)
+never_in registers n e RasterTwice h = ap (λ (b : Bool). n.declared && b) h ∙ no_and n.declared
+never_in registers n e Ratio h = no_map _ (raster_of e) h
+never_in registers n e BoxSize h = no_map _ (raster_of e) h
+never_in registers n e Register h = no_map _ (named_by e) h
+never_in registers n e ColourValue h = no_map _ (definition_where (λ r. true) e) h
+never_in registers n e RepeatZero h = h
+never_in registers n e Unselected h = ap (λ (b : Bool). b && is_none (known_in n)) h
+never_in registers n e Undefined h = ap (λ (b : Bool). b && lacks_definition_in registers n) h
+never_in registers n e Redefined h = not_defined e h
+  where
+    not_defined : (e : Event) → is_some (definition_where (λ r. true) e) ≡ false
+        → counts_in registers n e Redefined ≡ false
+    not_defined (Step (Define register system x y z)) h = cc
+    not_defined _ h = refl
+never_in registers n e Outside h = refl
+never_in registers n e Uncovered h = refl
+never_in registers n e EightBit h = h
+
+never_outside : (registers : ℕ) (before : List Event) (e : Event) → is_painting e ≡ false
+    → IsHit registers Outside before e None
+unfolding Breaks BreaksOutside
+never_outside registers before e idle =
+    λ (k : Counts registers Outside before e).
+    let box = if_box (raster_before before) _ k.broken in
+    let point = rw box.1 at k.broken in
+    let paints = falls_paints before e point.0 point.1 (point.2).painted in
+    cc
+
+silent : (registers : ℕ) (n : Notes) (before : List Event) (e : Event) (rule : Rule) → registers ≤ 256
+    → IsNotesAfter n before → rule ≢ Outside → rule ≢ Uncovered → can_break rule e ≡ false
+    → IsHit registers rule before e None
+silent registers n before e rule few s p q h =
+    subst (λ (b : Bool). IsHit registers rule before e (hit_if b)) (never_in registers n e rule h)
+    (notes_hit registers n before e rule few s p q)
+
+-- a rule that an event of this kind can't break doesn't count
+pub never : (registers : ℕ) (n : Notes) (before : List Event) (e : Event) (rule : Rule) → registers ≤ 256
+    → IsNotesAfter n before → can_break rule e ≡ false → IsHit registers rule before e None
+never registers n before e Outside few s h = never_outside registers before e h
+never registers n before e Uncovered few s h = uncovered_goes_on registers before e h
+never registers n before e RasterFirst few s h = silent registers n before e RasterFirst few s (λ i. cc) (λ i. cc) h
+never registers n before e RasterTwice few s h = silent registers n before e RasterTwice few s (λ i. cc) (λ i. cc) h
+never registers n before e Ratio few s h = silent registers n before e Ratio few s (λ i. cc) (λ i. cc) h
+never registers n before e BoxSize few s h = silent registers n before e BoxSize few s (λ i. cc) (λ i. cc) h
+never registers n before e Register few s h = silent registers n before e Register few s (λ i. cc) (λ i. cc) h
+never registers n before e ColourValue few s h = silent registers n before e ColourValue few s (λ i. cc) (λ i. cc) h
+never registers n before e RepeatZero few s h = silent registers n before e RepeatZero few s (λ i. cc) (λ i. cc) h
+never registers n before e Unselected few s h = silent registers n before e Unselected few s (λ i. cc) (λ i. cc) h
+never registers n before e Undefined few s h = silent registers n before e Undefined few s (λ i. cc) (λ i. cc) h
+never registers n before e Redefined few s h = silent registers n before e Redefined few s (λ i. cc) (λ i. cc) h
+never registers n before e EightBit few s h = silent registers n before e EightBit few s (λ i. cc) (λ i. cc) h
+
+-- the rules that an event of its kind can break, the last one first
+abbrev pub rules_of : Event → List Rule
+rules_of (Step (Sixel bits)) = of_columns
+rules_of (Step (Repeat count bits)) = of_columns
+rules_of (Step CarriageReturn) = RasterFirst ∷ []
+rules_of (Step NextLine) = RasterFirst ∷ []
+rules_of (Step (Select register)) = Register ∷ []
+rules_of (Step (Define register system x y z)) = Redefined ∷ ColourValue ∷ Register ∷ []
+rules_of (Step (Raster pan pad width height)) = BoxSize ∷ Ratio ∷ RasterTwice ∷ []
+rules_of (Start eight parameters) = EightBit ∷ []
+rules_of (Finish eight) = EightBit ∷ Uncovered ∷ RasterFirst ∷ []
+
+by_kind : (e : Event) (rule : Rule) → is_one_of (rules_of e) rule ≡ false → can_break rule e ≡ false
+by_kind (Step (Sixel bits)) RasterFirst h = cc
+by_kind (Step (Sixel bits)) _ h = cc
+by_kind (Step (Repeat count bits)) RasterFirst h = cc
+by_kind (Step (Repeat count bits)) _ h = cc
+by_kind (Step CarriageReturn) RasterFirst h = cc
+by_kind (Step CarriageReturn) _ h = cc
+by_kind (Step NextLine) RasterFirst h = cc
+by_kind (Step NextLine) _ h = cc
+by_kind (Step (Select register)) RasterFirst h = cc
+by_kind (Step (Select register)) _ h = cc
+by_kind (Step (Define register system x y z)) RasterFirst h = cc
+by_kind (Step (Define register system x y z)) _ h = cc
+by_kind (Step (Raster pan pad width height)) RasterFirst h = cc
+by_kind (Step (Raster pan pad width height)) _ h = cc
+by_kind (Start eight parameters) RasterFirst h = cc
+by_kind (Start eight parameters) _ h = cc
+by_kind (Finish eight) RasterFirst h = cc
+by_kind (Finish eight) _ h = cc
+
+-- a sixel can break four rules
+pub sixel_only : (bits : ℕ) (rule : Rule) → is_one_of (Outside ∷ Undefined ∷ Unselected ∷ RasterFirst ∷ []) rule ≡ false
+    → can_break rule (Step (Sixel bits)) ≡ false
+sixel_only bits RasterFirst h = cc
+sixel_only bits _ h = cc
+
+-- after one event, if the rules that it can break are done
+pub tallied_event : (registers : ℕ) (n : Notes) (seen : List Placed) (p : Placed) (e : Event)
+    (tallies : List (Option Entry)) → registers ≤ 256 → IsNotesAfter n (events_of seen) → p.event ≡ e
+    → AreTalliedFor registers seen (p ∷ []) (rules_of e) tallies → AreTallies registers (seen ++ p ∷ []) tallies
+tallied_event registers n seen p e tallies few s is t =
+    tallied_rest registers seen (p ∷ []) (rules_of e) tallies t (λ rule left tally.
+    tally_push registers rule seen p None (tally_in tallies rule)
+    (subst (λ (d : Event). IsHit registers rule (events_of seen) d None) (sym is)
+    (never registers n (events_of seen) e rule few s (by_kind e rule left))) tally)

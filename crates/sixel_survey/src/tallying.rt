@@ -1,0 +1,152 @@
+//! Counting events one by one.
+
+ghost use Rattle.std.specs.Prelude.{◌≡◌, ◌-◌, ◌<◌, ◌++◌, ◌∷◌, [], List, false, slice_set};
+ghost use Rattle.std.specs.Option.{option_map};
+ghost use Rattle.sixel_grammar.specs.declared.command.Placed.{Placed as PlacedValue};
+ghost use Rattle.sixel_grammar.specs.Document.{events_of};
+ghost use Rattle.sixel_judge.specs.Verdicts.{number_of};
+ghost use Rattle.sixel_judge.specs.declared.rule.Rule.{Rule as RuleValue};
+ghost use Rattle.sixel_model.specs.Profiles.{count_of};
+ghost use Rattle.sixel_survey.specs.Covering.{IsCoverAfter};
+ghost use Rattle.sixel_survey.specs.Notes.{IsNotesAfter};
+ghost use Rattle.sixel_survey.specs.Surveying.{AreTallies};
+ghost use Rattle.sixel_survey.specs.Tallies.{AreTalliedFor, is_one_of, of_columns, tally_in};
+
+use crate::entry::{Entry, RULE_COUNT};
+use crate::hits::hit_of;
+use crate::notes::Notes;
+use crate::tally::counted;
+use sixel_grammar::{Command, Event, Placed};
+use sixel_judge::Rule;
+use sixel_model::Profile;
+use sixel_plane::Plane;
+
+/// The place of the rule in the order, counted from 0.
+#[inline(always)]
+pub(crate) fn index_of(rule: Rule) -> usize
+    ensures value { result ≡ number_of rule - 1 }
+    ensures below { result < 13 }
+{
+    match rule {
+        Rule::RasterFirst => 0,
+        Rule::RasterTwice => 1,
+        Rule::Ratio => 2,
+        Rule::BoxSize => 3,
+        Rule::Register => 4,
+        Rule::ColourValue => 5,
+        Rule::RepeatZero => 6,
+        Rule::Unselected => 7,
+        Rule::Undefined => 8,
+        Rule::Redefined => 9,
+        Rule::Outside => 10,
+        Rule::Uncovered => 11,
+        Rule::EightBit => 12,
+    }
+}
+
+/// The tally of the rule.
+#[inline(always)]
+pub(crate) fn tally_of(tallies: &[Option<Entry>; RULE_COUNT], rule: Rule) -> Option<Entry>
+    ensures { result ≡ tally_in tallies.now rule }
+{
+    tallies[index_of(rule)]
+}
+
+/// Sets the tally of the rule.
+#[inline(always)]
+pub(crate) fn put(tallies: &mut [Option<Entry>; RULE_COUNT], rule: Rule, tally: Option<Entry>)
+    ensures { tallies.new ≡ slice_set tallies.old (number_of rule - 1) tally }
+{
+    tallies[index_of(rule)] = tally;
+}
+
+/// Counts an event for a rule.
+#[inline(always)]
+fn tally_rule<P: Plane>(
+    tallies: &mut [Option<Entry>; RULE_COUNT],
+    profile: Profile,
+    notes: &Notes,
+    plane: &Option<P>,
+    placed: &Placed,
+    rule: Rule,
+)
+    ensures { (seen : List PlacedValue) (done : List RuleValue) → IsNotesAfter notes.now (events_of seen)
+        → IsCoverAfter (option_map P.grid plane.now) (events_of seen) → is_one_of done rule ≡ false
+        → AreTalliedFor (count_of profile) seen (placed.now ∷ []) done tallies.old
+        → AreTalliedFor (count_of profile) seen (placed.now ∷ []) (rule ∷ done) tallies.new }
+{
+    if let Some(hit) = hit_of(profile, notes, plane, &placed.event, rule) {
+        let tally = tally_of(tallies, rule);
+        put(tallies, rule, Some(counted(tally, rule, placed.place, hit)));
+    }
+}
+
+/// Counts a sixel or a repeat for the rules that it can break.
+#[inline(always)]
+fn tally_columns<P: Plane>(
+    tallies: &mut [Option<Entry>; RULE_COUNT],
+    profile: Profile,
+    notes: &Notes,
+    plane: &Option<P>,
+    placed: &Placed,
+)
+    ensures { (seen : List PlacedValue) → IsNotesAfter notes.now (events_of seen)
+        → IsCoverAfter (option_map P.grid plane.now) (events_of seen)
+        → AreTalliedFor (count_of profile) seen (placed.now ∷ []) [] tallies.old
+        → AreTalliedFor (count_of profile) seen (placed.now ∷ []) of_columns tallies.new }
+{
+    tally_rule(tallies, profile, notes, plane, placed, Rule::RasterFirst);
+    tally_rule(tallies, profile, notes, plane, placed, Rule::RepeatZero);
+    tally_rule(tallies, profile, notes, plane, placed, Rule::Unselected);
+    tally_rule(tallies, profile, notes, plane, placed, Rule::Undefined);
+    tally_rule(tallies, profile, notes, plane, placed, Rule::Outside);
+}
+
+/// Counts an event for each rule: only for those that an event of its kind can break.
+#[inline(always)]
+pub(crate) fn tally<P: Plane>(
+    tallies: &mut [Option<Entry>; RULE_COUNT],
+    profile: Profile,
+    notes: &Notes,
+    plane: &Option<P>,
+    placed: &Placed,
+)
+    ensures { (seen : List PlacedValue) → IsNotesAfter notes.now (events_of seen)
+        → IsCoverAfter (option_map P.grid plane.now) (events_of seen)
+        → AreTallies (count_of profile) seen tallies.old
+        → AreTallies (count_of profile) (seen ++ placed.now ∷ []) tallies.new }
+{
+    match &placed.event {
+        Event::Step(command) => match command {
+            Command::Sixel(_) => tally_columns(tallies, profile, notes, plane, placed),
+            Command::Repeat { .. } => tally_columns(tallies, profile, notes, plane, placed),
+            Command::CarriageReturn => {
+                tally_rule(tallies, profile, notes, plane, placed, Rule::RasterFirst);
+            }
+            Command::NextLine => {
+                tally_rule(tallies, profile, notes, plane, placed, Rule::RasterFirst);
+            }
+            Command::Select(_) => {
+                tally_rule(tallies, profile, notes, plane, placed, Rule::Register);
+            }
+            Command::Define { .. } => {
+                tally_rule(tallies, profile, notes, plane, placed, Rule::Register);
+                tally_rule(tallies, profile, notes, plane, placed, Rule::ColourValue);
+                tally_rule(tallies, profile, notes, plane, placed, Rule::Redefined);
+            }
+            Command::Raster { .. } => {
+                tally_rule(tallies, profile, notes, plane, placed, Rule::RasterTwice);
+                tally_rule(tallies, profile, notes, plane, placed, Rule::Ratio);
+                tally_rule(tallies, profile, notes, plane, placed, Rule::BoxSize);
+            }
+        },
+        Event::Start { .. } => {
+            tally_rule(tallies, profile, notes, plane, placed, Rule::EightBit);
+        }
+        Event::Finish { .. } => {
+            tally_rule(tallies, profile, notes, plane, placed, Rule::RasterFirst);
+            tally_rule(tallies, profile, notes, plane, placed, Rule::Uncovered);
+            tally_rule(tallies, profile, notes, plane, placed, Rule::EightBit);
+        }
+    }
+}
