@@ -8,6 +8,7 @@ use Rattle.std.proofs.Math.Nat.{two-pow-succ}
 use Rattle.std.proofs.lemmas.List.Sums.{sum_by_push}
 use Rattle.sixel_model.specs.Pictures.{PictureValue}
 use Rattle.sixel_encode.specs.Canon.{below, column_bits, has_pixel}
+use Rattle.sixel_encode.specs.Columns.{bits_to}
 use Rattle.sixel_encode.proofs.RangeLemmas.{below_then}
 
 -- ---- facts about six Bools
@@ -78,38 +79,32 @@ column_has p band register x =
 pub weight_is : (k : ℕ) → k < 6 → 1 * 2 ^ k % 256 ≡ 2 ^ k
 weight_is k h = eqb-true _ _ (agree_below_at (λ i. 1 * 2 ^ i % 256 == 2 ^ i) (λ i. true) 6 k refl h)
 
--- the bits of a register in the first rows of a column
-abbrev pub bits_above : PictureValue → ℕ → ℕ → ℕ → ℕ → ℕ
-bits_above p band register x row = sum_by (λ k. if has_pixel p band register x k then 2 ^ k else 0) (below row)
-
-above_then : (p : PictureValue) (band register x row : ℕ) → bits_above p band register x (row + 1)
-    ≡ bits_above p band register x row + (if has_pixel p band register x row then 2 ^ row else 0)
-above_then p band register x row =
-    ap (sum_by (λ k. if has_pixel p band register x k then 2 ^ k else 0)) (below_then row)
-    ∙ sum_by_push (λ k. if has_pixel p band register x k then 2 ^ k else 0) (below row) row
+bits_then : (has : ℕ → Bool) (row : ℕ)
+    → bits_to has (row + 1) ≡ bits_to has row + (if has row then 2 ^ row else 0)
+bits_then has row =
+    ap (sum_by (λ k. if has k then 2 ^ k else 0)) (below_then row)
+    ∙ sum_by_push (λ k. if has k then 2 ^ k else 0) (below row) row
 
 twice : (row : ℕ) → 2 ^ (row + 1) ≡ 2 ^ row + 2 ^ row
 twice row = rw add-one (two-pow-succ row)
 
 -- a row with a pixel of the register adds its bit
-pub row_added : (p : PictureValue) (band register x row bits : ℕ) → row < 6 → has_pixel p band register x row ≡ true
-    → bits ≡ bits_above p band register x row → bits < 2 ^ row
-    → (bits + 1 * 2 ^ row % 256 ≡ bits_above p band register x (row + 1)) × (bits + 1 * 2 ^ row % 256 < 2 ^ (row + 1))
-row_added p band register x row bits small here is less =
+pub row_added : (has : ℕ → Bool) (row bits : ℕ) → row < 6 → has row ≡ true
+    → bits ≡ bits_to has row → bits < 2 ^ row
+    → (bits + 1 * 2 ^ row % 256 ≡ bits_to has (row + 1)) × (bits + 1 * 2 ^ row % 256 < 2 ^ (row + 1))
+row_added has row bits small here is less =
     let weight : 1 * 2 ^ row % 256 ≡ 2 ^ row = weight_is row small in
-    let longer : bits_above p band register x (row + 1) ≡ bits_above p band register x row + 2 ^ row =
-    above_then p band register x row
-    ∙ ap (λ (t : Bool). bits_above p band register x row + (if t then 2 ^ row else 0)) here in
+    let longer : bits_to has (row + 1) ≡ bits_to has row + 2 ^ row =
+    bits_then has row ∙ ap (λ (t : Bool). bits_to has row + (if t then 2 ^ row else 0)) here in
     let double : 2 ^ (row + 1) ≡ 2 ^ row + 2 ^ row = twice row in
     (omega arith, omega arith)
 
 -- any other row adds nothing
-pub row_passed : (p : PictureValue) (band register x row bits : ℕ) → has_pixel p band register x row ≡ false
-    → bits ≡ bits_above p band register x row → bits < 2 ^ row
-    → (bits ≡ bits_above p band register x (row + 1)) × (bits < 2 ^ (row + 1))
-row_passed p band register x row bits gone is less =
-    let longer : bits_above p band register x (row + 1) ≡ bits_above p band register x row + 0 =
-    above_then p band register x row
-    ∙ ap (λ (t : Bool). bits_above p band register x row + (if t then 2 ^ row else 0)) gone in
+pub row_passed : (has : ℕ → Bool) (row bits : ℕ) → has row ≡ false
+    → bits ≡ bits_to has row → bits < 2 ^ row
+    → (bits ≡ bits_to has (row + 1)) × (bits < 2 ^ (row + 1))
+row_passed has row bits gone is less =
+    let longer : bits_to has (row + 1) ≡ bits_to has row + 0 =
+    bits_then has row ∙ ap (λ (t : Bool). bits_to has row + (if t then 2 ^ row else 0)) gone in
     let double : 2 ^ (row + 1) ≡ 2 ^ row + 2 ^ row = twice row in
     (omega arith, omega arith)

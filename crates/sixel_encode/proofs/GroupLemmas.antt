@@ -74,6 +74,19 @@ none_before n k m r g small some is low less =
     let lowest = bit_at-trailing_zeros w64 (n / 2 ^ k) (omega arith) (omega arith) in
     ap (bit_at n) (sym at) ∙ sym (bit_shifted n k (g - k)) ∙ lowest.2 (g - k) (omega arith)
 
+-- the lowest set bit from k on
+pub first_left : (n k m r : ℕ) → n < 2 ^ 64 → n / 2 ^ k ≢ 0 → r ≡ min (k + trailing_zeros w64 (n / 2 ^ k)) m
+    → r < m → bit_at n r ≡ 1
+first_left n k m r small some is less =
+    let at : k + trailing_zeros w64 (n / 2 ^ k) ≡ r = omega arith in
+    let few : n / 2 ^ k ≤ n = shr_le n k in
+    let lowest = bit_at-trailing_zeros w64 (n / 2 ^ k) (omega arith) (omega arith) in
+    ap (bit_at n) (sym at) ∙ sym (bit_shifted n k (trailing_zeros w64 (n / 2 ^ k))) ∙ lowest.1
+
+-- a mask has no bit from 64 on
+pub none_past : (n g : ℕ) → n < 2 ^ 64 → 64 ≤ g → bit_at n g ≡ 0
+none_past n g small past = none_left n 64 g (omega arith) past
+
 -- ---- rows of a band
 
 -- the band has a pixel with the register

@@ -10,6 +10,8 @@ pub mod StretchLemmas
 pub mod StepLemmas
 pub mod OccurLemmas
 pub mod AddedLemmas
+pub mod FoundLemmas
+pub mod RowsLemmas
 pub mod GroupLemmas
 pub mod LongestLemmas
 pub mod LengthLemmas

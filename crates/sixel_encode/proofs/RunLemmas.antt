@@ -1,10 +1,11 @@
 -- The longest runs, as a loop finds them from the beginning.
-use Rattle.std.proofs.Common.{◌≡◌, ◌≢◌, ℕ, zero, suc, ◌+◌, Bool, true, false, not, cond, Some, List, [], ◌∷◌, ◌++◌}
+use Rattle.std.proofs.Common.{◌≡◌, ◌≢◌, ℕ, zero, suc, ◌+◌, Bool, true, false, not, ◌||◌, cond, Some, List, [], ◌∷◌, ◌++◌}
 use Rattle.std.proofs.Common.{replicate, refl, sym, ap, ◌∙◌, add-one}
 use Rattle.std.specs.Prelude.{◌==◌, slice_get}
 use Rattle.std.proofs.lemmas.Bool.{eqb-true, eqb-false, eq-eqb, ne_eqb, not_from_false, or_left, or_right}
 use Rattle.std.proofs.lemmas.List.{append-nil}
 use Rattle.std.proofs.lemmas.List.Folds.{list_any-append}
+use Rattle.std.proofs.Math.Bool.{or-false}
 use Rattle.sixel_encode.specs.Canon.{Run, onto_runs, runs, has_bits, without_blanks}
 
 -- the first run has this item
@@ -76,6 +77,16 @@ none_blank (suc n) = none_blank n
 pub without_all : (n : ℕ) → without_blanks (replicate n 0) ≡ []
 without_all zero = refl
 without_all (suc n) = rw (none_blank (suc n)) refl
+
+-- blank columns at the end make no difference
+pub without_padding : (cs : List ℕ) (n : ℕ) → without_blanks (cs ++ replicate n 0) ≡ without_blanks cs
+without_padding [] n = without_all n
+without_padding (c ∷ cs) n =
+    let ink : has_bits (c ∷ (cs ++ replicate n 0)) ≡ has_bits (c ∷ cs) =
+    ap (λ (t : Bool). not (c == 0) || t)
+    (list_any-append (λ bits. not (bits == 0)) cs (replicate n 0)
+    ∙ ap (λ (t : Bool). has_bits cs || t) (none_blank n) ∙ or-false (has_bits cs)) in
+    rw (ink, without_padding cs n) refl
 
 first_step : (b c : ℕ) (cs : List ℕ) (t : Bool) → c ≢ b → slice_get (cond t (c ∷ cs) []) 0 ≢ Some b
 first_step b c cs true h = λ e. h (cc e)

@@ -21,7 +21,7 @@ use Rattle.sixel_encode.specs.Canon.{all_columns, band_commands, band_registers,
 use Rattle.sixel_encode.specs.Canon.{canon_commands, canon_start, canon_text, commands_text, define_command}
 use Rattle.sixel_encode.specs.Canon.{define_commands, occurs, picture_commands, register_commands}
 use Rattle.sixel_encode.proofs.RangeLemmas.{below_then}
-use Rattle.sixel_encode.specs.Columns.{sixel_commands, sixels_of}
+use Rattle.sixel_encode.specs.Columns.{padded, sixel_commands, sixels_of}
 use Rattle.sixel_encode.proofs.StretchLemmas.{register_is}
 use Rattle.sixel_encode.proofs.TextLemmas.{text-append}
 
@@ -175,14 +175,14 @@ step-is p band register is_first h first =
     ∙ ap (λ (t : Bool). if t then next_text p band register (is_first_of p band register) else []) (sym h)
 
 -- the same, from the sixels of its columns
-pub step-found : (p : PictureValue) (band register : ℕ) (sixels : List ℕ) (is_first : Bool)
-    → sixels ≡ sixels_of (all_columns p band register) → occurs p band register ≡ true
+pub step-found : (p : PictureValue) (band register long : ℕ) (sixels : List ℕ) (is_first : Bool)
+    → sixels ≡ sixels_of (padded long (all_columns p band register)) → occurs p band register ≡ true
     → is_first ≡ is_first_of p band register
     → commands_text ((if is_first then [] else CarriageReturn ∷ []) ++ (Select register ∷ sixel_commands sixels))
     ≡ register_step p band register
-step-found p band register sixels is_first found h first =
+step-found p band register long sixels is_first found h first =
     ap (λ (t : List Command). commands_text ((if is_first then [] else CarriageReturn ∷ []) ++ t))
-    (register_is p band register sixels found)
+    (register_is p band register long sixels found)
     ∙ step-is p band register is_first h first
 
 -- a register that doesn't occur adds no text

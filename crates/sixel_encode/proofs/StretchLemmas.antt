@@ -12,7 +12,8 @@ use Rattle.sixel_model.specs.Pictures.{PictureValue}
 use Rattle.sixel_encode.specs.Canon.{all_columns, band_columns, has_bits, register_commands, run_commands, runs}
 use Rattle.sixel_encode.specs.Canon.{without_blanks}
 use Rattle.sixel_encode.specs.Columns.{AreSixels, IsInkEnd, IsRepeatAt, IsRun, NoFour, are_four, bits_of_sixels, part}
-use Rattle.sixel_encode.specs.Columns.{sixel_commands, sixels_of}
+use Rattle.sixel_encode.specs.Columns.{padded, sixel_commands, sixels_of}
+use Rattle.sixel_encode.proofs.RunLemmas.{without_padding}
 use Rattle.sixel_encode.proofs.TextLemmas.{columns-before, columns-blank, columns-end, columns_text, replicate-then}
 use Rattle.sixel_encode.proofs.TextLemmas.{run-short, run_text}
 
@@ -213,14 +214,16 @@ pub bits_back : (cs : List ℕ) → bits_of_sixels (sixels_of cs) ≡ cs
 bits_back [] = refl
 bits_back (b ∷ cs) = let e : 63 + b - 63 ≡ b = omega arith in ap₂ (λ (n : ℕ) (t : List ℕ). n ∷ t) e (bits_back cs)
 
--- the commands of a register, from the data bytes of its columns
-pub register_is : (p : PictureValue) (band register : ℕ) (sixels : List ℕ)
-    → sixels ≡ sixels_of (all_columns p band register)
+-- the commands of a register, from the data bytes of its columns and of blank ones behind them
+pub register_is : (p : PictureValue) (band register long : ℕ) (sixels : List ℕ)
+    → sixels ≡ sixels_of (padded long (all_columns p band register))
     → Select register ∷ sixel_commands sixels ≡ register_commands p band register
 unfolding register_commands band_columns
-register_is p band register sixels e =
-    ap (λ (t : List ℕ). Select register ∷ flat_map run_commands (runs (without_blanks t)))
-    (ap bits_of_sixels e ∙ bits_back (all_columns p band register))
+register_is p band register long sixels e =
+    let columns = all_columns p band register in
+    ap (λ (t : List ℕ). Select register ∷ flat_map run_commands (runs t))
+    (ap (λ (t : List ℕ). without_blanks (bits_of_sixels t)) e ∙ ap without_blanks (bits_back (padded long columns))
+    ∙ without_padding columns (long - length columns))
 
 sixels_later : (x : ℕ) (xs : List ℕ) → AreSixels (x ∷ xs) → AreSixels xs
 sixels_later x xs are k lt = are (suc k) (omega arith)

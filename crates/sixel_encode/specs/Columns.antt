@@ -1,13 +1,13 @@
 -- The sixels of a register in the columns of a band, as data bytes.
-use Rattle.std.specs.Prelude.{◌≡◌, ◌≢◌, ◌==◌, ◌&&◌, ◌⊎◌, ◌%◌, ◌/◌, ℕ, ◌+◌, ◌-◌, ◌<◌, ◌≤◌, Bool, true, false, Option}
-use Rattle.std.specs.Prelude.{List, drop, flat_map, get_or, length, map, nat_le, nat_lt, slice_index, take}
-use Rattle.std.specs.Prelude.{if◌then◌else◌}
+use Rattle.std.specs.Prelude.{◌≡◌, ◌≢◌, ◌==◌, ◌&&◌, ◌⊎◌, ◌/◌, ◌*◌, ◌^◌, ℕ, ◌+◌, ◌-◌, ◌<◌, ◌≤◌, Bool, true, false}
+use Rattle.std.specs.Prelude.{List, ◌++◌, Option, drop, flat_map, get_or, length, map, nat_le, replicate, slice_index}
+use Rattle.std.specs.Prelude.{sum_by, take, if◌then◌else◌}
 use Rattle.std.specs.Int.{bit_at}
 use Rattle.std.specs.Option.{MatchOption}
 use Rattle.sixel_grammar.specs.declared.command.Command.{Command}
 use Rattle.sixel_model.specs.Geometry.{band_rows}
-use Rattle.sixel_model.specs.Pictures.{PictureValue}
-use Rattle.sixel_encode.specs.Canon.{has_pixel, run_commands, runs, without_blanks}
+use Rattle.sixel_model.specs.Pictures.{PictureValue, register_of}
+use Rattle.sixel_encode.specs.Canon.{below, has_pixel, run_commands, runs, without_blanks}
 
 -- the data bytes of columns with these bits
 abbrev pub sixels_of : List ℕ → List ℕ
@@ -26,24 +26,58 @@ abbrev pub AreSixels : List ℕ → Type 0
 AreSixels sixels =
     (x : ℕ) → x < length sixels → (63 ≤ slice_index sixels x) × (slice_index sixels x ≤ 126)
 
--- the bit was added in the columns from `from` up to `to` whose pixel has the register; all others are as before
-pub record AreAdded (from to register bit : ℕ) (row old new : List ℕ) : Type 0 where
+-- ---- the rows of a band, one after another
+
+-- the list has the rows of the band that are in the picture
+pub record AreRowsOf (p : PictureValue) (band : ℕ) (rows : List ℕ) (width : ℕ) : Type 0 where
+  pub wide : width ≡ p.width
+  pub here : (k : ℕ) → k < band_rows → band_rows * band + k < p.height → k * width + width ≤ length rows
+  pub past : (k : ℕ) → k < band_rows → p.height ≤ band_rows * band + k → length rows < k * width + width
+  pub same : (x k : ℕ) → x < p.width → k < band_rows → band_rows * band + k < p.height
+      → slice_index rows (k * width + x) ≡ register_of p x (band_rows * band + k)
+
+-- row k is there, and its pixel in column x has the register
+abbrev pub is_in_row : List ℕ → ℕ → ℕ → ℕ → ℕ → Bool
+is_in_row rows width register x k =
+    nat_le (k * width + width) (length rows) && (slice_index rows (k * width + x) == register)
+
+-- a number whose bit k is set if k passes the test, for each k below `row`
+abbrev pub bits_to : (ℕ → Bool) → ℕ → ℕ
+bits_to has row = sum_by (λ k. if has k then 2 ^ k else 0) (below row)
+
+-- the bits of a register in column x
+abbrev pub row_bits : List ℕ → ℕ → ℕ → ℕ → ℕ
+row_bits rows width register x = bits_to (is_in_row rows width register x) band_rows
+
+-- the columns from `from` up to `to` have the bits of the register; all others are as before
+pub record AreFilled (from to : ℕ) (rows : List ℕ) (width register : ℕ) (old new : List ℕ) : Type 0 where
   pub long : length new ≡ length old
-  pub added : (x : ℕ) → x < length old
-      → slice_index new x ≡ (if nat_le from x && (nat_lt x to && (slice_index row x == register))
-      then (slice_index old x + bit) % 256 else slice_index old x)
+  pub inside : (x : ℕ) → from ≤ x → x < to → slice_index new x ≡ 63 + row_bits rows width register x
+  pub before : (x : ℕ) → x < from → slice_index new x ≡ slice_index old x
+  pub after : (x : ℕ) → to ≤ x → x < length old → slice_index new x ≡ slice_index old x
+
+-- before column `to`, the columns whose group is in the mask have the bits of the register; all others are blank
+pub record AreFound (to : ℕ) (rows : List ℕ) (width register groups : ℕ) (sixels : List ℕ) : Type 0 where
+  pub inked : (x : ℕ) → x < to → x < width → bit_at groups (x / 32) ≡ 1
+      → slice_index sixels x ≡ 63 + row_bits rows width register x
+  pub blank : (x : ℕ) → x < length sixels → bit_at groups (x / 32) ≡ 0 → slice_index sixels x ≡ 63
+  pub behind : (x : ℕ) → x < length sixels → width ≤ x → slice_index sixels x ≡ 63
+  pub ahead : (x : ℕ) → x < length sixels → to ≤ x → slice_index sixels x ≡ 63
+
+-- the columns of a register, with blank ones behind them up to this length
+abbrev pub padded : ℕ → List ℕ → List ℕ
+padded long columns = columns ++ replicate (long - length columns) 0
 
 -- ---- groups of 32 columns
 
--- the mask has the bit of each group of columns in which the row has a pixel of the register
-abbrev pub HasRowGroups : ℕ → List ℕ → ℕ → Type 0
-HasRowGroups register row groups =
-    (x : ℕ) → x < length row → slice_index row x ≡ register → bit_at groups (x / 32) ≡ 1
-
--- the same for a band
+-- the mask has the bit of each group of columns in which the band has a pixel of the register
 abbrev pub HasBandGroups : PictureValue → ℕ → ℕ → ℕ → Type 0
 HasBandGroups p band register groups = (x row : ℕ) → x < p.width → row < band_rows
     → has_pixel p band register x row ≡ true → bit_at groups (x / 32) ≡ 1
+
+-- columns whose group isn't in the mask are blank
+abbrev pub IsInkIn : ℕ → List ℕ → Type 0
+IsInkIn groups sixels = (x : ℕ) → x < length sixels → bit_at groups (x / 32) ≡ 0 → slice_index sixels x ≡ 63
 
 -- the registers of the pixels from `from` up to `to` were marked, each with the bit of its group, and no others
 pub record AreGroupsMarked (from to : ℕ) (pixels old new : List ℕ) : Type 0 where

@@ -8,6 +8,7 @@ mod groups;
 mod lanes;
 pub mod laws;
 mod repeats;
+mod rows;
 mod writing;
 
 pub use writing::{EncodeFault, encode};

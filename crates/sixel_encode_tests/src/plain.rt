@@ -146,7 +146,7 @@ fn registers_in_runs(
 
 /// Whether the picture is encoded as this text.
 fn has_text(picture: &Picture, expected: &str) -> bool {
-    let mut room = [0; 8_192];
+    let mut room = [0; 65_536];
     let mut sink = SliceSink::new(&mut room, 1_000, None);
     encode(picture, &mut sink) == Ok(()) && sink.written() == expected.as_bytes()
 }
@@ -212,6 +212,78 @@ fn long_runs_have_the_plain_text(rt: HostRuntime) -> Result<(), Fail> {
             assert!(rt;
                 have_plain_text(rt.alloc(), Profile::Registers16, longest, width)?,
                 "{width}"
+            );
+        }
+    }
+    Ok(())
+}
+
+/// A picture of one row of register 0, with register 1 in two columns, and below it rows with register 2 in one of them.
+fn registers_in_columns(
+    alloc: Global,
+    (width, height): (u32, u32),
+    (left, right): (u32, u32),
+) -> Result<Vec<u8>, AllocError> {
+    let mut registers = Vec::new(alloc);
+    for y in 0..height {
+        for x in 0..width {
+            registers.push(if y == 0 && (x == left || x == right) {
+                1
+            } else if y > 0 && x == left {
+                2
+            } else {
+                0
+            })?;
+        }
+    }
+    Ok(registers)
+}
+
+/// Whether pictures of this width with ink in these two columns are encoded as the plain encoder does.
+fn columns_have_plain_text(alloc: Global, width: u32, columns: (u32, u32)) -> Result<bool, Fail> {
+    let profile = Profile::Registers16;
+    let entries = all_entries(alloc, profile)?;
+    for height in [1, 8] {
+        let registers = registers_in_columns(alloc, (width, height), columns)?;
+        let picture = picture_of(alloc, profile, (width, height), &entries, &registers)?;
+        let expected = plain_text(
+            alloc,
+            profile,
+            (width as usize, height as usize),
+            &registers,
+        )?;
+        if !has_text(&picture, &expected) {
+            return Ok(false);
+        }
+    }
+    Ok(true)
+}
+
+/// Ink at both sides of the borders of groups of 32 columns, with gaps of less than a group, of one and of more.
+#[test]
+fn gaps_have_the_plain_text(rt: HostRuntime) -> Result<(), Fail> {
+    for width in [33, 64, 97, 128] {
+        for left in [0u32, 31, 32, 40] {
+            for gap in [1, 4, 31, 32, 33, 64, 65] {
+                let columns = (left, left.wrapping_add(gap));
+                assert!(rt;
+                    columns_have_plain_text(rt.alloc(), width, columns)?,
+                    "{width} {left} {gap}"
+                );
+            }
+        }
+    }
+    Ok(())
+}
+
+/// Each pixel has a register of its own, and repeats are of up to four digits.
+#[test]
+fn noise_and_full_rows_have_the_plain_text(rt: HostRuntime) -> Result<(), Fail> {
+    for width in [9, 10, 99, 100, 999, 1_000, 2_048] {
+        for longest in [1, 5_000] {
+            assert!(rt;
+                has_plain_text(rt.alloc(), Profile::Registers16, longest, width, 7)?,
+                "{width} {longest}"
             );
         }
     }

@@ -1,9 +1,15 @@
-use Rattle.std.proofs.Common.{◌≡◌, ◌<◌, ℕ, get_or, length}
-use Rattle.sixel_encode.proofs.AddedLemmas.{Spells}
+use Rattle.std.proofs.Common.{◌≡◌, ◌≤◌, ◌<◌, ◌*◌, ◌-◌, length}
+use Rattle.std.specs.Int.{bit_at}
+use Rattle.sixel_encode.specs.Columns.{AreFound}
 use Rattle.sixel_encode.proofs.columns.find_sixels.Given as goal
 
-abbrev pub invariant-loop-row : goal.invariant-loop-row
-invariant-loop-row l = record {
-  long : length l.sixels ≡ l.picture.width;
-  spelled : (x : ℕ) → x < l.picture.width → Spells l.picture l.band l.register x l.row (get_or l.sixels x 0);
+abbrev pub invariant-loop-group : goal.invariant-loop-group
+invariant-loop-group l = record {
+  within : l.group ≤ l.count;
+  set : l.group < l.count → bit_at l.groups l.group ≡ 1;
+  long : length l.sixels ≡ length l.fn.sixels;
+  found : AreFound (l.group * 32) l.rows l.width l.register l.groups l.sixels;
 }
+
+abbrev pub decreases-loop-group : goal.decreases-loop-group
+decreases-loop-group l = l.count - l.group
