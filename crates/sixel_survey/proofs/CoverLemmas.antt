@@ -1,24 +1,25 @@
 -- The covered pixels after one more event.
 use Rattle.std.proofs.Common.{◌≡◌, ◌<◌, ◌≤◌, ◌+◌, ◌-◌, ◌*◌, ◌/◌, ◌%◌, ◌^◌, ◌&&◌, ◌||◌, ℕ, suc, Bool, true, false, not}
-use Rattle.std.proofs.Common.{min, Option, Some, None, List, [], ◌∷◌, ◌++◌, length, take, refl, sym, ap, ap₂, subst}
+use Rattle.std.proofs.Common.{min, Option, Some, None, List, [], ◌∷◌, ◌++◌, length, get_or, take, refl, sym, ap, ap₂, subst}
 use Rattle.std.proofs.Common.{◌∙◌, arith, map, cond, zero, ◌⊎◌, inl, inr}
-use Rattle.std.specs.Prelude.{IsSomeAnd, IsTrue, bit_and, count_by, filter, is_none, is_some, nat_le}
+use Rattle.std.specs.Prelude.{IsSomeAnd, IsTrue, bit_and, count_by, filter, is_none, is_some, nat_le, slice_get}
 use Rattle.std.specs.Prelude.{unwrap_or, if◌then◌else◌}
 use Rattle.std.specs.Int.{bit_at}
-use Rattle.std.specs.List.{range_with_len}
-use Rattle.std.specs.Option.{option_map_or, option_or}
+use Rattle.std.specs.List.{position_from, range_with_len}
+use Rattle.std.specs.Option.{option_flatten, option_map_or, option_or}
 use Rattle.std.proofs.lemmas.Bool.{agree_below_at, leb-true}
 use Rattle.std.proofs.lemmas.Nat.Bits.{bit_at-lt, bit_at-zero, bit_at_and, bit_at_ones, bit_at_ones_above}
 use Rattle.std.proofs.lemmas.Bool.{and_from, and_parts, false_from_ne_true, not-false, not-true, or_parts}
 use Rattle.std.proofs.lemmas.List.Sums.{length-filter}
-use Rattle.std.proofs.lemmas.Nat.{mod_below}
+use Rattle.std.proofs.lemmas.Nat.{div-add-mod', div-mul-add, mod-mul-add, mod_below, mul-lt}
+use Rattle.std.proofs.lemmas.Nat.{row_fits}
 use Rattle.std.proofs.lemmas.Option.{slice_get_within}
 use Rattle.sixel_grammar.specs.declared.command.Command.TheVariants.{Raster}
 use Rattle.sixel_grammar.specs.declared.command.Event.{Event}
 use Rattle.sixel_grammar.specs.declared.command.Event.TheVariants.{Step}
 use Rattle.sixel_model.specs.Events.{Attributes, bits_of, columns_of, has_sides, is_painting, raster_of}
 use Rattle.sixel_model.specs.Geometry.{band, column, covers, falls, touches}
-use Rattle.sixel_model.specs.Grids.{Grid, blank_grid, cell, painted_grid, row_by_row}
+use Rattle.sixel_model.specs.Grids.{Grid, blank_grid, cell, first_blank, painted_grid, row_by_row}
 use Rattle.sixel_model.specs.Pictures.{is_side}
 use Rattle.sixel_model.specs.Positions.{any_at, earliest, passes_at}
 use Rattle.sixel_model.specs.Rules.{breaks_box_size, is_covered, raster_before}
@@ -27,12 +28,12 @@ use Rattle.sixel_model.proofs.FirstLemmas.{earliest_all}
 use Rattle.sixel_model.proofs.GridLemmas.{cell-blank_grid, cell-painted_grid, length_rows}
 use Rattle.sixel_model.proofs.LastLemmas.{passes_there}
 use Rattle.sixel_model.proofs.StepLemmas.{covered_push, raster_push}
-use Rattle.sixel_plane.proofs.PaintedLemmas.{row_below}
+use Rattle.sixel_plane.proofs.PaintedLemmas.{none_from_map, none_passes, row_below}
 use Rattle.sixel_judge.specs.Verdicts.{capped}
 use Rattle.sixel_judge.proofs.BlankLemmas.{Covers}
 use Rattle.sixel_judge.proofs.DrawLemmas.{falls_paints, sides}
 use Rattle.sixel_survey.specs.Counting.{blanks, has_box, paints_early}
-use Rattle.sixel_survey.specs.Covering.{IsCoverOf, IsCoveredBy, blank_cells}
+use Rattle.sixel_survey.specs.Covering.{AreCells, IsCoverOf, IsCoveredBy, blank_cells, blank_cells_in_row}
 use Rattle.sixel_survey.proofs.NotesLemmas.{early_push}
 use Rattle.sixel_survey.proofs.TallyLemmas.{kept_last, range_agree}
 use Rattle.sixel_survey.proofs.TellLemmas.{Passes, passes_somewhere}
@@ -371,6 +372,84 @@ count_more p i j count b is next same =
       ap (λ (n : ℕ). length (filter p (range_with_len 0 n))) next,
       kept_last p i b is,
     )
+
+zero_more : (n : ℕ) → n + 0 ≡ n
+zero_more n = omega arith
+
+-- the count of the rows above a row, and of its first k pixels
+row_count : (s : Grid) (y k : ℕ) → k ≤ s.width
+    → count_by (λ i. is_none (cell s (i % s.width) (i / s.width))) (range_with_len 0 (y * s.width + k))
+    ≡ count_by (λ i. is_none (cell s (i % s.width) (i / s.width))) (range_with_len 0 (y * s.width))
+    + blank_cells_in_row s y k
+row_count s y zero le =
+    let at : y * s.width + 0 ≡ y * s.width = omega arith in
+    ap (λ (n : ℕ). count_by (λ i. is_none (cell s (i % s.width) (i / s.width))) (range_with_len 0 n)) at
+    ∙ sym (zero_more _)
+row_count s y (suc k) le =
+    let w : ℕ = s.width in
+    let lt : k < w = omega (arith, le) in
+    let of_cells : ℕ → Bool = λ i. is_none (cell s (i % w) (i / w)) in
+    let in_row : ℕ → Bool = λ x. is_none (cell s x y) in
+    let here : of_cells (y * w + k) ≡ in_row k =
+    ap₂ (λ (x z : ℕ). is_none (cell s x z)) (mod-mul-add y w k lt) (div-mul-add y w k lt) in
+    let next : y * w + suc k ≡ suc (y * w + k) = omega arith in
+    let before = row_count s y k (omega (arith, le)) in
+    let whole = count_more of_cells (y * w + k) (y * w + suc k) _ (in_row k) here next refl in
+    let part = count_more in_row k (suc k) _ (in_row k) refl refl refl in
+    omega (arith, whole, part, before)
+
+next_row : (y z w : ℕ) → z ≡ suc y → y * w + w ≡ z * w
+next_row y z w next = omega (arith, ap (λ (n : ℕ). n * w) next)
+
+-- the count with one more row
+pub rows_more : (s : Grid) (y z count row : ℕ) → z ≡ suc y
+    → count ≡ count_by (λ i. is_none (cell s (i % s.width) (i / s.width))) (range_with_len 0 (y * s.width))
+    → row ≡ blank_cells_in_row s y s.width
+    → count + row ≡ count_by (λ i. is_none (cell s (i % s.width) (i / s.width))) (range_with_len 0 (z * s.width))
+rows_more s y z count row next above here =
+    let at : y * s.width + s.width ≡ z * s.width = next_row y z s.width next in
+    ap₂ (λ (m n : ℕ). m + n) above here
+    ∙ sym (row_count s y s.width (omega arith))
+    ∙ ap (λ (n : ℕ). count_by (λ i. is_none (cell s (i % s.width) (i / s.width))) (range_with_len 0 n)) at
+
+-- the count of the rows fits 64 bits
+pub rows_fit : (y w h count row : ℕ) → y < h → w < 4294967296 → h < 4294967296 → count ≤ y * w → row ≤ w
+    → (count + row ≤ (y + 1) * w) × (count + row < 18446744073709551616)
+rows_fit y w h count row lt narrow low above here =
+    let next : y + 1 ≡ suc y = omega arith in
+    let at : y * w + w ≡ (y + 1) * w = next_row y (y + 1) w next in
+    let room : y * w + w ≤ h * w = row_fits y w h w lt (omega arith) in
+    let most : h * w < 4294967296 * 4294967296 = mul-lt h w 4294967296 4294967296 low narrow in
+    (omega (arith, at, above, here), omega (arith, room, most, above, here))
+
+-- if the search for a blank pixel finds none, there is none
+pub none_blank : (s : Grid) → AreCells s → first_blank s ≡ None → blank_cells s ≡ 0
+unfolding first_blank cell
+none_blank s long none =
+    let w : ℕ = s.width in
+    let of_cells : ℕ → Bool = λ i. is_none (cell s (i % w) (i / w)) in
+    let nowhere = none_from_map (λ (i : ℕ). (i % w, i / w)) (position_from is_none 0 s.cells) none in
+    let agree = range_agree of_cells (λ i. false) 0 (w * s.height) (λ i low high.
+    let place : i / w * w + i % w ≡ i = div-add-mod' i w in
+    let lt : i < length s.cells = omega (arith, high, long) in
+    ap (λ (n : ℕ). is_none (option_flatten (slice_get s.cells n))) place
+    ∙ ap is_none (flat_cell s.cells i)
+    ∙ none_passes is_none 0 s.cells None nowhere i lt) in
+    sym (length-filter of_cells (range_with_len 0 (w * s.height))) ∙ ap length agree
+    ∙ no_items (range_with_len 0 (w * s.height))
+  where
+    flat_cell : (cells : List (Option ℕ)) (k : ℕ) → option_flatten (slice_get cells k) ≡ get_or cells k None
+    flat_cell [] k = refl
+    flat_cell (c ∷ cs) zero = refl
+    flat_cell (c ∷ cs) (suc k) = flat_cell cs k
+
+    no_items : (xs : List ℕ) → length (filter (λ i. false) xs) ≡ 0
+    no_items [] = refl
+    no_items (x ∷ xs) = no_items xs
+
+pub no_pixel : (o : Option (ℕ × ℕ)) → is_some o ≡ false → o ≡ None
+no_pixel None h = refl
+no_pixel (Some p) h = cc
 
 -- the number of blank pixels is the number of points of the box that no event covers
 pub blanks_are : (s : Grid) (events : List Event) (c : IsCoverOf s events) → paints_early events ≡ false

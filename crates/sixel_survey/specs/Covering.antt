@@ -40,6 +40,14 @@ pub record IsCoveredBy (s : Grid) (left count line bits : ℕ) (t : Grid) : Type
 abbrev pub blank_cells : Grid → ℕ
 blank_cells s = count_by (λ i. is_none (cell s (i % s.width) (i / s.width))) (range_with_len 0 (s.width * s.height))
 
+-- how many of the first n pixels of a row are blank
+abbrev pub blank_cells_in_row : Grid → ℕ → ℕ → ℕ
+blank_cells_in_row s y n = count_by (λ x. is_none (cell s x y)) (range_with_len 0 n)
+
+-- there is a cell for each pixel
+abbrev pub AreCells : Grid → Type 0
+AreCells s = length s.cells ≡ s.width * s.height
+
 -- the size of the grid in pixels, if there is one
 abbrev pub size_in : Option Grid → Option (ℕ × ℕ)
 size_in None = None

@@ -9,7 +9,7 @@ ghost use Rattle.sixel_model.specs.Events.{has_sides, raster_of};
 ghost use Rattle.sixel_model.specs.Geometry.{band_rows};
 ghost use Rattle.sixel_model.specs.Grids.{cell};
 ghost use Rattle.sixel_judge.specs.Verdicts.{capped};
-ghost use Rattle.sixel_survey.specs.Covering.{IsCoverAfter, IsCoveredBy, blank_cells};
+ghost use Rattle.sixel_survey.specs.Covering.{AreCells, IsCoverAfter, IsCoveredBy, blank_cells, blank_cells_in_row};
 ghost use Rattle.sixel_survey.specs.Notes.{IsNotesAfter};
 
 use crate::notes::Notes;
@@ -138,17 +138,40 @@ fn is_blank<P: Plane>(plane: &P, x: u32, y: u32) -> bool
     plane.register_at(x, y).is_none()
 }
 
-/// How many pixels are blank.
-pub(crate) fn count_blank<P: Plane>(plane: &P) -> u64
-    ensures { result ≡ blank_cells (P.grid plane.now) }
+/// How many pixels of the row are blank. It must be in the box.
+fn blank_in_row<P: Plane>(plane: &P, y: u32) -> u64
+    requires { y < (P.grid plane.now).height }
+    ensures value { result ≡ blank_cells_in_row (P.grid plane.now) y (P.grid plane.now).width }
+    ensures few { result ≤ (P.grid plane.now).width }
+    ensures narrow { (P.grid plane.now).width ≤ u32.MAX }
 {
-    let width = plane.width() as u64;
-    let pixels = width * plane.height() as u64;
     let mut count = 0;
-    for index in 0..pixels {
-        if is_blank(plane, (index % width) as u32, (index / width) as u32) {
+    for x in 0..plane.width() {
+        if is_blank(plane, x, y) {
             count += 1;
         }
     }
     count
+}
+
+/// How many pixels are blank, row by row.
+fn count_rows<P: Plane>(plane: &P) -> u64
+    ensures { result ≡ blank_cells (P.grid plane.now) }
+{
+    let mut count = 0;
+    for y in 0..plane.height() {
+        count += blank_in_row(plane, y);
+    }
+    count
+}
+
+/// How many pixels are blank. If the search for the first one finds none, it doesn't look at each.
+pub(crate) fn count_blank<P: Plane>(plane: &P) -> u64
+    ensures { AreCells (P.grid plane.now) → result ≡ blank_cells (P.grid plane.now) }
+{
+    if plane.first_blank().is_none() {
+        0
+    } else {
+        count_rows(plane)
+    }
 }

@@ -6,6 +6,7 @@ ghost use Rattle.sixel_grammar.specs.Bytes.{is_data};
 ghost use Rattle.sixel_grammar.specs.Stretches.{sixels_from};
 ghost use Rattle.sixel_judge.specs.declared.rule.Rule.TheVariants.{EightBit};
 ghost use Rattle.std.specs.Option.{option_map, option_map_or};
+ghost use Rattle.sixel_grammar.specs.declared.command.Event.{Event};
 ghost use Rattle.sixel_grammar.specs.declared.command.Placed.{Placed as PlacedValue};
 ghost use Rattle.sixel_grammar.specs.Document.{Document, events_of, most_bytes};
 ghost use Rattle.sixel_model.specs.Profiles.{count_of};
@@ -101,7 +102,8 @@ fn entries_of(tallies: &[Option<Entry>; RULE_COUNT], blank: u64) -> ArrayVec<Ent
 
 /// How many pixels of the box are blank; 0 without a plane.
 fn blank_in<P: Plane>(plane: &Option<P>) -> u64
-    ensures { result ≡ option_map_or blank_cells (option_map P.grid plane.now) 0 }
+    ensures { (events : List Event) → IsCoverAfter (option_map P.grid plane.now) events
+        → result ≡ option_map_or blank_cells (option_map P.grid plane.now) 0 }
 {
     match plane {
         Some(plane) => count_blank(plane),

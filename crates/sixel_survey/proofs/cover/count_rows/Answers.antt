@@ -1,0 +1,29 @@
+use Rattle.std.proofs.Common.{◌<◌, ◌+◌, arith}
+use Rattle.sixel_survey.proofs.CoverLemmas.{rows_fit, rows_more}
+use Rattle.sixel_survey.proofs.cover.count_rows.Goals as goal
+
+pub overflow_add-count : goal.overflow_add-count
+overflow_add-count g c =
+    let s = g.P.Plane.grid c.args.plane.now in
+    let row = c.blank_in_row-count.ensures in
+    let lt : c.loop-y.y < s.height = omega (arith, c.height-y-end.ensures, c.loop-y-test.true) in
+    let low : s.height < 4294967296 = omega (arith, c.height-y-end.ensures, c.height-y-end.type_inv) in
+    let narrow : s.width < 4294967296 = omega (arith, row.narrow) in
+    omega (
+      arith,
+      (rows_fit c.loop-y.y s.width s.height c.loop-y.count c.blank_in_row-count.result lt narrow low
+          c.loop-y.invariant.0 row.few).1,
+    )
+
+pub loop-y-preserved : goal.loop-y-preserved
+loop-y-preserved g c =
+    let s = g.P.Plane.grid c.args.plane.now in
+    let row = c.blank_in_row-count.ensures in
+    let lt : c.loop-y.y < s.height = omega (arith, c.height-y-end.ensures, c.loop-y-test.true) in
+    let low : s.height < 4294967296 = omega (arith, c.height-y-end.ensures, c.height-y-end.type_inv) in
+    let narrow : s.width < 4294967296 = omega (arith, row.narrow) in (
+      (rows_fit c.loop-y.y s.width s.height c.loop-y.count c.blank_in_row-count.result lt narrow low
+          c.loop-y.invariant.0 row.few).0,
+      rows_more s c.loop-y.y (c.loop-y.y + 1) c.loop-y.count c.blank_in_row-count.result (omega arith)
+          c.loop-y.invariant.1 row.value,
+    )
