@@ -189,6 +189,19 @@ pub none_declared : (o : Option Attributes) → is_some o ≡ false → o ≡ No
 none_declared None h = refl
 none_declared (Some a) h = cc
 
+-- an event that isn't raster attributes declares no box
+pub no_raster_stays : (before : List Event) (e : Event) → is_some (raster_of e) ≡ false → has_box before ≡ false
+    → has_box (before ++ e ∷ []) ≡ false
+no_raster_stays before e other none =
+    ap (λ (o : Option Attributes). option_map_or has_sides o false)
+    (raster_push before e ∙ ap (option_or (raster_before before)) (none_declared (raster_of e) other)
+    ∙ or_none (raster_before before))
+    ∙ none
+  where
+    or_none : (o : Option Attributes) → option_or o None ≡ o
+    or_none None = refl
+    or_none (Some a) = refl
+
 -- ---- a run
 
 -- the lowest bits of a band

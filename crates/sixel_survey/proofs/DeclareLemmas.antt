@@ -1,8 +1,8 @@
 -- On the raster attributes at which a survey may allocate.
 use Rattle.std.proofs.Common.{◌≡◌, ℕ, Option, Some, None, List, [], ◌∷◌, ◌++◌, length, sym, ap, subst, ◌∙◌}
-use Rattle.std.proofs.Common.{append_assoc}
+use Rattle.std.proofs.Common.{◌+◌, ◌-◌, append_assoc, drop, take}
 use Rattle.std.specs.Option.{option_to_list}
-use Rattle.std.proofs.lemmas.List.{append-nil}
+use Rattle.std.proofs.lemmas.List.{append-nil, take_rest}
 use Rattle.sixel_grammar.specs.declared.command.Completed.{Completed}
 use Rattle.sixel_grammar.specs.declared.command.Placed.{Placed}
 use Rattle.sixel_grammar.specs.declared.fault.InputFault.{InputFault}
@@ -10,6 +10,8 @@ use Rattle.sixel_grammar.specs.declared.fault.InputFault.TheVariants.{Grammar, O
 use Rattle.sixel_grammar.specs.declared.reader.Reader.{Reader}
 use Rattle.sixel_grammar.specs.Document.{events_of}
 use Rattle.sixel_grammar.specs.Prefixes.{CompleteIn}
+use Rattle.sixel_grammar.specs.Runs.{column_events, events_of_run, select_events}
+use Rattle.sixel_grammar.specs.declared.command.Run.{Run}
 use Rattle.sixel_grammar.specs.Standing as grammar
 use Rattle.sixel_grammar.proofs.StandLemmas.{read_complete}
 use Rattle.sixel_model.proofs.PositionLemmas.{holds_before, holds_end, holds_within}
@@ -89,3 +91,17 @@ after_byte registers old new kept more c prefix byte takes keeps a = record {
   read = takes a.events prefix a.read;
   surveyed = keeps a.events a.surveyed;
 }
+
+-- ---- a run of columns
+
+pub run_events : (seen : List Placed) (run : Run) (piece : List ℕ)
+    → (seen ++ select_events run.place run.select) ++ column_events (run.place + run.start) run.columns
+    (take (run.length - run.start) (take (length piece - run.start) (drop run.start piece)))
+    ≡ seen ++ events_of_run run piece
+run_events seen run piece =
+    let first : List Placed = select_events run.place run.select in
+    append_assoc seen first (column_events (run.place + run.start) run.columns
+    (take (run.length - run.start) (take (length piece - run.start) (drop run.start piece))))
+    ∙ ap (λ (t : List ℕ).
+    seen ++ (first ++ column_events (run.place + run.start) run.columns (take (run.length - run.start) t)))
+    (take_rest piece run.start)

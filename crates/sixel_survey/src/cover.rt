@@ -14,7 +14,7 @@ ghost use Rattle.sixel_survey.specs.Notes.{IsNotesAfter};
 
 use crate::notes::Notes;
 use sixel_grammar::Event;
-use sixel_judge::events::{bits_of, columns_of, sides_of};
+use sixel_judge::events::{bits_of, columns_of, is_raster, sides_of};
 use sixel_judge::rules::breaks_box_size;
 use sixel_model::BAND_ROWS;
 use sixel_plane::Plane;
@@ -123,7 +123,9 @@ pub(crate) fn draw<P: Plane>(
             Ok(())
         }
         None => {
-            *plane = first_plane(alloc, notes, event)?;
+            if is_raster(event) {
+                *plane = first_plane(alloc, notes, event)?;
+            }
             Ok(())
         }
     }

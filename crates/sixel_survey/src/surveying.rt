@@ -1,7 +1,13 @@
 //! Surveying the bytes of a document.
 
 ghost use Rattle.std.specs.Prelude.{◌≡◌, ◌≢◌, ◌<◌, ◌≤◌, ◌++◌, ◌∷◌, [], ℕ, List, Err, IfErr, IfOk, IfSome, OnErr, OnOk};
-ghost use Rattle.std.specs.Prelude.{length, take};
+ghost use Rattle.std.specs.Prelude.{◌+◌, IsTrue, None, length, slice_index, take};
+ghost use Rattle.sixel_grammar.specs.Bytes.{is_data};
+ghost use Rattle.sixel_grammar.specs.Document.{most_bytes};
+ghost use Rattle.sixel_grammar.specs.Runs.{column_events, events_of_run, select_events};
+ghost use Rattle.sixel_grammar.specs.declared.command.Columns.TheVariants.{Sixels as single_sixels};
+ghost use Rattle.sixel_grammar.specs.declared.command.Event.TheVariants.{Step};
+ghost use Rattle.sixel_model.specs.Events.{raster_of};
 ghost use Rattle.sixel_io.specs.Devices.{ReadsToEnd};
 ghost use Rattle.std.specs.Option.{option_to_list};
 ghost use Rattle.sixel_grammar.specs.Reading.{NoFaultBefore, failures_after};
@@ -15,7 +21,7 @@ ghost use Rattle.sixel_survey.specs.Surveying.{TakesEvents, command_at};
 
 use crate::entry::Survey;
 use crate::surveyor::Surveyor;
-use sixel_grammar::{Command, Completed, Event, InputFault, Placed, Plain, Reader};
+use sixel_grammar::{Columns, Command, Completed, Event, InputFault, Placed, Plain, Reader, Run};
 use sixel_io::{PIECE, Source};
 use sixel_model::Profile;
 use sixel_plane::{BandPlane, Plane};
@@ -100,21 +106,72 @@ fn take_sign<P: Plane>(
     }
 }
 
-/// Takes a command that a data byte completed: a repeat gets its own inlined call.
+/// Takes a command that isn't raster attributes: only these allocate.
 #[inline(always)]
-fn take_repeat<P: Plane>(
+fn take_still<P: Plane>(surveyor: &mut Surveyor<P>, alloc: Global, place: u64, command: Command)
+    requires { raster_of (Step command) ≡ None }
+    ensures { TakesEvents surveyor.old surveyor.new (command_at place command ∷ []) }
+{
+    let event = Event::Step(command);
+    match surveyor.take(alloc, &Placed { place, event }) {
+        Ok(()) => {}
+        Err(_) => {}
+    }
+}
+
+/// Takes columns whose first byte has the offset `place`: the first `count` of the bytes.
+#[inline(always)]
+fn take_columns<P: Plane>(
     surveyor: &mut Surveyor<P>,
     alloc: Global,
     place: u64,
-    command: Command,
-) -> Result<(), AllocError>
-    ensures taken { OnOk result (TakesEvents surveyor.old surveyor.new (command_at place command ∷ [])) }
-    ensures declares { OnErr result (DeclaresOver surveyor.old (command_at place command ∷ [])) }
+    columns: Columns,
+    bytes: &[u8],
+    count: usize,
+)
+    requires sixels { columns ≡ single_sixels → (k : ℕ) → k < count → IsTrue (is_data (slice_index bytes.now k)) }
+    requires bytes { count ≤ length bytes.now }
+    requires place { place + count ≤ most_bytes }
+    ensures { TakesEvents surveyor.old surveyor.new (column_events place columns (take count bytes.now)) }
 {
-    match command {
-        Command::Repeat { .. } => take_command(surveyor, alloc, place, command),
-        other => take_rarely(surveyor, alloc, place, other),
+    match columns {
+        Columns::Sixels => surveyor.take_stretch(place, bytes, count),
+        Columns::Repeat { count, bits } => {
+            take_still(surveyor, alloc, place, Command::Repeat { count, bits });
+        }
     }
+}
+
+/// Takes a select, if there is one.
+#[inline(always)]
+fn take_select<P: Plane>(surveyor: &mut Surveyor<P>, alloc: Global, place: u64, select: Option<u16>)
+    ensures { TakesEvents surveyor.old surveyor.new (select_events place select) }
+{
+    match select {
+        Some(register) => take_still(surveyor, alloc, place, Command::Select(register)),
+        None => {}
+    }
+}
+
+/// Takes the run at the beginning of the bytes.
+#[inline(always)]
+fn take_run<P: Plane>(surveyor: &mut Surveyor<P>, alloc: Global, run: Run, bytes: &[u8])
+    requires sixels { run.columns ≡ single_sixels → (k : ℕ) → run.start ≤ k → k < run.length
+        → IsTrue (is_data (slice_index bytes.now k)) }
+    requires within { (run.start < run.length) × (run.length ≤ length bytes.now) }
+    requires limit { run.place + run.length ≤ most_bytes }
+    ensures { TakesEvents surveyor.old surveyor.new (events_of_run run bytes.now) }
+{
+    take_select(surveyor, alloc, run.place, run.select);
+    let columns = &bytes[run.start..];
+    take_columns(
+        surveyor,
+        alloc,
+        run.place + run.start as u64,
+        run.columns,
+        columns,
+        run.length - run.start,
+    );
 }
 
 /// Reads one byte of any kind, and takes the events that it completes.
@@ -167,7 +224,7 @@ fn read_sign<P: Plane>(
     }
 }
 
-/// Reads one byte, and takes the events that it completes. It is for data bytes that begin no stretch.
+/// Reads one byte, and takes the events that it completes. It is for data bytes while a command is open.
 #[inline(always)]
 fn read_data<P: Plane>(
     reader: &mut Reader,
@@ -182,16 +239,16 @@ fn read_data<P: Plane>(
     match reader.feed_plain(byte) {
         Some(Plain::Nothing) => Ok(()),
         Some(Plain::Command { place, command }) => {
-            Ok(take_repeat(surveyor, alloc, place, command)?)
+            Ok(take_rarely(surveyor, alloc, place, command)?)
         }
         None => read_otherwise(reader, surveyor, alloc, byte),
     }
 }
 
-/// Reads the data bytes that `feed_stretch` takes at the beginning of `bytes`, or else one byte. Returns how many it
+/// Reads the columns at the beginning of `bytes`, perhaps after a select, or else one byte. Returns how many bytes it
 /// read.
 #[inline(always)]
-fn read_stretch_or_byte<P: Plane>(
+fn read_run_or_byte<P: Plane>(
     reader: &mut Reader,
     surveyor: &mut Surveyor<P>,
     alloc: Global,
@@ -205,18 +262,17 @@ fn read_stretch_or_byte<P: Plane>(
     ensures refused { IfErr result (RefusesBytes reader.old surveyor.old (take 1 bytes.now)) }
     ensures memory { IfErr result (DeclaresForBytes reader.old surveyor.old (take 1 bytes.now)) }
 {
+    if let Some(run) = reader.feed_run(bytes) {
+        take_run(surveyor, alloc, run, bytes);
+        return Ok(run.length);
+    }
     // No byte below `?` is data, so the compiler drops the code for data from this branch.
     if bytes[0] < b'?' {
         read_sign(reader, surveyor, alloc, bytes[0])?;
-        return Ok(1);
-    }
-    let stretch = reader.feed_stretch(bytes);
-    if stretch.count == 0 {
+    } else {
         read_data(reader, surveyor, alloc, bytes[0])?;
-        return Ok(1);
     }
-    surveyor.take_stretch(stretch.place, bytes, stretch.count);
-    Ok(stretch.count)
+    Ok(1)
 }
 
 /// Reads the bytes of a piece.
@@ -232,7 +288,7 @@ fn read_piece<P: Plane>(
 {
     let mut read = 0;
     while read < piece.len() {
-        read += read_stretch_or_byte(reader, surveyor, alloc, &piece[read..])?;
+        read += read_run_or_byte(reader, surveyor, alloc, &piece[read..])?;
     }
     Ok(())
 }

@@ -33,7 +33,7 @@ loop-read-preserved g c = λ registers prefix a.
     let h =
     c.in_ok-read.ensures.read registers (prefix ++ take c.loop-read.read c.args.piece.now)
     (c.loop-read.invariant registers prefix a) in
-    subst (λ (t : List ℕ). AreAfter registers c.read_stretch_or_byte.new.reader c.read_stretch_or_byte.new.surveyor t)
+    subst (λ (t : List ℕ). AreAfter registers c.read_run_or_byte.new.reader c.read_run_or_byte.new.surveyor t)
     (part_then prefix c.args.piece.now c.loop-read.read c.in_ok-read.field-0) h
 
 pub returns-clause-read : goal.returns-clause-read
