@@ -5,7 +5,7 @@ ghost use Rattle.sixel_model.specs.Colours.{is_entry};
 ghost use Rattle.sixel_model.specs.Profiles.{count_of};
 ghost use Rattle.sixel_model.specs.declared.colour.Parts.{Parts as AColour};
 ghost use Rattle.sixel_model.specs.declared.colour.Parts.TheVariants.{Rgb};
-ghost use Rattle.sixel_ppm.specs.PpmColours.{Fills, HasRegister, IsUnusedFrom, Numbers};
+ghost use Rattle.sixel_ppm.specs.PpmColours.{Fills, HasRegister, IsUnusedFrom, KeepsRegisters, Numbers};
 ghost use Rattle.sixel_ppm.specs.PpmPixelCache.{Knows};
 ghost use Rattle.sixel_ppm.specs.PpmReading.{with_colour};
 
@@ -45,6 +45,31 @@ fn keep(cache: &mut PixelCache, colour: Colour, register: u8)
     }
 }
 
+/// The register of a colour, by way of a cache of their percentages. A new colour gets the next register; `None` if no
+/// register is left.
+pub(crate) fn number_by(colours: &mut Colours, cache: &mut PixelCache, colour: Colour) -> Option<u8>
+    requires unused { IsUnusedFrom colours.old.palette colours.old.count }
+    requires knows { Knows cache.old 100 colours.old.palette }
+    ensures numbers { (seen : List AColour) → Fills colours.old seen
+        → Numbers result colours.new (with_colour seen colour) colour }
+    ensures profile { length colours.new.palette ≡ length colours.old.palette }
+    ensures first { IfSome result (λ register. position (is_entry colour) colours.new.palette ≡ Some register) }
+    ensures unused { IsUnusedFrom colours.new.palette colours.new.count }
+    ensures kept { KeepsRegisters colours.old.palette colours.new.palette }
+    ensures knows { Knows cache.new 100 colours.new.palette }
+{
+    if let Some(register) = cached(cache, colour) {
+        return Some(register);
+    }
+    match colours.register_of(colour) {
+        None => None,
+        Some(register) => {
+            keep(cache, colour, register);
+            Some(register)
+        }
+    }
+}
+
 impl Numbering {
     /// No colour was seen yet.
     pub fn new(profile: Profile) -> Numbering
@@ -71,16 +96,7 @@ impl Numbering {
             → Numbers result self.new.colours (with_colour seen colour) colour }
         ensures profile { length self.new.colours.palette ≡ length self.old.colours.palette }
     {
-        if let Some(register) = cached(&self.cache, colour) {
-            return Some(register);
-        }
-        match self.colours.register_of(colour) {
-            None => None,
-            Some(register) => {
-                keep(&mut self.cache, colour, register);
-                Some(register)
-            }
-        }
+        number_by(&mut self.colours, &mut self.cache, colour)
     }
 
     /// The palette with these colours.

@@ -11,6 +11,7 @@ ghost use Rattle.sixel_model.specs.Profiles.{count_of};
 
 use crate::ppm::colours::Colours;
 use crate::ppm::header::Header;
+use crate::ppm::numbering::number_by;
 use crate::ppm::pixel_cache::PixelCache;
 use crate::ppm::{PpmFault, PpmReason};
 use sixel_model::{Colour, Picture, Profile};
@@ -48,6 +49,8 @@ pub(crate) struct Samples {
     pub(crate) last: Option<Pixel>,
     /// Earlier pixels. One that repeats any of them needs no new lookup, either.
     pub(crate) cache: PixelCache,
+    /// The colours of earlier pixels, by their percentages. Other samples of the same colour need no search.
+    pub(crate) seen: PixelCache,
     pub(crate) colours: Colours,
     pub(crate) registers: Vec<u8>,
     ghost scaled: { 0 < maxval },
@@ -56,6 +59,7 @@ pub(crate) struct Samples {
     ghost sides: { IsTrue (is_side width && is_side height) },
     ghost unused: { IsUnusedFrom colours.palette colours.count },
     ghost knows: { Knows cache maxval colours.palette },
+    ghost knows_seen: { Knows seen 100 colours.palette },
     ghost room: { vec_len registers + left ≤ vec_capacity registers },
 }
 
@@ -120,6 +124,7 @@ impl Samples {
             partial: PartialPixel::Nothing,
             last: None,
             cache: PixelCache::new(),
+            seen: PixelCache::new(),
             colours: Colours::new(profile),
             registers,
         })
@@ -164,7 +169,7 @@ impl Samples {
         ensures kept { KeepsPixels self.old self.new }
     {
         let colour = colour_of(self.maxval, red, green, blue);
-        match self.colours.register_of(colour) {
+        match number_by(&mut self.colours, &mut self.seen, colour) {
             None => Err(fault(PpmReason::TooManyColours, self.place)),
             Some(register) => {
                 self.cache.keep(red, green, blue, register);

@@ -15,7 +15,7 @@ returns-in-Some-clause-registered c = λ colours holds.
     let colour = colour_of c.args.self.now.maxval c.args.red c.args.green c.args.blue in
     let numbered =
     subst (λ (x : Parts). (c.in-Some.register
-    ≡ register_among (with_colour seen x) x) × Fills c.register_of.new.self (with_colour seen x))
+    ≡ register_among (with_colour seen x) x) × Fills c.number_by.new.colours (with_colour seen x))
     c.colour_of-colour.ensures (c.in-Some.ensures.numbers seen holds.fills) in
     let known : IsKnown c.args.self.now.maxval (with_colour seen colour)
     (record { red = c.args.red; green = c.args.green; blue = c.args.blue; register = c.in-Some.register }) =
@@ -29,27 +29,27 @@ returns-in-Some-clause-registered c = λ colours holds.
     record { same_registers = c.in-Some.ensures.profile; fills = numbered.1; knows_last = known; known = known }
 
 pub invariant_of-self-clause-unused : goal.invariant_of-self-clause-unused
-invariant_of-self-clause-unused c = (c.register_of.ensures.kept c.args.self.now.unused).0
+invariant_of-self-clause-unused c = c.number_by.ensures.unused
 
 pub invariant_of-self-clause-knows : goal.invariant_of-self-clause-knows
 invariant_of-self-clause-knows c =
     let s = c.args.self.now in
-    still_cached s.cache s.maxval s.colours.palette c.register_of.new.self.palette
-    (c.register_of.ensures.kept s.unused).1 s.knows
+    still_cached s.cache s.maxval s.colours.palette c.number_by.new.colours.palette
+    c.number_by.ensures.kept s.knows
 
 pub invariant_of-self-in-Some-clause-unused : goal.invariant_of-self-in-Some-clause-unused
-invariant_of-self-in-Some-clause-unused c = (c.register_of.ensures.kept c.args.self.now.unused).0
+invariant_of-self-in-Some-clause-unused c = c.number_by.ensures.unused
 
 pub invariant_of-self-in-Some-clause-knows : goal.invariant_of-self-in-Some-clause-knows
 invariant_of-self-in-Some-clause-knows c =
     let s = c.args.self.now in
-    c.keep.ensures s.maxval c.register_of.new.self.palette
-    (still_cached s.cache s.maxval s.colours.palette c.register_of.new.self.palette
-    (c.register_of.ensures.kept s.unused).1 s.knows)
+    c.keep.ensures s.maxval c.number_by.new.colours.palette
+    (still_cached s.cache s.maxval s.colours.palette c.number_by.new.colours.palette
+    c.number_by.ensures.kept s.knows)
     record {
       good_red = c.requires.red;
       good_green = c.requires.green;
       good_blue = c.requires.blue;
-      first = subst (λ (x : Parts). position (is_entry x) c.register_of.new.self.palette ≡ Some c.in-Some.register)
+      first = subst (λ (x : Parts). position (is_entry x) c.number_by.new.colours.palette ≡ Some c.in-Some.register)
           c.colour_of-colour.ensures c.in-Some.ensures.first;
     }
