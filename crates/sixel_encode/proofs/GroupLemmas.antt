@@ -1,15 +1,13 @@
 -- Which groups of columns of a band have pixels of a register.
-use Rattle.std.proofs.Common.{◌≡◌, ◌≢◌, ◌==◌, ℕ, zero, suc, ◌+◌, ◌-◌, ◌*◌, ◌%◌, ◌/◌, ◌^◌, ◌<◌, ◌≤◌, Bool, true, false}
-use Rattle.std.proofs.Common.{List, min, length, get_or, set, replicate, not, w64, inl, inr, refl, sym, ap, ◌∙◌, arith}
+use Rattle.std.proofs.Common.{◌≡◌, ◌≢◌, ◌==◌, ℕ, zero, suc, ◌+◌, ◌*◌, ◌%◌, ◌/◌, ◌^◌, ◌<◌, ◌≤◌, Bool, true, false}
+use Rattle.std.proofs.Common.{List, length, get_or, set, replicate, not, w64, inl, inr, refl, sym, ap, ◌∙◌, arith}
 use Rattle.std.specs.Prelude.{nat_lt}
-use Rattle.std.specs.Int.{bit_at, trailing_zeros}
-use Rattle.std.proofs.Math.Nat.{div-div-eq-div-mul}
-use Rattle.std.proofs.lemmas.Nat.{pow-add, shr_le}
+use Rattle.std.specs.Int.{bit_at}
 use Rattle.std.specs.Int.Bits.{bit_or}
 use Rattle.std.proofs.lemmas.Bool.{and_from, and_parts, cases_eq, eq-eqb, eqb-false, eqb-true, lt-ltb}
 use Rattle.std.proofs.lemmas.Bool.{ltb-true, ne_eqb, not-true, not_from_false}
 use Rattle.std.proofs.lemmas.List.{get_or-set_other, get_or-set_same, length-set}
-use Rattle.std.proofs.lemmas.Nat.Bits.{bit_at-trailing_zeros, bit_at-zero, bit_at_set_other, bit_at_set_same}
+use Rattle.std.proofs.lemmas.Nat.Bits.{bit_at-zero, bit_at_set_other, bit_at_set_same}
 use Rattle.sixel_model.specs.Pictures.{PictureValue, register_of}
 use Rattle.sixel_encode.specs.Canon.{column_bits, has_pixel, occurs}
 use Rattle.sixel_encode.specs.Columns.{AreGroupsMarked, HasBandGroups}
@@ -51,41 +49,6 @@ marked_pixel x n pixels old is room small =
         | inr other ↦ inl (λ e. some (get_or-set_other old n register value 0 other ∙ e))
       ];
     }
-
--- ---- the groups of a mask
-
-bit_shifted : (n k i : ℕ) → bit_at (n / 2 ^ k) i ≡ bit_at n (k + i)
-bit_shifted n k i =
-    ap (λ (m : ℕ). m % 2) (div-div-eq-div-mul n (2 ^ k) (2 ^ i) ∙ ap (λ (m : ℕ). n / m) (sym (pow-add 2 k i)))
-
--- if no bit from k on is set, bit g isn't
-pub none_left : (n k g : ℕ) → n / 2 ^ k ≡ 0 → k ≤ g → bit_at n g ≡ 0
-none_left n k g none low =
-    let at : k + (g - k) ≡ g = omega arith in
-    ap (bit_at n) (sym at) ∙ sym (bit_shifted n k (g - k)) ∙ ap (λ (m : ℕ). bit_at m (g - k)) none
-    ∙ bit_at-zero (g - k)
-
--- no bit from k on and before the lowest set one is set
-pub none_before : (n k m r g : ℕ) → n < 2 ^ 64 → n / 2 ^ k ≢ 0 → r ≡ min (k + trailing_zeros w64 (n / 2 ^ k)) m
-    → k ≤ g → g < r → bit_at n g ≡ 0
-none_before n k m r g small some is low less =
-    let at : k + (g - k) ≡ g = omega arith in
-    let few : n / 2 ^ k ≤ n = shr_le n k in
-    let lowest = bit_at-trailing_zeros w64 (n / 2 ^ k) (omega arith) (omega arith) in
-    ap (bit_at n) (sym at) ∙ sym (bit_shifted n k (g - k)) ∙ lowest.2 (g - k) (omega arith)
-
--- the lowest set bit from k on
-pub first_left : (n k m r : ℕ) → n < 2 ^ 64 → n / 2 ^ k ≢ 0 → r ≡ min (k + trailing_zeros w64 (n / 2 ^ k)) m
-    → r < m → bit_at n r ≡ 1
-first_left n k m r small some is less =
-    let at : k + trailing_zeros w64 (n / 2 ^ k) ≡ r = omega arith in
-    let few : n / 2 ^ k ≤ n = shr_le n k in
-    let lowest = bit_at-trailing_zeros w64 (n / 2 ^ k) (omega arith) (omega arith) in
-    ap (bit_at n) (sym at) ∙ sym (bit_shifted n k (trailing_zeros w64 (n / 2 ^ k))) ∙ lowest.1
-
--- a mask has no bit from 64 on
-pub none_past : (n g : ℕ) → n < 2 ^ 64 → 64 ≤ g → bit_at n g ≡ 0
-none_past n g small past = none_left n 64 g (omega arith) past
 
 -- ---- rows of a band
 

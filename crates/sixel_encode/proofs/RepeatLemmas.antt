@@ -1,26 +1,21 @@
 -- Finding four equal bytes, many indices at once.
-use Rattle.std.proofs.Common.{◌≡◌, ◌≢◌, ◌==◌, ℕ, ◌+◌, ◌-◌, ◌%◌, ◌^◌, ◌<◌, ◌≤◌, Bool, true, false, ◌&&◌, cond}
-use Rattle.std.proofs.Common.{List, length, get_or, map, replicate, not, w8, refl, sym, ap, ap₂}
-use Rattle.std.proofs.Common.{◌∙◌, arith}
-use Rattle.std.specs.List.{prefix_len}
-use Rattle.std.proofs.lemmas.List.{take_all}
-use Rattle.std.proofs.lemmas.Simd.{bitmask_splat, get_or-chunk, get_or-replicate, get_or-sel_l}
+use Rattle.std.proofs.Common.{◌≡◌, ◌≢◌, ◌==◌, ℕ, ◌+◌, ◌-◌, ◌/◌, ◌%◌, ◌^◌, ◌<◌, ◌≤◌, Bool, true, false, ◌&&◌, cond}
+use Rattle.std.proofs.Common.{List, length, get_or, map, min, replicate, w8, w64, inl, inr, refl, sym, ap, ap₂}
+use Rattle.std.proofs.Common.{◌∙◌, arith, bit_and}
+use Rattle.std.specs.Int.{bit_at, trailing_zeros}
+use Rattle.std.proofs.lemmas.Bool.{cases_eq, cases_lt, ne_eqb}
+use Rattle.std.proofs.lemmas.Nat.{and_le_l}
+use Rattle.std.proofs.lemmas.Nat.Bits.{bit_at-trailing_zeros, bit_at-zero, bit_at_and}
+use Rattle.std.proofs.lemmas.Simd.{bit_mask_l, get_or-chunk, get_or-replicate, get_or-sel_l}
 use Rattle.std.proofs.lemmas.Simd.{get_or-zip2, length-chunk, length-replicate, length-sel_l, length-zip2}
-use Rattle.std.proofs.lemmas.Simd.{run_in_chunk_fails, run_in_chunk_le, run_in_chunk_stops, tops_compared}
-use lib.Count.{count_trailing_zeros}
+use Rattle.std.proofs.lemmas.Simd.{mask_l-lt, mask_l-mod, tops_compared}
 use lib.Lanes.{chunk, mask_l, sel_l, top, zip2}
-use Rattle.sixel_plane.proofs.LaneLemmas.{first_in_lanes, none_in_lanes}
-use Rattle.sixel_encode.specs.Columns.{NoFour, are_four}
+use Rattle.sixel_encode.specs.Columns.{ArePairs, NoFour, are_four}
+use Rattle.sixel_encode.proofs.MaskLemmas.{bit_shifted, none_left}
 
 -- which lanes of two groups are equal
 abbrev pub tests : List ℕ → List ℕ → List Bool
 tests v w = map (top 7) (zip2 (λ a b. cond (a == b) 255 0) v w)
-
--- 1 in each lane in which a group equals three others, and 0 elsewhere
-abbrev pub fours : List ℕ → List ℕ → List ℕ → List ℕ → List ℕ
-fours a b c d =
-    sel_l (tests a b) (sel_l (tests a c) (sel_l (tests a d) (replicate 32 1) (replicate 32 0)) (replicate 32 0))
-    (replicate 32 0)
 
 tests_are : (v w : List ℕ) → tests v w ≡ zip2 (λ a b. a == b) v w
 tests_are v w = tops_compared w8 (λ a b. a == b) v w
@@ -53,108 +48,131 @@ chosen_at v w chosen j long wide all lt =
     ∙ ap₂ (λ (t : Bool) (z : ℕ). cond t (get_or chosen j 0) z) (test_at v w j long wide lt)
     (get_or-replicate 32 j 0 0 lt)
 
-chosen_all : (s t u : Bool) → (cond s (cond t (cond u 1 0) 0) 0 == 1) ≡ (s && (t && u))
-chosen_all true true true = refl
-chosen_all true true false = refl
-chosen_all true false u = refl
-chosen_all false t u = refl
+-- ---- equal neighbours
 
-length-fours : (a b c d : List ℕ) → length a ≡ 32 → length b ≡ 32 → length c ≡ 32 → length d ≡ 32
-    → length (fours a b c d) ≡ 32
-length-fours a b c d la lb lc ld =
-    length-chosen a b _ la lb (length-chosen a c _ la lc (length-chosen a d _ la ld (length-replicate {A = ℕ} 32 1)))
+-- the mask of equal neighbours
+pub pairs_are : (at pairs : ℕ) (bytes : List ℕ) → at + 32 < length bytes
+    → pairs ≡ mask_l (tests (chunk at 32 bytes) (chunk (at + 1) 32 bytes)) % 2 ^ 64 → ArePairs at bytes pairs
+pairs_are at pairs bytes room is j lt =
+    let v = chunk at 32 bytes in
+    let w = chunk (at + 1) 32 bytes in
+    let long : length v ≡ 32 = length-chunk at 32 bytes (omega arith) in
+    let wide : length w ≡ 32 = length-chunk (at + 1) 32 bytes (omega arith) in
+    let next : at + 1 + j ≡ at + j + 1 = omega arith in
+    ap (λ (n : ℕ). bit_at n j) (is ∙ mask_l-mod (tests v w) 64 (omega (arith, length-tests v w long wide)))
+    ∙ bit_mask_l (tests v w) j
+    ∙ ap (λ (t : Bool). cond t 1 0)
+    (test_at v w j long wide lt
+    ∙ ap₂ (λ (a b : ℕ). a == b) (get_or-chunk at 32 bytes j 0 lt)
+    (get_or-chunk (at + 1) 32 bytes j 0 lt ∙ ap (λ (k : ℕ). get_or bytes k 0) next))
 
-four_at : (a b c d : List ℕ) (j : ℕ) → length a ≡ 32 → length b ≡ 32 → length c ≡ 32 → length d ≡ 32 → j < 32
-    → (get_or (fours a b c d) j 0 == 1)
-    ≡ ((get_or a j 0 == get_or b j 0) && ((get_or a j 0 == get_or c j 0) && (get_or a j 0 == get_or d j 0)))
-four_at a b c d j la lb lc ld lt =
-    let ones = replicate 32 1 in
-    let third = sel_l (tests a d) ones (replicate 32 0) in
-    let second = sel_l (tests a c) third (replicate 32 0) in
-    let l3 = length-chosen a d ones la ld (length-replicate {A = ℕ} 32 1) in
-    let l2 = length-chosen a c third la lc l3 in
-    ap (λ (n : ℕ). n == 1)
-    (chosen_at a b second j la lb l2 lt
-    ∙ ap (λ (n : ℕ). cond (get_or a j 0 == get_or b j 0) n 0)
-    (chosen_at a c third j la lc l3 lt
-    ∙ ap (λ (n : ℕ). cond (get_or a j 0 == get_or c j 0) n 0)
-    (chosen_at a d ones j la ld (length-replicate {A = ℕ} 32 1) lt
-    ∙ ap (λ (n : ℕ). cond (get_or a j 0 == get_or d j 0) n 0) (get_or-replicate 32 j 1 0 lt))))
-    ∙ chosen_all (get_or a j 0 == get_or b j 0) (get_or a j 0 == get_or c j 0) (get_or a j 0 == get_or d j 0)
+pub pairs_few : (at pairs : ℕ) (bytes : List ℕ) → at + 32 < length bytes
+    → pairs ≡ mask_l (tests (chunk at 32 bytes) (chunk (at + 1) 32 bytes)) % 2 ^ 64 → pairs < 2 ^ 32
+pairs_few at pairs bytes room is =
+    let v = chunk at 32 bytes in
+    let w = chunk (at + 1) 32 bytes in
+    let long : length v ≡ 32 = length-chunk at 32 bytes (omega arith) in
+    let wide : length w ≡ 32 = length-chunk (at + 1) 32 bytes (omega arith) in
+    let same = is ∙ mask_l-mod (tests v w) 64 (omega (arith, length-tests v w long wide)) in
+    let size : length (tests v w) ≡ 32 = length-tests v w long wide in
+    let most : mask_l (tests v w) < 2 ^ length (tests v w) = mask_l-lt (tests v w) in
+    rw same (rw size at most)
 
--- the marks of the group at `at`: 1 where four equal bytes begin
-abbrev pub fours_from : ℕ → List ℕ → List ℕ
-fours_from at bytes =
-    fours (chunk at 32 bytes) (chunk (at + 1) 32 bytes) (chunk (at + 2) 32 bytes) (chunk (at + 3) 32 bytes)
+-- the columns at which three pairs begin
+abbrev pub begun_of : ℕ → ℕ
+begun_of pairs = bit_and (bit_and pairs (pairs / 2 ^ 1)) (pairs / 2 ^ 2)
 
-pub length-fours_from : (at : ℕ) (bytes : List ℕ) → at + 32 + 3 ≤ length bytes → length (fours_from at bytes) ≡ 32
-length-fours_from at bytes room =
-    length-fours _ _ _ _ (length-chunk at 32 bytes (omega arith)) (length-chunk (at + 1) 32 bytes (omega arith))
-    (length-chunk (at + 2) 32 bytes (omega arith)) (length-chunk (at + 3) 32 bytes (omega arith))
+three_bits : (s t u : Bool) → min (min (cond s 1 0) (cond t 1 0)) (cond u 1 0) ≡ cond (s && (t && u)) 1 0
+three_bits true true true = refl
+three_bits true true false = refl
+three_bits true false true = refl
+three_bits true false false = refl
+three_bits false true true = refl
+three_bits false true false = refl
+three_bits false false true = refl
+three_bits false false false = refl
 
-four_from : (at j : ℕ) (bytes : List ℕ) → at + 32 + 3 ≤ length bytes → j < 32
-    → (get_or (fours_from at bytes) j 0 == 1) ≡ are_four bytes (at + j)
-four_from at j bytes room lt =
-    let a0 = get_or-chunk at 32 bytes j 0 lt in
-    let shifted : (n : ℕ) → get_or (chunk (at + n) 32 bytes) j 0 ≡ get_or bytes (at + j + n) 0 = λ n.
-    let e : at + n + j ≡ at + j + n = omega arith in
-    get_or-chunk (at + n) 32 bytes j 0 lt ∙ ap (λ (k : ℕ). get_or bytes k 0) e in
-    four_at (chunk at 32 bytes) (chunk (at + 1) 32 bytes) (chunk (at + 2) 32 bytes) (chunk (at + 3) 32 bytes) j
-    (length-chunk at 32 bytes (omega arith)) (length-chunk (at + 1) 32 bytes (omega arith))
-    (length-chunk (at + 2) 32 bytes (omega arith)) (length-chunk (at + 3) 32 bytes (omega arith)) lt
-    ∙ rw (a0, shifted 1, shifted 2, shifted 3) refl
+bits_of_begun : (pairs j : ℕ)
+    → bit_at (begun_of pairs) j ≡ min (min (bit_at pairs j) (bit_at pairs (1 + j))) (bit_at pairs (2 + j))
+bits_of_begun pairs j =
+    bit_at_and (bit_and pairs (pairs / 2 ^ 1)) (pairs / 2 ^ 2) j
+    ∙ ap₂ min (bit_at_and pairs (pairs / 2 ^ 1) j ∙ ap (min (bit_at pairs j)) (bit_shifted pairs 1 j))
+    (bit_shifted pairs 2 j)
 
--- how many lanes come before the first mark
-abbrev pub Counted : ℕ → List ℕ → ℕ → Type 0
-Counted at bytes run = run ≡ prefix_len (λ n. not (n == 1)) (chunk 0 32 (fours_from at bytes))
+-- a chain of equal neighbours
+chain : (a b c d : ℕ) → ((a == b) && ((b == c) && (c == d))) ≡ ((a == b) && ((a == c) && (a == d)))
+chain a b c d = elim (cases_eq a b) [
+  | inr other ↦ rw (ne_eqb a b other) refl
+  | inl same ↦ rw same (elim (cases_eq b c) [
+    | inr other ↦ rw (ne_eqb b c other) refl
+    | inl equal ↦ rw equal refl
+  ])
+]
 
--- the mask of the marks
-pub fours_mask : (at : ℕ) (bytes : List ℕ) → at + 32 + 3 ≤ length bytes
-    → mask_l (map (top 7) (zip2 (λ a b. cond (a == b) 255 0) (fours_from at bytes) (replicate 32 1))) % 2 ^ 64
-    ≡ mask_l (map (λ n. n == 1) (fours_from at bytes))
-fours_mask at bytes room =
-    bitmask_splat w8 (λ a b. a == b) (fours_from at bytes) 32 1 (length-fours_from at bytes room) (omega arith)
+begun_at : (at j pairs : ℕ) (bytes : List ℕ) → ArePairs at bytes pairs → j < 30
+    → bit_at (begun_of pairs) j ≡ cond (are_four bytes (at + j)) 1 0
+begun_at at j pairs bytes are lt =
+    let one : at + (1 + j) ≡ at + j + 1 = omega arith in
+    let two : at + (2 + j) ≡ at + j + 2 = omega arith in
+    let one_more : at + j + 1 + 1 ≡ at + j + 2 = omega arith in
+    let two_more : at + j + 2 + 1 ≡ at + j + 3 = omega arith in
+    let a = get_or bytes (at + j) 0 in
+    let b = get_or bytes (at + j + 1) 0 in
+    let c = get_or bytes (at + j + 2) 0 in
+    let d = get_or bytes (at + j + 3) 0 in
+    let second : bit_at pairs (1 + j) ≡ cond (b == c) 1 0 = rw (one, one_more) at (are (1 + j) (omega arith)) in
+    let third : bit_at pairs (2 + j) ≡ cond (c == d) 1 0 = rw (two, two_more) at (are (2 + j) (omega arith)) in
+    bits_of_begun pairs j
+    ∙ ap₂ min (ap₂ min (are j (omega arith)) second) third
+    ∙ three_bits (a == b) (b == c) (c == d)
+    ∙ ap (λ (t : Bool). cond t 1 0) (chain a b c d)
 
-whole : (at : ℕ) (bytes : List ℕ) → at + 32 + 3 ≤ length bytes
-    → chunk 0 32 (fours_from at bytes) ≡ fours_from at bytes
-whole at bytes room =
-    let long = length-fours_from at bytes room in take_all 32 (fours_from at bytes) (omega arith)
+-- no repeat begins behind the last pair but two
+begun_small : (pairs r : ℕ) → pairs < 2 ^ 32 → bit_at (begun_of pairs) r ≡ 1 → r < 30
+begun_small pairs r few set = elim (cases_lt r 30) [
+  | inl less ↦ less
+  | inr past ↦
+      let none : bit_at pairs (2 + r) ≡ 0 = none_left pairs 32 (2 + r) (omega arith) (omega arith) in
+      let is = bits_of_begun pairs r in
+      absurd (omega arith)
+]
 
-pub counted_none : (at m : ℕ) (bytes : List ℕ) → at + 32 + 3 ≤ length bytes
-    → m ≡ mask_l (map (λ n. n == 1) (fours_from at bytes)) → m ≡ 0 → Counted at bytes 32
-counted_none at m bytes room same none =
-    none_in_lanes (λ n. n == 1) (fours_from at bytes) m (length-fours_from at bytes room) same none
-    ∙ sym (ap (prefix_len (λ n. not (n == 1))) (whole at bytes room))
+clear_four : (t : Bool) → ◌≡◌ {A = ℕ} (cond t 1 0) 0 → t ≡ false
+clear_four true e = absurd (omega arith)
+clear_four false e = refl
 
-pub counted_some : (at m : ℕ) (bytes : List ℕ) → at + 32 + 3 ≤ length bytes
-    → m ≡ mask_l (map (λ n. n == 1) (fours_from at bytes)) → m ≢ 0
-    → Counted at bytes (count_trailing_zeros 64 m)
-counted_some at m bytes room same some =
-    first_in_lanes (λ n. n == 1) (fours_from at bytes) m (length-fours_from at bytes room) same some
-    ∙ sym (ap (prefix_len (λ n. not (n == 1))) (whole at bytes room))
+set_four : (t : Bool) → ◌≡◌ {A = ℕ} (cond t 1 0) 1 → t ≡ true
+set_four true e = refl
+set_four false e = absurd (omega arith)
 
-pub run_most : (at run : ℕ) (bytes : List ℕ) → at + 32 + 3 ≤ length bytes → Counted at bytes run → run ≤ 32
-run_most at run bytes room counted =
-    let long = length-fours_from at bytes room in
-    run_in_chunk_le (λ n. n == 1) (fours_from at bytes) 0 32 run 0 (omega arith) counted
-
-pub run_singles : (at run : ℕ) (bytes : List ℕ) → at + 32 + 3 ≤ length bytes → Counted at bytes run
-    → NoFour at (at + run) bytes
-run_singles at run bytes room counted k low high _ =
-    let long = length-fours_from at bytes room in
-    let most = run_most at run bytes room counted in
+-- the columns before one whose lower bits are clear
+singles_below : (at r pairs : ℕ) (bytes : List ℕ) → ArePairs at bytes pairs → r ≤ 30
+    → ((i : ℕ) → i < r → bit_at (begun_of pairs) i ≡ 0) → NoFour at (at + r) bytes
+singles_below at r pairs bytes are most clear k low high room =
     let back : at + (k - at) ≡ k = omega arith in
-    let inner : k - at < 0 + run = omega arith in
+    let inner : k - at < r = omega arith in
     ap (are_four bytes) (sym back)
-    ∙ sym (four_from at (k - at) bytes room (omega arith))
-    ∙ run_in_chunk_fails (λ n. n == 1) (fours_from at bytes) 0 32 run 0 (omega arith) counted (k - at) (omega arith)
-    inner
+    ∙ clear_four (are_four bytes (at + (k - at)))
+    (sym (begun_at at (k - at) pairs bytes are (omega arith)) ∙ clear (k - at) inner)
 
-pub run_repeat : (at run : ℕ) (bytes : List ℕ) → at + 32 + 3 ≤ length bytes → Counted at bytes run → run < 32
-    → are_four bytes (at + run) ≡ true
-run_repeat at run bytes room counted less =
-    let long = length-fours_from at bytes room in
-    let same : 0 + run ≡ run = omega arith in
-    sym (four_from at run bytes room less)
-    ∙ ap (λ (k : ℕ). get_or (fours_from at bytes) k 0 == 1) (sym same)
-    ∙ run_in_chunk_stops (λ n. n == 1) (fours_from at bytes) 0 32 run 0 (omega arith) counted less
+-- no bit is set
+pub begun_none : (at pairs : ℕ) (bytes : List ℕ) → ArePairs at bytes pairs → begun_of pairs ≡ 0
+    → NoFour at (at + 30) bytes
+begun_none at pairs bytes are none =
+    singles_below at 30 pairs bytes are (omega arith)
+    (λ i lt. ap (λ (n : ℕ). bit_at n i) none ∙ bit_at-zero i)
+
+-- the lowest set bit
+pub begun_first : (at pairs : ℕ) (bytes : List ℕ) → ArePairs at bytes pairs → pairs < 2 ^ 32 → begun_of pairs ≢ 0
+    → (trailing_zeros w64 (begun_of pairs) < 30)
+    × NoFour at (at + trailing_zeros w64 (begun_of pairs)) bytes
+    × (are_four bytes (at + trailing_zeros w64 (begun_of pairs)) ≡ true)
+begun_first at pairs bytes are few some =
+    let most : begun_of pairs < 2 ^ 64 =
+    omega (arith, and_le_l (bit_and pairs (pairs / 2 ^ 1)) (pairs / 2 ^ 2), and_le_l pairs (pairs / 2 ^ 1)) in
+    let lowest = bit_at-trailing_zeros w64 (begun_of pairs) (omega arith) most in
+    let small = begun_small pairs (trailing_zeros w64 (begun_of pairs)) few lowest.1 in (
+      small,
+      singles_below at (trailing_zeros w64 (begun_of pairs)) pairs bytes are (omega arith) lowest.2,
+      set_four _ (sym (begun_at at (trailing_zeros w64 (begun_of pairs)) pairs bytes are small) ∙ lowest.1),
+    )

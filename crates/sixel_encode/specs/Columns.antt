@@ -90,6 +90,11 @@ pub record AreGroupsMarked (from to : ℕ) (pixels old new : List ℕ) : Type 0 
 
 -- ---- repeats
 
+-- bit j is set if bytes at + j and at + j + 1 are equal, for the 32 bytes at `at`
+abbrev pub ArePairs : ℕ → List ℕ → ℕ → Type 0
+ArePairs at bytes pairs = (j : ℕ) → j < 32
+    → bit_at pairs j ≡ (if slice_index bytes (at + j) == slice_index bytes (at + j + 1) then 1 else 0)
+
 -- four equal bytes begin at index k
 abbrev pub are_four : List ℕ → ℕ → Bool
 are_four bytes k = (slice_index bytes k == slice_index bytes (k + 1))

@@ -1,9 +1,9 @@
 //! Finds equal columns in a row of sixels.
 
-ghost use Rattle.std.specs.Prelude.{◌≡◌, ◌==◌, ◌+◌, ◌/◌, ◌<◌, ◌≤◌, ℕ, length, not, true};
+ghost use Rattle.std.specs.Prelude.{◌≡◌, ◌==◌, ◌+◌, ◌/◌, ◌^◌, ◌<◌, ◌≤◌, ℕ, length, not, true};
 ghost use Rattle.std.specs.Int.{bit_at};
 ghost use Rattle.sixel_plane.specs.Lanes.{IsFirst};
-ghost use Rattle.sixel_encode.specs.Columns.{IsInkEnd, IsInkIn, IsRepeat, IsRun, NoFour, are_four};
+ghost use Rattle.sixel_encode.specs.Columns.{ArePairs, IsInkEnd, IsInkIn, IsRepeat, IsRun, NoFour, are_four};
 
 use crate::columns::next_group;
 use crate::lanes::{LANES, first_in_group, first_in_rest, first_other};
@@ -12,28 +12,31 @@ use std::simd::prelude::*;
 /// The fewest equal columns that become a repeat.
 const LEAST_REPEAT: usize = 4;
 
+/// At how many columns of a group a repeat can begin that ends in the column after the group at the latest.
+const STARTS: usize = LANES - 2;
+
 /// Where the first repeat from `from` on begins, if there is one.
 pub(crate) fn find_repeat(sixels: &[u8], from: usize) -> Option<usize>
     requires { from ≤ length sixels.now }
     ensures { IsRepeat from (length sixels.now) sixels.now result }
 {
-    let places = sixels.len().saturating_sub(LEAST_REPEAT - 1);
-    let groups = places.saturating_sub(from) / LANES;
-    for group in 0..groups {
-        if let Some(start) = repeat_in_group(sixels, from + group * LANES) {
+    let mut at = from;
+    while at + LANES < sixels.len() {
+        if let Some(start) = repeat_in_group(sixels, at) {
             return Some(start);
         }
+        at += STARTS;
     }
-    repeat_in_rest(sixels, from + groups * LANES)
+    repeat_in_rest(sixels, at)
 }
 
 #[inline]
 fn repeat_in_group(sixels: &[u8], at: usize) -> Option<usize>
-    requires { at + LANES + 3 ≤ length sixels.now }
-    ensures { IsRepeat at (at + LANES) sixels.now result }
+    requires { at + STARTS + 3 ≤ length sixels.now }
+    ensures { IsRepeat at (at + STARTS) sixels.now result }
 {
     let count = singles_in_group(sixels, at);
-    if count < LANES {
+    if count < STARTS {
         Some(at + count)
     } else {
         None
@@ -43,23 +46,29 @@ fn repeat_in_group(sixels: &[u8], at: usize) -> Option<usize>
 /// How many columns of the group at `at` come before the first one at which a repeat begins.
 #[inline]
 fn singles_in_group(sixels: &[u8], at: usize) -> usize
-    requires { at + LANES + 3 ≤ length sixels.now }
-    ensures most { result ≤ LANES }
+    requires { at + STARTS + 3 ≤ length sixels.now }
+    ensures most { result ≤ STARTS }
     ensures singles { NoFour at (at + result) sixels.now }
-    ensures repeat { result < LANES → are_four sixels.now (at + result) ≡ true }
+    ensures repeat { result < STARTS → are_four sixels.now (at + result) ≡ true }
 {
-    let (one, zero) = (u8x32::splat(1), u8x32::splat(0));
-    let first = u8x32::from_slice(&sixels[at..]);
-    let second = first.simd_eq(u8x32::from_slice(&sixels[at + 1..]));
-    let third = first.simd_eq(u8x32::from_slice(&sixels[at + 2..]));
-    let fourth = first.simd_eq(u8x32::from_slice(&sixels[at + 3..]));
-    let four = second.select(third.select(fourth.select(one, zero), zero), zero);
-    let begun = four.simd_eq(one).to_bitmask();
+    let pairs = equal_pairs(sixels, at);
+    let begun = pairs & (pairs >> 1) & (pairs >> 2);
     if begun == 0 {
-        LANES
+        STARTS
     } else {
         begun.trailing_zeros() as usize
     }
+}
+
+/// A mask of the group at `at`: the bit of a column is set if the next one is equal.
+#[inline]
+fn equal_pairs(sixels: &[u8], at: usize) -> u64
+    requires { at + LANES < length sixels.now }
+    ensures few { result < 2 ^ 32 }
+    ensures pairs { ArePairs at sixels.now result }
+{
+    let next = u8x32::from_slice(&sixels[at + 1..]);
+    u8x32::from_slice(&sixels[at..]).simd_eq(next).to_bitmask()
 }
 
 fn repeat_in_rest(sixels: &[u8], from: usize) -> Option<usize>

@@ -1,4 +1,4 @@
-use Rattle.sixel_encode.proofs.GroupLemmas.{first_left, none_before, none_left}
+use Rattle.sixel_encode.proofs.MaskLemmas.{first_left, none_before, none_left}
 use Rattle.sixel_encode.proofs.columns.next_group.Goals as goal
 
 pub returns-then-left-eq0-clause-unset : goal.returns-then-left-eq0-clause-unset

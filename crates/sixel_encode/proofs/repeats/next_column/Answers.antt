@@ -1,6 +1,6 @@
 use Rattle.std.proofs.Common.{◌/◌, inl, inr, arith}
 use Rattle.std.proofs.lemmas.Bool.{cases_lt}
-use Rattle.sixel_encode.proofs.GroupLemmas.{none_past}
+use Rattle.sixel_encode.proofs.MaskLemmas.{none_past}
 use Rattle.sixel_encode.proofs.repeats.next_column.Goals as goal
 
 pub returns-then-group-ge64-clause-unset : goal.returns-then-group-ge64-clause-unset

@@ -1,23 +1,17 @@
-use Rattle.sixel_encode.proofs.RepeatLemmas.{counted_none, counted_some, fours_mask, run_most, run_repeat}
-use Rattle.sixel_encode.proofs.RepeatLemmas.{run_singles}
+use Rattle.std.proofs.Common.{arith}
+use Rattle.sixel_encode.proofs.RepeatLemmas.{begun_first, begun_none}
 use Rattle.sixel_encode.proofs.repeats.singles_in_group.Goals as goal
 
 pub returns-then-begun-eq0 : goal.returns-then-begun-eq0
-returns-then-begun-eq0 c =
-    let xs = c.args.sixels.now in
-    let counted = counted_none c.args.at _ xs c.requires (fours_mask c.args.at xs c.requires) c.if-begun-eq0.true in
-    record {
-      most = run_most c.args.at 32 xs c.requires counted;
-      singles = run_singles c.args.at 32 xs c.requires counted;
-      repeat = run_repeat c.args.at 32 xs c.requires counted;
-    }
+returns-then-begun-eq0 c = record {
+  most = omega arith;
+  singles = begun_none c.args.at c.equal_pairs-pairs.result c.args.sixels.now c.equal_pairs-pairs.ensures.pairs
+      c.if-begun-eq0.true;
+  repeat = λ less. absurd (omega arith);
+}
 
 pub returns-else-begun-eq0 : goal.returns-else-begun-eq0
 returns-else-begun-eq0 c =
-    let xs = c.args.sixels.now in
-    let counted = counted_some c.args.at _ xs c.requires (fours_mask c.args.at xs c.requires) c.if-begun-eq0.false in
-    record {
-      most = run_most c.args.at _ xs c.requires counted;
-      singles = run_singles c.args.at _ xs c.requires counted;
-      repeat = run_repeat c.args.at _ xs c.requires counted;
-    }
+    let first = begun_first c.args.at c.equal_pairs-pairs.result c.args.sixels.now c.equal_pairs-pairs.ensures.pairs
+    c.equal_pairs-pairs.ensures.few c.if-begun-eq0.false in
+    record { most = omega (arith, first.0); singles = first.1; repeat = λ less. first.2 }
