@@ -5,6 +5,7 @@ pub mod PartedLemmas
 pub mod RunLemmas
 pub mod TextLemmas
 pub mod DecimalLemmas
+pub mod LineLemmas
 pub mod MaskLemmas
 pub mod RepeatLemmas
 pub mod StretchLemmas

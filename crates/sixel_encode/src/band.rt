@@ -12,6 +12,7 @@ use crate::columns::find_sixels;
 use crate::commands::{Text, put_command};
 use crate::groups::band_groups;
 use crate::lanes::LANES;
+use crate::line::{Line, MOST_BYTES};
 use crate::repeats::{find_repeat, ink_end, run_end};
 use crate::rows::rows_of;
 use sixel_grammar::{Command, Event};
@@ -19,7 +20,7 @@ use sixel_io::{DeviceFault, Sink};
 use sixel_model::Picture;
 
 /// The columns of the widest picture, and two groups of blank ones. So a search by groups finds an end of all columns.
-const ROOM: usize = 2048 + 2 * LANES;
+const ROOM: usize = MOST_BYTES;
 
 /// Writes the registers of a band, each with its columns, with a carriage return between two.
 pub(crate) fn put_band<K: Sink>(
@@ -34,15 +35,16 @@ pub(crate) fn put_band<K: Sink>(
 {
     let mut room = [0; ROOM];
     let end = room_for(picture.width() as usize);
-    put_registers(text, picture, band, &mut room[..end], out)
+    put_registers(text, picture, band, &mut room[..end], &mut Line::new(), out)
 }
 
-/// The same, with room for the columns of a register.
+/// The same, with room for the columns of a register and for their text.
 fn put_registers<K: Sink>(
     text: &mut Text,
     picture: &Picture,
     band: u32,
     sixels: &mut [u8],
+    line: &mut Line,
     out: &mut K,
 ) -> Result<(), DeviceFault>
     requires band { band < most_bands }
@@ -58,7 +60,7 @@ fn put_registers<K: Sink>(
         let own = groups[register as usize];
         if own != 0 {
             find_sixels(sixels, rows, width, register as u8, own);
-            put_next(text, register as u8, sixels, own, is_first, out)?;
+            put_next(text, register as u8, sixels, own, line, is_first, out)?;
             is_first = false;
         }
     }
@@ -80,6 +82,7 @@ fn put_next<K: Sink>(
     register: u8,
     sixels: &[u8],
     groups: u64,
+    line: &mut Line,
     is_first: bool,
     out: &mut K,
 ) -> Result<(), DeviceFault>
@@ -91,7 +94,7 @@ fn put_next<K: Sink>(
         ++ (Command.Select register ∷ sixel_commands sixels.now))) }
 {
     put_between(text, is_first, Command::CarriageReturn, out)?;
-    put_register(text, register, sixels, groups, out)
+    put_register(text, register, sixels, groups, line, out)
 }
 
 /// Writes the command as a separator: nothing before the first item.
@@ -118,6 +121,7 @@ fn put_register<K: Sink>(
     register: u8,
     sixels: &[u8],
     groups: u64,
+    line: &mut Line,
     out: &mut K,
 ) -> Result<(), DeviceFault>
     requires sixels { AreSixels sixels.now }
@@ -127,7 +131,7 @@ fn put_register<K: Sink>(
         (commands_text (Command.Select register ∷ sixel_commands sixels.now)) }
 {
     put_command(text, select(register), out)?;
-    put_columns(text, sixels, groups, out)
+    put_columns(text, sixels, groups, line, out)
 }
 
 fn select(register: u8) -> Command
@@ -136,12 +140,12 @@ fn select(register: u8) -> Command
     Command::Select(register.into())
 }
 
-/// Writes the columns up to the last one with a set bit: four or more equal columns as a repeat, any others as single
-/// sixels.
+/// Writes the columns up to the last one with a set bit.
 fn put_columns<K: Sink>(
     text: &mut Text,
     sixels: &[u8],
     groups: u64,
+    line: &mut Line,
     out: &mut K,
 ) -> Result<(), DeviceFault>
     requires sixels { AreSixels sixels.now }
@@ -150,70 +154,28 @@ fn put_columns<K: Sink>(
     ensures { WritesThrough result (K.state out.old) (K.state out.new) text.old text.new
         (commands_text (sixel_commands sixels.now)) }
 {
+    spell_columns(line, sixels, groups);
+    text.put(line.as_slice(), out)
+}
+
+/// The text of the columns: four or more equal columns are a repeat, any others single sixels.
+fn spell_columns(line: &mut Line, sixels: &[u8], groups: u64)
+    requires sixels { AreSixels sixels.now }
+    requires few { length sixels.now ≤ ROOM }
+    requires ink { IsInkIn groups sixels.now }
+    ensures { line.new ≡ commands_text (sixel_commands sixels.now) }
+{
+    line.clear();
     let mut from = 0;
     while let Some(start) = find_repeat(sixels, from) {
         let end = run_end(sixels, groups, start);
+        line.push_part(sixels, from, start);
         // Blank columns at the end are left out.
         if end == sixels.len() && sixels[start] == b'?' {
-            return put_part(text, sixels, from, start, out);
+            return;
         }
-        put_until(text, sixels, from, start, end, out)?;
+        line.push_repeat((end - start) as u16, sixels[start] - b'?');
         from = end;
     }
-    put_part(text, sixels, from, ink_end(sixels, from), out)
-}
-
-/// Writes columns as single sixels.
-#[inline]
-fn put_part<K: Sink>(
-    text: &mut Text,
-    sixels: &[u8],
-    from: usize,
-    to: usize,
-    out: &mut K,
-) -> Result<(), DeviceFault>
-    requires ordered { from ≤ to }
-    requires within { to ≤ length sixels.now }
-    requires few { length sixels.now ≤ ROOM }
-    ensures { WritesThrough result (K.state out.old) (K.state out.new) text.old text.new
-        (part from to sixels.now) }
-{
-    text.put(&sixels[from..to], out)
-}
-
-/// Writes columns as single sixels, then a repeat.
-fn put_until<K: Sink>(
-    text: &mut Text,
-    sixels: &[u8],
-    from: usize,
-    start: usize,
-    end: usize,
-    out: &mut K,
-) -> Result<(), DeviceFault>
-    requires sixels { AreSixels sixels.now }
-    requires few { length sixels.now ≤ ROOM }
-    requires ordered { from ≤ start }
-    requires repeat { start + 4 ≤ end }
-    requires within { end ≤ length sixels.now }
-    ensures { WritesThrough result (K.state out.old) (K.state out.new) text.old text.new
-        (part from start sixels.now ++ commands_text
-        (run_commands (record { count = end - start; item = slice_index sixels.now start - 63 }))) }
-{
-    put_part(text, sixels, from, start, out)?;
-    put_repeat(text, (end - start) as u16, sixels[start] - b'?', out)
-}
-
-/// Writes a repeat of `count` columns.
-fn put_repeat<K: Sink>(
-    text: &mut Text,
-    count: u16,
-    bits: u8,
-    out: &mut K,
-) -> Result<(), DeviceFault>
-    requires count { 4 ≤ count }
-    requires bits { bits ≤ 63 }
-    ensures { WritesThrough result (K.state out.old) (K.state out.new) text.old text.new
-        (commands_text (run_commands (record { count = count; item = bits }))) }
-{
-    put_command(text, Command::Repeat { count, bits }, out)
+    line.push_part(sixels, from, ink_end(sixels, from));
 }

@@ -5,6 +5,7 @@ ghost use Rattle.sixel_io.specs.Blocks.{WritesThrough};
 ghost use Rattle.sixel_grammar.specs.Spelling.{IsSpellable};
 ghost use Rattle.sixel_encode.specs.Canon.{commands_text};
 
+use crate::digits::digit;
 use sixel_grammar::{Command, Event, put_event};
 use sixel_io::{Block, DeviceFault, Sink};
 
@@ -24,7 +25,6 @@ pub(crate) fn put_command<K: Sink>(
 {
     match command {
         Command::Select(register) => put_select(text, register, out),
-        Command::Repeat { count, bits } => put_repeat(text, count, bits, out),
         Command::CarriageReturn => text.put(b"$", out),
         other => put_other(text, other, out),
     }
@@ -53,35 +53,4 @@ fn put_select<K: Sink>(text: &mut Text, register: u16, out: &mut K) -> Result<()
     } else {
         put_other(text, Command::Select(register), out)
     }
-}
-
-fn put_repeat<K: Sink>(
-    text: &mut Text,
-    count: u16,
-    bits: u8,
-    out: &mut K,
-) -> Result<(), DeviceFault>
-    requires { bits ≤ 63 }
-    ensures { WritesThrough result (K.state out.old) (K.state out.new) text.old text.new
-        (commands_text (Command.Repeat count bits ∷ [])) }
-{
-    let sixel = 63 + bits;
-    if count < 10 {
-        text.put(&[b'!', digit(count), sixel], out)
-    } else if count < 100 {
-        text.put(&[b'!', digit(count / 10), digit(count % 10), sixel], out)
-    } else if count < 1_000 {
-        let (hundreds, tens) = (digit(count / 100), digit(count / 10 % 10));
-        text.put(&[b'!', hundreds, tens, digit(count % 10), sixel], out)
-    } else {
-        put_other(text, Command::Repeat { count, bits }, out)
-    }
-}
-
-#[inline]
-fn digit(number: u16) -> u8
-    requires { number < 10 }
-    ensures { result ≡ 48 + number }
-{
-    b'0' + number as u8
 }

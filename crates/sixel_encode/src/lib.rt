@@ -4,9 +4,11 @@
 mod band;
 mod columns;
 mod commands;
+mod digits;
 mod groups;
 mod lanes;
 pub mod laws;
+mod line;
 mod repeats;
 mod rows;
 mod writing;
