@@ -2,9 +2,9 @@
 use Rattle.std.proofs.Common.{◌≡◌, ◌≢◌, ◌<◌, ◌≤◌, ◌+◌, ◌-◌, ◌*◌, ◌&&◌, ◌||◌, ℕ, zero, suc, Bool, true, false, not}
 use Rattle.std.proofs.Common.{Option, Some, None, List, [], ◌∷◌, ◌++◌, length, set, take, refl, sym, ap, ap₂}
 use Rattle.std.proofs.Common.{subst, ◌∙◌, arith}
-use Rattle.std.specs.Prelude.{IsTrue, is_none, is_some, nat_eq, nat_le, nat_lt, slice_index, if◌then◌else◌}
+use Rattle.std.specs.Prelude.{is_none, is_some, nat_eq, nat_lt, slice_index, if◌then◌else◌}
 use Rattle.std.specs.Option.{option_map_or, option_or}
-use Rattle.std.proofs.lemmas.Bool.{and_parts, cond-true, eqb-false, eqb-true, leb-true, lt-ltb}
+use Rattle.std.proofs.lemmas.Bool.{cond-true, eqb-false, eqb-true, lt-ltb}
 use Rattle.std.proofs.lemmas.List.{append-nil, get_or-take, length-take-le}
 use Rattle.sixel_grammar.specs.declared.command.Event.{Event}
 use Rattle.sixel_grammar.specs.declared.command.Placed.{Placed}
@@ -14,7 +14,6 @@ use Rattle.sixel_grammar.proofs.SourceLemmas.{take_past}
 use Rattle.sixel_model.specs.Events.{Attributes, has_sides, is_painting}
 use Rattle.sixel_model.specs.Geometry.{band, column}
 use Rattle.sixel_model.specs.Grids.{Grid, cell, painted_grid}
-use Rattle.sixel_model.specs.Pictures.{is_side, most_side}
 use Rattle.sixel_model.specs.Rules.{raster_before}
 use Rattle.sixel_model.proofs.StepLemmas.{raster_push}
 use Rattle.sixel_plane.specs.Stretches.{sixel_of, stretched_grid}
@@ -41,7 +40,7 @@ use Rattle.sixel_survey.proofs.CoverLemmas.{cover_run, covered_part}
 use Rattle.sixel_survey.proofs.HitLemmas.{box_told, hit_at, hit_if, notes_hit, outside_in, outside_none}
 use Rattle.sixel_survey.proofs.NotesLemmas.{notes_push}
 use Rattle.sixel_survey.proofs.TallyLemmas.{tally_push}
-use Rattle.sixel_survey.proofs.TallyingLemmas.{never, sixel_only, tallied_rest}
+use Rattle.sixel_survey.proofs.TallyingLemmas.{never, side, sixel_only, tallied_rest}
 
 -- ---- one sixel after another
 
@@ -307,9 +306,6 @@ hit_there (Some p) is = refl
 pub hit_nowhere : (o : Option (ℕ × ℕ)) → is_some o ≡ false → hit_at o ≡ None
 hit_nowhere None is = refl
 hit_nowhere (Some p) is = cc
-
-side : (n : ℕ) → IsTrue (is_side n) → n ≤ most_side
-side n h = leb-true n most_side (and_parts (nat_le 1 n) (nat_le n most_side) h).1
 
 -- no sixel of a stretch that lies in the box paints outside it
 pub inside_none : (registers : ℕ) (n : Notes) (s : Grid) (seen : List Placed) (place : ℕ) (stretch : List ℕ)

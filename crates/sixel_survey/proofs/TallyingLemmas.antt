@@ -2,9 +2,9 @@
 use Rattle.std.proofs.Common.{◌≡◌, ◌≢◌, ◌==◌, ◌<◌, ◌≤◌, ◌-◌, ◌&&◌, ◌||◌, ℕ, zero, suc, Bool, true, false, not}
 use Rattle.std.proofs.Common.{Option, Some, None, List, [], ◌∷◌, ◌++◌, length, get_or, set, refl, sym, ap, subst, ◌∙◌}
 use Rattle.std.proofs.Common.{arith}
-use Rattle.std.specs.Prelude.{is_none, is_some, slice_get}
+use Rattle.std.specs.Prelude.{IfSome, IsTrue, is_none, is_some, nat_le, slice_get}
 use Rattle.std.specs.Option.{option_flatten, option_map_or}
-use Rattle.std.proofs.lemmas.Bool.{eqb-false, eqb-true, or_parts}
+use Rattle.std.proofs.lemmas.Bool.{and_parts, leb-true, eqb-false, eqb-true, or_parts}
 use Rattle.std.proofs.lemmas.List.{length-set}
 use Rattle.sixel_grammar.specs.declared.command.Command.TheVariants.{Sixel, Repeat, Select, Define, Raster}
 use Rattle.sixel_grammar.specs.declared.command.Command.TheVariants.{CarriageReturn, NextLine}
@@ -12,8 +12,11 @@ use Rattle.sixel_grammar.specs.declared.command.Event.{Event}
 use Rattle.sixel_grammar.specs.declared.command.Event.TheVariants.{Start, Step, Finish}
 use Rattle.sixel_grammar.specs.declared.command.Placed.{Placed}
 use Rattle.sixel_grammar.specs.Document.{events_of}
-use Rattle.sixel_model.specs.Events.{definition_where, is_data_command, is_eight_bit, is_finish, is_painting}
+use Rattle.sixel_model.specs.Events.{bits_of, columns_of, definition_where, is_data_command, is_eight_bit, is_finish, is_painting}
 use Rattle.sixel_model.specs.Events.{is_repeat_of_zero, is_return, named_by, raster_of}
+use Rattle.sixel_model.specs.Geometry.{band, column}
+use Rattle.sixel_model.specs.Grids.{Grid}
+use Rattle.sixel_model.specs.Pictures.{is_side, most_side}
 use Rattle.sixel_model.specs.Rules.{Breaks, BreaksOutside, breaks_box_size, breaks_colour_value, breaks_ratio}
 use Rattle.sixel_model.specs.Rules.{breaks_register, breaks_repeat_zero, raster_before}
 use Rattle.sixel_judge.specs.declared.rule.Rule.{Rule}
@@ -22,14 +25,18 @@ use Rattle.sixel_judge.specs.declared.rule.Rule.TheVariants.{ColourValue, Repeat
 use Rattle.sixel_judge.specs.declared.rule.Rule.TheVariants.{Outside, Uncovered, EightBit}
 use Rattle.sixel_judge.specs.Verdicts.{number_of}
 use Rattle.sixel_judge.proofs.DrawLemmas.{falls_paints}
+use Rattle.sixel_judge.proofs.OutsideLemmas.{IsCapped, inside_fits, none_outside}
+use Rattle.sixel_judge.proofs.RunLemmas.{falls_first}
 use Rattle.sixel_judge.proofs.VerdictLemmas.{same_rule}
 use Rattle.sixel_survey.specs.declared.entry.Entry.{Entry}
 use Rattle.sixel_survey.specs.declared.notes.Notes.{Notes}
 use Rattle.sixel_survey.specs.Counting.{Counts}
+use Rattle.sixel_survey.specs.Covering.{IsCoverAfter}
+use Rattle.sixel_survey.specs.Stretches.{FitsIn}
 use Rattle.sixel_survey.specs.Notes.{IsNotesAfter, counts_in, known_in, lacks_definition_in}
 use Rattle.sixel_survey.specs.Surveying.{AreTallies}
 use Rattle.sixel_survey.specs.Tallies.{AreTalliedFor, IsHit, IsTallyOf, is_one_of, of_columns, tally_in}
-use Rattle.sixel_survey.proofs.HitLemmas.{hit_if, notes_hit, uncovered_goes_on}
+use Rattle.sixel_survey.proofs.HitLemmas.{hit_if, notes_hit, outside_hit, outside_none, uncovered_goes_on}
 use Rattle.sixel_survey.proofs.TallyLemmas.{tally_push}
 use Rattle.sixel_survey.proofs.TellLemmas.{if_box}
 
@@ -198,12 +205,18 @@ never_outside registers before e idle =
     let paints = falls_paints before e point.0 point.1 (point.2).painted in
     cc
 
+-- the test on the notes says that the rule doesn't count
+silent_if : (registers : ℕ) (n : Notes) (before : List Event) (e : Event) (rule : Rule) → registers ≤ 256
+    → IsNotesAfter n before → rule ≢ Outside → rule ≢ Uncovered → counts_in registers n e rule ≡ false
+    → IsHit registers rule before e None
+silent_if registers n before e rule few s p q h =
+    subst (λ (b : Bool). IsHit registers rule before e (hit_if b)) h (notes_hit registers n before e rule few s p q)
+
 silent : (registers : ℕ) (n : Notes) (before : List Event) (e : Event) (rule : Rule) → registers ≤ 256
     → IsNotesAfter n before → rule ≢ Outside → rule ≢ Uncovered → can_break rule e ≡ false
     → IsHit registers rule before e None
 silent registers n before e rule few s p q h =
-    subst (λ (b : Bool). IsHit registers rule before e (hit_if b)) (never_in registers n e rule h)
-    (notes_hit registers n before e rule few s p q)
+    silent_if registers n before e rule few s p q (never_in registers n e rule h)
 
 -- a rule that an event of this kind can't break doesn't count
 pub never : (registers : ℕ) (n : Notes) (before : List Event) (e : Event) (rule : Rule) → registers ≤ 256
@@ -269,3 +282,85 @@ tallied_event registers n seen p e tallies few s is t =
     tally_push registers rule seen p None (tally_in tallies rule)
     (subst (λ (d : Event). IsHit registers rule (events_of seen) d None) (sym is)
     (never registers n (events_of seen) e rule few s (by_kind e rule left))) tally)
+
+-- ---- columns that break no rule
+
+raster_quiet : (registers : ℕ) (n : Notes) (before : List Event) (e : Event) → registers ≤ 256
+    → IsNotesAfter n before → n.declared ≡ true → IsHit registers RasterFirst before e None
+raster_quiet registers n before e few s declared =
+    silent_if registers n before e RasterFirst few s (λ i. cc) (λ i. cc)
+    (ap (λ (b : Bool). not b && (is_data_command e || is_return e || is_finish e)) declared)
+
+none_if_some : (o : Option ℕ) → is_some o ≡ true → is_none o ≡ false
+none_if_some None h = cc
+none_if_some (Some r) h = refl
+
+pub side : (n : ℕ) → IsTrue (is_side n) → n ≤ most_side
+side n h = leb-true n most_side (and_parts (nat_le 1 n) (nat_le n most_side) h).1
+
+outside_quiet : (registers : ℕ) (n : Notes) (grid : Option Grid) (before : List Event) (e : Event)
+    → IsNotesAfter n before → IsCoverAfter grid before → IfSome grid (FitsIn n (columns_of 0 e))
+    → IsHit registers Outside before e None
+outside_quiet registers n None before e s cover fits = outside_none registers before e cover
+outside_quiet registers n (Some t) before e s cover fits =
+    let w : IsCapped n.column n.band (column 0 before) (band before) t.width t.height = record {
+      column_is = s.column_is;
+      band_is = s.band_is;
+      narrow = omega (arith, side t.width cover.width);
+      low = omega (arith, side t.height cover.height);
+    } in
+    outside_hit registers t before e cover None
+    (falls_first before e cover.box None
+    (rw (cover.width_is, cover.height_is)
+    (none_outside (column 0 before) (columns_of 0 e) (band before) (bits_of e) t.width t.height
+    (inside_fits n.column n.band (column 0 before) (band before) t.width t.height (columns_of 0 e) (bits_of e) w
+    fits.columns fits.rows))))
+
+-- the tallies stay at an event, if none of the rules that columns can break counts there
+quiet_kept : (registers : ℕ) (seen : List Placed) (p : Placed) (tallies : List (Option Entry))
+    → ((rule : Rule) → is_one_of of_columns rule ≡ true → IsHit registers rule (events_of seen) p.event None)
+    → AreTalliedFor registers seen (p ∷ []) [] tallies → AreTalliedFor registers seen (p ∷ []) of_columns tallies
+quiet_kept registers seen p tallies none t =
+    let kept = λ (rule : Rule) (is : is_one_of of_columns rule ≡ true).
+    tally_push registers rule seen p None (tally_in tallies rule) (none rule is) (t.before rule refl) in
+    tallied_kept registers seen (p ∷ []) _ Outside tallies (kept Outside refl)
+    (tallied_kept registers seen (p ∷ []) _ Undefined tallies (kept Undefined refl)
+    (tallied_kept registers seen (p ∷ []) _ Unselected tallies (kept Unselected refl)
+    (tallied_kept registers seen (p ∷ []) _ RepeatZero tallies (kept RepeatZero refl)
+    (tallied_kept registers seen (p ∷ []) _ RasterFirst tallies (kept RasterFirst refl) t))))
+
+pub blank_quiet : (registers : ℕ) (n : Notes) (seen : List Placed) (p : Placed) (tallies : List (Option Entry))
+    → registers ≤ 256 → IsNotesAfter n (events_of seen) → n.declared ≡ true → is_repeat_of_zero p.event ≡ false
+    → is_painting p.event ≡ false → AreTalliedFor registers seen (p ∷ []) [] tallies
+    → AreTalliedFor registers seen (p ∷ []) of_columns tallies
+blank_quiet registers n seen p tallies few s declared some idle =
+    quiet_kept registers seen p tallies none
+  where
+    none : (rule : Rule) → is_one_of of_columns rule ≡ true → IsHit registers rule (events_of seen) p.event None
+    none RasterFirst is = raster_quiet registers n (events_of seen) p.event few s declared
+    none RepeatZero is = never registers n (events_of seen) p.event RepeatZero few s some
+    none Unselected is = never registers n (events_of seen) p.event Unselected few s idle
+    none Undefined is = never registers n (events_of seen) p.event Undefined few s idle
+    none Outside is = never registers n (events_of seen) p.event Outside few s idle
+    none _ is = cc
+
+pub painted_quiet : (registers : ℕ) (n : Notes) (grid : Option Grid) (seen : List Placed) (p : Placed)
+    (tallies : List (Option Entry))
+    → registers ≤ 256 → IsNotesAfter n (events_of seen) → IsCoverAfter grid (events_of seen) → n.declared ≡ true
+    → is_repeat_of_zero p.event ≡ false → is_some (known_in n) ≡ true → lacks_definition_in registers n ≡ false
+    → IfSome grid (FitsIn n (columns_of 0 p.event)) → AreTalliedFor registers seen (p ∷ []) [] tallies
+    → AreTalliedFor registers seen (p ∷ []) of_columns tallies
+painted_quiet registers n grid seen p tallies few s cover declared some known defined fits =
+    quiet_kept registers seen p tallies none
+  where
+    none : (rule : Rule) → is_one_of of_columns rule ≡ true → IsHit registers rule (events_of seen) p.event None
+    none RasterFirst is = raster_quiet registers n (events_of seen) p.event few s declared
+    none RepeatZero is = never registers n (events_of seen) p.event RepeatZero few s some
+    none Unselected is =
+        silent_if registers n (events_of seen) p.event Unselected few s (λ i. cc) (λ i. cc)
+        (ap (λ (b : Bool). is_painting p.event && b) (none_if_some (known_in n) known) ∙ no_and (is_painting p.event))
+    none Undefined is =
+        silent_if registers n (events_of seen) p.event Undefined few s (λ i. cc) (λ i. cc)
+        (ap (λ (b : Bool). is_painting p.event && b) defined ∙ no_and (is_painting p.event))
+    none Outside is = outside_quiet registers n grid (events_of seen) p.event s cover fits
+    none _ is = cc

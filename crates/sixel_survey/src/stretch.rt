@@ -32,7 +32,7 @@ use sixel_plane::Plane;
 
 /// Whether `count` columns from the current one on lie in the box, with all six rows of their band.
 #[inline(always)]
-fn fits<P: Plane>(notes: &Notes, plane: &P, count: usize) -> bool
+pub(crate) fn fits<P: Plane>(notes: &Notes, plane: &P, count: usize) -> bool
     ensures within { result ≡ true → FitsIn notes.now count (P.grid plane.now) }
     ensures column { result ≡ true → notes.now.column ≤ u32.MAX }
     ensures band { result ≡ true → notes.now.band ≤ u32.MAX }

@@ -1,6 +1,8 @@
 //! Counting events one by one.
 
-ghost use Rattle.std.specs.Prelude.{◌≡◌, ◌-◌, ◌<◌, ◌++◌, ◌∷◌, [], List, false, slice_set};
+ghost use Rattle.std.specs.Prelude.{◌≡◌, ◌-◌, ◌<◌, ◌++◌, ◌∷◌, [], IfSome, List, false, is_some, slice_set};
+ghost use Rattle.std.specs.Prelude.{true};
+ghost use Rattle.sixel_model.specs.Events.{columns_of as said_columns};
 ghost use Rattle.std.specs.Option.{option_map};
 ghost use Rattle.sixel_grammar.specs.declared.command.Placed.{Placed as PlacedValue};
 ghost use Rattle.sixel_grammar.specs.Document.{events_of};
@@ -8,16 +10,19 @@ ghost use Rattle.sixel_judge.specs.Verdicts.{number_of};
 ghost use Rattle.sixel_judge.specs.declared.rule.Rule.{Rule as RuleValue};
 ghost use Rattle.sixel_model.specs.Profiles.{count_of};
 ghost use Rattle.sixel_survey.specs.Covering.{IsCoverAfter};
-ghost use Rattle.sixel_survey.specs.Notes.{IsNotesAfter};
+ghost use Rattle.sixel_survey.specs.Notes.{IsNotesAfter, known_in, lacks_definition_in};
+ghost use Rattle.sixel_survey.specs.Stretches.{FitsIn};
 ghost use Rattle.sixel_survey.specs.Surveying.{AreTallies};
 ghost use Rattle.sixel_survey.specs.Tallies.{AreTalliedFor, is_one_of, of_columns, tally_in};
 
 use crate::entry::{Entry, RULE_COUNT};
 use crate::hits::hit_of;
 use crate::notes::Notes;
+use crate::stretch::fits;
 use crate::tally::counted;
 use sixel_grammar::{Command, Event, Placed};
 use sixel_judge::Rule;
+use sixel_judge::events::{columns_of, is_painting, is_repeat_of_zero};
 use sixel_model::Profile;
 use sixel_plane::Plane;
 
@@ -81,9 +86,32 @@ fn tally_rule<P: Plane>(
     }
 }
 
-/// Counts a sixel or a repeat for the rules that it can break.
+/// Whether columns lie in the box, if there is one, with all six rows of their band.
 #[inline(always)]
-fn tally_columns<P: Plane>(
+fn fits_box<P: Plane>(notes: &Notes, plane: &Option<P>, count: u16) -> bool
+    ensures { result ≡ true → IfSome (option_map P.grid plane.now) (FitsIn notes.now count) }
+{
+    match plane {
+        Some(plane) => fits(notes, plane, count as usize),
+        None => true,
+    }
+}
+
+/// Whether a command that paints breaks none of the rules on its register and on the box.
+#[inline(always)]
+fn paints_well<P: Plane>(profile: Profile, notes: &Notes, plane: &Option<P>, event: &Event) -> bool
+    ensures known { result ≡ true → is_some (known_in notes.now) ≡ true }
+    ensures defined { result ≡ true → lacks_definition_in (count_of profile) notes.now ≡ false }
+    ensures fits { result ≡ true → IfSome (option_map P.grid plane.now) (FitsIn notes.now (said_columns 0 event.now)) }
+{
+    notes.known().is_some()
+        && !notes.lacks_definition(profile)
+        && fits_box(notes, plane, columns_of(event))
+}
+
+/// Counts a sixel or a repeat for the rules that it can break, one by one.
+#[inline(never)]
+fn tally_columns_fully<P: Plane>(
     tallies: &mut [Option<Entry>; RULE_COUNT],
     profile: Profile,
     notes: &Notes,
@@ -100,6 +128,31 @@ fn tally_columns<P: Plane>(
     tally_rule(tallies, profile, notes, plane, placed, Rule::Unselected);
     tally_rule(tallies, profile, notes, plane, placed, Rule::Undefined);
     tally_rule(tallies, profile, notes, plane, placed, Rule::Outside);
+}
+
+/// Counts a sixel or a repeat for the rules that it can break. Most break none, and are seen quickly.
+#[inline(always)]
+fn tally_columns<P: Plane>(
+    tallies: &mut [Option<Entry>; RULE_COUNT],
+    profile: Profile,
+    notes: &Notes,
+    plane: &Option<P>,
+    placed: &Placed,
+)
+    ensures { (seen : List PlacedValue) → IsNotesAfter notes.now (events_of seen)
+        → IsCoverAfter (option_map P.grid plane.now) (events_of seen)
+        → AreTalliedFor (count_of profile) seen (placed.now ∷ []) [] tallies.old
+        → AreTalliedFor (count_of profile) seen (placed.now ∷ []) of_columns tallies.new }
+{
+    if notes.declared && !is_repeat_of_zero(&placed.event) {
+        if !is_painting(&placed.event) {
+            return;
+        }
+        if paints_well(profile, notes, plane, &placed.event) {
+            return;
+        }
+    }
+    tally_columns_fully(tallies, profile, notes, plane, placed);
 }
 
 /// Counts an event for each rule: only for those that an event of its kind can break.
