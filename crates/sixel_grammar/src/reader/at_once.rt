@@ -28,7 +28,7 @@ impl Reader {
         ensures kept { IsNone result → self.new ≡ self.old }
         ensures stopped { IsSome (fault_of self.old) → IsNone result }
     {
-        if self.sixels == 0 {
+        if bytes.is_empty() || !begins_run(bytes[0]) || self.sixels == 0 {
             return None;
         }
         let run = run_in(first_bytes(bytes, self.left), MOST_BYTES - self.left)?;
@@ -62,6 +62,12 @@ impl Reader {
             own: ending.own,
         })
     }
+}
+
+/// Whether a run may begin with the byte. Any other byte is told apart here, since what follows is long.
+#[inline(always)]
+fn begins_run(byte: u8) -> bool {
+    byte >= b'?' || byte == b'#' || byte == b'!'
 }
 
 /// The bytes that may come still, if `most` may come.
