@@ -1,14 +1,16 @@
 -- On the bytes within which a check may run out of memory.
 use Rattle.std.proofs.Common.{◌≡◌, ℕ, Option, Some, None, List, [], ◌∷◌, ◌++◌, sym, ◌∙◌, ap, subst}
-use Rattle.std.proofs.Common.{append_assoc}
+use Rattle.std.proofs.Common.{append_assoc, drop, take}
 use Rattle.std.specs.Prelude.{Result, Ok, Err, IfErr, IfSome}
 use Rattle.std.specs.Io.KnownBytes.{Consumes}
 use Rattle.std.specs.Option.{option_to_list}
-use Rattle.std.proofs.lemmas.List.{append-nil}
+use Rattle.std.proofs.lemmas.List.{append-nil, take-append-drop}
 use Rattle.sixel_grammar.specs.Prefixes.{CompleteIn}
 use Rattle.sixel_grammar.specs.Standing as grammar
 use Rattle.sixel_grammar.specs.declared.command.Completed.{Completed}
 use Rattle.sixel_grammar.specs.declared.command.Placed.{Placed}
+use Rattle.sixel_grammar.specs.declared.command.Run.{Run}
+use Rattle.sixel_grammar.specs.Runs.{TakesRun, events_of_run}
 use Rattle.sixel_grammar.specs.declared.fault.InputFault.{InputFault}
 use Rattle.sixel_grammar.specs.declared.fault.InputFault.TheVariants.{Grammar, OutOfMemory, Read}
 use Rattle.sixel_grammar.specs.declared.reader.Reader.{Reader}
@@ -66,6 +68,22 @@ grows_byte old new checker c byte prefix takes g a =
     grows_here (prefix ++ byte ∷ []) (a.events ++ grammar.completions c)
     (read_complete new (a.events ++ grammar.completions c) (prefix ++ byte ∷ []) (takes a.events prefix a.read))
     (g a.events a.checked)
+
+-- a failed allocation at the events of a run
+pub grows_run : {registers : ℕ} (old new : Reader) (checker : CheckerValue) (run : Run) (prefix piece : List ℕ)
+    → TakesRun old new run piece
+    → ((seen : List Placed) → StandsAfter registers checker seen
+    → MayGrowAmong registers (seen ++ events_of_run run piece))
+    → AreAfter registers old checker prefix → MayGrowIn registers (prefix ++ piece)
+grows_run old new checker run prefix piece takes g a =
+    let read = (takes a.events prefix a.read).1 in
+    let all : prefix ++ piece ≡ (prefix ++ take run.length piece) ++ drop run.length piece =
+    ap (λ (t : List ℕ). prefix ++ t) (sym (take-append-drop run.length piece))
+    ∙ sym (append_assoc prefix (take run.length piece) (drop run.length piece)) in
+    grows_on (prefix ++ take run.length piece) (drop run.length piece) (prefix ++ piece) all
+    (grows_here (prefix ++ take run.length piece) (a.events ++ events_of_run run piece)
+    (read_complete new (a.events ++ events_of_run run piece) (prefix ++ take run.length piece) read)
+    (g a.events a.checked))
 
 -- ---- answers
 

@@ -1,13 +1,16 @@
 -- A reader and a checker over the same bytes. Of public contracts only that of `read_piece` cites these.
-use Rattle.std.specs.Prelude.{◌++◌, ℕ, List, Option, IfSome, IsTrue}
+use Rattle.std.specs.Prelude.{◌++◌, ◌≤◌, ℕ, List, Option, Some, IfSome, IsTrue}
 use Rattle.std.specs.Option.{option_to_list}
 use Rattle.sixel_grammar.specs.Reading.{ExplainsAlways}
 use Rattle.sixel_grammar.specs.Spelling.{IsSpellable}
 use Rattle.sixel_grammar.specs.Standing as grammar
+use Rattle.sixel_grammar.specs.declared.command.Columns.{Columns}
+use Rattle.sixel_grammar.specs.declared.command.Columns.TheVariants.{Sixels, Repeat}
 use Rattle.sixel_grammar.specs.declared.command.Command.{Command}
 use Rattle.sixel_grammar.specs.declared.command.Completed.{Completed}
 use Rattle.sixel_grammar.specs.declared.command.Event.TheVariants.{Step}
 use Rattle.sixel_grammar.specs.declared.command.Placed.{Placed}
+use Rattle.sixel_grammar.specs.declared.command.TwoCommands.{TwoCommands}
 use Rattle.sixel_grammar.specs.declared.fault.InputFault.{InputFault}
 use Rattle.sixel_grammar.specs.declared.reader.Reader.{Reader}
 use Rattle.sixel_judge.specs.Growth.{GrowsFor, MayGrowAmong}
@@ -29,6 +32,18 @@ MayComplete seen c = MayCome seen c.first × MayCome (seen ++ option_to_list c.f
 
 abbrev pub command_at : ℕ → Command → Placed
 command_at place command = record { place = place; event = Step command }
+
+-- two commands as the events that a byte completed
+abbrev pub both_of : TwoCommands → Completed
+both_of two = record {
+  first = Some (command_at two.place two.ended);
+  second = Some (command_at two.own_place two.own);
+}
+
+-- some bytes spell the columns: sixel bits are at most 63
+abbrev pub AreSpellable : Columns → Type 0
+AreSpellable Sixels = Unit {0}
+AreSpellable (Repeat count bits) = bits ≤ 63
 
 -- a checker that had seen some events before (old) has now (new) seen those and `more`
 abbrev pub TakesEvents : CheckerValue → CheckerValue → List Placed → Type 0

@@ -15,116 +15,20 @@ ghost use Rattle.sixel_grammar.specs.declared.command.Placed.{Placed as PlacedVa
 ghost use Rattle.sixel_model.specs.Profiles.{count_of};
 ghost use Rattle.sixel_judge.specs.Growth.{MayGrowIn};
 ghost use Rattle.sixel_check.specs.Answers.{Answers};
-ghost use Rattle.sixel_check.specs.Checking.{AreAfter, GrowsForBytes, MayCome, MayComplete, MayGrowOver};
-ghost use Rattle.sixel_check.specs.Checking.{RefusesBytes, TakesBytes, TakesEvents, command_at};
+ghost use Rattle.sixel_check.specs.Checking.{AreAfter, AreSpellable, GrowsForBytes, MayCome};
+ghost use Rattle.sixel_check.specs.Checking.{MayComplete, MayGrowOver, RefusesBytes, TakesBytes, TakesEvents};
+ghost use Rattle.sixel_check.specs.Checking.{both_of, command_at};
+ghost use Rattle.sixel_grammar.specs.Runs.{column_events, events_of_run, select_events, two_commands};
+ghost use Rattle.sixel_grammar.specs.declared.command.Columns.TheVariants.{Sixels as single_sixels};
 ghost use Rattle.sixel_judge.specs.Standing.{StandsAfter};
 
+use crate::pushing::{keep, keep_command, keep_run, keep_two, push_rarely};
 use sixel_grammar::{Command, Completed, Event, InputFault, Placed, Plain, Reader};
 use sixel_io::{PIECE, Source};
 use sixel_judge::{Checker, Verdict};
 use sixel_model::Profile;
 use sixel_plane::{BandPlane, Plane};
 use std::alloc::{AllocError, Global};
-
-/// Pushes an event, if there is one.
-fn keep_one<P: Plane>(checker: &mut Checker<P>, placed: Option<Placed>) -> Result<(), AllocError>
-    requires { (registers : ℕ) × (seen : List PlacedValue) × StandsAfter registers checker.old seen
-        × MayCome seen placed }
-    ensures kept { OnOk result (TakesEvents checker.old checker.new (option_to_list placed)) }
-    ensures grows { OnErr result (MayGrowOver checker.old (option_to_list placed)) }
-{
-    match placed {
-        None => Ok(()),
-        Some(placed) => match placed.event {
-            Event::Step(command) => keep_command(checker, placed.place, command),
-            _ => checker.push(&placed),
-        },
-    }
-}
-
-/// Pushes the events that a byte completed.
-fn keep<P: Plane>(checker: &mut Checker<P>, completed: Completed) -> Result<(), AllocError>
-    requires { (registers : ℕ) × (seen : List PlacedValue) × StandsAfter registers checker.old seen
-        × MayComplete seen completed }
-    ensures kept { OnOk result (TakesEvents checker.old checker.new (completions completed)) }
-    ensures grows { OnErr result (MayGrowOver checker.old (completions completed)) }
-{
-    let Completed { first, second } = completed;
-    keep_one(checker, first)?;
-    keep_one(checker, second)
-}
-
-/// Pushes a command. It is inlined, so that a caller that knows the kind keeps only the code for that kind.
-#[inline(always)]
-fn push_command<P: Plane>(
-    checker: &mut Checker<P>,
-    place: u64,
-    command: Command,
-) -> Result<(), AllocError>
-    requires { (registers : ℕ) × (seen : List PlacedValue) × StandsAfter registers checker.old seen
-        × MayCome seen (Some (command_at place command)) }
-    ensures kept { OnOk result (TakesEvents checker.old checker.new (command_at place command ∷ [])) }
-    ensures grows { OnErr result (MayGrowOver checker.old (command_at place command ∷ [])) }
-{
-    let event = Event::Step(command);
-    checker.push(&Placed { place, event })
-}
-
-/// Pushes a command that a byte below `?` completed: moves, selects and definitions each get their own inlined call.
-///
-/// Each arm keeps only the code for its kinds of command. Where the call isn't inlined, it gets a copy, so that the
-/// command itself stays in registers.
-#[inline(always)]
-fn keep_command<P: Plane>(
-    checker: &mut Checker<P>,
-    place: u64,
-    command: Command,
-) -> Result<(), AllocError>
-    requires { (registers : ℕ) × (seen : List PlacedValue) × StandsAfter registers checker.old seen
-        × MayCome seen (Some (command_at place command)) }
-    ensures kept { OnOk result (TakesEvents checker.old checker.new (command_at place command ∷ [])) }
-    ensures grows { OnErr result (MayGrowOver checker.old (command_at place command ∷ [])) }
-{
-    match command {
-        Command::CarriageReturn | Command::NextLine => push_command(checker, place, command),
-        Command::Select(_) => push_command(checker, place, command),
-        Command::Define { .. } => push_command(checker, place, command),
-        other => push_rarely(checker, place, other),
-    }
-}
-
-/// Pushes a command that a data byte completed: a repeat gets its own inlined call.
-#[inline(always)]
-fn keep_repeat<P: Plane>(
-    checker: &mut Checker<P>,
-    place: u64,
-    command: Command,
-) -> Result<(), AllocError>
-    requires { (registers : ℕ) × (seen : List PlacedValue) × StandsAfter registers checker.old seen
-        × MayCome seen (Some (command_at place command)) }
-    ensures kept { OnOk result (TakesEvents checker.old checker.new (command_at place command ∷ [])) }
-    ensures grows { OnErr result (MayGrowOver checker.old (command_at place command ∷ [])) }
-{
-    match command {
-        Command::Repeat { .. } => push_command(checker, place, command),
-        other => push_rarely(checker, place, other),
-    }
-}
-
-/// Pushes a command of any kind.
-#[inline(never)]
-fn push_rarely<P: Plane>(
-    checker: &mut Checker<P>,
-    place: u64,
-    command: Command,
-) -> Result<(), AllocError>
-    requires { (registers : ℕ) × (seen : List PlacedValue) × StandsAfter registers checker.old seen
-        × MayCome seen (Some (command_at place command)) }
-    ensures kept { OnOk result (TakesEvents checker.old checker.new (command_at place command ∷ [])) }
-    ensures grows { OnErr result (MayGrowOver checker.old (command_at place command ∷ [])) }
-{
-    push_command(checker, place, command)
-}
 
 /// Reads one byte, and pushes the events that it completes. It is for bytes below `?`.
 #[inline(always)]
@@ -145,7 +49,7 @@ fn read_sign<P: Plane>(
     }
 }
 
-/// Reads one byte, and pushes the events that it completes. It is for data bytes that begin no stretch.
+/// Reads one byte, and pushes the events that it completes. It is for data bytes that begin no run.
 #[inline(always)]
 fn read_data<P: Plane>(
     reader: &mut Reader,
@@ -159,24 +63,9 @@ fn read_data<P: Plane>(
 {
     match reader.feed_plain(byte) {
         Some(Plain::Nothing) => Ok(()),
-        Some(Plain::Command { place, command }) => Ok(keep_repeat(checker, place, command)?),
+        Some(Plain::Command { place, command }) => Ok(push_rarely(checker, place, command)?),
         None => read_otherwise(reader, checker, byte),
     }
-}
-
-/// As `feed_and_keep`. The result has a local of its own here, so that the fast paths write no memory for it.
-#[inline(always)]
-fn read_otherwise<P: Plane>(
-    reader: &mut Reader,
-    checker: &mut Checker<P>,
-    byte: u8,
-) -> Result<(), InputFault>
-    requires { (registers : ℕ) × (prefix : List ℕ) × AreAfter registers reader.old checker.old prefix }
-    ensures read { OnOk result (TakesBytes reader.old checker.old reader.new checker.new (byte ∷ [])) }
-    ensures refused { IfErr result (RefusesBytes reader.old checker.old (byte ∷ [])) }
-    ensures memory { IfErr result (GrowsForBytes reader.old checker.old (byte ∷ [])) }
-{
-    feed_and_keep(reader, checker, byte)
 }
 
 /// Reads one byte of any kind, and pushes the events that it completes.
@@ -195,57 +84,42 @@ fn feed_and_keep<P: Plane>(
     Ok(keep(checker, completed)?)
 }
 
-/// Pushes the first `count` bytes of `bytes`, all of them data, as sixels; the first has the offset `place`. It
-/// allocates nothing, and is always `Ok`.
-#[inline(always)]
-fn push_stretch<P: Plane>(
-    checker: &mut Checker<P>,
-    place: u64,
-    bytes: &[u8],
-    count: usize,
-) -> Result<(), AllocError>
-    requires stands { (registers : ℕ) × (seen : List PlacedValue) × StandsAfter registers checker.old seen
-        × MayStep seen }
-    requires sixels { (k : ℕ) → k < count → IsTrue (is_data (slice_index bytes.now k)) }
-    requires bytes { count ≤ length bytes.now }
-    requires place { place + count ≤ most_bytes }
-    ensures kept { (registers : ℕ) (seen : List PlacedValue) → StandsAfter registers checker.old seen → MayStep seen
-        → StandsAfter registers checker.new (seen ++ sixels_from place (take count bytes.now)) }
-    ensures always { IsOk result }
-{
-    if checker.try_push_stretch(bytes, count) {
-        return Ok(());
-    }
-    push_each(checker, place, &bytes[..count])
-}
-
-/// As `push_stretch`, sixel by sixel.
+/// As `feed_and_keep`. A byte that completes two commands has no whole events here.
 #[inline(never)]
-fn push_each<P: Plane>(
+fn read_rarely<P: Plane>(
+    reader: &mut Reader,
     checker: &mut Checker<P>,
-    place: u64,
-    stretch: &[u8],
-) -> Result<(), AllocError>
-    requires stands { (registers : ℕ) × (seen : List PlacedValue) × StandsAfter registers checker.old seen
-        × MayStep seen }
-    requires sixels { (k : ℕ) → k < length stretch.now → IsTrue (is_data (slice_index stretch.now k)) }
-    requires place { place + length stretch.now ≤ most_bytes }
-    ensures kept { (registers : ℕ) (seen : List PlacedValue) → StandsAfter registers checker.old seen → MayStep seen
-        → StandsAfter registers checker.new (seen ++ sixels_from place stretch.now) }
-    ensures always { IsOk result }
+    byte: u8,
+) -> Result<(), InputFault>
+    requires { (registers : ℕ) × (prefix : List ℕ) × AreAfter registers reader.old checker.old prefix }
+    ensures read { OnOk result (TakesBytes reader.old checker.old reader.new checker.new (byte ∷ [])) }
+    ensures refused { IfErr result (RefusesBytes reader.old checker.old (byte ∷ [])) }
+    ensures memory { IfErr result (GrowsForBytes reader.old checker.old (byte ∷ [])) }
 {
-    for (index, byte) in stretch.iter().enumerate() {
-        let place = place + index as u64;
-        let event = Event::Step(Command::Sixel(byte - b'?'));
-        checker.push(&Placed { place, event })?;
+    match reader.feed_two(byte) {
+        Some(two) => Ok(keep_two(checker, two)?),
+        None => feed_and_keep(reader, checker, byte),
     }
-    Ok(())
 }
 
-/// Reads the data bytes that `feed_stretch` takes at the beginning of `bytes`, or else one byte. Returns how many it
-/// read.
+/// As `read_rarely`. The result has a local of its own here, so that the fast paths write no memory for it.
 #[inline(always)]
-fn read_stretch_or_byte<P: Plane>(
+fn read_otherwise<P: Plane>(
+    reader: &mut Reader,
+    checker: &mut Checker<P>,
+    byte: u8,
+) -> Result<(), InputFault>
+    requires { (registers : ℕ) × (prefix : List ℕ) × AreAfter registers reader.old checker.old prefix }
+    ensures read { OnOk result (TakesBytes reader.old checker.old reader.new checker.new (byte ∷ [])) }
+    ensures refused { IfErr result (RefusesBytes reader.old checker.old (byte ∷ [])) }
+    ensures memory { IfErr result (GrowsForBytes reader.old checker.old (byte ∷ [])) }
+{
+    read_rarely(reader, checker, byte)
+}
+
+/// Reads at least one byte at the beginning of `bytes`, and pushes the events that these complete. Returns how many.
+#[inline(always)]
+fn read_some<P: Plane>(
     reader: &mut Reader,
     checker: &mut Checker<P>,
     bytes: &[u8],
@@ -256,21 +130,20 @@ fn read_stretch_or_byte<P: Plane>(
     ensures within { IfOk result (λ count. count ≤ length bytes.now) }
     ensures read { IfOk result (λ count.
         TakesBytes reader.old checker.old reader.new checker.new (take count bytes.now)) }
-    ensures refused { IfErr result (RefusesBytes reader.old checker.old (take 1 bytes.now)) }
-    ensures memory { IfErr result (GrowsForBytes reader.old checker.old (take 1 bytes.now)) }
+    ensures refused { IfErr result (RefusesBytes reader.old checker.old bytes.now) }
+    ensures memory { IfErr result (GrowsForBytes reader.old checker.old bytes.now) }
 {
+    if let Some(run) = reader.feed_run(bytes) {
+        keep_run(checker, run, bytes)?;
+        return Ok(run.length);
+    }
     // No byte below `?` is data, so the compiler drops the code for data from this branch.
     if bytes[0] < b'?' {
         read_sign(reader, checker, bytes[0])?;
         return Ok(1);
     }
-    let stretch = reader.feed_stretch(bytes);
-    if stretch.count == 0 {
-        read_data(reader, checker, bytes[0])?;
-        return Ok(1);
-    }
-    push_stretch(checker, stretch.place, bytes, stretch.count)?;
-    Ok(stretch.count)
+    read_data(reader, checker, bytes[0])?;
+    Ok(1)
 }
 
 /// Reads the bytes of a piece, and pushes the events that they complete. `Grammar`: the fault of the bytes read so far,
@@ -288,7 +161,7 @@ pub fn read_piece<P: Plane>(
 {
     let mut read = 0;
     while read < piece.len() {
-        read += read_stretch_or_byte(reader, checker, &piece[read..])?;
+        read += read_some(reader, checker, &piece[read..])?;
     }
     Ok(())
 }

@@ -4,6 +4,7 @@
 
 mod checking;
 pub mod laws;
+mod pushing;
 
 pub use checking::{check, check_bytes, read_piece};
 pub use sixel_judge::{Checker, Finding, Rule, Verdict};

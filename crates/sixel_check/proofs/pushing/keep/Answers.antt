@@ -5,7 +5,7 @@ use Rattle.sixel_judge.specs.Growth.{MayGrowAmong}
 use Rattle.sixel_judge.specs.Standing.{StandsAfter}
 use Rattle.sixel_judge.proofs.GrowthLemmas.{err_says}
 use Rattle.sixel_check.proofs.MemoryLemmas.{grows_longer}
-use Rattle.sixel_check.proofs.checking.keep.Goals as goal
+use Rattle.sixel_check.proofs.pushing.keep.Goals as goal
 
 pub keep_one-requires : goal.keep_one-requires
 keep_one-requires g c = (c.requires.0, c.requires.1, c.requires.2, c.requires.3.0)

@@ -4,7 +4,7 @@ use Rattle.std.specs.Option.{option_to_list}
 use Rattle.sixel_grammar.specs.declared.command.Event.{Event}
 use Rattle.sixel_grammar.specs.declared.command.Placed.{Placed}
 use Rattle.sixel_check.specs.Checking.{MayGrowOver, command_at}
-use Rattle.sixel_check.proofs.checking.keep_one.Goals as goal
+use Rattle.sixel_check.proofs.pushing.keep_one.Goals as goal
 
 pub returns-in-Step-clause-grows : goal.returns-in-Step-clause-grows
 returns-in-Step-clause-grows g c =

@@ -1,7 +1,7 @@
 use Rattle.std.proofs.lemmas.Result.{on_err_weaker}
 use Rattle.sixel_grammar.specs.declared.command.Event.TheVariants.{Step}
 use Rattle.sixel_judge.proofs.GrowthLemmas.{grows_end}
-use Rattle.sixel_check.proofs.checking.push_command.Goals as goal
+use Rattle.sixel_check.proofs.pushing.push_command.Goals as goal
 
 pub returns-clause-grows : goal.returns-clause-grows
 returns-clause-grows g c =

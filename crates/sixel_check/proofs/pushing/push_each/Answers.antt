@@ -2,7 +2,7 @@ use Rattle.std.proofs.Common.{◌++◌, arith, subst, take}
 use Rattle.sixel_grammar.specs.Stretches.{sixels_from}
 use Rattle.sixel_judge.specs.Standing.{StandsAfter}
 use Rattle.sixel_judge.proofs.StretchLemmas.{begun_of, begun_take, sixels_then}
-use Rattle.sixel_check.proofs.checking.push_each.Goals as goal
+use Rattle.sixel_check.proofs.pushing.push_each.Goals as goal
 
 pub push-requires-clause-expected : goal.push-requires-clause-expected
 push-requires-clause-expected g c =
