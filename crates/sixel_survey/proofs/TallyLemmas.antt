@@ -1,7 +1,7 @@
 -- The tallies after one more event.
 use Rattle.std.proofs.Common.{◌≡◌, ◌==◌, ◌||◌, ◌<◌, ◌≤◌, ◌+◌, ℕ, zero, suc, Bool, true, false, inl, inr, Option}
 use Rattle.std.proofs.Common.{Some, None, List, [], ◌∷◌, ◌++◌, length, refl, sym, ap, subst, ◌∙◌, arith, length-append}
-use Rattle.std.specs.Prelude.{filter, slice_get, if◌then◌else◌}
+use Rattle.std.specs.Prelude.{filter, slice_get, unwrap_or, if◌then◌else◌}
 use Rattle.std.specs.List.{range_with_len}
 use Rattle.std.specs.Option.{option_map}
 use Rattle.std.proofs.lemmas.Bool.{eq-eqb, eqb-true, false_from_ne_true, ne_eqb, or_cases, or_left, or_right}
@@ -19,7 +19,7 @@ use Rattle.sixel_judge.proofs.JudgeLemmas.{events_push}
 use Rattle.sixel_survey.specs.declared.entry.Entry.{Entry}
 use Rattle.sixel_survey.specs.declared.tally.Hit.{Hit}
 use Rattle.sixel_survey.specs.Counting.{Counts, HoldsOften}
-use Rattle.sixel_survey.specs.Tallies.{IsHit, IsTallyAt, IsTallyOf, next_tally}
+use Rattle.sixel_survey.specs.Tallies.{IsHit, IsTallyAt, IsTallyOf, next_tally, tally_with}
 use Rattle.sixel_survey.proofs.PlaceLemmas.{place_at}
 
 -- ---- the number of positions
@@ -235,3 +235,20 @@ tally_push registers rule seen p (Some hit) (Some t) here is =
           (subst (λ (r : Rule). Counts registers r (events_of seen) p.event) (sym is.0) here.0))
           (capped_more t.count at.often at.count_is),
     )
+
+-- one more event of several
+pub with_one_more : (rule : Rule) (place more : ℕ) (first : Option ℕ) (t : Option Entry) → (first ≡ None → more ≡ 0)
+    → tally_with rule (Some (unwrap_or first place)) (more + 1) t
+    ≡ next_tally rule place (Some (record { pixel = None })) (tally_with rule first more t)
+with_one_more rule place more None None none =
+    let count : capped (more + 1) ≡ 1 = omega (arith, none refl) in
+    ap (λ (n : ℕ). Some (record { rule = rule; count = n; place = place; pixel = None })) count
+with_one_more rule place more None (Some t) none =
+    let count : capped (t.count + (more + 1)) ≡ capped (t.count + 1) = omega (arith, none refl) in
+    ap (λ (n : ℕ). Some (record t { count = n })) count
+with_one_more rule place more (Some p) None none =
+    let count : capped (more + 1) ≡ capped (capped more + 1) = omega arith in
+    ap (λ (n : ℕ). Some (record { rule = rule; count = n; place = p; pixel = None })) count
+with_one_more rule place more (Some p) (Some t) none =
+    let count : capped (t.count + (more + 1)) ≡ capped (capped (t.count + more) + 1) = omega arith in
+    ap (λ (n : ℕ). Some (record t { count = n })) count

@@ -40,6 +40,14 @@ next_tally rule place None tally = tally
 next_tally rule place (Some hit) None = Some (record { rule = rule; count = 1; place = place; pixel = hit.pixel })
 next_tally rule place (Some hit) (Some tally) = Some (record tally { count = capped (tally.count + 1) })
 
+-- the tally after some more events at which the rule counts, without a pixel; the first one has this offset, if there is
+-- one
+abbrev pub tally_with : Rule → Option ℕ → ℕ → Option Entry → Option Entry
+tally_with rule None more tally = tally
+tally_with rule (Some place) more None =
+    Some (record { rule = rule; count = capped more; place = place; pixel = None })
+tally_with rule (Some place) more (Some tally) = Some (record tally { count = capped (tally.count + more) })
+
 -- the tally of the rule in a list of tallies, in order of number
 abbrev pub tally_in : List (Option Entry) → Rule → Option Entry
 tally_in tallies rule = option_flatten (slice_get tallies (number_of rule - 1))

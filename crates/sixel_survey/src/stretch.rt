@@ -1,7 +1,7 @@
 //! Surveying stretches of sixels.
 
 ghost use Rattle.std.specs.Prelude.{◌≡◌, ◌<◌, ◌≤◌, ◌+◌, ◌-◌, ◌*◌, ◌++◌, ◌∷◌, ◌||◌, [], ℕ, List, IsTrue, false, length};
-ghost use Rattle.std.specs.Prelude.{slice_index, take, true};
+ghost use Rattle.std.specs.Prelude.{Some, slice_index, take, true, unwrap_or};
 ghost use Rattle.std.specs.Option.{option_map};
 ghost use Rattle.sixel_grammar.specs.Bytes.{is_data};
 ghost use Rattle.sixel_grammar.specs.Document.{events_of, most_bytes};
@@ -23,7 +23,7 @@ ghost use Rattle.sixel_survey.specs.Tallies.{AreTalliedFor, IsTallyOf, is_one_of
 use crate::cover::cover;
 use crate::entry::{Entry, RULE_COUNT};
 use crate::notes::Notes;
-use crate::tally::{Hit, counted};
+use crate::tally::{Hit, counted, counted_more};
 use crate::tallying::{put, tally_of};
 use sixel_judge::Rule;
 use sixel_judge::outside::outside_pixel;
@@ -76,6 +76,17 @@ pub(crate) fn paints(stretch: &[u8]) -> bool
     false
 }
 
+/// The first offset, or the other one if there is none.
+#[inline(always)]
+fn first_of(first: Option<u64>, other: u64) -> Option<u64>
+    ensures { result ≡ Some (unwrap_or first other) }
+{
+    match first {
+        Some(place) => Some(place),
+        None => Some(other),
+    }
+}
+
 /// The tally of a rule that counts at each sixel of a stretch that paints, and at the others too if `blank_too`.
 #[inline(never)]
 fn counted_stretch(
@@ -91,13 +102,15 @@ fn counted_stretch(
         → CountsAtEach registers rule seen place stretch.now blank_too → IsTallyOf registers seen rule tally
         → IsTallyOf registers (seen ++ sixels_from place stretch.now) rule result }
 {
-    let mut all = tally;
+    let mut first = None;
+    let mut more = 0;
     for (index, byte) in stretch.iter().enumerate() {
         if counts_at(*byte, blank_too) {
-            all = Some(counted(all, rule, place + index as u64, Hit { pixel: None }));
+            first = first_of(first, place + index as u64);
+            more += 1;
         }
     }
-    all
+    counted_more(tally, rule, first, more)
 }
 
 /// The tally of `Outside` after a stretch.
