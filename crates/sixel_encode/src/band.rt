@@ -20,26 +20,11 @@ use sixel_io::{DeviceFault, Sink};
 use sixel_model::Picture;
 
 /// The columns of the widest picture, and two groups of blank ones. So a search by groups finds an end of all columns.
-const ROOM: usize = MOST_BYTES;
+pub(crate) const ROOM: usize = MOST_BYTES;
 
-/// Writes the registers of a band, each with its columns, with a carriage return between two.
+/// Writes the registers of a band, each with its columns, with a carriage return between two. `sixels` is room for the
+/// columns of a register, `line` for their text.
 pub(crate) fn put_band<K: Sink>(
-    text: &mut Text,
-    picture: &Picture,
-    band: u32,
-    out: &mut K,
-) -> Result<(), DeviceFault>
-    requires { band < most_bands }
-    ensures { WritesThrough result (K.state out.old) (K.state out.new) text.old text.new
-        (commands_text (band_commands picture.now band)) }
-{
-    let mut room = [0; ROOM];
-    let end = room_for(picture.width() as usize);
-    put_registers(text, picture, band, &mut room[..end], &mut Line::new(), out)
-}
-
-/// The same, with room for the columns of a register and for their text.
-fn put_registers<K: Sink>(
     text: &mut Text,
     picture: &Picture,
     band: u32,
@@ -68,7 +53,7 @@ fn put_registers<K: Sink>(
 }
 
 /// How many columns `width` of them and the blank ones behind them are: whole groups, of which the last is blank.
-fn room_for(width: usize) -> usize
+pub(crate) fn room_for(width: usize) -> usize
     requires { width ≤ most_side }
     ensures room { width + LANES < result }
     ensures most { result ≤ ROOM }

@@ -1,6 +1,6 @@
 //! Writes the canonical text of a picture.
 
-ghost use Rattle.std.specs.Prelude.{◌≡◌, ◌++◌, ◌∷◌, [], ◌==◌, ◌<◌, OnOk, false, length, if◌then◌else◌};
+ghost use Rattle.std.specs.Prelude.{◌≡◌, ◌++◌, ◌∷◌, [], ◌==◌, ◌<◌, ◌≤◌, OnOk, false, length, if◌then◌else◌};
 ghost use Rattle.std.specs.Option.{option_map, option_to_list};
 ghost use Rattle.sixel_io.specs.Blocks.{WritesThrough};
 ghost use Rattle.sixel_io.specs.Devices.{Writes};
@@ -9,8 +9,9 @@ ghost use Rattle.sixel_encode.specs.Canon.{band_commands, canon_commands, canon_
 ghost use Rattle.sixel_encode.specs.Canon.{define_command, define_commands, opening_commands, picture_commands};
 ghost use Rattle.sixel_encode.specs.Canon.{most_bands};
 
-use crate::band::{put_band, put_between};
+use crate::band::{ROOM, put_band, put_between, room_for};
 use crate::commands::{Text, put_command};
+use crate::line::Line;
 use arrayvec::ArrayVec;
 use sixel_grammar::{Command, Event, put_event};
 use sixel_io::{DeviceFault, Sink};
@@ -152,8 +153,26 @@ fn put_bands<K: Sink>(text: &mut Text, picture: &Picture, out: &mut K) -> Result
     ensures { WritesThrough result (K.state out.old) (K.state out.new) text.old text.new
         (commands_text (picture_commands picture.now)) }
 {
+    let mut room = [0; ROOM];
+    let end = room_for(picture.width() as usize);
+    put_each_band(text, picture, &mut room[..end], &mut Line::new(), out)
+}
+
+/// The same, with room for the columns of a register and for their text.
+fn put_each_band<K: Sink>(
+    text: &mut Text,
+    picture: &Picture,
+    sixels: &mut [u8],
+    line: &mut Line,
+    out: &mut K,
+) -> Result<(), DeviceFault>
+    requires room { picture.now.width ≤ length sixels.old }
+    requires few { length sixels.old ≤ ROOM }
+    ensures { WritesThrough result (K.state out.old) (K.state out.new) text.old text.new
+        (commands_text (picture_commands picture.now)) }
+{
     for band in 0..picture.height().div_ceil(BAND_ROWS) {
-        put_next_band(text, picture, band, out)?;
+        put_next_band(text, picture, band, sixels, line, out)?;
     }
     Ok(())
 }
@@ -163,12 +182,16 @@ fn put_next_band<K: Sink>(
     text: &mut Text,
     picture: &Picture,
     band: u32,
+    sixels: &mut [u8],
+    line: &mut Line,
     out: &mut K,
 ) -> Result<(), DeviceFault>
-    requires { band < most_bands }
+    requires band { band < most_bands }
+    requires room { picture.now.width ≤ length sixels.old }
+    requires few { length sixels.old ≤ ROOM }
     ensures { WritesThrough result (K.state out.old) (K.state out.new) text.old text.new
         (commands_text ((if band == 0 then [] else Command.NextLine ∷ []) ++ band_commands picture.now band)) }
 {
     put_between(text, band == 0, Command::NextLine, out)?;
-    put_band(text, picture, band, out)
+    put_band(text, picture, band, sixels, line, out)
 }

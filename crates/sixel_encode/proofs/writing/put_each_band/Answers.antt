@@ -4,7 +4,7 @@ use Rattle.sixel_io.proofs.SinkLemmas.{through-done, through-next, through-none,
 use Rattle.sixel_encode.specs.Canon.{bands}
 use Rattle.sixel_encode.proofs.StepLemmas.{band_step, bands-all, bands-then, bands_above}
 use Rattle.sixel_encode.proofs.TextLemmas.{text-none}
-use Rattle.sixel_encode.proofs.writing.put_bands.Goals as goal
+use Rattle.sixel_encode.proofs.writing.put_each_band.Goals as goal
 
 pub loop-band-init : goal.loop-band-init
 loop-band-init g c = rw text-none through-none

@@ -7,8 +7,8 @@ use Rattle.sixel_encode.proofs.FoundLemmas.{are_sixels, found_in}
 use Rattle.sixel_encode.proofs.StepLemmas.{first-after, first-same, register_step, registers-all, registers-then}
 use Rattle.sixel_encode.proofs.StepLemmas.{registers_above, step-found, step-none}
 use Rattle.sixel_encode.proofs.TextLemmas.{text-none}
-use Rattle.sixel_encode.proofs.band.put_registers.Goals as goal
-use Rattle.sixel_encode.proofs.band.put_registers.Goals.{then-own-ne0+in_ok-put_next, else-own-ne0}
+use Rattle.sixel_encode.proofs.band.put_band.Goals as goal
+use Rattle.sixel_encode.proofs.band.put_band.Goals.{then-own-ne0+in_ok-put_next, else-own-ne0}
 
 pub loop-register-init : goal.loop-register-init
 loop-register-init g c = record { put = rw text-none through-none; first = refl }

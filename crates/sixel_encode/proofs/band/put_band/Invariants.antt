@@ -1,7 +1,7 @@
 use Rattle.std.proofs.Common.{◌≡◌}
 use Rattle.sixel_io.proofs.SinkLemmas.{PutThrough}
 use Rattle.sixel_encode.proofs.StepLemmas.{is_first_of, registers_above}
-use Rattle.sixel_encode.proofs.band.put_registers.Given as goal
+use Rattle.sixel_encode.proofs.band.put_band.Given as goal
 
 abbrev pub invariant-loop-register : goal.invariant-loop-register
 invariant-loop-register g l = record {

@@ -1,6 +1,6 @@
 use Rattle.sixel_io.proofs.SinkLemmas.{PutThrough}
 use Rattle.sixel_encode.proofs.StepLemmas.{bands_above}
-use Rattle.sixel_encode.proofs.writing.put_bands.Given as goal
+use Rattle.sixel_encode.proofs.writing.put_each_band.Given as goal
 
 abbrev pub invariant-loop-band : goal.invariant-loop-band
 invariant-loop-band g l =
