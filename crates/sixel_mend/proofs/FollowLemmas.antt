@@ -5,6 +5,8 @@ use Rattle.sixel_grammar.specs.declared.command.Event.{Event}
 use Rattle.sixel_grammar.specs.declared.command.Event.TheVariants.{Step}
 use Rattle.sixel_grammar.specs.declared.command.Placed.{Placed}
 use Rattle.sixel_grammar.specs.Document.{Document, events_of}
+use Rattle.sixel_grammar.specs.declared.command.Run.{Run}
+use Rattle.sixel_grammar.specs.Runs.{columns_in}
 use Rattle.sixel_grammar.specs.Stretches.{sixels_from}
 use Rattle.sixel_terminal.specs.Stretches.{sixels_of}
 use Rattle.std.proofs.Common.{ℕ, ◌+◌, ◌-◌, ap₂, arith, drop, length, take}
@@ -47,7 +49,7 @@ followed_byte has_followed reader r old new byte more takes follows = λ first p
       (follows first (events_of a.events) a.followed);
 }
 
-sixels_are : (place : ℕ) (bytes : List ℕ) → events_of (sixels_from place bytes) ≡ sixels_of bytes
+pub sixels_are : (place : ℕ) (bytes : List ℕ) → events_of (sixels_from place bytes) ≡ sixels_of bytes
 sixels_are place [] = refl
 sixels_are place (b ∷ rest) = ap (λ (es : List Event). Step (Sixel (b - 63)) ∷ es) (sixels_are (place + 1) rest)
 
@@ -111,3 +113,10 @@ pub not_whole : (result : Result (Unit {0}) Fault) (reader : Reader) (events : L
     → StandsAfter reader events bytes → Judges reader result → IfErr result (IsFaultOf bytes)
 not_whole (Ok u) reader events bytes stands judges = tt
 not_whole (Err f) reader events bytes stands judges = (judges events bytes stands).0
+
+-- ---- a run
+
+-- the bytes of its columns, as a part of what is left after its select
+pub columns-are : (run : Run) (piece : List ℕ) → take (run.length - run.start) (rest_of run.start piece)
+    ≡ columns_in run piece
+columns-are run piece = ap (λ (t : List ℕ). take (run.length - run.start) t) (rest_is run.start piece)

@@ -5,14 +5,18 @@ ghost use Rattle.std.specs.Prelude.{take};
 ghost use Rattle.std.specs.Option.{option_to_list};
 ghost use Rattle.sixel_grammar.specs.declared.command.Event.{Event as AnEvent};
 ghost use Rattle.sixel_grammar.specs.declared.command.Placed.{Placed as Place};
+ghost use Rattle.sixel_grammar.specs.declared.command.Columns.TheVariants.{Sixels as single_sixels};
 ghost use Rattle.sixel_grammar.specs.Bytes.{is_data};
 ghost use Rattle.sixel_grammar.specs.Document.{Document, events_of};
 ghost use Rattle.sixel_grammar.specs.Faults.{IsFaultOf};
+ghost use Rattle.sixel_grammar.specs.Runs.{column_events, events_of_run, select_events, two_commands};
 ghost use Rattle.sixel_grammar.specs.Standing.{completions};
 ghost use Rattle.sixel_terminal.specs.Stretches.{sixels_of};
 ghost use Rattle.sixel_mend.specs.Following.{FollowsBytes, FollowsEvents, RefusesBytes};
 
-use sixel_grammar::{Completed, Event, Fault, Placed, Plain, Reader};
+use sixel_grammar::{
+    Columns, Command, Completed, Event, Fault, Placed, Plain, Reader, Run, TwoCommands,
+};
 
 /// What follows the events of a document.
 pub(crate) trait Follower {
@@ -61,8 +65,36 @@ fn follow_byte<F: Follower>(reader: &mut Reader, follower: &mut F, byte: u8) -> 
             follower.follow(&Event::Step(command));
             Ok(())
         }
+        None => follow_byte_rarely(reader, follower, byte),
+    }
+}
+
+/// The same for a byte that completes two commands, or of any other kind.
+#[inline(never)]
+fn follow_byte_rarely<F: Follower>(
+    reader: &mut Reader,
+    follower: &mut F,
+    byte: u8,
+) -> Result<(), Fault>
+    ensures followed { OnOk result (FollowsBytes F.has_followed reader.old follower.old reader.new follower.new
+        (byte ∷ [])) }
+    ensures refused { IfErr result (RefusesBytes F.has_followed reader.old follower.old (byte ∷ [])) }
+{
+    match reader.feed_two(byte) {
+        Some(two) => {
+            follow_two(follower, two);
+            Ok(())
+        }
         None => follow_byte_of_any_kind(reader, follower, byte),
     }
+}
+
+/// Passes on two commands.
+fn follow_two<F: Follower>(follower: &mut F, two: TwoCommands)
+    ensures { FollowsEvents F.has_followed follower.old follower.new (events_of (two_commands two)) }
+{
+    follower.follow(&Event::Step(two.ended));
+    follower.follow(&Event::Step(two.own));
 }
 
 /// Reads one byte of any kind, and passes on the events that it completes.
@@ -81,10 +113,51 @@ fn follow_byte_of_any_kind<F: Follower>(
     Ok(())
 }
 
-/// Reads the data bytes that `feed_stretch` takes at the beginning of `bytes`, or else one byte, and passes on what they
-/// complete. Returns how many it read.
+/// Passes on a select, if there is one.
 #[inline(always)]
-fn follow_stretch_or_byte<F: Follower>(
+fn follow_select<F: Follower>(follower: &mut F, select: Option<u16>)
+    ensures { (place : ℕ) → FollowsEvents F.has_followed follower.old follower.new
+        (events_of (select_events place select)) }
+{
+    if let Some(register) = select {
+        follower.follow(&Event::Step(Command::Select(register)));
+    }
+}
+
+/// Passes on columns, of which the first `count` of the bytes are the text.
+#[inline(always)]
+fn follow_columns<F: Follower>(follower: &mut F, columns: Columns, bytes: &[u8], count: usize)
+    requires sixels { columns ≡ single_sixels → (k : ℕ) → k < count → IsTrue (is_data (slice_index bytes.now k)) }
+    requires within { count ≤ length bytes.now }
+    ensures { (place : ℕ) → FollowsEvents F.has_followed follower.old follower.new
+        (events_of (column_events place columns (take count bytes.now))) }
+{
+    match columns {
+        Columns::Sixels => follower.follow_stretch(&bytes[..count]),
+        Columns::Repeat { count, bits } => {
+            follower.follow(&Event::Step(Command::Repeat { count, bits }));
+        }
+    }
+}
+
+/// Passes on the run at the beginning of the bytes.
+#[inline(always)]
+fn follow_run<F: Follower>(follower: &mut F, run: Run, bytes: &[u8])
+    requires sixels { run.columns ≡ single_sixels → (k : ℕ) → run.start ≤ k → k < run.length
+        → IsTrue (is_data (slice_index bytes.now k)) }
+    requires within { (run.start < run.length) × (run.length ≤ length bytes.now) }
+    ensures { FollowsEvents F.has_followed follower.old follower.new (events_of (events_of_run run bytes.now)) }
+{
+    follow_select(follower, run.select);
+    let columns = &bytes[run.start..];
+    let count = run.length - run.start;
+    follow_columns(follower, run.columns, columns, count);
+}
+
+/// Reads the run that `feed_run` takes at the beginning of `bytes`, or else one byte, and passes on what they complete.
+/// Returns how many bytes it read.
+#[inline(always)]
+fn follow_run_or_byte<F: Follower>(
     reader: &mut Reader,
     follower: &mut F,
     bytes: &[u8],
@@ -96,18 +169,12 @@ fn follow_stretch_or_byte<F: Follower>(
         (take count bytes.now)) }
     ensures refused { IfErr result (RefusesBytes F.has_followed reader.old follower.old (take 1 bytes.now)) }
 {
-    // No byte below `?` is data, so the compiler drops the code for data from this branch.
-    if bytes[0] < b'?' {
-        follow_byte(reader, follower, bytes[0])?;
-        return Ok(1);
+    if let Some(run) = reader.feed_run(bytes) {
+        follow_run(follower, run, bytes);
+        return Ok(run.length);
     }
-    let stretch = reader.feed_stretch(bytes);
-    if stretch.count == 0 {
-        follow_byte(reader, follower, bytes[0])?;
-        return Ok(1);
-    }
-    follower.follow_stretch(&bytes[..stretch.count]);
-    Ok(stretch.count)
+    follow_byte(reader, follower, bytes[0])?;
+    Ok(1)
 }
 
 /// Reads the bytes, and passes on the events that they complete.
@@ -122,7 +189,7 @@ fn follow_bytes<F: Follower>(
 {
     let mut read = 0;
     while read < bytes.len() {
-        read += follow_stretch_or_byte(reader, follower, &bytes[read..])?;
+        read += follow_run_or_byte(reader, follower, &bytes[read..])?;
     }
     Ok(())
 }

@@ -37,7 +37,7 @@ draws_both a b c first second one two = record {
       (two.drawn (before ++ events_of first) (one.drawn before h));
 }
 
-sixels_are : (place : ℕ) (bytes : List ℕ) → events_of (sixels_from place bytes) ≡ sixels_of bytes
+pub sixels_are : (place : ℕ) (bytes : List ℕ) → events_of (sixels_from place bytes) ≡ sixels_of bytes
 sixels_are place [] = refl
 sixels_are place (b ∷ rest) = ap (λ (es : List Event). Step (Sixel (b - 63)) ∷ es) (sixels_are (place + 1) rest)
 

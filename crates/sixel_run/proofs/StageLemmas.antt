@@ -13,6 +13,9 @@ use Rattle.sixel_grammar.specs.Document.{events_of}
 use Rattle.sixel_grammar.specs.Prefixes.{CompleteIn}
 use Rattle.sixel_grammar.specs.Reading.{ExplainsAlways}
 use Rattle.sixel_grammar.specs.Standing.{StandsAfter}
+use Rattle.sixel_grammar.specs.declared.command.Columns.{Columns}
+use Rattle.sixel_grammar.specs.declared.command.Columns.TheVariants.{Sixels, Repeat}
+use Rattle.sixel_grammar.specs.Runs.{column_events, select_events}
 use Rattle.sixel_grammar.specs.Stretches.{sixels_from}
 use Rattle.sixel_grammar.proofs.StandLemmas.{read_complete}
 use Rattle.sixel_grammar.proofs.UniqueLemmas.{complete_once, complete_stays}
@@ -150,6 +153,15 @@ pub sixels-declare : (place : ℕ) (bytes : List ℕ) → None ≡ box_in (event
 unfolding box_in raster_before earliest
 sixels-declare place [] = refl
 sixels-declare place (b ∷ rest) = sixels-declare (place + 1) rest
+
+-- and neither does a run, perhaps with a select
+pub run-declares : (place start : ℕ) (select : Option ℕ) (cols : Columns) (bytes : List ℕ)
+    → None ≡ box_in (events_of (select_events place select ++ column_events start cols bytes))
+unfolding box_in raster_before earliest
+run-declares place start None Sixels bytes = sixels-declare start bytes
+run-declares place start None (Repeat count bits) bytes = refl
+run-declares place start (Some register) Sixels bytes = sixels-declare start bytes
+run-declares place start (Some register) (Repeat count bits) bytes = refl
 
 -- ---- one more piece
 

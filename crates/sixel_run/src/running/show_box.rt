@@ -3,6 +3,7 @@
 ghost use Rattle.std.specs.Prelude.{◌≡◌, ◌++◌, ◌∷◌, [], ◌<◌, ◌≤◌, ℕ, List, IfErr, IfOk, IfSome, IsTrue, length};
 ghost use Rattle.std.specs.Prelude.{OnOk, option_map, take};
 ghost use Rattle.std.specs.Option.{option_to_list};
+ghost use Rattle.sixel_grammar.specs.declared.command.Event.TheVariants.{Step};
 ghost use Rattle.sixel_grammar.specs.declared.command.Event.{Event as AnEvent};
 ghost use Rattle.sixel_grammar.specs.declared.command.Placed.{Placed as Place};
 ghost use Rattle.sixel_grammar.specs.Document.{Document, events_of};
@@ -222,8 +223,8 @@ fn find_box(reader: &mut Reader, piece: &[u8]) -> Result<Option<(u16, u16)>, Inp
     Ok(found)
 }
 
-/// Reads the data bytes at the beginning of `bytes`, or else one byte. Returns how many it read, and the box that they
-/// declare.
+/// Reads a run of columns at the beginning of `bytes`, or else one byte. Returns how many bytes it read, and the box that
+/// they declare.
 #[inline(always)]
 fn find_in_part(
     reader: &mut Reader,
@@ -235,9 +236,8 @@ fn find_in_part(
     ensures found { IfOk result (λ part. Finds reader.old reader.new part.1 (take part.0 bytes.now)) }
     ensures refused { IfErr result (Refuses reader.old (take 1 bytes.now)) }
 {
-    let stretch = reader.feed_stretch(bytes);
-    if stretch.count > 0 {
-        return Ok((stretch.count, None));
+    if let Some(run) = reader.feed_run(bytes) {
+        return Ok((run.length, None));
     }
     Ok((1, find_in_byte(reader, bytes[0])?))
 }
@@ -254,6 +254,18 @@ fn find_in_byte(reader: &mut Reader, byte: u8) -> Result<Option<(u16, u16)>, Inp
             place,
             event: Event::Step(command),
         }))),
+        None => find_in_byte_rarely(reader, byte),
+    }
+}
+
+/// The same for a byte that completes two commands, or of any other kind.
+#[inline(never)]
+fn find_in_byte_rarely(reader: &mut Reader, byte: u8) -> Result<Option<(u16, u16)>, InputFault>
+    ensures found { IfOk result (λ found. Finds reader.old reader.new found (byte ∷ [])) }
+    ensures refused { IfErr result (Refuses reader.old (byte ∷ [])) }
+{
+    match reader.feed_two(byte) {
+        Some(two) => Ok(box_in_command(two.ended).or(box_in_command(two.own))),
         None => find_in_byte_of_any_kind(reader, byte),
     }
 }
@@ -284,6 +296,13 @@ fn box_of(placed: Option<Placed>) -> Option<(u16, u16)>
         Some(placed) => box_in_raster(&placed.event),
         None => None,
     }
+}
+
+/// The box that the command declares.
+fn box_in_command(command: Command) -> Option<(u16, u16)>
+    ensures { result ≡ box_in (Step command ∷ []) }
+{
+    box_in_raster(&Event::Step(command))
 }
 
 /// The box of raster attributes: its width and its height.

@@ -24,8 +24,8 @@ returns-in_err-read-clause-refused g c =
 pub loop-read-preserved : goal.loop-read-preserved
 loop-read-preserved g c = λ first prefix a.
     subst
-    (λ (t : List ℕ). AreFollowed (g.F.Follower.has_followed first) c.follow_stretch_or_byte.new.reader
-    c.follow_stretch_or_byte.new.follower t)
+    (λ (t : List ℕ). AreFollowed (g.F.Follower.has_followed first) c.follow_run_or_byte.new.reader
+    c.follow_run_or_byte.new.follower t)
     (part_then prefix c.args.bytes.now c.loop-read.read c.in_ok-read.field-0)
     (c.in_ok-read.ensures.followed first (prefix ++ take c.loop-read.read c.args.bytes.now)
     (c.loop-read.invariant first prefix a))

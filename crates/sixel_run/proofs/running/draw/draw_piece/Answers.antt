@@ -20,7 +20,7 @@ pub loop-read-preserved : goal.loop-read-preserved
 loop-read-preserved c = record {
   terminal = c.in_ok-read.ensures.drawn.terminal ∙ c.loop-read.invariant.terminal;
   drawn = λ prefix a.
-      subst (λ (t : List ℕ). AreDrawn c.draw_stretch_or_byte.new.reader c.draw_stretch_or_byte.new.drawing t)
+      subst (λ (t : List ℕ). AreDrawn c.draw_run_or_byte.new.reader c.draw_run_or_byte.new.drawing t)
       (part_then prefix c.args.piece.now c.loop-read.read c.in_ok-read.field-0)
       (c.in_ok-read.ensures.drawn.drawn (prefix ++ take c.loop-read.read c.args.piece.now)
       (c.loop-read.invariant.drawn prefix a));

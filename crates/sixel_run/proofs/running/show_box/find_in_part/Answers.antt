@@ -1,20 +1,18 @@
-use Rattle.std.proofs.Common.{◌≡◌, arith, sym, take}
-use Rattle.sixel_grammar.specs.Stretches.{sixels_from}
+use Rattle.std.proofs.Common.{◌+◌, refl, sym}
+use Rattle.sixel_grammar.specs.Runs.{columns_in, events_of_run}
 use Rattle.sixel_run.proofs.DrawLemmas.{first_byte}
-use Rattle.sixel_run.proofs.StageLemmas.{sixels-declare}
+use Rattle.sixel_run.proofs.StageLemmas.{run-declares}
 use Rattle.sixel_run.proofs.running.show_box.find_in_part.Goals as goal
 
-pub returns-then-stretch-gt0-clause-found : goal.returns-then-stretch-gt0-clause-found
-returns-then-stretch-gt0-clause-found c = λ events bytes s.
-    let stretch = c.feed_stretch-stretch.result in
-    let sixels = take stretch.count c.args.bytes.now in (
-      sixels_from stretch.place sixels,
-      (c.feed_stretch-stretch.ensures.taken events bytes s).1,
-      sixels-declare stretch.place sixels,
+pub returns-in-Some-clause-found : goal.returns-in-Some-clause-found
+returns-in-Some-clause-found c = λ events bytes s.
+    let run = c.in-Some.run' in (
+      events_of_run run c.args.bytes.now,
+      (c.in-Some.ensures.taken events bytes s).1,
+      run-declares run.place (run.place + run.start) run.select run.columns (columns_in run c.args.bytes.now),
     )
 
 pub returns-clause-found : goal.returns-clause-found
 returns-clause-found c =
-    let none : c.feed_stretch-stretch.result.count ≡ 0 = omega (arith, c.if-stretch-gt0.false) in
-    let same = c.feed_stretch-stretch.ensures.kept none in
+    let same = c.in_default.ensures.kept refl in
     rw (first_byte c.args.bytes.now c.requires, sym same) c.in_ok-find_in_byte.ensures.found
