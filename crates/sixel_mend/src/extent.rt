@@ -67,6 +67,7 @@ impl Extent {
     }
 
     /// The extent after a data command of so many columns.
+    #[inline(always)]
     fn reaching(self, columns: u16, bits: u8) -> Extent
         ensures { result ≡ record self {
           column = min (self.column + columns) most;
@@ -89,6 +90,7 @@ impl Extent {
     }
 
     /// The extent after a command.
+    #[inline(always)]
     fn after(self, command: Command) -> Extent
         ensures column { result.column ≡ next_column self (Step command) }
         ensures band { result.band ≡ next_band self (Step command) }
@@ -113,7 +115,8 @@ impl Extent {
         }
     }
 
-    /// The extent after one more event.
+    /// The extent after one more event. It is inlined, so that a caller that knows the kind keeps only its code.
+    #[inline(always)]
     fn with(self, event: &Event) -> Extent
         ensures { (before : List AnEvent) → Measures self before → Measures result (before ++ event.now ∷ []) }
     {
@@ -174,6 +177,7 @@ impl Extent {
 impl Follower for Extent {
     ghost has_followed = { λ _ extent events. Measures extent events };
 
+    #[inline(always)]
     fn follow(&mut self, event: &Event) {
         *self = self.with(event);
     }

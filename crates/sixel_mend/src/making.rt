@@ -27,6 +27,7 @@ use std::alloc::Global;
 impl Follower for Drawing {
     ghost has_followed = { λ first drawing events. (drawing.terminal ≡ first.terminal) × HasDrawn drawing events };
 
+    #[inline(always)]
     fn follow(&mut self, event: &Event) {
         self.push(event);
     }

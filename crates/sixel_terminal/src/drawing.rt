@@ -79,6 +79,9 @@ impl Drawing {
     ///
     /// Any list of events is allowed, even one that no text spells. Bits above the six of a sixel paint nothing, and
     /// neither do a start and a finish. Pixels off the screen are dropped.
+    ///
+    /// It is inlined, so that a caller that knows the kind of the event keeps only the code for that kind.
+    #[inline(always)]
     pub fn push(&mut self, event: &Event)
         ensures terminal { self.new.terminal ≡ self.old.terminal }
         ensures drawn { (before : List AnEvent) → HasDrawn self.old before

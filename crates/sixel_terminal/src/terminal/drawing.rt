@@ -125,6 +125,7 @@ impl Terminal {
     }
 
     /// Draws one more event.
+    #[inline(always)]
     pub(crate) fn draw(
         &self,
         pen: Pen,

@@ -22,10 +22,15 @@ use sixel_model::Colour;
 
 impl Terminal {
     /// The register with this number, taken modulo the count of registers.
+    #[inline(always)]
     fn register_of(&self, number: u16) -> u16
         ensures value { result ≡ number % registers_of self.now }
         ensures below { result < registers_of self.now }
     {
+        // Nearly all numbers are below the count, and a division is slow.
+        if (number as usize) < self.colours.len() {
+            return number;
+        }
         (number as usize % self.colours.len()) as u16
     }
 
@@ -84,6 +89,7 @@ impl Terminal {
     }
 
     /// The register that is selected after the command.
+    #[inline(always)]
     fn next_selected(&self, selected: u16, command: Command) -> u16
         ensures { result ≡ option_map_or (λ r. r % registers_of self.now)
             ((if self.now.choices.selects then named_by else select_of) (Step command)) selected }
@@ -106,6 +112,7 @@ impl Terminal {
     }
 
     /// Where the next data command paints after this command.
+    #[inline(always)]
     fn next_place(&self, pen: Pen, command: Command) -> Pen
         ensures column { result.column ≡ next_column self.now pen (Step command) }
         ensures band { result.band ≡ next_band pen (Step command) }
@@ -128,6 +135,7 @@ impl Terminal {
     }
 
     /// The pen after the command.
+    #[inline(always)]
     pub(crate) fn next_pen(&self, pen: Pen, command: Command) -> Pen
         ensures column { result.column ≡ next_column self.now pen (Step command) }
         ensures band { result.band ≡ next_band pen (Step command) }
@@ -140,6 +148,7 @@ impl Terminal {
     }
 
     /// Sets the colour of a definition's register, if the definition gives a colour.
+    #[inline(always)]
     pub(crate) fn define(&self, colours: &mut [Colour], command: Command)
         requires { length colours.old ≡ registers_of self.now }
         ensures { EachIndex colours.old (λ r. slice_index_or colours.new r (Rgb 0 0 0)
@@ -171,6 +180,7 @@ impl Terminal {
     }
 
     /// Paints what the command paints, with the pen and the colours before the command.
+    #[inline(always)]
     pub(crate) fn paint(&self, pen: Pen, colours: &[Colour], inks: &mut [Pixel], command: Command)
         requires selected { pen.selected < length colours.now }
         requires colours_are { length colours.now ≡ registers_of self.now }
@@ -198,6 +208,7 @@ impl Terminal {
 }
 
 /// The register that the command selects. `selects` says whether a definition selects.
+#[inline(always)]
 fn selected_by(selects: bool, command: Command) -> Option<u16>
     ensures { result ≡ (if selects then named_by else select_of) (Step command) }
 {
