@@ -6,7 +6,7 @@ ghost use Rattle.sixel_model.specs.Pictures.{most_side};
 ghost use Rattle.sixel_encode.specs.Columns.{AreFound, AreFilled};
 
 use crate::lanes::LANES;
-use crate::rows::{column_sixel, group_sixels};
+use crate::rows::{ROWS, column_sixel, group_sixels};
 
 /// The sixels of a register in all columns of a band, and blank ones behind them. `rows` are those of the band.
 ///
@@ -78,7 +78,8 @@ fn find_last(sixels: &mut [u8], rows: &[u8], width: usize, at: usize, register: 
     requires at { at < width }
     ensures { AreFilled at width rows.now width register sixels.old sixels.new }
 {
+    let is_whole = ROWS * width <= rows.len();
     for x in at..width {
-        sixels[x] = column_sixel(rows, width, x, register);
+        sixels[x] = column_sixel(rows, width, x, register, is_whole);
     }
 }

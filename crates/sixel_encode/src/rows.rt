@@ -1,6 +1,7 @@
 //! The rows of a band, one after another: six, or fewer in the last band.
 
-ghost use Rattle.std.specs.Prelude.{◌≡◌, ◌==◌, ◌+◌, ◌%◌, ◌<◌, ◌≤◌, ℕ, length, slice_index, if◌then◌else◌};
+ghost use Rattle.std.specs.Prelude.{◌≡◌, ◌==◌, ◌+◌, ◌*◌, ◌%◌, ◌<◌, ◌≤◌, ℕ, length, nat_le, slice_index, true};
+ghost use Rattle.std.specs.Prelude.{if◌then◌else◌};
 ghost use Rattle.sixel_model.specs.Pictures.{most_side};
 ghost use Rattle.sixel_encode.specs.Canon.{most_bands};
 ghost use Rattle.sixel_encode.specs.Columns.{AreRowsOf, row_bits};
@@ -10,7 +11,7 @@ use sixel_model::{BAND_ROWS, Picture};
 use std::simd::prelude::*;
 
 /// How many rows a band has at most.
-const ROWS: usize = BAND_ROWS as usize;
+pub(crate) const ROWS: usize = BAND_ROWS as usize;
 
 /// The rows of the band, from left to right and from top to bottom.
 pub(crate) fn rows_of(picture: &Picture, band: u32) -> &[u8]
@@ -55,17 +56,29 @@ fn with_row(sixels: u8x32, rows: &[u8], at: usize, register: u8, bit: u8) -> u8x
     sixels + is_own.select(u8x32::splat(bit), u8x32::splat(0))
 }
 
+/// Whether the row is in the picture. In a whole band, as most are, none needs a test.
+#[inline]
+fn is_there(rows: &[u8], width: usize, row: usize, is_whole: bool) -> bool
+    requires few { width ≤ most_side }
+    requires row { row < ROWS }
+    requires whole { is_whole ≡ true → ROWS * width ≤ length rows.now }
+    ensures { result ≡ nat_le (row * width + width) (length rows.now) }
+{
+    is_whole || row * width + width <= rows.len()
+}
+
 /// The sixel of a register in a column.
 #[inline]
-pub(crate) fn column_sixel(rows: &[u8], width: usize, x: usize, register: u8) -> u8
+pub(crate) fn column_sixel(rows: &[u8], width: usize, x: usize, register: u8, is_whole: bool) -> u8
     requires within { x < width }
     requires few { width ≤ most_side }
+    requires whole { is_whole ≡ true → ROWS * width ≤ length rows.now }
     ensures { result ≡ 63 + row_bits rows.now width register x }
 {
     let mut sixel = b'?';
     for row in 0..ROWS {
         let start = row * width;
-        if start + width <= rows.len() && rows[start + x] == register {
+        if is_there(rows, width, row, is_whole) && rows[start + x] == register {
             sixel = sixel.wrapping_add(1 << row);
         }
     }
