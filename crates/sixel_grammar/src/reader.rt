@@ -112,11 +112,11 @@ impl Reader {
         ensures stopped { IsSome (fault_of self.old) → IsNone result }
         ensures refused { IsNone result → IsNotOneCommand self.old byte }
     {
-        if let Some(inside) = self.feed_inside(byte) {
-            return Some(inside);
-        }
         if let Some(whole) = self.take_whole(byte) {
             return Some(whole);
+        }
+        if let Some(inside) = self.feed_inside(byte) {
+            return Some(inside);
         }
         if let Some(ended) = self.end_command(byte) {
             return Some(ended);

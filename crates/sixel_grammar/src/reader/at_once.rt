@@ -28,7 +28,7 @@ impl Reader {
         ensures kept { IsNone result → self.new ≡ self.old }
         ensures stopped { IsSome (fault_of self.old) → IsNone result }
     {
-        if bytes.is_empty() || !begins_run(bytes[0]) || self.sixels == 0 {
+        if self.sixels == 0 || bytes.is_empty() || !begins_run(bytes[0]) {
             return None;
         }
         let run = run_in(first_bytes(bytes, self.left), MOST_BYTES - self.left)?;
