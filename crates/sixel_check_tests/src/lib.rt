@@ -20,6 +20,8 @@ mod pictures;
 #[cfg(test)]
 mod profiles;
 #[cfg(test)]
+mod runs;
+#[cfg(test)]
 mod steps;
 #[cfg(test)]
 mod stretches;
