@@ -1,7 +1,7 @@
 //! Checking the bytes of a document.
 
 ghost use Rattle.std.specs.Prelude.{◌≡◌, ◌≢◌, ◌+◌, ◌<◌, ◌≤◌, ◌++◌, ◌∷◌, [], ℕ, List, Err, IfErr, IfOk, IfSome, IsOk};
-ghost use Rattle.std.specs.Prelude.{IsTrue, OnErr, OnOk, Some, length, slice_index, take};
+ghost use Rattle.std.specs.Prelude.{IsNone, IsTrue, OnErr, OnOk, Some, length, slice_index, take};
 ghost use Rattle.sixel_io.specs.Devices.{ReadsToEnd};
 ghost use Rattle.sixel_grammar.specs.Bytes.{is_data};
 ghost use Rattle.sixel_grammar.specs.Document.{most_bytes};
@@ -117,6 +117,81 @@ fn read_otherwise<P: Plane>(
     read_rarely(reader, checker, byte)
 }
 
+/// Reads the run at the beginning of `bytes`, if there is one, and pushes its events. Returns how many bytes it has.
+#[inline(always)]
+fn try_read_run<P: Plane>(
+    reader: &mut Reader,
+    checker: &mut Checker<P>,
+    bytes: &[u8],
+) -> Result<Option<usize>, InputFault>
+    requires { (registers : ℕ) × (prefix : List ℕ) × AreAfter registers reader.old checker.old prefix }
+    ensures some { IfOk result (λ read. IfSome read (λ count. 0 < count)) }
+    ensures within { IfOk result (λ read. IfSome read (λ count. count ≤ length bytes.now)) }
+    ensures read { IfOk result (λ read. IfSome read (λ count.
+        TakesBytes reader.old checker.old reader.new checker.new (take count bytes.now))) }
+    ensures kept { IfOk result (λ read. IsNone read → (reader.new ≡ reader.old) × (checker.new ≡ checker.old)) }
+    ensures refused { IfErr result (RefusesBytes reader.old checker.old bytes.now) }
+    ensures memory { IfErr result (GrowsForBytes reader.old checker.old bytes.now) }
+{
+    match reader.feed_run(bytes) {
+        Some(run) => {
+            keep_run(checker, run, bytes)?;
+            Ok(Some(run.length))
+        }
+        None => Ok(None),
+    }
+}
+
+/// As `try_read_run`. Each arm has its own copy of it, in which the compiler knows what the first byte begins.
+#[inline(always)]
+fn read_run<P: Plane>(
+    reader: &mut Reader,
+    checker: &mut Checker<P>,
+    bytes: &[u8],
+) -> Result<Option<usize>, InputFault>
+    requires some { 0 < length bytes.now }
+    requires stands { (registers : ℕ) × (prefix : List ℕ) × AreAfter registers reader.old checker.old prefix }
+    ensures some { IfOk result (λ read. IfSome read (λ count. 0 < count)) }
+    ensures within { IfOk result (λ read. IfSome read (λ count. count ≤ length bytes.now)) }
+    ensures read { IfOk result (λ read. IfSome read (λ count.
+        TakesBytes reader.old checker.old reader.new checker.new (take count bytes.now))) }
+    ensures kept { IfOk result (λ read. IsNone read → (reader.new ≡ reader.old) × (checker.new ≡ checker.old)) }
+    ensures refused { IfErr result (RefusesBytes reader.old checker.old bytes.now) }
+    ensures memory { IfErr result (GrowsForBytes reader.old checker.old bytes.now) }
+{
+    match bytes[0] {
+        b'!' => try_read_run(reader, checker, bytes),
+        b'#' => try_read_run(reader, checker, bytes),
+        byte if byte >= b'?' => try_read_run(reader, checker, bytes),
+        _ => Ok(None),
+    }
+}
+
+/// Reads the first byte of `bytes`, one that begins no run, and pushes the events that it completes. Returns 1.
+#[inline(always)]
+fn read_first<P: Plane>(
+    reader: &mut Reader,
+    checker: &mut Checker<P>,
+    bytes: &[u8],
+) -> Result<usize, InputFault>
+    requires some { 0 < length bytes.now }
+    requires stands { (registers : ℕ) × (prefix : List ℕ) × AreAfter registers reader.old checker.old prefix }
+    ensures some { IfOk result (λ count. 0 < count) }
+    ensures within { IfOk result (λ count. count ≤ length bytes.now) }
+    ensures read { IfOk result (λ count.
+        TakesBytes reader.old checker.old reader.new checker.new (take count bytes.now)) }
+    ensures refused { IfErr result (RefusesBytes reader.old checker.old bytes.now) }
+    ensures memory { IfErr result (GrowsForBytes reader.old checker.old bytes.now) }
+{
+    // No byte below `?` is data, so the compiler drops the code for data from this branch.
+    if bytes[0] < b'?' {
+        read_sign(reader, checker, bytes[0])?;
+        return Ok(1);
+    }
+    read_data(reader, checker, bytes[0])?;
+    Ok(1)
+}
+
 /// Reads at least one byte at the beginning of `bytes`, and pushes the events that these complete. Returns how many.
 #[inline(always)]
 fn read_some<P: Plane>(
@@ -133,17 +208,10 @@ fn read_some<P: Plane>(
     ensures refused { IfErr result (RefusesBytes reader.old checker.old bytes.now) }
     ensures memory { IfErr result (GrowsForBytes reader.old checker.old bytes.now) }
 {
-    if let Some(run) = reader.feed_run(bytes) {
-        keep_run(checker, run, bytes)?;
-        return Ok(run.length);
+    match read_run(reader, checker, bytes)? {
+        Some(count) => Ok(count),
+        None => read_first(reader, checker, bytes),
     }
-    // No byte below `?` is data, so the compiler drops the code for data from this branch.
-    if bytes[0] < b'?' {
-        read_sign(reader, checker, bytes[0])?;
-        return Ok(1);
-    }
-    read_data(reader, checker, bytes[0])?;
-    Ok(1)
 }
 
 /// Reads the bytes of a piece, and pushes the events that they complete. `Grammar`: the fault of the bytes read so far,
