@@ -380,6 +380,22 @@ group_more w start covered n next register count few bytes lanes ro rm rn co cm 
     group_then w start covered n next register (sixel_of bytes count) lanes ro rm rn co cm cn end
     (lanes_of bytes lanes count n few most all are) before rows columns
 
+-- a stretch of one group
+pub group_alone : (w start covered register count : ℕ) (bytes lanes ro rn co cn : List ℕ) → count ≤ 16
+    → AreSixelLanes bytes 0 count lanes
+    → ArePainted 6 w start 16 (λ j. get_or lanes j 0) register ro rn
+    → AreMapped covered 16 (λ j b. bit_or b (get_or lanes j 0)) co cn
+    → ArePainted 6 w start 16 (sixel_of bytes count) register ro rn
+    × AreMapped covered 16 (λ j b. bit_or b (sixel_of bytes count j)) co cn
+group_alone w start covered register count bytes lanes ro rn co cn few are rows columns =
+    let at_start : start ≡ start + 0 = omega arith in
+    let at_covered : covered ≡ covered + 0 = omega arith in
+    group_more w start covered 0 16 register count count bytes lanes ro ro rn co co cn (omega arith) (omega arith)
+    (λ lt. omega arith) are
+    (no_groups w start register (sixel_of bytes count) ro, no_columns covered (λ j b. bit_or b (sixel_of bytes count j)) co)
+    (subst (λ (s : ℕ). ArePainted 6 w s 16 (λ j. get_or lanes j 0) register ro rn) at_start rows)
+    (subst (λ (s : ℕ). AreMapped s 16 (λ j b. bit_or b (get_or lanes j 0)) co cn) at_covered columns)
+
 -- ---- a group of a run
 
 -- the columns of a run that are left are a run
@@ -399,6 +415,22 @@ pub run_more : (w start covered n next register count few bits : ℕ) (lanes ro 
 run_more w start covered n next register count few bits lanes ro rm rn co cm cn end most all are before rows columns =
     group_then w start covered n next register (run_sixel bits count) lanes ro rm rn co cm cn end
     (λ j lt. are.each j lt ∙ run_there bits count n few j most all lt) before rows columns
+
+-- a run of one group
+pub run_alone : (w start covered register count bits : ℕ) (lanes ro rn co cn : List ℕ) → count ≤ 16
+    → AreEqual bits count lanes
+    → ArePainted 6 w start 16 (λ j. get_or lanes j 0) register ro rn
+    → AreMapped covered 16 (λ j b. bit_or b (get_or lanes j 0)) co cn
+    → ArePainted 6 w start 16 (run_sixel bits count) register ro rn
+    × AreMapped covered 16 (λ j b. bit_or b (run_sixel bits count j)) co cn
+run_alone w start covered register count bits lanes ro rn co cn few are rows columns =
+    let at_start : start ≡ start + 0 = omega arith in
+    let at_covered : covered ≡ covered + 0 = omega arith in
+    run_more w start covered 0 16 register count count bits lanes ro ro rn co co cn (omega arith) (omega arith)
+    (λ lt. omega arith) are
+    (no_groups w start register (run_sixel bits count) ro, no_columns covered (λ j b. bit_or b (run_sixel bits count j)) co)
+    (subst (λ (s : ℕ). ArePainted 6 w s 16 (λ j. get_or lanes j 0) register ro rn) at_start rows)
+    (subst (λ (s : ℕ). AreMapped s 16 (λ j b. bit_or b (get_or lanes j 0)) co cn) at_covered columns)
 
 -- the data bytes of a group
 pub data_of : (bytes : List ℕ) (count n few j : ℕ) → ((j : ℕ) → j < count → is_data (get_or bytes j 0) ≡ true)

@@ -89,6 +89,7 @@ impl Plane for BandPlane {
         );
     }
 
+    #[inline(always)]
     fn try_paint_stretch(
         &mut self,
         column: u32,

@@ -72,9 +72,36 @@ fn paint_rows(registers: &mut [u8], at: usize, width: usize, sixels: u8x16, regi
     }
 }
 
-/// Paints a column for each of the first `count` data bytes of `bytes`. The top row begins at `start` of `registers`,
-/// and the columns' coverage at `covered` of `coverage`.
-pub(crate) fn paint_groups(
+/// Paints a column for each of the first `count` data bytes of `bytes`, at most one group. The top row begins at `start`
+/// of `registers`, and the columns' coverage at `covered` of `coverage`.
+#[inline(always)]
+fn paint_group(
+    registers: &mut [u8],
+    coverage: &mut [u8],
+    width: usize,
+    start: usize,
+    covered: usize,
+    bytes: &[u8],
+    count: usize,
+    register: u8,
+)
+    requires few { count ≤ LANES }
+    requires bytes { count + LANES ≤ length bytes.now }
+    requires sixels { (j : ℕ) → j < count → IsTrue (is_data (slice_index bytes.now j)) }
+    requires rows { start + 5 * width + count + LANES ≤ length registers.old }
+    requires columns { covered + count + LANES ≤ length coverage.old }
+    ensures painted { (n : ℕ) × (count ≤ n)
+        × ArePainted 6 width start n (sixel_of bytes.now count) register registers.old registers.new
+        × AreMapped covered n (λ j b. bit_or b (sixel_of bytes.now count j)) coverage.old coverage.new }
+{
+    let sixels = sixels_at(bytes, 0, count);
+    cover_columns(coverage, covered, sixels);
+    paint_rows(registers, start, width, sixels, register);
+}
+
+/// As `paint_group`, for any number of columns.
+#[inline(never)]
+fn paint_each_group(
     registers: &mut [u8],
     coverage: &mut [u8],
     width: usize,
@@ -101,8 +128,65 @@ pub(crate) fn paint_groups(
     }
 }
 
-/// Paints a run of `count` columns. Its top row begins at `start` of `registers`, its coverage at `covered`.
-pub(crate) fn paint_short_run(
+/// As `paint_each_group`. Most stretches are no longer than a group.
+#[inline(always)]
+pub(crate) fn paint_groups(
+    registers: &mut [u8],
+    coverage: &mut [u8],
+    width: usize,
+    start: usize,
+    covered: usize,
+    bytes: &[u8],
+    count: usize,
+    register: u8,
+)
+    requires bytes { count + LANES ≤ length bytes.now }
+    requires sixels { (j : ℕ) → j < count → IsTrue (is_data (slice_index bytes.now j)) }
+    requires rows { start + 5 * width + count + LANES ≤ length registers.old }
+    requires columns { covered + count + LANES ≤ length coverage.old }
+    ensures painted { (n : ℕ) × (count ≤ n)
+        × ArePainted 6 width start n (sixel_of bytes.now count) register registers.old registers.new
+        × AreMapped covered n (λ j b. bit_or b (sixel_of bytes.now count j)) coverage.old coverage.new }
+{
+    if count <= LANES {
+        paint_group(
+            registers, coverage, width, start, covered, bytes, count, register,
+        );
+    } else {
+        paint_each_group(
+            registers, coverage, width, start, covered, bytes, count, register,
+        );
+    }
+}
+
+/// Paints a run of `count` columns, at most one group. Its top row begins at `start` of `registers`, its coverage at
+/// `covered`.
+#[inline(always)]
+fn paint_run_group(
+    registers: &mut [u8],
+    coverage: &mut [u8],
+    width: usize,
+    start: usize,
+    covered: usize,
+    count: usize,
+    bits: u8,
+    register: u8,
+)
+    requires few { count ≤ LANES }
+    requires rows { start + 5 * width + count + LANES ≤ length registers.old }
+    requires columns { covered + count + LANES ≤ length coverage.old }
+    ensures painted { (n : ℕ) × (count ≤ n)
+        × ArePainted 6 width start n (run_sixel bits count) register registers.old registers.new
+        × AreMapped covered n (λ j b. bit_or b (run_sixel bits count j)) coverage.old coverage.new }
+{
+    let sixels = sixels_of_run(bits, count);
+    cover_columns(coverage, covered, sixels);
+    paint_rows(registers, start, width, sixels, register);
+}
+
+/// As `paint_run_group`, for any number of columns.
+#[inline(never)]
+fn paint_each_run_group(
     registers: &mut [u8],
     coverage: &mut [u8],
     width: usize,
@@ -124,5 +208,34 @@ pub(crate) fn paint_short_run(
         let sixels = sixels_of_run(bits, few);
         cover_columns(coverage, covered + done, sixels);
         paint_rows(registers, start + done, width, sixels, register);
+    }
+}
+
+/// As `paint_each_run_group`. Most runs are no longer than a group.
+#[inline(always)]
+pub(crate) fn paint_short_run(
+    registers: &mut [u8],
+    coverage: &mut [u8],
+    width: usize,
+    start: usize,
+    covered: usize,
+    count: usize,
+    bits: u8,
+    register: u8,
+)
+    requires rows { start + 5 * width + count + LANES ≤ length registers.old }
+    requires columns { covered + count + LANES ≤ length coverage.old }
+    ensures painted { (n : ℕ) × (count ≤ n)
+        × ArePainted 6 width start n (run_sixel bits count) register registers.old registers.new
+        × AreMapped covered n (λ j b. bit_or b (run_sixel bits count j)) coverage.old coverage.new }
+{
+    if count <= LANES {
+        paint_run_group(
+            registers, coverage, width, start, covered, count, bits, register,
+        );
+    } else {
+        paint_each_run_group(
+            registers, coverage, width, start, covered, count, bits, register,
+        );
     }
 }

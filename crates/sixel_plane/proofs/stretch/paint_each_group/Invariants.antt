@@ -1,7 +1,7 @@
 use Rattle.std.proofs.Common.{◌*◌}
 use Rattle.std.specs.Int.Bits.{bit_or}
 use Rattle.sixel_plane.specs.Stretches.{AreMapped, ArePainted, sixel_of}
-use Rattle.sixel_plane.proofs.stretch.paint_groups.Given as goal
+use Rattle.sixel_plane.proofs.stretch.paint_each_group.Given as goal
 
 abbrev pub invariant-loop-group : goal.invariant-loop-group
 invariant-loop-group l =

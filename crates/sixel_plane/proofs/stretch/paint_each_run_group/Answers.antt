@@ -2,7 +2,7 @@ use Rattle.std.proofs.Common.{◌*◌, ◌+◌, arith}
 use Rattle.std.specs.Int.Bits.{bit_or}
 use Rattle.sixel_plane.specs.Stretches.{run_sixel}
 use Rattle.sixel_plane.proofs.StretchLemmas.{no_columns, no_groups, run_more}
-use Rattle.sixel_plane.proofs.stretch.paint_short_run.Goals as goal
+use Rattle.sixel_plane.proofs.stretch.paint_each_run_group.Goals as goal
 
 pub loop-group-init : goal.loop-group-init
 loop-group-init c = (

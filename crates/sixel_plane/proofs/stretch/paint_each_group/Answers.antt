@@ -2,7 +2,7 @@ use Rattle.std.proofs.Common.{◌*◌, ◌+◌, arith}
 use Rattle.std.specs.Int.Bits.{bit_or}
 use Rattle.sixel_plane.specs.Stretches.{sixel_of}
 use Rattle.sixel_plane.proofs.StretchLemmas.{data_of, group_more, no_columns, no_groups}
-use Rattle.sixel_plane.proofs.stretch.paint_groups.Goals as goal
+use Rattle.sixel_plane.proofs.stretch.paint_each_group.Goals as goal
 
 pub loop-group-init : goal.loop-group-init
 loop-group-init c = (
