@@ -11,5 +11,6 @@ pub mod ShownLemmas
 pub mod DrawLemmas
 pub mod DrawnLemmas
 pub mod StretchLemmas
+pub mod SixelLemmas
 pub mod PlainLemmas
 pub mod ClipLemmas

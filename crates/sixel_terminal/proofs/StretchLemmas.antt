@@ -53,7 +53,7 @@ stretched_none w left top bytes ink xs = record {
   pixels = λ i lt. ap (λ t. cond t ink (get_or xs i black)) (sym (no_rows _ _ top (i / w)));
 }
 
-and_when : (b p q : Bool) → (b ≡ true → p ≡ q) → (b && p) ≡ (b && q)
+pub and_when : (b p q : Bool) → (b ≡ true → p ≡ q) → (b && p) ≡ (b && q)
 and_when true p q h = h refl
 and_when false p q h = refl
 
@@ -216,11 +216,11 @@ row_bits bits base y (suc n) =
     ap₂ (λ a b. a || b) here (row_bits bits base y n) ∙ or_and r p h
     ∙ ap (λ (t : Bool). t && h) (next_row base n y)
 
-and_none : (b : Bool) → (b && false) ≡ false
+pub and_none : (b : Bool) → (b && false) ≡ false
 and_none true = refl
 and_none false = refl
 
-and_true : (b : Bool) → (b && true) ≡ b
+pub and_true : (b : Bool) → (b && true) ≡ b
 and_true true = refl
 and_true false = refl
 
@@ -402,7 +402,7 @@ before_edges left top right bottom bytes x y across down =
 -- ---- the columns one by one
 
 -- the columns of the first k bytes
-first_columns : (left top n k x y : ℕ) (bytes : List ℕ) → k ≤ length bytes
+pub first_columns : (left top n k x y : ℕ) (bytes : List ℕ) → k ≤ length bytes
     → is_stretched left top n (take k bytes) x y
     ≡ ((nat_le left x && nat_lt x (left + k))
     && ((nat_le top y && nat_lt y (top + n)) && has_bit (slice_index bytes (x - left)) (y - top)))

@@ -27,6 +27,7 @@ pub(crate) struct Pen {
 
 impl Pen {
     /// Moves to the right by `columns` columns.
+    #[inline(always)]
     pub(crate) fn moved(self, columns: usize) -> Pen
         ensures { result ≡ record self { column = min (self.column + columns) most } }
     {

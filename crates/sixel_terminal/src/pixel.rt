@@ -56,6 +56,7 @@ fn packed(a: u8, b: u8, c: u8, highest: u8) -> u32
 
 impl Pixel {
     /// A pixel that shows this colour.
+    #[inline(always)]
     pub(crate) fn fixed(colour: Colour) -> Pixel
         ensures { result ≡ FixedInk colour }
     {

@@ -1,11 +1,11 @@
 //! Paints many sixels at once.
 
-ghost use Rattle.std.specs.Prelude.{◌≡◌, ◌&&◌, ◌<◌, ◌≤◌, ◌+◌, ◌-◌, ◌*◌, ◌/◌, ◌%◌, ℕ, EachIndex, IsTrue, length, nat_le, nat_lt};
-ghost use Rattle.std.specs.Prelude.{slice_index, slice_index_or, take, if◌then◌else◌};
+ghost use Rattle.std.specs.Prelude.{◌≡◌, ◌&&◌, ◌<◌, ◌≤◌, ◌+◌, ◌-◌, ◌*◌, ◌/◌, ◌%◌, ◌^◌, ℕ, EachIndex, IsTrue, length, nat_le, nat_lt};
+ghost use Rattle.std.specs.Prelude.{slice_index, slice_index_or, slice_set, take, if◌then◌else◌};
 ghost use Rattle.sixel_grammar.specs.Bytes.{is_data};
 ghost use Rattle.sixel_model.specs.Geometry.{band_rows};
 ghost use Rattle.sixel_terminal.specs.Canvases.{black};
-ghost use Rattle.sixel_terminal.specs.Stretches.{has_bit, is_stretched};
+ghost use Rattle.sixel_terminal.specs.Stretches.{AreJoined, IsSixelPainted, has_bit, is_in_sixel, is_stretched};
 
 use crate::pixel::Pixel;
 use sixel_model::{BAND_ROWS, is_set};
@@ -32,22 +32,37 @@ fn paint_row(row: &mut [Pixel], bytes: &[u8], bit: u32, ink: &Pixel)
     }
 }
 
-/// Paints a row of the screen from the pixel `at` on.
+/// The bits that one or more of the sixels have.
+fn joined(bytes: &[u8]) -> u8
+    requires data { (k : ℕ) → k < length bytes.now → IsTrue (is_data (slice_index bytes.now k)) }
+    ensures { AreJoined result bytes.now }
+{
+    let mut bits = 0;
+    for byte in bytes {
+        bits |= byte - b'?';
+    }
+    bits
+}
+
+/// Paints a row of the screen from the pixel `at` on. A row whose bit no sixel has is passed over.
 #[inline(always)]
-fn paint_row_at(pixels: &mut [Pixel], at: usize, bytes: &[u8], bit: u32, ink: &Pixel)
+fn paint_row_at(pixels: &mut [Pixel], at: usize, bytes: &[u8], joined: u8, bit: u32, ink: &Pixel)
     requires bit { bit < band_rows }
     requires within { at + length bytes.now ≤ length pixels.old }
     requires data { (k : ℕ) → k < length bytes.now → IsTrue (is_data (slice_index bytes.now k)) }
+    requires joined { AreJoined joined bytes.now }
     ensures { EachIndex pixels.old (λ i. slice_index_or pixels.new i black
         ≡ (if (nat_le at i && nat_lt i (at + length bytes.now)) && has_bit (slice_index bytes.now (i - at)) bit
         then ink.now else slice_index_or pixels.old i black)) }
 {
-    paint_row(&mut pixels[at..at + bytes.len()], bytes, bit, ink);
+    if is_set(joined, bit) {
+        paint_row(&mut pixels[at..at + bytes.len()], bytes, bit, ink);
+    }
 }
 
 /// Paints the first `count` rows of a band, from the row `top` of the screen on, in the columns of the bytes, from `left`
-/// on.
-#[inline(always)]
+/// on. Text that is written row by row has one row in all of them.
+#[inline(never)]
 fn paint_rows(
     pixels: &mut [Pixel],
     width: usize,
@@ -66,9 +81,56 @@ fn paint_rows(
         ≡ (if is_stretched left top count bytes.now (i % width) (i / width)
         then ink.now else slice_index_or pixels.old i black)) }
 {
+    let joined = joined(bytes);
     for bit in 0..count {
         let at = (top + bit as usize) * width + left;
-        paint_row_at(pixels, at, bytes, bit, ink);
+        paint_row_at(pixels, at, bytes, joined, bit, ink);
+    }
+}
+
+#[inline(always)]
+fn set_pixel(pixels: &mut [Pixel], at: usize, ink: &Pixel)
+    requires { at < length pixels.old }
+    ensures { pixels.new ≡ slice_set pixels.old at ink.now }
+{
+    pixels[at] = *ink;
+}
+
+/// Paints the pixel of the lowest of these bits of a sixel. Returns the other bits.
+#[inline(always)]
+fn paint_lowest(
+    pixels: &mut [Pixel],
+    width: usize,
+    left: usize,
+    top: usize,
+    bits: u32,
+    ink: &Pixel,
+) -> u32
+    requires column { left < width }
+    requires rows { (top + band_rows) * width ≤ length pixels.old }
+    requires some { 0 < bits }
+    requires six { bits < 2 ^ band_rows }
+    ensures fewer { result < bits }
+    ensures painted { IsSixelPainted width left top bits result ink.now pixels.old pixels.new }
+{
+    let bit = bits.trailing_zeros();
+    set_pixel(pixels, (top + bit as usize) * width + left, ink);
+    bits & !(1 << bit)
+}
+
+/// Paints the column of a sixel, bit by bit: most sixels have few.
+#[inline(always)]
+fn paint_sixel(pixels: &mut [Pixel], width: usize, left: usize, top: usize, bits: u8, ink: &Pixel)
+    requires column { left < width }
+    requires rows { (top + band_rows) * width ≤ length pixels.old }
+    requires six { bits < 2 ^ band_rows }
+    ensures { EachIndex pixels.old (λ i. slice_index_or pixels.new i black
+        ≡ (if is_in_sixel left top bits 0 (i % width) (i / width)
+        then ink.now else slice_index_or pixels.old i black)) }
+{
+    let mut rest = u32::from(bits);
+    while rest != 0 {
+        rest = paint_lowest(pixels, width, left, top, rest, ink);
     }
 }
 
@@ -93,11 +155,12 @@ fn paint_first(
         ≡ (if is_stretched left top band_rows (take result bytes.now) (i % width) (i / width)
         then ink.now else slice_index_or pixels.old i black)) }
 {
-    paint_rows(pixels, width, left, top, BAND_ROWS, &bytes[..1], ink);
+    paint_sixel(pixels, width, left, top, bytes[0] - b'?', ink);
     1
 }
 
 /// As `paint_rows` for a whole band, column by column.
+#[inline(always)]
 fn paint_columns(
     pixels: &mut [Pixel],
     width: usize,
@@ -121,6 +184,7 @@ fn paint_columns(
 }
 
 /// As `paint_rows`, in the faster of the two orders.
+#[inline(always)]
 pub(crate) fn paint_sixels(
     pixels: &mut [Pixel],
     width: usize,

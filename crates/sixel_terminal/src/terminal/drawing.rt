@@ -150,6 +150,7 @@ impl Terminal {
     }
 
     /// Draws the sixels of these data bytes, if a sixel pixel is one pixel high. Returns the pen after them.
+    #[inline(always)]
     pub(crate) fn try_draw_stretch(
         &self,
         pen: Pen,

@@ -17,6 +17,7 @@ use sixel_model::{BAND_ROWS, is_set};
 
 impl Terminal {
     /// The column of the screen where data commands stop painting.
+    #[inline(always)]
     fn right_edge(&self, pen: Pen) -> u32
         ensures value { result ≡ right_edge self.now pen.declared }
         ensures most { result ≤ self.now.choices.screen_width }
@@ -31,6 +32,7 @@ impl Terminal {
     }
 
     /// The row of the screen where data commands stop painting.
+    #[inline(always)]
     fn bottom_edge(&self, pen: Pen) -> u32
         ensures value { result ≡ bottom_edge self.now pen.declared }
         ensures most { result ≤ self.now.choices.screen_height }
@@ -85,6 +87,7 @@ impl Terminal {
     }
 
     /// Paints the sixels of these data bytes, from the pen on, as far as they are before the edges.
+    #[inline(always)]
     pub(crate) fn paint_stretch(&self, pen: Pen, bytes: &[u8], ink: &Pixel, inks: &mut [Pixel])
         requires screen { length inks.old ≡ self.now.choices.screen_width * self.now.choices.screen_height }
         requires data { (k : ℕ) → k < length bytes.now → IsTrue (is_data (slice_index bytes.now k)) }

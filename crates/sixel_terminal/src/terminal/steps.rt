@@ -168,6 +168,7 @@ impl Terminal {
     }
 
     /// The ink for painting in this register.
+    #[inline(always)]
     pub(crate) fn ink(&self, colours: &[Colour], register: u16) -> Pixel
         requires { register < length colours.now }
         ensures { result ≡ ink_by_colours self.now colours.now register }
