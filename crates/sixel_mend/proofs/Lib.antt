@@ -1,4 +1,5 @@
 pub mod ExtentLemmas
+pub mod DepthLemmas
 pub mod SizeLemmas
 pub mod NumberLemmas
 pub mod MeasureLemmas

@@ -1,10 +1,9 @@
 -- What an extent stores, event by event.
-use Rattle.std.proofs.Common.{◌≡◌, ◌==◌, ℕ, ◌+◌, ◌-◌, ◌*◌, ◌≤◌, Bool, true, false, cond, max, min, Option}
+use Rattle.std.proofs.Common.{◌≡◌, ◌==◌, ℕ, suc, ◌+◌, ◌-◌, ◌*◌, ◌<◌, ◌≤◌, Bool, true, false, cond, max, min, Option}
 use Rattle.std.proofs.Common.{None, List, [], ◌∷◌, ◌++◌, length, refl, sym, ap, ap₂, subst, ◌∙◌, append_assoc}
 use Rattle.std.proofs.Common.{append-nil}
 use Rattle.std.proofs.Common.{arith}
-use Rattle.std.specs.Prelude.{if◌then◌else◌}
-use Rattle.std.specs.Int.{bit_at}
+use Rattle.std.specs.Prelude.{if◌then◌else◌, slice_index}
 use Rattle.std.specs.Option.{option_map, option_or}
 use Rattle.sixel_grammar.specs.declared.command.Command.{Command}
 use Rattle.sixel_grammar.specs.declared.command.Command.TheVariants.{Sixel}
@@ -25,7 +24,7 @@ use Rattle.sixel_mend.specs.Measures.{Measures, most, next_band, next_column, ne
 use Rattle.sixel_mend.specs.Measures.{reached_row}
 use Rattle.sixel_mend.specs.Measures.{sides_of}
 use Rattle.sixel_mend.specs.Screens.{mending_terminal}
-use Rattle.sixel_mend.proofs.ExtentLemmas.{extent_none, extent_push, is_depth}
+use Rattle.sixel_mend.proofs.ExtentLemmas.{extent_none, extent_push}
 
 -- ---- numbers that stop at the greatest one
 
@@ -120,15 +119,15 @@ moved e n = record e { column = e.column + n }
 
 -- one of its sixels
 one_inside : (e : Extent) (before : List Event) (bits : ℕ) → Measures e before → e.column + 1 ≤ e.width
-    → 6 * e.band + 6 ≤ e.height → Measures (moved e 1) (before ++ Step (Sixel bits) ∷ [])
+    → 6 * e.band + depth bits ≤ e.height → Measures (moved e 1) (before ++ Step (Sixel bits) ∷ [])
 one_inside e before bits s across down =
-    let few : depth bits ≤ 6 = (is_depth 6 (λ k. bit_at bits k == 1)).few in
     measures_push e (moved e 1) before (Step (Sixel bits)) s (omega (arith, s.width_is, across))
     (omega (arith, s.band_is)) (sym (side_stays e.width (depth bits) (e.column + 1) across))
-    (sym (side_stays e.height (depth bits) (6 * e.band + depth bits) (omega (arith, few, down)))) (or_none e.declared)
+    (sym (side_stays e.height (depth bits) (6 * e.band + depth bits) down)) (or_none e.declared)
 
 pub measures_stretch : (bytes : List ℕ) (e : Extent) (before : List Event) → Measures e before
-    → e.column + length bytes ≤ e.width → 6 * e.band + 6 ≤ e.height
+    → e.column + length bytes ≤ e.width
+    → ((k : ℕ) → k < length bytes → 6 * e.band + depth (slice_index bytes k - 63) ≤ e.height)
     → Measures (moved e (length bytes)) (before ++ sixels_of bytes)
 measures_stretch [] e before s across down =
     subst (Measures (moved e 0)) (sym (append-nil before)) (same_there (e.column + 0) (omega arith))
@@ -137,8 +136,9 @@ measures_stretch [] e before s across down =
     same_there n is = rw is s
 measures_stretch (b ∷ bytes) e before s across down =
     let sixel = Step (Sixel (b - 63)) in
-    let one = one_inside e before (b - 63) s (omega (arith, across)) down in
-    let all = measures_stretch bytes (moved e 1) (before ++ sixel ∷ []) one (omega (arith, across)) down in
+    let one = one_inside e before (b - 63) s (omega (arith, across)) (down 0 (omega arith)) in
+    let all = measures_stretch bytes (moved e 1) (before ++ sixel ∷ []) one (omega (arith, across))
+    (λ k lt. down (suc k) (omega (arith, lt))) in
     let count : e.column + 1 + length bytes ≡ e.column + length (b ∷ bytes) = omega arith in
     subst (λ (n : ℕ). Measures (record e { column = n }) (before ++ sixels_of (b ∷ bytes))) count
     (subst (Measures (moved (moved e 1) (length bytes))) (append_assoc before (sixel ∷ []) (sixels_of bytes)) all)

@@ -1,6 +1,6 @@
 //! How far the data commands of a string reach.
 
-ghost use Rattle.std.specs.Prelude.{◌≡◌, ◌++◌, ◌∷◌, [], ◌<◌, ◌≤◌, ◌+◌, ◌*◌, List, ℕ, IsTrue, length, max, min};
+ghost use Rattle.std.specs.Prelude.{◌≡◌, ◌++◌, ◌∷◌, [], ◌<◌, ◌≤◌, ◌+◌, ◌-◌, ◌*◌, ◌%◌, ◌^◌, List, ℕ, IsTrue, length, max, min};
 ghost use Rattle.std.specs.Prelude.{slice_index};
 ghost use Rattle.sixel_grammar.specs.declared.command.Event.{Event as AnEvent};
 ghost use Rattle.sixel_grammar.specs.declared.command.Event.TheVariants.{Step};
@@ -14,7 +14,7 @@ ghost use Rattle.sixel_mend.specs.Measures.{reached_row};
 
 use crate::following::Follower;
 use sixel_grammar::{Command, Event};
-use sixel_model::{BAND_ROWS, is_set};
+use sixel_model::BAND_ROWS;
 
 /// The sides of a declared box, in pixels.
 #[derive(Clone, Copy, Debug, PartialEq, Eq)]
@@ -39,17 +39,26 @@ pub(crate) struct Extent {
 }
 
 /// How many rows of its band a sixel reaches down.
+#[inline(always)]
 fn depth(bits: u8) -> u32
     ensures value { result ≡ depth bits }
     ensures few { result ≤ BAND_ROWS }
+    ensures above { bits % 64 < 2 ^ result }
 {
-    let mut rows = 0;
-    for bit in 0..BAND_ROWS {
-        if is_set(bits, bit) {
-            rows = bit + 1;
-        }
+    u32::BITS - u32::from(bits % 64).leading_zeros()
+}
+
+/// The greatest of these data bytes, or `?` if there is none.
+fn greatest(bytes: &[u8]) -> u8
+    requires { (k : ℕ) → k < length bytes.now → IsTrue (is_data (slice_index bytes.now k)) }
+    ensures most { (k : ℕ) → k < length bytes.now → slice_index bytes.now k ≤ result }
+    ensures sixel { (63 ≤ result) × (result ≤ 126) }
+{
+    let mut greatest = b'?';
+    for byte in bytes {
+        greatest = greatest.max(*byte);
     }
-    rows
+    greatest
 }
 
 impl Extent {
@@ -126,14 +135,36 @@ impl Extent {
         }
     }
 
-    /// Whether a stretch of so many sixels reaches no further than the commands before.
-    fn has_room(&self, columns: usize) -> bool
-        ensures { IsTrue result → (self.now.column + columns ≤ self.now.width)
-            × (band_rows * self.now.band + band_rows ≤ self.now.height) }
+    /// Whether a stretch of these sixels reaches no further than the commands before.
+    #[inline(always)]
+    fn has_room(&self, bytes: &[u8]) -> bool
+        requires { (k : ℕ) → k < length bytes.now → IsTrue (is_data (slice_index bytes.now k)) }
+        ensures across { IsTrue result → self.now.column + length bytes.now ≤ self.now.width }
+        ensures down { IsTrue result → (k : ℕ) → k < length bytes.now
+            → band_rows * self.now.band + depth (slice_index bytes.now k - 63) ≤ self.now.height }
     {
         self.column <= self.width
-            && columns <= (self.width - self.column) as usize
-            && u64::from(BAND_ROWS) * (u64::from(self.band) + 1) <= u64::from(self.height)
+            && bytes.len() <= (self.width - self.column) as usize
+            && (self.has_band() || self.has_rows(bytes))
+    }
+
+    /// Whether no sixel of the band reaches further down than the commands before.
+    #[inline(always)]
+    fn has_band(&self) -> bool
+        ensures { IsTrue result → band_rows * self.now.band + band_rows ≤ self.now.height }
+    {
+        u64::from(BAND_ROWS) * (u64::from(self.band) + 1) <= u64::from(self.height)
+    }
+
+    /// Whether none of these sixels reaches further down than the commands before. The greatest byte has the lowest bit
+    /// of all.
+    fn has_rows(&self, bytes: &[u8]) -> bool
+        requires { (k : ℕ) → k < length bytes.now → IsTrue (is_data (slice_index bytes.now k)) }
+        ensures { IsTrue result → (k : ℕ) → k < length bytes.now
+            → band_rows * self.now.band + depth (slice_index bytes.now k - 63) ≤ self.now.height }
+    {
+        let rows = depth(greatest(bytes) - b'?');
+        u64::from(BAND_ROWS) * u64::from(self.band) + u64::from(rows) <= u64::from(self.height)
     }
 }
 
@@ -183,7 +214,7 @@ impl Follower for Extent {
     }
 
     fn follow_stretch(&mut self, bytes: &[u8]) {
-        if self.has_room(bytes.len()) {
+        if self.has_room(bytes) {
             self.column += bytes.len() as u32;
         } else {
             self.follow_each(bytes);
