@@ -93,7 +93,7 @@ split_part prefix xs k n =
 -- ---- the end of the bytes
 
 -- what a reader says of the bytes that it has read
-abbrev Judges : Reader → Result (Unit {0}) Fault → Type 0
+abbrev pub Judges : Reader → Result (Unit {0}) Fault → Type 0
 Judges reader result =
     (events : List Placed) (bytes : List ℕ) → StandsAfter reader events bytes
     → MatchResult result (λ _. Document events bytes) (λ (fault : Fault). IsFaultOf bytes fault

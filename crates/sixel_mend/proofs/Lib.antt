@@ -4,6 +4,7 @@ pub mod SizeLemmas
 pub mod NumberLemmas
 pub mod MeasureLemmas
 pub mod FollowLemmas
+pub mod MeasuringLemmas
 pub mod TerminalLemmas
 pub mod MendLemmas
 pub mod RepeatLemmas

@@ -4,5 +4,6 @@ pub mod Mended
 pub mod Extents
 pub mod Measures
 pub mod Following
+pub mod Measuring
 pub mod Numbering
 pub mod Judging

@@ -178,7 +178,7 @@ fn follow_run_or_byte<F: Follower>(
 }
 
 /// Reads the bytes, and passes on the events that they complete.
-fn follow_bytes<F: Follower>(
+pub(crate) fn follow_bytes<F: Follower>(
     reader: &mut Reader,
     follower: &mut F,
     bytes: &[u8],

@@ -4,9 +4,11 @@
 mod extent;
 mod following;
 mod making;
+mod measuring;
 mod mending;
 mod numbering;
 mod terminal;
 
-pub use making::mend;
+pub use making::{mend, mend_measured};
+pub use measuring::Measurer;
 pub use mending::{MendFault, Mending};

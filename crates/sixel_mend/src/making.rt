@@ -4,22 +4,21 @@ ghost use Rattle.std.specs.Prelude.{◌≡◌, ◌&&◌, ℕ, Err, IfErr, IfOk, 
 ghost use Rattle.sixel_grammar.specs.declared.command.Event.{Event as AnEvent};
 ghost use Rattle.sixel_grammar.specs.declared.command.Placed.{Placed as Place};
 ghost use Rattle.sixel_grammar.specs.Document.{Document, events_of};
-ghost use Rattle.sixel_grammar.specs.Faults.{IsFaultOf};
 ghost use Rattle.sixel_model.specs.Pictures.{is_side};
 ghost use Rattle.sixel_model.specs.Profiles.{count_of};
 ghost use Rattle.sixel_terminal.specs.Drawings.{HasDrawn};
 ghost use Rattle.sixel_mend.specs.declared.mending.Mending.{Mending as AMending};
 ghost use Rattle.sixel_mend.specs.Judging.{IsReadingFault, judged};
-ghost use Rattle.sixel_mend.specs.Measures.{Measures};
+ghost use Rattle.sixel_mend.specs.Measuring.{HasMeasured};
 ghost use Rattle.sixel_mend.specs.Mended.{Mends, mended_colours};
 ghost use Rattle.sixel_mend.specs.Sizes.{IsSize};
 
-use crate::extent::Extent;
 use crate::following::{Follower, follow_document};
+use crate::measuring::Measurer;
 use crate::mending::{MendFault, Mending};
 use crate::numbering::picture_of;
 use crate::terminal::terminal_of;
-use sixel_grammar::{Event, Fault};
+use sixel_grammar::Event;
 use sixel_model::{MOST_SIDE, Picture, Profile};
 use sixel_terminal::{Drawing, Screen};
 use std::alloc::Global;
@@ -49,20 +48,25 @@ pub fn mend(
 ) -> Result<Picture, MendFault>
     ensures { Mends (count_of profile) mending.now bytes.now result }
 {
-    let (width, height) = size_of(bytes)?;
-    let screen = screen_of(alloc, mending, width, height, bytes)?;
-    picture_of(alloc, profile, width, height, screen.pixels())
+    let mut measurer = Measurer::new();
+    measurer.feed(bytes)?;
+    mend_measured(alloc, profile, mending, &measurer, bytes)
 }
 
-/// The extent of a document.
-fn extent_of(bytes: &[u8]) -> Result<Extent, Fault>
-    ensures measured { IfOk result (λ extent. (events : List Place) × Document events bytes.now
-        × Measures extent (events_of events)) }
-    ensures refused { IfErr result (IsFaultOf bytes.now) }
+/// As `mend`, of a string that this measurer has read. The string is read once more.
+pub fn mend_measured(
+    alloc: Global,
+    profile: Profile,
+    mending: &Mending,
+    measurer: &Measurer,
+    bytes: &[u8],
+) -> Result<Picture, MendFault>
+    requires { HasMeasured measurer.now bytes.now }
+    ensures { Mends (count_of profile) mending.now bytes.now result }
 {
-    let mut extent = Extent::new();
-    follow_document(&mut extent, bytes)?;
-    Ok(extent)
+    let (width, height) = size_of(measurer)?;
+    let screen = screen_of(alloc, mending, width, height, bytes)?;
+    picture_of(alloc, profile, width, height, screen.pixels())
 }
 
 /// Refuses a size that no picture may have.
@@ -79,14 +83,15 @@ fn judge(width: u32, height: u32) -> Result<(), MendFault>
 }
 
 /// The width and the height of the picture of a document, in pixels.
-fn size_of(bytes: &[u8]) -> Result<(u32, u32), MendFault>
+fn size_of(measurer: &Measurer) -> Result<(u32, u32), MendFault>
     ensures sides { IfOk result (λ sides. IsTrue (is_side sides.0 && is_side sides.1)) }
-    ensures sized { IfOk result (λ sides. (events : List Place) × Document events bytes.now
+    ensures sized { IfOk result (λ sides. (bytes : List ℕ) → HasMeasured measurer.now bytes
+        → (events : List Place) × Document events bytes
         × ((mending : AMending) → IsSize mending (events_of events) sides.0 sides.1)) }
-    ensures refused { IfErr result (λ fault. (registers : ℕ) (mending : AMending) →
-        Mends registers mending bytes.now (Err fault)) }
+    ensures refused { IfErr result (λ fault. (bytes : List ℕ) → HasMeasured measurer.now bytes
+        → (registers : ℕ) (mending : AMending) → Mends registers mending bytes (Err fault)) }
 {
-    let (width, height) = extent_of(bytes)?.size();
+    let (width, height) = measurer.extent()?.size();
     judge(width, height)?;
     Ok((width, height))
 }

@@ -8,17 +8,17 @@ pub returns-in_err-judge-clause-refused : goal.returns-in_err-judge-clause-refus
 returns-in_err-judge-clause-refused c =
     let exit = c.from_residual-in_err-judge in
     let failed = err_from_is_err_and exit.result exit.ensures.1 in
-    let d = c.in_ok-extent_of.ensures.measured in
     let w = c.size-width.result.0 in
     let h = c.size-width.result.1 in
     rw (failed.1, failed.2)
-    (λ registers m.
-    size_refused registers m c.args.bytes.now d.0 w h c.in_err-judge.field-0.0 d.1
-    (c.size-width.ensures m (events_of d.0) d.2) (sym c.judge.ensures ∙ c.in_err-judge.was))
+    (λ bytes measured registers m.
+    let d = c.in_ok-extent.ensures.measured bytes measured in
+    size_refused registers m bytes d.0 w h c.in_err-judge.field-0.0 d.1 (c.size-width.ensures m (events_of d.0) d.2)
+    (sym c.judge.ensures ∙ c.in_err-judge.was))
 
 pub returns-clause-sized : goal.returns-clause-sized
-returns-clause-sized c =
-    let d = c.in_ok-extent_of.ensures.measured in
+returns-clause-sized c = λ bytes measured.
+    let d = c.in_ok-extent.ensures.measured bytes measured in
     let w = c.size-width.result.0 in
     let h = c.size-width.result.1 in (
       d.0,

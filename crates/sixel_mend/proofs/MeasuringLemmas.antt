@@ -1,0 +1,35 @@
+-- Measuring a document while its bytes come.
+use Rattle.std.proofs.Common.{ℕ, ◌++◌, List, Ok, Err, IfErr, MatchResult, OnOk}
+use Rattle.std.specs.Prelude.{Result}
+use Rattle.sixel_grammar.specs.declared.command.Event.{Event}
+use Rattle.sixel_grammar.specs.declared.command.Placed.{Placed}
+use Rattle.sixel_grammar.specs.declared.fault.Fault.{Fault}
+use Rattle.sixel_grammar.specs.Document.{Document}
+use Rattle.sixel_grammar.specs.Faults.{IsFaultOf}
+use Rattle.sixel_mend.specs.declared.extent.Extent.{Extent}
+use Rattle.sixel_mend.specs.Following.{FollowsBytes, RefusesBytes}
+use Rattle.sixel_mend.specs.Measures.{Measures}
+use Rattle.sixel_mend.specs.Measuring.{HasMeasured, Measured}
+use Rattle.sixel_mend.proofs.FollowLemmas.{Judges}
+
+abbrev measures : Extent → Extent → List Event → Type 0
+measures first extent events = Measures extent events
+
+pub measured_more : (result : Result (Unit {0}) Fault) (now next : Measured) (bytes : List ℕ)
+    → OnOk result (FollowsBytes measures now.reader now.extent next.reader next.extent bytes)
+    → OnOk result ((before : List ℕ) → HasMeasured now before → HasMeasured next (before ++ bytes))
+measured_more (Ok u) now next bytes h = λ before a. h now.extent before a
+measured_more (Err f) now next bytes h = tt
+
+pub measured_refused : (result : Result (Unit {0}) Fault) (now : Measured) (bytes : List ℕ)
+    → IfErr result (RefusesBytes measures now.reader now.extent bytes)
+    → IfErr result (λ fault. (before : List ℕ) → HasMeasured now before → (rest : List ℕ)
+    → IsFaultOf ((before ++ bytes) ++ rest) fault)
+measured_refused (Ok u) now bytes h = tt
+measured_refused (Err f) now bytes h = λ before a rest. h now.extent before a rest
+
+pub measured_whole : (result : Result (Unit {0}) Fault) (now : Measured) (bytes : List ℕ) → Judges now.reader result
+    → HasMeasured now bytes
+    → MatchResult result (λ _. (events : List Placed) × Document events bytes) (IsFaultOf bytes)
+measured_whole (Ok u) now bytes judges a = (a.events, judges a.events bytes a.read)
+measured_whole (Err f) now bytes judges a = (judges a.events bytes a.read).0

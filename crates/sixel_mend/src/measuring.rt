@@ -1,0 +1,71 @@
+//! Measures a document while its bytes come.
+
+ghost use Rattle.std.specs.Prelude.{◌≡◌, ◌++◌, [], ℕ, IfErr, IfOk, List, MatchResult, OnOk};
+ghost use Rattle.sixel_grammar.specs.declared.command.Placed.{Placed as Place};
+ghost use Rattle.sixel_grammar.specs.Document.{Document, events_of};
+ghost use Rattle.sixel_grammar.specs.Faults.{IsFaultOf};
+ghost use Rattle.sixel_mend.specs.Measures.{Measures};
+ghost use Rattle.sixel_mend.specs.Measuring.{HasMeasured};
+
+use crate::extent::Extent;
+use crate::following::follow_bytes;
+use sixel_grammar::{Fault, Reader};
+use std::marker::Model;
+
+/// Reads a document piece by piece, and measures the picture that `mend` makes of it. `mend_measured` makes the picture
+/// without reading it for its size again.
+#[derive(Debug, Drop)]
+pub struct Measurer {
+    reader: Reader,
+    extent: Extent,
+}
+
+impl Model for Measurer {
+    ghost use Rattle.sixel_mend.specs.Measuring.{Measured};
+
+    ghost Value = { Measured };
+
+    ghost view = { λ m. record { reader = m.reader; extent = m.extent } };
+}
+
+impl Measurer {
+    /// A measurer that has read nothing.
+    pub fn new() -> Measurer
+        ensures { HasMeasured result [] }
+    {
+        Measurer {
+            reader: Reader::new(),
+            extent: Extent::new(),
+        }
+    }
+
+    /// Reads these bytes, and measures the commands that they complete. An `Err` is the fault of the bytes so far, and of
+    /// any that begin with them.
+    pub fn feed(&mut self, bytes: &[u8]) -> Result<(), Fault>
+        ensures measured { OnOk result ((before : List ℕ) → HasMeasured self.old before
+            → HasMeasured self.new (before ++ bytes.now)) }
+        ensures refused { IfErr result (λ fault. (before : List ℕ) → HasMeasured self.old before
+            → (rest : List ℕ) → IsFaultOf ((before ++ bytes.now) ++ rest) fault) }
+    {
+        follow_bytes(&mut self.reader, &mut self.extent, bytes)
+    }
+
+    /// Checks whether the bytes so far are a document, and returns their fault if not.
+    pub fn finish(&self) -> Result<(), Fault>
+        ensures { (bytes : List ℕ) → HasMeasured self.now bytes → MatchResult result
+            (λ _. (events : List Place) × Document events bytes) (IsFaultOf bytes) }
+    {
+        self.reader.finish()
+    }
+
+    /// The extent of a document.
+    pub(crate) fn extent(&self) -> Result<Extent, Fault>
+        ensures measured { IfOk result (λ extent. (bytes : List ℕ) → HasMeasured self.now bytes
+            → (events : List Place) × Document events bytes × Measures extent (events_of events)) }
+        ensures refused { IfErr result (λ fault. (bytes : List ℕ) → HasMeasured self.now bytes
+            → IsFaultOf bytes fault) }
+    {
+        self.reader.finish()?;
+        Ok(self.extent)
+    }
+}
