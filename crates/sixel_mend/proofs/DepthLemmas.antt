@@ -7,14 +7,9 @@ use Rattle.std.proofs.Math.Nat.{two-pow-succ}
 use Rattle.std.proofs.lemmas.Bool.{cases_lt, eq-eqb, eqb-true}
 use Rattle.std.proofs.lemmas.Nat.{div-add-mod', leading_length}
 use Rattle.std.proofs.lemmas.Nat.Bits.{bit_at_above, bit_at_cat_high, bit_at_cat_low}
+use Rattle.sixel_terminal.proofs.SixelLemmas.{low_bit}
 use Rattle.sixel_mend.specs.Extents.{depth}
 use Rattle.sixel_mend.proofs.ExtentLemmas.{is_depth, passes_within}
-
--- the six lowest bits
-low_bit : (bits k : ℕ) → k < 6 → bit_at (bits % 64) k ≡ bit_at bits k
-low_bit bits k lt =
-    let whole : (bits / 64) * 2 ^ 6 + bits % 64 ≡ bits = div-add-mod' bits 64 in
-    sym (bit_at_cat_low (bits / 64) 6 (bits % 64) k lt) ∙ ap (λ n. bit_at n k) whole
 
 -- the highest bit
 top_set : (n j : ℕ) → 2 ^ j ≤ n → n < 2 ^ suc j → bit_at n j ≡ 1

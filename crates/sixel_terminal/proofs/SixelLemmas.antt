@@ -1,6 +1,6 @@
 -- Painting a sixel bit by bit, and the bits that sixels have together.
 use Rattle.std.proofs.Common.{◌≡◌, ℕ, ◌+◌, ◌-◌, ◌*◌, ◌/◌, ◌%◌, ◌^◌, ◌<◌, ◌≤◌, Bool, true, false, ◌&&◌, ◌||◌, cond, List}
-use Rattle.std.proofs.Common.{length, get_or, nat_le, nat_lt, refl, sym, ap, ◌∙◌, arith, inl, inr}
+use Rattle.std.proofs.Common.{length, get_or, nat_le, nat_lt, refl, sym, ap, ap₂, ◌∙◌, arith, inl, inr}
 use Rattle.std.proofs.Common.{[], ◌∷◌, ◌==◌, ◌⊎◌, max, not, suc, zero, take, slice_set, bit_and, bit_or, w32}
 use Rattle.std.specs.List.{list_any}
 use Rattle.std.specs.Int.{bit_at, bit_not, trailing_zeros}
@@ -14,8 +14,15 @@ use Rattle.std.proofs.lemmas.List.Folds.{list_any_more}
 use Rattle.std.proofs.lemmas.Nat.{and_le_l}
 use Rattle.std.proofs.lemmas.Nat.Bits.{bit_at-lt, bit_at-trailing_zeros, bit_at-zero, bit_at_above, bit_at_clear_other}
 use Rattle.std.proofs.lemmas.Nat.Bits.{bit_at_clear_same, bit_at_or}
+use Rattle.std.proofs.lemmas.Nat.{div-add-mod'}
+use Rattle.std.proofs.lemmas.Nat.Bits.{bit_at_cat_low}
+use Rattle.sixel_model.specs.Geometry.{covers}
+use Rattle.sixel_model.specs.Positions.{any_below}
 use Rattle.sixel_model.proofs.RunLemmas.{in_row, same_test}
+use Rattle.sixel_terminal.specs.declared.pen.Pen.{Pen}
 use Rattle.sixel_terminal.specs.declared.pixel.Ink.{Ink}
+use Rattle.sixel_terminal.specs.Displays.{Display}
+use Rattle.sixel_terminal.specs.Steps.{is_before_edges, is_from_origin, pen_covers}
 use Rattle.sixel_terminal.specs.Canvases.{black}
 use Rattle.sixel_terminal.specs.Stretches.{AreJoined, IsSixelPainted, has_bit, is_in_sixel, is_stretched}
 use Rattle.sixel_terminal.proofs.StretchLemmas.{and_none, and_true, and_when, first_columns}
@@ -289,3 +296,40 @@ first_sixel left top x y bytes some =
     ∙ ap (λ (v : Bool). rows && v) (and_true own)
     ∙ ap (λ n. rows && has_bit (slice_index bytes n) (y - top)) here)
     ∙ sym (first_columns left top 6 1 x y bytes some)
+
+-- ---- a sixel without bits
+
+-- the six lowest bits
+pub low_bit : (bits k : ℕ) → k < 6 → bit_at (bits % 64) k ≡ bit_at bits k
+low_bit bits k lt =
+    let whole : (bits / 64) * 2 ^ 6 + bits % 64 ≡ bits = div-add-mod' bits 64 in
+    sym (bit_at_cat_low (bits / 64) 6 (bits % 64) k lt) ∙ ap (λ n. bit_at n k) whole
+
+none_below : (n : ℕ) (p : ℕ → Bool) → ((k : ℕ) → k < n → p k ≡ false) → any_below n p ≡ false
+unfolding any_below
+none_below zero p none = refl
+none_below (suc n) p none =
+    ap₂ (λ a b. a || b) (none n (omega arith)) (none_below n p (λ k lt. none k (omega (arith, lt))))
+
+and_last : (a b : Bool) → (a && b && false) ≡ false
+and_last true true = refl
+and_last true false = refl
+and_last false b = refl
+
+-- its columns cover no pixel
+pub blank_covers : (t : Display) (p : Pen) (count bits x y : ℕ) → bits % 64 ≡ 0 → pen_covers t p count bits x y ≡ false
+unfolding covers
+blank_covers t p count bits x y blank =
+    let px = x - t.choices.origin_x in
+    let py = y - t.choices.origin_y in
+    let covered = λ (b : Bool) (k : ℕ). b && nat_le ((6 * p.band + k) * p.height) py
+    && nat_lt py ((6 * p.band + k) * p.height + p.height) in
+    let clear = λ (k : ℕ) (lt : k < 6).
+    let bit : bit_at bits k ≡ 0 = sym (low_bit bits k lt) ∙ ap (λ n. bit_at n k) blank ∙ bit_at-zero k in
+    ap (λ n. covered (n == 1) k) bit in
+    let none = none_below 6 (λ k. covered (bit_at bits k == 1) k) clear in
+    ap (λ (v : Bool). is_from_origin t x y && ((nat_le p.column px && nat_lt px (p.column + count) && v)
+    && is_before_edges t p.declared x y)) none
+    ∙ ap (λ (v : Bool). is_from_origin t x y && (v && is_before_edges t p.declared x y))
+    (and_last (nat_le p.column px) (nat_lt px (p.column + count)))
+    ∙ and_none (is_from_origin t x y)

@@ -11,7 +11,7 @@ ghost use Rattle.sixel_terminal.specs.Canvases.{black};
 ghost use Rattle.sixel_terminal.specs.Displays.{registers_of};
 ghost use Rattle.sixel_terminal.specs.Drawing.{defined_on, taken_on};
 ghost use Rattle.sixel_terminal.specs.Steps.{ink_after_event, ink_by_colours, next_band, next_column, next_declared};
-ghost use Rattle.sixel_terminal.specs.Steps.{next_height, next_selected};
+ghost use Rattle.sixel_terminal.specs.Steps.{next_height, next_selected, pen_covers};
 
 use crate::choices::Ground;
 use crate::pen::{Pen, Sides};
@@ -180,6 +180,22 @@ impl Terminal {
         }
     }
 
+    /// Paints the set bits of `count` columns, from the pen on, in the selected register. Most long repeats are blank.
+    #[inline(always)]
+    fn paint_selected(&self, pen: Pen, colours: &[Colour], inks: &mut [Pixel], count: u16, bits: u8)
+        requires selected { pen.selected < length colours.now }
+        requires screen { length inks.old ≡ self.now.choices.screen_width * self.now.choices.screen_height }
+        ensures { EachIndex inks.old (λ i. slice_index_or inks.new i black
+            ≡ (if pen_covers self.now pen count bits (i % self.now.choices.screen_width)
+            (i / self.now.choices.screen_width)
+            then ink_by_colours self.now colours.now pen.selected else slice_index_or inks.old i black)) }
+    {
+        if bits % 64 == 0 {
+            return;
+        }
+        self.paint_columns(pen, count, bits, &self.ink(colours, pen.selected), inks);
+    }
+
     /// Paints what the command paints, with the pen and the colours before the command.
     #[inline(always)]
     pub(crate) fn paint(&self, pen: Pen, colours: &[Colour], inks: &mut [Pixel], command: Command)
@@ -191,12 +207,9 @@ impl Terminal {
             (i / self.now.choices.screen_width) (slice_index_or inks.old i black)) }
     {
         match command {
-            Command::Sixel(bits) => {
-                self.paint_columns(pen, 1, bits, &self.ink(colours, pen.selected), inks);
-            }
+            Command::Sixel(bits) => self.paint_selected(pen, colours, inks, 1, bits),
             Command::Repeat { count, bits } => {
-                let columns = self.columns_of(count);
-                self.paint_columns(pen, columns, bits, &self.ink(colours, pen.selected), inks);
+                self.paint_selected(pen, colours, inks, self.columns_of(count), bits);
             }
             Command::Raster { width, height, .. } => {
                 if let Ground::Filled(register) = self.choices.ground {

@@ -7,13 +7,13 @@ use Rattle.sixel_terminal.proofs.terminal.Terminal.paint.Goals as goal
 pub returns-in-Sixel : goal.returns-in-Sixel
 returns-in-Sixel c = λ i lt.
     rw c.in-Sixel.is
-    ((rw c.ink.ensures at c.paint_columns.ensures) i lt
+    (c.paint_selected.ensures i lt
     ∙ data_pixel c.args.self.now c.args.pen c.args.colours.now (Sixel c.in-Sixel.bits) _ _ _ refl)
 
 pub returns-in-Repeat : goal.returns-in-Repeat
 returns-in-Repeat c = λ i lt.
     rw c.in-Repeat.is
-    ((rw (c.ink-in-Repeat.ensures, c.columns_of-columns.ensures) at c.paint_columns-in-Repeat.ensures) i lt
+    ((rw c.columns_of.ensures at c.paint_selected-in-Repeat.ensures) i lt
     ∙ data_pixel c.args.self.now c.args.pen c.args.colours.now (Repeat c.in-Repeat.count c.in-Repeat.bits) _ _ _ refl)
 
 pub returns-in-Filled : goal.returns-in-Filled
@@ -21,7 +21,7 @@ returns-in-Filled c = λ i lt.
     let same : c.self.inside.choices.ground ≡ c.args.self.now.choices.ground =
     ap (λ (t : Display). t.choices.ground) c.self.view_is in
     rw c.in-Raster.is
-    ((rw c.ink-in-Filled.ensures at c.paint_box.ensures) i lt
+    ((rw c.ink.ensures at c.paint_box.ensures) i lt
     ∙ filled_pixel c.args.self.now c.args.pen c.args.colours.now c.in-Raster.pan c.in-Raster.pad c.in-Raster.width
     c.in-Raster.height c.in-Filled.register _ _ _ (sym same ∙ c.in-Filled.is))
 
