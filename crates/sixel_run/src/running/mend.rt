@@ -2,22 +2,22 @@
 
 ghost use Rattle.std.specs.Prelude.{◌≡◌, IfErr, IfOk, IfSome};
 ghost use Rattle.sixel_grammar.specs.Reading.{Explains, failures_after};
+ghost use Rattle.sixel_mend.specs.Measuring.{HasMeasured};
 ghost use Rattle.sixel_model.specs.Profiles.{count_of};
 ghost use Rattle.sixel_run.specs.declared.fault.RunFault.TheVariants.{Read};
 ghost use Rattle.sixel_run.specs.Outputs.{CountsWrites, MendGives, WroteBy, WroteNothing, failures_by};
 
-use super::show_box::read_on;
 use crate::fault::RunFault;
 use crate::task::Status;
-use sixel_grammar::{InputFault, Reader};
+use sixel_grammar::InputFault;
 use sixel_io::{PIECE, Sink, Source};
-use sixel_mend::Mending;
+use sixel_mend::{Measurer, Mending, mend_measured};
 use sixel_model::Profile;
 use std::alloc::Global;
 
 /// Reads the whole input, and writes the canonical sixel text of its mended picture. It doesn't flush.
 ///
-/// The size of the picture is known at the end only, so the bytes are kept. Nothing is allocated for the picture of a
+/// The size of the picture is known at the end only, so the bytes are kept, and measured while they come. Nothing is allocated for the picture of a
 /// string whose size no picture may have.
 pub fn mend<S: Source, K: Sink>(
     alloc: Global,
@@ -32,30 +32,32 @@ pub fn mend<S: Source, K: Sink>(
     ensures reads { (S.state input.new).failures ≡ failures_by Read result (S.state input.old).failures }
     ensures writes { CountsWrites result (K.state output.old).failures (K.state output.new).failures }
 {
-    let bytes = read_document(alloc, input)?;
-    let picture = sixel_mend::mend(alloc, profile, mending, &bytes)?;
+    let (bytes, measurer) = read_document(alloc, input)?;
+    let picture = mend_measured(alloc, profile, mending, &measurer, &bytes)?;
     match sixel_encode::encode(&picture, output) {
         Ok(()) => Ok(Status::Done),
         Err(_) => Err(RunFault::Write),
     }
 }
 
-/// The bytes of the document, up to the end of the source. It reads no piece after an invalid byte.
-fn read_document<S: Source>(alloc: Global, input: &mut S) -> Result<Vec<u8>, InputFault>
-    ensures read { IfOk result (λ bytes. IfSome (S.state input.old).remaining (λ told. told ≡ bytes.items)) }
+/// The bytes of the document, up to the end of the source, and what they measure. It reads no piece after an invalid
+/// byte.
+fn read_document<S: Source>(alloc: Global, input: &mut S) -> Result<(Vec<u8>, Measurer), InputFault>
+    ensures read { IfOk result (λ document. IfSome (S.state input.old).remaining (λ told. told ≡ document.0.items)) }
+    ensures measured { IfOk result (λ document. HasMeasured document.1 document.0.items) }
     ensures refused { IfErr result (λ fault. IfSome (S.state input.old).remaining (Explains fault)) }
     ensures failures { (S.state input.new).failures ≡ failures_after result (S.state input.old).failures }
 {
     let mut bytes = Vec::new(alloc);
-    let mut reader = Reader::new();
+    let mut measurer = Measurer::new();
     let mut piece = [0u8; PIECE];
     loop {
         let count = input.fill(&mut piece)?;
         if count == 0 {
-            reader.finish()?;
-            return Ok(bytes);
+            measurer.finish()?;
+            return Ok((bytes, measurer));
         }
-        read_on(&mut reader, &piece[..count])?;
+        measurer.feed(&piece[..count])?;
         bytes.extend_from_slice(&piece[..count])?;
     }
 }

@@ -1,4 +1,4 @@
-use Rattle.std.proofs.Common.{◌≡◌, ◌+◌, ◌<◌, ◌≤◌, ◌++◌, [], length, length-append, take, refl, sym, ap, subst, ◌∙◌}
+use Rattle.std.proofs.Common.{◌≡◌, ◌+◌, ◌<◌, ◌≤◌, ◌++◌, length, length-append, take, refl, sym, ap, subst, ◌∙◌}
 use Rattle.std.proofs.Common.{arith}
 use Rattle.std.specs.Io.KnownBytes.{Consumes}
 use Rattle.std.proofs.lemmas.List.{append-nil, length-take-le}
@@ -7,17 +7,16 @@ use Rattle.sixel_grammar.specs.declared.fault.InputFault.TheVariants.{Grammar}
 use Rattle.sixel_grammar.specs.Document.{most_bytes}
 use Rattle.sixel_grammar.specs.Faults.{IsFaultOf}
 use Rattle.sixel_grammar.specs.Reading.{Explains}
-use Rattle.sixel_grammar.specs.Standing.{StandsAfter, left_of}
+use Rattle.sixel_grammar.specs.Standing.{left_of}
+use Rattle.sixel_mend.specs.Measuring.{HasMeasured}
 use Rattle.sixel_grammar.proofs.SourceLemmas.{all_read, consumes-then, refused_early, take_none}
-use Rattle.sixel_judge.proofs.PieceLemmas.{not_failed}
 use Rattle.sixel_run.proofs.MendLemmas.{explained}
 use Rattle.sixel_run.proofs.StageLemmas.{nothing-taken}
 use Rattle.sixel_run.proofs.running.mend.read_document.Goals as goal
 
 pub loop-bytes-init : goal.loop-bytes-init
 loop-bytes-init g c = (
-  [],
-  subst (StandsAfter c.new-reader.result []) (sym c.new-bytes.ensures.items) c.new-reader.ensures,
+  subst (HasMeasured c.new-measurer.result) (sym c.new-bytes.ensures.items) c.new-measurer.ensures,
   subst (Consumes (g.S.Source.state c.args.input.now).remaining (g.S.Source.state c.args.input.now).remaining)
       (sym c.new-bytes.ensures.items) (nothing-taken (g.S.Source.state c.args.input.now).remaining),
   refl,
@@ -34,30 +33,28 @@ returns-in_err-finish-clause-refused g c =
     let failed = err_from_is_err_and c.from_residual-in_err-finish.result c.from_residual-in_err-finish.ensures.1 in
     rw (failed.1, failed.2)
     (all_read _ _ (bytes ++ take c.in_ok-count.count c.fill.new.piece) (Explains (Grammar c.in_err-finish.field-0.0))
-    (consumes-then _ _ _ bytes (take c.in_ok-count.count c.fill.new.piece) i.2 b.0) (b.1 z some)
+    (consumes-then _ _ _ bytes (take c.in_ok-count.count c.fill.new.piece) i.1 b.0) (b.1 z some)
     (subst (λ t. IsFaultOf t c.in_err-finish.field-0.0) (sym (ap (λ t. bytes ++ t) none ∙ append-nil bytes))
-    (c.in_err-finish.ensures.answer i.0 bytes i.1).0))
+    (c.in_err-finish.ensures bytes i.0)))
 
-pub returns-in_err-read_on-clause-refused : goal.returns-in_err-read_on-clause-refused
-returns-in_err-read_on-clause-refused g c =
+pub returns-in_err-feed-clause-refused : goal.returns-in_err-feed-clause-refused
+returns-in_err-feed-clause-refused g c =
     let i = c.loop-bytes.invariant in
     let bytes = c.loop-bytes.bytes.items in
-    let exit = c.from_residual-in_err-read_on in
+    let exit = c.from_residual-in_err-feed in
     let failed = err_from_is_err_and exit.result exit.ensures.1 in
     rw (failed.1, failed.2)
-    (refused_early _ _ _ (bytes ++ take c.in_ok-count.count c.fill.new.piece)
-    (consumes-then _ _ _ bytes (take c.in_ok-count.count c.fill.new.piece) i.2 c.in_ok-count.ensures.bytes.0)
-    (c.in_err-read_on.ensures.refused i.0 bytes i.1))
+    (refused_early _ _ (Grammar c.in_err-feed.field-0.0) (bytes ++ take c.in_ok-count.count c.fill.new.piece)
+    (consumes-then _ _ _ bytes (take c.in_ok-count.count c.fill.new.piece) i.1 c.in_ok-count.ensures.bytes.0)
+    (c.in_err-feed.ensures.refused bytes i.0))
 
-pub returns-in_err-read_on-clause-failures : goal.returns-in_err-read_on-clause-failures
-returns-in_err-read_on-clause-failures g c =
+pub returns-in_err-feed-clause-failures : goal.returns-in_err-feed-clause-failures
+returns-in_err-feed-clause-failures g c =
     let i = c.loop-bytes.invariant in
-    let exit = c.from_residual-in_err-read_on in
+    let exit = c.from_residual-in_err-feed in
     let failed = err_from_is_err_and exit.result exit.ensures.1 in
-    let h = c.in_err-read_on.ensures.refused i.0 c.loop-bytes.bytes.items i.1 in
     rw (failed.1, failed.2)
-    (◌∙◌ {b = (g.S.Source.state c.loop-bytes.input).failures} c.in_ok-count.ensures.failures i.3
-    ∙ not_failed (Unit {0}) c.in_err-read_on.field-0.0 _ _ h)
+    (◌∙◌ {b = (g.S.Source.state c.loop-bytes.input).failures} c.in_ok-count.ensures.failures i.2)
 
 pub returns-in_err-extend_from_slice-clause-refused : goal.returns-in_err-extend_from_slice-clause-refused
 returns-in_err-extend_from_slice-clause-refused g c =
@@ -69,14 +66,12 @@ pub loop-bytes-preserved : goal.loop-bytes-preserved
 loop-bytes-preserved g c =
     let i = c.loop-bytes.invariant in
     let bytes = c.loop-bytes.bytes.items in
-    let f = c.in_ok-read_on.ensures.read i.0 bytes i.1 in
     let more = c.in_ok-extend_from_slice.ensures.items in (
-      i.0 ++ f.0,
-      subst (StandsAfter c.read_on.new.reader (i.0 ++ f.0)) (sym more) f.1,
+      subst (HasMeasured c.feed.new.self) (sym more) (c.in_ok-feed.ensures.measured bytes i.0),
       subst (Consumes (g.S.Source.state c.args.input.now).remaining (g.S.Source.state c.fill.new.self).remaining)
           (sym more)
-          (consumes-then _ _ _ bytes (take c.in_ok-count.count c.fill.new.piece) i.2 c.in_ok-count.ensures.bytes.0),
-      cc (c.in_ok-count.ensures.failures, i.3),
+          (consumes-then _ _ _ bytes (take c.in_ok-count.count c.fill.new.piece) i.1 c.in_ok-count.ensures.bytes.0),
+      cc (c.in_ok-count.ensures.failures, i.2),
     )
 
 pub returns-then-count-eq0-clause-read : goal.returns-then-count-eq0-clause-read
@@ -88,16 +83,16 @@ returns-then-count-eq0-clause-read g c =
     let none = take_none c.in_ok-count.count c.fill.new.piece z in
     let some : 0 < length c.fill.new.piece = omega arith in
     all_read _ _ (bytes ++ take c.in_ok-count.count c.fill.new.piece) (λ told. told ≡ bytes)
-    (consumes-then _ _ _ bytes (take c.in_ok-count.count c.fill.new.piece) i.2 b.0) (b.1 z some)
+    (consumes-then _ _ _ bytes (take c.in_ok-count.count c.fill.new.piece) i.1 b.0) (b.1 z some)
     (ap (λ t. bytes ++ t) none ∙ append-nil bytes)
 
 pub loop-bytes-smaller : goal.loop-bytes-smaller
 loop-bytes-smaller g c =
     let i = c.loop-bytes.invariant in
     let bytes = c.loop-bytes.bytes.items in
-    let old : left_of c.loop-bytes.reader + length bytes ≡ most_bytes = i.1.left in
-    let new : left_of c.read_on.new.reader + length (bytes ++ take c.in_ok-count.count c.fill.new.piece) ≡ most_bytes =
-    (c.in_ok-read_on.ensures.read i.0 bytes i.1).1.left in
+    let old : left_of c.loop-bytes.measurer.reader + length bytes ≡ most_bytes = i.0.read.left in
+    let new : left_of c.feed.new.self.reader + length (bytes ++ take c.in_ok-count.count c.fill.new.piece)
+    ≡ most_bytes = (c.in_ok-feed.ensures.measured bytes i.0).read.left in
     let some : 0 < c.in_ok-count.count = omega arith in
     let long : c.in_ok-count.count ≤ length c.fill.new.piece =
     omega (arith, c.in_ok-count.ensures.bound, c.fill.auto.piece) in
@@ -109,3 +104,6 @@ loop-bytes-smaller g c =
       length-append bytes (take c.in_ok-count.count c.fill.new.piece),
       length-take-le c.in_ok-count.count c.fill.new.piece long,
     )
+
+pub returns-then-count-eq0-clause-measured : goal.returns-then-count-eq0-clause-measured
+returns-then-count-eq0-clause-measured g c = c.loop-bytes.invariant.0
