@@ -3,20 +3,21 @@ use Rattle.std.proofs.Common.{◌≡◌, ℕ, ◌+◌, ◌*◌, ◌<◌, ◌≤�
 use Rattle.std.proofs.Common.{length-append, suc, zero, add-one, ◌==◌, ◌/◌, ◌%◌, ◌^◌, ◌-◌, cond, map, not, w8, ◌∷◌}
 use Rattle.std.proofs.Common.{◌++◌, length, take, get_or, replicate, refl, sym, ap, ap₂, subst, ◌∙◌, arith, append-nil}
 use Rattle.std.proofs.Common.{inl, inr, append_assoc, length-set}
-use Rattle.std.specs.Prelude.{slice_set}
+use Rattle.std.specs.Prelude.{bit_or, slice_set}
 use Rattle.std.specs.List.{list_any, position_from}
 use Rattle.std.proofs.Math.Nat.{zero-div}
 use Rattle.std.proofs.lemmas.Bool.{cases_eq, cases_lt, eqb-true, not-false}
 use Rattle.std.proofs.lemmas.Grind.{get_or-set_at, replicate_next}
 use Rattle.std.proofs.lemmas.List.{get_or-replicate, get_or-set_other, length-replicate, length-take, take-append-drop}
 use Rattle.std.proofs.lemmas.List.{get_or-append_right, get_or-take, take_more}
+use Rattle.std.proofs.lemmas.Nat.{le_or_l, le_or_r}
 use Rattle.std.proofs.lemmas.Simd.{bit_mask_l, get_or-chunk, get_or-zip2, length-chunk, length-zip2, mask_l-mod}
 use Rattle.std.proofs.lemmas.Simd.{tops_compared}
 use lib.Lanes.{chunk, mask_l, top, zip2}
 use Rattle.sixel_model.specs.Colours.{is_same}
 use Rattle.sixel_model.specs.Pictures.{PictureValue}
 use Rattle.sixel_ppm.specs.PpmColours.{KeepsRegisters}
-use Rattle.sixel_ppm.specs.PpmPixelCache.{AreHits, AreSame, IsHit, Knows, PutsHits, key_of}
+use Rattle.sixel_ppm.specs.PpmPixelCache.{AreHits, AreSame, IsHit, Knows, PutsHits, entry_of, place_of}
 use Rattle.sixel_ppm.specs.PpmReading.{◌>>=◌, colour_of, distinct, picture_of, pixels, with_colour}
 use Rattle.sixel_ppm.specs.PpmSamples.{HasRead, HoldsPixels, KnowsLast, Leads, PutsPixels, registers_in}
 use Rattle.sixel_model.specs.declared.colour.Parts.{Parts}
@@ -29,65 +30,126 @@ use Rattle.sixel_ppm.specs.declared.ppm.samples.Samples.{Samples}
 use Rattle.sixel_ppm.proofs.PpmColourLemmas.{index_among, numbered_before, position_then_any}
 use Rattle.sixel_ppm.proofs.PpmSampleLemmas.{budget_whole, holds_more, leads_none, pixel_leads_on, pixel_led}
 
--- ---- samples as one number
+-- ---- entries
 
--- two pixels with the same key have the same samples
-same_red : (red green blue r g b : ℕ) → red < 256 → green < 256 → blue < 256 → r < 256 → g < 256 → b < 256
-    → key_of red green blue ≡ key_of r g b → red ≡ r
-same_red red green blue r g b r₁ g₁ b₁ r₂ g₂ b₂ e = omega (arith, e)
+-- the place of an entry is one of the cache's
+pub place_within : (key : ℕ) → place_of key < 4096
+unfolding place_of
+place_within key = omega arith
 
-same_green : (red green blue r g b : ℕ) → red < 256 → green < 256 → blue < 256 → r < 256 → g < 256 → b < 256
-    → key_of red green blue ≡ key_of r g b → green ≡ g
-same_green red green blue r g b r₁ g₁ b₁ r₂ g₂ b₂ e = omega (arith, e)
+-- an entry with register 0, and that of the same samples with any register
+key_with : (red green blue register : ℕ) → entry_of red green blue 0 + register ≡ entry_of red green blue register
+key_with red green blue register = omega arith
 
-same_blue : (red green blue r g b : ℕ) → red < 256 → green < 256 → blue < 256 → r < 256 → g < 256 → b < 256
-    → key_of red green blue ≡ key_of r g b → blue ≡ b
-same_blue red green blue r g b r₁ g₁ b₁ r₂ g₂ b₂ e = omega (arith, e)
+-- entries are equal only if the samples and the registers are
+same_red : (red green blue x r g b y : ℕ) → red < 256 → green < 256 → blue < 256 → x < 256 → r < 256 → g < 256 → b < 256
+    → y < 256 → entry_of red green blue x ≡ entry_of r g b y → red ≡ r
+same_red red green blue x r g b y r₁ g₁ b₁ x₁ r₂ g₂ b₂ y₂ e = omega (arith, e)
+
+same_green : (red green blue x r g b y : ℕ) → red < 256 → green < 256 → blue < 256 → x < 256 → r < 256 → g < 256
+    → b < 256 → y < 256 → entry_of red green blue x ≡ entry_of r g b y → green ≡ g
+same_green red green blue x r g b y r₁ g₁ b₁ x₁ r₂ g₂ b₂ y₂ e = omega (arith, e)
+
+same_blue : (red green blue x r g b y : ℕ) → red < 256 → green < 256 → blue < 256 → x < 256 → r < 256 → g < 256
+    → b < 256 → y < 256 → entry_of red green blue x ≡ entry_of r g b y → blue ≡ b
+same_blue red green blue x r g b y r₁ g₁ b₁ x₁ r₂ g₂ b₂ y₂ e = omega (arith, e)
+
+same_register : (red green blue x r g b y : ℕ) → red < 256 → green < 256 → blue < 256 → x < 256 → r < 256 → g < 256
+    → b < 256 → y < 256 → entry_of red green blue x ≡ entry_of r g b y → x ≡ y
+same_register red green blue x r g b y r₁ g₁ b₁ x₁ r₂ g₂ b₂ y₂ e = omega (arith, e)
+
+-- an entry that is a whole number of samples has register 0
+whole_key : (red green blue x n : ℕ) → x < 256 → entry_of red green blue x ≡ 256 * n
+    → entry_of red green blue 0 ≡ 256 * n
+whole_key red green blue x n lt e = omega (arith, lt, e)
+
+-- four numbers whose bits together are below 256
+pub four_below : (a b c d : ℕ) → bit_or (bit_or (bit_or a b) c) d < 256 → (a < 256) × (b < 256) × (c < 256) × (d < 256)
+four_below a b c d lt =
+    let ab = bit_or a b in
+    let abc = bit_or ab c in (
+      omega (arith, lt, le_or_l a b, le_or_l ab c, le_or_l abc d),
+      omega (arith, lt, le_or_r a b, le_or_l ab c, le_or_l abc d),
+      omega (arith, lt, le_or_r ab c, le_or_l abc d),
+      omega (arith, lt, le_or_r abc d),
+    )
 
 -- ---- what the cache holds
 
--- an empty cache: its keys are above that of any pixel
+place_of_nothing : place_of 0 ≡ 0
+unfolding place_of
+place_of_nothing = refl
+
+place_elsewhere : place_of 256 ≡ 887
+unfolding place_of
+place_elsewhere = refl
+
+-- an empty cache: each entry belongs in another place
 pub none_cached : (cache : PixelCache) (maxval : ℕ) (palette : List (Option Parts))
-    → cache.keys ≡ replicate 4096 4294967295 → cache.registers ≡ replicate 4096 0 → Knows cache maxval palette
-none_cached cache maxval palette keys registers = record {
-  keys = ap (λ (xs : List ℕ). length xs) keys ∙ length-replicate {A = ℕ} 4096 4294967295;
-  registers = ap (λ (xs : List ℕ). length xs) registers ∙ length-replicate {A = ℕ} 4096 0;
-  hits = λ i red green blue lt r g b e.
-      let none : get_or cache.keys i 0 ≡ 4294967295 =
-      ap (λ (xs : List ℕ). get_or xs i 0) keys ∙ get_or-replicate {A = ℕ} 4096 i 4294967295 0 lt in
-      absurd (omega (arith, none, e));
-}
+    → cache.entries ≡ slice_set (replicate 4096 0) 0 256 → Knows cache maxval palette
+none_cached cache maxval palette is =
+    let zeros : List ℕ = replicate 4096 0 in
+    let many : length zeros ≡ 4096 = length-replicate {A = ℕ} 4096 0 in
+    record {
+      long = ap (λ (xs : List ℕ). length xs) is ∙ length-set zeros 0 256 ∙ many;
+      hits = λ red green blue register r g b x e.
+          let key = entry_of red green blue 0 in
+          let at : get_or (slice_set zeros 0 256) (place_of key) 0 ≡ entry_of red green blue register =
+          ap (λ (xs : List ℕ). get_or xs (place_of key) 0) (sym is) ∙ e in
+          elim (cases_eq (place_of key) 0) [
+            | inl first ↦
+                let its : entry_of red green blue register ≡ 256 * 1 =
+                sym at ∙ get_or-set_at zeros 0 (place_of key) 256 0 first (omega (arith, many)) in
+                let key_is : key ≡ 256 = whole_key red green blue register 1 x its in
+                absurd (omega (arith, first, ap (λ n. place_of n) key_is, place_elsewhere))
+            | inr other ↦
+                let its : entry_of red green blue register ≡ 256 * 0 =
+                sym at ∙ get_or-set_other zeros 0 (place_of key) 256 0 other
+                ∙ get_or-replicate {A = ℕ} 4096 (place_of key) 0 0 (place_within key) in
+                let key_is : key ≡ 0 = whole_key red green blue register 0 x its in
+                absurd (other (ap (λ n. place_of n) key_is ∙ place_of_nothing))
+          ];
+    }
 
 hit_as : (maxval : ℕ) (palette : List (Option Parts)) (red green blue register r g b x : ℕ) → red ≡ r → green ≡ g
     → blue ≡ b → register ≡ x → IsHit maxval palette red green blue register → IsHit maxval palette r g b x
 hit_as maxval palette red green blue register r g b x e₁ e₂ e₃ e₄ hit = rw (sym e₁, sym e₂, sym e₃, sym e₄) hit
 
+-- what was found in the place of a pixel
+pub found_hit : (cache : PixelCache) (maxval : ℕ) (palette : List (Option Parts)) (red green blue key register : ℕ)
+    → red < 256 → green < 256 → blue < 256 → register < 256 → key ≡ entry_of red green blue 0
+    → get_or cache.entries (place_of key) 0 ≡ key + register → Knows cache maxval palette
+    → IsHit maxval palette red green blue register
+found_hit cache maxval palette red green blue key register rs gs bs xs is at knows =
+    knows.hits red green blue register rs gs bs xs
+    (ap (λ n. get_or cache.entries (place_of n) 0) (sym is) ∙ at ∙ ap (λ n. n + register) is
+    ∙ key_with red green blue register)
+
 -- the cache with one more pixel
 pub keeps : (cache next : PixelCache) (maxval : ℕ) (palette : List (Option Parts))
     (place key red green blue register : ℕ)
-    → next.keys ≡ slice_set cache.keys place key → next.registers ≡ slice_set cache.registers place register
-    → place < 4096 → red < 256 → green < 256 → blue < 256 → key ≡ key_of red green blue → Knows cache maxval palette
+    → next.entries ≡ slice_set cache.entries place (key + register) → place ≡ place_of key → red < 256 → green < 256
+    → blue < 256 → register < 256 → key ≡ entry_of red green blue 0 → Knows cache maxval palette
     → IsHit maxval palette red green blue register → Knows next maxval palette
-keeps cache next maxval palette place key red green blue register keys registers within rs gs bs is knows hit = record {
-  keys = ap (λ (xs : List ℕ). length xs) keys ∙ length-set cache.keys place key ∙ knows.keys;
-  registers = ap (λ (xs : List ℕ). length xs) registers ∙ length-set cache.registers place register ∙ knows.registers;
-  hits = λ i r g b lt r₂ g₂ b₂ e.
-      let at : get_or (slice_set cache.keys place key) i 0 ≡ key_of r g b =
-      ap (λ (xs : List ℕ). get_or xs i 0) (sym keys) ∙ e in
-      let its = ap (λ (xs : List ℕ). get_or xs i 0) registers in
+keeps cache next maxval palette place key red green blue register entries at rs gs bs xs is knows hit = record {
+  long = ap (λ (es : List ℕ). length es) entries ∙ length-set cache.entries place (key + register) ∙ knows.long;
+  hits = λ r g b x r₂ g₂ b₂ x₂ e.
+      let i = place_of (entry_of r g b 0) in
+      let entry : get_or (slice_set cache.entries place (key + register)) i 0 ≡ entry_of r g b x =
+      ap (λ (es : List ℕ). get_or es i 0) (sym entries) ∙ e in
       elim (cases_eq i place) [
         | inl same ↦
-            let one : key_of red green blue ≡ key_of r g b =
-            sym is ∙ sym (get_or-set_at cache.keys place i key 0 same (omega (arith, knows.keys))) ∙ at in
-            hit_as maxval palette red green blue register r g b _
-            (same_red red green blue r g b rs gs bs r₂ g₂ b₂ one)
-            (same_green red green blue r g b rs gs bs r₂ g₂ b₂ one)
-            (same_blue red green blue r g b rs gs bs r₂ g₂ b₂ one)
-            (sym (its ∙ get_or-set_at cache.registers place i register 0 same (omega (arith, knows.registers)))) hit
+            let one : entry_of red green blue register ≡ entry_of r g b x =
+            sym (key_with red green blue register) ∙ ap (λ n. n + register) (sym is)
+            ∙ sym (get_or-set_at cache.entries place i (key + register) 0 same
+            (omega (arith, knows.long, at, place_within key))) ∙ entry in
+            hit_as maxval palette red green blue register r g b x
+            (same_red red green blue register r g b x rs gs bs xs r₂ g₂ b₂ x₂ one)
+            (same_green red green blue register r g b x rs gs bs xs r₂ g₂ b₂ x₂ one)
+            (same_blue red green blue register r g b x rs gs bs xs r₂ g₂ b₂ x₂ one)
+            (same_register red green blue register r g b x rs gs bs xs r₂ g₂ b₂ x₂ one) hit
         | inr other ↦
-            hit_as maxval palette r g b (get_or cache.registers i 0) r g b _ refl refl refl
-            (sym (its ∙ get_or-set_other cache.registers place i register 0 other))
-            (knows.hits i r g b lt r₂ g₂ b₂ (sym (get_or-set_other cache.keys place i key 0 other) ∙ at))
+            knows.hits r g b x r₂ g₂ b₂ x₂ (sym (get_or-set_other cache.entries place i (key + register) 0 other) ∙ entry)
       ];
 }
 
@@ -136,6 +198,31 @@ hits_put maxval palette bytes count register old before new room hit pushed put 
       subst (λ (t : List ℕ). AreHits maxval palette t (put.0 ++ register ∷ [])) (sym prefix)
           (hits_more maxval palette (take (3 * count) bytes) put.0 _ _ _ register put.2 hit),
     )
+
+-- four more pixels
+pub hits_put_four : (maxval : ℕ) (palette : List (Option Parts)) (bytes : List ℕ) (count a b c d : ℕ)
+    (old before one two three new : List ℕ) → 3 * (count + 4) ≤ length bytes
+    → IsHit maxval palette (get_or bytes (3 * count) 0) (get_or bytes (3 * count + 1) 0)
+    (get_or bytes (3 * count + 2) 0) a
+    → IsHit maxval palette (get_or bytes (3 * (count + 1)) 0) (get_or bytes (3 * (count + 1) + 1) 0)
+    (get_or bytes (3 * (count + 1) + 2) 0) b
+    → IsHit maxval palette (get_or bytes (3 * (count + 2)) 0) (get_or bytes (3 * (count + 2) + 1) 0)
+    (get_or bytes (3 * (count + 2) + 2) 0) c
+    → IsHit maxval palette (get_or bytes (3 * (count + 3)) 0) (get_or bytes (3 * (count + 3) + 1) 0)
+    (get_or bytes (3 * (count + 3) + 2) 0) d
+    → one ≡ before ++ a ∷ [] → two ≡ one ++ b ∷ [] → three ≡ two ++ c ∷ [] → new ≡ three ++ d ∷ []
+    → PutsHits maxval palette (take (3 * count) bytes) old before
+    → PutsHits maxval palette (take (3 * (count + 4)) bytes) old new
+hits_put_four maxval palette bytes count a b c d old before one two three new room h₁ h₂ h₃ h₄ e₁ e₂ e₃ e₄ put =
+    let to = λ (n m : ℕ) (xs : List ℕ) (e : n ≡ m) (p : PutsHits maxval palette (take (3 * n) bytes) old xs).
+    subst (λ k. PutsHits maxval palette (take (3 * k) bytes) old xs) e p in
+    let first = hits_put maxval palette bytes count a old before one (omega (arith, room)) h₁ e₁ put in
+    let second = hits_put maxval palette bytes (count + 1) b old one two (omega (arith, room)) h₂ e₂ first in
+    let third = hits_put maxval palette bytes (count + 2) c old two three (omega (arith, room)) h₃ e₃
+    (to (count + 1 + 1) (count + 2) two (omega arith) second) in
+    let fourth = hits_put maxval palette bytes (count + 3) d old three new (omega (arith, room)) h₄ e₄
+    (to (count + 2 + 1) (count + 3) three (omega arith) third) in
+    to (count + 3 + 1) (count + 4) new (omega arith) fourth
 
 long_hits : (maxval : ℕ) (palette : List (Option Parts)) (samples xs : List ℕ) → AreHits maxval palette samples xs
     → length samples ≡ 3 * length xs
@@ -307,15 +394,14 @@ group_repeated maxval palette bytes first before new count end some stop room sa
 pub still_cached : (cache : PixelCache) (maxval : ℕ) (old new : List (Option Parts)) → KeepsRegisters old new
     → Knows cache maxval old → Knows cache maxval new
 still_cached cache maxval old new kept knows = record {
-  keys = knows.keys;
-  registers = knows.registers;
-  hits = λ i red green blue lt r g b e.
-      let hit = knows.hits i red green blue lt r g b e in
+  long = knows.long;
+  hits = λ red green blue register r g b x e.
+      let hit = knows.hits red green blue register r g b x e in
       record {
         good_red = hit.good_red;
         good_green = hit.good_green;
         good_blue = hit.good_blue;
-        first = kept (colour_of maxval red green blue) (get_or cache.registers i 0) hit.first;
+        first = kept (colour_of maxval red green blue) register hit.first;
       };
 }
 

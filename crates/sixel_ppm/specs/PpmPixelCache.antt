@@ -1,14 +1,18 @@
 -- The cache of registers by samples. Only contracts of private functions cite these.
-use Rattle.std.specs.Prelude.{◌≡◌, ◌<◌, ◌≤◌, ◌+◌, ◌*◌, ℕ, Option, Some, List, [], ◌∷◌, ◌++◌, get_or, length, position}
-use Rattle.std.specs.Prelude.{take}
+use Rattle.std.specs.Prelude.{◌≡◌, ◌<◌, ◌≤◌, ◌+◌, ◌*◌, ◌%◌, ◌/◌, ◌^◌, ℕ, Option, Some, List, [], ◌∷◌, ◌++◌}
+use Rattle.std.specs.Prelude.{get_or, length, position, take}
 use Rattle.sixel_model.specs.Colours.{is_entry}
 use Rattle.sixel_ppm.specs.PpmReading.{colour_of}
 use Rattle.sixel_model.specs.declared.colour.Parts.{Parts}
 use Rattle.sixel_ppm.specs.declared.ppm.pixel_cache.PixelCache.{PixelCache}
 
--- the samples of a pixel as one number
-abbrev pub key_of : ℕ → ℕ → ℕ → ℕ
-key_of red green blue = red + 256 * green + 65536 * blue
+-- the samples of a pixel and its register as one number
+abbrev pub entry_of : ℕ → ℕ → ℕ → ℕ → ℕ
+entry_of red green blue register = 256 * red + 65536 * green + 16777216 * blue + register
+
+-- the place of a pixel in the cache, by its entry with register 0
+unfoldable pub place_of : ℕ → ℕ
+place_of key = key * 2654435761 % 2 ^ 32 / 2 ^ 20
 
 -- the pixel's samples are at most the maximum, and its register is the first one of its colour
 pub record IsHit (maxval : ℕ) (palette : List (Option Parts)) (red green blue register : ℕ) : Type 0 where
@@ -17,13 +21,12 @@ pub record IsHit (maxval : ℕ) (palette : List (Option Parts)) (red green blue 
   pub good_blue : blue ≤ maxval
   pub first : position (is_entry (colour_of maxval red green blue)) palette ≡ Some register
 
--- each register in the cache is correct
+-- each register that is in its pixel's place is correct
 pub record Knows (cache : PixelCache) (maxval : ℕ) (palette : List (Option Parts)) : Type 0 where
-  pub keys : length cache.keys ≡ 4096
-  pub registers : length cache.registers ≡ 4096
-  pub hits : (i red green blue : ℕ) → i < 4096 → red < 256 → green < 256 → blue < 256
-      → get_or cache.keys i 0 ≡ key_of red green blue
-      → IsHit maxval palette red green blue (get_or cache.registers i 0)
+  pub long : length cache.entries ≡ 4096
+  pub hits : (red green blue register : ℕ) → red < 256 → green < 256 → blue < 256 → register < 256
+      → get_or cache.entries (place_of (entry_of red green blue 0)) 0 ≡ entry_of red green blue register
+      → IsHit maxval palette red green blue register
 
 -- the pixels with these samples have these registers
 abbrev pub AreHits : ℕ → List (Option Parts) → List ℕ → List ℕ → Type 0

@@ -1,8 +1,8 @@
 //! A cache of the registers of earlier pixels, by their samples.
 
 ghost use Rattle.std.specs.Prelude.{◌≡◌, ◌≤◌, ◌<◌, ◌+◌, ◌-◌, ◌*◌, ◌++◌, ℕ, IfSome, List, Option, true, length};
-ghost use Rattle.std.specs.Prelude.{replicate, slice_index, take, vec_capacity, vec_len};
-ghost use Rattle.sixel_ppm.specs.PpmPixelCache.{AreSame, GoesOn, IsHit, Knows, PutsHits, key_of};
+ghost use Rattle.std.specs.Prelude.{false, get_or, replicate, slice_index, take, vec_capacity, vec_len};
+ghost use Rattle.sixel_ppm.specs.PpmPixelCache.{AreSame, GoesOn, IsHit, Knows, PutsHits, entry_of, place_of};
 ghost use Rattle.sixel_model.specs.declared.colour.Parts.{Parts};
 
 use std::simd::prelude::*;
@@ -10,33 +10,60 @@ use std::simd::prelude::*;
 /// How many pixels the cache has room for.
 const PLACES: usize = 4096;
 
-/// A key that no pixel has.
-const NO_KEY: u32 = u32::MAX;
+/// An entry that doesn't belong in the first place, so that this place is empty with it. Any other is empty with 0.
+const ELSEWHERE: u32 = 256;
 
 /// How many pixels are compared at once, each with the one before it.
 const GROUP: usize = 16;
 
-/// The registers of some earlier pixels. A multiplicative hash of the samples gives the slot of a pixel; a pixel with
+/// How many pixels are looked up before one test of all of them.
+const FOUR: usize = 4;
+
+/// The registers of some earlier pixels. A multiplicative hash of the samples gives the place of a pixel; a pixel with
 /// other samples may have overwritten it.
+///
+/// An entry has the register in its lowest byte, and the samples in those above.
 #[derive(Debug, Drop)]
 pub(crate) struct PixelCache {
-    keys: [u32; PLACES],
-    registers: [u8; PLACES],
+    entries: [u32; PLACES],
 }
 
-/// The samples of a pixel as one number.
+/// The entry of a pixel with register 0.
+#[inline]
 fn key_of(red: u8, green: u8, blue: u8) -> u32
-    ensures value { result ≡ key_of red green blue }
-    ensures most { result < 16777216 }
+    ensures value { result ≡ entry_of red green blue 0 }
+    ensures room { result + 256 ≤ 4294967296 }
 {
-    red as u32 + 256 * (green as u32 + 256 * blue as u32)
+    256 * (red as u32 + 256 * (green as u32 + 256 * blue as u32))
 }
 
-/// The slot of a key. The multiplication spreads keys that are near each other.
+/// The entry with register 0 of the pixel at the beginning of the bytes. One load takes the byte after it, too.
+#[inline]
+fn key_at(bytes: &[u8], at: usize) -> u32
+    requires { at + 4 ≤ length bytes.now }
+    ensures value { result ≡ entry_of (get_or bytes.now at 0) (get_or bytes.now (at + 1) 0)
+        (get_or bytes.now (at + 2) 0) 0 }
+    ensures room { result + 256 ≤ 4294967296 }
+{
+    u32x1::from_le_bytes(u8x4::from_slice(&bytes[at..])).to_array()[0] << 8
+}
+
+/// The place of a pixel, by its entry with register 0. The multiplication spreads those that are near each other.
+#[inline]
+#[tactic(auto, unfolding(crate::specs::PpmPixelCache::place_of))]
 fn place_of(key: u32) -> usize
-    ensures { result < PLACES }
+    ensures value { result ≡ place_of key }
+    ensures within { result < PLACES }
 {
     (key.wrapping_mul(0x9E37_79B1) >> 20) as usize
+}
+
+/// Whether all four of what was found are registers.
+#[inline]
+fn are_registers(first: u32, second: u32, third: u32, fourth: u32) -> bool
+    ensures { result ≡ true → (first < 256) × (second < 256) × (third < 256) × (fourth < 256) }
+{
+    first | second | third | fourth < 256
 }
 
 /// Whether the 16 bytes at `at` are the same as those at `from`.
@@ -79,10 +106,18 @@ impl PixelCache {
     pub(crate) fn new() -> PixelCache
         ensures { (maxval : ℕ) (palette : List (Option Parts)) → Knows result maxval palette }
     {
-        PixelCache {
-            keys: [NO_KEY; PLACES],
-            registers: [0; PLACES],
-        }
+        let mut entries = [0; PLACES];
+        entries[0] = ELSEWHERE;
+        PixelCache { entries }
+    }
+
+    /// The register of a pixel, by its entry with register 0, or a number above 255 if the cache doesn't have it.
+    #[inline]
+    fn found(&self, key: u32) -> u32
+        requires { key + 256 ≤ 4294967296 }
+        ensures { result < 256 → get_or self.now.entries (place_of key) 0 ≡ key + result }
+    {
+        self.entries[place_of(key)].wrapping_sub(key)
     }
 
     /// The register of a pixel, if the cache has it.
@@ -90,24 +125,17 @@ impl PixelCache {
         ensures { (maxval : ℕ) (palette : List (Option Parts)) → Knows self.now maxval palette →
             IfSome result (IsHit maxval palette red green blue) }
     {
-        let key = key_of(red, green, blue);
-        let place = place_of(key);
-        if self.keys[place] == key {
-            Some(self.registers[place])
-        } else {
-            None
-        }
+        let found = self.found(key_of(red, green, blue));
+        if found < 256 { Some(found as u8) } else { None }
     }
 
-    /// Stores the register of a pixel, and overwrites what its slot held.
+    /// Stores the register of a pixel, and overwrites what its place held.
     pub(crate) fn keep(&mut self, red: u8, green: u8, blue: u8, register: u8)
         ensures { (maxval : ℕ) (palette : List (Option Parts)) → Knows self.old maxval palette →
             IsHit maxval palette red green blue register → Knows self.new maxval palette }
     {
         let key = key_of(red, green, blue);
-        let place = place_of(key);
-        self.keys[place] = key;
-        self.registers[place] = register;
+        self.entries[place_of(key)] = key + register as u32;
     }
 
     /// Adds the registers of the pixels from `count` up to `end`, and stops at the first one that isn't cached. Returns
@@ -132,6 +160,83 @@ impl PixelCache {
         end
     }
 
+    /// The register of pixel `index`, or a number above 255 if the cache doesn't have it.
+    #[inline]
+    fn found_at(&self, bytes: &[u8], index: usize) -> u32
+        requires { 3 * index + 4 ≤ length bytes.now }
+        ensures { (maxval : ℕ) (palette : List (Option Parts)) → Knows self.now maxval palette → result < 256 →
+            IsHit maxval palette (get_or bytes.now (3 * index) 0) (get_or bytes.now (3 * index + 1) 0)
+            (get_or bytes.now (3 * index + 2) 0) result }
+    {
+        self.found(key_at(bytes, 3 * index))
+    }
+
+    /// Adds the registers of the four pixels from `count` on, if all are cached. Returns whether they are.
+    #[inline]
+    fn put_four(&self, bytes: &[u8], count: usize, registers: &mut Vec<u8>) -> bool
+        requires within { 3 * (count + FOUR) < length bytes.now }
+        requires room { vec_len registers.old + FOUR ≤ vec_capacity registers.old }
+        ensures same { result ≡ false → registers.new ≡ registers.old }
+        ensures len { result ≡ true → vec_len registers.new ≡ vec_len registers.old + FOUR }
+        ensures capacity { vec_capacity registers.old ≤ vec_capacity registers.new }
+        ensures put { result ≡ true →
+            GoesOn self.now bytes.now count (count + FOUR) registers.old.items registers.new.items }
+    {
+        let first = self.found_at(bytes, count);
+        let second = self.found_at(bytes, count + 1);
+        let third = self.found_at(bytes, count + 2);
+        let fourth = self.found_at(bytes, count + 3);
+        if !are_registers(first, second, third, fourth) {
+            return false;
+        }
+        registers.push_reserved(first as u8);
+        registers.push_reserved(second as u8);
+        registers.push_reserved(third as u8);
+        registers.push_reserved(fourth as u8);
+        true
+    }
+
+    /// Adds the registers of the pixels from `count` up to `end`, four at a time, and stops before the first four that
+    /// aren't all cached. Returns how many pixels are done then.
+    fn put_fours(&self, bytes: &[u8], count: usize, end: usize, registers: &mut Vec<u8>) -> usize
+        requires ordered { count ≤ end }
+        requires within { 3 * end < length bytes.now }
+        requires room { vec_len registers.old + end ≤ vec_capacity registers.old + count }
+        ensures from { count ≤ result }
+        ensures most { result ≤ end }
+        ensures len { vec_len registers.new + count ≡ vec_len registers.old + result }
+        ensures capacity { vec_capacity registers.old ≤ vec_capacity registers.new }
+        ensures put { GoesOn self.now bytes.now count result registers.old.items registers.new.items }
+    {
+        let mut next = count;
+        while next + FOUR <= end {
+            if !self.put_four(bytes, next, registers) {
+                return next;
+            }
+            next += FOUR;
+        }
+        next
+    }
+
+    /// Adds the registers of the pixels from `count` up to `end`, and stops at the first one that isn't cached. Returns
+    /// how many pixels are done then.
+    fn put_most(&self, bytes: &[u8], count: usize, end: usize, registers: &mut Vec<u8>) -> usize
+        requires ordered { count ≤ end }
+        requires within { 3 * end ≤ length bytes.now }
+        requires room { vec_len registers.old + end ≤ vec_capacity registers.old + count }
+        ensures from { count ≤ result }
+        ensures most { result ≤ end }
+        ensures len { vec_len registers.new + count ≡ vec_len registers.old + result }
+        ensures capacity { vec_capacity registers.old ≤ vec_capacity registers.new }
+        ensures put { GoesOn self.now bytes.now count result registers.old.items registers.new.items }
+    {
+        if 3 * end == bytes.len() {
+            return self.put_each(bytes, count, end, registers);
+        }
+        let next = self.put_fours(bytes, count, end, registers);
+        self.put_each(bytes, next, end, registers)
+    }
+
     /// The same, but handles a whole group at once if it repeats the pixel before it.
     fn put_group(&self, bytes: &[u8], count: usize, end: usize, registers: &mut Vec<u8>) -> usize
         requires ordered { count ≤ end }
@@ -148,7 +253,7 @@ impl PixelCache {
             repeat_last(registers);
             return end;
         }
-        self.put_each(bytes, count, end, registers)
+        self.put_most(bytes, count, end, registers)
     }
 
     /// Adds the registers of at most `most` pixels at the beginning of the bytes, and stops at the first one that isn't

@@ -1,8 +1,9 @@
-use Rattle.std.proofs.Common.{◌∙◌, arith}
+use Rattle.std.proofs.Common.{arith}
+use Rattle.sixel_ppm.proofs.PpmPixelCacheLemmas.{found_hit}
 use Rattle.sixel_ppm.proofs.ppm.pixel_cache.PixelCache.register_of.Goals as goal
 
-pub returns-then-self-place : goal.returns-then-self-place
-returns-then-self-place c = λ maxval palette knows.
-    knows.hits c.place_of-place.result c.args.red c.args.green c.args.blue c.place_of-place.ensures
+pub returns-then-found-lt256 : goal.returns-then-found-lt256
+returns-then-found-lt256 c = λ maxval palette knows.
+    found_hit c.args.self.now maxval palette c.args.red c.args.green c.args.blue c.key_of.result c.found-found.result
     (omega (arith, c.ranges.red.fits)) (omega (arith, c.ranges.green.fits)) (omega (arith, c.ranges.blue.fits))
-    (c.if-self-place.true ∙ c.key_of-key.ensures.value)
+    c.if-found-lt256.true c.key_of.ensures.value (c.found-found.ensures c.if-found-lt256.true) knows
