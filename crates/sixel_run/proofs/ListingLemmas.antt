@@ -1,24 +1,30 @@
 -- Lemmas for a reader that is fed a piece, and for the lines of its events.
-use Rattle.std.proofs.Common.{◌≡◌, ◌∙◌, ◌+◌, ◌<◌, ◌≤◌, ℕ, List, [], ◌∷◌, ◌++◌, Option, append_assoc, ap, drop, get_or}
-use Rattle.std.proofs.Common.{length, refl, subst, sym, take}
+use Rattle.std.proofs.Common.{◌≡◌, ◌∙◌, ◌+◌, ◌-◌, ◌<◌, ◌≤◌, ℕ, zero, suc, List, [], ◌∷◌, ◌++◌, Option, append_assoc}
+use Rattle.std.proofs.Common.{ap, arith, drop, get_or, length, refl, subst, sym, take}
 use Rattle.std.specs.Prelude.{Result, Ok, Err}
 use Rattle.std.specs.Io.KnownBytes.{Appends, Keeps}
 use Rattle.std.proofs.lemmas.Grind.{flat_map-append}
-use Rattle.std.proofs.lemmas.List.{append-nil, take-append-drop, take_all}
+use Rattle.std.proofs.lemmas.List.{append-nil, drop-take, take-append-drop, take-take, take_all}
+use Rattle.sixel_grammar.specs.declared.command.Command.TheVariants.{Sixel}
+use Rattle.sixel_grammar.specs.declared.command.Event.TheVariants.{Step}
 use Rattle.sixel_grammar.specs.declared.command.Placed.{Placed}
+use Rattle.sixel_grammar.specs.declared.command.Run.{Run}
 use Rattle.sixel_grammar.specs.declared.fault.Fault.{Fault}
 use Rattle.sixel_grammar.specs.declared.reader.Reader.{Reader}
 use Rattle.sixel_io.specs.Blocks.{PutsWhole, TakesMore, WritesThrough, in_all}
 use Rattle.sixel_io.specs.Devices.{SinkState}
 use Rattle.sixel_grammar.specs.Faults.{IsFaultOf}
+use Rattle.sixel_grammar.specs.Runs.{TakesRun, events_of_run}
 use Rattle.sixel_grammar.specs.Standing.{Refuses, StandsAfter, Takes}
+use Rattle.sixel_grammar.specs.Stretches.{sixels_from}
 use Rattle.sixel_run.specs.declared.fault.RunFault.{RunFault}
 use Rattle.sixel_run.specs.declared.fault.RunFault.TheVariants.{Grammar, Write}
 use Rattle.sixel_run.specs.Feeding.{Feeds, RefusesAt, StopsIn}
 use Rattle.sixel_run.specs.Texts.{BeginsWith, event_line, list_text}
 use Rattle.sixel_io.proofs.DeviceLemmas.{Appends-then}
 use Rattle.sixel_io.proofs.SinkLemmas.{Appends-keeps, Appends-none, through-as, through-whole}
-use Rattle.sixel_grammar.proofs.SourceLemmas.{one_past, split_past}
+use Rattle.sixel_judge.proofs.PieceLemmas.{part_then, rest_of, split_part}
+use Rattle.sixel_judge.proofs.StretchLemmas.{sixels_then}
 use Rattle.sixel_run.proofs.PutLemmas.{begins-then, cut, drained}
 
 pub list_text-append : (xs ys : List Placed) → list_text (xs ++ ys) ≡ list_text xs ++ list_text ys
@@ -104,7 +110,7 @@ pub line-put : {A E : Type 0} (result : Result A E) (placed : Placed) {a b : Sin
     → WritesThrough result a b u v (list_text (placed ∷ []))
 line-put result placed e put = through-as (e ∙ sym (append-nil _)) (through-whole result put)
 
--- ---- a piece, byte by byte
+-- ---- a piece, part by part
 
 -- a byte was read, and putting the lines of its events failed
 pub byte-stopped : (old new : Reader) (byte : ℕ) (done : List Placed) (had has : Option (List ℕ))
@@ -190,16 +196,16 @@ stopped-later piece prefix part rest had mid has events more bytes is put s = re
 }
 
 -- a prefix of the piece was fed, and then the part after it failed
-failed-later : (fault : RunFault) (after : Reader) (piece prefix part rest : List ℕ)
+failed-later : (A B : Type 0) (fault : RunFault) (after : Reader) (piece prefix part rest : List ℕ)
     (had mid has : Option (List ℕ)) (events more : List Placed) (bytes : List ℕ) → piece ≡ prefix ++ (part ++ rest)
     → Appends had mid (list_text more)
-    → Feeds {A = Unit {0}} (Err fault) after part mid has (events ++ more) (bytes ++ prefix)
-    → Feeds {A = Unit {0}} (Err fault) after piece had has events bytes
-failed-later (Grammar fault) after piece prefix part rest had mid has events more bytes is put fed =
+    → Feeds {A = A} (Err fault) after part mid has (events ++ more) (bytes ++ prefix)
+    → Feeds {A = B} (Err fault) after piece had has events bytes
+failed-later A B (Grammar fault) after piece prefix part rest had mid has events more bytes is put fed =
     refused-later fault piece prefix part rest had mid has events more bytes is put fed
-failed-later Write after piece prefix part rest had mid has events more bytes is put fed =
+failed-later A B Write after piece prefix part rest had mid has events more bytes is put fed =
     stopped-later piece prefix part rest had mid has events more bytes is put fed
-failed-later _ after piece prefix part rest had mid has events more bytes is put fed = fed
+failed-later A B _ after piece prefix part rest had mid has events more bytes is put fed = fed
 
 -- whatever the reader had read, it has now read these bytes too, and the lines of their events were appended
 abbrev pub Lists : Reader → Reader → List ℕ → Option (List ℕ) → Option (List ℕ) → Type 0
@@ -215,17 +221,17 @@ lists-nothing reader had events bytes stands = (
   Appends-none had,
 )
 
--- one more byte
-pub lists-more : (first old new : Reader) (piece : List ℕ) (i : ℕ) (had mid has : Option (List ℕ)) → i < length piece
-    → Lists first old (take i piece) had mid → Lists old new (get_or piece i 0 ∷ []) mid has
-    → Lists first new (take (i + 1) piece) had has
-lists-more first old new piece i had mid has below before next events bytes stands =
+-- one more part
+pub lists-part : (first old new : Reader) (piece : List ℕ) (i n : ℕ) (had mid has : Option (List ℕ))
+    → Lists first old (take i piece) had mid → Lists old new (take n (rest_of i piece)) mid has
+    → Lists first new (take (i + n) piece) had has
+lists-part first old new piece i n had mid has before next events bytes stands =
     let b = before events bytes stands in
-    let n = next (events ++ b.0) (bytes ++ take i piece) b.1 in (
-      b.0 ++ n.0,
-      stands-as new _ _ _ _ (append_assoc events b.0 n.0) (one_past bytes piece i below) n.1,
-      Appends-then had mid has (list_text b.0) (list_text n.0) (list_text (b.0 ++ n.0)) b.2 n.2
-          (list_text-append b.0 n.0),
+    let m = next (events ++ b.0) (bytes ++ take i piece) b.1 in (
+      b.0 ++ m.0,
+      stands-as new _ _ _ _ (append_assoc events b.0 m.0) (part_then bytes piece i n) m.1,
+      Appends-then had mid has (list_text b.0) (list_text m.0) (list_text (b.0 ++ m.0)) b.2 m.2
+          (list_text-append b.0 m.0),
     )
 
 -- all of the piece was read
@@ -234,16 +240,133 @@ pub lists-whole : (first last : Reader) (piece : List ℕ) (i : ℕ) (had has : 
 lists-whole first last piece i had has past before =
     subst (λ (t : List ℕ). Lists first last t had has) (take_all i piece past) before
 
--- one more byte failed
-pub fails-next : (fault : RunFault) (first old new : Reader) (piece : List ℕ) (i : ℕ) (had mid has : Option (List ℕ))
-    → i < length piece → Lists first old (take i piece) had mid
+-- the part after a prefix of the piece failed
+pub fails-part : (A B : Type 0) (fault : RunFault) (first old new : Reader) (piece : List ℕ) (i : ℕ)
+    (had mid has : Option (List ℕ)) → Lists first old (take i piece) had mid
     → ((events : List Placed) (bytes : List ℕ) → StandsAfter old events bytes
-    → Feeds {A = Unit {0}} (Err fault) new (get_or piece i 0 ∷ []) mid has events bytes)
+    → Feeds {A = A} (Err fault) new (rest_of i piece) mid has events bytes)
     → (events : List Placed) (bytes : List ℕ) → StandsAfter first events bytes
-    → Feeds {A = Unit {0}} (Err fault) new piece had has events bytes
-fails-next fault first old new piece i had mid has below before fails events bytes stands =
+    → Feeds {A = B} (Err fault) new piece had has events bytes
+fails-part A B fault first old new piece i had mid has before fails events bytes stands =
     let b = before events bytes stands in
-    let byte = get_or piece i 0 in
-    failed-later fault new piece (take i piece) (byte ∷ []) (drop (i + 1) piece) had mid has events b.0 bytes
-    (split_past [] piece i below ∙ append_assoc (take i piece) (byte ∷ []) (drop (i + 1) piece)) b.2
+    let rest = rest_of i piece in
+    failed-later A B fault new piece (take i piece) rest [] had mid has events b.0 bytes
+    (split_part [] piece i 0 ∙ append_assoc (take i piece) [] rest
+    ∙ ap (λ (t : List ℕ). take i piece ++ t) (sym (append-nil rest))) b.2
     (fails (events ++ b.0) (bytes ++ take i piece) b.1)
+
+-- a prefix of the piece failed
+pub fails-longer : (A B : Type 0) (fault : RunFault) (after : Reader) (piece part rest : List ℕ)
+    (had has : Option (List ℕ)) (events : List Placed) (bytes : List ℕ) → piece ≡ part ++ rest
+    → Feeds {A = A} (Err fault) after part had has events bytes
+    → Feeds {A = B} (Err fault) after piece had has events bytes
+fails-longer A B (Grammar fault) after piece part rest had has events bytes is r = record {
+  prefix = r.prefix;
+  byte = r.byte;
+  rest = r.rest ++ rest;
+  before = r.before;
+  more = r.more;
+  piece_is = is ∙ ap (λ (t : List ℕ). t ++ rest) r.piece_is ∙ append_assoc r.prefix (r.byte ∷ r.rest) rest;
+  stands = r.stands;
+  fault_is = r.fault_is;
+  place = r.place;
+  lines = r.lines;
+}
+fails-longer A B Write after piece part rest had has events bytes is s = record {
+  prefix = s.prefix;
+  rest = s.rest ++ rest;
+  before = s.before;
+  more = s.more;
+  part = s.part;
+  piece_is = is ∙ ap (λ (t : List ℕ). t ++ rest) s.piece_is ∙ append_assoc s.prefix s.rest rest;
+  stands = s.stands;
+  begins = s.begins;
+  lines = s.lines;
+}
+fails-longer A B _ after piece part rest had has events bytes is fed = fed
+
+-- the first byte of a piece, and the rest
+pub first-byte : (bytes : List ℕ) → 0 < length bytes → take 1 bytes ≡ get_or bytes 0 0 ∷ []
+first-byte [] some = absurd (omega arith)
+first-byte (b ∷ more) some = refl
+
+pub first-split : (bytes : List ℕ) → 0 < length bytes → bytes ≡ (get_or bytes 0 0 ∷ []) ++ drop 1 bytes
+first-split [] some = absurd (omega arith)
+first-split (b ∷ more) some = refl
+
+-- a run was read, and putting its lines failed
+pub run-stopped : (old new : Reader) (run : Run) (piece : List ℕ) (had has : Option (List ℕ))
+    (events : List Placed) (bytes : List ℕ) → StandsAfter old events bytes → TakesRun old new run piece
+    → ((n : ℕ) × Appends had has (take n (list_text (events_of_run run piece)))) → StopsIn piece had has events bytes
+run-stopped old new run piece had has events bytes stands takes put =
+    let text = list_text (events_of_run run piece) in
+    record {
+      prefix = take run.length piece;
+      rest = drop run.length piece;
+      before = new;
+      more = events_of_run run piece;
+      part = take put.0 text;
+      piece_is = sym (take-append-drop run.length piece);
+      stands = (takes events bytes stands).1;
+      begins = (drop put.0 text, sym (take-append-drop put.0 text));
+      lines = put.1;
+    }
+
+-- ---- the lines of single sixels
+
+-- one more
+pub sixels-then : (place i : ℕ) (bytes : List ℕ) → i < length bytes
+    → list_text (sixels_from place (take (i + 1) bytes))
+    ≡ list_text (sixels_from place (take i bytes))
+    ++ list_text (record { place = place + i; event = Step (Sixel (get_or bytes i 0 - 63)) } ∷ [])
+sixels-then place i bytes below =
+    ap list_text (sym (sixels_then [] place i bytes below)) ∙ list_text-append (sixels_from place (take i bytes)) _
+
+sixels-split : (place n : ℕ) (bytes : List ℕ)
+    → sixels_from place bytes ≡ sixels_from place (take n bytes) ++ sixels_from (place + n) (drop n bytes)
+sixels-split place zero bytes =
+    let same : place ≡ place + 0 = omega arith in
+    ap (λ (p : ℕ). sixels_from p bytes) same
+sixels-split place (suc n) [] = refl
+sixels-split place (suc n) (b ∷ bytes) =
+    let same : place + 1 + n ≡ place + suc n = omega arith in
+    ap (λ (t : List Placed). record { place = place; event = Step (Sixel (b - 63)) } ∷ t)
+    (sixels-split (place + 1) n bytes
+    ∙ ap (λ (p : ℕ). sixels_from (place + 1) (take n bytes) ++ sixels_from p (drop n bytes)) same)
+
+-- of a part of the bytes
+pub sixels-part : (place from end : ℕ) (bytes : List ℕ) → from ≤ end
+    → list_text (sixels_from place (take end bytes))
+    ≡ list_text (sixels_from place (take from bytes))
+    ++ list_text (sixels_from (place + from) (take (end - from) (drop from bytes)))
+sixels-part place from end bytes le =
+    let far : from + (end - from) ≡ end = omega arith in
+    ap list_text (sixels-split place from (take end bytes)
+    ∙ ap (λ (t : List ℕ). sixels_from place t ++ sixels_from (place + from) (drop from (take end bytes)))
+    (take-take from end bytes le)
+    ∙ ap (λ (t : List ℕ). sixels_from place (take from bytes) ++ sixels_from (place + from) t)
+    (ap (λ (n : ℕ). drop from (take n bytes)) (sym far) ∙ drop-take from (end - from) bytes))
+    ∙ list_text-append (sixels_from place (take from bytes)) _
+
+-- of a prefix of the bytes, of the part after it, and of the rest
+pub sixels-parts : (place from end : ℕ) (bytes : List ℕ) → from ≤ end → (rest : List ℕ)
+    × (list_text (sixels_from place bytes) ≡ (list_text (sixels_from place (take from bytes))
+    ++ list_text (sixels_from (place + from) (take (end - from) (drop from bytes)))) ++ rest)
+sixels-parts place from end bytes le =
+    let rest = sixels_from (place + end) (drop end bytes) in (
+      list_text rest,
+      ap list_text (sixels-split place end bytes) ∙ list_text-append (sixels_from place (take end bytes)) rest
+          ∙ ap (λ (t : List ℕ). t ++ list_text rest) (sixels-part place from end bytes le),
+    )
+
+-- those of a prefix of the bytes, of the next byte, and of the rest
+pub sixels-cut : (place i : ℕ) (bytes : List ℕ) → i < length bytes → (rest : List ℕ)
+    × (list_text (sixels_from place bytes) ≡ (list_text (sixels_from place (take i bytes))
+    ++ list_text (record { place = place + i; event = Step (Sixel (get_or bytes i 0 - 63)) } ∷ [])) ++ rest)
+sixels-cut place i bytes below =
+    let rest = sixels_from (place + (i + 1)) (drop (i + 1) bytes) in (
+      list_text rest,
+      ap list_text (sixels-split place (i + 1) bytes)
+          ∙ list_text-append (sixels_from place (take (i + 1) bytes)) rest
+          ∙ ap (λ (t : List ℕ). t ++ list_text rest) (sixels-then place i bytes below),
+    )

@@ -1,5 +1,5 @@
 -- What reading a piece of input does.
-use Rattle.std.specs.Prelude.{◌≡◌, ℕ, List, [], ◌∷◌, ◌++◌, length, Option, Result, Ok, Err}
+use Rattle.std.specs.Prelude.{◌≡◌, ℕ, List, [], ◌∷◌, ◌++◌, length, take, Option, Result, Ok, Err}
 use Rattle.std.specs.Io.KnownBytes.{Appends}
 use Rattle.sixel_grammar.specs.declared.command.Placed.{Placed}
 use Rattle.sixel_grammar.specs.declared.fault.Fault.{Fault}
@@ -48,3 +48,10 @@ Feeds (Ok done) reader piece had has events bytes =
 Feeds (Err (Grammar fault)) reader piece had has events bytes = RefusesAt fault piece had has events bytes
 Feeds (Err Write) reader piece had has events bytes = StopsIn piece had has events bytes
 Feeds (Err fault) reader piece had has events bytes = ⊥
+
+-- of the piece, the reader was fed as many bytes as the answer says
+abbrev pub FeedsSome : Result ℕ RunFault → Reader → List ℕ → Option (List ℕ) → Option (List ℕ) → List Placed → List ℕ
+    → Type 0
+FeedsSome (Ok count) reader piece had has events bytes =
+    Feeds {A = ℕ} (Ok count) reader (take count piece) had has events bytes
+FeedsSome (Err fault) reader piece had has events bytes = Feeds {A = ℕ} (Err fault) reader piece had has events bytes

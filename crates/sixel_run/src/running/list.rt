@@ -1,22 +1,30 @@
 //! Lists the events of a sixel picture, a line each.
 
-ghost use Rattle.std.specs.Prelude.{◌≡◌, ◌≢◌, ◌∷◌, ℕ, List, [], Err, IfSome, OnOk};
+ghost use Rattle.std.specs.Prelude.{◌≡◌, ◌≢◌, ◌<◌, ◌≤◌, ◌+◌, ◌∷◌, ℕ, List, [], Err, IfOk, IfSome, IsTrue, OnOk};
+ghost use Rattle.std.specs.Prelude.{length, slice_index};
 ghost use Rattle.std.specs.Option.{option_to_list};
+ghost use Rattle.sixel_grammar.specs.Bytes.{is_data};
+ghost use Rattle.sixel_grammar.specs.Document.{most_bytes};
+ghost use Rattle.sixel_grammar.specs.Runs.{column_events, events_of_run, select_events};
+ghost use Rattle.sixel_grammar.specs.Stretches.{sixels_from};
+ghost use Rattle.sixel_grammar.specs.declared.command.Columns.TheVariants.{Sixels as single_sixels};
+ghost use Rattle.sixel_grammar.specs.declared.command.Command.TheVariants.{Repeat, Select};
 ghost use Rattle.sixel_grammar.specs.declared.command.Event.TheVariants.{Step};
 ghost use Rattle.sixel_grammar.specs.declared.command.Placed.{Placed as Place};
 ghost use Rattle.sixel_io.specs.Blocks.{TakesMore, WritesThrough, in_all};
 ghost use Rattle.sixel_grammar.specs.Plain.{plain_of};
 ghost use Rattle.sixel_grammar.specs.Standing.{StandsAfter, completions};
 ghost use Rattle.sixel_run.specs.declared.task.Task.TheVariants.{List as Listing};
-ghost use Rattle.sixel_run.specs.Feeding.{Feeds};
+ghost use Rattle.sixel_run.specs.Feeding.{Feeds, FeedsSome};
 ghost use Rattle.sixel_run.specs.Outputs.{CountsWrites, Wrote, failures_by};
+ghost use Rattle.sixel_run.specs.SixelLines.{lines_of};
 ghost use Rattle.sixel_run.specs.Texts.{list_text};
 
 use crate::fault::RunFault;
 use crate::lines::event_line;
-use crate::sixel_line::SixelLine;
+use crate::sixel_line::{MOST_SIXELS, SixelLine, SixelLines};
 use crate::task::Status;
-use sixel_grammar::{Command, Completed, Event, Placed, Plain, Reader};
+use sixel_grammar::{Columns, Command, Completed, Event, Placed, Plain, Reader, Run};
 use sixel_io::{Block, DeviceFault, PIECE, Sink, Source};
 
 /// Room for 12 bytes of lines per byte of a piece. A data byte gives up to 19, so a piece of data takes two writes.
@@ -88,17 +96,64 @@ fn feed_all<K: Sink>(
     ensures more { TakesMore (K.state out.old).taken (K.state out.new).taken }
     ensures failures { CountsWrites result (K.state out.old).failures (K.state out.new).failures }
 {
-    let mut sixel = SixelLine::new();
-    for byte in piece {
-        if let Some(plain) = reader.feed_plain(*byte) {
-            match put_plain(plain, &mut sixel, lines, out) {
-                Ok(()) => continue,
-                Err(_) => return Err(RunFault::Write),
-            }
-        }
-        feed_and_put(reader, *byte, lines, out)?;
+    let mut sixels = SixelLines::new();
+    let mut read = 0;
+    while read < piece.len() {
+        read += feed_some(reader, &piece[read..], &mut sixels, lines, out)?;
     }
     Ok(())
+}
+
+/// Reads a run of columns at the beginning of `bytes`, or else one byte, and puts the lines of the events that they
+/// complete. Returns how many bytes it read.
+#[inline(always)]
+fn feed_some<K: Sink>(
+    reader: &mut Reader,
+    bytes: &[u8],
+    sixels: &mut SixelLines,
+    lines: &mut Lines,
+    out: &mut K,
+) -> Result<usize, RunFault>
+    requires { 0 < length bytes.now }
+    ensures some { IfOk result (λ count. 0 < count) }
+    ensures within { IfOk result (λ count. count ≤ length bytes.now) }
+    ensures fed { (events : List Place) (before : List ℕ) → StandsAfter reader.old events before →
+        FeedsSome result reader.new bytes.now
+        (in_all (K.state out.old).taken lines.old) (in_all (K.state out.new).taken lines.new) events before }
+    ensures more { TakesMore (K.state out.old).taken (K.state out.new).taken }
+    ensures failures { CountsWrites result (K.state out.old).failures (K.state out.new).failures }
+{
+    if let Some(run) = reader.feed_run(bytes) {
+        return match put_run(run, bytes, sixels, lines, out) {
+            Ok(()) => Ok(run.length),
+            Err(_) => Err(RunFault::Write),
+        };
+    }
+    feed_byte(reader, bytes[0], lines, out)?;
+    Ok(1)
+}
+
+/// Reads one byte, and puts the lines of the events that it completes. Most bytes complete at most one command.
+#[inline(always)]
+fn feed_byte<K: Sink>(
+    reader: &mut Reader,
+    byte: u8,
+    lines: &mut Lines,
+    out: &mut K,
+) -> Result<(), RunFault>
+    ensures fed { (events : List Place) (bytes : List ℕ) → StandsAfter reader.old events bytes →
+        Feeds result reader.new (byte ∷ [])
+        (in_all (K.state out.old).taken lines.old) (in_all (K.state out.new).taken lines.new) events bytes }
+    ensures more { TakesMore (K.state out.old).taken (K.state out.new).taken }
+    ensures failures { CountsWrites result (K.state out.old).failures (K.state out.new).failures }
+{
+    match reader.feed_command(byte) {
+        Some(plain) => match put_plain(plain, lines, out) {
+            Ok(()) => Ok(()),
+            Err(_) => Err(RunFault::Write),
+        },
+        None => feed_and_put(reader, byte, lines, out),
+    }
 }
 
 /// Reads any byte, and puts the lines of the events that it completes.
@@ -124,44 +179,222 @@ fn feed_and_put<K: Sink>(
     }
 }
 
+/// Puts the line of the command, if there is one.
 #[inline(always)]
-fn put_plain<K: Sink>(
-    plain: Plain,
-    sixel: &mut SixelLine,
-    lines: &mut Lines,
-    out: &mut K,
-) -> Result<(), DeviceFault>
+fn put_plain<K: Sink>(plain: Plain, lines: &mut Lines, out: &mut K) -> Result<(), DeviceFault>
     ensures { WritesThrough result (K.state out.old) (K.state out.new) lines.old lines.new
         (list_text (completions (plain_of plain))) }
 {
     match plain {
         Plain::Nothing => Ok(()),
-        Plain::Command { place, command } => put_command(place, command, sixel, lines, out),
+        Plain::Command { place, command } => put_command(place, command, lines, out),
     }
 }
 
-/// Puts the line of a command. Nearly all are sixels, whose lines are made quickly from offset 100 on.
+/// Puts the lines of the run at the beginning of the bytes.
 #[inline(always)]
+fn put_run<K: Sink>(
+    run: Run,
+    bytes: &[u8],
+    sixels: &mut SixelLines,
+    lines: &mut Lines,
+    out: &mut K,
+) -> Result<(), DeviceFault>
+    requires sixels { run.columns ≡ single_sixels → (k : ℕ) → run.start ≤ k → k < run.length
+        → IsTrue (is_data (slice_index bytes.now k)) }
+    requires within { (run.start < run.length) × (run.length ≤ length bytes.now) }
+    requires limit { run.place + run.length ≤ most_bytes }
+    ensures { WritesThrough result (K.state out.old) (K.state out.new) lines.old lines.new
+        (list_text (events_of_run run bytes.now)) }
+{
+    put_select(run.place, run.select, &mut sixels.line, lines, out)?;
+    let columns = &bytes[run.start..run.length];
+    put_columns(
+        run.place + run.start as u64,
+        run.columns,
+        columns,
+        sixels,
+        lines,
+        out,
+    )
+}
+
+/// Puts the line of a select, if there is one.
+#[inline(always)]
+fn put_select<K: Sink>(
+    place: u64,
+    select: Option<u16>,
+    line: &mut SixelLine,
+    lines: &mut Lines,
+    out: &mut K,
+) -> Result<(), DeviceFault>
+    ensures { WritesThrough result (K.state out.old) (K.state out.new) lines.old lines.new
+        (list_text (select_events place select)) }
+{
+    match select {
+        Some(register) => put_register(place, register, line, lines, out),
+        None => Ok(()),
+    }
+}
+
+/// Puts the line of the select of this register. Nearly all are made quickly.
+#[inline(always)]
+fn put_register<K: Sink>(
+    place: u64,
+    register: u16,
+    line: &mut SixelLine,
+    lines: &mut Lines,
+    out: &mut K,
+) -> Result<(), DeviceFault>
+    ensures { WritesThrough result (K.state out.old) (K.state out.new) lines.old lines.new
+        (list_text (record { place = place; event = Step (Select register) } ∷ [])) }
+{
+    if place >= 100 && register < 1000 {
+        line.set_select(place, register);
+        return lines.put(line.as_slice(), out);
+    }
+    put_command(place, Command::Select(register), lines, out)
+}
+
+/// Puts the line of a repeat. Nearly all are made quickly.
+#[inline(always)]
+fn put_repeat<K: Sink>(
+    place: u64,
+    count: u16,
+    bits: u8,
+    line: &mut SixelLine,
+    lines: &mut Lines,
+    out: &mut K,
+) -> Result<(), DeviceFault>
+    ensures { WritesThrough result (K.state out.old) (K.state out.new) lines.old lines.new
+        (list_text (record { place = place; event = Step (Repeat count bits) } ∷ [])) }
+{
+    if place >= 100 && count < 1000 {
+        line.set_repeat(place, count, bits);
+        return lines.put(line.as_slice(), out);
+    }
+    put_command(place, Command::Repeat { count, bits }, lines, out)
+}
+
+/// Puts the lines of columns, whose text these bytes are. The first byte has the offset `place`.
+#[inline(always)]
+fn put_columns<K: Sink>(
+    place: u64,
+    columns: Columns,
+    bytes: &[u8],
+    sixels: &mut SixelLines,
+    lines: &mut Lines,
+    out: &mut K,
+) -> Result<(), DeviceFault>
+    requires sixels { columns ≡ single_sixels → (k : ℕ) → k < length bytes.now
+        → IsTrue (is_data (slice_index bytes.now k)) }
+    requires limit { place + length bytes.now ≤ most_bytes }
+    ensures { WritesThrough result (K.state out.old) (K.state out.new) lines.old lines.new
+        (list_text (column_events place columns bytes.now)) }
+{
+    match columns {
+        Columns::Sixels => put_sixels(place, bytes, sixels, lines, out),
+        Columns::Repeat { count, bits } => {
+            put_repeat(place, count, bits, &mut sixels.line, lines, out)
+        }
+    }
+}
+
+/// Puts the lines of these data bytes, each a single sixel. The first has the offset `place`.
+fn put_sixels<K: Sink>(
+    place: u64,
+    bytes: &[u8],
+    sixels: &mut SixelLines,
+    lines: &mut Lines,
+    out: &mut K,
+) -> Result<(), DeviceFault>
+    requires sixels { (k : ℕ) → k < length bytes.now → IsTrue (is_data (slice_index bytes.now k)) }
+    requires limit { place + length bytes.now ≤ most_bytes }
+    ensures { WritesThrough result (K.state out.old) (K.state out.new) lines.old lines.new
+        (list_text (sixels_from place bytes.now)) }
+{
+    let mut done = 0;
+    while done < bytes.len() {
+        let end = bytes.len().min(done + MOST_SIXELS);
+        put_few(place + done as u64, &bytes[done..end], sixels, lines, out)?;
+        done = end;
+    }
+    Ok(())
+}
+
+/// The same for a few of them. From offset 100 on their lines are made quickly, and put at once.
+#[inline(always)]
+fn put_few<K: Sink>(
+    place: u64,
+    bytes: &[u8],
+    sixels: &mut SixelLines,
+    lines: &mut Lines,
+    out: &mut K,
+) -> Result<(), DeviceFault>
+    requires few { length bytes.now ≤ MOST_SIXELS }
+    requires sixels { (k : ℕ) → k < length bytes.now → IsTrue (is_data (slice_index bytes.now k)) }
+    requires limit { place + length bytes.now ≤ most_bytes }
+    ensures { WritesThrough result (K.state out.old) (K.state out.new) lines.old lines.new
+        (list_text (sixels_from place bytes.now)) }
+{
+    if place < 100 {
+        return put_each(place, bytes, lines, out);
+    }
+    make_lines(place, bytes, sixels);
+    lines.put(sixels.as_slice(), out)
+}
+
+/// Makes the lines of a few data bytes, each a single sixel. The first has the offset `place`.
+#[inline(always)]
+fn make_lines(place: u64, bytes: &[u8], sixels: &mut SixelLines)
+    requires place { 100 ≤ place }
+    requires few { length bytes.now ≤ MOST_SIXELS }
+    requires sixels { (k : ℕ) → k < length bytes.now → IsTrue (is_data (slice_index bytes.now k)) }
+    requires limit { place + length bytes.now ≤ most_bytes }
+    ensures { lines_of sixels.new ≡ list_text (sixels_from place bytes.now) }
+{
+    sixels.clear();
+    for (index, byte) in bytes.iter().enumerate() {
+        sixels.push(place + index as u64, byte - b'?');
+    }
+}
+
+/// Puts the lines of data bytes one by one.
+#[inline(never)]
+fn put_each<K: Sink>(
+    place: u64,
+    bytes: &[u8],
+    lines: &mut Lines,
+    out: &mut K,
+) -> Result<(), DeviceFault>
+    requires sixels { (k : ℕ) → k < length bytes.now → IsTrue (is_data (slice_index bytes.now k)) }
+    requires limit { place + length bytes.now ≤ most_bytes }
+    ensures { WritesThrough result (K.state out.old) (K.state out.new) lines.old lines.new
+        (list_text (sixels_from place bytes.now)) }
+{
+    for (index, byte) in bytes.iter().enumerate() {
+        put_command(
+            place + index as u64,
+            Command::Sixel(byte - b'?'),
+            lines,
+            out,
+        )?;
+    }
+    Ok(())
+}
+
+/// Puts the line of a command.
 fn put_command<K: Sink>(
     place: u64,
     command: Command,
-    sixel: &mut SixelLine,
     lines: &mut Lines,
     out: &mut K,
 ) -> Result<(), DeviceFault>
     ensures { WritesThrough result (K.state out.old) (K.state out.new) lines.old lines.new
         (list_text (record { place = place; event = Step command } ∷ [])) }
 {
-    match command {
-        Command::Sixel(bits) if place >= 100 && bits < 100 => {
-            sixel.set(place, bits);
-            lines.put(sixel.as_slice(), out)
-        }
-        _ => {
-            let event = Event::Step(command);
-            put_line(Some(Placed { place, event }), lines, out)
-        }
-    }
+    let event = Event::Step(command);
+    put_line(Some(Placed { place, event }), lines, out)
 }
 
 fn put_lines<K: Sink>(
