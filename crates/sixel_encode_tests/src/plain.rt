@@ -276,7 +276,7 @@ fn gaps_have_the_plain_text(rt: HostRuntime) -> Result<(), Fail> {
     Ok(())
 }
 
-/// Each pixel has a register of its own, and repeats are of up to four digits.
+/// Noise, in which neighbours mostly differ, and rows of one register, whose repeats have up to four digits.
 #[test]
 fn noise_and_full_rows_have_the_plain_text(rt: HostRuntime) -> Result<(), Fail> {
     for width in [9, 10, 99, 100, 999, 1_000, 2_048] {

@@ -157,7 +157,7 @@ fn push_command(
     }
 }
 
-/// A document. Most are cut off by no fault.
+/// A document. In most of them no byte is a fault, so that all of it is surveyed.
 pub fn made_document(alloc: Global, numbers: &mut Numbers) -> Result<Vec<u8>, Fail> {
     let mut bytes = Vec::new(alloc);
     bytes.extend_from_slice(if numbers.below(8) == 0 {

@@ -2,7 +2,7 @@
 
 ghost use Rattle.std.specs.Prelude.{◌<◌};
 
-use sixel_grammar::{Command, Event, Placed, Reader};
+use sixel_grammar::{Command, Event, Fault, Placed, Reader};
 use sixel_judge::Rule;
 use sixel_judge::events::{
     bits_of, columns_of, is_eight_bit, is_finish, is_next_line, is_painting, is_raster, is_return,
@@ -388,12 +388,12 @@ impl Model {
     }
 }
 
-/// The model after a document, which is read byte by byte; `None` if the bytes are no document.
+/// The model after a document, which is read byte by byte, or the fault of the bytes.
 pub fn model_of(
     alloc: Global,
     profile: Profile,
     bytes: &[u8],
-) -> Result<Option<Model>, AllocError> {
+) -> Result<Result<Model, Fault>, AllocError> {
     let mut reader = Reader::new();
     let mut model = Model::new(profile);
     for byte in bytes {
@@ -402,11 +402,8 @@ pub fn model_of(
                 model.take(alloc, completed.first)?;
                 model.take(alloc, completed.second)?;
             }
-            Err(_) => return Ok(None),
+            Err(fault) => return Ok(Err(fault)),
         }
     }
-    if reader.finish().is_err() {
-        return Ok(None);
-    }
-    Ok(Some(model))
+    Ok(reader.finish().map(|_| model))
 }

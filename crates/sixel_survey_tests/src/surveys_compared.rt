@@ -4,6 +4,7 @@ ghost use Rattle.std.specs.Prelude.{◌<◌};
 
 use crate::made_documents::{Numbers, made_document};
 use crate::survey_model::model_of;
+use sixel_grammar::InputFault;
 use sixel_io::SliceSource;
 use sixel_model::Profile;
 use std::alloc::Global;
@@ -12,7 +13,7 @@ use std::test::Fail;
 /// The most that one call of the source gives, in bytes.
 const PIECES: [usize; 8] = [1, 2, 3, 7, 17, 40, 101, 65_536];
 
-/// Whether a survey of the bytes, in pieces of this size, is that of the model.
+/// Whether a survey of the bytes, in pieces of this size, is that of the model, or has its fault.
 fn agrees(alloc: Global, profile: Profile, bytes: &[u8], piece: usize) -> Result<bool, Fail>
     requires { 0 < piece }
 {
@@ -20,10 +21,10 @@ fn agrees(alloc: Global, profile: Profile, bytes: &[u8], piece: usize) -> Result
     let survey = sixel_survey::survey(alloc, profile, &mut input);
     let model = model_of(alloc, profile, bytes)?;
     Ok(match (survey, model) {
-        (Ok(survey), Some(model)) => {
+        (Ok(survey), Ok(model)) => {
             model.has_entries(survey.entries.as_slice()) && model.size() == survey.size
         }
-        (Err(_), None) => true,
+        (Err(InputFault::Grammar(fault)), Err(expected)) => fault == expected,
         _ => false,
     })
 }
