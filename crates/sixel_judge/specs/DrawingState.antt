@@ -52,3 +52,8 @@ IsColouredIfPainted n _ = Unit {0}
 abbrev pub next_painted : DrawingState → Event → List Bool
 next_painted n e =
     if is_painting e then option_map_or (λ r. slice_set n.painted r true) (known_in n) n.painted else n.painted
+
+-- each register that a command painted in has a colour
+abbrev pub AreColouredIfPainted : DrawingState → Type 0
+AreColouredIfPainted n =
+    (r : ℕ) → IsTrue (slice_index_or n.painted r false) → r < length n.palette → IsSome (palette_at n.palette r)

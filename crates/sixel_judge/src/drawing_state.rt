@@ -2,7 +2,6 @@
 
 ghost use Rattle.std.specs.Prelude.{◌≡◌, ◌↔◌, ◌<◌, ◌++◌, ◌∷◌, [], ℕ, List, IfSome, IsSome, IsTrue, length, replicate};
 ghost use Rattle.std.specs.Prelude.{None, false, slice_index_or, true};
-ghost use Rattle.sixel_model.specs.Colours.{palette_at};
 ghost use Rattle.sixel_grammar.specs.declared.command.Event.{Event as EventValue};
 ghost use Rattle.sixel_model.specs.Profiles.{count_of};
 ghost use Rattle.sixel_judge.specs.Violations.{BreaksNoRule, redefined_in};
@@ -55,19 +54,21 @@ impl DrawingState {
         ensures value { result ≡ known_in self.now }
         ensures below { IfSome result (λ r. r < length self.now.palette) }
     {
-        match (self.selected, self.named) {
-            (Some(selected), Some(named)) if named == selected => Some(selected as u8),
-            _ => None,
+        let selected = self.selected?;
+        let named = self.named?;
+        if named == selected {
+            Some(selected as u8)
+        } else {
+            None
         }
     }
 
-    /// Whether the register has a colour, and a command painted in it.
+    /// Whether a command painted in the register.
     #[inline(always)]
     pub(crate) fn is_painted_in(&self, register: u8) -> bool
-        ensures { IsTrue result ↔ IsSome (palette_at self.now.palette register)
-            × (slice_index_or self.now.painted register false ≡ true) }
+        ensures { result ≡ slice_index_or self.now.painted register false }
     {
-        self.painted[register as usize] && self.palette.get(register).is_some()
+        self.painted[register as usize]
     }
 
     #[inline(always)]

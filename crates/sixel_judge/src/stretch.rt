@@ -3,7 +3,7 @@
 ghost use Rattle.std.specs.Prelude.{◌≡◌, ◌<◌, ◌≤◌, ◌+◌, ◌⊎◌, ◌↔◌, ℕ, IsTrue, false, length, slice_index, true};
 ghost use Rattle.sixel_grammar.specs.Bytes.{is_data};
 ghost use Rattle.sixel_plane.specs.Stretches.{sixel_of, stretched_grid};
-ghost use Rattle.sixel_judge.specs.DrawingState.{IsBelow};
+ghost use Rattle.sixel_judge.specs.DrawingState.{AreColouredIfPainted, IsBelow};
 ghost use Rattle.sixel_judge.specs.Stretches.{AreBlank, Fits, IsPaintedIn, IsPassed, IsStretched};
 
 use crate::drawing_state::DrawingState;
@@ -20,6 +20,7 @@ fn try_paint_stretch<P: Plane>(
     count: usize,
 ) -> bool
     requires below { IsBelow state.now }
+    requires coloured { AreColouredIfPainted state.now }
     requires sixels { (k : ℕ) → k < count → IsTrue (is_data (slice_index bytes.now k)) }
     requires bytes { count ≤ length bytes.now }
     ensures painted { result ≡ true → (register : ℕ) × IsPaintedIn state.now register
@@ -69,6 +70,7 @@ pub(crate) fn try_take_stretch<P: Plane>(
     count: usize,
 ) -> bool
     requires below { IsBelow state.old }
+    requires coloured { AreColouredIfPainted state.old }
     requires sixels { (k : ℕ) → k < count → IsTrue (is_data (slice_index bytes.now k)) }
     requires bytes { count ≤ length bytes.now }
     ensures taken { result ≡ true
