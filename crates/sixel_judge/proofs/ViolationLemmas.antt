@@ -199,7 +199,8 @@ has None h = cc
 has (Some x) h = refl
 
 -- a register that a command painted in has a colour
-pub painted_coloured : {registers : ℕ} (n : DrawingState) (before : List Event) (r : ℕ) → IsStateAfter registers n before
+pub painted_coloured : {registers : ℕ} (n : DrawingState) (before : List Event) (r : ℕ)
+    → IsStateAfter registers n before
     → IsTrue (get_or n.painted r false) → r < length n.palette → IsSome (palette_at n.palette r)
 painted_coloured {registers} n before r s painted lt =
     let low : r < registers = rw (s.palette_is, length_left registers before) at lt in

@@ -391,8 +391,10 @@ group_alone w start covered register count bytes lanes ro rn co cn few are rows 
     let at_start : start ≡ start + 0 = omega arith in
     let at_covered : covered ≡ covered + 0 = omega arith in
     group_more w start covered 0 16 register count count bytes lanes ro ro rn co co cn (omega arith) (omega arith)
-    (λ lt. omega arith) are
-    (no_groups w start register (sixel_of bytes count) ro, no_columns covered (λ j b. bit_or b (sixel_of bytes count j)) co)
+    (λ lt. omega arith) are (
+      no_groups w start register (sixel_of bytes count) ro,
+      no_columns covered (λ j b. bit_or b (sixel_of bytes count j)) co,
+    )
     (subst (λ (s : ℕ). ArePainted 6 w s 16 (λ j. get_or lanes j 0) register ro rn) at_start rows)
     (subst (λ (s : ℕ). AreMapped s 16 (λ j b. bit_or b (get_or lanes j 0)) co cn) at_covered columns)
 
@@ -427,8 +429,10 @@ run_alone w start covered register count bits lanes ro rn co cn few are rows col
     let at_start : start ≡ start + 0 = omega arith in
     let at_covered : covered ≡ covered + 0 = omega arith in
     run_more w start covered 0 16 register count count bits lanes ro ro rn co co cn (omega arith) (omega arith)
-    (λ lt. omega arith) are
-    (no_groups w start register (run_sixel bits count) ro, no_columns covered (λ j b. bit_or b (run_sixel bits count j)) co)
+    (λ lt. omega arith) are (
+      no_groups w start register (run_sixel bits count) ro,
+      no_columns covered (λ j b. bit_or b (run_sixel bits count j)) co,
+    )
     (subst (λ (s : ℕ). ArePainted 6 w s 16 (λ j. get_or lanes j 0) register ro rn) at_start rows)
     (subst (λ (s : ℕ). AreMapped s 16 (λ j b. bit_or b (get_or lanes j 0)) co cn) at_covered columns)
 

@@ -72,8 +72,8 @@ fn paint_rows(registers: &mut [u8], at: usize, width: usize, sixels: u8x16, regi
     }
 }
 
-/// Paints a column for each of the first `count` data bytes of `bytes`, at most one group. The top row begins at `start`
-/// of `registers`, and the columns' coverage at `covered` of `coverage`.
+/// Paints a column for each of the first `count` data bytes of `bytes`, at most one group. The top row begins at
+/// `start` of `registers`, and the columns' coverage at `covered` of `coverage`.
 #[inline(always)]
 fn paint_group(
     registers: &mut [u8],

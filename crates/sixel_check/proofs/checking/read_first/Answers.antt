@@ -27,7 +27,8 @@ returns-in_err-read_sign-clause-memory g c =
 
 pub returns-in_err-read_data-clause-refused : goal.returns-in_err-read_data-clause-refused
 returns-in_err-read_data-clause-refused g c =
-    let failed = err_from_is_err_and c.from_residual-in_err-read_data.result c.from_residual-in_err-read_data.ensures.1 in
+    let left = c.from_residual-in_err-read_data in
+    let failed = err_from_is_err_and left.result left.ensures.1 in
     rw (failed.1, failed.2)
     (λ registers prefix a.
     refuses-more _ _ (drop 1 c.args.bytes.now) (prefix ++ c.args.bytes.now)
@@ -37,7 +38,8 @@ returns-in_err-read_data-clause-refused g c =
 
 pub returns-in_err-read_data-clause-memory : goal.returns-in_err-read_data-clause-memory
 returns-in_err-read_data-clause-memory g c =
-    let failed = err_from_is_err_and c.from_residual-in_err-read_data.result c.from_residual-in_err-read_data.ensures.1 in
+    let left = c.from_residual-in_err-read_data in
+    let failed = err_from_is_err_and left.result left.ensures.1 in
     rw (failed.1, failed.2)
     (λ registers prefix a.
     grows_for_on _ _ _ (drop 1 c.args.bytes.now) (prefix ++ c.args.bytes.now)
