@@ -3,7 +3,7 @@ use Rattle.std.proofs.Common.{◌≡◌, ℕ, ◌+◌, ◌-◌, ◌*◌, ◌/◌
 use Rattle.std.proofs.Common.{length, get_or, nat_le, nat_lt, refl, sym, ap, ap₂, ◌∙◌, arith, inl, inr}
 use Rattle.std.proofs.Common.{[], ◌∷◌, ◌==◌, ◌⊎◌, max, not, suc, zero, take, slice_set, bit_and, bit_or, w32}
 use Rattle.std.specs.List.{list_any}
-use Rattle.std.specs.Int.{bit_at, bit_not, trailing_zeros}
+use Rattle.std.specs.Int.{bit_at, trailing_zeros}
 use Rattle.std.specs.Prelude.{slice_index}
 use Rattle.std.proofs.lemmas.Bool.{and_parts, and_from, cases_lt, leb-true, ltb-true, le-leb, lt-ltb}
 use Rattle.std.proofs.lemmas.Bool.{eqb-true}
@@ -11,9 +11,12 @@ use Rattle.std.proofs.lemmas.Bool.Decides.{nat_tests}
 use Rattle.std.proofs.lemmas.List.{get_or-set_other, length-set}
 use Rattle.std.proofs.lemmas.Grind.{get_or-set_at}
 use Rattle.std.proofs.lemmas.List.Folds.{list_any_more}
-use Rattle.std.proofs.lemmas.Nat.{and_le_l}
-use Rattle.std.proofs.lemmas.Nat.Bits.{bit_at-lt, bit_at-trailing_zeros, bit_at-zero, bit_at_above, bit_at_clear_other}
-use Rattle.std.proofs.lemmas.Nat.Bits.{bit_at_clear_same, bit_at_or}
+use Rattle.std.specs.Int.Bits.{and_self}
+use Rattle.std.proofs.Math.Nat.{mod_self}
+use Rattle.std.proofs.lemmas.Nat.{and_block, and_mask, mod-pow-add, mod_below, pow-add, pow_pos, shr_split}
+use Rattle.std.proofs.lemmas.Nat.Bits.{bit_at_cat_high, same_from_bits}
+use Rattle.std.proofs.lemmas.Nat.Bits.{bit_at-lt, bit_at-trailing_zeros, bit_at-zero, bit_at_above}
+use Rattle.std.proofs.lemmas.Nat.Bits.{bit_at_or}
 use Rattle.std.proofs.lemmas.Nat.{div-add-mod'}
 use Rattle.std.proofs.lemmas.Nat.Bits.{bit_at_cat_low}
 use Rattle.sixel_model.specs.Geometry.{covers}
@@ -92,33 +95,101 @@ lowest_few bits some few =
 
 -- the bits without the lowest
 abbrev pub others : ℕ → ℕ
-others bits = bit_and bits (bit_not w32 (1 * 2 ^ trailing_zeros w32 bits % 2 ^ 32))
+others bits = bit_and bits (bits - 1)
 
 lowest_set : (bits : ℕ) → 0 < bits → bits < 2 ^ 6 → bit_at bits (trailing_zeros w32 bits) ≡ 1
 lowest_set bits some few = (bit_at-trailing_zeros w32 bits some (omega (arith, few))).1
 
+-- no bit below k
+none_low : (n k : ℕ) → ((i : ℕ) → i < k → bit_at n i ≡ 0) → n % 2 ^ k ≡ 0
+none_low n k clear =
+    same_from_bits (n % 2 ^ k) 0 (λ i. elim (cases_lt i k) [
+      | inl low ↦
+          sym (bit_at_cat_low (n / 2 ^ k) k (n % 2 ^ k) i low)
+          ∙ ap (λ m. bit_at m i) (shr_split n k) ∙ clear i low ∙ sym (bit_at-zero i)
+      | inr high ↦
+          bit_at_above (n % 2 ^ k) k i (mod_below n (2 ^ k) (pow_pos k)) high ∙ sym (bit_at-zero i)
+    ])
+
+-- a number whose lowest bit is k: what is above it, and the bit
+pub record IsSplit (n k above : ℕ) : Type 0 where
+  pub whole : n ≡ above * 2 ^ (1 + k) + 2 ^ k
+  pub rest : bit_and n (n - 1) ≡ above * 2 ^ (1 + k)
+
+split_lowest : (n k : ℕ) → bit_at n k ≡ 1 → ((i : ℕ) → i < k → bit_at n i ≡ 0) → IsSplit n k (n / 2 ^ (1 + k))
+split_lowest n k set clear =
+    let above = n / 2 ^ (1 + k) in
+    let double : 2 ^ (1 + k) ≡ 2 * 2 ^ k = pow-add 2 1 k in
+    let some : 0 < 2 ^ k = pow_pos k in
+    let low : n % 2 ^ (1 + k) ≡ 2 ^ k =
+    mod-pow-add n 1 k ∙ ap₂ (λ (u v : ℕ). u * 2 ^ k + v) set (none_low n k clear) ∙ one_time (2 ^ k) in
+    let whole : n ≡ above * 2 ^ (1 + k) + 2 ^ k =
+    sym (shr_split n (1 + k)) ∙ ap (λ (m : ℕ). above * 2 ^ (1 + k) + m) low in
+    let less : n - 1 ≡ above * 2 ^ (1 + k) + (2 ^ k - 1) = omega (arith, whole, some) in
+    record {
+      whole = whole;
+      rest = ap₂ bit_and whole less
+          ∙ and_block (1 + k) above above (2 ^ k) (2 ^ k - 1) (omega (arith, double, some)) (omega (arith, double, some))
+          ∙ ap₂ (λ (u v : ℕ). u * 2 ^ (1 + k) + v) (and_self above) (and_mask (2 ^ k) k ∙ mod_self (2 ^ k))
+          ∙ add-zero (above * 2 ^ (1 + k));
+    }
+  where
+    one_time : (m : ℕ) → 1 * m + 0 ≡ m
+    one_time m = omega arith
+
+    add-zero : (m : ℕ) → m + 0 ≡ m
+    add-zero m = omega arith
+
+split : (bits : ℕ) → 0 < bits → bits < 2 ^ 6
+    → IsSplit bits (trailing_zeros w32 bits) (bits / 2 ^ (1 + trailing_zeros w32 bits))
+split bits some few =
+    let lowest = bit_at-trailing_zeros w32 bits some (omega (arith, few)) in
+    split_lowest bits (trailing_zeros w32 bits) lowest.1 lowest.2
+
+-- the bits up to a lowest bit k are clear in the others
+rest_clear : (n k above j : ℕ) → IsSplit n k above → j < 1 + k → bit_at (bit_and n (n - 1)) j ≡ 0
+rest_clear n k above j s low =
+    ap (λ m. bit_at m j) (s.rest ∙ no_more (above * 2 ^ (1 + k))) ∙ bit_at_cat_low above (1 + k) 0 j low ∙ bit_at-zero j
+  where
+    no_more : (m : ℕ) → m ≡ m + 0
+    no_more m = omega arith
+
+-- those above it stay
+rest_kept : (n k above j : ℕ) → IsSplit n k above → 1 + k ≤ j → bit_at (bit_and n (n - 1)) j ≡ bit_at n j
+rest_kept n k above j s high =
+    let double : 2 ^ (1 + k) ≡ 2 * 2 ^ k = pow-add 2 1 k in
+    ap (λ m. bit_at m j) (s.rest ∙ no_more (above * 2 ^ (1 + k)))
+    ∙ bit_at_cat_high above (1 + k) 0 j (pow_pos (1 + k)) high
+    ∙ sym (bit_at_cat_high above (1 + k) (2 ^ k) j (omega (arith, double, pow_pos k)) high)
+    ∙ ap (λ m. bit_at m j) (sym s.whole)
+  where
+    no_more : (m : ℕ) → m ≡ m + 0
+    no_more m = omega arith
+
 lowest_cleared : (bits : ℕ) → 0 < bits → bits < 2 ^ 6 → bit_at (others bits) (trailing_zeros w32 bits) ≡ 0
 lowest_cleared bits some few =
-    bit_at_clear_same w32 bits (trailing_zeros w32 bits) (omega (arith, lowest_few bits some few))
+    rest_clear bits (trailing_zeros w32 bits) _ (trailing_zeros w32 bits) (split bits some few) (omega arith)
 
 pub others_fewer : (bits : ℕ) → 0 < bits → bits < 2 ^ 6 → others bits < bits
 others_fewer bits some few =
-    elim (cases_lt (others bits) bits) [
-      | inl below ↦ below
-      | inr above ↦
-          let k = trailing_zeros w32 bits in
-          let least : others bits ≤ bits = and_le_l bits _ in
-          let same : others bits ≡ bits = omega (arith, above, least) in
-          let no : 0 ≡ 1 =
-          sym (lowest_cleared bits some few) ∙ ap (λ n. bit_at n k) same ∙ lowest_set bits some few in
-          absurd (omega (arith, no))
-    ]
+    let s = split bits some few in
+    omega (arith, s.whole, s.rest, pow_pos (trailing_zeros w32 bits))
 
 -- the bits at another place stay
-others_at : (bits j : ℕ) → 0 < bits → bits < 2 ^ 6 → j < 32 → ¬ (j ≡ trailing_zeros w32 bits)
+others_at : (bits j : ℕ) → 0 < bits → bits < 2 ^ 6 → ¬ (j ≡ trailing_zeros w32 bits)
     → bit_at (others bits) j ≡ bit_at bits j
-others_at bits j some few within other =
-    bit_at_clear_other w32 bits (trailing_zeros w32 bits) (omega (arith, lowest_few bits some few)) j within other
+others_at bits j some few other =
+    let k = trailing_zeros w32 bits in
+    let s = split bits some few in
+    elim (cases_lt j k) [
+      | inl low ↦
+          rest_clear bits k _ j s (omega (arith, low))
+          ∙ sym ((bit_at-trailing_zeros w32 bits some (omega (arith, few))).2 j low)
+      | inr least ↦ elim (cases_lt k j) [
+        | inl high ↦ rest_kept bits k _ j s (omega (arith, high))
+        | inr most ↦ absurd (other (omega (arith, least, most)))
+      ]
+    ]
 
 same_or_other : (j k : ℕ) → (j ≡ k) ⊎ (¬ (j ≡ k))
 same_or_other j k =
@@ -132,18 +203,12 @@ same_or_other j k =
 
 others_among : (bits j : ℕ) → 0 < bits → bits < 2 ^ 6 → bit_at (others bits) j ≡ 1 → bit_at bits j ≡ 1
 others_among bits j some few set =
-    elim (cases_lt j 32) [
-      | inl within ↦ elim (same_or_other j (trailing_zeros w32 bits)) [
-        | inl same ↦
-            let no : 0 ≡ 1 =
-            sym (lowest_cleared bits some few) ∙ ap (λ n. bit_at (others bits) n) (sym same) ∙ set in
-            absurd (omega (arith, no))
-        | inr other ↦ sym (others_at bits j some few within other) ∙ set
-      ]
-      | inr past ↦
-          let small : others bits < 2 ^ 32 = omega (arith, others_fewer bits some few, few) in
-          let no : 0 ≡ 1 = sym (bit_at_above (others bits) 32 j small past) ∙ set in
+    elim (same_or_other j (trailing_zeros w32 bits)) [
+      | inl same ↦
+          let no : 0 ≡ 1 =
+          sym (lowest_cleared bits some few) ∙ ap (λ n. bit_at (others bits) n) (sym same) ∙ set in
           absurd (omega (arith, no))
+      | inr other ↦ sym (others_at bits j some few other) ∙ set
     ]
 
 not_both : (a : Bool) → a ≡ true → not a ≡ true → ⊥
@@ -171,7 +236,7 @@ one_row bits top y some few =
           and_from _ _ (le-leb (top + k) y (omega (arith, from, same)))
           (lt-ltb y (top + k + 1) (omega (arith, from, same)))
       | inr other ↦
-          let kept = others_at bits j some few (omega (arith, from, to)) other in
+          let kept = others_at bits j some few other in
           absurd (not_both (bit_at (others bits) j == 1) (ap (λ n. n == 1) kept ∙ set.0) set.1)
     ])
     (λ t.

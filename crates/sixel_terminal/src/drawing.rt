@@ -104,7 +104,7 @@ impl Drawing {
             .terminal
             .try_draw_stretch(self.pen, &self.colours, &mut self.pixels, bytes)
         {
-            Some(pen) => self.pen = pen,
+            Some(column) => self.pen.column = column,
             None => self.push_each(bytes),
         }
     }

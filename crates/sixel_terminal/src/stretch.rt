@@ -115,7 +115,7 @@ fn paint_lowest(
 {
     let bit = bits.trailing_zeros();
     set_pixel(pixels, (top + bit as usize) * width + left, ink);
-    bits & !(1 << bit)
+    bits & (bits - 1)
 }
 
 /// Paints the column of a sixel, bit by bit: most sixels have few.

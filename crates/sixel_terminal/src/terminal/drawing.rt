@@ -149,7 +149,8 @@ impl Terminal {
         }
     }
 
-    /// Draws the sixels of these data bytes, if a sixel pixel is one pixel high. Returns the pen after them.
+    /// Draws the sixels of these data bytes, if a sixel pixel is one pixel high. Returns the pen's column after them, which
+    /// alone of the pen they change.
     #[inline(always)]
     pub(crate) fn try_draw_stretch(
         &self,
@@ -157,12 +158,13 @@ impl Terminal {
         colours: &[Colour],
         inks: &mut [Pixel],
         bytes: &[u8],
-    ) -> Option<Pen>
+    ) -> Option<u32>
         requires stands { (before : List Event) × StandsAfter self.now before pen colours.now inks.old }
         requires data { (k : ℕ) → k < length bytes.now → IsTrue (is_data (slice_index bytes.now k)) }
-        ensures drawn { IfSome result (λ p. (before : List Event)
+        ensures drawn { IfSome result (λ column. (before : List Event)
             → StandsAfter self.now before pen colours.now inks.old
-            → StandsAfter self.now (before ++ sixels_of bytes.now) p colours.now inks.new) }
+            → StandsAfter self.now (before ++ sixels_of bytes.now) (record pen { column = column }) colours.now
+            inks.new) }
         ensures kept { IsNone result → inks.new ≡ inks.old }
     {
         let _ = &self.choices;
@@ -171,7 +173,7 @@ impl Terminal {
         }
         let ink = self.ink(colours, pen.selected);
         self.paint_stretch(pen, bytes, &ink, inks);
-        Some(pen.moved(bytes.len()))
+        Some(pen.moved(bytes.len()).column)
     }
 
     /// Gives each pixel the colour that it shows after the events. `has_eight_bit` says whether one of them is an 8-bit

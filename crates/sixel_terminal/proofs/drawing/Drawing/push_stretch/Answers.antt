@@ -20,7 +20,7 @@ invariant_of-self c =
     let after = rw c.deref.ensures.value at (c.in-Some.ensures.drawn events before) in
     rw inks (
       events ++ sixels_of c.args.bytes.now,
-      drawn_stretch _ events c.args.bytes.now c.in-Some.pen c.try_draw_stretch.new.inks drawn after,
+      drawn_stretch _ events c.args.bytes.now (record inside.pen { column = c.in-Some.column }) c.try_draw_stretch.new.inks drawn after,
     )
 
 pub returns-in-Some-clause-drawn : goal.returns-in-Some-clause-drawn
@@ -34,7 +34,7 @@ returns-in-Some-clause-drawn c = λ events known.
     let before : StandsAfter inside.terminal events inside.pen c.deref.result.now c.deref_mut.result.now =
     rw (c.deref.ensures.value, c.deref_mut.ensures.value) drawn.stands in
     let after = rw c.deref.ensures.value at (c.in-Some.ensures.drawn events before) in
-    rw inks (drawn_stretch _ events c.args.bytes.now c.in-Some.pen c.try_draw_stretch.new.inks drawn after)
+    rw inks (drawn_stretch _ events c.args.bytes.now (record inside.pen { column = c.in-Some.column }) c.try_draw_stretch.new.inks drawn after)
 
 pub returns-in-None-clause-drawn : goal.returns-in-None-clause-drawn
 returns-in-None-clause-drawn c = λ events known.

@@ -1,4 +1,4 @@
-use Rattle.std.proofs.Common.{◌≤◌, ◌∙◌, ◌++◌, sym, subst, arith}
+use Rattle.std.proofs.Common.{ap, ◌≤◌, ◌∙◌, ◌++◌, sym, subst, arith}
 use Rattle.sixel_terminal.specs.declared.pen.Pen.{Pen}
 use Rattle.sixel_terminal.specs.Standing.{StandsAfter}
 use Rattle.sixel_terminal.specs.Steps.{most}
@@ -15,6 +15,6 @@ returns-clause-drawn c = λ before s.
     let known : Runs t = runs_seen _ _ _ _ c.self.view_is c.self.invariant in
     let few : pen.column ≤ most = omega (arith, s.pen.column_is) in
     subst (λ (p : Pen). StandsAfter t (before ++ sixels_of bytes) p c.args.colours.now c.paint_stretch.new.inks)
-    (pen_moved pen bytes few ∙ sym c.moved.ensures)
+    (pen_moved pen bytes few ∙ ap (λ (p : Pen). record pen { column = p.column }) (sym c.moved.ensures))
     (stands_stretch t bytes before pen c.args.colours.now c.args.inks.now c.paint_stretch.new.inks known s
     c.paint_stretch.auto.inks (rw c.ink-ink.ensures at c.paint_stretch.ensures))
