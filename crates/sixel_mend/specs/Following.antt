@@ -1,4 +1,4 @@
--- A reader, and what follows its events. Only contracts of private functions cite these.
+-- A reader, and what follows its events. `HasMeasured` of `Measuring` builds on it.
 use Rattle.std.specs.Prelude.{◌++◌, ℕ, List}
 use Rattle.sixel_grammar.specs.declared.command.Event.{Event}
 use Rattle.sixel_grammar.specs.declared.command.Placed.{Placed}

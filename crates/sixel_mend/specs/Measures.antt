@@ -1,4 +1,4 @@
--- What an extent stores. Only contracts of private functions cite these.
+-- What an extent stores. `HasMeasured` of `Measuring` builds on it.
 use Rattle.std.specs.Prelude.{◌≡◌, ℕ, ◌+◌, ◌-◌, ◌*◌, ◌^◌, List, Option, min, if◌then◌else◌}
 use Rattle.std.specs.Option.{option_map, option_or}
 use Rattle.sixel_grammar.specs.declared.command.Event.{Event}
