@@ -94,6 +94,9 @@ impl Drawing {
     }
 
     /// Draws the sixels of these data bytes, in order. It is faster than `push` with one after the other.
+    ///
+    /// It is inlined, since most stretches are short: a call costs as much as painting two sixels.
+    #[inline(always)]
     pub fn push_stretch(&mut self, bytes: &[u8])
         requires { (k : ℕ) → k < length bytes.now → IsTrue (is_data (slice_index bytes.now k)) }
         ensures terminal { self.new.terminal ≡ self.old.terminal }
@@ -110,6 +113,7 @@ impl Drawing {
     }
 
     /// The same, sixel by sixel.
+    #[inline(never)]
     fn push_each(&mut self, bytes: &[u8])
         requires { (k : ℕ) → k < length bytes.now → IsTrue (is_data (slice_index bytes.now k)) }
         ensures terminal { self.new.terminal ≡ self.old.terminal }
