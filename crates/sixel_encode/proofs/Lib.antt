@@ -8,6 +8,9 @@ pub mod DecimalLemmas
 pub mod LineLemmas
 pub mod MaskLemmas
 pub mod RepeatLemmas
+pub mod GapBitLemmas
+pub mod GapItemLemmas
+pub mod GapRunLemmas
 pub mod StretchLemmas
 pub mod StepLemmas
 pub mod OccurLemmas

@@ -1,3 +1,4 @@
 pub mod Canon
 pub mod Columns
+pub mod Gaps
 pub mod Laws

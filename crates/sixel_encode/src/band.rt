@@ -1,15 +1,17 @@
 //! Writes a band: six rows of a picture, or fewer in the last band.
 
-ghost use Rattle.std.specs.Prelude.{◌≡◌, ◌==◌, ◌+◌, ◌-◌, ◌<◌, ◌≤◌, ◌++◌, ◌∷◌, [], if◌then◌else◌, length};
+ghost use Rattle.std.specs.Prelude.{◌≡◌, ◌==◌, ◌+◌, ◌-◌, ◌%◌, ◌<◌, ◌≤◌, ◌++◌, ◌∷◌, [], if◌then◌else◌, length};
 ghost use Rattle.std.specs.Prelude.{slice_index};
 ghost use Rattle.sixel_io.specs.Blocks.{WritesThrough};
 ghost use Rattle.sixel_grammar.specs.Spelling.{IsSpellable};
 ghost use Rattle.sixel_model.specs.Pictures.{most_side};
 ghost use Rattle.sixel_encode.specs.Canon.{band_commands, commands_text, most_bands, run_commands};
 ghost use Rattle.sixel_encode.specs.Columns.{AreSixels, IsInkIn, part, sixel_commands};
+ghost use Rattle.sixel_encode.specs.Gaps.{AreGapEnds, IsApart, IsNext};
 
 use crate::columns::find_sixels;
 use crate::commands::{Text, put_command};
+use crate::gaps::Gaps;
 use crate::groups::band_groups;
 use crate::lanes::LANES;
 use crate::line::{Line, MOST_BYTES};
@@ -22,19 +24,57 @@ use sixel_model::Picture;
 /// The columns of the widest picture, and two groups of blank ones. So a search by groups finds an end of all columns.
 pub(crate) const ROOM: usize = MOST_BYTES;
 
+/// Room for what is found out of the columns of a register: where their gaps end, and their text.
+#[derive(Debug, Drop)]
+pub(crate) struct Speller {
+    gaps: Gaps,
+    line: Line,
+}
+
+impl Speller {
+    pub(crate) fn new() -> Speller {
+        Speller {
+            gaps: Gaps::new(),
+            line: Line::new(),
+        }
+    }
+
+    /// Makes the text of the columns. Those whose group isn't in the mask are blank.
+    fn spell(&mut self, sixels: &[u8], groups: u64)
+        requires sixels { AreSixels sixels.now }
+        requires few { length sixels.now ≤ ROOM }
+        requires whole { length sixels.now % LANES ≡ 0 }
+        requires ink { IsInkIn groups sixels.now }
+        ensures { self.new.line ≡ commands_text (sixel_commands sixels.now) }
+    {
+        if is_sparse(sixels, groups) {
+            self.gaps.find(sixels, groups);
+            spell_by_gaps(&mut self.line, sixels, &self.gaps);
+        } else {
+            spell_columns(&mut self.line, sixels, groups);
+        }
+    }
+}
+
+/// Whether whole groups of columns are blank, besides those behind the picture. Only then a list of gaps pays.
+fn is_sparse(sixels: &[u8], groups: u64) -> bool {
+    groups.count_ones() as usize + 2 < sixels.len() / LANES
+}
+
 /// Writes the registers of a band, each with its columns, with a carriage return between two. `sixels` is room for the
-/// columns of a register, `line` for their text.
+/// columns of a register.
 pub(crate) fn put_band<K: Sink>(
     text: &mut Text,
     picture: &Picture,
     band: u32,
     sixels: &mut [u8],
-    line: &mut Line,
+    speller: &mut Speller,
     out: &mut K,
 ) -> Result<(), DeviceFault>
     requires band { band < most_bands }
     requires room { picture.now.width ≤ length sixels.old }
     requires few { length sixels.old ≤ ROOM }
+    requires whole { length sixels.old % LANES ≡ 0 }
     ensures { WritesThrough result (K.state out.old) (K.state out.new) text.old text.new
         (commands_text (band_commands picture.now band)) }
 {
@@ -45,7 +85,7 @@ pub(crate) fn put_band<K: Sink>(
         let own = groups[register as usize];
         if own != 0 {
             find_sixels(sixels, rows, width, register as u8, own);
-            put_next(text, register as u8, sixels, own, line, is_first, out)?;
+            put_next(text, register as u8, sixels, own, speller, is_first, out)?;
             is_first = false;
         }
     }
@@ -57,6 +97,7 @@ pub(crate) fn room_for(width: usize) -> usize
     requires { width ≤ most_side }
     ensures room { width + LANES < result }
     ensures most { result ≤ ROOM }
+    ensures whole { result % LANES ≡ 0 }
 {
     (width / LANES + 2) * LANES
 }
@@ -67,19 +108,20 @@ fn put_next<K: Sink>(
     register: u8,
     sixels: &[u8],
     groups: u64,
-    line: &mut Line,
+    speller: &mut Speller,
     is_first: bool,
     out: &mut K,
 ) -> Result<(), DeviceFault>
     requires sixels { AreSixels sixels.now }
     requires few { length sixels.now ≤ ROOM }
+    requires whole { length sixels.now % LANES ≡ 0 }
     requires ink { IsInkIn groups sixels.now }
     ensures { WritesThrough result (K.state out.old) (K.state out.new) text.old text.new
         (commands_text ((if is_first then [] else Command.CarriageReturn ∷ [])
         ++ (Command.Select register ∷ sixel_commands sixels.now))) }
 {
     put_between(text, is_first, Command::CarriageReturn, out)?;
-    put_register(text, register, sixels, groups, line, out)
+    put_register(text, register, sixels, groups, speller, out)
 }
 
 /// Writes the command as a separator: nothing before the first item.
@@ -106,17 +148,18 @@ fn put_register<K: Sink>(
     register: u8,
     sixels: &[u8],
     groups: u64,
-    line: &mut Line,
+    speller: &mut Speller,
     out: &mut K,
 ) -> Result<(), DeviceFault>
     requires sixels { AreSixels sixels.now }
     requires few { length sixels.now ≤ ROOM }
+    requires whole { length sixels.now % LANES ≡ 0 }
     requires ink { IsInkIn groups sixels.now }
     ensures { WritesThrough result (K.state out.old) (K.state out.new) text.old text.new
         (commands_text (Command.Select register ∷ sixel_commands sixels.now)) }
 {
     put_command(text, select(register), out)?;
-    put_columns(text, sixels, groups, line, out)
+    put_columns(text, sixels, groups, speller, out)
 }
 
 fn select(register: u8) -> Command
@@ -130,17 +173,18 @@ fn put_columns<K: Sink>(
     text: &mut Text,
     sixels: &[u8],
     groups: u64,
-    line: &mut Line,
+    speller: &mut Speller,
     out: &mut K,
 ) -> Result<(), DeviceFault>
     requires sixels { AreSixels sixels.now }
     requires few { length sixels.now ≤ ROOM }
+    requires whole { length sixels.now % LANES ≡ 0 }
     requires ink { IsInkIn groups sixels.now }
     ensures { WritesThrough result (K.state out.old) (K.state out.new) text.old text.new
         (commands_text (sixel_commands sixels.now)) }
 {
-    spell_columns(line, sixels, groups);
-    text.put(line.as_slice(), out)
+    speller.spell(sixels, groups);
+    text.put(speller.line.as_slice(), out)
 }
 
 /// The text of the columns: four or more equal columns are a repeat, any others single sixels.
@@ -161,6 +205,28 @@ fn spell_columns(line: &mut Line, sixels: &[u8], groups: u64)
         }
         line.push_repeat((end - start) as u16, sixels[start] - b'?');
         from = end;
+    }
+    line.push_part(sixels, from, ink_end(sixels, from));
+}
+
+/// The same, by a list of where gaps end, so that no blank repeat is searched.
+fn spell_by_gaps(line: &mut Line, sixels: &[u8], gaps: &Gaps)
+    requires sixels { AreSixels sixels.now }
+    requires few { length sixels.now ≤ ROOM }
+    requires ends { AreGapEnds (length sixels.now) sixels.now gaps.now.ends gaps.now.count }
+    ensures { line.new ≡ commands_text (sixel_commands sixels.now) }
+{
+    line.clear();
+    let (mut from, mut next) = (0, 0);
+    while let Some(start) = find_repeat(sixels, from) {
+        let (stop, behind) = gaps.run_end(sixels, from, start, next);
+        line.push_part(sixels, from, start);
+        // Blank columns at the end are left out.
+        if stop == sixels.len() && sixels[start] == b'?' {
+            return;
+        }
+        line.push_repeat((stop - start) as u16, sixels[start] - b'?');
+        (from, next) = (stop, behind);
     }
     line.push_part(sixels, from, ink_end(sixels, from));
 }

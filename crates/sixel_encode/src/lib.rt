@@ -5,6 +5,7 @@ mod band;
 mod columns;
 mod commands;
 mod digits;
+mod gaps;
 mod groups;
 mod lanes;
 pub mod laws;

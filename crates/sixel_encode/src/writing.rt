@@ -1,6 +1,6 @@
 //! Writes the canonical text of a picture.
 
-ghost use Rattle.std.specs.Prelude.{◌≡◌, ◌++◌, ◌∷◌, [], ◌==◌, ◌<◌, ◌≤◌, OnOk, false, length, if◌then◌else◌};
+ghost use Rattle.std.specs.Prelude.{◌≡◌, ◌++◌, ◌∷◌, [], ◌==◌, ◌%◌, ◌<◌, ◌≤◌, OnOk, false, length, if◌then◌else◌};
 ghost use Rattle.std.specs.Option.{option_map, option_to_list};
 ghost use Rattle.sixel_io.specs.Blocks.{WritesThrough};
 ghost use Rattle.sixel_io.specs.Devices.{Writes};
@@ -9,9 +9,8 @@ ghost use Rattle.sixel_encode.specs.Canon.{band_commands, canon_commands, canon_
 ghost use Rattle.sixel_encode.specs.Canon.{define_command, define_commands, opening_commands, picture_commands};
 ghost use Rattle.sixel_encode.specs.Canon.{most_bands};
 
-use crate::band::{ROOM, put_band, put_between, room_for};
+use crate::band::{ROOM, Speller, put_band, put_between, room_for};
 use crate::commands::{Text, put_command};
-use crate::line::Line;
 use arrayvec::ArrayVec;
 use sixel_grammar::{Command, Event, put_event};
 use sixel_io::{DeviceFault, Sink};
@@ -155,24 +154,25 @@ fn put_bands<K: Sink>(text: &mut Text, picture: &Picture, out: &mut K) -> Result
 {
     let mut room = [0; ROOM];
     let end = room_for(picture.width() as usize);
-    put_each_band(text, picture, &mut room[..end], &mut Line::new(), out)
+    put_each_band(text, picture, &mut room[..end], &mut Speller::new(), out)
 }
 
-/// The same, with room for the columns of a register and for their text.
+/// The same, with room for the columns of a register and for what is found out of them.
 fn put_each_band<K: Sink>(
     text: &mut Text,
     picture: &Picture,
     sixels: &mut [u8],
-    line: &mut Line,
+    speller: &mut Speller,
     out: &mut K,
 ) -> Result<(), DeviceFault>
     requires room { picture.now.width ≤ length sixels.old }
     requires few { length sixels.old ≤ ROOM }
+    requires whole { length sixels.old % 32 ≡ 0 }
     ensures { WritesThrough result (K.state out.old) (K.state out.new) text.old text.new
         (commands_text (picture_commands picture.now)) }
 {
     for band in 0..picture.height().div_ceil(BAND_ROWS) {
-        put_next_band(text, picture, band, sixels, line, out)?;
+        put_next_band(text, picture, band, sixels, speller, out)?;
     }
     Ok(())
 }
@@ -183,15 +183,16 @@ fn put_next_band<K: Sink>(
     picture: &Picture,
     band: u32,
     sixels: &mut [u8],
-    line: &mut Line,
+    speller: &mut Speller,
     out: &mut K,
 ) -> Result<(), DeviceFault>
     requires band { band < most_bands }
     requires room { picture.now.width ≤ length sixels.old }
     requires few { length sixels.old ≤ ROOM }
+    requires whole { length sixels.old % 32 ≡ 0 }
     ensures { WritesThrough result (K.state out.old) (K.state out.new) text.old text.new
         (commands_text ((if band == 0 then [] else Command.NextLine ∷ []) ++ band_commands picture.now band)) }
 {
     put_between(text, band == 0, Command::NextLine, out)?;
-    put_band(text, picture, band, sixels, line, out)
+    put_band(text, picture, band, sixels, speller, out)
 }

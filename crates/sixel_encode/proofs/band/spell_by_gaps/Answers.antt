@@ -1,0 +1,67 @@
+use Rattle.std.proofs.Common.{◌≡◌, ◌≢◌, ◌<◌, ◌≤◌, ◌++◌, ◌-◌, List, drop, get_or, length, refl, sym, ap, ◌∙◌, arith}
+use Rattle.std.proofs.Common.{append_assoc}
+use Rattle.sixel_encode.specs.Columns.{bits_of_sixels, part}
+use Rattle.sixel_encode.proofs.GapRunLemmas.{apart_behind, none_passed}
+use Rattle.sixel_encode.proofs.StretchLemmas.{blank_end, ink_text, next_text}
+use Rattle.sixel_encode.proofs.TextLemmas.{columns_text, run_text}
+use Rattle.sixel_encode.proofs.band.spell_by_gaps.Goals as goal
+use Rattle.sixel_encode.proofs.band.spell_by_gaps.Goals.{else-stop-sixels-via-then-stop-sixels+else-sixels-start-eq63}
+use Rattle.sixel_encode.proofs.band.spell_by_gaps.Goals.{else-stop-sixels-via-else-stop-sixels}
+
+pub loop-start-init : goal.loop-start-init
+loop-start-init c = record {
+  text = rw (c.clear.ensures) refl;
+  short = omega (arith, ap length c.clear.ensures);
+  within = omega arith;
+  apart = λ some. absurd (omega (arith, some));
+  next = none_passed c.args.sixels.now c.args.gaps.now.ends c.args.gaps.now.count (length c.args.sixels.now)
+      c.requires.ends;
+  small = omega arith;
+}
+
+pub returns-then-sixels-start-eq63 : goal.returns-then-sixels-start-eq63
+returns-then-sixels-start-eq63 c =
+    let xs = c.args.sixels.now in
+    let inv = c.loop-start.invariant in
+    c.push_part.ensures.text
+    ∙ sym (inv.text ∙ ap (λ (t : List _). c.loop-start.line ++ t)
+    (blank_end xs c.loop-start.from c.in-Some.start c.run_end-stop.result.0 c.requires.sixels c.in-Some.ensures
+    c.run_end-stop.ensures.run c.if-stop-sixels.true c.if-sixels-start-eq63.true))
+
+pub loop-start-preserved : goal.loop-start-preserved
+loop-start-preserved c =
+    let xs = c.args.sixels.now in
+    let inv = c.loop-start.invariant in
+    let some : c.run_end-stop.result.0 ≡ length xs → get_or xs c.in-Some.start 0 ≢ 63 =
+    elim c.else-stop-sixels.branch [
+      | else-stop-sixels-via-then-stop-sixels+else-sixels-start-eq63 w ↦
+          λ done blank. w.if-sixels-start-eq63.false blank
+      | else-stop-sixels-via-else-stop-sixels w ↦ λ done blank. w.if-stop-sixels.false done
+    ] in
+    let more = next_text xs c.loop-start.from c.in-Some.start c.run_end-stop.result.0 c.requires.sixels
+    c.in-Some.ensures c.run_end-stop.ensures.run some in
+    let line = c.loop-start.line in
+    let single = part c.loop-start.from c.in-Some.start xs in
+    let run = run_text (c.run_end-stop.result.0 - c.in-Some.start) (get_or xs c.in-Some.start 0 - 63) in
+    let rest = columns_text (drop c.run_end-stop.result.0 (bits_of_sixels xs)) in
+    let low : c.loop-start.from ≤ c.in-Some.start = c.in-Some.ensures.after in
+    let high : c.in-Some.start < c.run_end-stop.result.0 = c.run_end-stop.ensures.run.some in
+    record {
+      text = rw (c.push_repeat.ensures.text, c.push_part.ensures.text)
+          (inv.text ∙ ap (λ (t : List _). line ++ t) more
+          ∙ sym (append_assoc line (single ++ run) rest)
+          ∙ ap (λ (t : List _). t ++ rest) (sym (append_assoc line single run)));
+      short = omega arith;
+      within = c.run_end-stop.ensures.run.within;
+      apart = apart_behind c.in-Some.start c.run_end-stop.result.0 xs c.run_end-stop.ensures.run;
+      next = c.run_end-stop.ensures.next;
+      small = c.run_end-stop.ensures.small;
+    }
+
+pub returns : goal.returns
+returns c =
+    let xs = c.args.sixels.now in
+    let inv = c.loop-start.invariant in
+    c.push_part-2.ensures.text
+    ∙ sym (inv.text ∙ ap (λ (t : List _). c.loop-start.line ++ t)
+    (ink_text xs c.loop-start.from c.ink_end.result c.requires.sixels c.in_default.ensures c.ink_end.ensures))
