@@ -1,6 +1,6 @@
 //! The text of the columns of one register, on its way to the block.
 
-ghost use Rattle.std.specs.Prelude.{◌≡◌, ◌+◌, ◌-◌, ◌<◌, ◌≤◌, ◌++◌, ◌∷◌, [], length, take};
+ghost use Rattle.std.specs.Prelude.{◌≡◌, ◌+◌, ◌-◌, ◌<◌, ◌≤◌, ◌++◌, ◌∷◌, [], decimal, if◌then◌else◌, length, nat_lt, take};
 ghost use Rattle.sixel_encode.specs.Canon.{commands_text, run_commands};
 ghost use Rattle.sixel_encode.specs.Columns.{part};
 
@@ -86,10 +86,8 @@ impl Line {
         ensures short { length self.new ≤ length self.old + count }
     {
         let sixel = 63 + bits;
-        if count < 10 {
-            self.push(&[b'!', digit(count), sixel]);
-        } else if count < 100 {
-            self.push(&[b'!', digit(count / 10), digit(count % 10), sixel]);
+        if count < 100 {
+            self.push_short(count, sixel);
         } else if count < 1_000 {
             let (hundreds, tens) = (digit(count / 100), digit(count / 10 % 10));
             self.push(&[b'!', hundreds, tens, digit(count % 10), sixel]);
@@ -100,6 +98,20 @@ impl Line {
         }
     }
 
+    /// Adds a repeat whose count has one digit or two. No branch decides which, since none could be foreseen.
+    #[inline]
+    fn push_short(&mut self, count: u16, sixel: u8)
+        requires least { 4 ≤ count }
+        requires most { count < 100 }
+        requires room { length self.old + count ≤ MOST_BYTES }
+        ensures text { self.new ≡ self.old ++ (33 ∷ decimal count ++ sixel ∷ []) }
+        ensures short { length self.new ≤ length self.old + count }
+    {
+        let end = self.end;
+        put_at(&mut self.text[..], end, &short_bytes(count, sixel));
+        self.end = end + short_length(count);
+    }
+
     #[inline]
     fn push(&mut self, bytes: &[u8])
         requires { length self.old + length bytes.now ≤ MOST_BYTES }
@@ -108,6 +120,31 @@ impl Line {
     {
         put_at(&mut self.text[..], self.end, bytes);
         self.end += bytes.len();
+    }
+}
+
+/// How many bytes a repeat has whose count has one digit or two.
+#[inline]
+fn short_length(count: u16) -> usize
+    ensures value { result ≡ (if nat_lt count 10 then 3 else 4) }
+    ensures some { 3 ≤ result }
+    ensures few { result ≤ 4 }
+{
+    4 - usize::from(count < 10)
+}
+
+/// The bytes of such a repeat, and one more behind a single digit.
+#[inline]
+fn short_bytes(count: u16, sixel: u8) -> [u8; 4]
+    requires { count < 100 }
+    ensures text { take (if nat_lt count 10 then 3 else 4) result ≡ 33 ∷ decimal count ++ sixel ∷ [] }
+    ensures long { length result ≡ 4 }
+{
+    let (tens, ones) = (digit(count / 10), digit(count % 10));
+    if count < 10 {
+        [b'!', ones, sixel, sixel]
+    } else {
+        [b'!', tens, ones, sixel]
     }
 }
 

@@ -1,32 +1,20 @@
-use Rattle.std.proofs.Common.{◌++◌, List, ap, sym, ◌∙◌, arith}
-use Rattle.std.proofs.lemmas.Fmt.{decimal_digit}
-use Rattle.sixel_encode.proofs.DecimalLemmas.{four_digits, three_digits, two_digits}
+use Rattle.std.proofs.Common.{◌++◌, List, ap, refl, sym, ◌∙◌, arith}
+use Rattle.sixel_encode.proofs.DecimalLemmas.{four_digits, three_digits}
 use Rattle.sixel_encode.proofs.LineLemmas.{run_spelled}
 use Rattle.sixel_encode.proofs.line.Line.push_repeat.Goals as goal
 
-pub returns-then-count-lt10-clause-text : goal.returns-then-count-lt10-clause-text
-returns-then-count-lt10-clause-text c =
-    let n = c.args.count in
-    c.push.ensures.text
-    ∙ ap (λ (t : List _). c.args.self.now ++ t)
-    (rw (c.digit.ensures)
-    (sym (run_spelled n c.args.bits _ c.requires.least (decimal_digit n c.if-count-lt10.true))))
-
 pub returns-then-count-lt100-clause-text : goal.returns-then-count-lt100-clause-text
 returns-then-count-lt100-clause-text c =
-    let n = c.args.count in
-    c.push-then-count-lt100.ensures.text
+    c.push_short.ensures.text
     ∙ ap (λ (t : List _). c.args.self.now ++ t)
-    (rw (c.digit-then-count-lt100.ensures, c.digit-then-count-lt100-2.ensures)
-    (sym (run_spelled n c.args.bits _ c.requires.least
-    (two_digits n (omega (arith, c.if-count-lt10.false)) c.if-count-lt100.true))))
+    (sym (run_spelled c.args.count c.args.bits _ c.requires.least refl))
 
 pub returns-then-count-lt1000-clause-text : goal.returns-then-count-lt1000-clause-text
 returns-then-count-lt1000-clause-text c =
     let n = c.args.count in
-    c.push-then-count-lt1000.ensures.text
+    c.push.ensures.text
     ∙ ap (λ (t : List _). c.args.self.now ++ t)
-    (rw (c.digit-hundreds.ensures, c.digit-tens.ensures, c.digit-then-count-lt1000.ensures)
+    (rw (c.digit-hundreds.ensures, c.digit-tens.ensures, c.digit.ensures)
     (sym (run_spelled n c.args.bits _ c.requires.least
     (three_digits n (omega (arith, c.if-count-lt100.false)) c.if-count-lt1000.true))))
 
