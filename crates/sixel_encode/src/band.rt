@@ -1,13 +1,12 @@
 //! Writes a band: six rows of a picture, or fewer in the last band.
 
 ghost use Rattle.std.specs.Prelude.{◌≡◌, ◌==◌, ◌+◌, ◌-◌, ◌%◌, ◌<◌, ◌≤◌, ◌++◌, ◌∷◌, [], if◌then◌else◌, length};
-ghost use Rattle.std.specs.Prelude.{slice_index};
 ghost use Rattle.sixel_io.specs.Blocks.{WritesThrough};
 ghost use Rattle.sixel_grammar.specs.Spelling.{IsSpellable};
 ghost use Rattle.sixel_model.specs.Pictures.{most_side};
-ghost use Rattle.sixel_encode.specs.Canon.{band_commands, commands_text, most_bands, run_commands};
-ghost use Rattle.sixel_encode.specs.Columns.{AreSixels, IsInkIn, part, sixel_commands};
-ghost use Rattle.sixel_encode.specs.Gaps.{AreGapEnds, IsApart, IsNext};
+ghost use Rattle.sixel_encode.specs.Canon.{band_commands, commands_text, most_bands};
+ghost use Rattle.sixel_encode.specs.Columns.{AreSixels, IsInkIn, sixel_commands};
+ghost use Rattle.sixel_encode.specs.Gaps.{AreGapEnds};
 
 use crate::columns::find_sixels;
 use crate::commands::{Text, put_command};
