@@ -1,5 +1,6 @@
 -- Bytes behind the text of a line.
-use Rattle.std.proofs.Common.{◌≡◌, ℕ, ◌+◌, ◌%◌, ◌/◌, ◌<◌, ◌≤◌, refl, Bool, true, List, [], ◌∷◌, ◌++◌, drop, length, replicate, take, sym, ap}
+use Rattle.std.proofs.Common.{◌≡◌, ℕ, ◌+◌, ◌%◌, ◌/◌, ◌<◌, ◌≤◌, refl, Bool, true, List, [], ◌∷◌, ◌++◌, drop, length}
+use Rattle.std.proofs.Common.{replicate, take, sym, ap}
 use Rattle.std.proofs.Common.{◌∙◌, arith}
 use Rattle.std.specs.Prelude.{decimal, nat_le, nat_lt, if◌then◌else◌}
 use Rattle.std.proofs.lemmas.Bool.{le-leb, le-ltb, lt-ltb}

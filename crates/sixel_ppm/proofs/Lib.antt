@@ -4,6 +4,7 @@ mod WorkedPpms
 pub mod PpmHeaderLemmas
 pub mod PpmColourLemmas
 pub mod PpmSampleLemmas
+pub mod PpmEntryLemmas
 pub mod PpmPixelCacheLemmas
 pub mod PpmReadLemmas
 pub mod PpmFileLemmas

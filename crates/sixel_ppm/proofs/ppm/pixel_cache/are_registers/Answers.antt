@@ -1,5 +1,5 @@
 use Rattle.std.proofs.lemmas.Bool.{ltb-true}
-use Rattle.sixel_ppm.proofs.PpmPixelCacheLemmas.{four_below}
+use Rattle.sixel_ppm.proofs.PpmEntryLemmas.{four_below}
 use Rattle.sixel_ppm.proofs.ppm.pixel_cache.are_registers.Goals as goal
 
 pub returns : goal.returns

@@ -1,5 +1,5 @@
 use Rattle.std.proofs.Common.{◌*◌, ◌+◌, arith}
-use Rattle.sixel_ppm.proofs.PpmPixelCacheLemmas.{found_hit}
+use Rattle.sixel_ppm.proofs.PpmEntryLemmas.{found_hit}
 use Rattle.sixel_ppm.proofs.ppm.pixel_cache.PixelCache.found_at.Goals as goal
 
 pub returns : goal.returns

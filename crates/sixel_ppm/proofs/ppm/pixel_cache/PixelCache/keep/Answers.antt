@@ -1,5 +1,5 @@
 use Rattle.std.proofs.Common.{refl, arith}
-use Rattle.sixel_ppm.proofs.PpmPixelCacheLemmas.{keeps}
+use Rattle.sixel_ppm.proofs.PpmEntryLemmas.{keeps}
 use Rattle.sixel_ppm.proofs.ppm.pixel_cache.PixelCache.keep.Goals as goal
 
 pub returns : goal.returns

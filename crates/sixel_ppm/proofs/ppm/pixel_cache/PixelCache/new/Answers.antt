@@ -1,5 +1,5 @@
 use Rattle.std.proofs.Common.{refl}
-use Rattle.sixel_ppm.proofs.PpmPixelCacheLemmas.{none_cached}
+use Rattle.sixel_ppm.proofs.PpmEntryLemmas.{none_cached}
 use Rattle.sixel_ppm.proofs.ppm.pixel_cache.PixelCache.new.Goals as goal
 
 pub returns : goal.returns
