@@ -14,7 +14,8 @@ const MOST_NAME: usize = 4_095;
 /// 260.
 const ROOM: usize = 16_640;
 
-type NamedLine = ArrayVec<u8, ROOM>;
+/// Room for most lines. An `ArrayVec` with so little is quickly cleared and moved.
+const SHORT: usize = 256;
 
 fn hex_digit(number: u8) -> u8
     requires { number < 16 }
@@ -45,14 +46,14 @@ fn printed_byte(byte: u8) -> ArrayVec<u8, 4>
 }
 
 /// Appends the bytes, if there is room.
-fn push_all(line: &mut NamedLine, text: &[u8]) -> Option<()>
+fn push_all<const N: usize>(line: &mut ArrayVec<u8, N>, text: &[u8]) -> Option<()>
     ensures { IfSome result (λ _. line.new.items ≡ line.old.items ++ text.now) }
 {
     line.try_extend_from_slice(text).ok()
 }
 
 /// Appends a name as it is printed, if there is room.
-fn push_name(line: &mut NamedLine, name: &[u8]) -> Option<()>
+fn push_name<const N: usize>(line: &mut ArrayVec<u8, N>, name: &[u8]) -> Option<()>
     ensures { IfSome result (λ _. line.new.items ≡ line.old.items ++ printed name.now) }
 {
     for byte in name {
@@ -62,7 +63,12 @@ fn push_name(line: &mut NamedLine, name: &[u8]) -> Option<()>
 }
 
 /// A line that contains a name, if there is room for it.
-fn joined(before: &[u8], name: &str, after: &[u8], rest: &[u8]) -> Option<NamedLine>
+fn joined<const N: usize>(
+    before: &[u8],
+    name: &str,
+    after: &[u8],
+    rest: &[u8],
+) -> Option<ArrayVec<u8, N>>
     ensures { IfSome result (λ line. line.items ≡ before.now ++ printed name.now ++ after.now ++ rest.now) }
 {
     let mut line = ArrayVec::new();
@@ -85,7 +91,27 @@ pub fn put_named<K: Sink>(
     ensures { Writes result (K.state out.old) (K.state out.new)
         (before.now ++ printed name.now ++ after.now ++ rest.now) }
 {
-    match joined(before, name, after, rest) {
+    let short: Option<ArrayVec<u8, SHORT>> = joined(before, name, after, rest);
+    match short {
+        Some(line) => put_all(out, line.as_slice()),
+        None => put_long(out, before, name, after, rest),
+    }
+}
+
+/// Writes a line that has no room in a short one.
+#[inline(never)]
+fn put_long<K: Sink>(
+    out: &mut K,
+    before: &[u8],
+    name: &str,
+    after: &[u8],
+    rest: &[u8],
+) -> Result<(), DeviceFault>
+    ensures { Writes result (K.state out.old) (K.state out.new)
+        (before.now ++ printed name.now ++ after.now ++ rest.now) }
+{
+    let long: Option<ArrayVec<u8, ROOM>> = joined(before, name, after, rest);
+    match long {
         Some(line) => put_all(out, line.as_slice()),
         None => put_parts(out, before, name, after, rest),
     }
@@ -122,7 +148,7 @@ fn put_name<K: Sink>(out: &mut K, name: &[u8]) -> Result<(), DeviceFault>
 }
 
 /// How a part of a name is printed.
-fn printed_part(part: &[u8]) -> NamedLine
+fn printed_part(part: &[u8]) -> ArrayVec<u8, ROOM>
     requires { length part.now ≤ 4095 }
     ensures { result.items ≡ printed part.now }
 {
