@@ -1,15 +1,14 @@
 -- The strings of a stream.
 use Rattle.std.proofs.Common.{◌≡◌, ◌∙◌, ℕ, zero, suc, ◌+◌, ◌<◌, ◌≤◌, Bool, List, [], ◌∷◌, ◌++◌, length, drop}
 use Rattle.std.proofs.Common.{inl, inr, refl, sym, ap, ap₂, subst, append_assoc, arith}
-use Rattle.std.specs.List.{AllByRecursion}
 use Rattle.std.proofs.lemmas.List.{append-nil, append_cancel_left, drop_at, length-append}
 use Rattle.sixel_scan.specs.Prefixes.{Resumes}
-use Rattle.sixel_scan.specs.Scanning.{BeginsNone}
+use Rattle.sixel_scan.specs.Scanning.{NoneBegins}
 use Rattle.sixel_scan.specs.Strings.{AreStrings, AreStringsFrom, HasNoOpening, IsNext, IsString, Opens, OpensAt}
 use Rattle.sixel_scan.specs.Strings.{StringAt}
 use Rattle.sixel_scan.proofs.EndLemmas.{end_once, ending_of}
 use Rattle.sixel_scan.proofs.ListLemmas.{no_less}
-use Rattle.sixel_scan.proofs.OpeningLemmas.{not_opening, nothing_opens, opening_once, opening_or_none}
+use Rattle.sixel_scan.proofs.OpeningLemmas.{nothing_opens, opening_once, opening_or_none}
 use Rattle.sixel_scan.proofs.OpeningLemmas.{opening_some}
 
 -- ---- past a byte at which no opening begins
@@ -203,18 +202,19 @@ pub resumes_past : (eight : Bool) (told : List StringAt) (bytes : List ℕ) (off
 resumes_past eight told bytes offset b held none r =
     λ found more h. r found more (pass eight offset b (held ++ more) found (none more) h)
 
--- past bytes with which no opening begins
+-- past bytes at which no opening begins
 pub resumes_past_run : (eight : Bool) (told : List StringAt) (bytes : List ℕ) (offset : ℕ) (run held : List ℕ)
-    → AllByRecursion (BeginsNone eight) run → Resumes eight told bytes offset (run ++ held)
+    → NoneBegins eight run → Resumes eight told bytes offset (run ++ held)
     → Resumes eight told bytes (offset + length run) held
 resumes_past_run eight told bytes offset [] held none r =
     let e : offset ≡ offset + 0 = omega arith in subst (λ (n : ℕ). Resumes eight told bytes n held) e r
 resumes_past_run eight told bytes offset (b ∷ run) held none r =
     let e : offset + 1 + length run ≡ offset + length (b ∷ run) = omega arith in
     subst (λ (n : ℕ). Resumes eight told bytes n held) e
-    (resumes_past_run eight told bytes (offset + 1) run held none.1
+    (resumes_past_run eight told bytes (offset + 1) run held (λ n more less. none (suc n) more (omega (arith, less)))
     (resumes_past eight told bytes offset b (run ++ held)
-    (λ more. not_opening eight b ((run ++ held) ++ more) none.0) r))
+    (λ more h. none 0 (held ++ more) (omega arith)
+    (subst (λ (t : List ℕ). Opens eight (b ∷ t)) (append_assoc run held more) h)) r))
 
 -- past a string
 pub resumes_after : (eight : Bool) (told : List StringAt) (bytes : List ℕ) (offset : ℕ) (string held : List ℕ)

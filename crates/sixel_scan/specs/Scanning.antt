@@ -1,8 +1,8 @@
 -- Bytes at which nothing ends or begins. Only contracts of private functions cite these.
-use Rattle.std.specs.Prelude.{◌≢◌, ℕ, Bool, IsTrue, List}
+use Rattle.std.specs.Prelude.{◌≢◌, ℕ, ◌<◌, Bool, IsTrue, List, ◌++◌, length}
 use Rattle.std.specs.List.{AllByRecursion}
 use Rattle.sixel_grammar.specs.Bytes.{escape}
-use Rattle.sixel_scan.specs.Strings.{cancel, substitute}
+use Rattle.sixel_scan.specs.Strings.{OpensAt, cancel, substitute}
 
 -- the byte ends no string, and is no ESC
 pub record IsInside (eight : Bool) (b : ℕ) : Type 0 where
@@ -23,3 +23,7 @@ pub record BeginsNone (eight : Bool) (b : ℕ) : Type 0 where
 -- nor with any of these
 abbrev pub BeginNone : Bool → List ℕ → Type 0
 BeginNone eight bytes = AllByRecursion (BeginsNone eight) bytes
+
+-- no opening begins at any of these bytes, whatever comes after them
+abbrev pub NoneBegins : Bool → List ℕ → Type 0
+NoneBegins eight bytes = (n : ℕ) (more : List ℕ) → n < length bytes → OpensAt eight (bytes ++ more) n → ⊥

@@ -1,8 +1,9 @@
 //! Which of the bytes between strings may become an opening.
 
-ghost use Rattle.std.specs.Prelude.{◌≡◌, ◌≤◌, ℕ, List, MatchOption, [], ◌∷◌, ◌++◌, length, take, true};
+ghost use Rattle.std.specs.Prelude.{◌≡◌, ◌≢◌, ◌≤◌, ◌+◌, ℕ, List, MatchOption, [], ◌∷◌, ◌++◌, get_or, length, take};
+ghost use Rattle.std.specs.Prelude.{true};
 ghost use Rattle.sixel_scan.specs.Openings.{Advances, IsHeld, after_parameters, is_introduced, is_longer};
-ghost use Rattle.sixel_scan.specs.Scanning.{BeginNone};
+ghost use Rattle.sixel_scan.specs.Scanning.{BeginNone, BeginsNone, NoneBegins};
 ghost use Rattle.sixel_scan.specs.Strings.{IsOpening};
 
 use memchr::{memchr, memchr2};
@@ -61,8 +62,42 @@ fn after_introducer(byte: u8) -> Option<Opening>
     }
 }
 
-/// How many bytes the piece begins with, with none of which an opening begins.
+/// How many bytes the piece begins with, in which no opening begins, whatever comes after them. It passes other control
+/// sequences, as those of colours.
 pub(crate) fn text_bytes_in(piece: &[u8], eight: bool) -> usize
+    ensures within { result ≤ length piece.now }
+    ensures text { NoneBegins eight (take result piece.now) }
+{
+    let mut count = plain_bytes_in(piece, eight);
+    while is_other_escape(piece, count, eight) {
+        let after = count + 2;
+        count = after + plain_bytes_in(&piece[after..], eight);
+    }
+    count
+}
+
+/// Whether there is an ESC at this index of the piece, and a byte after it with which no opening begins or goes on.
+#[inline]
+fn is_other_escape(piece: &[u8], at: usize, eight: bool) -> bool
+    requires { at ≤ length piece.now }
+    ensures within { result ≡ true → at + 2 ≤ length piece.now }
+    ensures escape { result ≡ true → get_or piece.now at 0 ≡ 27 }
+    ensures no_letter { result ≡ true → get_or piece.now (at + 1) 0 ≢ 80 }
+    ensures none { result ≡ true → BeginsNone eight (get_or piece.now (at + 1) 0) }
+{
+    if piece.len() - at < 2 || piece[at] != ESCAPE {
+        return false;
+    }
+    match piece[at + 1] {
+        b'P' | ESCAPE => false,
+        EIGHT_BIT_INTRODUCER => !eight,
+        _ => true,
+    }
+}
+
+/// How many bytes the piece begins with, with none of which an opening begins.
+#[inline]
+fn plain_bytes_in(piece: &[u8], eight: bool) -> usize
     ensures within { result ≤ length piece.now }
     ensures text { BeginNone eight (take result piece.now) }
 {
