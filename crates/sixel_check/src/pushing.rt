@@ -150,8 +150,8 @@ fn push_stretch<P: Plane>(
     push_after_first(checker, place, bytes, count)
 }
 
-/// As `push_stretch`, with the first sixel alone: where it is the first one that is painted in a register, it keeps the
-/// others from being taken in one step.
+/// As `push_stretch`, with the first sixel by itself: the others can be taken in one step only after a command painted
+/// in their register.
 #[inline(never)]
 fn push_after_first<P: Plane>(
     checker: &mut Checker<P>,

@@ -12,7 +12,8 @@ use std::simd::prelude::*;
 /// The fewest equal columns that become a repeat.
 const LEAST_REPEAT: usize = 4;
 
-/// At how many columns of a group a repeat can begin that ends in the column after the group at the latest.
+/// How many columns of a group are tested as the start of a repeat: the four columns of each reach at most one column
+/// beyond the group.
 const STARTS: usize = LANES - 2;
 
 /// Where the first repeat from `from` on begins, if there is one.

@@ -16,8 +16,8 @@ impl Reader {
     /// Reads columns at the beginning of the bytes at once: single sixels (`~~~`) or a repeat (`!12~`), perhaps after a
     /// select (`#3~~~`, `#3!12~`). Of single sixels it reads all that may come.
     ///
-    /// `None` means that the bytes begin with something else, that they end within the repeat or before the columns, or
-    /// that a command is open. Then nothing was read, and nothing has changed: give the first byte to `feed`.
+    /// `None`: the bytes begin with no such run or only with a part of one, a command is open, or no byte may come.
+    /// Then nothing was read, and nothing has changed: give the first byte to `feed`.
     #[inline(always)]
     pub fn feed_run(&mut self, bytes: &[u8]) -> Option<Run>
         ensures within { IfSome result (λ run. (run.start < run.length) × (run.length ≤ length bytes.now)) }
@@ -64,7 +64,7 @@ impl Reader {
     }
 }
 
-/// Whether a run may begin with the byte. Any other byte is told apart here, since what follows is long.
+/// Whether a run may begin with the byte. The search for a run is long code, and this test spares it other bytes.
 #[inline(always)]
 fn begins_run(byte: u8) -> bool {
     byte >= b'?' || byte == b'#' || byte == b'!'
