@@ -17,8 +17,8 @@ use std::alloc::Global;
 
 /// Reads the whole input, and writes the canonical sixel text of its mended picture. It doesn't flush.
 ///
-/// The size of the picture is known at the end only, so the bytes are kept, and measured while they come. Nothing is allocated for the picture of a
-/// string whose size no picture may have.
+/// The size of the picture is known at the end only, so the bytes are kept, and measured while they come. Nothing is
+/// allocated for the picture of a string whose size no picture may have.
 pub fn mend<S: Source, K: Sink>(
     alloc: Global,
     profile: Profile,
