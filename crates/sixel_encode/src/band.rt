@@ -55,7 +55,7 @@ impl Speller {
     }
 }
 
-/// Whether whole groups of columns are blank, besides those behind the picture. Only then a list of gaps pays.
+/// Whether some whole groups of columns are blank, besides those behind the picture. Only then a list of gaps pays.
 fn is_sparse(sixels: &[u8], groups: u64) -> bool {
     groups.count_ones() as usize + 2 < sixels.len() / LANES
 }

@@ -98,7 +98,8 @@ impl Line {
         }
     }
 
-    /// Adds a repeat whose count has one digit or two. No branch decides which, since none could be foreseen.
+    /// Adds a repeat whose count has one digit or two. Both texts are made and one is chosen, since a branch couldn't be
+    /// foreseen.
     #[inline]
     fn push_short(&mut self, count: u16, sixel: u8)
         requires least { 4 ≤ count }

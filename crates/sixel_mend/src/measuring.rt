@@ -40,7 +40,7 @@ impl Measurer {
     }
 
     /// Reads these bytes, and measures the commands that they complete. An `Err` is the fault of the bytes so far, and of
-    /// any that begin with them.
+    /// any that begin with them; the measurer is of no use then.
     pub fn feed(&mut self, bytes: &[u8]) -> Result<(), Fault>
         ensures measured { OnOk result ((before : List ℕ) → HasMeasured self.old before
             → HasMeasured self.new (before ++ bytes.now)) }

@@ -313,7 +313,7 @@ impl Scanner {
         }
     }
 
-    /// Passes the bytes that the piece begins with and no opening begins with, if nothing is held. Returns how many.
+    /// Passes the bytes that the piece begins with and in which no opening begins, if nothing is held. Returns how many.
     fn pass_text(&mut self, piece: &[u8]) -> usize
         requires { self.old.read + length piece.now < 2 ^ 64 }
         ensures within { result ≤ length piece.now }

@@ -10,7 +10,8 @@ use std::simd::prelude::*;
 /// How many pixels the cache has room for.
 const PLACES: usize = 4096;
 
-/// An entry that doesn't belong in the first place, so that this place is empty with it. Any other is empty with 0.
+/// What place 0 holds while it is empty: an entry of another place. Any other place is empty with 0, which belongs in
+/// place 0.
 const ELSEWHERE: u32 = 256;
 
 /// How many pixels are compared at once, each with the one before it.
@@ -63,7 +64,7 @@ fn place_of(key: u32) -> usize
 fn are_registers(first: u32, second: u32, third: u32, fourth: u32) -> bool
     ensures { result ≡ true → (first < 256) × (second < 256) × (third < 256) × (fourth < 256) }
 {
-    first | second | third | fourth < 256
+    (first | second | third | fourth) < 256
 }
 
 /// Whether the 16 bytes at `at` are the same as those at `from`.
@@ -230,7 +231,9 @@ impl PixelCache {
         ensures capacity { vec_capacity registers.old ≤ vec_capacity registers.new }
         ensures put { GoesOn self.now bytes.now count result registers.old.items registers.new.items }
     {
-        if 3 * end == bytes.len() {
+        // A call begins behind a pixel that wasn't cached, and others may be near: then four look-ups are often in vain.
+        // And the load of a pixel takes the byte behind it, which the last one doesn't have.
+        if count == 0 || 3 * end == bytes.len() {
             return self.put_each(bytes, count, end, registers);
         }
         let next = self.put_fours(bytes, count, end, registers);

@@ -149,8 +149,8 @@ impl Terminal {
         }
     }
 
-    /// Draws the sixels of these data bytes, if a sixel pixel is one pixel high. Returns the pen's column after them, which
-    /// alone of the pen they change.
+    /// Draws the sixels of these data bytes, if a sixel pixel is one pixel high. Returns the pen's column after them. They
+    /// change nothing else of the pen.
     #[inline(always)]
     pub(crate) fn try_draw_stretch(
         &self,
