@@ -1,6 +1,6 @@
 -- The lines that the program writes.
-use Rattle.std.specs.Prelude.{◌≡◌, ℕ, Bool, List, [], ◌∷◌, ◌++◌, Option, Some, None, codes, decimal, flat_map, map, ◌+◌}
-use Rattle.std.specs.Prelude.{◌/◌, ◌%◌, if◌then◌else◌}
+use Rattle.std.specs.Prelude.{◌≡◌, ℕ, Bool, List, [], ◌∷◌, ◌++◌, Option, Some, None, codes, decimal, flat_map, map, ◌+◌, ◌*◌}
+use Rattle.std.specs.Prelude.{◌/◌, ◌%◌, if◌then◌else◌, length, take}
 use Rattle.std.specs.List.{concat}
 use Rattle.std.specs.Option.{option_to_list}
 use Rattle.sixel_grammar.specs.declared.command.Command.{Command}
@@ -78,6 +78,14 @@ event_parts (Finish eight) = codes "end" ∷ kind_name eight ∷ []
 -- the line of an event, its place first
 abbrev pub event_line : Placed → Text
 event_line p = line (decimal p.place) (event_parts p.event)
+
+-- what follows the offset in the line of a sixel
+abbrev pub tail_of : ℕ → Text
+tail_of bits = spaced (command_parts (Sixel bits)) ++ 10 ∷ []
+
+-- from byte 16 * bits on the text has the tail of these bits
+abbrev pub HasTail : Text → ℕ → Type 0
+HasTail text bits = take (16 * bits + length (tail_of bits)) text ≡ take (16 * bits) text ++ tail_of bits
 
 -- a line for each event
 abbrev pub list_text : List Placed → Text

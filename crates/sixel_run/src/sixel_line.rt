@@ -1,10 +1,10 @@
 //! The lines of sixels, selects and repeats, by far the most common events: the digits of an offset's hundreds are kept
 //! from one line to the next.
 
-ghost use Rattle.std.specs.Prelude.{◌≡◌, ◌+◌, ◌<◌, ◌≤◌, ◌^◌, ◌∷◌, ◌++◌, [], decimal, drop, length, take};
+ghost use Rattle.std.specs.Prelude.{◌≡◌, ◌+◌, ◌*◌, ◌<◌, ◌≤◌, ◌^◌, ◌∷◌, ◌++◌, [], ℕ, decimal, drop, length, take};
 ghost use Rattle.sixel_grammar.specs.declared.command.Command.TheVariants.{Repeat, Select, Sixel};
 ghost use Rattle.sixel_grammar.specs.declared.command.Event.TheVariants.{Step};
-ghost use Rattle.sixel_run.specs.Texts.{event_line, two_digits};
+ghost use Rattle.sixel_run.specs.Texts.{HasTail, event_line, tail_of, two_digits};
 
 use itoa::write_digits;
 use std::simd::prelude::*;
@@ -12,10 +12,10 @@ use std::simd::prelude::*;
 /// The index in `text` of the offset's last two digits. The digits of its hundreds, at most 18, end before it.
 const LAST: usize = 18;
 
-/// How many bytes of a line are copied at once: no sixel's line has more.
+/// How many bytes are stored at once.
 const LANES: usize = 32;
 
-/// Room for a line, and from its start on for a whole group.
+/// Room for a line, and from each start on for a whole group.
 const ROOM: usize = LAST + LANES;
 
 /// The line of a command. Its offset mostly has the same hundreds as the one before, so their digits stay in `text`.
@@ -43,29 +43,6 @@ impl SixelLine {
             start: 17,
             end: LAST,
             hundreds: 0,
-        }
-    }
-
-    /// Makes it the line of the sixel with these bits at the offset `place`.
-    #[inline(always)]
-    pub fn set(&mut self, place: u64, bits: u8)
-        requires place { 100 ≤ place }
-        requires bits { bits < 100 }
-        ensures line { text_of self.new ≡ event_line (record { place = place; event = Step (Sixel bits) }) }
-        ensures short { self.new.end ≤ 30 }
-    {
-        self.keep_hundreds(place / 100);
-        let (tens, ones) = two_digits((place % 100) as u8);
-        if bits < 10 {
-            let digit = b'0' + bits;
-            self.set_rest(&[
-                tens, ones, b' ', b's', b'i', b'x', b'e', b'l', b' ', digit, b'\n',
-            ]);
-        } else {
-            let (upper, lower) = two_digits(bits);
-            self.set_rest(&[
-                tens, ones, b' ', b's', b'i', b'x', b'e', b'l', b' ', upper, lower, b'\n',
-            ]);
         }
     }
 
@@ -172,16 +149,18 @@ impl SixelLine {
         self.end += 1;
     }
 
-    /// Writes the line over the bytes from `at` on, and behind it the rest of a group. Returns how long it is.
+    /// Writes the digits of these hundreds over the bytes from `at` on, and behind them the rest of a group. Returns how
+    /// many they are.
     #[inline(always)]
-    fn copy_to(&self, text: &mut [u8], at: usize) -> usize
-        requires short { self.now.end ≤ 32 }
+    fn put_hundreds(&mut self, hundreds: u64, text: &mut [u8], at: usize) -> usize
+        requires hundreds { hundreds < 10 ^ 18 }
         requires room { at + LANES ≤ length text.old }
-        ensures text { take (at + result) text.new ≡ take at text.old ++ text_of self.now }
+        ensures text { take (at + result) text.new ≡ take at text.old ++ decimal hundreds }
         ensures long { length text.new ≡ length text.old }
-        ensures short { result ≤ 32 }
+        ensures short { result ≤ 18 }
     {
-        let count = self.end - self.start;
+        self.keep_hundreds(hundreds);
+        let count = LAST - self.start;
         let group = &self.text[self.start..self.start + LANES];
         put_group(text, at, group, count);
         count
@@ -197,6 +176,91 @@ impl SixelLine {
     }
 }
 
+/// How many bytes lie between the beginnings of two tails.
+const STRIDE: usize = 16;
+
+/// For each value of a sixel's bits what follows the offset in its line. Whole stores from here need no byte that was
+/// stored just before, for which a load would have to wait.
+#[derive(Drop)]
+struct Tails {
+    text: [u8; 65 * STRIDE],
+    ghost tails: { (bits : ℕ) → bits < 64 → HasTail text bits },
+}
+
+impl Tails {
+    fn new() -> Tails {
+        let mut text = [0; 65 * STRIDE];
+        for bits in 0..64 {
+            put_tail(&mut text[..], bits);
+        }
+        Tails { text }
+    }
+
+    /// Writes the tail of these bits over the bytes from `at` on, and behind it the rest of a group. Returns its length.
+    #[inline(always)]
+    fn put(&self, bits: u8, text: &mut [u8], at: usize) -> usize
+        requires bits { bits < 64 }
+        requires room { at + LANES ≤ length text.old }
+        ensures text { take (at + result) text.new ≡ take at text.old ++ tail_of bits }
+        ensures long { length text.new ≡ length text.old }
+        ensures short { result ≤ 10 }
+    {
+        let count = tail_length(bits);
+        let from = STRIDE * bits as usize;
+        let group = &self.text[from..from + LANES];
+        put_group(text, at, group, count);
+        count
+    }
+}
+
+/// Puts the tail of these bits in its place among the others.
+fn put_tail(text: &mut [u8], bits: u8)
+    requires bits { bits < 64 }
+    requires long { length text.old ≡ 1040 }
+    ensures before { take (16 * bits) text.new ≡ take (16 * bits) text.old }
+    ensures tail { HasTail text.new bits }
+    ensures long { length text.new ≡ 1040 }
+{
+    let at = STRIDE * bits as usize;
+    if bits < 10 {
+        let digit = b'0' + bits;
+        put_at(
+            text,
+            at,
+            &[b' ', b's', b'i', b'x', b'e', b'l', b' ', digit, b'\n'],
+        );
+    } else {
+        let (upper, lower) = two_digits(bits);
+        put_at(
+            text,
+            at,
+            &[
+                b' ', b's', b'i', b'x', b'e', b'l', b' ', upper, lower, b'\n',
+            ],
+        );
+    }
+}
+
+/// How long the tail of these bits is.
+#[inline(always)]
+fn tail_length(bits: u8) -> usize
+    requires { bits < 64 }
+    ensures length { result ≡ length (tail_of bits) }
+    ensures short { result ≤ 10 }
+{
+    if bits < 10 { 9 } else { 10 }
+}
+
+/// Writes the bytes over those from `at` on.
+#[inline(always)]
+fn put_at(text: &mut [u8], at: usize, bytes: &[u8])
+    requires { at + length bytes.now ≤ length text.old }
+    ensures text { take (at + length bytes.now) text.new ≡ take at text.old ++ bytes.now }
+    ensures long { length text.new ≡ length text.old }
+{
+    text[at..at + bytes.len()].copy_from_slice(bytes);
+}
+
 /// How many sixels' lines are put at once.
 pub const MOST_SIXELS: usize = 16;
 
@@ -204,7 +268,8 @@ pub const MOST_SIXELS: usize = 16;
 #[derive(Drop)]
 pub struct SixelLines {
     pub line: SixelLine,
-    text: [u8; (MOST_SIXELS + 1) * LANES],
+    tails: Tails,
+    text: [u8; (MOST_SIXELS + 2) * LANES],
     end: usize,
     ghost within: { end ≤ 512 },
 }
@@ -218,7 +283,8 @@ impl SixelLines {
     {
         SixelLines {
             line: SixelLine::new(),
-            text: [0; (MOST_SIXELS + 1) * LANES],
+            tails: Tails::new(),
+            text: [0; (MOST_SIXELS + 2) * LANES],
             end: 0,
         }
     }
@@ -235,15 +301,20 @@ impl SixelLines {
     #[inline(always)]
     pub fn push(&mut self, place: u64, bits: u8)
         requires place { 100 ≤ place }
-        requires bits { bits < 100 }
+        requires bits { bits < 64 }
         requires room { length (lines_of self.old) + 32 ≤ 512 }
         ensures lines { lines_of self.new
             ≡ lines_of self.old ++ event_line (record { place = place; event = Step (Sixel bits) }) }
         ensures few { length (lines_of self.new) ≤ length (lines_of self.old) + 32 }
     {
-        self.line.set(place, bits);
-        let count = self.line.copy_to(&mut self.text[..], self.end);
-        self.end += count;
+        let hundreds = self
+            .line
+            .put_hundreds(place / 100, &mut self.text[..], self.end);
+        let at = self.end + hundreds;
+        let (tens, ones) = two_digits((place % 100) as u8);
+        put_at(&mut self.text[..], at, &[tens, ones]);
+        let tail = self.tails.put(bits, &mut self.text[..], at + 2);
+        self.end = at + 2 + tail;
     }
 
     /// The lines.

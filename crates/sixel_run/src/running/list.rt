@@ -44,6 +44,7 @@ pub fn list<S: Source, K: Sink>(input: &mut S, output: &mut K) -> Result<Status,
 {
     let mut reader = Reader::new();
     let mut lines = Lines::new();
+    let mut sixels = SixelLines::new();
     let mut piece = [0; PIECE];
     loop {
         let count = match input.fill(&mut piece) {
@@ -56,7 +57,13 @@ pub fn list<S: Source, K: Sink>(input: &mut S, output: &mut K) -> Result<Status,
                 Err(fault) => Err(RunFault::Grammar(fault)),
             };
         }
-        list_piece(&mut reader, &piece[..count], &mut lines, output)?;
+        list_piece(
+            &mut reader,
+            &piece[..count],
+            &mut sixels,
+            &mut lines,
+            output,
+        )?;
     }
 }
 
@@ -64,6 +71,7 @@ pub fn list<S: Source, K: Sink>(input: &mut S, output: &mut K) -> Result<Status,
 fn list_piece<K: Sink>(
     reader: &mut Reader,
     piece: &[u8],
+    sixels: &mut SixelLines,
     lines: &mut Lines,
     out: &mut K,
 ) -> Result<(), RunFault>
@@ -73,7 +81,7 @@ fn list_piece<K: Sink>(
     ensures drained { OnOk result (lines.new ≡ []) }
     ensures failures { CountsWrites result (K.state out.old).failures (K.state out.new).failures }
 {
-    let fed = feed_all(reader, piece, lines, out);
+    let fed = feed_all(reader, piece, sixels, lines, out);
     match fed {
         Err(RunFault::Write) => Err(RunFault::Write),
         _ => match lines.drain(out) {
@@ -87,6 +95,7 @@ fn list_piece<K: Sink>(
 fn feed_all<K: Sink>(
     reader: &mut Reader,
     piece: &[u8],
+    sixels: &mut SixelLines,
     lines: &mut Lines,
     out: &mut K,
 ) -> Result<(), RunFault>
@@ -96,10 +105,9 @@ fn feed_all<K: Sink>(
     ensures more { TakesMore (K.state out.old).taken (K.state out.new).taken }
     ensures failures { CountsWrites result (K.state out.old).failures (K.state out.new).failures }
 {
-    let mut sixels = SixelLines::new();
     let mut read = 0;
     while read < piece.len() {
-        read += feed_some(reader, &piece[read..], &mut sixels, lines, out)?;
+        read += feed_some(reader, &piece[read..], sixels, lines, out)?;
     }
     Ok(())
 }

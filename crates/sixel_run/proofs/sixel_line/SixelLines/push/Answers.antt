@@ -1,0 +1,15 @@
+use Rattle.std.proofs.Common.{◌∙◌, ◌∷◌, ◌++◌, [], List, ℕ, ap}
+use Rattle.sixel_run.specs.SixelLines.{lines_of}
+use Rattle.sixel_run.specs.Texts.{tail_of}
+use Rattle.sixel_run.proofs.SixelLineLemmas.{sixel-joined}
+use Rattle.sixel_run.proofs.sixel_line.SixelLines.push.Goals as goal
+
+pub returns-clause-lines : goal.returns-clause-lines
+returns-clause-lines c =
+    let digits = c.two_digits-tens.result in
+    c.put-tail.ensures.text
+    ∙ ap (λ (t : List ℕ). t ++ tail_of c.args.bits)
+    (c.put_at.ensures.text
+    ∙ ap (λ (t : List ℕ). t ++ digits.0 ∷ digits.1 ∷ []) c.put_hundreds-hundreds.ensures.text)
+    ∙ sixel-joined c.args.place c.args.bits digits.0 digits.1 (lines_of c.args.self.now) c.requires.place
+    c.ranges.place.fits c.two_digits-tens.ensures
