@@ -210,8 +210,6 @@ pub(crate) fn picture_of<P: Plane>(state: DrawingState, plane: P) -> Picture
 {
     let width = plane.width();
     let height = plane.height();
-    match Picture::new(width, height, left_palette(state), plane.into_registers()) {
-        Ok(picture) => picture,
-        Err(_) => unreachable!(),
-    }
+    let palette = left_palette(state);
+    Picture::of_parts(width, height, palette, plane.into_registers())
 }

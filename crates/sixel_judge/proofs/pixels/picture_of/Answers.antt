@@ -2,7 +2,6 @@ use Rattle.std.proofs.Common.{◌≡◌, ℕ, Option, Some, None, List, length, 
 use Rattle.sixel_model.proofs.LeftLemmas.{length_left}
 use Rattle.sixel_grammar.specs.declared.command.Event.{Event}
 use Rattle.sixel_model.specs.declared.colour.Parts.{Parts}
-use Rattle.sixel_model.specs.declared.picture.PictureReason.{PictureReason}
 use Rattle.sixel_model.specs.Pictures.{PictureValue, picture_fault, picture_of_parts}
 use Rattle.sixel_model.specs.Rules.{palette_left, picture_left}
 use Rattle.sixel_model.specs.Grids.{Grid}
@@ -12,12 +11,10 @@ use Rattle.sixel_judge.proofs.WholeLemmas.{picture_fits}
 use Rattle.sixel_judge.proofs.pixels.picture_of.Goals as goal
 
 -- parts that fit have no fault
-fits_not : (registers w h : ℕ) (palette left : List (Option Parts)) (xs : List ℕ) (s : Grid) (reason : PictureReason)
-    → picture_fault (length palette) w h palette xs ≡ Some reason → w ≡ s.width → h ≡ s.height → palette ≡ left
-    → length left ≡ registers → picture_fault registers s.width s.height left xs ≡ None → ⊥
-fits_not registers w h palette left xs s reason fault width height colours long fits =
-    let there = rw (width, height, colours, long) at fault in
-    cc
+fits_parts : (registers w h : ℕ) (palette left : List (Option Parts)) (xs : List ℕ) (s : Grid)
+    → w ≡ s.width → h ≡ s.height → palette ≡ left → length left ≡ registers
+    → picture_fault registers s.width s.height left xs ≡ None → picture_fault (length palette) w h palette xs ≡ None
+fits_parts registers w h palette left xs s width height colours long fits = rw (width, height, colours, long) fits
 
 -- a picture with the parts that the events leave is the picture that they leave
 left_of : (registers : ℕ) (p : PictureValue) (w h : ℕ) (palette : List (Option Parts)) (xs : List ℕ) (s : Grid)
@@ -27,18 +24,16 @@ left_of : (registers : ℕ) (p : PictureValue) (w h : ℕ) (palette : List (Opti
 left_of registers p w h palette xs s events is width height colours drawn cells =
     rw (width, height, colours) at is ∙ sym (picture_drawn _ s events xs drawn cells)
 
-pub unreachable-requires : goal.unreachable-requires
-unreachable-requires g c =
+pub of_parts-requires : goal.of_parts-requires
+of_parts-requires g c =
     let q = c.requires.stands in
     let s = g.P.Plane.grid c.args.plane in
-    let fits = picture_fits c.args.state s q.1 c.into_registers.result.items q.2.state_is q.2.grid_is q.2.coloured
-    c.into_registers.ensures in
-    absurd
-    (fits_not q.0 _ _ _ (palette_left q.0 q.1) _ s _ c.in-Err.ensures.reason c.width-width.ensures
-    c.height-height.ensures
-    (c.left_palette.ensures q.0 q.1 q.2.state_is) (length_left q.0 q.1) fits)
+    fits_parts q.0 _ _ _ (palette_left q.0 q.1) _ s c.width-width.ensures c.height-height.ensures
+    (c.left_palette-palette.ensures q.0 q.1 q.2.state_is) (length_left q.0 q.1)
+    (picture_fits c.args.state s q.1 c.into_registers.result.items q.2.state_is q.2.grid_is q.2.coloured
+    c.into_registers.ensures)
 
 pub returns : goal.returns
 returns g c = λ registers events s.
-    left_of registers _ _ _ _ _ (g.P.Plane.grid c.args.plane) events c.in-Ok.ensures.parts c.width-width.ensures
-    c.height-height.ensures (c.left_palette.ensures registers events s.state_is) s.grid_is c.into_registers.ensures
+    left_of registers _ _ _ _ _ (g.P.Plane.grid c.args.plane) events c.of_parts.ensures c.width-width.ensures
+    c.height-height.ensures (c.left_palette-palette.ensures registers events s.state_is) s.grid_is c.into_registers.ensures
