@@ -1,22 +1,16 @@
 //! Pushing the events that bytes complete.
 
-ghost use Rattle.std.specs.Prelude.{◌≡◌, ◌≢◌, ◌+◌, ◌<◌, ◌≤◌, ◌++◌, ◌∷◌, [], ℕ, List, Err, IfErr, IfOk, IfSome, IsOk};
+ghost use Rattle.std.specs.Prelude.{◌≡◌, ◌+◌, ◌<◌, ◌≤◌, ◌++◌, ◌∷◌, [], ℕ, List, IsOk};
 ghost use Rattle.std.specs.Prelude.{IsTrue, OnErr, OnOk, Some, length, slice_index, take};
-ghost use Rattle.sixel_io.specs.Devices.{ReadsToEnd};
 ghost use Rattle.sixel_grammar.specs.Bytes.{is_data};
 ghost use Rattle.sixel_grammar.specs.Document.{most_bytes};
 ghost use Rattle.sixel_grammar.specs.Stretches.{sixels_from};
 ghost use Rattle.sixel_judge.specs.Stretches.{MayStep};
 ghost use Rattle.std.specs.Option.{option_to_list};
-ghost use Rattle.sixel_grammar.specs.Reading.{NoFaultBefore, failures_after};
-ghost use Rattle.sixel_grammar.specs.declared.fault.InputFault.TheVariants.{Read as ReadFault};
 ghost use Rattle.sixel_grammar.specs.Standing.{completions};
 ghost use Rattle.sixel_grammar.specs.declared.command.Placed.{Placed as PlacedValue};
-ghost use Rattle.sixel_model.specs.Profiles.{count_of};
-ghost use Rattle.sixel_judge.specs.Growth.{MayGrowIn};
-ghost use Rattle.sixel_check.specs.Answers.{Answers};
-ghost use Rattle.sixel_check.specs.Checking.{AreAfter, AreSpellable, GrowsForBytes, MayCome};
-ghost use Rattle.sixel_check.specs.Checking.{MayComplete, MayGrowOver, RefusesBytes, TakesBytes, TakesEvents};
+ghost use Rattle.sixel_check.specs.Checking.{AreSpellable, MayCome};
+ghost use Rattle.sixel_check.specs.Checking.{MayComplete, MayGrowOver, TakesEvents};
 ghost use Rattle.sixel_check.specs.Checking.{both_of, command_at};
 ghost use Rattle.sixel_grammar.specs.Runs.{column_events, events_of_run, select_events, two_commands};
 ghost use Rattle.sixel_grammar.specs.declared.command.Columns.TheVariants.{Sixels as single_sixels};
