@@ -13,11 +13,15 @@ ghost use Rattle.sixel_check.specs.Checking.{RefusesBytes, TakesBytes};
 
 use crate::pushing::{keep, keep_command, keep_run, keep_two, push_rarely};
 use sixel_grammar::{Command, Completed, Event, InputFault, Placed, Plain, Reader};
-use sixel_io::{PIECE, Source};
+use sixel_io::Source;
 use sixel_judge::{Checker, Verdict};
 use sixel_model::Profile;
 use sixel_plane::{BandPlane, Plane};
 use std::alloc::{AllocError, Global};
+
+/// How many bytes are asked for at once. Most files are smaller, and clearing room for more of them takes long beside
+/// the check of one.
+const ROOM: usize = 16_384;
 
 /// Reads one byte, and pushes the events that it completes. It is for bytes below `?`.
 #[inline(always)]
@@ -263,7 +267,7 @@ pub fn check<S: Source>(
     ensures memory { IfSome (S.state input.old).remaining (λ bytes. result ≡ Err InputFault.OutOfMemory
         → MayGrowIn (count_of profile) bytes) }
 {
-    let mut piece = [0u8; PIECE];
+    let mut piece = [0u8; ROOM];
     let (mut reader, mut checker) = nothing_read(alloc, profile);
     loop {
         let count = input.fill(&mut piece)?;
