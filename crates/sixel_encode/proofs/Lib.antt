@@ -6,6 +6,7 @@ pub mod RunLemmas
 pub mod TextLemmas
 pub mod DecimalLemmas
 pub mod LineLemmas
+pub mod HeadLemmas
 pub mod MaskLemmas
 pub mod RepeatLemmas
 pub mod GapBitLemmas

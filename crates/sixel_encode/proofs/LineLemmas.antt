@@ -1,11 +1,9 @@
 -- Bytes behind the text of a line.
-use Rattle.std.proofs.Common.{◌≡◌, ℕ, ◌+◌, ◌%◌, ◌/◌, ◌<◌, ◌≤◌, refl, Bool, true, List, [], ◌∷◌, ◌++◌, drop, length}
+use Rattle.std.proofs.Common.{◌≡◌, ℕ, ◌+◌, ◌≤◌, Bool, true, List, [], ◌∷◌, ◌++◌, drop, length}
 use Rattle.std.proofs.Common.{replicate, take, sym, ap}
 use Rattle.std.proofs.Common.{◌∙◌, arith}
-use Rattle.std.specs.Prelude.{decimal, nat_le, nat_lt, if◌then◌else◌}
-use Rattle.std.proofs.lemmas.Bool.{le-leb, le-ltb, lt-ltb}
-use Rattle.std.proofs.lemmas.Fmt.{decimal_digit}
-use Rattle.sixel_encode.proofs.DecimalLemmas.{two_digits}
+use Rattle.std.specs.Prelude.{decimal, nat_le, if◌then◌else◌}
+use Rattle.std.proofs.lemmas.Bool.{le-leb}
 use Rattle.std.proofs.Math.Seq.{take-append-add}
 use Rattle.std.proofs.lemmas.List.{length-take-le, take-append-le, take-take}
 use Rattle.std.proofs.lemmas.Simd.{length-chunk, put_chunk_is}
@@ -37,18 +35,6 @@ first_of_four end count old new bytes room few is =
     ∙ ap (take (end + count)) is
     ∙ ap (λ (n : ℕ). take (n + count) (take end old ++ bytes)) (sym first)
     ∙ take-append-add (take end old) bytes count
-
--- a repeat of few columns
-pub one_digit : (n sixel first second : ℕ) → n < 10 → first ≡ 48 + n % 10 → second ≡ sixel
-    → take (if nat_lt n 10 then 3 else 4) (33 ∷ first ∷ second ∷ sixel ∷ []) ≡ 33 ∷ decimal n ++ sixel ∷ []
-one_digit n sixel first second lt is₁ is₂ =
-    let digit : first ≡ 48 + n = omega (arith, lt, is₁) in
-    rw (lt-ltb n 10 lt, digit, is₂, decimal_digit n lt) refl
-
-pub digit_pair : (n sixel first second : ℕ) → 10 ≤ n → n < 100 → first ≡ 48 + n / 10 → second ≡ 48 + n % 10
-    → take (if nat_lt n 10 then 3 else 4) (33 ∷ first ∷ second ∷ sixel ∷ []) ≡ 33 ∷ decimal n ++ sixel ∷ []
-digit_pair n sixel first second low high is₁ is₂ =
-    rw (le-ltb n 10 low, is₁, is₂, two_digits n low high) refl
 
 -- the text of a repeat, by the digits of its count
 pub run_spelled : (count bits : ℕ) (digits : List ℕ) → 4 ≤ count → decimal count ≡ digits

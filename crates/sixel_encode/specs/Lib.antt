@@ -1,4 +1,5 @@
 pub mod Canon
 pub mod Columns
 pub mod Gaps
+pub mod Heads
 pub mod Laws

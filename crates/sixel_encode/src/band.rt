@@ -1,6 +1,7 @@
 //! Writes a band: six rows of a picture, or fewer in the last band.
 
 ghost use Rattle.std.specs.Prelude.{◌≡◌, ◌==◌, ◌+◌, ◌-◌, ◌%◌, ◌<◌, ◌≤◌, ◌++◌, ◌∷◌, [], if◌then◌else◌, length};
+ghost use Rattle.std.specs.Prelude.{take};
 ghost use Rattle.sixel_io.specs.Blocks.{WritesThrough};
 ghost use Rattle.sixel_grammar.specs.Spelling.{IsSpellable};
 ghost use Rattle.sixel_model.specs.Pictures.{most_side};
@@ -12,8 +13,9 @@ use crate::columns::find_sixels;
 use crate::commands::{Text, put_command};
 use crate::gaps::Gaps;
 use crate::groups::band_groups;
+use crate::heads::Heads;
 use crate::lanes::LANES;
-use crate::line::{Line, MOST_BYTES};
+use crate::line::{MOST_BYTES, TEXT_ROOM, put_part, put_repeat};
 use crate::repeats::{find_repeat, ink_end, run_end};
 use crate::rows::rows_of;
 use sixel_grammar::{Command, Event};
@@ -27,30 +29,34 @@ pub(crate) const ROOM: usize = MOST_BYTES;
 #[derive(Debug, Drop)]
 pub(crate) struct Speller {
     gaps: Gaps,
-    line: Line,
+    heads: Heads,
+    text: [u8; TEXT_ROOM],
 }
 
 impl Speller {
     pub(crate) fn new() -> Speller {
         Speller {
             gaps: Gaps::new(),
-            line: Line::new(),
+            heads: Heads::new(),
+            text: [0; TEXT_ROOM],
         }
     }
 
-    /// Makes the text of the columns. Those whose group isn't in the mask are blank.
-    fn spell(&mut self, sixels: &[u8], groups: u64)
+    /// Makes the text of the columns, and returns where it ends. Those whose group isn't in the mask are blank.
+    fn spell(&mut self, sixels: &[u8], groups: u64) -> usize
         requires sixels { AreSixels sixels.now }
         requires few { length sixels.now ≤ ROOM }
         requires whole { length sixels.now % LANES ≡ 0 }
         requires ink { IsInkIn groups sixels.now }
-        ensures { self.new.line ≡ commands_text (sixel_commands sixels.now) }
+        ensures text { take result self.new.text ≡ commands_text (sixel_commands sixels.now) }
+        ensures short { result ≤ MOST_BYTES }
     {
+        let text = &mut self.text[..];
         if is_sparse(sixels, groups) {
             self.gaps.find(sixels, groups);
-            spell_by_gaps(&mut self.line, sixels, &self.gaps);
+            spell_by_gaps(text, &self.heads, sixels, &self.gaps)
         } else {
-            spell_columns(&mut self.line, sixels, groups);
+            spell_columns(text, &self.heads, sixels, groups)
         }
     }
 }
@@ -182,50 +188,55 @@ fn put_columns<K: Sink>(
     ensures { WritesThrough result (K.state out.old) (K.state out.new) text.old text.new
         (commands_text (sixel_commands sixels.now)) }
 {
-    speller.spell(sixels, groups);
-    text.put(speller.line.as_slice(), out)
+    let end = speller.spell(sixels, groups);
+    text.put(&speller.text[..end], out)
 }
 
-/// The text of the columns: four or more equal columns are a repeat, any others single sixels.
-fn spell_columns(line: &mut Line, sixels: &[u8], groups: u64)
+/// Makes the text of the columns: four or more equal columns are a repeat, any others single sixels. Returns where it
+/// ends.
+fn spell_columns(text: &mut [u8], heads: &Heads, sixels: &[u8], groups: u64) -> usize
     requires sixels { AreSixels sixels.now }
     requires few { length sixels.now ≤ ROOM }
     requires ink { IsInkIn groups sixels.now }
-    ensures { line.new ≡ commands_text (sixel_commands sixels.now) }
+    requires room { length text.old ≡ TEXT_ROOM }
+    ensures text { take result text.new ≡ commands_text (sixel_commands sixels.now) }
+    ensures short { result ≤ length sixels.now }
+    ensures long { length text.new ≡ length text.old }
 {
-    line.clear();
-    let mut from = 0;
+    let (mut from, mut at) = (0, 0);
     while let Some(start) = find_repeat(sixels, from) {
         let end = run_end(sixels, groups, start);
-        line.push_part(sixels, from, start);
+        at = put_part(text, at, sixels, from, start);
         // Blank columns at the end are left out.
         if end == sixels.len() && sixels[start] == b'?' {
-            return;
+            return at;
         }
-        line.push_repeat((end - start) as u16, sixels[start] - b'?');
+        at = put_repeat(text, at, heads, (end - start) as u16, sixels[start] - b'?');
         from = end;
     }
-    line.push_part(sixels, from, ink_end(sixels, from));
+    put_part(text, at, sixels, from, ink_end(sixels, from))
 }
 
 /// The same, by a list of where gaps end, so that no blank repeat is searched.
-fn spell_by_gaps(line: &mut Line, sixels: &[u8], gaps: &Gaps)
+fn spell_by_gaps(text: &mut [u8], heads: &Heads, sixels: &[u8], gaps: &Gaps) -> usize
     requires sixels { AreSixels sixels.now }
     requires few { length sixels.now ≤ ROOM }
     requires ends { AreGapEnds (length sixels.now) sixels.now gaps.now.ends gaps.now.count }
-    ensures { line.new ≡ commands_text (sixel_commands sixels.now) }
+    requires room { length text.old ≡ TEXT_ROOM }
+    ensures text { take result text.new ≡ commands_text (sixel_commands sixels.now) }
+    ensures short { result ≤ length sixels.now }
+    ensures long { length text.new ≡ length text.old }
 {
-    line.clear();
-    let (mut from, mut next) = (0, 0);
+    let (mut from, mut next, mut at) = (0, 0, 0);
     while let Some(start) = find_repeat(sixels, from) {
         let (stop, behind) = gaps.run_end(sixels, from, start, next);
-        line.push_part(sixels, from, start);
+        at = put_part(text, at, sixels, from, start);
         // Blank columns at the end are left out.
         if stop == sixels.len() && sixels[start] == b'?' {
-            return;
+            return at;
         }
-        line.push_repeat((stop - start) as u16, sixels[start] - b'?');
+        at = put_repeat(text, at, heads, (stop - start) as u16, sixels[start] - b'?');
         (from, next) = (stop, behind);
     }
-    line.push_part(sixels, from, ink_end(sixels, from));
+    put_part(text, at, sixels, from, ink_end(sixels, from))
 }

@@ -7,6 +7,7 @@ mod commands;
 mod digits;
 mod gaps;
 mod groups;
+mod heads;
 mod lanes;
 pub mod laws;
 mod line;

@@ -1,5 +1,5 @@
-use Rattle.std.proofs.Common.{◌≡◌, ◌≢◌, ◌<◌, ◌≤◌, ◌++◌, ◌-◌, List, drop, get_or, length, refl, sym, ap, ◌∙◌, arith}
-use Rattle.std.proofs.Common.{append_assoc}
+use Rattle.std.proofs.Common.{◌≡◌, ◌≢◌, ◌<◌, ◌≤◌, ◌++◌, ◌-◌, List, drop, get_or, length, refl, sym, take, ap, ◌∙◌}
+use Rattle.std.proofs.Common.{arith, append_assoc}
 use Rattle.sixel_encode.specs.Columns.{bits_of_sixels, part}
 use Rattle.sixel_encode.proofs.GapRunLemmas.{apart_behind, none_passed}
 use Rattle.sixel_encode.proofs.StretchLemmas.{blank_end, ink_text, next_text}
@@ -10,8 +10,9 @@ use Rattle.sixel_encode.proofs.band.spell_by_gaps.Goals.{else-stop-sixels-via-el
 
 pub loop-start-init : goal.loop-start-init
 loop-start-init c = record {
-  text = rw (c.clear.ensures) refl;
-  short = omega (arith, ap length c.clear.ensures);
+  text = refl;
+  long = c.requires.room;
+  short = omega arith;
   within = omega arith;
   apart = λ some. absurd (omega (arith, some));
   next = none_passed c.args.sixels.now c.args.gaps.now.ends c.args.gaps.now.count (length c.args.sixels.now)
@@ -19,12 +20,12 @@ loop-start-init c = record {
   small = omega arith;
 }
 
-pub returns-then-sixels-start-eq63 : goal.returns-then-sixels-start-eq63
-returns-then-sixels-start-eq63 c =
+pub returns-then-sixels-start-eq63-clause-text : goal.returns-then-sixels-start-eq63-clause-text
+returns-then-sixels-start-eq63-clause-text c =
     let xs = c.args.sixels.now in
     let inv = c.loop-start.invariant in
-    c.push_part.ensures.text
-    ∙ sym (inv.text ∙ ap (λ (t : List _). c.loop-start.line ++ t)
+    c.put_part-at.ensures.text
+    ∙ sym (inv.text ∙ ap (λ (t : List _). take c.loop-start.at c.loop-start.text ++ t)
     (blank_end xs c.loop-start.from c.in-Some.start c.run_end-stop.result.0 c.requires.sixels c.in-Some.ensures
     c.run_end-stop.ensures.run c.if-stop-sixels.true c.if-sixels-start-eq63.true))
 
@@ -40,17 +41,18 @@ loop-start-preserved c =
     ] in
     let more = next_text xs c.loop-start.from c.in-Some.start c.run_end-stop.result.0 c.requires.sixels
     c.in-Some.ensures c.run_end-stop.ensures.run some in
-    let line = c.loop-start.line in
+    let line = take c.loop-start.at c.loop-start.text in
     let single = part c.loop-start.from c.in-Some.start xs in
     let run = run_text (c.run_end-stop.result.0 - c.in-Some.start) (get_or xs c.in-Some.start 0 - 63) in
     let rest = columns_text (drop c.run_end-stop.result.0 (bits_of_sixels xs)) in
     let low : c.loop-start.from ≤ c.in-Some.start = c.in-Some.ensures.after in
     let high : c.in-Some.start < c.run_end-stop.result.0 = c.run_end-stop.ensures.run.some in
     record {
-      text = rw (c.push_repeat.ensures.text, c.push_part.ensures.text)
+      text = rw (c.put_repeat-at.ensures.text, c.put_part-at.ensures.text)
           (inv.text ∙ ap (λ (t : List _). line ++ t) more
           ∙ sym (append_assoc line (single ++ run) rest)
           ∙ ap (λ (t : List _). t ++ rest) (sym (append_assoc line single run)));
+      long = c.put_repeat-at.ensures.long ∙ c.put_part-at.ensures.long ∙ inv.long;
       short = omega arith;
       within = c.run_end-stop.ensures.run.within;
       apart = apart_behind c.in-Some.start c.run_end-stop.result.0 xs c.run_end-stop.ensures.run;
@@ -58,10 +60,10 @@ loop-start-preserved c =
       small = c.run_end-stop.ensures.small;
     }
 
-pub returns : goal.returns
-returns c =
+pub returns-clause-text : goal.returns-clause-text
+returns-clause-text c =
     let xs = c.args.sixels.now in
     let inv = c.loop-start.invariant in
-    c.push_part-2.ensures.text
-    ∙ sym (inv.text ∙ ap (λ (t : List _). c.loop-start.line ++ t)
+    c.put_part.ensures.text
+    ∙ sym (inv.text ∙ ap (λ (t : List _). take c.loop-start.at c.loop-start.text ++ t)
     (ink_text xs c.loop-start.from c.ink_end.result c.requires.sixels c.in_default.ensures c.ink_end.ensures))

@@ -1,4 +1,4 @@
-use Rattle.std.proofs.Common.{◌≡◌, ◌≤◌, ◌-◌, ◌++◌, drop, length}
+use Rattle.std.proofs.Common.{◌≡◌, ◌≤◌, ◌-◌, ◌++◌, drop, length, take}
 use Rattle.sixel_encode.specs.Columns.{bits_of_sixels}
 use Rattle.sixel_encode.specs.Gaps.{IsApart, IsNext}
 use Rattle.sixel_encode.proofs.TextLemmas.{columns_text}
@@ -6,8 +6,10 @@ use Rattle.sixel_encode.proofs.band.spell_by_gaps.Given as goal
 
 abbrev pub invariant-loop-start : goal.invariant-loop-start
 invariant-loop-start l = record {
-  text : columns_text (bits_of_sixels l.sixels) ≡ l.line ++ columns_text (drop l.from (bits_of_sixels l.sixels));
-  short : length l.line ≤ l.from;
+  text : columns_text (bits_of_sixels l.sixels)
+      ≡ take l.at l.text ++ columns_text (drop l.from (bits_of_sixels l.sixels));
+  long : length l.text ≡ 2144;
+  short : l.at ≤ l.from;
   within : l.from ≤ length l.sixels;
   apart : IsApart l.from l.sixels;
   next : IsNext l.from l.gaps.ends l.gaps.count l.next;

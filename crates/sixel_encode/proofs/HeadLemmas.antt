@@ -1,0 +1,47 @@
+-- How the texts of short repeats begin.
+use Rattle.std.proofs.Common.{◌≡◌, ◌∙◌, ℕ, ◌+◌, ◌/◌, ◌%◌, ◌<◌, ◌≤◌, Bool, List, [], ◌∷◌, ap, arith, inl, inr, length}
+use Rattle.std.proofs.Common.{refl, set, subst, sym}
+use Rattle.std.specs.Prelude.{nat_lt, if◌then◌else◌}
+use Rattle.std.proofs.lemmas.Bool.{cases_eq, cases_lt, le-ltb, lt-ltb}
+use Rattle.std.proofs.lemmas.Fmt.{decimal_digit}
+use Rattle.std.proofs.lemmas.List.{get_or-set_other, get_or-set_same}
+use Rattle.sixel_encode.specs.Heads.{HasHead, IsHead, head}
+use Rattle.sixel_encode.proofs.DecimalLemmas.{two_digits}
+
+head-one : (count : ℕ) → count < 10 → head count ≡ 33 ∷ (48 + count) ∷ []
+head-one count small = rw (decimal_digit count small) refl
+
+head-two : (count : ℕ) → 10 ≤ count → count < 100 → head count ≡ 33 ∷ (48 + count / 10) ∷ (48 + count % 10) ∷ []
+head-two count large small = rw (two_digits count large small) refl
+
+pub head-long : (count : ℕ) → count < 100 → length (head count) ≡ (if nat_lt count 10 then 2 else 3)
+head-long count few = elim (cases_lt count 10) [
+  | inl small ↦ ap length (head-one count small)
+      ∙ sym (ap (λ (t : Bool). if t then 2 else 3) (lt-ltb count 10 small))
+  | inr large ↦ ap length (head-two count large few)
+      ∙ sym (ap (λ (t : Bool). if t then 2 else 3) (le-ltb count 10 large))
+]
+
+pub is-one : (count digit : ℕ) → count < 10 → digit ≡ 48 + count → IsHead count (33 ∷ digit ∷ 0 ∷ 0 ∷ [])
+is-one count digit small is = record {
+  long = refl;
+  begins = rw (is, decimal_digit count small) refl;
+}
+
+pub is-two : (count tens ones : ℕ) → 10 ≤ count → count < 100 → tens ≡ 48 + count / 10 → ones ≡ 48 + count % 10
+    → IsHead count (33 ∷ tens ∷ ones ∷ 0 ∷ [])
+is-two count tens ones large small is₁ is₂ = record {
+  long = refl;
+  begins = rw (is₁, is₂, two_digits count large small) refl;
+}
+
+-- one more head was put
+pub heads-more : (texts : List (List ℕ)) (count : ℕ) (bytes : List ℕ) → count < length texts → IsHead count bytes
+    → ((k : ℕ) → k < count → HasHead texts k) → (k : ℕ) → k < count + 1 → HasHead (set texts count bytes) k
+heads-more texts count bytes room is before k below = elim (cases_eq k count) [
+  | inl same ↦
+      subst (λ (n : ℕ). HasHead (set texts count bytes) n) (sym same)
+      (subst (IsHead count) (sym (get_or-set_same texts count bytes [] room)) is)
+  | inr other ↦
+      subst (IsHead k) (sym (get_or-set_other texts count k bytes [] other)) (before k (omega (arith, below, other)))
+]
