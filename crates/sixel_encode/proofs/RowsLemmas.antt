@@ -96,3 +96,10 @@ column_blank p band register groups x marked lt none = elim (cases_eq (column_bi
       let set : bit_at groups (x / 32) ≡ 1 = marked x k.number lt (omega arith) k.passes in
       absurd (omega arith)
 ]
+
+-- a row of a whole band is there
+pub row_inside : (row width long : ℕ) → row < 6 → 6 * width ≤ long → row * width + width ≤ long
+row_inside row width long small whole =
+    let last : (row + 1) * width ≤ 6 * width = mul-le-mul_right width (omega arith) in
+    let parted : (row + 1) * width ≡ row * width + 1 * width = add-mul row 1 width in
+    omega arith

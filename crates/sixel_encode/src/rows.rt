@@ -33,6 +33,38 @@ pub(crate) fn group_sixels(rows: &[u8], width: usize, at: usize, register: u8) -
     ensures bits { (j : ℕ) → j < LANES
         → slice_index result j ≡ 63 + row_bits rows.now width register (at + j) }
 {
+    if ROWS * width <= rows.len() {
+        whole_sixels(rows, width, at, register)
+    } else {
+        last_sixels(rows, width, at, register)
+    }
+}
+
+/// The same in a whole band, as most are. There no row needs a test.
+#[inline]
+fn whole_sixels(rows: &[u8], width: usize, at: usize, register: u8) -> u8x32
+    requires within { at + LANES ≤ width }
+    requires few { width ≤ most_side }
+    requires whole { ROWS * width ≤ length rows.now }
+    ensures long { length result ≡ LANES }
+    ensures bits { (j : ℕ) → j < LANES
+        → slice_index result j ≡ 63 + row_bits rows.now width register (at + j) }
+{
+    let mut group = u8x32::splat(b'?');
+    for row in 0..ROWS {
+        group = with_row(group, rows, row * width + at, register, 1 << row);
+    }
+    group
+}
+
+/// The same in the last band, which may have fewer rows.
+fn last_sixels(rows: &[u8], width: usize, at: usize, register: u8) -> u8x32
+    requires within { at + LANES ≤ width }
+    requires few { width ≤ most_side }
+    ensures long { length result ≡ LANES }
+    ensures bits { (j : ℕ) → j < LANES
+        → slice_index result j ≡ 63 + row_bits rows.now width register (at + j) }
+{
     let mut sixels = u8x32::splat(b'?');
     for row in 0..ROWS {
         let start = row * width;

@@ -2,8 +2,8 @@ use Rattle.std.proofs.Common.{◌≡◌, ◌==◌, ◌+◌, ◌*◌, Bool, get_o
 use Rattle.std.proofs.lemmas.Simd.{get_or-replicate}
 use Rattle.sixel_encode.specs.Columns.{is_in_row}
 use Rattle.sixel_encode.proofs.AddedLemmas.{row_missing, row_there, spells_more, spells_same}
-use Rattle.sixel_encode.proofs.rows.group_sixels.Goals as goal
-use Rattle.sixel_encode.proofs.rows.group_sixels.Goals.{then-start-width, else-start-width}
+use Rattle.sixel_encode.proofs.rows.last_sixels.Goals as goal
+use Rattle.sixel_encode.proofs.rows.last_sixels.Goals.{then-start-width, else-start-width}
 
 pub loop-row-init : goal.loop-row-init
 loop-row-init c = record {
