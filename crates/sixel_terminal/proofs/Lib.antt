@@ -6,6 +6,7 @@ pub mod SelectLemmas
 pub mod StandLemmas
 pub mod PixelLemmas
 pub mod RunLemmas
+pub mod GroupLemmas
 pub mod InkLemmas
 pub mod ShownLemmas
 pub mod DrawLemmas

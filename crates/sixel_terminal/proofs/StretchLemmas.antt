@@ -10,8 +10,7 @@ use Rattle.std.specs.Int.{bit_at}
 use Rattle.sixel_model.specs.Positions.{any_below}
 use Rattle.std.specs.Prelude.{slice_index}
 use Rattle.std.specs.List.{range_with_len}
-use Rattle.std.proofs.Common.{drop}
-use Rattle.std.proofs.lemmas.List.{append-nil, ext_get_or, get_or-drop, get_or-take, length-drop, length-take-le}
+use Rattle.std.proofs.lemmas.List.{append-nil, ext_get_or, get_or-take, length-take-le}
 use Rattle.std.proofs.lemmas.List.FromFn.{get_or-map-range_with_len, length-map-range_with_len}
 use Rattle.std.proofs.lemmas.Bool.{and_parts, cases_lt, leb-true, ltb-true}
 use Rattle.std.proofs.lemmas.Bool.Decides.{nat_tests}
@@ -28,7 +27,7 @@ use Rattle.sixel_terminal.specs.Standing.{StandsAfter}
 use Rattle.sixel_model.specs.Geometry.{covers}
 use Rattle.sixel_terminal.specs.Steps.{bottom_edge, ink_by_colours, is_before_edges, is_from_origin, most}
 use Rattle.sixel_terminal.specs.Steps.{pen_covers, right_edge}
-use Rattle.sixel_terminal.proofs.DrawLemmas.{all_taken, none_chosen, or_none}
+use Rattle.sixel_terminal.proofs.DrawLemmas.{none_chosen, or_none}
 use Rattle.sixel_terminal.proofs.InkLemmas.{stands_push}
 use Rattle.sixel_terminal.proofs.PaintLemmas.{data_pixel}
 use Rattle.sixel_terminal.proofs.RunLemmas.{Runs}
@@ -117,7 +116,7 @@ painted_list t p bits ink inks =
     map (λ i. cond (pen_covers t p 1 bits (i % t.choices.screen_width) (i / t.choices.screen_width)) ink
     (get_or inks i black)) (range_with_len 0 (length inks))
 
-both_over : {A : Type 0} (a b : Bool) (ink old : A) → cond (a || b) ink old ≡ cond b ink (cond a ink old)
+pub both_over : {A : Type 0} (a b : Bool) (ink old : A) → cond (a || b) ink old ≡ cond b ink (cond a ink old)
 both_over true true ink old = refl
 both_over true false ink old = refl
 both_over false true ink old = refl
@@ -179,14 +178,14 @@ and_three false true true = refl
 and_three false true false = refl
 and_three false false t = refl
 
-or_and : (a b h : Bool) → ((a && h) || (b && h)) ≡ ((a || b) && h)
+pub or_and : (a b h : Bool) → ((a && h) || (b && h)) ≡ ((a || b) && h)
 or_and true true true = refl
 or_and true true false = refl
 or_and true false true = refl
 or_and true false false = refl
 or_and false b h = refl
 
-no_row : (base y : ℕ) (h : Bool) → ((nat_le base y && nat_lt y (base + 0)) && h) ≡ false
+pub no_row : (base y : ℕ) (h : Bool) → ((nat_le base y && nat_lt y (base + 0)) && h) ≡ false
 no_row base y h = rw (none base y) refl
   where
     none : (n y : ℕ) → (nat_le n y && nat_lt y (n + 0)) ≡ false
@@ -398,89 +397,6 @@ before_edges left top right bottom bytes x y across down =
     (get_or-take count bytes (x - left) 0 (omega (arith, leb-true _ _ parts.0, ltb-true _ _ parts.1))))
     ∙ ap₂ (λ u v. u && (v && h)) (cut left (length bytes) right x across) (cut top 6 bottom y down)
     ∙ mixed a (nat_lt x right) r (nat_lt y bottom) h
-
--- ---- the columns one by one
-
--- the columns of the first k bytes
-pub first_columns : (left top n k x y : ℕ) (bytes : List ℕ) → k ≤ length bytes
-    → is_stretched left top n (take k bytes) x y
-    ≡ ((nat_le left x && nat_lt x (left + k))
-    && ((nat_le top y && nat_lt y (top + n)) && has_bit (slice_index bytes (x - left)) (y - top)))
-first_columns left top n k x y bytes few =
-    let first = take k bytes in
-    let long : length first ≡ k = length-take-le k bytes few in
-    let rows = nat_le top y && nat_lt y (top + n) in
-    ap (λ m. (nat_le left x && nat_lt x (left + m))
-    && (rows && has_bit (slice_index first (x - left)) (y - top))) long
-    ∙ and_when (nat_le left x && nat_lt x (left + k)) _ _ (λ t.
-    let parts = and_parts (nat_le left x) (nat_lt x (left + k)) t in
-    ap (λ b. rows && has_bit b (y - top))
-    (get_or-take k bytes (x - left) 0 (omega (arith, leb-true _ _ parts.0, ltb-true _ _ parts.1))))
-
--- what is left after the first k bytes
-pub rest_is : (k : ℕ) (bytes : List ℕ) → take (length bytes - k) (drop k bytes) ≡ drop k bytes
-rest_is k bytes = all_taken (length bytes - k) (drop k bytes) (omega (arith, length-drop k bytes))
-
--- the columns of the first m bytes after the first k
-part_columns : (left top n k m x y : ℕ) (bytes : List ℕ) → k + m ≤ length bytes
-    → is_stretched (left + k) top n (take m (drop k bytes)) x y
-    ≡ ((nat_le (left + k) x && nat_lt x (left + k + m))
-    && ((nat_le top y && nat_lt y (top + n)) && has_bit (slice_index bytes (x - left)) (y - top)))
-part_columns left top n k m x y bytes within =
-    let rows = nat_le top y && nat_lt y (top + n) in
-    first_columns (left + k) top n m x y (drop k bytes) (omega (arith, within, length-drop k bytes))
-    ∙ and_when (nat_le (left + k) x && nat_lt x (left + k + m)) _ _ (λ t.
-    let parts = and_parts (nat_le (left + k) x) (nat_lt x (left + k + m)) t in
-    let here : k + (x - (left + k)) ≡ x - left = omega (arith, leb-true _ _ parts.0) in
-    ap (λ b. rows && has_bit b (y - top))
-    (get_or-drop k bytes (x - (left + k)) 0 ∙ ap (λ j. get_or bytes j 0) here))
-
-next_columns : (left k m x : ℕ)
-    → ((nat_le left x && nat_lt x (left + k)) || (nat_le (left + k) x && nat_lt x (left + k + m)))
-    ≡ (nat_le left x && nat_lt x (left + (k + m)))
-next_columns left k m x = grind (arith, nat_tests)
-
-more_columns : (left top n k m x y : ℕ) (bytes : List ℕ) → k + m ≤ length bytes
-    → (is_stretched left top n (take k bytes) x y || is_stretched (left + k) top n (take m (drop k bytes)) x y)
-    ≡ is_stretched left top n (take (k + m) bytes) x y
-more_columns left top n k m x y bytes within =
-    ap₂ (λ u v. u || v) (first_columns left top n k x y bytes (omega (arith, within)))
-    (part_columns left top n k m x y bytes within)
-    ∙ or_and (nat_le left x && nat_lt x (left + k)) (nat_le (left + k) x && nat_lt x (left + k + m))
-    ((nat_le top y && nat_lt y (top + n)) && has_bit (slice_index bytes (x - left)) (y - top))
-    ∙ ap (λ (t : Bool). t && ((nat_le top y && nat_lt y (top + n))
-    && has_bit (slice_index bytes (x - left)) (y - top))) (next_columns left k m x)
-    ∙ sym (first_columns left top n (k + m) x y bytes within)
-
-pub no_columns : (n w left top : ℕ) (bytes : List ℕ) (ink : Ink) (xs : List Ink)
-    → IsStretchPainted n w left top (take 0 bytes) ink xs xs
-no_columns n w left top bytes ink xs = record {
-  long = refl;
-  pixels = λ i lt.
-      ap (λ t. cond t ink (get_or xs i black))
-      (sym (first_columns left top n 0 (i % w) (i / w) bytes (omega arith) ∙ no_row left (i % w) _));
-}
-
--- m more columns on the k before; `rest` is what is left after these
-pub stretched_on : (k m n w left top : ℕ) (rest bytes : List ℕ) (ink : Ink) (old mid new : List Ink)
-    → rest ≡ take (length bytes - k) (drop k bytes) → k + m ≤ length bytes
-    → IsStretchPainted n w left top (take k bytes) ink old mid → length new ≡ length mid
-    → ((i : ℕ) → i < length mid
-    → get_or new i black ≡ cond (is_stretched (left + k) top n (take m rest) (i % w) (i / w)) ink (get_or mid i black))
-    → IsStretchPainted n w left top (take (k + m) bytes) ink old new
-stretched_on k m n w left top rest bytes ink old mid new is within before long painted = record {
-  long = long ∙ before.long;
-  pixels = λ i below.
-      let x = i % w in
-      let y = i / w in
-      let here = is_stretched (left + k) top n (take m (drop k bytes)) x y in
-      painted i (omega (arith, below, before.long))
-      ∙ ap (λ (bs : List ℕ). cond (is_stretched (left + k) top n (take m bs) x y) ink (get_or mid i black))
-      (is ∙ rest_is k bytes)
-      ∙ ap (λ o. cond here ink o) (before.pixels i below)
-      ∙ sym (both_over (is_stretched left top n (take k bytes) x y) here ink (get_or old i black))
-      ∙ ap (λ (t : Bool). cond t ink (get_or old i black)) (more_columns left top n k m x y bytes within);
-}
 
 -- ---- drawings
 

@@ -2,13 +2,12 @@
 use Rattle.std.specs.Prelude.{◌≡◌, ◌==◌, ◌&&◌, ◌+◌, ◌-◌, ◌/◌, ◌%◌, ◌<◌, ℕ, Bool, List, length, nat_le, nat_lt}
 use Rattle.std.specs.Prelude.{slice_index, slice_index_or}
 use Rattle.std.specs.Prelude.{if◌then◌else◌}
-use Rattle.std.specs.Prelude.{◌||◌, [], ◌∷◌, false, map, min, not}
+use Rattle.std.specs.Prelude.{◌||◌, [], ◌∷◌, false, map, min}
 use Rattle.std.specs.List.{list_any}
 use Rattle.std.specs.Int.{bit_at}
 use Rattle.sixel_grammar.specs.declared.command.Command.TheVariants.{Sixel}
 use Rattle.sixel_grammar.specs.declared.command.Event.{Event}
 use Rattle.sixel_grammar.specs.declared.command.Event.TheVariants.{Step}
-use Rattle.sixel_model.specs.Geometry.{band_rows}
 use Rattle.sixel_terminal.specs.declared.pen.Pen.{Pen}
 use Rattle.sixel_terminal.specs.Displays.{Display}
 use Rattle.sixel_terminal.specs.Steps.{most, pen_covers}
@@ -44,20 +43,11 @@ pub record IsStretchPainted (n w left top : ℕ) (bytes : List ℕ) (ink : Ink) 
 abbrev pub AreJoined : ℕ → List ℕ → Type 0
 AreJoined bits bytes = (bit : ℕ) → (bit_at bits bit == 1) ≡ list_any (λ b. has_bit b bit) bytes
 
--- the pixel is in the column, and in a row of the band whose bit is one of the bits, but none of the rest
-abbrev pub is_in_sixel : ℕ → ℕ → ℕ → ℕ → ℕ → ℕ → Bool
-is_in_sixel left top bits rest x y =
-    (nat_le left x && nat_lt x (left + 1))
-    && ((nat_le top y && nat_lt y (top + band_rows))
-    && ((bit_at bits (y - top) == 1) && not (bit_at rest (y - top) == 1)))
-
--- the bits of a sixel were painted, apart from the rest of them
-pub record IsSixelPainted (w left top bits rest : ℕ) (ink : Ink) (old new : List Ink) : Type 0 where
-  pub long : length new ≡ length old
-  pub among : (k : ℕ) → bit_at rest k ≡ 1 → bit_at bits k ≡ 1
-  pub pixels : (i : ℕ) → i < length old
-      → slice_index_or new i black
-      ≡ (if is_in_sixel left top bits rest (i % w) (i / w) then ink else slice_index_or old i black)
+-- the sixels of the first four data bytes, and 0 for those that aren't there
+pub record AreFirstSixels (bytes sixels : List ℕ) : Type 0 where
+  pub long : length sixels ≡ 4
+  pub each : (j : ℕ) → j < 4
+      → slice_index sixels j ≡ (if nat_lt j (length bytes) then slice_index bytes j - 63 else 0)
 
 -- the sixels of data bytes
 abbrev pub sixels_of : List ℕ → List Event

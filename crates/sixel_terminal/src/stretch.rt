@@ -1,17 +1,25 @@
 //! Paints many sixels at once.
 
-ghost use Rattle.std.specs.Prelude.{◌≡◌, ◌&&◌, ◌<◌, ◌≤◌, ◌+◌, ◌-◌, ◌*◌, ◌/◌, ◌%◌, ◌^◌, ℕ, EachIndex, IsTrue, length, nat_le, nat_lt};
-ghost use Rattle.std.specs.Prelude.{slice_index, slice_index_or, slice_set, take, if◌then◌else◌};
+ghost use Rattle.std.specs.Prelude.{◌≡◌, ◌==◌, ◌↔◌, ◌&&◌, ◌<◌, ◌≤◌, ◌+◌, ◌-◌, ◌*◌, ◌/◌, ◌%◌, ℕ, EachIndex, IsTrue};
+ghost use Rattle.std.specs.Prelude.{length, nat_le, nat_lt, slice_index, slice_index_or, if◌then◌else◌};
+ghost use Rattle.std.specs.Int.{bit_at};
 ghost use Rattle.sixel_grammar.specs.Bytes.{is_data};
 ghost use Rattle.sixel_model.specs.Geometry.{band_rows};
 ghost use Rattle.sixel_terminal.specs.Canvases.{black};
-ghost use Rattle.sixel_terminal.specs.Stretches.{AreJoined, IsSixelPainted, has_bit, is_in_sixel, is_stretched};
+ghost use Rattle.sixel_terminal.specs.Stretches.{AreFirstSixels, AreJoined, has_bit, is_stretched};
 
 use crate::pixel::Pixel;
 use sixel_model::{BAND_ROWS, is_set};
+use std::simd::prelude::*;
 
-/// The sixels of fewer bytes than this are painted column by column: rows that short have no use for lanes.
-const SHORT: usize = 8;
+/// How many columns are painted at once.
+const LANES: usize = 4;
+
+/// The number of each of them.
+const NUMBERS: [u8; LANES] = [0, 1, 2, 3];
+
+/// The sixels of more bytes than this are painted row by row.
+const MANY: usize = 16;
 
 /// Paints the pixels of a row whose data bytes have the bit. The loop has no branch, so that the compiler uses lanes.
 #[inline(always)]
@@ -88,78 +96,118 @@ fn paint_rows(
     }
 }
 
+/// The sixels of the first columns, and 0 behind the last. It takes no branch.
 #[inline(always)]
-fn set_pixel(pixels: &mut [Pixel], at: usize, ink: &Pixel)
-    requires { at < length pixels.old }
-    ensures { pixels.new ≡ slice_set pixels.old at ink.now }
+fn first_sixels(bytes: &[u8]) -> [u8; LANES]
+    requires some { 0 < length bytes.now }
+    requires few { length bytes.now ≤ LANES }
+    requires data { (k : ℕ) → k < length bytes.now → IsTrue (is_data (slice_index bytes.now k)) }
+    ensures { AreFirstSixels bytes.now result }
 {
-    pixels[at] = *ink;
+    let last = bytes.len() - 1;
+    let sixels = [
+        bytes[0] - b'?',
+        bytes[last.min(1)] - b'?',
+        bytes[last.min(2)] - b'?',
+        bytes[last.min(3)] - b'?',
+    ];
+    let are_there = u8x4::from_array(NUMBERS).simd_lt(u8x4::splat(bytes.len() as u8));
+    are_there
+        .select(u8x4::from_array(sixels), u8x4::splat(0))
+        .to_array()
 }
 
-/// Paints the pixel of the lowest of these bits of a sixel. Returns the other bits.
+/// What a pixel shows after the painting of its sixel.
 #[inline(always)]
-fn paint_lowest(
-    pixels: &mut [Pixel],
-    width: usize,
-    left: usize,
-    top: usize,
-    bits: u32,
-    ink: &Pixel,
-) -> u32
-    requires column { left < width }
-    requires rows { (top + band_rows) * width ≤ length pixels.old }
-    requires some { 0 < bits }
-    requires six { bits < 2 ^ band_rows }
-    ensures fewer { result < bits }
-    ensures painted { IsSixelPainted width left top bits result ink.now pixels.old pixels.new }
+fn painted(sixel: u8, bit: u32, ink: &Pixel, old: Pixel) -> Pixel
+    requires { bit < band_rows }
+    ensures { result ≡ (if bit_at sixel bit == 1 then ink.now else old) }
 {
-    let bit = bits.trailing_zeros();
-    set_pixel(pixels, (top + bit as usize) * width + left, ink);
-    bits & (bits - 1)
+    if is_set(sixel, bit) { *ink } else { old }
 }
 
-/// Paints the column of a sixel, bit by bit: most sixels have few.
+/// Paints the pixels of a row whose sixels have the bit. All four are read first, and there is no branch on the bits, so
+/// that the compiler uses lanes.
 #[inline(always)]
-fn paint_sixel(pixels: &mut [Pixel], width: usize, left: usize, top: usize, bits: u8, ink: &Pixel)
-    requires column { left < width }
-    requires rows { (top + band_rows) * width ≤ length pixels.old }
-    requires six { bits < 2 ^ band_rows }
+fn paint_four(pixels: &mut [Pixel], at: usize, sixels: [u8; LANES], bit: u32, ink: &Pixel)
+    requires bit { bit < band_rows }
+    requires room { at + LANES ≤ length pixels.old }
     ensures { EachIndex pixels.old (λ i. slice_index_or pixels.new i black
-        ≡ (if is_in_sixel left top bits 0 (i % width) (i / width)
+        ≡ (if (nat_le at i && nat_lt i (at + LANES)) && (bit_at (slice_index sixels (i - at)) bit == 1)
         then ink.now else slice_index_or pixels.old i black)) }
 {
-    let mut rest = u32::from(bits);
-    while rest != 0 {
-        rest = paint_lowest(pixels, width, left, top, rest, ink);
+    let (a, b, c, d) = (pixels[at], pixels[at + 1], pixels[at + 2], pixels[at + 3]);
+    pixels[at] = painted(sixels[0], bit, ink, a);
+    pixels[at + 1] = painted(sixels[1], bit, ink, b);
+    pixels[at + 2] = painted(sixels[2], bit, ink, c);
+    pixels[at + 3] = painted(sixels[3], bit, ink, d);
+}
+
+/// As `paint_rows` for a whole band and at most four columns. It writes back what is behind the last column.
+#[inline(always)]
+fn paint_few(pixels: &mut [Pixel], width: usize, left: usize, top: usize, bytes: &[u8], ink: &Pixel)
+    requires wide { 0 < width }
+    requires some { 0 < length bytes.now }
+    requires few { length bytes.now ≤ LANES }
+    requires columns { left + length bytes.now ≤ width }
+    requires room { (top + 5) * width + left + LANES ≤ length pixels.old }
+    requires data { (k : ℕ) → k < length bytes.now → IsTrue (is_data (slice_index bytes.now k)) }
+    ensures { EachIndex pixels.old (λ i. slice_index_or pixels.new i black
+        ≡ (if is_stretched left top band_rows bytes.now (i % width) (i / width)
+        then ink.now else slice_index_or pixels.old i black)) }
+{
+    let sixels = first_sixels(bytes);
+    let start = top * width + left;
+    for bit in 0..BAND_ROWS {
+        paint_four(pixels, start + bit as usize * width, sixels, bit, ink);
     }
 }
 
-/// Paints the first column of a whole band. Returns how many columns that is.
+/// As `paint_rows` for a whole band, four columns at a time. The last four may begin among those before.
 #[inline(always)]
-fn paint_first(
+fn paint_groups(
     pixels: &mut [Pixel],
     width: usize,
     left: usize,
     top: usize,
     bytes: &[u8],
     ink: &Pixel,
-) -> usize
-    requires some { 0 < width }
-    requires more { 0 < length bytes.now }
+)
+    requires four { LANES ≤ length bytes.now }
     requires columns { left + length bytes.now ≤ width }
     requires rows { (top + band_rows) * width ≤ length pixels.old }
     requires data { (k : ℕ) → k < length bytes.now → IsTrue (is_data (slice_index bytes.now k)) }
-    ensures some { 0 < result }
-    ensures within { result ≤ length bytes.now }
-    ensures painted { EachIndex pixels.old (λ i. slice_index_or pixels.new i black
-        ≡ (if is_stretched left top band_rows (take result bytes.now) (i % width) (i / width)
+    ensures { EachIndex pixels.old (λ i. slice_index_or pixels.new i black
+        ≡ (if is_stretched left top band_rows bytes.now (i % width) (i / width)
         then ink.now else slice_index_or pixels.old i black)) }
 {
-    paint_sixel(pixels, width, left, top, bytes[0] - b'?', ink);
-    1
+    let last = bytes.len() - LANES;
+    let mut done = 0;
+    while done < bytes.len() {
+        let from = done.min(last);
+        paint_few(
+            pixels,
+            width,
+            left + from,
+            top,
+            &bytes[from..from + LANES],
+            ink,
+        );
+        done = from + LANES;
+    }
 }
 
-/// As `paint_rows` for a whole band, column by column.
+/// Whether four pixels are there in each row of a band, from this column on.
+#[inline(always)]
+fn has_room(pixels: &[Pixel], width: usize, left: usize, top: usize) -> bool
+    requires column { left ≤ width }
+    requires rows { (top + band_rows) * width ≤ length pixels.now }
+    ensures { IsTrue result ↔ ((top + 5) * width + left + LANES ≤ length pixels.now) }
+{
+    pixels.len() - (top * width + left + 5 * width) >= LANES
+}
+
+/// As `paint_rows` for a whole band, by columns where that is faster.
 #[inline(always)]
 fn paint_columns(
     pixels: &mut [Pixel],
@@ -177,9 +225,12 @@ fn paint_columns(
         ≡ (if is_stretched left top band_rows bytes.now (i % width) (i / width)
         then ink.now else slice_index_or pixels.old i black)) }
 {
-    let mut done = 0;
-    while done < bytes.len() {
-        done += paint_first(pixels, width, left + done, top, &bytes[done..], ink);
+    if bytes.len() > LANES {
+        paint_groups(pixels, width, left, top, bytes, ink);
+    } else if !bytes.is_empty() && has_room(pixels, width, left, top) {
+        paint_few(pixels, width, left, top, bytes, ink);
+    } else {
+        paint_rows(pixels, width, left, top, BAND_ROWS, bytes, ink);
     }
 }
 
@@ -203,7 +254,7 @@ pub(crate) fn paint_sixels(
         ≡ (if is_stretched left top count bytes.now (i % width) (i / width)
         then ink.now else slice_index_or pixels.old i black)) }
 {
-    if count == BAND_ROWS && bytes.len() < SHORT {
+    if count == BAND_ROWS && bytes.len() <= MANY {
         paint_columns(pixels, width, left, top, bytes, ink);
     } else {
         paint_rows(pixels, width, left, top, count, bytes, ink);

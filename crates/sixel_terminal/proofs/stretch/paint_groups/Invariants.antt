@@ -1,6 +1,6 @@
 use Rattle.std.proofs.Common.{◌≤◌, ◌-◌, length, take}
 use Rattle.sixel_terminal.specs.Stretches.{IsStretchPainted}
-use Rattle.sixel_terminal.proofs.stretch.paint_columns.Given as goal
+use Rattle.sixel_terminal.proofs.stretch.paint_groups.Given as goal
 
 abbrev pub invariant-loop-done : goal.invariant-loop-done
 invariant-loop-done l = record {
