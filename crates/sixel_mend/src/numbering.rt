@@ -1,11 +1,13 @@
 //! Makes a picture of pixels, whose colours get registers in the order in which they are first seen.
 
-ghost use Rattle.std.specs.Prelude.{◌≡◌, ◌≤◌, ◌*◌, ◌&&◌, IfErr, IfOk, IfSome, IsTrue, List, OnSome, Some, length, map};
+ghost use Rattle.std.specs.Prelude.{◌≡◌, ◌≤◌, ◌*◌, ◌&&◌, [], IfErr, IfOk, IfSome, IsTrue, List, None, OnSome, Some};
+ghost use Rattle.std.specs.Prelude.{length, map};
 ghost use Rattle.sixel_model.specs.declared.colour.Parts.{Parts};
 ghost use Rattle.sixel_model.specs.Pictures.{is_side};
 ghost use Rattle.sixel_model.specs.Profiles.{count_of};
 ghost use Rattle.sixel_ppm.specs.PpmColours.{Fills, HasRegister, Numbers};
 ghost use Rattle.sixel_ppm.specs.PpmReading.{distinct, picture_of, with_colour};
+ghost use Rattle.sixel_ppm.specs.PpmSamples.{HoldsPixels};
 ghost use Rattle.sixel_terminal.specs.Screens.{colour_in_ink};
 ghost use Rattle.sixel_mend.specs.Numbering.{IsNumberingFault, KnowsLast};
 
@@ -45,7 +47,19 @@ fn cached(numbering: &Numbering, pixel: &Pixel) -> Option<u8>
     numbering.cached(percentages[0], percentages[1], percentages[2])
 }
 
+/// The register of a pixel's colour, by a search.
+#[inline(never)]
+fn searched(numbering: &mut Numbering, pixel: &Pixel) -> Option<u8>
+    ensures numbers { (seen : List Parts) → Fills numbering.old.colours seen
+        → Numbers result numbering.new.colours (with_colour seen (colour_in_ink pixel.now))
+        (colour_in_ink pixel.now) }
+    ensures profile { length numbering.new.colours.palette ≡ length numbering.old.colours.palette }
+{
+    numbering.register_of(pixel.colour())
+}
+
 /// The register of a pixel's colour. A pixel that repeats the last one needs no search, even without the cache.
+#[inline(always)]
 fn register_of(numbering: &mut Numbering, last: &mut Option<Numbered>, pixel: &Pixel) -> Option<u8>
     ensures numbers { (seen : List Parts) → Fills numbering.old.colours seen → KnowsLast last.old seen
         → Numbers result numbering.new.colours (with_colour seen (colour_in_ink pixel.now))
@@ -60,7 +74,7 @@ fn register_of(numbering: &mut Numbering, last: &mut Option<Numbered>, pixel: &P
     if let Some(register) = repeated(last, pixel) {
         return Some(register);
     }
-    match numbering.register_of(pixel.colour()) {
+    match searched(numbering, pixel) {
         None => None,
         Some(register) => {
             *last = Some(Numbered {
@@ -70,6 +84,33 @@ fn register_of(numbering: &mut Numbering, last: &mut Option<Numbered>, pixel: &P
             Some(register)
         }
     }
+}
+
+/// The registers of the colours that these pixels show. `TooManyColours`: there are more different ones than registers.
+///
+/// It isn't inlined, so that its loop keeps all that it needs in the processor's registers.
+#[inline(never)]
+fn registers_of(
+    alloc: Global,
+    numbering: &mut Numbering,
+    pixels: &[Pixel],
+) -> Result<Vec<u8>, MendFault>
+    requires { Fills numbering.old.colours [] }
+    ensures profile { length numbering.new.colours.palette ≡ length numbering.old.colours.palette }
+    ensures held { IfOk result (λ registers. HoldsPixels numbering.new.colours None 0 registers.items 0
+        (length pixels.now) (map colour_in_ink pixels.now)) }
+    ensures refused { IfErr result (IsNumberingFault (length numbering.old.colours.palette)
+        (map colour_in_ink pixels.now)) }
+{
+    let mut last = None;
+    let mut registers = Vec::with_capacity(alloc, pixels.len())?;
+    for pixel in pixels {
+        match register_of(numbering, &mut last, pixel) {
+            Some(register) => registers.push_reserved(register),
+            None => return Err(MendFault::TooManyColours),
+        }
+    }
+    Ok(registers)
 }
 
 /// The picture of the colours that these pixels show, row by row. `TooManyColours`: there are more different ones than
@@ -89,14 +130,7 @@ pub(crate) fn picture_of(
     ensures refused { IfErr result (IsNumberingFault (count_of profile) (map colour_in_ink pixels.now)) }
 {
     let mut numbering = Numbering::new(profile);
-    let mut last = None;
-    let mut registers = Vec::with_capacity(alloc, pixels.len())?;
-    for pixel in pixels {
-        match register_of(&mut numbering, &mut last, pixel) {
-            Some(register) => registers.push_reserved(register),
-            None => return Err(MendFault::TooManyColours),
-        }
-    }
+    let registers = registers_of(alloc, &mut numbering, pixels)?;
     let palette = numbering.into_palette();
     Ok(Picture::of_parts(width, height, palette, registers))
 }
