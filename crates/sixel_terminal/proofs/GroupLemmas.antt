@@ -12,6 +12,7 @@ use Rattle.std.proofs.lemmas.List.{length-set, length-take-le}
 use Rattle.std.proofs.lemmas.Nat.Bits.{bit_at-zero}
 use Rattle.sixel_terminal.specs.declared.pixel.Ink.{Ink}
 use Rattle.sixel_terminal.specs.Canvases.{black}
+use Rattle.sixel_terminal.specs.Pixels.{ink_of}
 use Rattle.sixel_terminal.specs.Stretches.{AreFirstSixels, IsStretchPainted, has_bit, is_stretched}
 use Rattle.sixel_terminal.proofs.StretchLemmas.{and_when, both_over, no_row, or_and}
 
@@ -78,6 +79,12 @@ picked_is at j place bit sixels ink old new xs there within is value =
     ∙ ap (λ o. cond (bit_at (slice_index sixels j) bit == 1) ink o)
     (get_or_read_under xs place (length xs) old black is within refl ∙ ap (λ n. get_or xs n black) there)
 
+-- what the pixel of a chosen code shows
+pub chosen_shows : (set : Bool) (code own kept : ℕ) (ink old : Ink) → code ≡ cond set own kept → ink_of own ≡ ink
+    → ink_of kept ≡ old → ink_of code ≡ cond set ink old
+chosen_shows true code own kept ink old is here there = ap ink_of is ∙ here
+chosen_shows false code own kept ink old is here there = ap ink_of is ∙ there
+
 both : {A : Type 0} (within set : Bool) (ink new old : A) → (within ≡ true → new ≡ old)
     → cond within (cond set ink new) old ≡ cond (within && set) ink old
 both true true ink new old same = refl
@@ -95,7 +102,8 @@ four_painted at bit i sixels ink a b c d xs room first second third last lt =
     let f = picked at sixels bit ink xs in
     let one = set_next at 0 at f a xs xs (omega arith) (omega (arith, room)) first (none_set at f xs) in
     let two = set_next at 1 (at + 1) f b xs (slice_set xs at a) refl (omega (arith, room)) second one in
-    let three = set_next at 2 (at + 2) f c xs (slice_set (slice_set xs at a) (at + 1) b) refl (omega (arith, room)) third two in
+    let three = set_next at 2 (at + 2) f c xs (slice_set (slice_set xs at a) (at + 1) b) refl (omega (arith, room))
+    third two in
     let four = set_next at 3 (at + 3) f d xs (slice_set (slice_set (slice_set xs at a) (at + 1) b) (at + 2) c) refl
     (omega (arith, room)) last three in
     four.pixels i lt
@@ -106,7 +114,8 @@ four_painted at bit i sixels ink a b c d xs room first second third last lt =
 
 -- ---- four columns
 
-bit_or_none : (there : Bool) (sixel bit : ℕ) → (bit_at (cond there sixel 0) bit == 1) ≡ (there && (bit_at sixel bit == 1))
+bit_or_none : (there : Bool) (sixel bit : ℕ)
+    → (bit_at (cond there sixel 0) bit == 1) ≡ (there && (bit_at sixel bit == 1))
 bit_or_none true sixel bit = refl
 bit_or_none false sixel bit = ap (λ n. n == 1) (bit_at-zero bit)
 

@@ -4,6 +4,7 @@ pub mod CanvasLemmas
 pub mod PaintLemmas
 pub mod SelectLemmas
 pub mod StandLemmas
+pub mod PixelLaneLemmas
 pub mod PixelLemmas
 pub mod RunLemmas
 pub mod GroupLemmas

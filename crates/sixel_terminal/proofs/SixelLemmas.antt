@@ -1,4 +1,4 @@
--- Painting a sixel bit by bit, and the bits that sixels have together.
+-- The bits that sixels have together, and sixels without bits.
 use Rattle.std.proofs.Common.{◌≡◌, ℕ, ◌+◌, ◌-◌, ◌*◌, ◌/◌, ◌%◌, ◌^◌, ◌<◌, Bool, true, false, ◌&&◌, ◌||◌, cond, List}
 use Rattle.std.proofs.Common.{length, get_or, nat_le, nat_lt, refl, sym, ap, ap₂, ◌∙◌, arith}
 use Rattle.std.proofs.Common.{[], ◌∷◌, ◌==◌, max, suc, zero, take, bit_or}

@@ -1,12 +1,20 @@
 //! The pixels of a screen during drawing, in four bytes each.
 
-ghost use Rattle.std.specs.Prelude.{◌≡◌, ◌≤◌, ◌↔◌, IsTrue};
+ghost use Rattle.std.specs.Prelude.{◌≡◌, ◌==◌, ◌≤◌, ◌<◌, ◌↔◌, ◌&&◌, ◌+◌, ◌-◌, ℕ, EachIndex, IsTrue, length, nat_le};
+ghost use Rattle.std.specs.Prelude.{nat_lt, slice_index, slice_index_or, if◌then◌else◌};
+ghost use Rattle.std.specs.Int.{bit_at};
+ghost use Rattle.sixel_model.specs.Geometry.{band_rows};
+ghost use Rattle.sixel_terminal.specs.Canvases.{black};
 ghost use Rattle.sixel_terminal.specs.Pixels.{bytes_of, is_rgb_ink, packed};
 ghost use Rattle.sixel_terminal.specs.Screens.{colour_in_ink};
 ghost use Rattle.sixel_terminal.specs.declared.pixel.Ink.TheVariants.{Fixed as FixedInk, Bound as BoundInk};
 
 use sixel_model::{Colour, Parts};
 use std::marker::Model;
+use std::simd::prelude::*;
+
+/// How many pixels are painted at once.
+pub(crate) const LANES: usize = 4;
 
 /// What a pixel shows.
 #[derive(Clone, Copy, Debug)]
@@ -52,6 +60,43 @@ fn packed(a: u8, b: u8, c: u8, highest: u8) -> u32
     ensures { result ≡ packed a b c highest }
 {
     u32::from(a) + 256 * (u32::from(b) + 256 * (u32::from(c) + 256 * u32::from(highest)))
+}
+
+/// The new codes of four pixels: the ink's where the sixel has the bit, otherwise the old one.
+#[inline(always)]
+fn painted(codes: [u32; LANES], sixels: [u8; LANES], bit: u32, ink: u32) -> [u32; LANES]
+    requires { bit < band_rows }
+    ensures { (j : ℕ) → j < LANES → slice_index result j
+        ≡ (if bit_at (slice_index sixels j) bit == 1 then ink else slice_index codes j) }
+{
+    let sixels: u32x4 = u8x4::from_array(sixels).cast();
+    let unpainted = (sixels & u32x4::splat(1 << bit)).simd_eq(u32x4::splat(0));
+    unpainted
+        .select(u32x4::from_array(codes), u32x4::splat(ink))
+        .to_array()
+}
+
+/// Paints the pixels of a row from `at` on whose sixels have the bit. All four are read first, and written at once.
+#[inline(always)]
+pub(crate) fn paint_four(
+    pixels: &mut [Pixel],
+    at: usize,
+    sixels: [u8; LANES],
+    bit: u32,
+    ink: &Pixel,
+)
+    requires bit { bit < band_rows }
+    requires room { at + LANES ≤ length pixels.old }
+    ensures { EachIndex pixels.old (λ i. slice_index_or pixels.new i black
+        ≡ (if (nat_le at i && nat_lt i (at + LANES)) && (bit_at (slice_index sixels (i - at)) bit == 1)
+        then ink.now else slice_index_or pixels.old i black)) }
+{
+    let (a, b, c, d) = (pixels[at], pixels[at + 1], pixels[at + 2], pixels[at + 3]);
+    let codes = painted([a.code, b.code, c.code, d.code], sixels, bit, ink.code);
+    pixels[at] = Pixel { code: codes[0] };
+    pixels[at + 1] = Pixel { code: codes[1] };
+    pixels[at + 2] = Pixel { code: codes[2] };
+    pixels[at + 3] = Pixel { code: codes[3] };
 }
 
 impl Pixel {

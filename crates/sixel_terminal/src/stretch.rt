@@ -1,21 +1,17 @@
 //! Paints many sixels at once.
 
-ghost use Rattle.std.specs.Prelude.{◌≡◌, ◌==◌, ◌↔◌, ◌&&◌, ◌<◌, ◌≤◌, ◌+◌, ◌-◌, ◌*◌, ◌/◌, ◌%◌, ℕ, EachIndex, IsTrue};
+ghost use Rattle.std.specs.Prelude.{◌≡◌, ◌↔◌, ◌&&◌, ◌<◌, ◌≤◌, ◌+◌, ◌-◌, ◌*◌, ◌/◌, ◌%◌, ℕ, EachIndex, IsTrue};
 ghost use Rattle.std.specs.Prelude.{length, nat_le, nat_lt, slice_index, slice_index_or, if◌then◌else◌};
-ghost use Rattle.std.specs.Int.{bit_at};
 ghost use Rattle.sixel_grammar.specs.Bytes.{is_data};
 ghost use Rattle.sixel_model.specs.Geometry.{band_rows};
 ghost use Rattle.sixel_terminal.specs.Canvases.{black};
 ghost use Rattle.sixel_terminal.specs.Stretches.{AreFirstSixels, AreJoined, has_bit, is_stretched};
 
-use crate::pixel::Pixel;
+use crate::pixel::{LANES, Pixel, paint_four};
 use sixel_model::{BAND_ROWS, is_set};
 use std::simd::prelude::*;
 
-/// How many columns are painted at once.
-const LANES: usize = 4;
-
-/// The number of each of them.
+/// The number of each column that is painted at once.
 const NUMBERS: [u8; LANES] = [0, 1, 2, 3];
 
 /// The sixels of more bytes than this are painted row by row.
@@ -115,32 +111,6 @@ fn first_sixels(bytes: &[u8]) -> [u8; LANES]
     are_there
         .select(u8x4::from_array(sixels), u8x4::splat(0))
         .to_array()
-}
-
-/// What a pixel shows after the painting of its sixel.
-#[inline(always)]
-fn painted(sixel: u8, bit: u32, ink: &Pixel, old: Pixel) -> Pixel
-    requires { bit < band_rows }
-    ensures { result ≡ (if bit_at sixel bit == 1 then ink.now else old) }
-{
-    if is_set(sixel, bit) { *ink } else { old }
-}
-
-/// Paints the pixels of a row whose sixels have the bit. All four are read first, and there is no branch on the bits, so
-/// that the compiler uses lanes.
-#[inline(always)]
-fn paint_four(pixels: &mut [Pixel], at: usize, sixels: [u8; LANES], bit: u32, ink: &Pixel)
-    requires bit { bit < band_rows }
-    requires room { at + LANES ≤ length pixels.old }
-    ensures { EachIndex pixels.old (λ i. slice_index_or pixels.new i black
-        ≡ (if (nat_le at i && nat_lt i (at + LANES)) && (bit_at (slice_index sixels (i - at)) bit == 1)
-        then ink.now else slice_index_or pixels.old i black)) }
-{
-    let (a, b, c, d) = (pixels[at], pixels[at + 1], pixels[at + 2], pixels[at + 3]);
-    pixels[at] = painted(sixels[0], bit, ink, a);
-    pixels[at + 1] = painted(sixels[1], bit, ink, b);
-    pixels[at + 2] = painted(sixels[2], bit, ink, c);
-    pixels[at + 3] = painted(sixels[3], bit, ink, d);
 }
 
 /// As `paint_rows` for a whole band and at most four columns. It writes back what is behind the last column.
