@@ -258,6 +258,27 @@ data_then bytes n each k lt =
     let under : k < n = omega (arith, lt, length-take n bytes) in
     ap is_data (get_or-take n bytes k 0 under) ∙ each k under
 
+-- the first sixels of a stretch, and the others
+cut_sixels : (place n : ℕ) (bytes : List ℕ)
+    → sixels_from place bytes ≡ sixels_from place (take n bytes) ++ sixels_from (place + n) (drop n bytes)
+cut_sixels place zero bytes =
+    let same : place ≡ place + 0 = omega arith in
+    ap (λ (p : ℕ). sixels_from p bytes) same
+cut_sixels place (suc n) [] = refl
+cut_sixels place (suc n) (b ∷ bytes) =
+    let same : place + 1 + n ≡ place + suc n = omega arith in
+    ap (λ (t : List Placed). record { place = place; event = Step (Sixel (b - 63)) } ∷ t)
+    (cut_sixels (place + 1) n bytes
+    ∙ ap (λ (p : ℕ). sixels_from (place + 1) (take n bytes) ++ sixels_from p (drop n bytes)) same)
+
+pub sixels_joined : (seen : List Placed) (place n : ℕ) (bytes : List ℕ)
+    → (seen ++ sixels_from place (take n bytes)) ++ sixels_from (place + n) (take (length bytes - n) (drop n bytes))
+    ≡ seen ++ sixels_from place bytes
+sixels_joined seen place n bytes =
+    append_assoc seen (sixels_from place (take n bytes)) _
+    ∙ ap (λ (t : List ℕ). seen ++ (sixels_from place (take n bytes) ++ sixels_from (place + n) t)) (take_rest bytes n)
+    ∙ ap (λ (t : List Placed). seen ++ t) (sym (cut_sixels place n bytes))
+
 -- the first byte of a piece, and the rest
 pub first_split : (prefix bytes : List ℕ) → 0 < length bytes
     → prefix ++ bytes ≡ (prefix ++ get_or bytes 0 0 ∷ []) ++ drop 1 bytes

@@ -19,8 +19,8 @@ use sixel_model::Profile;
 use sixel_plane::{BandPlane, Plane};
 use std::alloc::{AllocError, Global};
 
-/// How many bytes are asked for at once. Most files are smaller, and clearing room for more of them takes long beside
-/// the check of one.
+/// How many bytes are asked for at once. Most files are smaller, and clearing more room takes long beside the check of a
+/// small file.
 const ROOM: usize = 16_384;
 
 /// Reads one byte, and pushes the events that it completes. It is for bytes below `?`.

@@ -21,6 +21,9 @@ use sixel_judge::Checker;
 use sixel_plane::Plane;
 use std::alloc::AllocError;
 
+/// How many bytes a plane may want behind a stretch to paint it in one step.
+const BEHIND: usize = 16;
+
 /// Pushes an event, if there is one.
 fn keep_one<P: Plane>(checker: &mut Checker<P>, placed: Option<Placed>) -> Result<(), AllocError>
     requires { (registers : ℕ) × (seen : List PlacedValue) × StandsAfter registers checker.old seen
@@ -167,7 +170,30 @@ fn push_after_first<P: Plane>(
     if checker.try_push_stretch(rest, count - 1) {
         return Ok(());
     }
-    push_each(checker, place + 1, &rest[..count - 1])
+    push_at_end(checker, place + 1, &rest[..count - 1])
+}
+
+/// As `push_stretch`, for one that may end a piece, so that too few bytes are behind it for a plane: all but the last of
+/// its own serve.
+#[inline(never)]
+fn push_at_end<P: Plane>(
+    checker: &mut Checker<P>,
+    place: u64,
+    stretch: &[u8],
+) -> Result<(), AllocError>
+    requires stands { (registers : ℕ) × (seen : List PlacedValue) × StandsAfter registers checker.old seen
+        × MayStep seen }
+    requires sixels { (k : ℕ) → k < length stretch.now → IsTrue (is_data (slice_index stretch.now k)) }
+    requires place { place + length stretch.now ≤ most_bytes }
+    ensures kept { (registers : ℕ) (seen : List PlacedValue) → StandsAfter registers checker.old seen → MayStep seen
+        → StandsAfter registers checker.new (seen ++ sixels_from place stretch.now) }
+    ensures always { IsOk result }
+{
+    let most = stretch.len().saturating_sub(BEHIND);
+    if checker.try_push_stretch(stretch, most) {
+        return push_each(checker, place + most as u64, &stretch[most..]);
+    }
+    push_each(checker, place, stretch)
 }
 
 /// As `push_stretch`, sixel by sixel.

@@ -1,4 +1,5 @@
-//! The text of the columns of one register, on its way to the block. What is put behind its end returns the new end.
+//! The text of the columns of one register, on its way to the block. Each function adds to its end, and returns the new
+//! end.
 
 ghost use Rattle.std.specs.Prelude.{◌≡◌, ◌+◌, ◌-◌, ◌<◌, ◌≤◌, ◌++◌, ◌∷◌, [], decimal, length, take};
 ghost use Rattle.sixel_encode.specs.Canon.{commands_text, run_commands};

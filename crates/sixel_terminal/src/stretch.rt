@@ -169,7 +169,7 @@ fn paint_groups(
 
 /// Whether four pixels are there in each row of a band, from this column on.
 #[inline(always)]
-fn has_room(pixels: &[Pixel], width: usize, left: usize, top: usize) -> bool
+fn has_four(pixels: &[Pixel], width: usize, left: usize, top: usize) -> bool
     requires column { left ≤ width }
     requires rows { (top + band_rows) * width ≤ length pixels.now }
     ensures { IsTrue result ↔ ((top + 5) * width + left + LANES ≤ length pixels.now) }
@@ -177,7 +177,7 @@ fn has_room(pixels: &[Pixel], width: usize, left: usize, top: usize) -> bool
     pixels.len() - (top * width + left + 5 * width) >= LANES
 }
 
-/// As `paint_rows` for a whole band, by columns where that is faster.
+/// As `paint_rows` for a whole band, four columns at a time where four pixels are there.
 #[inline(always)]
 fn paint_columns(
     pixels: &mut [Pixel],
@@ -197,7 +197,7 @@ fn paint_columns(
 {
     if bytes.len() > LANES {
         paint_groups(pixels, width, left, top, bytes, ink);
-    } else if !bytes.is_empty() && has_room(pixels, width, left, top) {
+    } else if !bytes.is_empty() && has_four(pixels, width, left, top) {
         paint_few(pixels, width, left, top, bytes, ink);
     } else {
         paint_rows(pixels, width, left, top, BAND_ROWS, bytes, ink);

@@ -28,8 +28,8 @@ returns-then-try_push_stretch-clause-kept g c = λ registers seen s may.
     (c.if-try_push_stretch.ensures.pushed refl registers (c.args.place + 1) (seen ++ first)
     (c.in_ok-push_each.ensures.kept registers seen s may) (may_after_first seen c.args.place xs some may))
 
-pub push_each-requires-2-clause-stands : goal.push_each-requires-2-clause-stands
-push_each-requires-2-clause-stands g c =
+pub push_at_end-requires-clause-stands : goal.push_at_end-requires-clause-stands
+push_at_end-requires-clause-stands g c =
     let q = c.requires.stands in
     let some : 0 < length c.args.bytes.now = omega (arith, c.requires.bytes.0, c.requires.bytes.1) in
     let first = sixels_from c.args.place (take 1 c.args.bytes.now) in (
@@ -40,8 +40,8 @@ push_each-requires-2-clause-stands g c =
       may_after_first q.1 c.args.place c.args.bytes.now some q.3,
     )
 
-pub push_each-requires-2-clause-sixels : goal.push_each-requires-2-clause-sixels
-push_each-requires-2-clause-sixels g c =
+pub push_at_end-requires-clause-sixels : goal.push_at_end-requires-clause-sixels
+push_at_end-requires-clause-sixels g c =
     data_then _ (c.args.count - 1) (data_after_first c.args.bytes.now c.args.count c.requires.sixels)
 
 pub returns-clause-kept : goal.returns-clause-kept
@@ -49,9 +49,9 @@ returns-clause-kept g c = λ registers seen s may.
     let xs = c.args.bytes.now in
     let some : 0 < length xs = omega (arith, c.requires.bytes.0, c.requires.bytes.1) in
     let first = sixels_from c.args.place (take 1 xs) in
-    subst (StandsAfter registers c.push_each-2.new.checker)
+    subst (StandsAfter registers c.push_at_end.new.checker)
     (sixels_split seen c.args.place c.args.count xs c.requires.bytes.0 c.requires.bytes.1)
-    (c.push_each-2.ensures.kept registers (seen ++ first)
+    (c.push_at_end.ensures.kept registers (seen ++ first)
     (subst (λ (v : CheckerValue). StandsAfter registers v (seen ++ first))
     (sym (c.if-try_push_stretch.ensures.kept refl)) (c.in_ok-push_each.ensures.kept registers seen s may))
     (may_after_first seen c.args.place xs some may))
