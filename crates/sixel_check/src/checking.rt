@@ -1,15 +1,16 @@
 //! Checking the bytes of a document.
 
-ghost use Rattle.std.specs.Prelude.{◌≡◌, ◌≢◌, ◌+◌, ◌<◌, ◌≤◌, ◌∷◌, [], ℕ, List, Err, IfErr, IfOk, IfSome};
+ghost use Rattle.std.specs.Prelude.{◌≡◌, ◌≢◌, ◌+◌, ◌<◌, ◌≤◌, ◌++◌, ◌∷◌, [], ℕ, List, Err, IfErr, IfOk, IfSome};
 ghost use Rattle.std.specs.Prelude.{IsNone, OnOk, Some, length, take};
 ghost use Rattle.sixel_io.specs.Devices.{ReadsToEnd};
 ghost use Rattle.sixel_grammar.specs.Reading.{NoFaultBefore, failures_after};
 ghost use Rattle.sixel_grammar.specs.declared.fault.InputFault.TheVariants.{Read as ReadFault};
+ghost use Rattle.sixel_grammar.specs.declared.command.Placed.{Placed as PlacedValue};
 ghost use Rattle.sixel_model.specs.Profiles.{count_of};
 ghost use Rattle.sixel_judge.specs.Growth.{MayGrowIn};
 ghost use Rattle.sixel_check.specs.Answers.{Answers};
-ghost use Rattle.sixel_check.specs.Checking.{AreAfter, GrowsForBytes};
-ghost use Rattle.sixel_check.specs.Checking.{RefusesBytes, TakesBytes};
+ghost use Rattle.sixel_check.specs.Checking.{AreAfter, GrowsForBytes, RefusesBytes, TakesBytes};
+ghost use Rattle.sixel_judge.specs.Standing.{StandsAfter};
 
 use crate::pushing::{keep, keep_command, keep_run, keep_two, push_rarely};
 use sixel_grammar::{Command, Completed, Event, InputFault, Placed, Plain, Reader};
