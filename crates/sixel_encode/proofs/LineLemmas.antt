@@ -1,11 +1,11 @@
 -- Bytes behind the text of a line.
-use Rattle.std.proofs.Common.{◌≡◌, ℕ, ◌+◌, ◌≤◌, Bool, true, List, [], ◌∷◌, ◌++◌, drop, length}
+use Rattle.std.proofs.Common.{◌≡◌, ℕ, ◌+◌, ◌-◌, ◌≤◌, Bool, true, List, [], ◌∷◌, ◌++◌, drop, length}
 use Rattle.std.proofs.Common.{replicate, take, sym, ap}
 use Rattle.std.proofs.Common.{◌∙◌, arith}
 use Rattle.std.specs.Prelude.{decimal, nat_le, if◌then◌else◌}
 use Rattle.std.proofs.lemmas.Bool.{le-leb}
-use Rattle.std.proofs.Math.Seq.{take-append-add}
-use Rattle.std.proofs.lemmas.List.{length-take-le, take-append-le, take-take}
+use Rattle.std.proofs.Math.Seq.{take-add, take-append-add}
+use Rattle.std.proofs.lemmas.List.{length-take-le, take-append-drop, take-append-le, take-take}
 use Rattle.std.proofs.lemmas.Simd.{length-chunk, put_chunk_is}
 use lib.Lanes.{chunk, put_chunk}
 use Rattle.sixel_grammar.specs.declared.command.Command.TheVariants.{Repeat, Sixel}
@@ -44,3 +44,17 @@ run_spelled count bits digits enough is =
     ap (λ (t : Bool). commands_text (if t then Repeat count bits ∷ [] else replicate count (Sixel bits))) long
     ∙ text-one (Repeat count bits)
     ∙ ap (λ (ds : List ℕ). 33 ∷ ds ++ (63 + bits) ∷ []) is
+
+-- ---- the parts of a text, one after another
+
+-- the text up to the end of a part
+pub part_next : (from to : ℕ) (xs : List ℕ) → from ≤ to → take to xs ≡ take from xs ++ take (to - from) (drop from xs)
+part_next from to xs le =
+    let sum : from + (to - from) ≡ to = omega arith in
+    ap (λ (n : ℕ). take n xs) (sym sum) ∙ take-add from (to - from) xs
+
+-- the whole text
+pub part_cut : (from to : ℕ) (xs : List ℕ) → from ≤ to
+    → xs ≡ (take from xs ++ take (to - from) (drop from xs)) ++ drop to xs
+part_cut from to xs le =
+    sym (take-append-drop to xs) ∙ ap (λ (t : List ℕ). t ++ drop to xs) (part_next from to xs le)

@@ -16,6 +16,7 @@ use crate::groups::band_groups;
 use crate::heads::Heads;
 use crate::lanes::LANES;
 use crate::line::{MOST_BYTES, TEXT_ROOM, put_part, put_repeat};
+use crate::parts::put_by_parts;
 use crate::repeats::{find_repeat, ink_end, run_end};
 use crate::rows::rows_of;
 use sixel_grammar::{Command, Event};
@@ -189,7 +190,11 @@ fn put_columns<K: Sink>(
         (commands_text (sixel_commands sixels.now)) }
 {
     let end = speller.spell(sixels, groups);
-    text.put(&speller.text[..end], out)
+    let columns = &speller.text[..end];
+    if text.try_put(columns) {
+        return Ok(());
+    }
+    put_by_parts(text, columns, out)
 }
 
 /// Makes the text of the columns: four or more equal columns are a repeat, any others single sixels. Returns where it

@@ -11,6 +11,7 @@ mod heads;
 mod lanes;
 pub mod laws;
 mod line;
+mod parts;
 mod repeats;
 mod rows;
 mod writing;

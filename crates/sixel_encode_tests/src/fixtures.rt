@@ -45,3 +45,30 @@ pub(crate) fn all_entries(alloc: Global, profile: Profile) -> Result<Vec<Entry>,
     }
     Ok(entries)
 }
+
+/// The registers of a picture of this size, in runs that depend on the size, at most this long.
+pub(crate) fn registers_in_runs(
+    alloc: Global,
+    profile: Profile,
+    longest: u64,
+    (width, height): (u32, u32),
+) -> Result<Vec<u8>, AllocError> {
+    let mut registers = Vec::new(alloc);
+    let mut state = u64::from(width)
+        .wrapping_mul(1_000)
+        .wrapping_add(u64::from(height));
+    let mut left: u64 = 0;
+    let mut register: u8 = 0;
+    for _ in 0..width.wrapping_mul(height) {
+        if left == 0 {
+            state = state
+                .wrapping_mul(6_364_136_223_846_793_005)
+                .wrapping_add(1_442_695_040_888_963_407);
+            left = ((state >> 40) % longest.max(1)).wrapping_add(1);
+            register = ((state >> 50) % u64::from(profile.count())) as u8;
+        }
+        left = left.wrapping_sub(1);
+        registers.push(register)?;
+    }
+    Ok(registers)
+}

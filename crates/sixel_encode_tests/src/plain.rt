@@ -1,8 +1,8 @@
 //! The encoder against a plain, slow one.
 
-use crate::fixtures::{all_entries, picture_of};
+use crate::fixtures::{all_entries, picture_of, registers_in_runs};
 use sixel_encode::encode;
-use sixel_io::SliceSink;
+use sixel_io::{Block, DeviceFault, Sink, SliceSink};
 use sixel_model::{Picture, Profile};
 use std::alloc::{AllocError, Global};
 use std::test::Fail;
@@ -37,63 +37,102 @@ fn trimmed(columns: &[u8]) -> &[u8] {
     }
 }
 
-/// Appends a run of equal columns: one by one up to three of them, else as a repeat.
-fn push_run(
-    alloc: Global,
-    text: &mut String,
-    count: usize,
-    column: char,
-) -> Result<(), AllocError> {
-    if count > 3 {
-        return text.push_str(format!(in alloc; "!{count}{column}")?.as_str());
-    }
-    for _ in 0..count {
-        text.push(column)?;
-    }
-    Ok(())
+/// A text, and where its parts end: a command each, but single sixels before a repeat, or the last ones, are one part.
+#[derive(Drop)]
+struct Plain {
+    text: String,
+    ends: Vec<usize>,
 }
 
-fn push_runs(alloc: Global, text: &mut String, columns: &[u8]) -> Result<(), AllocError> {
-    for run in columns.chunk_by(|a, b| a == b) {
-        if let Some(column) = run.first() {
-            push_run(alloc, text, run.len(), *column as char)?;
+impl Plain {
+    fn new(alloc: Global) -> Plain {
+        Plain {
+            text: String::new(alloc),
+            ends: Vec::new(alloc),
         }
     }
-    Ok(())
-}
 
-/// Appends each register of a band with these rows, and its columns.
-fn push_band(
-    alloc: Global,
-    text: &mut String,
-    profile: Profile,
-    rows: &[u8],
-    width: usize,
-) -> Result<(), AllocError> {
-    let mut before = "";
-    for register in 0..profile.count() {
-        let columns = plain_columns(alloc, rows, width, register as u8)?;
-        let columns = trimmed(columns.as_slice());
-        if !columns.is_empty() {
-            text.push_str(format!(in alloc; "{before}#{register}")?.as_str())?;
-            push_runs(alloc, text, columns)?;
-            before = "$";
+    /// Ends a part here.
+    fn end(&mut self) -> Result<(), AllocError> {
+        self.ends.push(self.text.len())?;
+        Ok(())
+    }
+
+    /// Appends a part.
+    fn push(&mut self, part: &str) -> Result<(), AllocError> {
+        self.text.push_str(part)?;
+        self.end()
+    }
+
+    /// Appends columns by their runs: up to three equal ones one by one, more as a repeat.
+    fn push_columns(&mut self, alloc: Global, columns: &[u8]) -> Result<(), AllocError> {
+        for run in columns.chunk_by(|a, b| a == b) {
+            let column = run.first().copied().unwrap_or(63) as char;
+            if run.len() > 3 {
+                self.end()?;
+                self.push(format!(in alloc; "!{}{column}", run.len())?.as_str())?;
+            } else {
+                for _ in run {
+                    self.text.push(column)?;
+                }
+            }
         }
+        self.end()
     }
-    Ok(())
-}
 
-fn opening(
-    alloc: Global,
-    profile: Profile,
-    width: usize,
-    height: usize,
-) -> Result<String, AllocError> {
-    let mut text = format!(in alloc; "\x1bP0;1q\"1;1;{width};{height}")?;
-    for register in 0..profile.count() {
-        text.push_str(format!(in alloc; "#{register};2;10;20;30")?.as_str())?;
+    /// Appends each register of a band with these rows, and its columns.
+    fn push_band(
+        &mut self,
+        alloc: Global,
+        profile: Profile,
+        rows: &[u8],
+        width: usize,
+    ) -> Result<(), AllocError> {
+        let mut is_first = true;
+        for register in 0..profile.count() {
+            let columns = plain_columns(alloc, rows, width, register as u8)?;
+            let columns = trimmed(columns.as_slice());
+            if !columns.is_empty() {
+                if !is_first {
+                    self.push("$")?;
+                }
+                self.push(format!(in alloc; "#{register}")?.as_str())?;
+                self.push_columns(alloc, columns)?;
+                is_first = false;
+            }
+        }
+        Ok(())
     }
-    Ok(text)
+
+    fn push_opening(
+        &mut self,
+        alloc: Global,
+        profile: Profile,
+        width: usize,
+        height: usize,
+    ) -> Result<(), AllocError> {
+        self.push("\x1bP0;1q")?;
+        self.push(format!(in alloc; "\"1;1;{width};{height}")?.as_str())?;
+        for register in 0..profile.count() {
+            self.push(format!(in alloc; "#{register};2;10;20;30")?.as_str())?;
+        }
+        Ok(())
+    }
+
+    /// Puts each part into a block by itself. An `Err` if the sink failed.
+    fn put<K: Sink>(&self, out: &mut K) -> Result<(), DeviceFault> {
+        let mut block = Block::<65_536>::new();
+        let mut from = 0;
+        for end in &self.ends {
+            if let Some(part) = self.text.as_bytes().get(from..*end) {
+                if part.len() <= 65_536 {
+                    block.put(part, out)?;
+                }
+            }
+            from = *end;
+        }
+        block.drain(out)
+    }
 }
 
 /// The text of a picture of one colour, made without regard to time or memory.
@@ -102,53 +141,27 @@ fn plain_text(
     profile: Profile,
     (width, height): (usize, usize),
     registers: &[u8],
-) -> Result<String, AllocError> {
-    let mut text = opening(alloc, profile, width, height)?;
+) -> Result<Plain, AllocError> {
+    let mut plain = Plain::new(alloc);
+    plain.push_opening(alloc, profile, width, height)?;
     for band in 0..height.wrapping_add(5) / 6 {
         if band > 0 {
-            text.push('-')?;
+            plain.push("-")?;
         }
         let start = registers
             .len()
             .min(band.wrapping_mul(6).wrapping_mul(width));
-        push_band(alloc, &mut text, profile, &registers[start..], width)?;
+        plain.push_band(alloc, profile, &registers[start..], width)?;
     }
-    text.push_str("\x1b\\")?;
-    Ok(text)
-}
-
-/// The registers of a picture of this size, in runs that depend on the size, at most this long.
-fn registers_in_runs(
-    alloc: Global,
-    profile: Profile,
-    longest: u64,
-    (width, height): (u32, u32),
-) -> Result<Vec<u8>, AllocError> {
-    let mut registers = Vec::new(alloc);
-    let mut state = u64::from(width)
-        .wrapping_mul(1_000)
-        .wrapping_add(u64::from(height));
-    let mut left: u64 = 0;
-    let mut register: u8 = 0;
-    for _ in 0..width.wrapping_mul(height) {
-        if left == 0 {
-            state = state
-                .wrapping_mul(6_364_136_223_846_793_005)
-                .wrapping_add(1_442_695_040_888_963_407);
-            left = ((state >> 40) % longest.max(1)).wrapping_add(1);
-            register = ((state >> 50) % u64::from(profile.count())) as u8;
-        }
-        left = left.wrapping_sub(1);
-        registers.push(register)?;
-    }
-    Ok(registers)
+    plain.push("\x1b\\")?;
+    Ok(plain)
 }
 
 /// Whether the picture is encoded as this text.
-fn has_text(picture: &Picture, expected: &str) -> bool {
+fn has_text(picture: &Picture, expected: &Plain) -> bool {
     let mut room = [0; 65_536];
     let mut sink = SliceSink::new(&mut room, 1_000, None);
-    encode(picture, &mut sink) == Ok(()) && sink.written() == expected.as_bytes()
+    encode(picture, &mut sink) == Ok(()) && sink.written() == expected.text.as_bytes()
 }
 
 /// Whether a picture of this size, with runs of at most this length, is encoded as the plain encoder does.
@@ -284,6 +297,41 @@ fn noise_and_full_rows_have_the_plain_text(rt: HostRuntime) -> Result<(), Fail> 
             assert!(rt;
                 has_plain_text(rt.alloc(), Profile::Registers16, longest, width, 7)?,
                 "{width} {longest}"
+            );
+        }
+    }
+    Ok(())
+}
+
+/// Whether a sink has as much of the picture as of the plain encoder if this take fails.
+fn has_plain_parts(picture: &Picture, expected: &Plain, take: u64) -> bool {
+    let (mut room, mut plain_room) = ([0; 140_000], [0; 140_000]);
+    let mut sink = SliceSink::new(&mut room, 140_000, Some(take));
+    let mut plain_sink = SliceSink::new(&mut plain_room, 140_000, Some(take));
+    let _ = encode(picture, &mut sink);
+    let _ = expected.put(&mut plain_sink);
+    sink.written() == plain_sink.written()
+}
+
+/// Whether sinks that fail in turn have as much of pictures of this width as of the plain encoder.
+fn have_plain_parts(alloc: Global, longest: u64, width: u32) -> Result<bool, Fail> {
+    let (profile, height) = (Profile::Registers16, 260);
+    let entries = all_entries(alloc, profile)?;
+    let registers = registers_in_runs(alloc, profile, longest, (width, height))?;
+    let picture = picture_of(alloc, profile, (width, height), &entries, &registers)?;
+    let size = (width as usize, height as usize);
+    let expected = plain_text(alloc, profile, size, &registers)?;
+    Ok(has_plain_parts(&picture, &expected, 1) && has_plain_parts(&picture, &expected, 2))
+}
+
+/// Texts of more than 65,536 bytes, of which the block takes as many whole parts as it holds.
+#[test]
+fn a_failed_take_has_whole_parts(rt: HostRuntime) -> Result<(), Fail> {
+    for longest in [2, 3, 6, 12] {
+        for width in [301, 302, 303, 304, 305, 306, 307, 308] {
+            assert!(rt;
+                have_plain_parts(rt.alloc(), longest, width)?,
+                "{longest} {width}"
             );
         }
     }

@@ -1,6 +1,6 @@
 //! Pictures and their texts.
 
-use crate::fixtures::{Entry, all_entries, picture_of};
+use crate::fixtures::{Entry, all_entries, picture_of, registers_in_runs};
 use sixel_encode::{EncodeFault, encode};
 use sixel_io::SliceSink;
 use sixel_model::{Parts, Picture, Profile};
@@ -223,5 +223,45 @@ fn the_largest_picture_is_written(rt: HostRuntime) -> Result<(), Fail> {
 fn the_largest_wide_picture_is_written(rt: HostRuntime) -> Result<(), Fail> {
     let (profile, end) = (Profile::Registers256, b"?B!15?B\x1b\\");
     assert!(rt; has_length(rt.alloc(), profile, 3_525_303, end)?);
+    Ok(())
+}
+
+/// Whether a sink has this much of the picture's text if this take fails.
+fn has_taken(alloc: Global, picture: &Picture, take: u64, length: usize) -> Result<bool, Fail> {
+    let mut room = vec![in alloc; 0; 300_000]?;
+    let mut sink = SliceSink::new(&mut room, 100_000, Some(take));
+    Ok(encode(picture, &mut sink) == Err(EncodeFault::Write) && sink.written().len() == length)
+}
+
+/// A take has as many whole parts as 65,536 bytes hold. A part is a command, but single sixels before a repeat, or the
+/// last ones, are one part. The lengths are those of an encoder in Python.
+#[test]
+fn a_failed_take_leaves_whole_parts(rt: HostRuntime) -> Result<(), Fail> {
+    let profile = Profile::Registers16;
+    let entries = all_entries(rt.alloc(), profile)?;
+    let registers = registers_by_turns(rt.alloc(), profile)?;
+    let picture = picture_of(rt.alloc(), profile, (2_048, 2_048), &entries, &registers)?;
+    for (take, length) in [
+        (0, 0),
+        (1, 65_536),
+        (2, 131_071),
+        (3, 196_604),
+        (4, 262_138),
+    ] {
+        assert!(rt; has_taken(rt.alloc(), &picture, take, length)?, "{take}");
+    }
+    Ok(())
+}
+
+/// The same where most columns are single sixels: they are a part of the second text at the end of its first block.
+#[test]
+fn a_failed_take_leaves_all_single_sixels(rt: HostRuntime) -> Result<(), Fail> {
+    let profile = Profile::Registers16;
+    let entries = all_entries(rt.alloc(), profile)?;
+    for width in [300, 305] {
+        let registers = registers_in_runs(rt.alloc(), profile, 3, (width, 200))?;
+        let picture = picture_of(rt.alloc(), profile, (width, 200), &entries, &registers)?;
+        assert!(rt; has_taken(rt.alloc(), &picture, 1, 65_534)?, "{width}");
+    }
     Ok(())
 }

@@ -289,6 +289,20 @@ through-none {a = a} {u = u} = record {
   unflushed = λ t. t;
 }
 
+added : (a : Option (List ℕ)) (u v xs : List ℕ) → v ≡ u ++ xs → Appends (in_all a u) (in_all a v) xs
+added None u v xs is = tt
+added (Some taken) u v xs is = ap (λ (t : List ℕ). taken ++ t) is ∙ sym (append_assoc taken u xs)
+
+-- bytes were added to the block, and the sink wasn't called
+pub through-added : {A E : Type 0} {x : A} {a : SinkState} {u v xs : List ℕ} → v ≡ u ++ xs
+    → WritesThrough {A = A} {E = E} (Ok x) a a u v xs
+through-added {a = a} {u = u} {v = v} {xs = xs} is = record {
+  put = added a.taken u v xs is;
+  more = TakesMore-refl a.taken;
+  failures = refl;
+  unflushed = λ t. t;
+}
+
 pub through-as : {A E : Type 0} {result : Result A E} {a b : SinkState} {u v xs ys : List ℕ} → xs ≡ ys
     → WritesThrough result a b u v xs → WritesThrough result a b u v ys
 through-as {result = result} {a = a} {b = b} {u = u} {v = v} e p =

@@ -330,7 +330,7 @@ fn put_sixels<K: Sink>(
     Ok(())
 }
 
-/// The same for a few of them. From offset 100 on their lines are made quickly, and put at once.
+/// The same for a few of them. From offset 100 on their lines are made quickly, and put at once if the block has room.
 #[inline(always)]
 fn put_few<K: Sink>(
     place: u64,
@@ -349,7 +349,10 @@ fn put_few<K: Sink>(
         return put_each(place, bytes, lines, out);
     }
     make_lines(place, bytes, sixels);
-    lines.put(sixels.as_slice(), out)
+    if lines.try_put(sixels.as_slice()) {
+        return Ok(());
+    }
+    put_each(place, bytes, lines, out)
 }
 
 /// Makes the lines of a few data bytes, each a single sixel. The first has the offset `place`.
