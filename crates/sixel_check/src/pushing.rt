@@ -173,8 +173,8 @@ fn push_after_first<P: Plane>(
     push_at_end(checker, place + 1, &rest[..count - 1])
 }
 
-/// As `push_stretch`, for one that may end a piece, so that too few bytes are behind it for a plane: all but the last of
-/// its own serve.
+/// As `push_stretch`. Where too few bytes follow for a plane, as at the end of a piece, all but its last `BEHIND`
+/// sixels may be taken in one step, with these behind them.
 #[inline(never)]
 fn push_at_end<P: Plane>(
     checker: &mut Checker<P>,
@@ -189,7 +189,10 @@ fn push_at_end<P: Plane>(
         → StandsAfter registers checker.new (seen ++ sixels_from place stretch.now) }
     ensures always { IsOk result }
 {
-    let most = stretch.len().saturating_sub(BEHIND);
+    if stretch.len() <= BEHIND {
+        return push_each(checker, place, stretch);
+    }
+    let most = stretch.len() - BEHIND;
     if checker.try_push_stretch(stretch, most) {
         return push_each(checker, place + most as u64, &stretch[most..]);
     }

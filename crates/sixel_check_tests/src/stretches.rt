@@ -1,7 +1,8 @@
 //! Stretches of sixels that are painted in one step, worked out by hand.
 //!
-//! That happens if its register was painted in before, it lies in the box with all six rows, and 16 bytes follow it.
-//! Offsets: in `"1;1;20;12` the first definition is at 13, and `#0;2;0;0;0` ends before 23.
+//! That happens if its register was painted in before and it lies in the box with all six rows. If fewer than 16 bytes
+//! follow it, its last 16 sixels are painted by themselves. Offsets: in `"1;1;20;12` the first definition is at 13, and
+//! `#0;2;0;0;0` ends before 23.
 
 use crate::documents::agrees_in;
 use crate::fixtures::{agree, bytes_of, picture_of, times};
