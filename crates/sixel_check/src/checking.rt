@@ -1,5 +1,7 @@
 //! Checking the bytes of a document.
 
+// Only must-fail edits use `◌++◌`, `PlacedValue`, `StandsAfter`, `AllocError`, `Command`, `Completed`, `Event` and
+// `Placed`.
 ghost use Rattle.std.specs.Prelude.{◌≡◌, ◌≢◌, ◌+◌, ◌<◌, ◌≤◌, ◌++◌, ◌∷◌, [], ℕ, List, Err, IfErr, IfOk, IfSome};
 ghost use Rattle.std.specs.Prelude.{IsNone, OnOk, Some, length, take};
 ghost use Rattle.sixel_io.specs.Devices.{ReadsToEnd};
@@ -14,15 +16,11 @@ ghost use Rattle.sixel_judge.specs.Standing.{StandsAfter};
 
 use crate::pushing::{keep, keep_command, keep_run, keep_two, push_rarely};
 use sixel_grammar::{Command, Completed, Event, InputFault, Placed, Plain, Reader};
-use sixel_io::Source;
+use sixel_io::{PIECE, Source};
 use sixel_judge::{Checker, Verdict};
 use sixel_model::Profile;
 use sixel_plane::{BandPlane, Plane};
 use std::alloc::{AllocError, Global};
-
-/// How many bytes are asked for at once. Most files are smaller, and clearing more room takes long beside the check of a
-/// small file.
-const ROOM: usize = 16_384;
 
 /// Reads one byte, and pushes the events that it completes. It is for bytes below `?`.
 #[inline(always)]
@@ -255,6 +253,9 @@ fn conclude<P: Plane>(reader: &Reader, checker: Checker<P>) -> Result<Verdict, I
 ///
 /// Nothing of the input is kept. Memory is allocated at one point only, for the pixels of the box: when its raster
 /// attributes are complete, if no rule is broken by then.
+///
+/// It isn't inlined, or its room would be on the stack of every task.
+#[inline(never)]
 pub fn check<S: Source>(
     alloc: Global,
     profile: Profile,
@@ -268,10 +269,28 @@ pub fn check<S: Source>(
     ensures memory { IfSome (S.state input.old).remaining (λ bytes. result ≡ Err InputFault.OutOfMemory
         → MayGrowIn (count_of profile) bytes) }
 {
-    let mut piece = [0u8; ROOM];
+    check_with(alloc, profile, input, &mut [0u8; PIECE])
+}
+
+/// As `check`, with the caller's room for the bytes that are read at once. So a caller with many documents clears it
+/// once.
+pub fn check_with<S: Source>(
+    alloc: Global,
+    profile: Profile,
+    input: &mut S,
+    piece: &mut [u8; PIECE],
+) -> Result<Verdict, InputFault>
+    ensures answer { IfSome (S.state input.old).remaining (Answers (count_of profile) result) }
+    ensures failures { (S.state input.new).failures ≡ failures_after result (S.state input.old).failures }
+    ensures unread { result ≡ Err ReadFault →
+        IfSome (S.state input.old).remaining (NoFaultBefore (S.state input.new).remaining) }
+    ensures left { ReadsToEnd result (S.state input.old).remaining (S.state input.new).remaining }
+    ensures memory { IfSome (S.state input.old).remaining (λ bytes. result ≡ Err InputFault.OutOfMemory
+        → MayGrowIn (count_of profile) bytes) }
+{
     let (mut reader, mut checker) = nothing_read(alloc, profile);
     loop {
-        let count = input.fill(&mut piece)?;
+        let count = input.fill(piece)?;
         if count == 0 {
             return conclude(&reader, checker);
         }

@@ -5,6 +5,7 @@ use sixel_check::check;
 use sixel_io::SliceSource;
 use sixel_model::Profile;
 use sixel_test_devices::CountingDevice;
+use std::alloc::{AllocError, Global};
 use std::test::Fail;
 
 /// Whether the check of the bytes in pieces, with a fill that fails or none, has this answer after so many fills.
@@ -112,5 +113,27 @@ fn a_source_is_left_alone_after_its_failure(rt: HostRuntime) -> Result<(), Fail>
             "{piece}"
         );
     }
+    Ok(())
+}
+
+/// A string of `count` sixels without an end, and CAN after them.
+fn faulty_after(alloc: Global, count: usize) -> Result<Vec<u8>, AllocError> {
+    let mut bytes = Vec::from_slice(alloc, b"\x1bPq")?;
+    for _ in 0..count {
+        bytes.push(b'~')?;
+    }
+    bytes.push(0x18)?;
+    Ok(bytes)
+}
+
+/// A check asks for 65,536 bytes at once. A fault in these is found before the next fill, which would fail.
+#[test]
+fn a_fill_has_room_for_many_bytes(rt: HostRuntime) -> Result<(), Fail> {
+    let most = 100_000;
+    let bytes = faulty_after(rt.alloc(), 65_532)?;
+    assert!(rt; agrees_after(&rt, &bytes, most, Some(1), "BadByte 65535", 1)?);
+    let bytes = faulty_after(rt.alloc(), 65_533)?;
+    assert!(rt; agrees_after(&rt, &bytes, most, Some(1), "read failed", 2)?);
+    assert!(rt; agrees_after(&rt, &bytes, most, None, "BadByte 65536", 2)?);
     Ok(())
 }

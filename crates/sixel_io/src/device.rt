@@ -8,7 +8,7 @@ ghost use Rattle.std.specs.Prelude.{◌≡◌, ◌<◌, ◌≤◌, true, false, 
 ghost use Rattle.std.specs.Io.KnownBytes.{Keeps, ReadConsumes, WriteAppends};
 ghost use Rattle.sixel_io.specs.Devices.{CountsFailure, SinkState, SourceState, Writes};
 
-/// How many bytes most readers of these crates ask for in one call.
+/// How many bytes the readers of these crates ask for in one call.
 pub const PIECE: usize = 65_536;
 
 /// A call on a device failed. The device has counted the failure.

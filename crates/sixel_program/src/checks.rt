@@ -15,14 +15,14 @@ ghost use Rattle.sixel_run.specs.declared.task.Task.TheVariants.{Check, Scan, Su
 
 use crate::exit::{Exit, code_of, exit_of};
 use crate::findings::{
-    AfterName, FilesTask, Found, answer_of, find_survey, find_verdict, put_found,
+    AfterName, FilesTask, Found, answer_of, find_survey, find_verdict, find_verdict_with, put_found,
 };
 use crate::folder::{Folder, open_file};
 use crate::formats::Format;
 use crate::hints::{put_hint, rule_of};
 use crate::peeked::Peeked;
 use crate::saying::{put_refusal, put_unopened};
-use sixel_io::{DeviceFault, Sink, Source};
+use sixel_io::{DeviceFault, PIECE, Sink, Source};
 use sixel_model::Profile;
 use sixel_run::{RunFault, Status, scan_with, write_fault};
 use std::alloc::Global;
@@ -92,6 +92,7 @@ fn check_named<S: Source, K: Sink, E: Sink>(
     is_quiet: bool,
     name: &str,
     input: &mut Peeked<S>,
+    piece: &mut [u8; PIECE],
     output: &mut K,
     errors: &mut E,
 ) -> Result<Result<Status, RunFault>, DeviceFault>
@@ -100,7 +101,7 @@ fn check_named<S: Source, K: Sink, E: Sink>(
         (change (K.state output.old) (K.state output.new)) (change (E.state errors.old) (E.state errors.new)) }
 {
     let format = input.format();
-    let judged = find_verdict(alloc, profile, input);
+    let judged = find_verdict_with(alloc, profile, input, piece);
     put_judged(is_quiet, name, format, judged, output, errors)
 }
 
@@ -168,6 +169,7 @@ fn answer_named<S: Source, K: Sink, E: Sink>(
     is_quiet: bool,
     name: &str,
     input: &mut Peeked<S>,
+    piece: &mut [u8; PIECE],
     output: &mut K,
     errors: &mut E,
 ) -> Result<Result<Status, RunFault>, DeviceFault>
@@ -178,7 +180,7 @@ fn answer_named<S: Source, K: Sink, E: Sink>(
 {
     match task {
         FilesTask::Check { profile } => {
-            check_named(alloc, profile, is_quiet, name, input, output, errors)
+            check_named(alloc, profile, is_quiet, name, input, piece, output, errors)
         }
         FilesTask::Survey { profile } => {
             survey_named(alloc, profile, is_quiet, name, input, output, errors)
@@ -198,6 +200,7 @@ fn check_file<F: Folder, S: Source, K: Sink, E: Sink>(
     name: &str,
     folder: &F,
     input: &mut Peeked<S>,
+    piece: &mut [u8; PIECE],
     output: &mut K,
     errors: &mut E,
 ) -> Result<Result<Status, RunFault>, DeviceFault>
@@ -208,12 +211,14 @@ fn check_file<F: Folder, S: Source, K: Sink, E: Sink>(
     ensures unread { is_dash name.now ≡ false → input.new ≡ input.old }
 {
     if name == "-" {
-        return answer_named(alloc, task, is_quiet, name, input, output, errors);
+        return answer_named(alloc, task, is_quiet, name, input, piece, output, errors);
     }
     match open_file(folder, name) {
         Ok(file) => {
             let mut file = Peeked::new(file);
-            answer_named(alloc, task, is_quiet, name, &mut file, output, errors)
+            answer_named(
+                alloc, task, is_quiet, name, &mut file, piece, output, errors,
+            )
         }
         Err(reason) => {
             let _ = put_unopened(name, reason, errors);
@@ -259,6 +264,9 @@ fn has_hint(is_quiet: bool, is_shown: bool) -> bool
 /// Checks, surveys or scans the files with these names in turn. A refused file doesn't end this, but a failed write
 /// does. The exit status is the greatest of theirs. If hints are shown (`is_shown`), one on the first broken file's rule
 /// comes last, but not after a quiet check or a scan.
+///
+/// It isn't inlined, or its room would be on the stack of every task.
+#[inline(never)]
 pub fn check_files<F: Folder, S: Source, K: Sink, E: Sink>(
     alloc: Global,
     task: FilesTask,
@@ -277,6 +285,7 @@ pub fn check_files<F: Folder, S: Source, K: Sink, E: Sink>(
         (change (K.state output.old) (K.state output.new)) (change (E.state errors.old) (E.state errors.new)) }
     ensures unread { list_any is_dash (map string_bytes names.now) ≡ false → input.new ≡ input.old }
 {
+    let mut piece = [0u8; PIECE];
     let mut exit = Exit::Done;
     let mut broken = None;
     for name in names {
@@ -287,6 +296,7 @@ pub fn check_files<F: Folder, S: Source, K: Sink, E: Sink>(
             name.as_str(),
             folder,
             input,
+            &mut piece,
             output,
             errors,
         ) {

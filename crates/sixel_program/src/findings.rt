@@ -12,11 +12,11 @@ ghost use Rattle.sixel_run.specs.declared.task.Task.TheVariants.{Check, Survey a
 
 use crate::names::put_named;
 use sixel_check::Verdict;
-use sixel_io::{DeviceFault, Sink, Source};
+use sixel_io::{DeviceFault, PIECE, Sink, Source};
 use sixel_model::Profile;
 use sixel_run::{
-    PutLine, RunFault, Status, Surveyed, Task, entry_line, judge, size_line, status_of, survey_of,
-    verdict_line,
+    PutLine, RunFault, Status, Surveyed, Task, entry_line, judge, judge_with, size_line, status_of,
+    survey_of, verdict_line,
 };
 use sixel_survey::{Entry, Survey};
 use std::alloc::Global;
@@ -88,6 +88,29 @@ pub fn find_verdict<S: Source>(
     ensures unwritten { answer_of result ≢ Err RunFault.Write }
 {
     match judge(alloc, profile, input) {
+        Ok(verdict) => Ok(Found::Verdict(verdict)),
+        Err(fault) => Err(fault),
+    }
+}
+
+/// As `find_verdict`, with the caller's room for the bytes that are read at once.
+pub fn find_verdict_with<S: Source>(
+    alloc: Global,
+    profile: Profile,
+    input: &mut S,
+    piece: &mut [u8; PIECE],
+) -> Result<Found, RunFault>
+    ensures found { IfSome (S.state input.old).remaining (λ bytes.
+        Wrote (Check profile) bytes (S.state input.new).remaining
+        (answer_of result) (Some []) (Some (concat (lines_of result)))) }
+    ensures memory { answer_of result ≡ Err RunFault.OutOfMemory →
+        TakesMemory (Check profile) (S.state input.old).remaining }
+    ensures reads { (S.state input.new).failures
+        ≡ failures_by ReadFault (answer_of result) (S.state input.old).failures }
+    ensures left { ReadsToEnd (answer_of result) (S.state input.old).remaining (S.state input.new).remaining }
+    ensures unwritten { answer_of result ≢ Err RunFault.Write }
+{
+    match judge_with(alloc, profile, input, piece) {
         Ok(verdict) => Ok(Found::Verdict(verdict)),
         Err(fault) => Err(fault),
     }

@@ -14,7 +14,7 @@ pub use fault::RunFault;
 pub use lines::{
     Line, fault_line, finding_line, verdict_line, write_fault, write_finding, write_verdict,
 };
-pub use running::check::{judge, status_of};
+pub use running::check::{judge, judge_with, status_of};
 pub use running::run;
 pub use running::scan::{PutLine, scan_with};
 pub use running::survey::{Surveyed, survey_of};

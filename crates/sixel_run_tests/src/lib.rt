@@ -4,6 +4,8 @@
 #[cfg(test)]
 mod at_limits;
 #[cfg(test)]
+mod blocks;
+#[cfg(test)]
 mod exhausted;
 #[cfg(test)]
 mod in_turn;

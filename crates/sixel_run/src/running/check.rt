@@ -12,8 +12,8 @@ ghost use Rattle.sixel_run.specs.Outputs.{status_of};
 use crate::fault::RunFault;
 use crate::lines::write_verdict;
 use crate::task::Status;
-use sixel_check::Verdict;
-use sixel_io::{Sink, Source};
+use sixel_check::{Verdict, check_with};
+use sixel_io::{PIECE, Sink, Source};
 use sixel_model::Profile;
 use std::alloc::Global;
 
@@ -40,6 +40,9 @@ pub fn check<S: Source, K: Sink>(
 }
 
 /// Reads the whole input, and returns the verdict. It writes nothing.
+///
+/// It isn't inlined, or its room would be on the stack of every task.
+#[inline(never)]
 pub fn judge<S: Source>(alloc: Global, profile: Profile, input: &mut S) -> Result<Verdict, RunFault>
     ensures judged { IfSome (S.state input.old).remaining (λ bytes.
         WroteBy (CheckGives (count_of profile) bytes) WroteNothing
@@ -50,7 +53,26 @@ pub fn judge<S: Source>(alloc: Global, profile: Profile, input: &mut S) -> Resul
     ensures left { ReadsToEnd (answer_of result) (S.state input.old).remaining (S.state input.new).remaining }
     ensures unwritten { answer_of result ≢ Err RunFault.Write }
 {
-    Ok(sixel_check::check(alloc, profile, input)?)
+    judge_with(alloc, profile, input, &mut [0u8; PIECE])
+}
+
+/// As `judge`, with the caller's room for the bytes that are read at once.
+pub fn judge_with<S: Source>(
+    alloc: Global,
+    profile: Profile,
+    input: &mut S,
+    piece: &mut [u8; PIECE],
+) -> Result<Verdict, RunFault>
+    ensures judged { IfSome (S.state input.old).remaining (λ bytes.
+        WroteBy (CheckGives (count_of profile) bytes) WroteNothing
+        (answer_of result) (Some []) (Some (line_of result))) }
+    ensures memory { answer_of result ≡ Err RunFault.OutOfMemory →
+        IfSome (S.state input.old).remaining (MayGrowIn (count_of profile)) }
+    ensures reads { (S.state input.new).failures ≡ failures_by Read (answer_of result) (S.state input.old).failures }
+    ensures left { ReadsToEnd (answer_of result) (S.state input.old).remaining (S.state input.new).remaining }
+    ensures unwritten { answer_of result ≢ Err RunFault.Write }
+{
+    Ok(check_with(alloc, profile, input, piece)?)
 }
 
 /// The status of a verdict: `Done` for a portable picture, `Broken` for a finding.

@@ -6,8 +6,8 @@ use Rattle.sixel_program.proofs.checks.check_named.Goals as goal
 
 pub returns : goal.returns
 returns g c =
-    let found = c.find_verdict-judged.result in
-    let e = c.find_verdict-judged.ensures in
+    let found = c.find_verdict_with-judged.result in
+    let e = c.find_verdict_with-judged.ensures in
     let f = c.format-format.ensures in
     record {
       format = c.format-format.result;

@@ -14,7 +14,7 @@ use Rattle.sixel_check.proofs.CheckLemmas.{all_ended, none_ended}
 use Rattle.sixel_check.proofs.CheckLemmas.{end_counts, end_grows, fault_answers, fault_counts, fault_grows, fault_reads}
 use Rattle.sixel_judge.proofs.PieceLemmas.{told_all}
 use Rattle.sixel_check.proofs.CheckLemmas.{read_answers, read_counts, read_grows}
-use Rattle.sixel_check.proofs.checking.check.Goals as goal
+use Rattle.sixel_check.proofs.checking.check_with.Goals as goal
 
 pub loop-checker-init : goal.loop-checker-init
 loop-checker-init g c = (

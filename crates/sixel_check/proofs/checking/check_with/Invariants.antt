@@ -3,7 +3,7 @@ use Rattle.std.specs.Io.KnownBytes.{Consumes}
 use Rattle.sixel_grammar.specs.Standing.{left_of}
 use Rattle.sixel_model.specs.Profiles.{count_of}
 use Rattle.sixel_check.specs.Checking.{AreAfter}
-use Rattle.sixel_check.proofs.checking.check.Given as goal
+use Rattle.sixel_check.proofs.checking.check_with.Given as goal
 
 abbrev pub invariant-loop-checker : goal.invariant-loop-checker
 invariant-loop-checker g l = (prefix : List ℕ) × AreAfter (count_of l.fn.profile) l.reader l.checker prefix
