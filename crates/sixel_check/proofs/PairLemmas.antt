@@ -11,7 +11,7 @@ use Rattle.sixel_terminal.proofs.ShownLemmas.{unpainted}
 use Rattle.sixel_judge.specs.declared.rule.Rule.{Rule}
 use Rattle.sixel_judge.specs.declared.rule.Rule.TheVariants.{Outside, Uncovered, EightBit}
 use Rattle.sixel_judge.specs.declared.verdict.Finding.{Finding}
-use Rattle.sixel_judge.specs.Alarms.{HasRoomFor, IsPaintedUnlessClipped, IsTrueAlarm, IsUnseenWithoutEightBits}
+use Rattle.sixel_judge.specs.Alarms.{HasRoomFor, IsPaintedUnlessClipped, WhatTerminalsDo, IsUnseenWithoutEightBits}
 use Rattle.sixel_judge.specs.Alarms.{StaysOnEach}
 use Rattle.sixel_check.specs.Differences.{EightBitDiffers, IsFound, OutsideDiffers, UncoveredDiffers}
 use Rattle.sixel_judge.specs.Verdicts.{greatest}
@@ -20,9 +20,9 @@ use Rattle.sixel_judge.proofs.DifferenceLemmas.{found_truly}
 -- what we promise for the finding
 pub promised : (registers : ℕ) (placed : List Placed) (rule : Rule) (i : ℕ) (f : Finding)
     → IsFound registers placed rule i f
-    → IsTrueAlarm registers (events_of placed) rule f.pixel i
+    → WhatTerminalsDo registers (events_of placed) rule f.pixel i
 promised registers placed rule i f is =
-    subst (λ (r : Rule). IsTrueAlarm registers (events_of placed) r f.pixel i) is.rule_is
+    subst (λ (r : Rule). WhatTerminalsDo registers (events_of placed) r f.pixel i) is.rule_is
     (found_truly registers placed f i is.whole is.found)
 
 pub uncovered_differs : (registers : ℕ) → UncoveredDiffers registers

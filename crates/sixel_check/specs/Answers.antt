@@ -4,15 +4,15 @@ use Rattle.sixel_grammar.specs.Document.{Document, events_of}
 use Rattle.sixel_grammar.specs.Reading.{Explains}
 use Rattle.sixel_grammar.specs.declared.command.Placed.{Placed}
 use Rattle.sixel_grammar.specs.declared.fault.InputFault.{InputFault}
-use Rattle.sixel_judge.specs.Alarms.{IsNoFalseAlarm}
+use Rattle.sixel_judge.specs.Alarms.{MattersUnlessConservative}
 use Rattle.sixel_judge.specs.Portable.{IsShownEverywhere}
 use Rattle.sixel_judge.specs.Verdicts.{IsVerdict}
 use Rattle.sixel_judge.specs.declared.verdict.Verdict.{Verdict}
 
--- Ok: the bytes are a document, the verdict is that on its events, a picture is portable, and a finding is no false
--- alarm; Err: a grammar fault is the fault of these bytes
+-- Ok: the bytes are a document, the verdict is that on its events, a picture is portable, and a finding matters, unless
+-- its rule is conservative; Err: a grammar fault is the fault of these bytes
 abbrev pub Answers : ℕ → Result Verdict InputFault → List ℕ → Type 0
 Answers registers (Ok verdict) bytes =
     (events : List Placed) × Document events bytes × IsVerdict registers events verdict
-    × IsShownEverywhere registers (events_of events) verdict × IsNoFalseAlarm registers events verdict
+    × IsShownEverywhere registers (events_of events) verdict × MattersUnlessConservative registers events verdict
 Answers registers (Err fault) bytes = Explains fault bytes

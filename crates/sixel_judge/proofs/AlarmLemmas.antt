@@ -1,4 +1,4 @@
--- Lemmas for findings that are no false alarm.
+-- Lemmas for what terminals do at what a finding names.
 use Rattle.std.proofs.Common.{◌≡◌, ◌<◌, ◌≤◌, inl, inr, ℕ, zero, suc, true, false, Some, None, List, [], ◌∷◌, length}
 use Rattle.std.proofs.Common.{take, refl, sym, ap, subst, ◌∙◌, arith}
 use Rattle.std.specs.Prelude.{slice_get, IfSome, IsFalse, IsSome, IsTrue}

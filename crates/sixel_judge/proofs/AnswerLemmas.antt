@@ -1,15 +1,15 @@
--- On the verdict on a whole list: its picture is portable, and its finding no false alarm.
+-- On the verdict on a whole list: its picture is portable, and its finding matters, unless the rule is conservative.
 use Rattle.std.proofs.Common.{ℕ, List, IsTrue}
 use Rattle.sixel_grammar.specs.declared.command.Placed.{Placed}
 use Rattle.sixel_grammar.specs.Document.{AreWhole, events_of}
 use Rattle.sixel_judge.specs.declared.verdict.Verdict.{Verdict}
 use Rattle.sixel_judge.specs.declared.verdict.Verdict.TheVariants.{Portable, Broken}
-use Rattle.sixel_judge.specs.Alarms.{IsNoFalseAlarm}
+use Rattle.sixel_judge.specs.Alarms.{MattersUnlessConservative}
 use Rattle.sixel_judge.specs.Laws.{VerdictIsLeft}
 use Rattle.sixel_judge.specs.Portable.{IsShownEverywhere}
 use Rattle.sixel_judge.specs.Standing.{CheckerValue, StandsAfter, is_whole}
 use Rattle.sixel_judge.specs.Verdicts.{IsVerdict}
-use Rattle.sixel_judge.proofs.DifferenceLemmas.{no_false_alarm}
+use Rattle.sixel_judge.proofs.DifferenceLemmas.{verdict_matters}
 use Rattle.sixel_judge.proofs.ShownLemmas.{left_is_portable}
 use Rattle.sixel_judge.proofs.StandLemmas.{stands_whole}
 use Rattle.sixel_judge.proofs.VerdictLemmas.{verdict_once}
@@ -31,10 +31,10 @@ pub stands_everywhere : (others registers : ℕ) (checker : CheckerValue) (first
 stands_everywhere others registers checker first seen v f whole s k =
     verdict_everywhere registers seen v (stands_whole _ _ checker first seen f whole s) k
 
--- no verdict on the events that a checker has seen is a false alarm
+-- a finding on the events that a checker has seen matters, unless its rule is conservative
 pub stands_truly : (others registers : ℕ) (checker : CheckerValue) (first seen : List Placed) (v : Verdict)
     → StandsAfter others checker first
     → IsTrue (is_whole first) → StandsAfter registers checker seen → IsVerdict registers seen v
-    → IsNoFalseAlarm registers seen v
+    → MattersUnlessConservative registers seen v
 stands_truly others registers checker first seen v f whole s k =
-    no_false_alarm registers seen v (stands_whole _ _ checker first seen f whole s) k
+    verdict_matters registers seen v (stands_whole _ _ checker first seen f whole s) k

@@ -41,8 +41,8 @@ use Rattle.sixel_judge.specs.declared.rule.Rule.TheVariants.{Outside, Uncovered,
 use Rattle.sixel_judge.specs.declared.verdict.Finding.{Finding}
 use Rattle.sixel_judge.specs.declared.verdict.Verdict.{Verdict}
 use Rattle.sixel_judge.specs.declared.verdict.Verdict.TheVariants.{Portable, Broken}
-use Rattle.sixel_judge.specs.Alarms.{IsPaintedUnlessClipped, IsTrueAlarm, IsNoFalseAlarm, IsUnseenWithoutEightBits}
-use Rattle.sixel_judge.specs.Alarms.{StaysOnEach}
+use Rattle.sixel_judge.specs.Alarms.{IsPaintedUnlessClipped, IsUnseenWithoutEightBits, MattersUnlessConservative}
+use Rattle.sixel_judge.specs.Alarms.{StaysOnEach, WhatTerminalsDo}
 use Rattle.sixel_judge.specs.Verdicts.{IsFinding, IsVerdict, IsPixel, capped, number_of, greatest}
 use Rattle.sixel_judge.proofs.AlarmLemmas.{below_first, finish_last, not_there, plain_up_to, same_up_to, taken_get}
 use Rattle.sixel_judge.proofs.AlarmLemmas.{taken_there, taken_twice}
@@ -349,7 +349,7 @@ eight_there {registers} {i} {events} e f here =
 
 uncovered_differs : (registers i : ℕ) (events : List Event) (pixel : Option (ℕ × ℕ)) → AreWhole events
     → IsFirstBroken registers events uncovered_rule i → HoldsAtPosition (IsPixel Uncovered pixel) events i
-    → IsTrueAlarm registers events Uncovered pixel i
+    → WhatTerminalsDo registers events Uncovered pixel i
 uncovered_differs registers i events pixel whole f at =
     let x : ℕ = at.holds.0 in let y : ℕ = at.holds.1 in
     let a = and_some (raster_before (take i events)) _ (at.holds.2).holds in
@@ -360,7 +360,7 @@ uncovered_differs registers i events pixel whole f at =
 
 outside_differs : (registers i : ℕ) (events : List Event) (pixel : Option (ℕ × ℕ))
     → IsFirstBroken registers events outside_rule i → HoldsAtPosition (IsPixel Outside pixel) events i
-    → IsTrueAlarm registers events Outside pixel i
+    → WhatTerminalsDo registers events Outside pixel i
 outside_differs registers i events pixel f at =
     let x : ℕ = at.holds.0 in let y : ℕ = at.holds.1 in
     let a = and_some (raster_before (take i events)) _ (at.holds.2).holds in
@@ -370,21 +370,21 @@ outside_differs registers i events pixel f at =
 
 difference_of : (registers i : ℕ) (events : List Event) (r : Rule) (pixel : Option (ℕ × ℕ)) → AreWhole events
     → IsFirstBroken registers events (number_of r) i → HoldsAtPosition (IsPixel r pixel) events i
-    → IsTrueAlarm registers events r pixel i
+    → WhatTerminalsDo registers events r pixel i
 difference_of registers i events Uncovered pixel whole f at = uncovered_differs registers i events pixel whole f at
 difference_of registers i events Outside pixel whole f at = outside_differs registers i events pixel f at
 difference_of registers i events EightBit pixel whole f at =
     unseen_by_some registers i events at.item whole f at.here (eight_there at.item f at.here)
 difference_of registers i events _ pixel whole f at = tt
 
--- a finding on a whole list is a true alarm
+-- what terminals do at a finding on a whole list
 pub found_truly : (registers : ℕ) (placed : List Placed) (f : Finding) (i : ℕ) → AreWhole (events_of placed)
-    → IsFinding registers placed f i → IsTrueAlarm registers (events_of placed) f.rule f.pixel i
+    → IsFinding registers placed f i → WhatTerminalsDo registers (events_of placed) f.rule f.pixel i
 found_truly registers placed f i whole found =
     difference_of registers i (events_of placed) f.rule f.pixel whole found.first found.pixel
 
--- no verdict on a whole list is a false alarm
-pub no_false_alarm : (registers : ℕ) (placed : List Placed) (v : Verdict) → AreWhole (events_of placed)
-    → IsVerdict registers placed v → IsNoFalseAlarm registers placed v
-no_false_alarm registers placed (Portable picture) whole k = tt
-no_false_alarm registers placed (Broken f) whole k = (k.0, k.1, found_truly registers placed f k.0 whole k.1)
+-- a finding in a verdict on a whole list matters, unless its rule is conservative
+pub verdict_matters : (registers : ℕ) (placed : List Placed) (v : Verdict) → AreWhole (events_of placed)
+    → IsVerdict registers placed v → MattersUnlessConservative registers placed v
+verdict_matters registers placed (Portable picture) whole k = tt
+verdict_matters registers placed (Broken f) whole k = (k.0, k.1, found_truly registers placed f k.0 whole k.1)

@@ -1,8 +1,8 @@
--- What makes a finding a true alarm. A point x y is relative to the origin of each terminal.
+-- What terminals do at what a finding names. A point x y is relative to the origin of each terminal.
 --
--- Each clause is about single terminals. That two of them show different colours is stated in `Differences` of
--- sixel_check. Nothing is promised for the other ten rules, nor that `EightBit` at an introducer makes a difference: a
--- string may break one of the ten, or have an 8-bit introducer, and look the same everywhere.
+-- Each clause is about single terminals. That two of them show different colours is a law, over `Differences` of
+-- sixel_check. All rules but `Uncovered`, `Outside` and `EightBit` are conservative, and so is `EightBit` at an
+-- introducer: such a string may look the same everywhere.
 use Rattle.std.specs.Prelude.{◌≡◌, ◌+◌, ◌<◌, ℕ, true, false, Option, IsSome, IsSomeAnd, IsTrue, List}
 use Rattle.sixel_grammar.specs.declared.command.Event.{Event}
 use Rattle.sixel_grammar.specs.declared.command.Placed.{Placed}
@@ -51,16 +51,16 @@ pub record IsUnseenWithoutEightBits (registers : ℕ) (events : List Event) (i :
       → x < (picture_left registers events).width → y < (picture_left registers events).height
       → ShowsAt t events (picture_left registers events) x y
 
--- what is promised of a finding of this rule with this pixel at position i; for ten of the rules nothing
-abbrev pub IsTrueAlarm : ℕ → List Event → Rule → Option (ℕ × ℕ) → ℕ → Type 0
-IsTrueAlarm registers events Uncovered pixel i = IsSomeAnd pixel (λ p. StaysOnEach registers events p.0 p.1)
-IsTrueAlarm registers events Outside pixel i =
+-- what terminals do at a finding of this rule with this pixel at position i; of ten of the rules it says nothing
+abbrev pub WhatTerminalsDo : ℕ → List Event → Rule → Option (ℕ × ℕ) → ℕ → Type 0
+WhatTerminalsDo registers events Uncovered pixel i = IsSomeAnd pixel (λ p. StaysOnEach registers events p.0 p.1)
+WhatTerminalsDo registers events Outside pixel i =
     IsSomeAnd pixel (λ p. p.0 < greatest → p.1 < greatest → IsPaintedUnlessClipped registers events i p.0 p.1)
-IsTrueAlarm registers events EightBit pixel i = IsUnseenWithoutEightBits registers events i
-IsTrueAlarm registers events _ pixel i = Unit {0}
+WhatTerminalsDo registers events EightBit pixel i = IsUnseenWithoutEightBits registers events i
+WhatTerminalsDo registers events _ pixel i = Unit {0}
 
--- for `Broken` the finding is the first broken rule, at some position, and what `IsTrueAlarm` says of it holds there
-abbrev pub IsNoFalseAlarm : ℕ → List Placed → Verdict → Type 0
-IsNoFalseAlarm registers placed (Portable picture) = Unit {0}
-IsNoFalseAlarm registers placed (Broken f) =
-    (i : ℕ) × IsFinding registers placed f i × IsTrueAlarm registers (events_of placed) f.rule f.pixel i
+-- for `Broken`: the finding is the first broken rule, at some position, and `WhatTerminalsDo` holds there
+abbrev pub MattersUnlessConservative : ℕ → List Placed → Verdict → Type 0
+MattersUnlessConservative registers placed (Portable picture) = Unit {0}
+MattersUnlessConservative registers placed (Broken f) =
+    (i : ℕ) × IsFinding registers placed f i × WhatTerminalsDo registers (events_of placed) f.rule f.pixel i

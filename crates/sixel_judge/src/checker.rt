@@ -9,7 +9,7 @@ ghost use Rattle.sixel_grammar.specs.Document.{events_of};
 ghost use Rattle.sixel_grammar.specs.declared.command.Placed.{Placed as PlacedValue};
 ghost use Rattle.sixel_grammar.specs.Spelling.{IsSpellable};
 ghost use Rattle.sixel_model.specs.Profiles.{count_of};
-ghost use Rattle.sixel_judge.specs.Alarms.{IsNoFalseAlarm};
+ghost use Rattle.sixel_judge.specs.Alarms.{MattersUnlessConservative};
 ghost use Rattle.sixel_judge.specs.Growth.{MayGrow};
 ghost use Rattle.sixel_judge.specs.Portable.{IsShownEverywhere};
 ghost use Rattle.sixel_judge.specs.Standing.{StandsAfter, expects, is_whole};
@@ -121,8 +121,8 @@ impl<P: Plane> Checker<P> {
             → StandsAfter registers self seen → IsVerdict registers seen verdict) }
         ensures everywhere { IfOk result (λ verdict. (registers : ℕ) (seen : List PlacedValue)
             → StandsAfter registers self seen → IsShownEverywhere registers (events_of seen) verdict) }
-        ensures no_false_alarm { IfOk result (λ verdict. (registers : ℕ) (seen : List PlacedValue)
-            → StandsAfter registers self seen → IsNoFalseAlarm registers seen verdict) }
+        ensures matters { IfOk result (λ verdict. (registers : ℕ) (seen : List PlacedValue)
+            → StandsAfter registers self seen → MattersUnlessConservative registers seen verdict) }
         ensures always { IsOk result }
     {
         Ok(self.judge.verdict())

@@ -13,7 +13,7 @@ use Rattle.sixel_judge.specs.Verdicts.{IsVerdict}
 use Rattle.sixel_judge.specs.declared.verdict.Verdict.{Verdict}
 use Rattle.sixel_judge.specs.declared.verdict.Verdict.TheVariants.{Portable, Broken}
 use Rattle.sixel_judge.proofs.AnswerLemmas.{verdict_everywhere}
-use Rattle.sixel_judge.proofs.DifferenceLemmas.{no_false_alarm}
+use Rattle.sixel_judge.proofs.DifferenceLemmas.{verdict_matters}
 use Rattle.sixel_scan.specs.declared.answer.Scanned.{Scanned}
 use Rattle.sixel_scan.specs.Scans.{longest_stream}
 use Rattle.sixel_scan.specs.Strings.{AreStrings}
@@ -72,7 +72,7 @@ one_given registers eight events bytes more document v starts bare is =
               document,
               is,
               verdict_everywhere registers events v whole is,
-              no_false_alarm registers events v whole is,
+              verdict_matters registers events v whole is,
             );
             tells = tells_so 0 (Ok v);
           },

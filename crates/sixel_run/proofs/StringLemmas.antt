@@ -12,7 +12,7 @@ use Rattle.sixel_judge.specs.declared.verdict.Verdict.{Verdict}
 use Rattle.sixel_judge.specs.declared.verdict.Verdict.TheVariants.{Portable, Broken}
 use Rattle.sixel_judge.proofs.AnswerLemmas.{verdict_everywhere}
 use Rattle.sixel_judge.proofs.DecideLemmas.{verdict_exists}
-use Rattle.sixel_judge.proofs.DifferenceLemmas.{no_false_alarm}
+use Rattle.sixel_judge.proofs.DifferenceLemmas.{verdict_matters}
 use Rattle.sixel_check.specs.Answers as checking
 use Rattle.sixel_scan.specs.declared.answer.Answer.{Answer}
 use Rattle.sixel_scan.specs.declared.answer.Answer.TheVariants.{Portable as SaysPortable, Broken as SaysBroken, Refused}
@@ -48,7 +48,7 @@ answer_exists registers bytes =
               d.1,
               v.1,
               verdict_everywhere registers d.0 v.0 whole v.1,
-              no_false_alarm registers d.0 v.0 whole v.1,
+              verdict_matters registers d.0 v.0 whole v.1,
             ),
           )
       | inr f ↦ (Err f.0, f.1)

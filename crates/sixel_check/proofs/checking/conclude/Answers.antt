@@ -24,7 +24,7 @@ returns-clause-answer g c = λ registers prefix a. (
   c.in_ok-finish.ensures.answer a.events prefix a.read,
   c.in_ok-finish-2.ensures.verdict registers a.events a.checked,
   c.in_ok-finish-2.ensures.everywhere registers a.events a.checked,
-  c.in_ok-finish-2.ensures.no_false_alarm registers a.events a.checked,
+  c.in_ok-finish-2.ensures.matters registers a.events a.checked,
 )
 
 pub returns-in_err-finish-clause-answer : goal.returns-in_err-finish-clause-answer

@@ -14,12 +14,12 @@ pub returns-clause-answer : goal.returns-clause-answer
 returns-clause-answer c = λ registers bytes a.
     let verdict = rw c.unwrap.ensures at c.finish-2.ensures.verdict in
     let everywhere = rw c.unwrap.ensures at c.finish-2.ensures.everywhere in
-    let no_false_alarm = rw c.unwrap.ensures at c.finish-2.ensures.no_false_alarm in (
+    let matters = rw c.unwrap.ensures at c.finish-2.ensures.matters in (
       a.events,
       c.in_ok-finish.ensures.answer a.events bytes a.read,
       verdict registers a.events a.checked,
       everywhere registers a.events a.checked,
-      no_false_alarm registers a.events a.checked,
+      matters registers a.events a.checked,
     )
 
 pub returns-clause-within : goal.returns-clause-within

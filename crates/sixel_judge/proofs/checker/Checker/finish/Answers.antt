@@ -20,7 +20,7 @@ returns-clause-everywhere g c = λ registers seen s.
     stands_everywhere _ _ c.args.self c.requires.whole.1 seen c.verdict.result c.requires.whole.2 c.requires.whole.3 s
     (c.verdict.ensures registers seen (judges_inside _ _ _ seen c.self.view_is s))
 
-pub returns-clause-no_false_alarm : goal.returns-clause-no_false_alarm
-returns-clause-no_false_alarm g c = λ registers seen s.
+pub returns-clause-matters : goal.returns-clause-matters
+returns-clause-matters g c = λ registers seen s.
     stands_truly _ _ c.args.self c.requires.whole.1 seen c.verdict.result c.requires.whole.2 c.requires.whole.3 s
     (c.verdict.ensures registers seen (judges_inside _ _ _ seen c.self.view_is s))
