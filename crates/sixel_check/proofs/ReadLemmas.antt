@@ -1,7 +1,7 @@
 -- On the events that bytes complete, one after another.
 use Rattle.std.proofs.Common.{◌≡◌, ℕ, true, false, not, Option, Some, None, IsTrue, ◌⊎◌, inl, inr, List, [], ◌∷◌, ◌++◌}
 use Rattle.std.proofs.Common.{sym, ◌∙◌, ap, subst, refl, append_assoc, arith, length, ◌+◌, ◌-◌, ◌<◌, ◌≤◌, ◌&&◌, Bool}
-use Rattle.std.proofs.Common.{drop, take, get_or, zero, suc}
+use Rattle.std.proofs.Common.{drop, take, get_or, zero, suc, ◌≢◌}
 use Rattle.std.specs.Option.{option_to_list}
 use Rattle.std.proofs.lemmas.Bool.{and_from, and_parts, not-true}
 use Rattle.std.proofs.lemmas.List.{append-nil, get_or-drop, get_or-take, length-drop, length-take, length-take-le, map-append, take-append-drop}
@@ -9,7 +9,7 @@ use Rattle.std.proofs.lemmas.List.{take_rest}
 use Rattle.sixel_grammar.specs.Stretches.{sixels_from}
 use Rattle.sixel_grammar.specs.declared.command.Command.{Command}
 use Rattle.sixel_grammar.specs.declared.command.Columns.{Columns}
-use Rattle.sixel_grammar.specs.declared.command.Columns.TheVariants.{Sixels, Repeat}
+use Rattle.sixel_grammar.specs.declared.command.Columns.TheVariants.{Missing, Sixels, Repeat}
 use Rattle.sixel_grammar.specs.declared.command.Command.TheVariants.{Sixel, Select, Repeat as RepeatCommand}
 use Rattle.sixel_grammar.specs.declared.command.Run.{Run}
 use Rattle.sixel_grammar.specs.Runs.{TakesRun, column_events, columns_in, events_of_run, select_events}
@@ -170,6 +170,7 @@ run_events seen run piece =
 
 spelled : (seen : List Placed) (p : Placed) (from : ℕ) (cols : Columns) (bytes : List ℕ)
     → CanWriteAll (seen ++ p ∷ column_events from cols bytes) → AreSpellable cols
+spelled seen p from Missing bytes can = tt
 spelled seen p from Sixels bytes can = tt
 spelled seen p from (Repeat count bits) bytes can =
     let q : Placed = record { place = from; event = Step (RepeatCommand count bits) } in
@@ -179,25 +180,26 @@ columns_may : (seen : List Placed) (place from : ℕ) (select : Option ℕ) (col
     → 0 < length bytes
     → ArePrefix (events_of (seen ++ (select_events place select ++ column_events from cols bytes)))
     → CanWriteAll (seen ++ (select_events place select ++ column_events from cols bytes))
-    → MayStep seen × AreSpellable cols
+    → (cols ≢ Missing → MayStep seen) × AreSpellable cols
+columns_may seen place from None Missing bytes some prefix can = (λ seen_some. absurd (seen_some refl), tt)
 columns_may seen place from None Sixels [] some prefix can = absurd (omega arith)
 columns_may seen place from None Sixels (b ∷ more) some prefix can =
     let p : Placed = record { place = from; event = Step (Sixel (b - 63)) } in
-    (any_step seen (Sixel (b - 63)) (may_come seen p (sixels_from (from + 1) more) prefix can).0, tt)
+    (λ _. any_step seen (Sixel (b - 63)) (may_come seen p (sixels_from (from + 1) more) prefix can).0, tt)
 columns_may seen place from None (Repeat count bits) bytes some prefix can =
     let p : Placed = record { place = from; event = Step (RepeatCommand count bits) } in
     let may = may_come seen p [] prefix can in
-    (any_step seen (RepeatCommand count bits) may.0, may.1)
+    (λ _. any_step seen (RepeatCommand count bits) may.0, may.1)
 columns_may seen place from (Some n) cols bytes some prefix can =
     let p : Placed = record { place = place; event = Step (Select n) } in (
-      any_step seen (Select n) (may_come seen p (column_events from cols bytes) prefix can).0,
+      λ _. any_step seen (Select n) (may_come seen p (column_events from cols bytes) prefix can).0,
       spelled seen p from cols bytes can,
     )
 
--- before a run that was read, any command may come next, and its columns can be spelled
+-- before a run that was read, any command may come next, if the run has columns, and these can be spelled
 pub run_may : (reader : Reader) (seen : List Placed) (run : Run) (bytes piece : List ℕ) → run.start < run.length
     → run.length ≤ length piece → grammar.StandsAfter reader (seen ++ events_of_run run piece) bytes
-    → MayStep seen × AreSpellable run.columns
+    → (run.columns ≢ Missing → MayStep seen) × AreSpellable run.columns
 run_may reader seen run bytes piece some room s =
     let complete : CompleteIn (seen ++ events_of_run run piece) bytes = read_complete reader _ bytes s in
     let long : length (columns_in run piece) ≡ run.length - run.start =
@@ -208,7 +210,7 @@ run_may reader seen run bytes piece some room s =
 -- the reader and the checker after a run
 pub after_run : {registers : ℕ} (old new : Reader) (kept more : CheckerValue) (run : Run) (prefix piece : List ℕ)
     → run.start < run.length → run.length ≤ length piece → TakesRun old new run piece
-    → ((seen : List Placed) → StandsAfter registers kept seen → MayStep seen
+    → ((seen : List Placed) → StandsAfter registers kept seen → (run.columns ≢ Missing → MayStep seen)
     → StandsAfter registers more (seen ++ events_of_run run piece))
     → AreAfter registers old kept prefix → AreAfter registers new more (prefix ++ take run.length piece)
 after_run old new kept more run prefix piece some room takes keeps a =

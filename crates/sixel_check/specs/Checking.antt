@@ -5,7 +5,7 @@ use Rattle.sixel_grammar.specs.Reading.{ExplainsAlways}
 use Rattle.sixel_grammar.specs.Spelling.{IsSpellable}
 use Rattle.sixel_grammar.specs.Standing as grammar
 use Rattle.sixel_grammar.specs.declared.command.Columns.{Columns}
-use Rattle.sixel_grammar.specs.declared.command.Columns.TheVariants.{Sixels, Repeat}
+use Rattle.sixel_grammar.specs.declared.command.Columns.TheVariants.{Missing, Sixels, Repeat}
 use Rattle.sixel_grammar.specs.declared.command.Command.{Command}
 use Rattle.sixel_grammar.specs.declared.command.Completed.{Completed}
 use Rattle.sixel_grammar.specs.declared.command.Event.TheVariants.{Step}
@@ -44,6 +44,7 @@ both_of two = record {
 abbrev pub AreSpellable : Columns → Type 0
 AreSpellable Sixels = Unit {0}
 AreSpellable (Repeat count bits) = bits ≤ 63
+AreSpellable Missing = Unit {0}
 
 -- a checker that had seen some events before (old) has now (new) seen those and `more`
 abbrev pub TakesEvents : CheckerValue → CheckerValue → List Placed → Type 0

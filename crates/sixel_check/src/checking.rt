@@ -1,26 +1,22 @@
 //! Checking the bytes of a document.
 
-// Only must-fail edits use `◌++◌`, `PlacedValue`, `StandsAfter`, `AllocError`, `Command`, `Completed`, `Event` and
-// `Placed`.
-ghost use Rattle.std.specs.Prelude.{◌≡◌, ◌≢◌, ◌+◌, ◌<◌, ◌≤◌, ◌++◌, ◌∷◌, [], ℕ, List, Err, IfErr, IfOk, IfSome};
+ghost use Rattle.std.specs.Prelude.{◌≡◌, ◌≢◌, ◌<◌, ◌≤◌, ◌∷◌, [], ℕ, List, Err, IfErr, IfOk, IfSome};
 ghost use Rattle.std.specs.Prelude.{IsNone, OnOk, Some, length, take};
 ghost use Rattle.sixel_io.specs.Devices.{ReadsToEnd};
 ghost use Rattle.sixel_grammar.specs.Reading.{NoFaultBefore, failures_after};
 ghost use Rattle.sixel_grammar.specs.declared.fault.InputFault.TheVariants.{Read as ReadFault};
-ghost use Rattle.sixel_grammar.specs.declared.command.Placed.{Placed as PlacedValue};
 ghost use Rattle.sixel_model.specs.Profiles.{count_of};
 ghost use Rattle.sixel_judge.specs.Growth.{MayGrowIn};
 ghost use Rattle.sixel_check.specs.Answers.{Answers};
 ghost use Rattle.sixel_check.specs.Checking.{AreAfter, GrowsForBytes, RefusesBytes, TakesBytes};
-ghost use Rattle.sixel_judge.specs.Standing.{StandsAfter};
 
 use crate::pushing::{keep, keep_command, keep_run, keep_two, push_rarely};
-use sixel_grammar::{Command, Completed, Event, InputFault, Placed, Plain, Reader};
+use sixel_grammar::{InputFault, Plain, Reader};
 use sixel_io::{PIECE, Source};
 use sixel_judge::{Checker, Verdict};
 use sixel_model::Profile;
 use sixel_plane::{BandPlane, Plane};
-use std::alloc::{AllocError, Global};
+use std::alloc::Global;
 
 /// Reads one byte, and pushes the events that it completes. It is for bytes below `?`.
 #[inline(always)]
@@ -134,7 +130,8 @@ fn try_read_run<P: Plane>(
     }
 }
 
-/// As `try_read_run`. Each arm has its own copy of it, in which the compiler knows what the first byte begins.
+/// As `try_read_run`. Each arm has its own copy of it, in which the compiler knows what the first byte begins: with one
+/// copy for all, a check of a photo in 256 colours takes a quarter more instructions.
 #[inline(always)]
 fn read_run<P: Plane>(
     reader: &mut Reader,

@@ -1,7 +1,7 @@
 //! Pushing the events that bytes complete.
 
-ghost use Rattle.std.specs.Prelude.{◌≡◌, ◌+◌, ◌<◌, ◌≤◌, ◌++◌, ◌∷◌, [], ℕ, List, IsOk};
-ghost use Rattle.std.specs.Prelude.{IsTrue, OnErr, OnOk, Some, length, slice_index, take};
+ghost use Rattle.std.specs.Prelude.{◌≡◌, ◌≢◌, ◌+◌, ◌<◌, ◌≤◌, ◌++◌, ◌∷◌, [], ℕ, List, IsOk};
+ghost use Rattle.std.specs.Prelude.{IsTrue, None, OnErr, OnOk, Some, length, slice_index, take};
 ghost use Rattle.sixel_grammar.specs.Bytes.{is_data};
 ghost use Rattle.sixel_grammar.specs.Document.{most_bytes};
 ghost use Rattle.sixel_grammar.specs.Stretches.{sixels_from};
@@ -13,16 +13,13 @@ ghost use Rattle.sixel_check.specs.Checking.{AreSpellable, MayCome};
 ghost use Rattle.sixel_check.specs.Checking.{MayComplete, MayGrowOver, TakesEvents};
 ghost use Rattle.sixel_check.specs.Checking.{both_of, command_at};
 ghost use Rattle.sixel_grammar.specs.Runs.{column_events, events_of_run, select_events, two_commands};
-ghost use Rattle.sixel_grammar.specs.declared.command.Columns.TheVariants.{Sixels as single_sixels};
+ghost use Rattle.sixel_grammar.specs.declared.command.Columns.TheVariants.{Missing as no_columns, Sixels as single_sixels};
 ghost use Rattle.sixel_judge.specs.Standing.{StandsAfter};
 
 use sixel_grammar::{Columns, Command, Completed, Event, Placed, Run, TwoCommands};
 use sixel_judge::Checker;
-use sixel_plane::Plane;
+use sixel_plane::{LANES, Plane};
 use std::alloc::AllocError;
-
-/// How many bytes a plane may want behind a stretch to paint it in one step.
-const BEHIND: usize = 16;
 
 /// Pushes an event, if there is one.
 fn keep_one<P: Plane>(checker: &mut Checker<P>, placed: Option<Placed>) -> Result<(), AllocError>
@@ -173,7 +170,7 @@ fn push_after_first<P: Plane>(
     push_at_end(checker, place + 1, &rest[..count - 1])
 }
 
-/// As `push_stretch`. Where too few bytes follow for a plane, as at the end of a piece, all but its last `BEHIND`
+/// As `push_stretch`. Where too few bytes follow for a plane, as at the end of a piece, all but its last `LANES`
 /// sixels may be taken in one step, with these behind them.
 #[inline(never)]
 fn push_at_end<P: Plane>(
@@ -189,10 +186,10 @@ fn push_at_end<P: Plane>(
         → StandsAfter registers checker.new (seen ++ sixels_from place stretch.now) }
     ensures always { IsOk result }
 {
-    if stretch.len() <= BEHIND {
+    if stretch.len() <= LANES {
         return push_each(checker, place, stretch);
     }
-    let most = stretch.len() - BEHIND;
+    let most = stretch.len() - LANES;
     if checker.try_push_stretch(stretch, most) {
         return push_each(checker, place + most as u64, &stretch[most..]);
     }
@@ -247,6 +244,7 @@ fn keep_columns<P: Plane>(
         Columns::Repeat { count, bits } => {
             push_command(checker, place, Command::Repeat { count, bits })
         }
+        Columns::Missing => Ok(()),
     }
 }
 
@@ -276,16 +274,21 @@ pub(crate) fn keep_run<P: Plane>(
     bytes: &[u8],
 ) -> Result<(), AllocError>
     requires stands { (registers : ℕ) × (seen : List PlacedValue) × StandsAfter registers checker.old seen
-        × MayStep seen }
+        × (run.columns ≢ no_columns → MayStep seen) }
     requires sixels { run.columns ≡ single_sixels → (k : ℕ) → run.start ≤ k → k < run.length
         → IsTrue (is_data (slice_index bytes.now k)) }
     requires spellable { AreSpellable run.columns }
     requires within { (run.start < run.length) × (run.length ≤ length bytes.now) }
     requires limit { run.place + run.length ≤ most_bytes }
+    requires still_open { run.columns ≡ no_columns → run.select ≡ None }
     ensures kept { OnOk result ((registers : ℕ) (seen : List PlacedValue) → StandsAfter registers checker.old seen
-        → MayStep seen → StandsAfter registers checker.new (seen ++ events_of_run run bytes.now)) }
+        → (run.columns ≢ no_columns → MayStep seen)
+        → StandsAfter registers checker.new (seen ++ events_of_run run bytes.now)) }
     ensures grows { OnErr result (MayGrowOver checker.old (events_of_run run bytes.now)) }
 {
+    if matches!(run.columns, Columns::Missing) {
+        return Ok(());
+    }
     keep_select(checker, run.place, run.select)?;
     let columns = &bytes[run.start..];
     keep_columns(

@@ -11,7 +11,8 @@ pub mod ChoiceLemmas
 pub mod StandLemmas
 pub mod PrefixLemmas
 pub mod UniqueLemmas
-pub mod NotPlainLemmas
+pub mod NoRunLemmas
+mod NotPlainLemmas
 pub mod OneCommandLemmas
 pub mod NotSixelLemmas
 pub mod DataByteLemmas

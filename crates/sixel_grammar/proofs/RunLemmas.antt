@@ -18,12 +18,13 @@ use Rattle.sixel_grammar.specs.Faults.{Form, NoCommand, RepeatNumber, ColourFiel
 use Rattle.sixel_grammar.specs.Next.{begin, next_of, chosen, with_digit, within}
 use Rattle.sixel_grammar.specs.Pending.{form_of}
 use Rattle.sixel_grammar.specs.Runs.{HasNumber, IsRun, LeadsTo, TakesRun, columns_in, column_events}
-use Rattle.sixel_grammar.specs.Runs.{events_of_run, select_events, selected, selected_at}
+use Rattle.sixel_grammar.specs.Runs.{events_of_run, open_run, select_events, selected, selected_at}
 use Rattle.sixel_grammar.specs.Standing.{StandsAfter, opened_after}
-use Rattle.sixel_grammar.specs.Stretches.{CountsDataBytes, sixels_from}
+use Rattle.sixel_grammar.specs.Stretches.{CountsDataBytes, IsNoSixel, sixels_from}
 use Rattle.sixel_grammar.proofs.AdvanceLemmas.{GoesTo, advances, second_place, with_done}
 use Rattle.sixel_grammar.proofs.ChoiceLemmas.{goes-on}
-use Rattle.sixel_grammar.proofs.SixelLemmas.{sixels_end}
+use Rattle.sixel_grammar.proofs.NotSixelLemmas.{not_sixel}
+use Rattle.sixel_grammar.proofs.SixelLemmas.{other_byte, sixels_end}
 use Rattle.sixel_grammar.proofs.StandLemmas.{accepted, completed_events, ends-unfinished, handed, second-same}
 use Rattle.sixel_grammar.proofs.WalkLemmas.{moved}
 
@@ -270,6 +271,52 @@ run_taken r q run piece form same fault left begins some seen seen_is room is ev
             (subst (λ (f : Form).
             EndsIn f (events ++ events_of_run run piece) (run.place + run.length) (bytes ++ take run.length piece))
             (sym between) went);
+      },
+    )
+
+-- what is behind a run, which no more than single sixels ended, is no sixel
+pub behind_run : (q : Reader) (most count : ℕ) (piece seen : List ℕ) → seen ≡ take most piece → q.left ≡ most - count
+    → count < length piece → (count < length seen → is_data (get_or seen count 0) ≡ false)
+    → IsNoSixel q (get_or piece count 0)
+behind_run q most count piece seen seen_is left more other after events bytes place bits s t =
+    not_sixel q after events bytes _ place bits
+    (λ some. other_byte (form_of q.pending) (get_or piece count 0)
+    (let under : count < most = omega (arith, some, left) in
+    let room : count < length seen = omega (arith, under, more, ap length seen_is, length-take most piece) in
+    ap (λ (b : ℕ). is_data b)
+    (sym (ap (λ (t : List ℕ). get_or t count 0) seen_is ∙ get_or-take most piece count 0 under)) ∙ other room)) s t
+
+-- a reader takes the introducer and the digits of a select, of which no more bytes than may come are seen
+pub select_opened : (r q : Reader) (register end place : ℕ) (piece : List ℕ) → form_of r.pending ≡ NoCommand
+    → form_of q.pending ≡ ColourFields [] register → q.fault ≡ r.fault → q.left ≡ r.left - end
+    → q.opened ≡ most_bytes - r.left → place ≡ most_bytes - r.left
+    → (seen : List ℕ) → seen ≡ take r.left piece → end ≤ length seen
+    → LeadsTo place seen end (ColourFields [] register) [] place
+    → TakesRun r q (open_run place end) piece
+select_opened r q register end place piece form after fault left opened begins seen seen_is room leads events bytes s =
+    let few : end ≤ r.left = omega (arith, room, ap length seen_is, length-take r.left piece) in
+    let at : place ≡ length bytes = omega (arith, begins, s.left) in
+    let here : opened_after (length bytes) r ≡ place =
+    ap (λ (f : Form). cond (is_idle f) (length bytes) r.opened) form ∙ sym at in
+    let part : take end seen ≡ take end piece =
+    ap (λ (t : List ℕ). take end t) seen_is ∙ take-take end r.left piece few in
+    let long : length (take end piece) ≡ end = ap length (sym part) ∙ length-take-le end seen room in
+    let len : length (bytes ++ take end piece) ≡ length bytes + end =
+    length-append bytes (take end piece) ∙ ap (λ (n : ℕ). length bytes + n) long in
+    let there : opened_after (length (bytes ++ take end piece)) q ≡ place =
+    ap (λ (f : Form). cond (is_idle f) (length (bytes ++ take end piece)) q.opened) after ∙ opened ∙ sym begins in
+    let from : EndsIn NoCommand events place bytes =
+    subst (λ (f : Form). EndsIn f events place bytes) form
+    (subst (λ (k : ℕ). EndsIn (form_of r.pending) events k bytes) here s.ends) in
+    let went : EndsIn (ColourFields [] register) (events ++ []) place (bytes ++ take end piece) =
+    subst (λ (t : List ℕ). EndsIn (ColourFields [] register) (events ++ []) place (bytes ++ t)) part
+    (leads events bytes at from) in (
+      at,
+      record {
+        no_fault = fault ∙ s.no_fault;
+        left = omega (arith, s.left, left, len, few);
+        ends = subst (λ (k : ℕ). EndsIn (form_of q.pending) (events ++ []) k (bytes ++ take end piece)) (sym there)
+            (subst (λ (f : Form). EndsIn f (events ++ []) place (bytes ++ take end piece)) (sym after) went);
       },
     )
 

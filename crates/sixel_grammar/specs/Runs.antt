@@ -1,7 +1,9 @@
--- Columns that a reader takes at once, perhaps after a select.
-use Rattle.std.specs.Prelude.{◌≡◌, ℕ, ◌+◌, ◌-◌, true, false, List, [], ◌∷◌, ◌++◌, length, take, drop, Option, Some, None}
-use Rattle.sixel_grammar.specs.Bytes.{is_digit}
-use Rattle.sixel_grammar.specs.Faults.{Form, NoCommand, ColourFields, EndsIn, is_idle}
+-- Columns that a reader takes at once, perhaps after a select; or a select that stays open.
+use Rattle.std.specs.Prelude.{◌≡◌, ◌≢◌, ℕ, ◌+◌, ◌-◌, ◌<◌, ◌≤◌, true, false, List, [], ◌∷◌, ◌++◌, length, slice_index}
+use Rattle.std.specs.Prelude.{take, drop, Option, Some, None}
+use Rattle.sixel_grammar.specs.Bytes.{is_data, is_digit}
+use Rattle.sixel_grammar.specs.Document.{most_bytes}
+use Rattle.sixel_grammar.specs.Faults.{Form, NoCommand, ColourFields, RepeatNumber, EndsIn, is_idle}
 use Rattle.sixel_grammar.specs.Next.{number_next, within}
 use Rattle.sixel_grammar.specs.declared.command.Columns.{Columns}
 use Rattle.sixel_grammar.specs.declared.command.Columns.TheVariants as columns
@@ -23,8 +25,9 @@ abbrev pub select_events : ℕ → Option ℕ → List Placed
 select_events place None = []
 select_events place (Some register) = record { place = place; event = Step (Select register) } ∷ []
 
--- the sixels of these bytes, or the repeat; the first byte has this offset
+-- the sixels of these bytes, the repeat, or nothing; the first byte has this offset
 abbrev pub column_events : ℕ → Columns → List ℕ → List Placed
+column_events place columns.Missing bytes = []
 column_events place columns.Sixels bytes = sixels_from place bytes
 column_events place (columns.Repeat count bits) bytes = record { place = place; event = Step (Repeat count bits) } ∷ []
 
@@ -39,12 +42,28 @@ TakesRun old new run piece =
     (events : List Placed) (bytes : List ℕ) → StandsAfter old events bytes →
     (run.place ≡ length bytes) × StandsAfter new (events ++ events_of_run run piece) (bytes ++ take run.length piece)
 
+-- whatever the reader had read: if no command is open then, and a byte may come, the piece begins with no sixel and no
+-- select; if with `!`, no reader can take a part of the piece and complete a repeat
+abbrev pub IsNoRun : Reader → List ℕ → Type 0
+IsNoRun old piece =
+    (events : List Placed) (bytes : List ℕ) → StandsAfter old events bytes → EndsIn NoCommand events (length bytes) bytes
+    → length bytes < most_bytes → 0 < length piece →
+    (is_data (slice_index piece 0) ≡ false) × (slice_index piece 0 ≢ 35)
+    × (slice_index piece 0 ≡ 33 → (after : Reader) (k place count bits : ℕ)
+    → StandsAfter after (events ++ record { place = place; event = Step (Repeat count bits) } ∷ []) (bytes ++ take k piece)
+    → ⊥)
+
 abbrev pub two_commands : TwoCommands → List Placed
 two_commands two =
     record { place = two.place; event = Step two.ended }
     ∷ record { place = two.own_place; event = Step two.own } ∷ []
 
 -- ---- only contracts of private functions cite the rest
+
+-- the run of a select that is open after these many bytes, the first at this offset
+abbrev pub open_run : ℕ → ℕ → Run
+open_run place count =
+    record { place = place; select = None; start = 0; length = count; columns = columns.Missing }
 
 -- if no command is open before the piece, and its first byte has the offset `place`: after the first k bytes this is
 -- open, it began at `opened`, and these events are complete
@@ -84,6 +103,12 @@ ReadsColumns piece from end cols =
     → LeadsTo place piece end NoCommand
     (select_events place select ++ column_events (place + from) cols (take (end - from) (drop from piece)))
     (place + end)
+
+-- the introducer at this index has no repeat behind it: its digits end the piece, or what follows them can't
+abbrev pub EndsNoRepeat : List ℕ → ℕ → Type 0
+EndsNoRepeat piece from =
+    (end : ℕ) × (value : ℕ) × (from < end) × (end ≤ length piece) × ReadsNumber piece (from + 1) end value
+    × (end < length piece → within (RepeatNumber value) (slice_index piece end) ≡ None)
 
 -- the piece begins with the run
 abbrev pub IsRun : Run → List ℕ → Type 0

@@ -87,7 +87,7 @@ pub struct Stretch {
     pub count: usize,
 }
 
-/// Columns that were read at once, perhaps after a select.
+/// Columns that were read at once, perhaps after a select; or the bytes of a select that is open still.
 #[derive(Clone, Copy, Debug, PartialEq, Eq)]
 pub struct Run {
     /// The offset of the first byte, in bytes from 0.
@@ -108,6 +108,9 @@ pub enum Columns {
     Sixels,
     /// The bytes are one repeat.
     Repeat { count: u16, bits: u8 },
+    /// None were seen: the run is a select's `#` and its digits, which complete nothing. What follows ends the select,
+    /// or makes it a definition.
+    Missing,
 }
 
 /// Two commands that one byte completed: one that it ended, and its own.

@@ -414,6 +414,15 @@ impl Pending {
         self.number = 0;
     }
 
+    /// Opens a select, or a definition, with this number so far.
+    #[inline]
+    pub(crate) fn open_select(&mut self, register: u16)
+        ensures { form_of self.new ≡ ColourForm [] register }
+    {
+        self.begin_fields(Open::ColourFields);
+        self.number = register;
+    }
+
     /// Opens the parameters of the introducer.
     fn introduce(&mut self, eight: bool)
         ensures { self.new ≡ record self.old {

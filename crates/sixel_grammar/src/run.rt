@@ -1,12 +1,12 @@
 //! Finds columns at the beginning of a piece, perhaps after a select.
 
-ghost use Rattle.std.specs.Prelude.{◌≡◌, ◌<◌, ◌≤◌, ◌+◌, IfSome, IsTrue, length, slice_index, ℕ};
+ghost use Rattle.std.specs.Prelude.{◌≡◌, ◌≢◌, ◌<◌, ◌≤◌, ◌+◌, IfSome, IsNone, IsSome, IsTrue, false, true, length, slice_index, ℕ};
 ghost use Rattle.sixel_grammar.specs.Bytes.{is_data as data_test, is_digit as digit_test};
 ghost use Rattle.sixel_grammar.specs.Next.{with_digit as digit_after};
-ghost use Rattle.sixel_grammar.specs.Runs.{IsRun, ReadsColumns, ReadsNumber, ReadsSelect};
-ghost use Rattle.sixel_grammar.specs.declared.command.Columns.TheVariants.{Sixels as single_sixels};
+ghost use Rattle.sixel_grammar.specs.Runs.{EndsNoRepeat, ReadsColumns, ReadsNumber, ReadsSelect};
+ghost use Rattle.sixel_grammar.specs.declared.command.Columns.TheVariants.{Missing as no_columns, Sixels as single_sixels};
 
-use crate::command::{Columns, Run};
+use crate::command::Columns;
 use crate::pending::is_data;
 use crate::stretch::data_bytes_in;
 
@@ -19,42 +19,24 @@ struct Digits {
 
 /// The register of a select that a piece begins with, and the index after it; if there is none, 0.
 #[derive(Clone, Copy)]
-struct Start {
-    register: Option<u16>,
-    end: usize,
+pub(crate) struct Start {
+    pub register: Option<u16>,
+    pub end: usize,
 }
 
 /// Columns in a piece, and the index after them.
 #[derive(Clone, Copy)]
-struct Found {
-    columns: Columns,
-    end: usize,
-}
-
-/// The run at the beginning of the piece, if it ends there; its first byte has the offset `place`.
-#[inline(always)]
-pub(crate) fn run_in(piece: &[u8], place: u64) -> Option<Run>
-    ensures placed { IfSome result (λ run. run.place ≡ place) }
-    ensures within { IfSome result (λ run. (run.start < run.length) × (run.length ≤ length piece.now)) }
-    ensures sixels { IfSome result (λ run. run.columns ≡ single_sixels → (k : ℕ) → run.start ≤ k → k < run.length
-        → IsTrue (data_test (slice_index piece.now k))) }
-    ensures leads { IfSome result (λ run. IsRun run piece.now) }
-{
-    let start = select_in(piece);
-    let found = columns_in(piece, start.end)?;
-    Some(Run {
-        place,
-        select: start.register,
-        start: start.end,
-        length: found.end,
-        columns: found.columns,
-    })
+pub(crate) struct Found {
+    pub columns: Columns,
+    pub end: usize,
 }
 
 /// The select that the piece begins with, if any. It is open still: what follows decides whether it ends.
 #[inline(always)]
-fn select_in(piece: &[u8]) -> Start
+pub(crate) fn select_in(piece: &[u8]) -> Start
     ensures within { result.end ≤ length piece.now }
+    ensures some { IsSome result.register → 0 < result.end }
+    ensures none { IsNone result.register → (result.end ≡ 0) × (0 < length piece.now → slice_index piece.now 0 ≢ 35) }
     ensures leads { ReadsSelect piece.now result.end result.register }
 {
     if piece.is_empty() || piece[0] != b'#' {
@@ -72,12 +54,17 @@ fn select_in(piece: &[u8]) -> Start
 
 /// The single sixels or the repeat at this index of the piece.
 #[inline(always)]
-fn columns_in(piece: &[u8], from: usize) -> Option<Found>
+pub(crate) fn columns_in(piece: &[u8], from: usize) -> Option<Found>
     requires { from ≤ length piece.now }
     ensures within { IfSome result (λ found. (from < found.end) × (found.end ≤ length piece.now)) }
     ensures sixels { IfSome result (λ found. found.columns ≡ single_sixels → (k : ℕ) → from ≤ k → k < found.end
         → IsTrue (data_test (slice_index piece.now k))) }
     ensures leads { IfSome result (λ found. ReadsColumns piece.now from found.end found.columns) }
+    ensures seen { IfSome result (λ found. found.columns ≢ no_columns) }
+    ensures longest { IfSome result (λ found. found.columns ≡ single_sixels → found.end < length piece.now
+        → data_test (slice_index piece.now found.end) ≡ false) }
+    ensures refused { IsNone result → from < length piece.now → (data_test (slice_index piece.now from) ≡ false)
+        × (slice_index piece.now from ≡ 33 → EndsNoRepeat piece.now from) }
 {
     if from < piece.len() && piece[from] == b'!' {
         return repeat_in(piece, from);
@@ -101,6 +88,9 @@ fn repeat_in(piece: &[u8], from: usize) -> Option<Found>
     ensures sixels { IfSome result (λ found. found.columns ≡ single_sixels → (k : ℕ) → from ≤ k → k < found.end
         → IsTrue (data_test (slice_index piece.now k))) }
     ensures leads { IfSome result (λ found. ReadsColumns piece.now from found.end found.columns) }
+    ensures seen { IfSome result (λ found. found.columns ≢ no_columns) }
+    ensures repeat { IfSome result (λ found. found.columns ≢ single_sixels) }
+    ensures refused { IsNone result → EndsNoRepeat piece.now from }
 {
     let digits = digits_in(piece, from + 1);
     if digits.end == piece.len() || !is_data(piece[digits.end]) {
@@ -121,6 +111,8 @@ fn digits_in(piece: &[u8], from: usize) -> Digits
     requires { from ≤ length piece.now }
     ensures within { (from ≤ result.end) × (result.end ≤ length piece.now) }
     ensures reads { ReadsNumber piece.now from result.end result.value }
+    ensures stops { result.end < length piece.now → digit_test (slice_index piece.now result.end) ≡ true
+        → 65535 < digit_after result.value (slice_index piece.now result.end) }
 {
     let mut value = 0;
     let mut end = from;
@@ -140,6 +132,7 @@ fn with_digit(number: u16, byte: u8) -> Option<u16>
     ensures digit { IfSome result (λ next. IsTrue (digit_test byte)) }
     ensures value { IfSome result (λ next. next ≡ digit_after number byte) }
     ensures small { IfSome result (λ next. next ≤ 65535) }
+    ensures none { IsNone result → digit_test byte ≡ true → 65535 < digit_after number byte }
 {
     if !byte.is_ascii_digit() {
         return None;

@@ -1,6 +1,8 @@
 //! Runs and pairs of commands that are read in one step: the same events as byte by byte.
 
-use sixel_grammar::{Columns, Command, Completed, Event, Fault, Placed, Reader, Run, TwoCommands};
+use sixel_grammar::{
+    Columns, Command, Completed, Event, Fault, Placed, Plain, Reader, Run, TwoCommands,
+};
 use std::process::Abort;
 use std::test::Fail;
 
@@ -110,6 +112,7 @@ fn keep_run(events: &mut Vec<Placed>, run: Run, bytes: &[u8]) -> Result<(), Fail
             }
             Ok(())
         }
+        Columns::Missing => Ok(()),
     }
 }
 
@@ -242,19 +245,51 @@ fn runs_at_the_beginning_of_a_piece(rt: HostRuntime) {
     );
 }
 
+/// A select that is open after so many bytes.
+fn open(place: u64, length: usize) -> Option<Run> {
+    let columns = Columns::Missing;
+    Some(Run {
+        place,
+        select: None,
+        start: 0,
+        length,
+        columns,
+    })
+}
+
+/// Without columns after it, the introducer of a select is read with its digits: as many as make a register.
+#[test]
+fn selects_that_stay_open(rt: HostRuntime) {
+    assert_eq!(rt; run_after(b"\x1bPq", b"#"), open(3, 1));
+    assert_eq!(rt; run_after(b"\x1bPq", b"#12"), open(3, 3));
+    assert_eq!(rt; run_after(b"\x1bPq~", b"#12$"), open(4, 3));
+    assert_eq!(rt; run_after(b"\x1bPq", b"#0012;~"), open(3, 5));
+    assert_eq!(rt; run_after(b"\x1bPq", b"#65536~"), open(3, 5));
+    for piece in [b"#1!".as_slice(), b"#1!2", b"#1!2$", b"#1#2~", b"#1\n~"] {
+        assert_eq!(rt; run_after(b"\x1bPq", piece), open(3, 2));
+    }
+}
+
+/// The next byte ends such a select.
+#[test]
+fn open_selects_end(rt: HostRuntime) {
+    for bytes in [b"#12\n", b"#12#"] {
+        let mut reader = Reader::new();
+        for byte in b"\x1bPq" {
+            assert!(rt; reader.feed(*byte).is_ok());
+        }
+        assert_eq!(rt; reader.feed_run(bytes), open(3, 3));
+        let place = 3;
+        let command = Command::Select(12);
+        assert_eq!(rt; reader.feed_command(bytes[3]), Some(Plain::Command { place, command }));
+    }
+}
+
 /// What ends within the piece, or is none, is left to `feed`; so is everything while a command is open.
 #[test]
 fn no_runs(rt: HostRuntime) {
     for piece in [
         b"".as_slice(),
-        b"#12",
-        b"#12$",
-        b"#12;~",
-        b"#65536~",
-        b"#1!",
-        b"#1!2",
-        b"#1!2$",
-        b"#1#2~",
         b"!12",
         b"!12;",
         b"!65536~",
@@ -310,7 +345,7 @@ fn runs_end_at_the_limit(rt: HostRuntime) {
         near_the_limit(&rt, 3).feed_run(b"#1~~"),
         sixels(268_435_453, Some(1), 2, 3)
     );
-    assert_eq!(rt; near_the_limit(&rt, 2).feed_run(b"#1~~"), None);
+    assert_eq!(rt; near_the_limit(&rt, 2).feed_run(b"#1~~"), open(268_435_454, 2));
     assert_eq!(rt;
         near_the_limit(&rt, 3).feed_run(b"!1~~"),
         repeat(268_435_453, None, 0, 3, 1, 63)

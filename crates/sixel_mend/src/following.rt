@@ -137,6 +137,7 @@ fn follow_columns<F: Follower>(follower: &mut F, columns: Columns, bytes: &[u8],
         Columns::Repeat { count, bits } => {
             follower.follow(&Event::Step(Command::Repeat { count, bits }));
         }
+        Columns::Missing => {}
     }
 }
 

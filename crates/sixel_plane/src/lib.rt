@@ -10,3 +10,4 @@ mod stretch;
 pub use band_plane::BandPlane;
 pub use byte_plane::BytePlane;
 pub use plane::Plane;
+pub use stretch::LANES;

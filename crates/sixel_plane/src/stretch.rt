@@ -8,8 +8,8 @@ ghost use Rattle.sixel_plane.specs.Stretches.{run_sixel, sixel_of};
 use sixel_model::BAND_ROWS;
 use std::simd::prelude::*;
 
-/// How many columns are painted at once.
-pub(crate) const LANES: usize = 16;
+/// How many columns a plane paints at once. A stretch is painted so only if this many bytes follow it.
+pub const LANES: usize = 16;
 
 /// The number of each lane.
 const NUMBERS: [u8; 16] = [0, 1, 2, 3, 4, 5, 6, 7, 8, 9, 10, 11, 12, 13, 14, 15];

@@ -14,7 +14,7 @@ use Rattle.sixel_grammar.specs.Prefixes.{CompleteIn}
 use Rattle.sixel_grammar.specs.Reading.{ExplainsAlways}
 use Rattle.sixel_grammar.specs.Standing.{StandsAfter}
 use Rattle.sixel_grammar.specs.declared.command.Columns.{Columns}
-use Rattle.sixel_grammar.specs.declared.command.Columns.TheVariants.{Sixels, Repeat}
+use Rattle.sixel_grammar.specs.declared.command.Columns.TheVariants.{Missing, Sixels, Repeat}
 use Rattle.sixel_grammar.specs.Runs.{column_events, select_events}
 use Rattle.sixel_grammar.specs.Stretches.{sixels_from}
 use Rattle.sixel_grammar.proofs.StandLemmas.{read_complete}
@@ -162,6 +162,8 @@ run-declares place start None Sixels bytes = sixels-declare start bytes
 run-declares place start None (Repeat count bits) bytes = refl
 run-declares place start (Some register) Sixels bytes = sixels-declare start bytes
 run-declares place start (Some register) (Repeat count bits) bytes = refl
+run-declares place start None Missing bytes = refl
+run-declares place start (Some register) Missing bytes = refl
 
 -- ---- one more piece
 

@@ -139,6 +139,7 @@ fn take_columns<P: Plane>(
         Columns::Repeat { count, bits } => {
             take_still(surveyor, alloc, place, Command::Repeat { count, bits });
         }
+        Columns::Missing => {}
     }
 }
 

@@ -5,7 +5,7 @@ ghost use Rattle.std.specs.Prelude.{length, slice_index};
 ghost use Rattle.std.specs.Option.{option_to_list};
 ghost use Rattle.sixel_grammar.specs.Bytes.{is_data};
 ghost use Rattle.sixel_grammar.specs.Document.{most_bytes};
-ghost use Rattle.sixel_grammar.specs.Runs.{column_events, events_of_run, select_events};
+ghost use Rattle.sixel_grammar.specs.Runs.{column_events, events_of_run, select_events, two_commands};
 ghost use Rattle.sixel_grammar.specs.Stretches.{sixels_from};
 ghost use Rattle.sixel_grammar.specs.declared.command.Columns.TheVariants.{Sixels as single_sixels};
 ghost use Rattle.sixel_grammar.specs.declared.command.Command.TheVariants.{Repeat, Select};
@@ -24,7 +24,7 @@ use crate::fault::RunFault;
 use crate::lines::event_line;
 use crate::sixel_line::{MOST_SIXELS, SixelLine, SixelLines};
 use crate::task::Status;
-use sixel_grammar::{Columns, Command, Completed, Event, Placed, Plain, Reader, Run};
+use sixel_grammar::{Columns, Command, Completed, Event, Placed, Plain, Reader, Run, TwoCommands};
 use sixel_io::{Block, DeviceFault, PIECE, Sink, Source};
 
 /// Room for 12 bytes of lines per byte of a piece. A data byte gives up to 19, so a piece of data takes two writes.
@@ -137,7 +137,7 @@ fn feed_some<K: Sink>(
             Err(_) => Err(RunFault::Write),
         };
     }
-    feed_byte(reader, bytes[0], lines, out)?;
+    feed_byte(reader, bytes[0], &mut sixels.line, lines, out)?;
     Ok(1)
 }
 
@@ -146,6 +146,7 @@ fn feed_some<K: Sink>(
 fn feed_byte<K: Sink>(
     reader: &mut Reader,
     byte: u8,
+    line: &mut SixelLine,
     lines: &mut Lines,
     out: &mut K,
 ) -> Result<(), RunFault>
@@ -156,7 +157,31 @@ fn feed_byte<K: Sink>(
     ensures failures { CountsWrites result (K.state out.old).failures (K.state out.new).failures }
 {
     match reader.feed_command(byte) {
-        Some(plain) => match put_plain(plain, lines, out) {
+        Some(plain) => match put_plain(plain, line, lines, out) {
+            Ok(()) => Ok(()),
+            Err(_) => Err(RunFault::Write),
+        },
+        None => feed_rarely(reader, byte, line, lines, out),
+    }
+}
+
+/// The same for a byte that completes two commands, or of any other kind.
+#[inline(never)]
+fn feed_rarely<K: Sink>(
+    reader: &mut Reader,
+    byte: u8,
+    line: &mut SixelLine,
+    lines: &mut Lines,
+    out: &mut K,
+) -> Result<(), RunFault>
+    ensures fed { (events : List Place) (bytes : List ℕ) → StandsAfter reader.old events bytes →
+        Feeds result reader.new (byte ∷ [])
+        (in_all (K.state out.old).taken lines.old) (in_all (K.state out.new).taken lines.new) events bytes }
+    ensures more { TakesMore (K.state out.old).taken (K.state out.new).taken }
+    ensures failures { CountsWrites result (K.state out.old).failures (K.state out.new).failures }
+{
+    match reader.feed_two(byte) {
+        Some(two) => match put_two(two, line, lines, out) {
             Ok(()) => Ok(()),
             Err(_) => Err(RunFault::Write),
         },
@@ -189,14 +214,51 @@ fn feed_and_put<K: Sink>(
 
 /// Puts the line of the command, if there is one.
 #[inline(always)]
-fn put_plain<K: Sink>(plain: Plain, lines: &mut Lines, out: &mut K) -> Result<(), DeviceFault>
+fn put_plain<K: Sink>(
+    plain: Plain,
+    line: &mut SixelLine,
+    lines: &mut Lines,
+    out: &mut K,
+) -> Result<(), DeviceFault>
     ensures { WritesThrough result (K.state out.old) (K.state out.new) lines.old lines.new
         (list_text (completions (plain_of plain))) }
 {
     match plain {
         Plain::Nothing => Ok(()),
-        Plain::Command { place, command } => put_command(place, command, lines, out),
+        Plain::Command { place, command } => put_ended(place, command, line, lines, out),
     }
+}
+
+/// Puts the line of a command that a byte ended or is. Nearly all that a byte ends are selects.
+#[inline(always)]
+fn put_ended<K: Sink>(
+    place: u64,
+    command: Command,
+    line: &mut SixelLine,
+    lines: &mut Lines,
+    out: &mut K,
+) -> Result<(), DeviceFault>
+    ensures { WritesThrough result (K.state out.old) (K.state out.new) lines.old lines.new
+        (list_text (record { place = place; event = Step command } ∷ [])) }
+{
+    match command {
+        Command::Select(register) => put_register(place, register, line, lines, out),
+        other => put_command(place, other, lines, out),
+    }
+}
+
+/// Puts the lines of two commands that a byte completed.
+fn put_two<K: Sink>(
+    two: TwoCommands,
+    line: &mut SixelLine,
+    lines: &mut Lines,
+    out: &mut K,
+) -> Result<(), DeviceFault>
+    ensures { WritesThrough result (K.state out.old) (K.state out.new) lines.old lines.new
+        (list_text (two_commands two)) }
+{
+    put_ended(two.place, two.ended, line, lines, out)?;
+    put_command(two.own_place, two.own, lines, out)
 }
 
 /// Puts the lines of the run at the beginning of the bytes.
@@ -305,6 +367,7 @@ fn put_columns<K: Sink>(
         Columns::Repeat { count, bits } => {
             put_repeat(place, count, bits, &mut sixels.line, lines, out)
         }
+        Columns::Missing => Ok(()),
     }
 }
 
