@@ -266,7 +266,32 @@ fn keep_select<P: Plane>(
     }
 }
 
-/// Pushes the run at the beginning of the bytes.
+/// Pushes the select and the columns at the beginning of the bytes.
+#[inline(always)]
+fn push_run<P: Plane>(checker: &mut Checker<P>, run: Run, bytes: &[u8]) -> Result<(), AllocError>
+    requires stands { (registers : ℕ) × (seen : List PlacedValue) × StandsAfter registers checker.old seen
+        × MayStep seen }
+    requires sixels { run.columns ≡ single_sixels → (k : ℕ) → run.start ≤ k → k < run.length
+        → IsTrue (is_data (slice_index bytes.now k)) }
+    requires spellable { AreSpellable run.columns }
+    requires within { (run.start < run.length) × (run.length ≤ length bytes.now) }
+    requires limit { run.place + run.length ≤ most_bytes }
+    ensures kept { OnOk result ((registers : ℕ) (seen : List PlacedValue) → StandsAfter registers checker.old seen
+        → MayStep seen → StandsAfter registers checker.new (seen ++ events_of_run run bytes.now)) }
+    ensures grows { OnErr result (MayGrowOver checker.old (events_of_run run bytes.now)) }
+{
+    keep_select(checker, run.place, run.select)?;
+    let columns = &bytes[run.start..];
+    keep_columns(
+        checker,
+        run.place + run.start as u64,
+        run.columns,
+        columns,
+        run.length - run.start,
+    )
+}
+
+/// Pushes the run at the beginning of the bytes, if it has columns.
 #[inline(always)]
 pub(crate) fn keep_run<P: Plane>(
     checker: &mut Checker<P>,
@@ -286,16 +311,8 @@ pub(crate) fn keep_run<P: Plane>(
         → StandsAfter registers checker.new (seen ++ events_of_run run bytes.now)) }
     ensures grows { OnErr result (MayGrowOver checker.old (events_of_run run bytes.now)) }
 {
-    if matches!(run.columns, Columns::Missing) {
-        return Ok(());
+    match run.columns {
+        Columns::Missing => Ok(()),
+        Columns::Sixels | Columns::Repeat { .. } => push_run(checker, run, bytes),
     }
-    keep_select(checker, run.place, run.select)?;
-    let columns = &bytes[run.start..];
-    keep_columns(
-        checker,
-        run.place + run.start as u64,
-        run.columns,
-        columns,
-        run.length - run.start,
-    )
 }

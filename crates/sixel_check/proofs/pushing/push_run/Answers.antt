@@ -5,7 +5,7 @@ use Rattle.sixel_judge.specs.Growth.{MayGrowAmong}
 use Rattle.sixel_judge.specs.Standing.{StandsAfter}
 use Rattle.sixel_judge.proofs.GrowthLemmas.{err_says, grows_among}
 use Rattle.sixel_check.proofs.ReadLemmas.{run_events, select_then}
-use Rattle.sixel_check.proofs.pushing.keep_run.Goals as goal
+use Rattle.sixel_check.proofs.pushing.push_run.Goals as goal
 
 pub returns-in_err-keep_select-clause-grows : goal.returns-in_err-keep_select-clause-grows
 returns-in_err-keep_select-clause-grows g c =
