@@ -113,6 +113,7 @@ fn draw_columns(drawing: &mut Drawing, columns: Columns, bytes: &[u8], count: us
         Columns::Repeat { count, bits } => {
             drawing.push(&Event::Step(Command::Repeat { count, bits }));
         }
+        Columns::Missing => {}
     }
 }
 
