@@ -1,7 +1,7 @@
 //! Writes a band: six rows of a picture, or fewer in the last band.
 
 ghost use Rattle.std.specs.Prelude.{◌≡◌, ◌==◌, ◌+◌, ◌-◌, ◌%◌, ◌<◌, ◌≤◌, ◌++◌, ◌∷◌, [], if◌then◌else◌, length};
-ghost use Rattle.std.specs.Prelude.{take};
+ghost use Rattle.std.specs.Prelude.{take, true};
 ghost use Rattle.sixel_io.specs.Blocks.{WritesThrough};
 ghost use Rattle.sixel_grammar.specs.Spelling.{IsSpellable};
 ghost use Rattle.sixel_model.specs.Pictures.{most_side};
@@ -17,7 +17,7 @@ use crate::heads::Heads;
 use crate::lanes::LANES;
 use crate::line::{MOST_BYTES, TEXT_ROOM, put_part, put_repeat};
 use crate::parts::put_by_parts;
-use crate::repeats::{find_repeat, ink_end, run_end};
+use crate::repeats::{find_repeat, ink_end};
 use crate::rows::rows_of;
 use sixel_grammar::{Command, Event};
 use sixel_io::{DeviceFault, Sink};
@@ -52,19 +52,9 @@ impl Speller {
         ensures text { take result self.new.text ≡ commands_text (sixel_commands sixels.now) }
         ensures short { result ≤ MOST_BYTES }
     {
-        let text = &mut self.text[..];
-        if is_sparse(sixels, groups) {
-            self.gaps.find(sixels, groups);
-            spell_by_gaps(text, &self.heads, sixels, &self.gaps)
-        } else {
-            spell_columns(text, &self.heads, sixels, groups)
-        }
+        self.gaps.find(sixels, groups);
+        spell_columns(&mut self.text, &self.heads, sixels, &self.gaps)
     }
-}
-
-/// Whether some whole groups of columns are blank, besides those behind the picture. Only then a list of gaps pays.
-fn is_sparse(sixels: &[u8], groups: u64) -> bool {
-    groups.count_ones() as usize + 2 < sixels.len() / LANES
 }
 
 /// Writes the registers of a band, each with its columns, with a carriage return between two. `sixels` is room for the
@@ -199,34 +189,11 @@ fn put_columns<K: Sink>(
 
 /// Makes the text of the columns: four or more equal columns are a repeat, any others single sixels. Returns where it
 /// ends.
-fn spell_columns(text: &mut [u8], heads: &Heads, sixels: &[u8], groups: u64) -> usize
+fn spell_columns(text: &mut [u8], heads: &Heads, sixels: &[u8], gaps: &Gaps) -> usize
     requires sixels { AreSixels sixels.now }
     requires few { length sixels.now ≤ ROOM }
-    requires ink { IsInkIn groups sixels.now }
-    requires room { length text.old ≡ TEXT_ROOM }
-    ensures text { take result text.new ≡ commands_text (sixel_commands sixels.now) }
-    ensures short { result ≤ length sixels.now }
-    ensures long { length text.new ≡ length text.old }
-{
-    let (mut from, mut at) = (0, 0);
-    while let Some(start) = find_repeat(sixels, from) {
-        let end = run_end(sixels, groups, start);
-        at = put_part(text, at, sixels, from, start);
-        // Blank columns at the end are left out.
-        if end == sixels.len() && sixels[start] == b'?' {
-            return at;
-        }
-        at = put_repeat(text, at, heads, (end - start) as u16, sixels[start] - b'?');
-        from = end;
-    }
-    put_part(text, at, sixels, from, ink_end(sixels, from))
-}
-
-/// The same, by a list of where gaps end, so that no blank repeat is searched.
-fn spell_by_gaps(text: &mut [u8], heads: &Heads, sixels: &[u8], gaps: &Gaps) -> usize
-    requires sixels { AreSixels sixels.now }
-    requires few { length sixels.now ≤ ROOM }
-    requires ends { AreGapEnds (length sixels.now) sixels.now gaps.now.ends gaps.now.count }
+    requires ends { gaps.now.is_listed ≡ true
+        → AreGapEnds (length sixels.now) sixels.now gaps.now.ends gaps.now.count }
     requires room { length text.old ≡ TEXT_ROOM }
     ensures text { take result text.new ≡ commands_text (sixel_commands sixels.now) }
     ensures short { result ≤ length sixels.now }
@@ -234,14 +201,14 @@ fn spell_by_gaps(text: &mut [u8], heads: &Heads, sixels: &[u8], gaps: &Gaps) -> 
 {
     let (mut from, mut next, mut at) = (0, 0, 0);
     while let Some(start) = find_repeat(sixels, from) {
-        let (stop, behind) = gaps.run_end(sixels, from, start, next);
+        let (end, behind) = gaps.run_end(sixels, from, start, next);
         at = put_part(text, at, sixels, from, start);
         // Blank columns at the end are left out.
-        if stop == sixels.len() && sixels[start] == b'?' {
+        if end == sixels.len() && sixels[start] == b'?' {
             return at;
         }
-        at = put_repeat(text, at, heads, (stop - start) as u16, sixels[start] - b'?');
-        (from, next) = (stop, behind);
+        at = put_repeat(text, at, heads, (end - start) as u16, sixels[start] - b'?');
+        (from, next) = (end, behind);
     }
     put_part(text, at, sixels, from, ink_end(sixels, from))
 }

@@ -1,6 +1,6 @@
 //! The sixels of one register in a band.
 
-ghost use Rattle.std.specs.Prelude.{◌≡◌, ◌+◌, ◌<◌, ◌≤◌, ℕ, length, min, replicate};
+ghost use Rattle.std.specs.Prelude.{◌≡◌, ◌+◌, ◌<◌, ◌≤◌, ℕ, length, min};
 ghost use Rattle.std.specs.Int.{bit_at};
 ghost use Rattle.sixel_model.specs.Pictures.{most_side};
 ghost use Rattle.sixel_encode.specs.Columns.{AreFound, AreFilled};
@@ -17,22 +17,13 @@ pub(crate) fn find_sixels(sixels: &mut [u8], rows: &[u8], width: usize, register
     ensures long { length sixels.new ≡ length sixels.old }
     ensures found { AreFound width rows.now width register groups sixels.new }
 {
-    clear(sixels, width);
+    sixels.fill(b'?');
     let count = width.div_ceil(LANES);
     let mut group = next_group(groups, 0, count);
     while group < count {
         find_group(sixels, rows, width, group * LANES, register);
         group = next_group(groups, group + 1, count);
     }
-}
-
-/// Makes all columns blank. In two parts, since glibc fills more than 2,048 bytes by `rep stosb`, which starts slowly.
-fn clear(sixels: &mut [u8], width: usize)
-    requires { width ≤ length sixels.old }
-    ensures { sixels.new ≡ replicate (length sixels.old) 63 }
-{
-    sixels[..width].fill(b'?');
-    sixels[width..].fill(b'?');
 }
 
 /// The first of `count` groups, from `from` on, whose bit is set, or `count` if none is.

@@ -1,6 +1,7 @@
 //! Finds where the gaps between the columns with ink end.
 
 ghost use Rattle.std.specs.Prelude.{◌≡◌, ◌≢◌, ◌+◌, ◌%◌, ◌^◌, ◌<◌, ◌≤◌, ◌⊎◌, List, ℕ, get_or, if◌then◌else◌, length, nat_lt};
+ghost use Rattle.std.specs.Prelude.{true};
 ghost use Rattle.sixel_encode.specs.Columns.{IsInkIn, IsRepeatAt, IsRun};
 ghost use Rattle.sixel_encode.specs.Gaps.{AreBlanks, AreBlanksFrom, AreEndBits, AreGapEnds, AreGapEndsBut};
 ghost use Rattle.sixel_encode.specs.Gaps.{IsApart, IsNext};
@@ -16,11 +17,13 @@ const LEAST_GAP: usize = 4;
 /// The bit behind those of a group.
 const BEHIND: u64 = 1 << 32;
 
-/// Where gaps end: the columns with ink right behind four blank ones, from left to right.
+/// Where gaps end: the columns with ink right behind four blank ones, from left to right. If they aren't listed, the end
+/// of a blank run is searched like that of any other.
 #[derive(Debug, Drop)]
 pub(crate) struct Gaps {
     pub(crate) ends: [u16; MOST_BYTES + 1],
     pub(crate) count: usize,
+    pub(crate) is_listed: bool,
 }
 
 impl Gaps {
@@ -28,11 +31,26 @@ impl Gaps {
         Gaps {
             ends: [0; MOST_BYTES + 1],
             count: 0,
+            is_listed: false,
         }
     }
 
-    /// Finds the gaps of all columns. Columns whose group isn't in the mask are blank.
+    /// Lists the gaps of all columns, if that pays. Columns whose group isn't in the mask are blank.
     pub(crate) fn find(&mut self, sixels: &[u8], groups: u64)
+        requires few { length sixels.now ≤ MOST_BYTES }
+        requires whole { length sixels.now % LANES ≡ 0 }
+        requires ink { IsInkIn groups sixels.now }
+        ensures { self.new.is_listed ≡ true
+            → AreGapEnds (length sixels.now) sixels.now self.new.ends self.new.count }
+    {
+        self.is_listed = is_sparse(sixels, groups);
+        if self.is_listed {
+            self.list(sixels, groups);
+        }
+    }
+
+    /// Lists the gaps of all columns.
+    fn list(&mut self, sixels: &[u8], groups: u64)
         requires few { length sixels.now ≤ MOST_BYTES }
         requires whole { length sixels.now % LANES ≡ 0 }
         requires ink { IsInkIn groups sixels.now }
@@ -96,15 +114,16 @@ impl Gaps {
         requires few { length sixels.now ≤ MOST_BYTES }
         requires repeat { IsRepeatAt from sixels.now start }
         requires apart { IsApart from sixels.now }
-        requires ends { AreGapEnds (length sixels.now) sixels.now self.now.ends self.now.count }
-        requires next { IsNext from self.now.ends self.now.count next }
+        requires ends { self.now.is_listed ≡ true
+            → AreGapEnds (length sixels.now) sixels.now self.now.ends self.now.count }
+        requires next { self.now.is_listed ≡ true → IsNext from self.now.ends self.now.count next }
         requires small { next ≤ start }
         ensures run { IsRun start result.0 sixels.now }
-        ensures next { IsNext result.0 self.now.ends self.now.count result.1 }
+        ensures next { self.now.is_listed ≡ true → IsNext result.0 self.now.ends self.now.count result.1 }
         ensures small { result.1 ≤ result.0 }
     {
         let byte = sixels[start];
-        if byte == b'?' {
+        if self.is_listed && byte == b'?' {
             return (self.end_of(next, sixels.len()), next + 1);
         }
         match first_other(sixels, start + 1, byte) {
@@ -125,6 +144,11 @@ impl Gaps {
             end
         }
     }
+}
+
+/// Whether some whole groups of columns are blank, besides those behind the picture. Only then a list of gaps pays.
+fn is_sparse(sixels: &[u8], groups: u64) -> bool {
+    groups.count_ones() as usize + 2 < sixels.len() / LANES
 }
 
 /// A mask of the gap ends in the group at `at`.

@@ -24,7 +24,7 @@ pub(crate) fn first_other(bytes: &[u8], from: usize, byte: u8) -> Option<usize>
 }
 
 #[inline]
-pub(crate) fn first_in_group(bytes: &[u8], at: usize, byte: u8) -> Option<usize>
+fn first_in_group(bytes: &[u8], at: usize, byte: u8) -> Option<usize>
     requires { at + LANES ≤ length bytes.now }
     ensures { IsFirst (λ b. not (b == byte)) at (at + LANES) bytes.now result }
 {
@@ -61,7 +61,7 @@ pub(crate) fn is_uniform(bytes: &[u8], at: usize) -> bool
     equal_in_group(bytes, at, bytes[at]) == LANES
 }
 
-pub(crate) fn first_in_rest(bytes: &[u8], from: usize, byte: u8) -> Option<usize>
+fn first_in_rest(bytes: &[u8], from: usize, byte: u8) -> Option<usize>
     requires { from ≤ length bytes.now }
     ensures { IsFirst (λ b. not (b == byte)) from (length bytes.now) bytes.now result }
 {

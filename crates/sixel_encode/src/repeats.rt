@@ -1,12 +1,9 @@
 //! Finds equal columns in a row of sixels.
 
-ghost use Rattle.std.specs.Prelude.{◌≡◌, ◌==◌, ◌+◌, ◌/◌, ◌^◌, ◌<◌, ◌≤◌, ℕ, length, not, true};
-ghost use Rattle.std.specs.Int.{bit_at};
-ghost use Rattle.sixel_plane.specs.Lanes.{IsFirst};
-ghost use Rattle.sixel_encode.specs.Columns.{ArePairs, IsInkEnd, IsInkIn, IsRepeat, IsRun, NoFour, are_four};
+ghost use Rattle.std.specs.Prelude.{◌≡◌, ◌+◌, ◌^◌, ◌<◌, ◌≤◌, length, true};
+ghost use Rattle.sixel_encode.specs.Columns.{ArePairs, IsInkEnd, IsRepeat, NoFour, are_four};
 
-use crate::columns::next_group;
-use crate::lanes::{LANES, first_in_group, first_in_rest, first_other};
+use crate::lanes::LANES;
 use std::simd::prelude::*;
 
 /// The fewest equal columns that become a repeat.
@@ -92,60 +89,6 @@ fn is_repeat(sixels: &[u8], start: usize) -> bool
 {
     let first = sixels[start];
     first == sixels[start + 1] && (first == sixels[start + 2] && first == sixels[start + 3])
-}
-
-/// The end of the run of equal columns that begins at `start`.
-#[inline]
-pub(crate) fn run_end(sixels: &[u8], groups: u64, start: usize) -> usize
-    requires within { start < length sixels.now }
-    requires ink { IsInkIn groups sixels.now }
-    ensures { IsRun start result sixels.now }
-{
-    let byte = sixels[start];
-    let found = if byte == b'?' {
-        first_ink(sixels, groups, start + 1)
-    } else {
-        first_other(sixels, start + 1, byte)
-    };
-    match found {
-        Some(end) => end,
-        None => sixels.len(),
-    }
-}
-
-/// The first column from `from` on that isn't blank, if any. Passes over the groups that aren't in the mask.
-fn first_ink(sixels: &[u8], groups: u64, from: usize) -> Option<usize>
-    requires within { from ≤ length sixels.now }
-    requires ink { IsInkIn groups sixels.now }
-    ensures { IsFirst (λ b. not (b == 63)) from (length sixels.now) sixels.now result }
-{
-    let mut at = from;
-    while at + LANES <= sixels.len() {
-        if let Some(index) = first_in_group(sixels, at, b'?') {
-            return Some(index);
-        }
-        at = next_column(groups, at + LANES, sixels.len());
-    }
-    first_in_rest(sixels, at, b'?')
-}
-
-/// The first column from `from` on whose group is in the mask, or `end` if there is none before it.
-#[inline]
-fn next_column(groups: u64, from: usize, end: usize) -> usize
-    requires { from ≤ end }
-    ensures from { from ≤ result }
-    ensures to { result ≤ end }
-    ensures unset { (x : ℕ) → from ≤ x → x < result → bit_at groups (x / LANES) ≡ 0 }
-{
-    let group = from / LANES;
-    if group >= 64 {
-        return end;
-    }
-    let next = next_group(groups, group, 64);
-    if next == 64 {
-        return end;
-    }
-    (next * LANES).max(from).min(end)
 }
 
 /// The end of the columns from `from` on, without the blank ones after the last set bit.

@@ -2,7 +2,7 @@ use Rattle.std.proofs.Common.{◌≡◌, ◌*◌, ◌/◌, inl, inr, arith, leng
 use Rattle.std.proofs.lemmas.Bool.{cases_lt}
 use Rattle.sixel_encode.proofs.GapItemLemmas.{ends_on}
 use Rattle.sixel_encode.proofs.MaskLemmas.{none_past}
-use Rattle.sixel_encode.proofs.gaps.Gaps.find.Goals as goal
+use Rattle.sixel_encode.proofs.gaps.Gaps.list.Goals as goal
 
 pub returns : goal.returns
 returns c =

@@ -1,6 +1,6 @@
 use Rattle.std.proofs.Common.{◌-◌, ◌*◌, ◌≤◌}
 use Rattle.sixel_encode.specs.Gaps.{AreGapEnds}
-use Rattle.sixel_encode.proofs.gaps.Gaps.find.Given as goal
+use Rattle.sixel_encode.proofs.gaps.Gaps.list.Given as goal
 
 abbrev pub invariant-loop-group : goal.invariant-loop-group
 invariant-loop-group l = record {
