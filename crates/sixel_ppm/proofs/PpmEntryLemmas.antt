@@ -67,8 +67,9 @@ place_elsewhere = refl
 
 -- an empty cache: each entry belongs in another place
 pub none_cached : (cache : PixelCache) (maxval : ℕ) (palette : List (Option Parts))
-    → cache.entries ≡ slice_set (replicate 4096 0) 0 256 → Knows cache maxval palette
-none_cached cache maxval palette is =
+    → cache.entries ≡ slice_set (replicate 4096 0) 0 256 → cache.place ≡ 0 → cache.overwritten ≡ 256
+    → Knows cache maxval palette
+none_cached cache maxval palette is first none =
     let zeros : List ℕ = replicate 4096 0 in
     let many : length zeros ≡ 4096 = length-replicate {A = ℕ} 4096 0 in
     record {
@@ -78,11 +79,11 @@ none_cached cache maxval palette is =
           let at : get_or (slice_set zeros 0 256) (place_of key) 0 ≡ entry_of red green blue register =
           ap (λ (xs : List ℕ). get_or xs (place_of key) 0) (sym is) ∙ e in
           elim (cases_eq (place_of key) 0) [
-            | inl first ↦
+            | inl same ↦
                 let its : entry_of red green blue register ≡ 256 * 1 =
-                sym at ∙ get_or-set_at zeros 0 (place_of key) 256 0 first (omega (arith, many)) in
+                sym at ∙ get_or-set_at zeros 0 (place_of key) 256 0 same (omega (arith, many)) in
                 let key_is : key ≡ 256 = whole_key red green blue register 1 x its in
-                absurd (omega (arith, first, ap (λ n. place_of n) key_is, place_elsewhere))
+                absurd (omega (arith, same, ap (λ n. place_of n) key_is, place_elsewhere))
             | inr other ↦
                 let its : entry_of red green blue register ≡ 256 * 0 =
                 sym at ∙ get_or-set_other zeros 0 (place_of key) 256 0 other
@@ -90,6 +91,10 @@ none_cached cache maxval palette is =
                 let key_is : key ≡ 0 = whole_key red green blue register 0 x its in
                 absurd (other (ap (λ n. place_of n) key_is ∙ place_of_nothing))
           ];
+      earlier = λ red green blue register r g b x at e.
+          let key_is : entry_of red green blue 0 ≡ 256 =
+          whole_key red green blue register 1 x (sym e ∙ none) in
+          absurd (omega (arith, at, first, ap (λ n. place_of n) key_is, place_elsewhere));
     }
 
 pub hit_as : (maxval : ℕ) (palette : List (Option Parts)) (red green blue register r g b x : ℕ) → red ≡ r → green ≡ g
@@ -106,13 +111,23 @@ found_hit cache maxval palette red green blue key register rs gs bs xs is at kno
     (ap (λ n. get_or cache.entries (place_of n) 0) (sym is) ∙ at ∙ ap (λ n. n + register) is
     ∙ key_with red green blue register)
 
+-- the same in the entry that was overwritten last
+pub overwritten_hit : (cache : PixelCache) (maxval : ℕ) (palette : List (Option Parts))
+    (red green blue key register : ℕ) → red < 256 → green < 256 → blue < 256 → register < 256
+    → key ≡ entry_of red green blue 0 → place_of key ≡ cache.place → cache.overwritten ≡ key + register
+    → Knows cache maxval palette → IsHit maxval palette red green blue register
+overwritten_hit cache maxval palette red green blue key register rs gs bs xs is at entry knows =
+    knows.earlier red green blue register rs gs bs xs (ap (λ n. place_of n) (sym is) ∙ at)
+    (entry ∙ ap (λ n. n + register) is ∙ key_with red green blue register)
+
 -- the cache with one more pixel
 pub keeps : (cache next : PixelCache) (maxval : ℕ) (palette : List (Option Parts))
     (place key red green blue register : ℕ)
-    → next.entries ≡ slice_set cache.entries place (key + register) → place ≡ place_of key → red < 256 → green < 256
+    → next.entries ≡ slice_set cache.entries place (key + register) → next.place ≡ place
+    → next.overwritten ≡ get_or cache.entries place 0 → place ≡ place_of key → red < 256 → green < 256
     → blue < 256 → register < 256 → key ≡ entry_of red green blue 0 → Knows cache maxval palette
     → IsHit maxval palette red green blue register → Knows next maxval palette
-keeps cache next maxval palette place key red green blue register entries at rs gs bs xs is knows hit = record {
+keeps cache next maxval palette place key red green blue register entries there old at rs gs bs xs is knows hit = record {
   long = ap (λ (es : List ℕ). length es) entries ∙ length-set cache.entries place (key + register) ∙ knows.long;
   hits = λ r g b x r₂ g₂ b₂ x₂ e.
       let i = place_of (entry_of r g b 0) in
@@ -133,4 +148,7 @@ keeps cache next maxval palette place key red green blue register entries at rs 
             knows.hits r g b x r₂ g₂ b₂ x₂
             (sym (get_or-set_other cache.entries place i (key + register) 0 other) ∙ entry)
       ];
+  earlier = λ r g b x r₂ g₂ b₂ x₂ same e.
+      knows.hits r g b x r₂ g₂ b₂ x₂
+      (ap (λ n. get_or cache.entries n 0) (same ∙ there) ∙ sym old ∙ e);
 }

@@ -280,6 +280,14 @@ still_cached cache maxval old new kept knows = record {
         good_blue = hit.good_blue;
         first = kept (colour_of maxval red green blue) register hit.first;
       };
+  earlier = λ red green blue register r g b x at e.
+      let hit = knows.earlier red green blue register r g b x at e in
+      record {
+        good_red = hit.good_red;
+        good_green = hit.good_green;
+        good_blue = hit.good_blue;
+        first = kept (colour_of maxval red green blue) register hit.first;
+      };
 }
 
 -- ---- reading pixels that are in the cache

@@ -21,11 +21,14 @@ pub record IsHit (maxval : ℕ) (palette : List (Option Parts)) (red green blue 
   pub good_blue : blue ≤ maxval
   pub first : position (is_entry (colour_of maxval red green blue)) palette ≡ Some register
 
--- each register that is in its pixel's place is correct
+-- each register that is in its pixel's place is correct, and so is the one that the last entry overwrote there
 pub record Knows (cache : PixelCache) (maxval : ℕ) (palette : List (Option Parts)) : Type 0 where
   pub long : length cache.entries ≡ 4096
   pub hits : (red green blue register : ℕ) → red < 256 → green < 256 → blue < 256 → register < 256
       → get_or cache.entries (place_of (entry_of red green blue 0)) 0 ≡ entry_of red green blue register
+      → IsHit maxval palette red green blue register
+  pub earlier : (red green blue register : ℕ) → red < 256 → green < 256 → blue < 256 → register < 256
+      → place_of (entry_of red green blue 0) ≡ cache.place → cache.overwritten ≡ entry_of red green blue register
       → IsHit maxval palette red green blue register
 
 -- the pixels with these samples have these registers

@@ -20,13 +20,19 @@ const GROUP: usize = 16;
 /// How many pixels are looked up before one test of all of them.
 const FOUR: usize = 4;
 
+/// What is found of a pixel that the cache doesn't have.
+const NOTHING: u32 = 256;
+
 /// The registers of some earlier pixels. A multiplicative hash of the samples gives the place of a pixel; a pixel with
 /// other samples may have overwritten it.
 ///
-/// An entry has the register in its lowest byte, and the samples in those above.
+/// An entry has the register in its lowest byte, and the samples in those above. The last entry that was overwritten is
+/// still found: pictures of a few colours often alternate between two, and these may share a place.
 #[derive(Debug, Drop)]
 pub(crate) struct PixelCache {
     entries: [u32; PLACES],
+    place: usize,
+    overwritten: u32,
 }
 
 /// The entry of a pixel with register 0.
@@ -109,7 +115,11 @@ impl PixelCache {
     {
         let mut entries = [0; PLACES];
         entries[0] = ELSEWHERE;
-        PixelCache { entries }
+        PixelCache {
+            entries,
+            place: 0,
+            overwritten: ELSEWHERE,
+        }
     }
 
     /// The register of a pixel, by its entry with register 0, or a number above 255 if the cache doesn't have it.
@@ -121,13 +131,36 @@ impl PixelCache {
         self.entries[place_of(key)].wrapping_sub(key)
     }
 
+    /// The same, of the entry that was overwritten last.
+    #[inline]
+    fn found_overwritten(&self, key: u32) -> u32
+        requires { key + 256 ≤ 4294967296 }
+        ensures place { result < 256 → place_of key ≡ self.now.place }
+        ensures entry { result < 256 → self.now.overwritten ≡ key + result }
+    {
+        if place_of(key) == self.place {
+            self.overwritten.wrapping_sub(key)
+        } else {
+            NOTHING
+        }
+    }
+
     /// The register of a pixel, if the cache has it.
     pub(crate) fn register_of(&self, red: u8, green: u8, blue: u8) -> Option<u8>
         ensures { (maxval : ℕ) (palette : List (Option Parts)) → Knows self.now maxval palette →
             IfSome result (IsHit maxval palette red green blue) }
     {
-        let found = self.found(key_of(red, green, blue));
-        if found < 256 { Some(found as u8) } else { None }
+        let key = key_of(red, green, blue);
+        let found = self.found(key);
+        if found < 256 {
+            return Some(found as u8);
+        }
+        let earlier = self.found_overwritten(key);
+        if earlier < 256 {
+            Some(earlier as u8)
+        } else {
+            None
+        }
     }
 
     /// Stores the register of a pixel, and overwrites what its place held.
@@ -136,7 +169,10 @@ impl PixelCache {
             IsHit maxval palette red green blue register → Knows self.new maxval palette }
     {
         let key = key_of(red, green, blue);
-        self.entries[place_of(key)] = key + register as u32;
+        let place = place_of(key);
+        self.place = place;
+        self.overwritten = self.entries[place];
+        self.entries[place] = key + register as u32;
     }
 
     /// Adds the registers of the pixels from `count` up to `end`, and stops at the first one that isn't cached. Returns
