@@ -63,16 +63,20 @@ spells_none has = (refl, omega arith)
 most_bits : (row : ℕ) → row < 6 → 2 ^ (row + 1) ≤ 64
 most_bits row small = let high : row + 1 ≤ 6 = omega arith in pow_mono {i = row + 1} {j = 6} high
 
-pub spells_more : (has : ℕ → Bool) (row sixel : ℕ) (t : Bool) → row < 6 → has row ≡ t → Spells has row sixel
+spells_bit : (has : ℕ → Bool) (row sixel : ℕ) (t : Bool) → row < 6 → has row ≡ t → Spells has row sixel
     → Spells has (row + 1) (plus sixel (cond t (1 * 2 ^ row % 256) 0))
-spells_more has row sixel true small here before =
+spells_bit has row sixel true small here before =
     let more = row_added has row (bits_to has row) small here refl before.1 in
     let fits : bits_to has row + 1 * 2 ^ row % 256 < 64 = omega (arith, most_bits row small) in
     (omega arith, rw (sym more.0) more.1)
-spells_more has row sixel false small gone before =
+spells_bit has row sixel false small gone before =
     let same = row_passed has row (bits_to has row) gone refl before.1 in
     let fits : bits_to has (row + 1) < 64 = omega (arith, most_bits row small) in
     (omega arith, rw (sym same.0) same.1)
+
+pub spells_more : (has : ℕ → Bool) (row sixel bit : ℕ) (t : Bool) → row < 6 → has row ≡ t → bit ≡ 1 * 2 ^ row % 256
+    → Spells has row sixel → Spells has (row + 1) (plus sixel (cond t bit 0))
+spells_more has row sixel bit t small here is before = rw is (spells_bit has row sixel t small here before)
 
 pub spells_same : (has : ℕ → Bool) (row sixel : ℕ) → has row ≡ false → Spells has row sixel
     → Spells has (row + 1) sixel

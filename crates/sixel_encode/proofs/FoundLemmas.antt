@@ -37,22 +37,23 @@ filled_group at rows width register old lanes long inside room each = record {
   after = λ x high lt. get_or-put_chunk_above at old lanes x 0 (omega arith);
 }
 
-blank_at : (long x : ℕ) → x < length (replicate {A = ℕ} long 63) → get_or (replicate {A = ℕ} long 63) x 0 ≡ 63
-blank_at long x lt =
-    let inside : x < long = omega (arith, length-replicate {A = ℕ} long 63) in
-    get_or-replicate long x 63 0 inside
+blank_at : (long sixel x : ℕ) → sixel ≡ 63 → x < length (replicate {A = ℕ} long sixel)
+    → get_or (replicate {A = ℕ} long sixel) x 0 ≡ 63
+blank_at long sixel x is lt =
+    let inside : x < long = omega (arith, length-replicate {A = ℕ} long sixel) in
+    get_or-replicate long x sixel 0 inside ∙ is
 
 -- at first all columns are blank
-pub found_none : (to : ℕ) (rows : List ℕ) (width register groups long : ℕ)
+pub found_none : (to : ℕ) (rows : List ℕ) (width register groups long sixel : ℕ) → sixel ≡ 63
     → ((i : ℕ) → 0 ≤ i → i < to → bit_at groups i ≡ 0)
-    → AreFound (to * 32) rows width register groups (replicate long 63)
-found_none to rows width register groups long unset = record {
+    → AreFound (to * 32) rows width register groups (replicate long sixel)
+found_none to rows width register groups long sixel is unset = record {
   inked = λ x lt in_picture set.
       let none : bit_at groups (x / 32) ≡ 0 = unset (x / 32) (omega arith) (omega arith) in
       absurd (omega arith);
-  blank = λ x lt none. blank_at long x lt;
-  behind = λ x lt past. blank_at long x lt;
-  ahead = λ x lt low. blank_at long x lt;
+  blank = λ x lt none. blank_at long sixel x is lt;
+  behind = λ x lt past. blank_at long sixel x is lt;
+  ahead = λ x lt low. blank_at long sixel x is lt;
 }
 
 -- one more group

@@ -1,15 +1,14 @@
 -- The bits of columns where gaps end.
 use Rattle.std.proofs.Common.{◌≡◌, ◌≢◌, ◌==◌, ℕ, zero, suc, ◌+◌, ◌-◌, ◌*◌, ◌%◌, ◌/◌, ◌^◌, ◌<◌, ◌≤◌, Bool, true, false}
-use Rattle.std.proofs.Common.{◌&&◌, List, length, map, min, max, replicate, cond, w8, w64, inl, inr, refl, sym}
+use Rattle.std.proofs.Common.{◌&&◌, List, length, map, max, replicate, cond, w8, w64, inl, inr, refl, sym}
 use Rattle.std.proofs.Common.{ap, ap₂}
-use Rattle.std.proofs.Common.{◌∙◌, arith, bit_and, bit_or}
+use Rattle.std.proofs.Common.{◌∙◌, arith, bit_or}
 use Rattle.std.specs.Prelude.{nat_le, slice_index, if◌then◌else◌}
 use Rattle.std.specs.Int.{bit_at}
 use Rattle.std.proofs.lemmas.Bool.{and_from, and_parts, cases_lt, eq-eqb, eqb-true, le-leb, leb-true, lt-leb, ne_eqb}
 use Rattle.std.proofs.lemmas.List.{get_or-map, length-map}
 use Rattle.std.proofs.lemmas.Nat.Bits.{bit_at-lt, bit_at-zero, bit_at_above}
-use Rattle.std.proofs.lemmas.Nat.Bits.{bit_at_and, bit_at_cat_high, bit_at_cat_low, bit_at_not}
-use Rattle.std.proofs.lemmas.Nat.Bits.{bit_at_ones, bit_at_or}
+use Rattle.std.proofs.lemmas.Nat.Bits.{bit_at_cat_high, bit_at_cat_low, bit_at_not, bit_at_or}
 use Rattle.std.proofs.lemmas.Simd.{bit_mask_l, bitmask_splat, get_or-chunk, length-chunk, mask_l-lt}
 use lib.Lanes.{chunk, mask_l, top, zip2}
 use Rattle.sixel_encode.specs.Gaps.{AreBlanks, AreBlanksFrom, AreEndBits, IsGapEnd}
@@ -105,28 +104,19 @@ blanks_later at own before bytes far few₁ few₂ are₁ are₂ i lt =
 
 -- ---- the ends among them
 
-abbrev pub ends_of : ℕ → ℕ
-ends_of blank =
-    bit_and (bit_and (bit_and (bit_and (bit_and blank (blank / 2 ^ 1)) (blank / 2 ^ 2)) (blank / 2 ^ 3))
-    (2 ^ 64 - 1 - blank / 2 ^ 4)) (2 ^ 32 - 1)
+-- the mask has the columns whose four bits before are set, and whose own isn't
+abbrev pub AreEndsOf : ℕ → ℕ → Type 0
+AreEndsOf blank bits = (j : ℕ) → j < 32
+    → (bit_at bits j ≡ 1 → (1 ≤ bit_at blank j) × (1 ≤ bit_at blank (1 + j)) × (1 ≤ bit_at blank (2 + j))
+    × (1 ≤ bit_at blank (3 + j)) × (bit_at blank (4 + j) ≡ 0))
+    × (bit_at blank j ≡ 1 → bit_at blank (1 + j) ≡ 1 → bit_at blank (2 + j) ≡ 1 → bit_at blank (3 + j) ≡ 1
+    → bit_at blank (4 + j) ≡ 0 → bit_at bits j ≡ 1)
 
-bits_of_ends : (blank j : ℕ) → blank < 2 ^ 36 → j < 32
-    → bit_at (ends_of blank) j
-    ≡ min (min (min (min (min (bit_at blank j) (bit_at blank (1 + j))) (bit_at blank (2 + j))) (bit_at blank (3 + j)))
-    (1 - bit_at blank (4 + j))) 1
-bits_of_ends blank j few lt =
-    let a = bit_and blank (blank / 2 ^ 1) in
-    let b = bit_and a (blank / 2 ^ 2) in
-    let c = bit_and b (blank / 2 ^ 3) in
-    let d = bit_and c (2 ^ 64 - 1 - blank / 2 ^ 4) in
-    let e₁ = bit_at_and blank (blank / 2 ^ 1) j ∙ ap (min (bit_at blank j)) (bit_shifted blank 1 j) in
-    let e₂ = bit_at_and a (blank / 2 ^ 2) j ∙ ap₂ min e₁ (bit_shifted blank 2 j) in
-    let e₃ = bit_at_and b (blank / 2 ^ 3) j ∙ ap₂ min e₂ (bit_shifted blank 3 j) in
-    let turned : bit_at (2 ^ 64 - 1 - blank / 2 ^ 4) j ≡ 1 - bit_at (blank / 2 ^ 4) j =
-    bit_at_not w64 (blank / 2 ^ 4) j (omega arith) (omega arith) in
-    let e₄ = bit_at_and c (2 ^ 64 - 1 - blank / 2 ^ 4) j
-    ∙ ap₂ min e₃ (turned ∙ ap (λ (n : ℕ). 1 - n) (bit_shifted blank 4 j)) in
-    bit_at_and d (2 ^ 32 - 1) j ∙ ap₂ min e₄ (bit_at_ones 32 j lt)
+-- the bits that are clear
+pub bit_turned : (blank j : ℕ) → blank < 2 ^ 36 → j < 32
+    → bit_at (2 ^ 64 - 1 - blank / 2 ^ 4) j ≡ 1 - bit_at blank (4 + j)
+bit_turned blank j few lt =
+    bit_at_not w64 (blank / 2 ^ 4) j (omega arith) (omega arith) ∙ ap (λ (n : ℕ). 1 - n) (bit_shifted blank 4 j)
 
 one_true : (t : Bool) → ◌≡◌ {A = ℕ} (if t then 1 else 0) 1 → t ≡ true
 one_true true e = refl
@@ -188,21 +178,18 @@ ink_is_clear at blank i bytes are lt other =
     are i lt ∙ ap (λ (t : Bool). if nat_le 4 (at + i) && t then 1 else 0) (ne_eqb _ 63 other)
     ∙ ap (λ (t : Bool). if t then 1 else 0) (and_false (nat_le 4 (at + i)))
 
-all_set : (a b c d e : ℕ) → a ≡ 1 → b ≡ 1 → c ≡ 1 → d ≡ 1 → e ≡ 0
-    → min (min (min (min (min a b) c) d) (1 - e)) 1 ≡ 1
-all_set a b c d e e₁ e₂ e₃ e₄ e₅ = rw (e₁, e₂, e₃, e₄, e₅) refl
-
-pub ends_are : (at blank : ℕ) (bytes : List ℕ) → at + 32 ≤ length bytes → blank < 2 ^ 36
-    → AreBlanksFrom at bytes blank → AreEndBits at bytes (ends_of blank)
-ends_are at blank bytes room few are j lt =
-    let is = bits_of_ends blank j few lt in
+pub ends_are : (at blank bits : ℕ) (bytes : List ℕ) → at + 32 ≤ length bytes → AreBlanksFrom at bytes blank
+    → AreEndsOf blank bits → AreEndBits at bytes bits
+ends_are at blank bits bytes room are each j lt =
+    let is = each j lt in
     let l₀ = bit_at-lt blank j in
     let l₁ = bit_at-lt blank (1 + j) in
     let l₂ = bit_at-lt blank (2 + j) in
-    let l₃ = bit_at-lt blank (3 + j) in
-    let l₄ = bit_at-lt blank (4 + j) in (
-      λ set. set_is_end at blank j bytes room lt are (omega (arith, is, set, l₀)) (omega (arith, is, set, l₁))
-          (omega (arith, is, set, l₂)) (omega (arith, is, set, l₃)) (omega (arith, is, set, l₄)),
+    let l₃ = bit_at-lt blank (3 + j) in (
+      λ set.
+          let all = is.0 set in
+          set_is_end at blank j bytes room lt are (omega (arith, all.0, l₀)) (omega (arith, all.1, l₁))
+          (omega (arith, all.2, l₂)) (omega (arith, all.3, l₃)) all.4,
       λ e.
           let one : (m : ℕ) → m < 4 → bit_at blank (m + j) ≡ 1 =
           λ m less. blank_is_set at blank (m + j) bytes are (omega arith) (omega (arith, e.after))
@@ -211,7 +198,6 @@ ends_are at blank bytes room few are j lt =
           let none : bit_at blank (4 + j) ≡ 0 = ink_is_clear at blank (4 + j) bytes are (omega arith)
           (λ ink. e.ink (ap (λ (n : ℕ). slice_index bytes n) (sym place) ∙ ink)) in
           let here : 0 + j ≡ j = omega arith in
-          is
-          ∙ all_set _ _ _ _ _ (ap (bit_at blank) (sym here) ∙ one 0 (omega arith)) (one 1 (omega arith))
-          (one 2 (omega arith)) (one 3 (omega arith)) none,
+          is.1 (ap (bit_at blank) (sym here) ∙ one 0 (omega arith)) (one 1 (omega arith)) (one 2 (omega arith))
+          (one 3 (omega arith)) none,
     )

@@ -1,5 +1,5 @@
 -- Bytes behind the text of a line.
-use Rattle.std.proofs.Common.{◌≡◌, ℕ, ◌+◌, ◌-◌, ◌≤◌, Bool, true, List, [], ◌∷◌, ◌++◌, drop, length}
+use Rattle.std.proofs.Common.{◌≡◌, ℕ, ◌+◌, ◌≤◌, Bool, true, List, [], ◌∷◌, ◌++◌, drop, length}
 use Rattle.std.proofs.Common.{replicate, take, sym, ap}
 use Rattle.std.proofs.Common.{◌∙◌, arith}
 use Rattle.std.specs.Prelude.{decimal, nat_le, if◌then◌else◌}
@@ -48,13 +48,12 @@ run_spelled count bits digits enough is =
 -- ---- the parts of a text, one after another
 
 -- the text up to the end of a part
-pub part_next : (from to : ℕ) (xs : List ℕ) → from ≤ to → take to xs ≡ take from xs ++ take (to - from) (drop from xs)
-part_next from to xs le =
-    let sum : from + (to - from) ≡ to = omega arith in
-    ap (λ (n : ℕ). take n xs) (sym sum) ∙ take-add from (to - from) xs
+pub part_next : (from to n : ℕ) (xs : List ℕ) → from + n ≡ to
+    → take to xs ≡ take from xs ++ take n (drop from xs)
+part_next from to n xs sum = ap (λ (m : ℕ). take m xs) (sym sum) ∙ take-add from n xs
 
 -- the whole text
-pub part_cut : (from to : ℕ) (xs : List ℕ) → from ≤ to
-    → xs ≡ (take from xs ++ take (to - from) (drop from xs)) ++ drop to xs
-part_cut from to xs le =
-    sym (take-append-drop to xs) ∙ ap (λ (t : List ℕ). t ++ drop to xs) (part_next from to xs le)
+pub part_cut : (from to n : ℕ) (xs : List ℕ) → from + n ≡ to
+    → xs ≡ (take from xs ++ take n (drop from xs)) ++ drop to xs
+part_cut from to n xs sum =
+    sym (take-append-drop to xs) ∙ ap (λ (t : List ℕ). t ++ drop to xs) (part_next from to n xs sum)

@@ -9,6 +9,16 @@ pub bit_shifted : (n k i : ℕ) → bit_at (n / 2 ^ k) i ≡ bit_at n (k + i)
 bit_shifted n k i =
     ap (λ (m : ℕ). m % 2) (div-div-eq-div-mul n (2 ^ k) (2 ^ i) ∙ ap (λ (m : ℕ). n / m) (sym (pow-add 2 k i)))
 
+-- the same for a mask moved by few bits
+pub bit_halved : (n i : ℕ) → bit_at (n / 2) i ≡ bit_at n (1 + i)
+bit_halved n i = bit_shifted n 1 i
+
+pub bit_quartered : (n i : ℕ) → bit_at (n / 4) i ≡ bit_at n (2 + i)
+bit_quartered n i = bit_shifted n 2 i
+
+pub bit_eighth : (n i : ℕ) → bit_at (n / 8) i ≡ bit_at n (3 + i)
+bit_eighth n i = bit_shifted n 3 i
+
 -- if no bit from k on is set, bit g isn't
 pub none_left : (n k g : ℕ) → n / 2 ^ k ≡ 0 → k ≤ g → bit_at n g ≡ 0
 none_left n k g none low =

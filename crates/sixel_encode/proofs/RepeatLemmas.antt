@@ -1,17 +1,16 @@
 -- Finding four equal bytes, many indices at once.
-use Rattle.std.proofs.Common.{◌≡◌, ◌≢◌, ◌==◌, ℕ, ◌+◌, ◌-◌, ◌/◌, ◌%◌, ◌^◌, ◌<◌, ◌≤◌, Bool, true, false, ◌&&◌, cond}
+use Rattle.std.proofs.Common.{◌≡◌, ◌≢◌, ◌==◌, ℕ, ◌+◌, ◌-◌, ◌%◌, ◌^◌, ◌<◌, ◌≤◌, Bool, true, false, ◌&&◌, cond}
 use Rattle.std.proofs.Common.{List, length, get_or, map, min, replicate, w8, w64, inl, inr, refl, sym, ap, ap₂}
-use Rattle.std.proofs.Common.{◌∙◌, arith, bit_and}
+use Rattle.std.proofs.Common.{◌∙◌, arith}
 use Rattle.std.specs.Int.{bit_at, trailing_zeros}
 use Rattle.std.proofs.lemmas.Bool.{cases_eq, cases_lt, ne_eqb}
-use Rattle.std.proofs.lemmas.Nat.{and_le_l}
-use Rattle.std.proofs.lemmas.Nat.Bits.{bit_at-trailing_zeros, bit_at-zero, bit_at_and}
+use Rattle.std.proofs.lemmas.Nat.Bits.{bit_at-trailing_zeros, bit_at-zero}
 use Rattle.std.proofs.lemmas.Simd.{bit_mask_l, get_or-chunk, get_or-replicate, get_or-sel_l}
 use Rattle.std.proofs.lemmas.Simd.{get_or-zip2, length-chunk, length-replicate, length-sel_l, length-zip2}
 use Rattle.std.proofs.lemmas.Simd.{mask_l-lt, mask_l-mod, tops_compared}
 use lib.Lanes.{chunk, mask_l, sel_l, top, zip2}
 use Rattle.sixel_encode.specs.Columns.{ArePairs, NoFour, are_four}
-use Rattle.sixel_encode.proofs.MaskLemmas.{bit_shifted, none_left}
+use Rattle.sixel_encode.proofs.MaskLemmas.{none_left}
 
 -- which lanes of two groups are equal
 abbrev pub tests : List ℕ → List ℕ → List Bool
@@ -78,9 +77,10 @@ pairs_few at pairs bytes room is =
     let most : mask_l (tests v w) < 2 ^ length (tests v w) = mask_l-lt (tests v w) in
     rw same (rw size at most)
 
--- the columns at which three pairs begin
-abbrev pub begun_of : ℕ → ℕ
-begun_of pairs = bit_and (bit_and pairs (pairs / 2 ^ 1)) (pairs / 2 ^ 2)
+-- the mask has the columns at which three pairs begin
+abbrev pub AreBegun : ℕ → ℕ → Type 0
+AreBegun pairs begun =
+    (j : ℕ) → bit_at begun j ≡ min (min (bit_at pairs j) (bit_at pairs (1 + j))) (bit_at pairs (2 + j))
 
 three_bits : (s t u : Bool) → min (min (cond s 1 0) (cond t 1 0)) (cond u 1 0) ≡ cond (s && (t && u)) 1 0
 three_bits true true true = refl
@@ -92,13 +92,6 @@ three_bits false true false = refl
 three_bits false false true = refl
 three_bits false false false = refl
 
-bits_of_begun : (pairs j : ℕ)
-    → bit_at (begun_of pairs) j ≡ min (min (bit_at pairs j) (bit_at pairs (1 + j))) (bit_at pairs (2 + j))
-bits_of_begun pairs j =
-    bit_at_and (bit_and pairs (pairs / 2 ^ 1)) (pairs / 2 ^ 2) j
-    ∙ ap₂ min (bit_at_and pairs (pairs / 2 ^ 1) j ∙ ap (min (bit_at pairs j)) (bit_shifted pairs 1 j))
-    (bit_shifted pairs 2 j)
-
 -- a chain of equal neighbours
 chain : (a b c d : ℕ) → ((a == b) && ((b == c) && (c == d))) ≡ ((a == b) && ((a == c) && (a == d)))
 chain a b c d = elim (cases_eq a b) [
@@ -109,9 +102,9 @@ chain a b c d = elim (cases_eq a b) [
   ])
 ]
 
-begun_at : (at j pairs : ℕ) (bytes : List ℕ) → ArePairs at bytes pairs → j < 30
-    → bit_at (begun_of pairs) j ≡ cond (are_four bytes (at + j)) 1 0
-begun_at at j pairs bytes are lt =
+begun_at : (at j pairs begun : ℕ) (bytes : List ℕ) → ArePairs at bytes pairs → AreBegun pairs begun → j < 30
+    → bit_at begun j ≡ cond (are_four bytes (at + j)) 1 0
+begun_at at j pairs begun bytes are is lt =
     let one : at + (1 + j) ≡ at + j + 1 = omega arith in
     let two : at + (2 + j) ≡ at + j + 2 = omega arith in
     let one_more : at + j + 1 + 1 ≡ at + j + 2 = omega arith in
@@ -122,18 +115,18 @@ begun_at at j pairs bytes are lt =
     let d = get_or bytes (at + j + 3) 0 in
     let second : bit_at pairs (1 + j) ≡ cond (b == c) 1 0 = rw (one, one_more) at (are (1 + j) (omega arith)) in
     let third : bit_at pairs (2 + j) ≡ cond (c == d) 1 0 = rw (two, two_more) at (are (2 + j) (omega arith)) in
-    bits_of_begun pairs j
+    is j
     ∙ ap₂ min (ap₂ min (are j (omega arith)) second) third
     ∙ three_bits (a == b) (b == c) (c == d)
     ∙ ap (λ (t : Bool). cond t 1 0) (chain a b c d)
 
 -- no repeat begins behind the last pair but two
-begun_small : (pairs r : ℕ) → pairs < 2 ^ 32 → bit_at (begun_of pairs) r ≡ 1 → r < 30
-begun_small pairs r few set = elim (cases_lt r 30) [
+begun_small : (pairs begun r : ℕ) → pairs < 2 ^ 32 → AreBegun pairs begun → bit_at begun r ≡ 1 → r < 30
+begun_small pairs begun r few are set = elim (cases_lt r 30) [
   | inl less ↦ less
   | inr past ↦
       let none : bit_at pairs (2 + r) ≡ 0 = none_left pairs 32 (2 + r) (omega arith) (omega arith) in
-      let is = bits_of_begun pairs r in
+      let is = are r in
       absurd (omega arith)
 ]
 
@@ -146,33 +139,31 @@ set_four true e = refl
 set_four false e = absurd (omega arith)
 
 -- the columns before one whose lower bits are clear
-singles_below : (at r pairs : ℕ) (bytes : List ℕ) → ArePairs at bytes pairs → r ≤ 30
-    → ((i : ℕ) → i < r → bit_at (begun_of pairs) i ≡ 0) → NoFour at (at + r) bytes
-singles_below at r pairs bytes are most clear k low high room =
+singles_below : (at r pairs begun : ℕ) (bytes : List ℕ) → ArePairs at bytes pairs → AreBegun pairs begun → r ≤ 30
+    → ((i : ℕ) → i < r → bit_at begun i ≡ 0) → NoFour at (at + r) bytes
+singles_below at r pairs begun bytes are is most clear k low high room =
     let back : at + (k - at) ≡ k = omega arith in
     let inner : k - at < r = omega arith in
     ap (are_four bytes) (sym back)
     ∙ clear_four (are_four bytes (at + (k - at)))
-    (sym (begun_at at (k - at) pairs bytes are (omega arith)) ∙ clear (k - at) inner)
+    (sym (begun_at at (k - at) pairs begun bytes are is (omega arith)) ∙ clear (k - at) inner)
 
 -- no bit is set
-pub begun_none : (at pairs : ℕ) (bytes : List ℕ) → ArePairs at bytes pairs → begun_of pairs ≡ 0
+pub begun_none : (at pairs begun : ℕ) (bytes : List ℕ) → ArePairs at bytes pairs → begun ≡ 0 → AreBegun pairs begun
     → NoFour at (at + 30) bytes
-begun_none at pairs bytes are none =
-    singles_below at 30 pairs bytes are (omega arith)
+begun_none at pairs begun bytes are none is =
+    singles_below at 30 pairs begun bytes are is (omega arith)
     (λ i lt. ap (λ (n : ℕ). bit_at n i) none ∙ bit_at-zero i)
 
 -- the lowest set bit
-pub begun_first : (at pairs : ℕ) (bytes : List ℕ) → ArePairs at bytes pairs → pairs < 2 ^ 32 → begun_of pairs ≢ 0
-    → (trailing_zeros w64 (begun_of pairs) < 30)
-    × NoFour at (at + trailing_zeros w64 (begun_of pairs)) bytes
-    × (are_four bytes (at + trailing_zeros w64 (begun_of pairs)) ≡ true)
-begun_first at pairs bytes are few some =
-    let most : begun_of pairs < 2 ^ 64 =
-    omega (arith, and_le_l (bit_and pairs (pairs / 2 ^ 1)) (pairs / 2 ^ 2), and_le_l pairs (pairs / 2 ^ 1)) in
-    let lowest = bit_at-trailing_zeros w64 (begun_of pairs) (omega arith) most in
-    let small = begun_small pairs (trailing_zeros w64 (begun_of pairs)) few lowest.1 in (
+pub begun_first : (at pairs begun : ℕ) (bytes : List ℕ) → ArePairs at bytes pairs → pairs < 2 ^ 32 → begun ≢ 0
+    → begun < 2 ^ 64 → AreBegun pairs begun
+    → (trailing_zeros w64 begun < 30) × NoFour at (at + trailing_zeros w64 begun) bytes
+    × (are_four bytes (at + trailing_zeros w64 begun) ≡ true)
+begun_first at pairs begun bytes are few some most is =
+    let lowest = bit_at-trailing_zeros w64 begun (omega arith) most in
+    let small = begun_small pairs begun (trailing_zeros w64 begun) few is lowest.1 in (
       small,
-      singles_below at (trailing_zeros w64 (begun_of pairs)) pairs bytes are (omega arith) lowest.2,
-      set_four _ (sym (begun_at at (trailing_zeros w64 (begun_of pairs)) pairs bytes are small) ∙ lowest.1),
+      singles_below at (trailing_zeros w64 begun) pairs begun bytes are is (omega arith) lowest.2,
+      set_four _ (sym (begun_at at (trailing_zeros w64 begun) pairs begun bytes are is small) ∙ lowest.1),
     )

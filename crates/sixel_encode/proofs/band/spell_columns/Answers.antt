@@ -27,7 +27,7 @@ returns-then-sixels-start-eq63-clause-text c =
     c.put_part-at.ensures.text
     ∙ sym (inv.text ∙ ap (λ (t : List _). take c.loop-start.at c.loop-start.text ++ t)
     (blank_end xs c.loop-start.from c.in-Some.start c.run_end-end.result.0 c.requires.sixels c.in-Some.ensures
-    c.run_end-end.ensures.run c.if-end-sixels.true c.if-sixels-start-eq63.true))
+    c.run_end-end.ensures.run (omega (arith, c.if-end-sixels.true)) c.if-sixels-start-eq63.true))
 
 pub loop-start-preserved : goal.loop-start-preserved
 loop-start-preserved c =
@@ -37,7 +37,7 @@ loop-start-preserved c =
     elim c.else-end-sixels.branch [
       | else-end-sixels-via-then-end-sixels+else-sixels-start-eq63 w ↦
           λ done blank. w.if-sixels-start-eq63.false blank
-      | else-end-sixels-via-else-end-sixels w ↦ λ done blank. w.if-end-sixels.false done
+      | else-end-sixels-via-else-end-sixels w ↦ λ done blank. absurd (omega (arith, w.if-end-sixels.false, done))
     ] in
     let more = next_text xs c.loop-start.from c.in-Some.start c.run_end-end.result.0 c.requires.sixels
     c.in-Some.ensures c.run_end-end.ensures.run some in

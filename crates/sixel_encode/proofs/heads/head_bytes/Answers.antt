@@ -7,5 +7,5 @@ returns-then-count-lt10 c = is-one c.args.count _ c.if-count-lt10.true c.digit.e
 
 pub returns-else-count-lt10 : goal.returns-else-count-lt10
 returns-else-count-lt10 c =
-    is-two c.args.count _ _ (omega (arith, c.if-count-lt10.false)) c.requires c.digit-else-count-lt10.ensures
-    c.digit-else-count-lt10-2.ensures
+    is-two c.args.count _ _ (omega (arith, c.if-count-lt10.false)) c.requires
+    (omega (arith, c.digit-else-count-lt10.ensures)) (omega (arith, c.digit-else-count-lt10-2.ensures))

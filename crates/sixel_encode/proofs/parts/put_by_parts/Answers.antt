@@ -10,7 +10,7 @@ loop-from-init g c = record { put = through-none; within = omega arith }
 
 pub loop-from-preserved : goal.loop-from-preserved
 loop-from-preserved g c = record {
-  put = through-next (part_next c.loop-from.from c.part_end-end.result c.args.columns.now (omega arith))
+  put = through-next (part_next c.loop-from.from c.part_end-end.result _ c.args.columns.now (omega arith))
       c.loop-from.invariant.put (through-whole _ c.in_ok-put.ensures);
   within = c.part_end-end.ensures.within;
 }
@@ -20,7 +20,7 @@ returns-in_err-put g c =
     let failed = err_from_is_err_and c.from_residual.result c.from_residual.ensures.1 in
     rw failed.1
     (through-stopped (drop c.part_end-end.result c.args.columns.now)
-    (part_cut c.loop-from.from c.part_end-end.result c.args.columns.now (omega arith))
+    (part_cut c.loop-from.from c.part_end-end.result _ c.args.columns.now (omega arith))
     c.loop-from.invariant.put (through-whole _ c.in_err-put.ensures))
 
 pub returns : goal.returns

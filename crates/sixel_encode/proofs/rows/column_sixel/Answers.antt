@@ -1,4 +1,4 @@
-use Rattle.std.proofs.Common.{◌≡◌, true, false, sym, ◌∙◌}
+use Rattle.std.proofs.Common.{◌≡◌, true, false, refl, sym, ◌∙◌}
 use Rattle.std.proofs.lemmas.Bool.{eq-eqb, leb-false, leb-true, ne_eqb}
 use Rattle.sixel_encode.specs.Columns.{is_in_row}
 use Rattle.sixel_encode.proofs.AddedLemmas.{row_missing, row_there, spells_more, spells_same}
@@ -18,10 +18,10 @@ loop-row-preserved c =
     elim c.if-is_there.branch [
       | then-is_there+then-rows-start w ↦
           rw w.sixel-is
-          (spells_more has row c.loop-row.sixel true c.loop-row-test.true
+          (spells_more has row c.loop-row.sixel _ true c.loop-row-test.true
           (row_there rows width register x row true (leb-true _ _ (sym c.is_there.ensures ∙ w.if-is_there.true))
           (eq-eqb _ _ w.if-rows-start.true))
-          c.loop-row.invariant)
+          refl c.loop-row.invariant)
       | else-is_there w ↦
           let gone : has row ≡ false = elim w.else-is_there.branch [
             | else-is_there-via-then-is_there+else-rows-start v ↦

@@ -1,4 +1,4 @@
-use Rattle.std.proofs.Common.{◌≡◌, ◌==◌, ◌+◌, ◌*◌, Bool, get_or, refl, arith}
+use Rattle.std.proofs.Common.{◌≡◌, ◌==◌, ◌+◌, ◌*◌, Bool, get_or, refl, ◌∙◌, arith}
 use Rattle.std.proofs.lemmas.Simd.{get_or-replicate}
 use Rattle.sixel_encode.specs.Columns.{is_in_row}
 use Rattle.sixel_encode.proofs.AddedLemmas.{row_missing, row_there, spells_more, spells_same}
@@ -8,7 +8,7 @@ use Rattle.sixel_encode.proofs.rows.last_sixels.Goals.{then-start-width, else-st
 pub loop-row-init : goal.loop-row-init
 loop-row-init c = record {
   long = refl;
-  spelled = λ j lt. (get_or-replicate 32 j 63 0 lt, omega arith);
+  spelled = λ j lt. (get_or-replicate 32 j _ 0 lt ∙ omega arith, omega arith);
 }
 
 pub loop-row-preserved : goal.loop-row-preserved
@@ -30,7 +30,7 @@ loop-row-preserved c =
                 row_there rows width register x row own (omega (arith, w.if-start-width.true)) refl in
                 let added = w.with_row-sixels.ensures.added j lt in
                 rw (rw at at added)
-                (spells_more has row (get_or c.loop-row.sixels j 0) own c.loop-row-test.true is
+                (spells_more has row (get_or c.loop-row.sixels j 0) _ own c.loop-row-test.true is refl
                 (c.loop-row.invariant.spelled j lt));
           })
       | else-start-width w ↦

@@ -1,4 +1,4 @@
-use Rattle.std.proofs.Common.{◌≡◌, ◌==◌, ◌+◌, ◌*◌, Bool, get_or, length, refl, arith}
+use Rattle.std.proofs.Common.{◌≡◌, ◌==◌, ℕ, ◌+◌, ◌*◌, ◌%◌, ◌^◌, Bool, get_or, length, refl, ap, arith}
 use Rattle.std.proofs.lemmas.Simd.{get_or-replicate}
 use Rattle.sixel_encode.specs.Columns.{is_in_row}
 use Rattle.sixel_encode.proofs.AddedLemmas.{row_there, spells_more}
@@ -29,8 +29,8 @@ loop-row-preserved c =
           (row_inside row width (length rows) c.loop-row-test.true c.requires.whole) refl in
           let added = c.with_row-group.ensures.added j lt in
           rw (rw at at added)
-          (spells_more has row (get_or c.loop-row.group j 0) own c.loop-row-test.true is
-          (c.loop-row.invariant.spelled j lt));
+          (spells_more has row (get_or c.loop-row.group j 0) _ own c.loop-row-test.true is
+          (ap (λ (k : ℕ). 1 * 2 ^ k % 256) (omega arith)) (c.loop-row.invariant.spelled j lt));
     }
 
 pub returns-clause-bits : goal.returns-clause-bits

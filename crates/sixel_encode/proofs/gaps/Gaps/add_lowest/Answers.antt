@@ -1,4 +1,4 @@
-use Rattle.std.proofs.Common.{arith, refl}
+use Rattle.std.proofs.Common.{arith}
 use Rattle.sixel_encode.proofs.GapItemLemmas.{lowest_added, lowest_is, rest_is, rest_less}
 use Rattle.sixel_encode.proofs.gaps.Gaps.add_lowest.Goals as goal
 
@@ -9,7 +9,7 @@ pub returns-clause-added : goal.returns-clause-added
 returns-clause-added c = λ bytes are.
     let lowest = lowest_is c.args.left c.requires.few in
     lowest_added c.args.at c.args.left _ _ _ c.from.result bytes c.args.self.now.ends c.args.self.now.count lowest
-    (rest_is c.args.left _ (omega (arith, lowest.most))) refl c.from.ensures (omega (arith, c.requires.room)) are
+    (rest_is c.args.left _ (omega (arith, lowest.most))) (omega arith) c.from.ensures (omega (arith, c.requires.room)) are
 
 pub returns-clause-fewer : goal.returns-clause-fewer
 returns-clause-fewer c = λ some.
