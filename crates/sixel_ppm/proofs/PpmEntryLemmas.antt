@@ -45,14 +45,15 @@ whole_key : (red green blue x n : ℕ) → x < 256 → entry_of red green blue x
 whole_key red green blue x n lt e = omega (arith, lt, e)
 
 -- four numbers whose bits together are below 256
-pub four_below : (a b c d : ℕ) → bit_or (bit_or (bit_or a b) c) d < 256 → (a < 256) × (b < 256) × (c < 256) × (d < 256)
-four_below a b c d lt =
+pub four_below : (a b c d e : ℕ) → bit_or (bit_or (bit_or a b) c) e < 256 → d ≡ e
+    → (a < 256) × (b < 256) × (c < 256) × (d < 256)
+four_below a b c d e lt is =
     let ab = bit_or a b in
     let abc = bit_or ab c in (
-      omega (arith, lt, le_or_l a b, le_or_l ab c, le_or_l abc d),
-      omega (arith, lt, le_or_r a b, le_or_l ab c, le_or_l abc d),
-      omega (arith, lt, le_or_r ab c, le_or_l abc d),
-      omega (arith, lt, le_or_r abc d),
+      omega (arith, lt, le_or_l a b, le_or_l ab c, le_or_l abc e),
+      omega (arith, lt, le_or_r a b, le_or_l ab c, le_or_l abc e),
+      omega (arith, lt, le_or_r ab c, le_or_l abc e),
+      omega (arith, lt, is, le_or_r abc e),
     )
 
 -- ---- what the cache holds

@@ -1,4 +1,4 @@
-use Rattle.std.proofs.Common.{refl, sym}
+use Rattle.std.proofs.Common.{ℕ, Some, ◌∙◌, ap, arith, refl, sym}
 use Rattle.sixel_ppm.proofs.PpmColourLemmas.{numbered_before}
 use Rattle.sixel_ppm.proofs.PpmPixelCacheLemmas.{still_cached}
 use Rattle.sixel_ppm.proofs.ppm.numbering.number_by.Goals as goal
@@ -25,4 +25,4 @@ returns-in-Some-register_of-clause-knows c =
     c.keep.ensures c.register_of.new.self.palette
     (still_cached c.args.cache.now 100 c.args.colours.now.palette c.register_of.new.self.palette
     (c.register_of.ensures.kept c.requires.unused).1 c.requires.knows)
-    c.in-Some-register_of.ensures.first
+    (c.in-Some-register_of.ensures.first ∙ ap (λ (r : ℕ). Some r) (omega arith))
