@@ -67,10 +67,11 @@ unfolding place_of
 place_elsewhere = refl
 
 -- an empty cache: each entry belongs in another place
-pub none_cached : (cache : PixelCache) (maxval : ℕ) (palette : List (Option Parts))
-    → cache.entries ≡ slice_set (replicate 4096 0) 0 256 → cache.place ≡ 0 → cache.overwritten ≡ 256
-    → Knows cache maxval palette
-none_cached cache maxval palette is first none =
+pub none_cached : (cache : PixelCache) (maxval : ℕ) (palette : List (Option Parts)) (entry : ℕ)
+    → cache.entries ≡ slice_set (replicate 4096 0) 0 entry → entry ≡ 256 → cache.place ≡ 0
+    → cache.overwritten ≡ 256 → Knows cache maxval palette
+none_cached cache maxval palette entry set elsewhere first none =
+    let is : cache.entries ≡ slice_set (replicate 4096 0) 0 256 = rw elsewhere at set in
     let zeros : List ℕ = replicate 4096 0 in
     let many : length zeros ≡ 4096 = length-replicate {A = ℕ} 4096 0 in
     record {
