@@ -1,5 +1,5 @@
 -- On the raster attributes at which a survey may allocate.
-use Rattle.std.proofs.Common.{◌≡◌, ℕ, Option, Some, None, List, [], ◌∷◌, ◌++◌, length, sym, ap, subst, ◌∙◌}
+use Rattle.std.proofs.Common.{◌≡◌, ℕ, Option, Some, None, List, [], ◌∷◌, ◌++◌, length, sym, ap, ap₂, subst, ◌∙◌}
 use Rattle.std.proofs.Common.{◌+◌, ◌-◌, append_assoc, drop, take}
 use Rattle.std.specs.Option.{option_to_list}
 use Rattle.std.proofs.lemmas.List.{append-nil, take_rest}
@@ -94,7 +94,7 @@ after_byte registers old new kept more c prefix byte takes keeps a = record {
 
 -- ---- a run of columns
 
-pub run_events : (seen : List Placed) (run : Run) (piece : List ℕ)
+run_events : (seen : List Placed) (run : Run) (piece : List ℕ)
     → (seen ++ select_events run.place run.select) ++ column_events (run.place + run.start) run.columns
     (take (run.length - run.start) (take (length piece - run.start) (drop run.start piece)))
     ≡ seen ++ events_of_run run piece
@@ -105,3 +105,16 @@ run_events seen run piece =
     ∙ ap (λ (t : List ℕ).
     seen ++ (first ++ column_events (run.place + run.start) run.columns (take (run.length - run.start) t)))
     (take_rest piece run.start)
+
+-- what holds after a select and columns, which are the run's, holds after the run
+pub run_taken : (P : List Placed → Type 0) (seen : List Placed) (run : Run) (piece : List ℕ) (place : ℕ)
+    (select : Option ℕ)
+    → P ((seen ++ select_events run.place select) ++ column_events place run.columns
+    (take (run.length - run.start) (take (length piece - run.start) (drop run.start piece))))
+    → place ≡ run.place + run.start → select ≡ run.select → P (seen ++ events_of_run run piece)
+run_taken P seen run piece place select taken at same =
+    let columns = take (run.length - run.start) (take (length piece - run.start) (drop run.start piece)) in
+    subst P
+    (ap₂ (λ (n : ℕ) (o : Option ℕ). (seen ++ select_events run.place o) ++ column_events n run.columns columns) at same
+    ∙ run_events seen run piece)
+    taken

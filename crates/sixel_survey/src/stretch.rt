@@ -1,7 +1,7 @@
 //! Surveying stretches of sixels.
 
 ghost use Rattle.std.specs.Prelude.{◌≡◌, ◌<◌, ◌≤◌, ◌+◌, ◌-◌, ◌*◌, ◌++◌, ◌∷◌, ◌||◌, [], ℕ, List, IsTrue, false, length};
-ghost use Rattle.std.specs.Prelude.{Some, slice_index, take, true, unwrap_or};
+ghost use Rattle.std.specs.Prelude.{slice_index, take, true};
 ghost use Rattle.std.specs.Option.{option_map};
 ghost use Rattle.sixel_grammar.specs.Bytes.{is_data};
 ghost use Rattle.sixel_grammar.specs.Document.{events_of, most_bytes};
@@ -76,17 +76,6 @@ pub(crate) fn paints(stretch: &[u8]) -> bool
     false
 }
 
-/// The first offset, or the other one if there is none.
-#[inline(always)]
-fn first_of(first: Option<u64>, other: u64) -> Option<u64>
-    ensures { result ≡ Some (unwrap_or first other) }
-{
-    match first {
-        Some(place) => Some(place),
-        None => Some(other),
-    }
-}
-
 /// The tally of a rule that counts at each sixel of a stretch that paints, and at the others too if `blank_too`.
 #[inline(never)]
 fn counted_stretch(
@@ -106,7 +95,7 @@ fn counted_stretch(
     let mut more = 0;
     for (index, byte) in stretch.iter().enumerate() {
         if counts_at(*byte, blank_too) {
-            first = first_of(first, place + index as u64);
+            first = first.or(Some(place + index as u64));
             more += 1;
         }
     }

@@ -198,20 +198,21 @@ no_columns n w left top bytes ink xs = record {
       (sym (first_columns left top n 0 (i % w) (i / w) bytes (omega arith) ∙ no_row left (i % w) _));
 }
 
--- m columns from j on, which reach further than the k before
-pub stretched_over : (j k m n w left top : ℕ) (part bytes : List ℕ) (ink : Ink) (old mid new : List Ink)
+-- m columns from j on, at the place at, which reach further than the k before
+pub stretched_over : (j k m n w left top at : ℕ) (part bytes : List ℕ) (ink : Ink) (old mid new : List Ink)
     → part ≡ take m (drop j bytes) → j ≤ k → k ≤ j + m → j + m ≤ length bytes
     → IsStretchPainted n w left top (take k bytes) ink old mid → length new ≡ length mid
     → ((i : ℕ) → i < length mid
-    → get_or new i black ≡ cond (is_stretched (left + j) top n part (i % w) (i / w)) ink (get_or mid i black))
-    → IsStretchPainted n w left top (take (j + m) bytes) ink old new
-stretched_over j k m n w left top part bytes ink old mid new is most least within before long painted = record {
+    → get_or new i black ≡ cond (is_stretched at top n part (i % w) (i / w)) ink (get_or mid i black))
+    → at ≡ left + j → IsStretchPainted n w left top (take (j + m) bytes) ink old new
+stretched_over j k m n w left top at part bytes ink old mid new is most least within before long all place = record {
   long = long ∙ before.long;
   pixels = λ i below.
       let x = i % w in
       let y = i / w in
       let here = is_stretched (left + j) top n (take m (drop j bytes)) x y in
-      painted i (omega (arith, below, before.long))
+      all i (omega (arith, below, before.long))
+      ∙ ap (λ (l : ℕ). cond (is_stretched l top n part x y) ink (get_or mid i black)) place
       ∙ ap (λ (bs : List ℕ). cond (is_stretched (left + j) top n bs x y) ink (get_or mid i black)) is
       ∙ ap (λ o. cond here ink o) (before.pixels i below)
       ∙ sym (both_over (is_stretched left top n (take k bytes) x y) here ink (get_or old i black))

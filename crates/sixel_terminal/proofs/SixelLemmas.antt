@@ -1,14 +1,13 @@
 -- The bits that sixels have together, and sixels without bits.
 use Rattle.std.proofs.Common.{◌≡◌, ℕ, ◌+◌, ◌-◌, ◌*◌, ◌/◌, ◌%◌, ◌^◌, ◌<◌, Bool, true, false, ◌&&◌, ◌||◌, cond, List}
 use Rattle.std.proofs.Common.{length, get_or, nat_le, nat_lt, refl, sym, ap, ap₂, ◌∙◌, arith}
-use Rattle.std.proofs.Common.{[], ◌∷◌, ◌==◌, max, suc, zero, take, bit_or}
+use Rattle.std.proofs.Common.{[], ◌∷◌, ◌==◌, max, suc, zero, take}
 use Rattle.std.specs.List.{list_any}
 use Rattle.std.specs.Int.{bit_at}
 use Rattle.std.specs.Prelude.{slice_index}
 use Rattle.std.proofs.lemmas.Bool.{and_parts, leb-true, ltb-true}
 use Rattle.std.proofs.lemmas.List.Folds.{list_any_more}
 use Rattle.std.proofs.lemmas.Nat.Bits.{bit_at-lt, bit_at-zero}
-use Rattle.std.proofs.lemmas.Nat.Bits.{bit_at_or}
 use Rattle.std.proofs.lemmas.Nat.{div-add-mod'}
 use Rattle.std.proofs.lemmas.Nat.Bits.{bit_at_cat_low}
 use Rattle.sixel_model.specs.Geometry.{covers}
@@ -35,11 +34,13 @@ max_one (suc (suc a)) b p q = absurd (omega (arith, p))
 max_one zero (suc (suc b)) p q = absurd (omega (arith, q))
 max_one (suc zero) (suc (suc b)) p q = absurd (omega (arith, q))
 
-pub joined_more : (bits i : ℕ) (bytes : List ℕ) → i < length bytes → AreJoined bits (take i bytes)
-    → AreJoined (bit_or bits (slice_index bytes i - 63)) (take (i + 1) bytes)
-joined_more bits i bytes lt before = λ bit.
+-- the next bits are those so far and those of byte i
+pub joined_more : (bits next i : ℕ) (bytes : List ℕ) → i < length bytes → AreJoined bits (take i bytes)
+    → ((bit : ℕ) → bit_at next bit ≡ max (bit_at bits bit) (bit_at (slice_index bytes i - 63) bit))
+    → AreJoined next (take (i + 1) bytes)
+joined_more bits next i bytes lt before is = λ bit.
     let own = slice_index bytes i - 63 in
-    ap (λ n. n == 1) (bit_at_or bits own bit)
+    ap (λ n. n == 1) (is bit)
     ∙ max_one (bit_at bits bit) (bit_at own bit) (bit_at-lt bits bit) (bit_at-lt own bit)
     ∙ ap (λ (t : Bool). t || (bit_at own bit == 1)) (before bit)
     ∙ sym (list_any_more (λ b. has_bit b bit) bytes i 0 lt)

@@ -1,6 +1,13 @@
-use Rattle.std.proofs.Common.{◌<◌, ◌+◌, arith}
+use Rattle.std.proofs.Common.{◌≡◌, ◌<◌, ◌+◌, ◌∙◌, ℕ, ap, arith}
+use Rattle.sixel_model.specs.Grids.{Grid}
+use Rattle.sixel_survey.specs.Covering.{blank_cells_in_row}
 use Rattle.sixel_survey.proofs.CoverLemmas.{rows_fit, rows_more}
 use Rattle.sixel_survey.proofs.cover.count_rows.Goals as goal
+
+-- as many pixels of this row are blank
+same_count : (s : Grid) (row y count : ℕ) → count ≡ blank_cells_in_row s row s.width → row ≡ y
+    → count ≡ blank_cells_in_row s y s.width
+same_count s row y count is same = is ∙ ap (λ (n : ℕ). blank_cells_in_row s n s.width) same
 
 pub overflow_add-count : goal.overflow_add-count
 overflow_add-count g c =
@@ -25,5 +32,5 @@ loop-y-preserved g c =
       (rows_fit c.loop-y.y s.width s.height c.loop-y.count c.blank_in_row-count.result lt narrow low
           c.loop-y.invariant.0 row.few).0,
       rows_more s c.loop-y.y (c.loop-y.y + 1) c.loop-y.count c.blank_in_row-count.result (omega arith)
-          c.loop-y.invariant.1 row.value,
+          c.loop-y.invariant.1 (same_count s _ c.loop-y.y _ row.value (omega arith)),
     )

@@ -1,5 +1,7 @@
 use Rattle.std.proofs.Common.{◌≡◌, ◌<◌, ◌+◌, ◌||◌, ℕ, Bool, true, false, Option, None, Some, List}
 use Rattle.std.proofs.Common.{◌∙◌, arith, ap₂, length, refl, subst, sym}
+use Rattle.std.specs.Prelude.{unwrap_or}
+use Rattle.std.specs.Option.{option_or}
 use Rattle.sixel_grammar.specs.declared.command.Placed.{Placed}
 use Rattle.sixel_grammar.specs.Document.{events_of}
 use Rattle.sixel_model.specs.Events.{is_painting}
@@ -10,6 +12,10 @@ use Rattle.sixel_survey.proofs.StretchLemmas.{over_all, tally_more, tally_start}
 use Rattle.sixel_survey.proofs.TallyLemmas.{with_one_more}
 use Rattle.sixel_survey.proofs.stretch.counted_stretch.Goals as goal
 use Rattle.sixel_survey.proofs.stretch.counted_stretch.Goals.{then-counts_at, else-counts_at}
+
+or_some : (o : Option ℕ) (n : ℕ) → option_or o (Some n) ≡ Some (unwrap_or o n)
+or_some None n = refl
+or_some (Some m) n = refl
 
 some_not_none : (n : ℕ) (o : Option ℕ) → o ≡ Some n → o ≡ None → ⊥
 some_not_none n o some none = cc
@@ -36,7 +42,7 @@ loop-index-preserved c =
       | then-counts_at w ↦
           let yes : (c.args.blank_too || is_painting (sixel_at stretch k)) ≡ true =
           sym c.counts_at.ensures ∙ w.if-counts_at.true in
-          let first = w.first-is ∙ w.first_of-first.ensures in
+          let first = w.first-is ∙ w.or-first.ensures ∙ or_some c.loop-index.first (c.args.place + k) in
           let next = ap₂ all first w.more-is
           ∙ with_one_more rule (c.args.place + k) c.loop-index.more c.loop-index.first c.args.tally i.none in
           record {

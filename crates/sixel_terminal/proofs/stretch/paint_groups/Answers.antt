@@ -9,11 +9,11 @@ loop-done-preserved c =
     let few : from + 4 - from ≡ 4 = omega arith in
     record {
       within = omega (arith, c.requires.four, c.min-from.ensures);
-      painted = stretched_over from c.loop-done.done 4 6 c.args.width c.args.left c.args.top
+      painted = stretched_over from c.loop-done.done 4 6 c.args.width c.args.left c.args.top _
           (take (from + 4 - from) (drop from c.args.bytes.now))
           c.args.bytes.now c.args.ink.now c.args.pixels.now c.loop-done.pixels c.paint_few.new.pixels
           (ap (λ n. take n (drop from c.args.bytes.now)) few)
           (omega (arith, c.min-from.ensures)) (omega (arith, c.min-from.ensures, inside, c.requires.four))
           (omega (arith, c.requires.four, c.min-from.ensures))
-          c.loop-done.invariant.painted c.paint_few.auto.pixels c.paint_few.ensures;
+          c.loop-done.invariant.painted c.paint_few.auto.pixels c.paint_few.ensures (omega arith);
     }

@@ -1,4 +1,5 @@
-use Rattle.std.proofs.Common.{◌≡◌, ◌∙◌, false, true, arith, length, sym}
+use Rattle.std.proofs.Common.{◌≡◌, false, true, arith, length}
+use Rattle.std.proofs.Math.Seq.{take-length}
 use Rattle.sixel_grammar.specs.Document.{events_of}
 use Rattle.sixel_survey.specs.Notes.{IsNotesAfter}
 use Rattle.sixel_survey.specs.Stretches.{any_paints, passed}
@@ -9,7 +10,8 @@ pub returns-then-paints : goal.returns-then-paints
 returns-then-paints c = λ seen place s.
     let n = c.args.self.now in
     let stretch = c.args.stretch.now in
-    let yes : any_paints stretch (length stretch) ≡ true = sym c.paints.ensures ∙ c.if-paints.true in
+    let yes : any_paints stretch (length stretch) ≡ true =
+    cc (c.paints.ensures, c.if-paints.true, take-length stretch) in
     let after = over_all (λ l. IsNotesAfter (passed n stretch (length stretch)) (events_of l)) seen place stretch
     (length stretch) (omega arith) (notes_passed n seen place stretch s (length stretch) (omega arith)) in
     rw (c.paint.ensures, c.saturating_add-self.ensures) (rw yes at after)
@@ -18,7 +20,8 @@ pub returns-else-paints : goal.returns-else-paints
 returns-else-paints c = λ seen place s.
     let n = c.args.self.now in
     let stretch = c.args.stretch.now in
-    let no : any_paints stretch (length stretch) ≡ false = sym c.paints.ensures ∙ c.if-paints.false in
+    let no : any_paints stretch (length stretch) ≡ false =
+    cc (c.paints.ensures, c.if-paints.false, take-length stretch) in
     let after = over_all (λ l. IsNotesAfter (passed n stretch (length stretch)) (events_of l)) seen place stretch
     (length stretch) (omega arith) (notes_passed n seen place stretch s (length stretch) (omega arith)) in
     rw c.saturating_add-self.ensures (rw (no, or_no n.early) at after)
