@@ -12,8 +12,8 @@ use Rattle.sixel_terminal.specs.Stretches.{sixels_of}
 use Rattle.std.proofs.Common.{ℕ, ◌+◌, ◌-◌, ap₂, arith, drop, length, take}
 use Rattle.std.proofs.lemmas.List.{append-nil, drop-take, length-drop, take-append-drop, take-take}
 use Rattle.sixel_grammar.proofs.SourceLemmas.{take_past}
-use Rattle.std.specs.Prelude.{Result}
-use Rattle.std.proofs.Common.{Ok, Err, OnOk, IfErr, MatchResult}
+use Rattle.std.specs.Prelude.{IfSome, IsSome, Result}
+use Rattle.std.proofs.Common.{Option, None, Some, Ok, Err, OnOk, IfErr, MatchResult}
 use Rattle.sixel_grammar.specs.declared.fault.Fault.{Fault}
 use Rattle.sixel_grammar.specs.declared.reader.Reader.{Reader}
 use Rattle.sixel_grammar.specs.Faults.{IsFaultOf}
@@ -113,6 +113,13 @@ pub not_whole : (result : Result (Unit {0}) Fault) (reader : Reader) (events : L
     → StandsAfter reader events bytes → Judges reader result → IfErr result (IsFaultOf bytes)
 not_whole (Ok u) reader events bytes stands judges = tt
 not_whole (Err f) reader events bytes stands judges = (judges events bytes stands).0
+
+-- ---- a reader that has a fault
+
+-- such a reader doesn't accept
+pub not_accepted : {A : Type 0} (o : Option Fault) (a : A) → IsSome o → IfSome o (λ fault. Ok a ≡ Err fault) → ⊥
+not_accepted None a some again = cc
+not_accepted (Some f) a some again = cc
 
 -- ---- a run
 

@@ -1,13 +1,15 @@
 -- Measuring a document while its bytes come.
-use Rattle.std.proofs.Common.{ℕ, ◌++◌, List, Ok, Err, IfErr, MatchResult, OnOk}
+use Rattle.std.proofs.Common.{◌≡◌, ℕ, ◌++◌, List, Ok, Err, IfErr, MatchResult, OnOk, Some}
 use Rattle.std.specs.Prelude.{Result}
 use Rattle.sixel_grammar.specs.declared.command.Event.{Event}
 use Rattle.sixel_grammar.specs.declared.command.Placed.{Placed}
 use Rattle.sixel_grammar.specs.declared.fault.Fault.{Fault}
 use Rattle.sixel_grammar.specs.Document.{Document}
 use Rattle.sixel_grammar.specs.Faults.{IsFaultOf}
+use Rattle.sixel_grammar.specs.declared.reader.Reader.{Reader}
+use Rattle.sixel_grammar.specs.Standing.{fault_of}
 use Rattle.sixel_mend.specs.declared.extent.Extent.{Extent}
-use Rattle.sixel_mend.specs.Following.{FollowsBytes, RefusesBytes}
+use Rattle.sixel_mend.specs.Following.{FollowsBytes, RefusesBytes, StopsAt}
 use Rattle.sixel_mend.specs.Measures.{Measures}
 use Rattle.sixel_mend.specs.Measuring.{HasMeasured, Measured}
 use Rattle.sixel_mend.proofs.FollowLemmas.{Judges}
@@ -27,6 +29,12 @@ pub measured_refused : (result : Result (Unit {0}) Fault) (now : Measured) (byte
     → IsFaultOf ((before ++ bytes) ++ rest) fault)
 measured_refused (Ok u) now bytes h = tt
 measured_refused (Err f) now bytes h = λ before a rest. h now.extent before a rest
+
+pub measured_stopped : (result : Result (Unit {0}) Fault) (now : Measured) (r : Reader)
+    → IfErr result (StopsAt measures now.reader now.extent r)
+    → IfErr result (λ fault. (before : List ℕ) → HasMeasured now before → fault_of r ≡ Some fault)
+measured_stopped (Ok u) now r h = tt
+measured_stopped (Err f) now r h = λ before a. h now.extent before a
 
 pub measured_whole : (result : Result (Unit {0}) Fault) (now : Measured) (bytes : List ℕ) → Judges now.reader result
     → HasMeasured now bytes

@@ -1,7 +1,7 @@
 //! Reads a document, and passes its events on one by one.
 
 ghost use Rattle.std.specs.Prelude.{◌≡◌, ◌<◌, ◌≤◌, ◌++◌, ◌∷◌, [], ℕ, List, IfErr, IfOk, IsTrue, OnOk, length, slice_index};
-ghost use Rattle.std.specs.Prelude.{take};
+ghost use Rattle.std.specs.Prelude.{Err, IfSome, IsSome, take};
 ghost use Rattle.std.specs.Option.{option_to_list};
 ghost use Rattle.sixel_grammar.specs.declared.command.Event.{Event as AnEvent};
 ghost use Rattle.sixel_grammar.specs.declared.command.Placed.{Placed as Place};
@@ -10,16 +10,16 @@ ghost use Rattle.sixel_grammar.specs.Bytes.{is_data};
 ghost use Rattle.sixel_grammar.specs.Document.{Document, events_of};
 ghost use Rattle.sixel_grammar.specs.Faults.{IsFaultOf};
 ghost use Rattle.sixel_grammar.specs.Runs.{column_events, events_of_run, select_events, two_commands};
-ghost use Rattle.sixel_grammar.specs.Standing.{completions};
+ghost use Rattle.sixel_grammar.specs.Standing.{completions, fault_of};
 ghost use Rattle.sixel_terminal.specs.Stretches.{sixels_of};
-ghost use Rattle.sixel_mend.specs.Following.{FollowsBytes, FollowsEvents, RefusesBytes};
+ghost use Rattle.sixel_mend.specs.Following.{FollowsBytes, FollowsEvents, RefusesBytes, StopsAt};
 
 use sixel_grammar::{
     Columns, Command, Completed, Event, Fault, Placed, Plain, Reader, Run, TwoCommands,
 };
 
 /// What follows the events of a document.
-pub(crate) trait Follower {
+pub trait Follower {
     /// `has_followed first now events`: what was `first` before these events is `now` after them.
     ghost has_followed: { Self → Self → List AnEvent → Type 0 };
 
@@ -58,6 +58,9 @@ fn follow_byte<F: Follower>(reader: &mut Reader, follower: &mut F, byte: u8) -> 
     ensures followed { OnOk result (FollowsBytes F.has_followed reader.old follower.old reader.new follower.new
         (byte ∷ [])) }
     ensures refused { IfErr result (RefusesBytes F.has_followed reader.old follower.old (byte ∷ [])) }
+    ensures stopped { IfErr result (StopsAt F.has_followed reader.old follower.old reader.new) }
+    ensures again { IfSome (fault_of reader.old) (λ fault. result ≡ Err fault) }
+    ensures kept { IsSome (fault_of reader.old) → (reader.new ≡ reader.old) × (follower.new ≡ follower.old) }
 {
     match reader.feed_command(byte) {
         Some(Plain::Nothing) => Ok(()),
@@ -79,6 +82,9 @@ fn follow_byte_rarely<F: Follower>(
     ensures followed { OnOk result (FollowsBytes F.has_followed reader.old follower.old reader.new follower.new
         (byte ∷ [])) }
     ensures refused { IfErr result (RefusesBytes F.has_followed reader.old follower.old (byte ∷ [])) }
+    ensures stopped { IfErr result (StopsAt F.has_followed reader.old follower.old reader.new) }
+    ensures again { IfSome (fault_of reader.old) (λ fault. result ≡ Err fault) }
+    ensures kept { IsSome (fault_of reader.old) → (reader.new ≡ reader.old) × (follower.new ≡ follower.old) }
 {
     match reader.feed_two(byte) {
         Some(two) => {
@@ -107,6 +113,9 @@ fn follow_byte_of_any_kind<F: Follower>(
     ensures followed { OnOk result (FollowsBytes F.has_followed reader.old follower.old reader.new follower.new
         (byte ∷ [])) }
     ensures refused { IfErr result (RefusesBytes F.has_followed reader.old follower.old (byte ∷ [])) }
+    ensures stopped { IfErr result (StopsAt F.has_followed reader.old follower.old reader.new) }
+    ensures again { IfSome (fault_of reader.old) (λ fault. result ≡ Err fault) }
+    ensures kept { IsSome (fault_of reader.old) → (reader.new ≡ reader.old) × (follower.new ≡ follower.old) }
 {
     let completed = reader.feed(byte)?;
     follow_completed(follower, completed);
@@ -169,6 +178,9 @@ fn follow_run_or_byte<F: Follower>(
     ensures followed { IfOk result (λ count. FollowsBytes F.has_followed reader.old follower.old reader.new follower.new
         (take count bytes.now)) }
     ensures refused { IfErr result (RefusesBytes F.has_followed reader.old follower.old (take 1 bytes.now)) }
+    ensures stopped { IfErr result (StopsAt F.has_followed reader.old follower.old reader.new) }
+    ensures again { IfSome (fault_of reader.old) (λ fault. result ≡ Err fault) }
+    ensures kept { IsSome (fault_of reader.old) → (reader.new ≡ reader.old) × (follower.new ≡ follower.old) }
 {
     if let Some(run) = reader.feed_run(bytes) {
         follow_run(follower, run, bytes);
@@ -178,8 +190,9 @@ fn follow_run_or_byte<F: Follower>(
     Ok(1)
 }
 
-/// Reads the bytes, and passes on the events that they complete.
-pub(crate) fn follow_bytes<F: Follower>(
+/// Reads the bytes, and passes on the events that they complete. An `Err` is the fault of the bytes so far, and of any
+/// that begin with them; each further call with a byte returns it again, and changes nothing.
+pub fn follow_bytes<F: Follower>(
     reader: &mut Reader,
     follower: &mut F,
     bytes: &[u8],
@@ -187,6 +200,9 @@ pub(crate) fn follow_bytes<F: Follower>(
     ensures followed { OnOk result (FollowsBytes F.has_followed reader.old follower.old reader.new follower.new
         bytes.now) }
     ensures refused { IfErr result (RefusesBytes F.has_followed reader.old follower.old bytes.now) }
+    ensures stopped { IfErr result (StopsAt F.has_followed reader.old follower.old reader.new) }
+    ensures again { 0 < length bytes.now → IfSome (fault_of reader.old) (λ fault. result ≡ Err fault) }
+    ensures kept { IsSome (fault_of reader.old) → (reader.new ≡ reader.old) × (follower.new ≡ follower.old) }
 {
     let mut read = 0;
     while read < bytes.len() {

@@ -9,6 +9,7 @@ mod mending;
 mod numbering;
 mod terminal;
 
+pub use following::{Follower, follow_bytes};
 pub use making::{mend, mend_measured};
 pub use measuring::Measurer;
 pub use mending::{MendFault, Mending};

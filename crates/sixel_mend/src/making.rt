@@ -6,7 +6,7 @@ ghost use Rattle.sixel_grammar.specs.declared.command.Placed.{Placed as Place};
 ghost use Rattle.sixel_grammar.specs.Document.{Document, events_of};
 ghost use Rattle.sixel_model.specs.Pictures.{is_side};
 ghost use Rattle.sixel_model.specs.Profiles.{count_of};
-ghost use Rattle.sixel_terminal.specs.Drawings.{HasDrawn};
+ghost use Rattle.sixel_mend.specs.Following.{HasDrawnOn};
 ghost use Rattle.sixel_mend.specs.declared.mending.Mending.{Mending as AMending};
 ghost use Rattle.sixel_mend.specs.Judging.{IsReadingFault, judged};
 ghost use Rattle.sixel_mend.specs.Measuring.{HasMeasured};
@@ -24,7 +24,7 @@ use sixel_terminal::{Drawing, Screen};
 use std::alloc::Global;
 
 impl Follower for Drawing {
-    ghost has_followed = { λ first drawing events. (drawing.terminal ≡ first.terminal) × HasDrawn drawing events };
+    ghost has_followed = { HasDrawnOn };
 
     #[inline(always)]
     fn follow(&mut self, event: &Event) {

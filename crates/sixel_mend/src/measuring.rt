@@ -1,9 +1,11 @@
 //! Measures a document while its bytes come.
 
-ghost use Rattle.std.specs.Prelude.{◌≡◌, ◌++◌, [], ℕ, IfErr, IfOk, List, MatchResult, OnOk};
+ghost use Rattle.std.specs.Prelude.{◌≡◌, ◌<◌, ◌++◌, [], ℕ, Err, IfErr, IfOk, IfSome, IsSome, List, MatchResult, OnOk, Some};
+ghost use Rattle.std.specs.Prelude.{length};
 ghost use Rattle.sixel_grammar.specs.declared.command.Placed.{Placed as Place};
 ghost use Rattle.sixel_grammar.specs.Document.{Document, events_of};
 ghost use Rattle.sixel_grammar.specs.Faults.{IsFaultOf};
+ghost use Rattle.sixel_grammar.specs.Standing.{fault_of};
 ghost use Rattle.sixel_mend.specs.Measures.{Measures};
 ghost use Rattle.sixel_mend.specs.Measuring.{HasMeasured};
 
@@ -40,19 +42,24 @@ impl Measurer {
     }
 
     /// Reads these bytes, and measures the commands that they complete. An `Err` is the fault of the bytes so far, and of
-    /// any that begin with them; the measurer is of no use then.
+    /// any that begin with them; each further call with a byte returns it again, as `finish` does, and changes nothing.
     pub fn feed(&mut self, bytes: &[u8]) -> Result<(), Fault>
         ensures measured { OnOk result ((before : List ℕ) → HasMeasured self.old before
             → HasMeasured self.new (before ++ bytes.now)) }
         ensures refused { IfErr result (λ fault. (before : List ℕ) → HasMeasured self.old before
             → (rest : List ℕ) → IsFaultOf ((before ++ bytes.now) ++ rest) fault) }
+        ensures stopped { IfErr result (λ fault. (before : List ℕ) → HasMeasured self.old before
+            → fault_of self.new.reader ≡ Some fault) }
+        ensures again { 0 < length bytes.now → IfSome (fault_of self.old.reader) (λ fault. result ≡ Err fault) }
+        ensures kept { IsSome (fault_of self.old.reader) → self.new ≡ self.old }
     {
         follow_bytes(&mut self.reader, &mut self.extent, bytes)
     }
 
     /// Checks whether the bytes so far are a document, and returns their fault if not.
     pub fn finish(&self) -> Result<(), Fault>
-        ensures { (bytes : List ℕ) → HasMeasured self.now bytes → MatchResult result
+        ensures fault { IfSome (fault_of self.now.reader) (λ fault. result ≡ Err fault) }
+        ensures answer { (bytes : List ℕ) → HasMeasured self.now bytes → MatchResult result
             (λ _. (events : List Place) × Document events bytes) (IsFaultOf bytes) }
     {
         self.reader.finish()

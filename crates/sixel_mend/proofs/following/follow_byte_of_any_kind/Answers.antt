@@ -21,3 +21,8 @@ returns-clause-followed g c = λ first prefix a. record {
       (sym (events-then a.events (completions c.in_ok-completed.completed)))
       (c.follow_completed.ensures first _ a.followed);
 }
+
+pub returns-in_err-completed-clause-stopped : goal.returns-in_err-completed-clause-stopped
+returns-in_err-completed-clause-stopped g c =
+    let failed = err_from_is_err_and c.from_residual.result c.from_residual.ensures.1 in
+    rw (failed.1, failed.2) (λ first prefix a. (c.in_err-completed.ensures.refused a.events prefix a.read).2)

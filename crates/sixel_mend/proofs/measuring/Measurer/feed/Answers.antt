@@ -1,5 +1,5 @@
 use Rattle.std.proofs.Common.{sym}
-use Rattle.sixel_mend.proofs.MeasuringLemmas.{measured_more, measured_refused}
+use Rattle.sixel_mend.proofs.MeasuringLemmas.{measured_more, measured_refused, measured_stopped}
 use Rattle.sixel_mend.proofs.measuring.Measurer.feed.Goals as goal
 
 pub returns-clause-measured : goal.returns-clause-measured
@@ -14,3 +14,9 @@ returns-clause-refused c =
     rw (sym c.self.view_is)
     (measured_refused c.follow_bytes.result (record { reader = c.self.inside.reader; extent = c.self.inside.extent })
     c.args.bytes.now c.follow_bytes.ensures.refused)
+
+pub returns-clause-stopped : goal.returns-clause-stopped
+returns-clause-stopped c =
+    rw (sym c.self.view_is)
+    (measured_stopped c.follow_bytes.result (record { reader = c.self.inside.reader; extent = c.self.inside.extent })
+    c.follow_bytes.new.reader c.follow_bytes.ensures.stopped)

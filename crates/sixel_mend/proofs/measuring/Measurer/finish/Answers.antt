@@ -3,7 +3,7 @@ use Rattle.sixel_mend.specs.Measuring.{HasMeasured, Measured}
 use Rattle.sixel_mend.proofs.MeasuringLemmas.{measured_whole}
 use Rattle.sixel_mend.proofs.measuring.Measurer.finish.Goals as goal
 
-pub returns : goal.returns
-returns c = λ bytes h.
+pub returns-clause-answer : goal.returns-clause-answer
+returns-clause-answer c = λ bytes h.
     measured_whole c.finish.result (record { reader = c.self.inside.reader; extent = c.self.inside.extent }) bytes
     c.finish.ensures.answer (subst (λ (m : Measured). HasMeasured m bytes) (sym c.self.view_is) h)
