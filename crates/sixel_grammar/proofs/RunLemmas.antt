@@ -1,6 +1,6 @@
 -- Columns that a reader takes at once, perhaps after a select.
 use Rattle.std.proofs.Common.{Bool, cond, ◌≡◌, ◌∙◌, ℕ, ◌+◌, ◌-◌, ◌<◌, ◌≤◌, true, false, List, [], ◌∷◌, ◌++◌, length, get_or}
-use Rattle.std.proofs.Common.{take, drop, Option, Some, None, refl, sym, ap, subst, arith, length-append, append_assoc, suc}
+use Rattle.std.proofs.Common.{take, drop, Option, Some, None, refl, sym, ap, ap₂, subst, arith, length-append, append_assoc, suc}
 use Rattle.std.specs.Prelude.{◌&&◌, ◌==◌, nat_le, nat_lt}
 use Rattle.std.proofs.lemmas.Bool.{cond-true, cond-false, le-leb}
 use Rattle.std.proofs.lemmas.Bool.Decides.{nat_tests}
@@ -321,22 +321,21 @@ select_opened r q register end place piece form after fault left opened begins s
     )
 
 -- a byte ends a command, and is one itself
-pub two : (r q : Reader) (events : List Placed) (bytes : List ℕ) (b place : ℕ) (first second : Event)
+pub two : (r q : Reader) (events : List Placed) (bytes : List ℕ) (b began place : ℕ) (first second : Event)
     → StandsAfter r events bytes → 0 < r.left
     → next_of (form_of r.pending) b ≡ Some (Some first, form_of q.pending, Some second)
-    → form_of q.pending ≡ NoCommand → place ≡ most_bytes - r.left
+    → form_of q.pending ≡ NoCommand → began ≡ r.opened → place ≡ most_bytes - r.left
     → q.fault ≡ r.fault → q.left ≡ r.left - 1
-    → StandsAfter q
-    (events ++ record { place = r.opened; event = first } ∷ record { place = place; event = second } ∷ [])
+    → StandsAfter q (events ++ record { place = began; event = first } ∷ record { place = place; event = second } ∷ [])
     (bytes ++ b ∷ [])
-two r q events bytes b place first second s lt next form at fault left =
+two r q events bytes b began place first second s lt next form begins at fault left =
     let here : place ≡ length bytes = omega (arith, s.left, at) in
     let unfinished = ends-unfinished (form_of r.pending) b first (form_of q.pending) (Some second) next in
     accepted r q events bytes b r.opened (Some first) (Some second)
     (record {
-      first = Some (record { place = r.opened; event = first });
+      first = Some (record { place = began; event = first });
       second = Some (record { place = place; event = second });
     }) s lt next
     (ap (λ (i : Bool). cond i (length bytes) r.opened) (sym unfinished))
-    (ap (λ (n : ℕ). record { place = r.opened; event = first } ∷ record { place = n; event = second } ∷ []) here)
+    (ap₂ (λ (m n : ℕ). record { place = m; event = first } ∷ record { place = n; event = second } ∷ []) begins here)
     fault left (λ i. absurd (let n = ap is_idle form in cc))

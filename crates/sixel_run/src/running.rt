@@ -7,6 +7,7 @@ pub mod check;
 mod draw;
 mod encode;
 mod list;
+mod list_lines;
 mod mend;
 mod render;
 pub mod scan;

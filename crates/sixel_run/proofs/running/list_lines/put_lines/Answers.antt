@@ -2,7 +2,7 @@ use Rattle.std.specs.Option.{option_to_list}
 use Rattle.std.proofs.lemmas.Result.{err_from_is_err_and}
 use Rattle.sixel_io.proofs.SinkLemmas.{through-cut, through-then}
 use Rattle.sixel_run.proofs.ListingLemmas.{list_text-append}
-use Rattle.sixel_run.proofs.running.list.put_lines.Goals as goal
+use Rattle.sixel_run.proofs.running.list_lines.put_lines.Goals as goal
 
 pub returns : goal.returns
 returns g c =

@@ -3,7 +3,7 @@ use Rattle.std.proofs.lemmas.Result.{err_from_is_err_and}
 use Rattle.sixel_grammar.specs.Runs.{column_events, columns_in, select_events}
 use Rattle.sixel_io.proofs.SinkLemmas.{through-cut, through-then}
 use Rattle.sixel_run.proofs.ListingLemmas.{list_text-append}
-use Rattle.sixel_run.proofs.running.list.put_run.Goals as goal
+use Rattle.sixel_run.proofs.running.list_lines.put_run.Goals as goal
 
 pub returns : goal.returns
 returns g c =

@@ -1,6 +1,6 @@
 use Rattle.std.proofs.Common.{◌∙◌, refl}
 use Rattle.sixel_io.proofs.SinkLemmas.{through-added, through-as}
-use Rattle.sixel_run.proofs.running.list.put_few.Goals as goal
+use Rattle.sixel_run.proofs.running.list_lines.put_few.Goals as goal
 
 pub returns-then-try_put : goal.returns-then-try_put
 returns-then-try_put g c =

@@ -2,7 +2,7 @@ use Rattle.std.proofs.Common.{take}
 use Rattle.sixel_grammar.specs.Stretches.{sixels_from}
 use Rattle.sixel_io.proofs.SinkLemmas.{PutThrough}
 use Rattle.sixel_run.specs.Texts.{list_text}
-use Rattle.sixel_run.proofs.running.list.put_each.Given as goal
+use Rattle.sixel_run.proofs.running.list_lines.put_each.Given as goal
 
 abbrev pub invariant-loop-index : goal.invariant-loop-index
 invariant-loop-index g l =

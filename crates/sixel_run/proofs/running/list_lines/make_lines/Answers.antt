@@ -6,7 +6,7 @@ use Rattle.sixel_grammar.specs.declared.command.Placed.{Placed}
 use Rattle.sixel_grammar.specs.Stretches.{sixels_from}
 use Rattle.sixel_run.specs.Texts.{event_line, list_text}
 use Rattle.sixel_run.proofs.ListingLemmas.{sixels-then}
-use Rattle.sixel_run.proofs.running.list.make_lines.Goals as goal
+use Rattle.sixel_run.proofs.running.list_lines.make_lines.Goals as goal
 
 pub loop-index-preserved : goal.loop-index-preserved
 loop-index-preserved c =

@@ -5,7 +5,7 @@ use Rattle.sixel_grammar.specs.Stretches.{sixels_from}
 use Rattle.sixel_io.proofs.SinkLemmas.{through-done, through-next, through-none, through-stopped}
 use Rattle.sixel_run.specs.Texts.{list_text}
 use Rattle.sixel_run.proofs.ListingLemmas.{sixels-cut, sixels-then}
-use Rattle.sixel_run.proofs.running.list.put_each.Goals as goal
+use Rattle.sixel_run.proofs.running.list_lines.put_each.Goals as goal
 
 pub loop-index-init : goal.loop-index-init
 loop-index-init g c = through-none

@@ -1,7 +1,7 @@
 use Rattle.std.proofs.Common.{◌∙◌}
 use Rattle.sixel_io.proofs.SinkLemmas.{through-none}
 use Rattle.sixel_run.proofs.ListingLemmas.{line-put}
-use Rattle.sixel_run.proofs.running.list.put_line.Goals as goal
+use Rattle.sixel_run.proofs.running.list_lines.put_line.Goals as goal
 
 pub returns-in-Some : goal.returns-in-Some
 returns-in-Some g c = rw c.in-Some.is

@@ -2,7 +2,7 @@ use Rattle.std.proofs.Common.{◌-◌, length, take}
 use Rattle.sixel_grammar.specs.Stretches.{sixels_from}
 use Rattle.sixel_io.proofs.SinkLemmas.{PutThrough}
 use Rattle.sixel_run.specs.Texts.{list_text}
-use Rattle.sixel_run.proofs.running.list.put_sixels.Given as goal
+use Rattle.sixel_run.proofs.running.list_lines.put_sixels.Given as goal
 
 abbrev pub invariant-loop-done : goal.invariant-loop-done
 invariant-loop-done g l =

@@ -5,7 +5,7 @@ use Rattle.sixel_grammar.specs.Stretches.{sixels_from}
 use Rattle.sixel_io.proofs.SinkLemmas.{through-done, through-next, through-none, through-stopped}
 use Rattle.sixel_run.specs.Texts.{list_text}
 use Rattle.sixel_run.proofs.ListingLemmas.{sixels-part, sixels-parts}
-use Rattle.sixel_run.proofs.running.list.put_sixels.Goals as goal
+use Rattle.sixel_run.proofs.running.list_lines.put_sixels.Goals as goal
 
 pub loop-done-init : goal.loop-done-init
 loop-done-init g c = through-none

@@ -2,7 +2,7 @@ use Rattle.std.proofs.Common.{◌∙◌}
 use Rattle.sixel_grammar.specs.declared.command.Command.TheVariants.{Select}
 use Rattle.sixel_grammar.specs.declared.command.Event.TheVariants.{Step}
 use Rattle.sixel_run.proofs.ListingLemmas.{line-put}
-use Rattle.sixel_run.proofs.running.list.put_register.Goals as goal
+use Rattle.sixel_run.proofs.running.list_lines.put_register.Goals as goal
 
 pub returns-then-register-lt1000 : goal.returns-then-register-lt1000
 returns-then-register-lt1000 g c =

@@ -2,7 +2,7 @@ use Rattle.std.proofs.Common.{◌≡◌, ◌≤◌, ◌*◌, length, take}
 use Rattle.sixel_grammar.specs.Stretches.{sixels_from}
 use Rattle.sixel_run.specs.SixelLines.{lines_of}
 use Rattle.sixel_run.specs.Texts.{list_text}
-use Rattle.sixel_run.proofs.running.list.make_lines.Given as goal
+use Rattle.sixel_run.proofs.running.list_lines.make_lines.Given as goal
 
 abbrev pub invariant-loop-index : goal.invariant-loop-index
 invariant-loop-index l = record {
