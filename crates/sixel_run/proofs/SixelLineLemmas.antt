@@ -4,11 +4,27 @@ use Rattle.std.proofs.Common.{inl, inr, length, refl, subst, sym, take}
 use Rattle.std.specs.Prelude.{codes, decimal}
 use Rattle.std.proofs.lemmas.Bool.{cases_lt}
 use Rattle.std.proofs.lemmas.Fmt.{decimal_digit}
-use Rattle.std.proofs.lemmas.List.{append-nil, drop-take, drop_at, length-take-le, take-take, take_at}
+use Rattle.std.proofs.Math.Seq.{take-append-add}
+use Rattle.std.proofs.lemmas.List.{append-nil, drop-take, drop_at, length-drop, length-take-le, take-take, take_at}
 use Rattle.itoa.proofs.Decimal.{decimal_pair, decimal_two}
 use Rattle.sixel_grammar.specs.declared.command.Command.TheVariants.{Sixel}
 use Rattle.sixel_grammar.specs.declared.command.Event.TheVariants.{Step}
 use Rattle.sixel_run.specs.Texts.{HasTail, command_parts, event_line, line, numbers, spaced, tail_of, two_digits}
+
+-- the first bytes of a group that was written over others
+pub group-begins : (at start lanes count : ℕ) (old new text : List ℕ) → at ≤ length old → count ≤ lanes
+    → start + lanes ≤ length text
+    → take (at + length (take lanes (drop start text))) new ≡ take at old ++ take lanes (drop start text)
+    → take (at + count) new ≡ take at old ++ take count (take lanes (drop start text))
+group-begins at start lanes count old new text room few within put =
+    let group = take lanes (drop start text) in
+    let long : length group ≡ lanes = length-take-le lanes (drop start text)
+    (omega (arith, length-drop start text, within)) in
+    let first = length-take-le at old room in
+    sym (take-take (at + count) (at + length group) new (omega (arith, few, long)))
+    ∙ ap (take (at + count)) put
+    ∙ ap (λ (n : ℕ). take (n + count) (take at old ++ group)) (sym first)
+    ∙ take-append-add (take at old) group count
 
 -- digits that end at `end`, with more after them
 pub digits_before : (start end : ℕ) (digits text rest : List ℕ) → start + length digits ≡ end

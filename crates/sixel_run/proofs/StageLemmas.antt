@@ -28,9 +28,9 @@ use Rattle.sixel_terminal.specs.Drawings.{Drawn as DrawnValue, HasDrawn}
 use Rattle.sixel_run.specs.declared.running.show_box.Stage.{Stage}
 use Rattle.sixel_run.specs.declared.running.show_box.Stage.TheVariants.{Undeclared, Drawn, Unshowable}
 use Rattle.sixel_run.specs.Boxes.{Finds, HasRead, IsDrawnInBox, IsStageAfter, Refuses, box_in}
-use Rattle.sixel_run.specs.Draw.{DrawsBytes}
 use Rattle.sixel_run.specs.Screens.{declared_screen, sides_of_box}
-use Rattle.sixel_run.proofs.DrawLemmas.{events-then}
+use Rattle.sixel_mend.specs.Following.{FollowsBytes, HasDrawnOn}
+use Rattle.sixel_mend.proofs.FollowLemmas.{events-then}
 
 abbrev Sides : Type 0
 Sides = ℕ × ℕ
@@ -207,10 +207,10 @@ drawn-now terminal d xs ys width height sides none found fit on drawn = record {
 }
 
 pub drawn-stays : (terminal : Sides → Display) (old new : Reader) (d e : DrawnValue) (more bytes : List ℕ)
-    → DrawsBytes old d new e more → HasRead terminal old (Drawn d) bytes → HasRead terminal new (Drawn e) (bytes ++ more)
+    → FollowsBytes HasDrawnOn old d new e more → HasRead terminal old (Drawn d) bytes → HasRead terminal new (Drawn e) (bytes ++ more)
 drawn-stays terminal old new d e more bytes draws h =
     let box = h.stands in
-    let a = draws.drawn bytes (record { events = h.events; read = h.read; drawn = box.drawn }) in
+    let a = draws d bytes (record { events = h.events; read = h.read; followed = (refl, box.drawn) }) in
     let s = complete_stays bytes more h.events a.events (read_complete old h.events bytes h.read)
     (read_complete new a.events (bytes ++ more) a.read) in
     record {
@@ -222,8 +222,8 @@ drawn-stays terminal old new d e more bytes draws h =
             ∙ ap declared_screen (events-then h.events s.0)
             ∙ declared-stays (events_of h.events) (events_of s.0) (has-box (events_of h.events) box.sides box.declared)
             ∙ box.declared;
-        on = draws.terminal ∙ box.on;
-        drawn = a.drawn;
+        on = a.followed.0 ∙ box.on;
+        drawn = a.followed.1;
       };
     }
 
@@ -242,12 +242,17 @@ no-screen terminal (Undeclared kept) events bytes undrawn h =
 no-screen terminal (Drawn d) events bytes undrawn h = absurd (undrawn d refl)
 no-screen terminal Unshowable events bytes undrawn h = h.1
 
--- ---- bytes that are drawn from the beginning
+-- ---- bytes that are drawn from the beginning, on the same terminal
 
 pub drawn-all : (reader r s : Reader) (d e f : DrawnValue) (bytes more : List ℕ) → StandsAfter reader [] []
-    → HasDrawn d [] → DrawsBytes reader d r e bytes → DrawsBytes r e s f more
-    → (events : List Placed) → CompleteIn events (bytes ++ more) → HasDrawn f (events_of events)
-drawn-all reader r s d e f bytes more start none one two events complete =
-    let a = two.drawn bytes (one.drawn [] (record { events = []; read = start; drawn = none })) in
-    subst (λ (es : List Placed). HasDrawn f (events_of es))
-    (complete_once (bytes ++ more) a.events events (read_complete s a.events (bytes ++ more) a.read) complete) a.drawn
+    → HasDrawn d [] → FollowsBytes HasDrawnOn reader d r e bytes → FollowsBytes HasDrawnOn r e s f more
+    → (f.terminal ≡ d.terminal)
+    × ((events : List Placed) → CompleteIn events (bytes ++ more) → HasDrawn f (events_of events))
+drawn-all reader r s d e f bytes more start none one two =
+    let a = two d bytes (one d [] (record { events = []; read = start; followed = (refl, none) })) in (
+      a.followed.0,
+      λ events complete.
+          subst (λ (es : List Placed). HasDrawn f (events_of es))
+          (complete_once (bytes ++ more) a.events events (read_complete s a.events (bytes ++ more) a.read) complete)
+          a.followed.1,
+    )

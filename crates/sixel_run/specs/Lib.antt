@@ -6,7 +6,6 @@ pub mod Scanned
 pub mod Outputs
 pub mod Surveyed
 pub mod Scanning
-pub mod Draw
 pub mod Boxes
 pub mod Feeding
 pub mod Laws

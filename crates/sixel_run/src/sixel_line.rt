@@ -5,14 +5,14 @@ ghost use Rattle.std.specs.Prelude.{◌≡◌, ◌+◌, ◌*◌, ◌<◌, ◌≤
 ghost use Rattle.sixel_grammar.specs.declared.command.Command.TheVariants.{Repeat, Select, Sixel};
 ghost use Rattle.sixel_grammar.specs.declared.command.Event.TheVariants.{Step};
 ghost use Rattle.sixel_run.specs.Texts.{HasTail, event_line, tail_of, two_digits};
+ghost use Rattle.sixel_run.specs.declared.sixel_line.TheConstants.{LAST, MOST_TEXT, ROOM, SIXELS};
 
 use itoa::write_digits;
-use std::simd::prelude::*;
 
-/// The index in `text` of the offset's last two digits. The digits of its hundreds, at most 18, end before it.
+/// The index in `text` of the offset's last two digits. The digits of its hundreds end before it, and aren't more.
 const LAST: usize = 18;
 
-/// How many bytes are stored at once.
+/// How many bytes are stored at once: no line of a sixel has more.
 const LANES: usize = 32;
 
 /// Room for a line, and from each start on for a whole group.
@@ -25,10 +25,10 @@ pub struct SixelLine {
     start: usize,
     end: usize,
     hundreds: u64,
-    ghost start_within: { start ≤ 18 },
-    ghost end_after: { 18 ≤ end },
-    ghost end_within: { end ≤ 50 },
-    ghost digits: { drop start (take 18 text) ≡ decimal hundreds },
+    ghost start_within: { start ≤ LAST },
+    ghost end_after: { LAST ≤ end },
+    ghost end_within: { end ≤ ROOM },
+    ghost digits: { drop start (take LAST text) ≡ decimal hundreds },
 }
 
 impl SixelLine {
@@ -40,7 +40,7 @@ impl SixelLine {
     {
         SixelLine {
             text: [b'0'; ROOM],
-            start: 17,
+            start: LAST - 1,
             end: LAST,
             hundreds: 0,
         }
@@ -79,7 +79,7 @@ impl SixelLine {
     /// Makes the line begin with these hundreds.
     #[inline(always)]
     fn keep_hundreds(&mut self, hundreds: u64)
-        requires { hundreds < 10 ^ 18 }
+        requires { hundreds < 10 ^ LAST }
         ensures { self.new.hundreds ≡ hundreds }
     {
         if hundreds != self.hundreds {
@@ -89,7 +89,7 @@ impl SixelLine {
 
     #[inline(never)]
     fn set_hundreds(&mut self, hundreds: u64)
-        requires { hundreds < 10 ^ 18 }
+        requires { hundreds < 10 ^ LAST }
         ensures { self.new.hundreds ≡ hundreds }
     {
         self.start = write_digits(hundreds, &mut self.text, LAST);
@@ -99,9 +99,9 @@ impl SixelLine {
     /// Puts the rest of the line after the hundreds.
     #[inline(always)]
     fn set_rest(&mut self, rest: &[u8])
-        requires { length rest.now ≤ 12 }
+        requires { length rest.now ≤ LANES }
         ensures text { text_of self.new ≡ decimal self.old.hundreds ++ rest.now }
-        ensures end { self.new.end ≡ 18 + length rest.now }
+        ensures end { self.new.end ≡ LAST + length rest.now }
     {
         self.end = LAST + rest.len();
         self.text[LAST..self.end].copy_from_slice(rest);
@@ -111,7 +111,7 @@ impl SixelLine {
     #[inline(always)]
     fn push_number(&mut self, number: u16)
         requires number { number < 1000 }
-        requires room { self.old.end ≤ 40 }
+        requires room { self.old.end + 3 ≤ ROOM }
         ensures text { text_of self.new ≡ text_of self.old ++ decimal number }
         ensures end { self.new.end ≤ self.old.end + 3 }
     {
@@ -129,7 +129,7 @@ impl SixelLine {
     #[inline(always)]
     fn push_two(&mut self, number: u8)
         requires number { number < 100 }
-        requires room { self.old.end ≤ 48 }
+        requires room { self.old.end + 2 ≤ ROOM }
         ensures text { text_of self.new ≡ text_of self.old ++ two_digits number }
         ensures end { self.new.end ≡ self.old.end + 2 }
     {
@@ -141,7 +141,7 @@ impl SixelLine {
     /// Adds a byte.
     #[inline(always)]
     fn push(&mut self, byte: u8)
-        requires { self.old.end < 50 }
+        requires { self.old.end < ROOM }
         ensures text { text_of self.new ≡ text_of self.old ++ byte ∷ [] }
         ensures end { self.new.end ≡ self.old.end + 1 }
     {
@@ -153,16 +153,15 @@ impl SixelLine {
     /// many they are.
     #[inline(always)]
     fn put_hundreds(&mut self, hundreds: u64, text: &mut [u8], at: usize) -> usize
-        requires hundreds { hundreds < 10 ^ 18 }
+        requires hundreds { hundreds < 10 ^ LAST }
         requires room { at + LANES ≤ length text.old }
         ensures text { take (at + result) text.new ≡ take at text.old ++ decimal hundreds }
         ensures long { length text.new ≡ length text.old }
-        ensures short { result ≤ 18 }
+        ensures short { result ≤ LAST }
     {
         self.keep_hundreds(hundreds);
         let count = LAST - self.start;
-        let group = &self.text[self.start..self.start + LANES];
-        put_group(text, at, group, count);
+        put_at(text, at, &self.text[self.start..self.start + LANES]);
         count
     }
 
@@ -170,28 +169,37 @@ impl SixelLine {
     #[inline]
     pub fn as_slice(&self) -> &[u8]
         ensures text { result.now ≡ text_of self.now }
-        ensures short { length result.now ≤ 50 }
+        ensures short { length result.now ≤ ROOM }
     {
         &self.text[self.start..self.end]
     }
 }
 
+/// The most bytes of a tail.
+const LONGEST_TAIL: usize = 10;
+
 /// How many bytes lie between the beginnings of two tails.
 const STRIDE: usize = 16;
+
+/// How many sixels there are, each with its tail.
+const SIXELS: usize = 64;
+
+/// Room for the tails, and from the beginning of each on for a whole group.
+const TAILS_ROOM: usize = STRIDE * (SIXELS - 1) + LANES;
 
 /// For each value of a sixel's bits what follows the offset in its line. Whole stores from here need no byte that was
 /// stored just before, for which a load would have to wait.
 #[derive(Drop)]
 struct Tails {
-    text: [u8; 65 * STRIDE],
-    ghost tails: { (bits : ℕ) → bits < 64 → HasTail text bits },
+    text: [u8; TAILS_ROOM],
+    ghost tails: { (bits : ℕ) → bits < SIXELS → HasTail text bits },
 }
 
 impl Tails {
     fn new() -> Tails {
-        let mut text = [0; 65 * STRIDE];
-        for bits in 0..64 {
-            put_tail(&mut text[..], bits);
+        let mut text = [0; TAILS_ROOM];
+        for bits in 0..SIXELS {
+            put_tail(&mut text[..], bits as u8);
         }
         Tails { text }
     }
@@ -199,27 +207,26 @@ impl Tails {
     /// Writes the tail of these bits over the bytes from `at` on, and behind it the rest of a group. Returns its length.
     #[inline(always)]
     fn put(&self, bits: u8, text: &mut [u8], at: usize) -> usize
-        requires bits { bits < 64 }
+        requires bits { bits < SIXELS }
         requires room { at + LANES ≤ length text.old }
         ensures text { take (at + result) text.new ≡ take at text.old ++ tail_of bits }
         ensures long { length text.new ≡ length text.old }
-        ensures short { result ≤ 10 }
+        ensures short { result ≤ LONGEST_TAIL }
     {
         let count = tail_length(bits);
         let from = STRIDE * bits as usize;
-        let group = &self.text[from..from + LANES];
-        put_group(text, at, group, count);
+        put_at(text, at, &self.text[from..from + LANES]);
         count
     }
 }
 
 /// Puts the tail of these bits in its place among the others.
 fn put_tail(text: &mut [u8], bits: u8)
-    requires bits { bits < 64 }
-    requires long { length text.old ≡ 1040 }
-    ensures before { take (16 * bits) text.new ≡ take (16 * bits) text.old }
+    requires bits { bits < SIXELS }
+    requires long { length text.old ≡ TAILS_ROOM }
+    ensures before { take (STRIDE * bits) text.new ≡ take (STRIDE * bits) text.old }
     ensures tail { HasTail text.new bits }
-    ensures long { length text.new ≡ 1040 }
+    ensures long { length text.new ≡ TAILS_ROOM }
 {
     let at = STRIDE * bits as usize;
     if bits < 10 {
@@ -244,11 +251,15 @@ fn put_tail(text: &mut [u8], bits: u8)
 /// How long the tail of these bits is.
 #[inline(always)]
 fn tail_length(bits: u8) -> usize
-    requires { bits < 64 }
+    requires { bits < SIXELS }
     ensures length { result ≡ length (tail_of bits) }
-    ensures short { result ≤ 10 }
+    ensures short { result ≤ LONGEST_TAIL }
 {
-    if bits < 10 { 9 } else { 10 }
+    if bits < 10 {
+        LONGEST_TAIL - 1
+    } else {
+        LONGEST_TAIL
+    }
 }
 
 /// Writes the bytes over those from `at` on.
@@ -264,14 +275,20 @@ fn put_at(text: &mut [u8], at: usize, bytes: &[u8])
 /// How many sixels' lines are put at once.
 pub const MOST_SIXELS: usize = 16;
 
+/// The most bytes of the lines of so many sixels.
+const MOST_TEXT: usize = MOST_SIXELS * LANES;
+
+/// Room for these lines, and for the two groups that begin in the last one.
+const TEXT_ROOM: usize = MOST_TEXT + 2 * LANES;
+
 /// The lines of some single sixels, one after another. A contract sees them as a text.
 #[derive(Drop)]
 pub struct SixelLines {
     pub line: SixelLine,
     tails: Tails,
-    text: [u8; (MOST_SIXELS + 2) * LANES],
+    text: [u8; TEXT_ROOM],
     end: usize,
-    ghost within: { end ≤ 512 },
+    ghost within: { end ≤ MOST_TEXT },
 }
 
 impl SixelLines {
@@ -284,7 +301,7 @@ impl SixelLines {
         SixelLines {
             line: SixelLine::new(),
             tails: Tails::new(),
-            text: [0; (MOST_SIXELS + 2) * LANES],
+            text: [0; TEXT_ROOM],
             end: 0,
         }
     }
@@ -301,11 +318,11 @@ impl SixelLines {
     #[inline(always)]
     pub fn push(&mut self, place: u64, bits: u8)
         requires place { 100 ≤ place }
-        requires bits { bits < 64 }
-        requires room { length (lines_of self.old) + 32 ≤ 512 }
+        requires bits { bits < SIXELS }
+        requires room { length (lines_of self.old) + LANES ≤ MOST_TEXT }
         ensures lines { lines_of self.new
             ≡ lines_of self.old ++ event_line (record { place = place; event = Step (Sixel bits) }) }
-        ensures few { length (lines_of self.new) ≤ length (lines_of self.old) + 32 }
+        ensures few { length (lines_of self.new) ≤ length (lines_of self.old) + LANES }
     {
         let hundreds = self
             .line
@@ -321,22 +338,10 @@ impl SixelLines {
     #[inline]
     pub fn as_slice(&self) -> &[u8]
         ensures text { result.now ≡ lines_of self.now }
-        ensures short { length result.now ≤ 512 }
+        ensures short { length result.now ≤ MOST_TEXT }
     {
         &self.text[..self.end]
     }
-}
-
-/// Writes the first `count` of the bytes over those from `at` on, and behind them the rest of a group.
-#[inline(always)]
-fn put_group(text: &mut [u8], at: usize, bytes: &[u8], count: usize)
-    requires few { count ≤ LANES }
-    requires whole { LANES ≤ length bytes.now }
-    requires room { at + LANES ≤ length text.old }
-    ensures text { take (at + count) text.new ≡ take at text.old ++ take count bytes.now }
-    ensures long { length text.new ≡ length text.old }
-{
-    u8x32::from_slice(bytes).copy_to_slice(&mut text[at..]);
 }
 
 /// The two decimal digits of a number below 100.

@@ -20,13 +20,13 @@ ghost use Rattle.sixel_run.specs.declared.fault.RunFault.TheVariants.{Read};
 ghost use Rattle.sixel_run.specs.Outputs.{CountsWrites, ShowBoxGives, WroteBy, WroteNothing, failures_by};
 ghost use Rattle.sixel_run.specs.Screens.{screen_terminal, sides_of_box};
 
-use super::draw::draw_piece;
 use super::screen::write_screen;
 use super::show::{show_choices, terminal_of};
 use crate::fault::RunFault;
 use crate::task::{MOST_SCREEN_SIDE, Status};
 use sixel_grammar::{Command, Completed, Event, InputFault, Placed, Plain, Reader};
 use sixel_io::{PIECE, Sink, Source};
+use sixel_mend::follow_bytes;
 use sixel_model::Profile;
 use sixel_terminal::{Drawing, Screen};
 use std::alloc::Global;
@@ -123,7 +123,7 @@ impl Stage {
         match self {
             Stage::Undeclared(kept) => look_for_box(alloc, kind, kept, reader, piece),
             Stage::Drawn(mut drawing) => {
-                draw_piece(reader, &mut drawing, piece)?;
+                follow_bytes(reader, &mut drawing, piece)?;
                 Ok(Stage::Drawn(drawing))
             }
             Stage::Unshowable => {
@@ -194,8 +194,8 @@ fn draw_bytes(
     let choices = show_choices(kind.showing, kind.fill, kind.selects, width, height);
     let mut drawing = Drawing::new(alloc, terminal_of(alloc, kind.profile, choices)?)?;
     let mut reader = Reader::new();
-    draw_piece(&mut reader, &mut drawing, bytes)?;
-    draw_piece(&mut reader, &mut drawing, piece)?;
+    follow_bytes(&mut reader, &mut drawing, bytes)?;
+    follow_bytes(&mut reader, &mut drawing, piece)?;
     Ok(drawing)
 }
 

@@ -6,7 +6,6 @@ use Rattle.sixel_grammar.specs.Document.{Document, events_of, most_bytes}
 use Rattle.sixel_grammar.specs.Faults.{IsFaultOf}
 use Rattle.sixel_grammar.specs.Standing.{left_of}
 use Rattle.sixel_terminal.specs.Drawings.{HasDrawn}
-use Rattle.sixel_judge.proofs.PieceLemmas.{not_failed}
 use Rattle.sixel_grammar.specs.Reading.{Explains}
 use Rattle.sixel_grammar.specs.declared.fault.InputFault.TheVariants.{Grammar}
 use Rattle.sixel_grammar.proofs.SourceLemmas.{all_read, consumes-then, refused_early, take_none}
@@ -27,24 +26,23 @@ returns-in_err-finish-clause-refused g c =
     (subst (λ t. IsFaultOf t c.in_err-finish.field-0.0) (sym (ap (λ t. i.0 ++ t) none ∙ append-nil i.0))
     (c.in_err-finish.ensures.answer i.1.events i.0 i.1.read).0))
 
-pub returns-in_err-draw_piece-clause-refused : goal.returns-in_err-draw_piece-clause-refused
-returns-in_err-draw_piece-clause-refused g c =
+pub returns-in_err-follow_bytes-clause-refused : goal.returns-in_err-follow_bytes-clause-refused
+returns-in_err-follow_bytes-clause-refused g c =
     let i = c.loop-count.invariant in
-    let exit = c.from_residual-in_err-draw_piece in
+    let exit = c.from_residual-in_err-follow_bytes in
     let failed = err_from_is_err_and exit.result exit.ensures.1 in
     rw (failed.1, failed.2)
-    (refused_early _ _ _ (i.0 ++ take c.in_ok-count.count c.fill.new.piece)
+    (refused_early _ _ (Grammar c.in_err-follow_bytes.field-0.0) (i.0 ++ take c.in_ok-count.count c.fill.new.piece)
     (consumes-then _ _ _ i.0 (take c.in_ok-count.count c.fill.new.piece) i.2 c.in_ok-count.ensures.bytes.0)
-    (c.in_err-draw_piece.ensures.refused i.0 i.1))
+    (c.in_err-follow_bytes.ensures.refused c.args.drawing.now i.0 i.1))
 
 pub loop-count-preserved : goal.loop-count-preserved
 loop-count-preserved g c =
     let i = c.loop-count.invariant in (
       i.0 ++ take c.in_ok-count.count c.fill.new.piece,
-      c.in_ok-draw_piece.ensures.drawn.drawn i.0 i.1,
+      c.in_ok-follow_bytes.ensures.followed c.args.drawing.now i.0 i.1,
       consumes-then _ _ _ i.0 (take c.in_ok-count.count c.fill.new.piece) i.2 c.in_ok-count.ensures.bytes.0,
       cc (c.in_ok-count.ensures.failures, i.3),
-      c.in_ok-draw_piece.ensures.drawn.terminal ∙ i.4,
     )
 
 pub returns-then-count-eq0-clause-drawn : goal.returns-then-count-eq0-clause-drawn
@@ -60,15 +58,15 @@ returns-then-count-eq0-clause-drawn g c =
       i.1.events,
       subst (Document i.1.events) (sym (ap (λ t. i.0 ++ t) none ∙ append-nil i.0))
           (c.in_ok-finish.ensures.answer i.1.events i.0 i.1.read),
-      i.1.drawn,
+      i.1.followed.1,
     )
 
 pub loop-count-smaller : goal.loop-count-smaller
 loop-count-smaller g c =
     let i = c.loop-count.invariant in
     let old : left_of c.loop-count.reader + length i.0 ≡ most_bytes = i.1.read.left in
-    let new : left_of c.draw_piece.new.reader + length (i.0 ++ take c.in_ok-count.count c.fill.new.piece) ≡ most_bytes =
-    (c.in_ok-draw_piece.ensures.drawn.drawn i.0 i.1).read.left in
+    let new : left_of c.follow_bytes.new.reader + length (i.0 ++ take c.in_ok-count.count c.fill.new.piece) ≡ most_bytes =
+    (c.in_ok-follow_bytes.ensures.followed c.args.drawing.now i.0 i.1).read.left in
     let some : 0 < c.in_ok-count.count = omega arith in
     let long : c.in_ok-count.count ≤ length c.fill.new.piece =
     omega (arith, c.in_ok-count.ensures.bound, c.fill.auto.piece) in
@@ -81,12 +79,10 @@ loop-count-smaller g c =
       length-take-le c.in_ok-count.count c.fill.new.piece long,
     )
 
-pub returns-in_err-draw_piece-clause-failures : goal.returns-in_err-draw_piece-clause-failures
-returns-in_err-draw_piece-clause-failures g c =
+pub returns-in_err-follow_bytes-clause-failures : goal.returns-in_err-follow_bytes-clause-failures
+returns-in_err-follow_bytes-clause-failures g c =
     let i = c.loop-count.invariant in
-    let exit = c.from_residual-in_err-draw_piece in
+    let exit = c.from_residual-in_err-follow_bytes in
     let failed = err_from_is_err_and exit.result exit.ensures.1 in
-    let h = c.in_err-draw_piece.ensures.refused i.0 i.1 in
     rw (failed.1, failed.2)
-    (◌∙◌ {b = (g.S.Source.state c.loop-count.input).failures} c.in_ok-count.ensures.failures i.3
-    ∙ not_failed (Unit {0}) c.in_err-draw_piece.field-0.0 _ _ h)
+    (◌∙◌ {b = (g.S.Source.state c.loop-count.input).failures} c.in_ok-count.ensures.failures i.3)

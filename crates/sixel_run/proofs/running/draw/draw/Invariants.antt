@@ -1,15 +1,14 @@
 use Rattle.std.proofs.Common.{◌≡◌, ℕ, List}
 use Rattle.std.specs.Io.KnownBytes.{Consumes}
 use Rattle.sixel_grammar.specs.Standing.{left_of}
-use Rattle.sixel_run.specs.Draw.{AreDrawn}
+use Rattle.sixel_mend.specs.Following.{AreFollowed, HasDrawnOn}
 use Rattle.sixel_run.proofs.running.draw.draw.Given as goal
 
 abbrev pub invariant-loop-count : goal.invariant-loop-count
 invariant-loop-count g l =
-    (prefix : List ℕ) × AreDrawn l.reader l.drawing prefix
+    (prefix : List ℕ) × AreFollowed (HasDrawnOn l.fn.drawing) l.reader l.drawing prefix
     × Consumes (g.S.Source.state l.fn.input).remaining (g.S.Source.state l.input).remaining prefix
     × ((g.S.Source.state l.input).failures ≡ (g.S.Source.state l.fn.input).failures)
-    × (l.drawing.terminal ≡ l.fn.drawing.terminal)
 
 abbrev pub decreases-loop-count : goal.decreases-loop-count
 decreases-loop-count g l = left_of l.reader

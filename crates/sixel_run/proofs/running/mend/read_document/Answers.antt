@@ -35,7 +35,7 @@ returns-in_err-finish-clause-refused g c =
     (all_read _ _ (bytes ++ take c.in_ok-count.count c.fill.new.piece) (Explains (Grammar c.in_err-finish.field-0.0))
     (consumes-then _ _ _ bytes (take c.in_ok-count.count c.fill.new.piece) i.1 b.0) (b.1 z some)
     (subst (λ t. IsFaultOf t c.in_err-finish.field-0.0) (sym (ap (λ t. bytes ++ t) none ∙ append-nil bytes))
-    (c.in_err-finish.ensures bytes i.0)))
+    (c.in_err-finish.ensures.answer bytes i.0)))
 
 pub returns-in_err-feed-clause-refused : goal.returns-in_err-feed-clause-refused
 returns-in_err-feed-clause-refused g c =
