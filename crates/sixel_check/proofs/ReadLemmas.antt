@@ -222,6 +222,20 @@ after_run old new kept more run prefix piece some room takes keeps a =
           (run_may new a.events run (prefix ++ take run.length piece) piece some room read).0;
     }
 
+-- an event at an offset that is the same
+pub event_at : (registers : ℕ) (checker : CheckerValue) (seen : List Placed) (from place : ℕ) (event : Event)
+    → StandsAfter registers checker (seen ++ record { place = from; event = event } ∷ []) → from ≡ place
+    → StandsAfter registers checker (seen ++ record { place = place; event = event } ∷ [])
+event_at registers checker seen from place event s same =
+    subst (λ (n : ℕ). StandsAfter registers checker (seen ++ record { place = n; event = event } ∷ [])) same s
+
+-- sixels from an offset that is the same
+pub sixels_at : (registers : ℕ) (checker : CheckerValue) (seen : List Placed) (from place : ℕ) (bytes : List ℕ)
+    → StandsAfter registers checker (seen ++ sixels_from from bytes) → from ≡ place
+    → StandsAfter registers checker (seen ++ sixels_from place bytes)
+sixels_at registers checker seen from place bytes s same =
+    subst (λ (n : ℕ). StandsAfter registers checker (seen ++ sixels_from n bytes)) same s
+
 -- the first sixel of a stretch, and the others
 pub may_after_first : (seen : List Placed) (place : ℕ) (stretch : List ℕ) → 0 < length stretch → MayStep seen
     → MayStep (seen ++ sixels_from place (take 1 stretch))

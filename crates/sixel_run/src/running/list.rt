@@ -196,4 +196,3 @@ fn feed_and_put<K: Sink>(
         Err(fault) => Err(RunFault::Grammar(fault)),
     }
 }
-

@@ -1,7 +1,7 @@
 use Rattle.std.proofs.Common.{◌++◌, ◌+◌, ◌-◌, ◌<◌, arith, length, refl, subst, sym, take}
 use Rattle.sixel_grammar.specs.Stretches.{sixels_from}
 use Rattle.sixel_judge.specs.Standing.{CheckerValue, StandsAfter}
-use Rattle.sixel_check.proofs.ReadLemmas.{data_after_first, data_then, may_after_first, sixels_split}
+use Rattle.sixel_check.proofs.ReadLemmas.{data_after_first, data_then, may_after_first, sixels_at, sixels_split}
 use Rattle.sixel_check.proofs.pushing.push_after_first.Goals as goal
 
 pub try_push_stretch-requires-clause-expected : goal.try_push_stretch-requires-clause-expected
@@ -51,7 +51,7 @@ returns-clause-kept g c = λ registers seen s may.
     let first = sixels_from c.args.place (take 1 xs) in
     subst (StandsAfter registers c.push_at_end.new.checker)
     (sixels_split seen c.args.place c.args.count xs c.requires.bytes.0 c.requires.bytes.1)
-    (c.push_at_end.ensures.kept registers (seen ++ first)
+    (sixels_at registers _ _ _ (c.args.place + 1) _ (c.push_at_end.ensures.kept registers (seen ++ first)
     (subst (λ (v : CheckerValue). StandsAfter registers v (seen ++ first))
     (sym (c.if-try_push_stretch.ensures.kept refl)) (c.in_ok-push_each.ensures.kept registers seen s may))
-    (may_after_first seen c.args.place xs some may))
+    (may_after_first seen c.args.place xs some may)) (omega arith))

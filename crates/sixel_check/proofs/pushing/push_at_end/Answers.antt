@@ -1,8 +1,8 @@
-use Rattle.std.proofs.Common.{◌++◌, ◌-◌, arith, length, refl, subst, take}
+use Rattle.std.proofs.Common.{◌++◌, ◌+◌, ◌-◌, arith, length, refl, subst, take}
 use Rattle.sixel_grammar.specs.Stretches.{sixels_from}
 use Rattle.sixel_judge.specs.Standing.{StandsAfter}
 use Rattle.sixel_judge.proofs.StretchLemmas.{begun_of, begun_take}
-use Rattle.sixel_check.proofs.ReadLemmas.{sixels_joined}
+use Rattle.sixel_check.proofs.ReadLemmas.{sixels_at, sixels_joined}
 use Rattle.sixel_check.proofs.pushing.push_at_end.Goals as goal
 
 pub push_each-requires-then-try_push_stretch-clause-stands : goal.push_each-requires-then-try_push_stretch-clause-stands
@@ -24,6 +24,5 @@ returns-then-try_push_stretch-clause-kept g c = λ registers seen s may.
     c.requires.sixels (begun_of registers c.args.checker.now seen may s) in
     subst (StandsAfter registers c.push_each-then-try_push_stretch.new.checker)
     (sixels_joined seen c.args.place most c.args.stretch.now)
-    (c.push_each-then-try_push_stretch.ensures.kept registers _
-    (c.if-try_push_stretch.ensures.pushed refl registers c.args.place seen s may)
-    begun.may_step)
+    (sixels_at registers _ _ _ (c.args.place + most) _ (c.push_each-then-try_push_stretch.ensures.kept registers _
+    (c.if-try_push_stretch.ensures.pushed refl registers c.args.place seen s may) begun.may_step) (omega arith))

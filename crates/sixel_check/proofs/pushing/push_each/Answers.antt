@@ -1,7 +1,8 @@
-use Rattle.std.proofs.Common.{◌++◌, arith, subst, take}
+use Rattle.std.proofs.Common.{◌++◌, ◌+◌, arith, subst, take}
 use Rattle.sixel_grammar.specs.Stretches.{sixels_from}
 use Rattle.sixel_judge.specs.Standing.{StandsAfter}
 use Rattle.sixel_judge.proofs.StretchLemmas.{begun_of, begun_take, sixels_then}
+use Rattle.sixel_check.proofs.ReadLemmas.{event_at}
 use Rattle.sixel_check.proofs.pushing.push_each.Goals as goal
 
 pub push-requires-clause-expected : goal.push-requires-clause-expected
@@ -20,4 +21,4 @@ loop-index-preserved g c = λ registers seen s may.
     let before = c.loop-index.invariant registers seen s may in
     subst (StandsAfter registers c.push.new.self)
     (sixels_then seen c.args.place c.loop-index.index c.args.stretch.now (omega (arith, c.loop-index-test.true)))
-    (c.in_ok-push.ensures.ok registers _ before)
+    (event_at registers _ _ _ (c.args.place + c.loop-index.index) _ (c.in_ok-push.ensures.ok registers _ before) (omega arith))
