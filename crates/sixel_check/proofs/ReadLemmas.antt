@@ -222,6 +222,13 @@ after_run old new kept more run prefix piece some room takes keeps a =
           (run_may new a.events run (prefix ++ take run.length piece) piece some room read).0;
     }
 
+-- as many bytes
+pub read_to : (registers : ℕ) (reader : Reader) (checker : CheckerValue) (prefix piece : List ℕ) (m n : ℕ) → n ≡ m
+    → AreAfter registers reader checker (prefix ++ take m piece)
+    → AreAfter registers reader checker (prefix ++ take n piece)
+read_to registers reader checker prefix piece m n same a =
+    subst (λ (k : ℕ). AreAfter registers reader checker (prefix ++ take k piece)) (sym same) a
+
 -- an event at an offset that is the same
 pub event_at : (registers : ℕ) (checker : CheckerValue) (seen : List Placed) (from place : ℕ) (event : Event)
     → StandsAfter registers checker (seen ++ record { place = from; event = event } ∷ []) → from ≡ place

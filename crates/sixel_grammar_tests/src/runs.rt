@@ -281,7 +281,10 @@ fn open_selects_end(rt: HostRuntime) {
         assert_eq!(rt; reader.feed_run(bytes), open(3, 3));
         let place = 3;
         let command = Command::Select(12);
-        assert_eq!(rt; reader.feed_command(bytes[3]), Some(Plain::Command { place, command }));
+        assert_eq!(rt;
+            reader.feed_command(bytes[3]),
+            Some(Plain::Command { place, command })
+        );
     }
 }
 
@@ -345,7 +348,10 @@ fn runs_end_at_the_limit(rt: HostRuntime) {
         near_the_limit(&rt, 3).feed_run(b"#1~~"),
         sixels(268_435_453, Some(1), 2, 3)
     );
-    assert_eq!(rt; near_the_limit(&rt, 2).feed_run(b"#1~~"), open(268_435_454, 2));
+    assert_eq!(rt;
+        near_the_limit(&rt, 2).feed_run(b"#1~~"),
+        open(268_435_454, 2)
+    );
     assert_eq!(rt;
         near_the_limit(&rt, 3).feed_run(b"!1~~"),
         repeat(268_435_453, None, 0, 3, 1, 63)

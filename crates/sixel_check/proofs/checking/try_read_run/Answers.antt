@@ -1,7 +1,7 @@
-use Rattle.std.proofs.Common.{◌++◌, take}
+use Rattle.std.proofs.Common.{◌++◌, arith, take}
 use Rattle.std.proofs.lemmas.Result.{err_from_is_err_and}
 use Rattle.sixel_check.proofs.MemoryLemmas.{grows_run}
-use Rattle.sixel_check.proofs.ReadLemmas.{after_run, run_may}
+use Rattle.sixel_check.proofs.ReadLemmas.{after_run, read_to, run_may}
 use Rattle.sixel_check.proofs.checking.try_read_run.Goals as goal
 
 pub keep_run-requires-clause-stands : goal.keep_run-requires-clause-stands
@@ -26,9 +26,11 @@ keep_run-requires-clause-spellable g c =
 
 pub returns-in_ok-keep_run-in-Some-clause-read : goal.returns-in_ok-keep_run-in-Some-clause-read
 returns-in_ok-keep_run-in-Some-clause-read g c = λ registers prefix a.
-    after_run c.args.reader.now c.feed_run.new.self c.args.checker.now c.keep_run.new.checker c.in-Some.run' prefix
+    read_to registers c.feed_run.new.self c.keep_run.new.checker prefix c.args.bytes.now c.in-Some.run'.length _
+    (omega arith)
+    (after_run c.args.reader.now c.feed_run.new.self c.args.checker.now c.keep_run.new.checker c.in-Some.run' prefix
     c.args.bytes.now c.in-Some.ensures.within.0 c.in-Some.ensures.within.1 c.in-Some.ensures.taken
-    (c.in_ok-keep_run-in-Some.ensures.kept registers) a
+    (c.in_ok-keep_run-in-Some.ensures.kept registers) a)
 
 pub returns-in_err-keep_run-in-Some-clause-memory : goal.returns-in_err-keep_run-in-Some-clause-memory
 returns-in_err-keep_run-in-Some-clause-memory g c =
