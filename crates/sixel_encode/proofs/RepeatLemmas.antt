@@ -1,7 +1,7 @@
 -- Finding four equal bytes, many indices at once.
 use Rattle.std.proofs.Common.{◌≡◌, ◌≢◌, ◌==◌, ℕ, ◌+◌, ◌-◌, ◌%◌, ◌^◌, ◌<◌, ◌≤◌, Bool, true, false, ◌&&◌, cond}
 use Rattle.std.proofs.Common.{List, length, get_or, map, min, replicate, w8, w64, inl, inr, refl, sym, ap, ap₂}
-use Rattle.std.proofs.Common.{◌∙◌, arith}
+use Rattle.std.proofs.Common.{◌∙◌, Option, Some, None, arith}
 use Rattle.std.specs.Int.{bit_at, trailing_zeros}
 use Rattle.std.proofs.lemmas.Bool.{cases_eq, cases_lt, ne_eqb}
 use Rattle.std.proofs.lemmas.Nat.Bits.{bit_at-trailing_zeros, bit_at-zero}
@@ -9,8 +9,34 @@ use Rattle.std.proofs.lemmas.Simd.{bit_mask_l, get_or-chunk, get_or-replicate, g
 use Rattle.std.proofs.lemmas.Simd.{get_or-zip2, length-chunk, length-replicate, length-sel_l, length-zip2}
 use Rattle.std.proofs.lemmas.Simd.{mask_l-lt, mask_l-mod, tops_compared}
 use lib.Lanes.{chunk, mask_l, sel_l, top, zip2}
+use Rattle.sixel_plane.specs.Lanes.{IsFirst, IsFirstAt, NonePasses}
 use Rattle.sixel_encode.specs.Columns.{ArePairs, NoFour, are_four}
 use Rattle.sixel_encode.proofs.MaskLemmas.{none_left}
+
+-- the first byte that passes in a group, if none before the group does
+pub first_behind : (test : ℕ → Bool) (from at end to : ℕ) (bytes : List ℕ) (index : ℕ) → from ≤ at
+    → NonePasses test from at bytes → end ≤ to → IsFirstAt test at end bytes index → IsFirstAt test from to bytes index
+first_behind test from at end to bytes index low none high first = record {
+  after = omega (arith, first.after);
+  below = omega (arith, first.below);
+  passes = first.passes;
+  before = λ k after before. elim (cases_lt k at) [
+    | inl less ↦ none k after less
+    | inr past ↦ first.before k past before
+  ];
+}
+
+-- the same, if the last group may begin before the bytes that are left
+pub last_group : (test : ℕ → Bool) (from at last to end : ℕ) (bytes : List ℕ) (found : Option ℕ) → from ≤ last
+    → last ≤ at → NonePasses test from at bytes → end ≡ to → IsFirst test last end bytes found
+    → IsFirst test from to bytes found
+last_group test from at last to end bytes None low high none same first =
+    λ k after before. elim (cases_lt k last) [
+      | inl less ↦ none k after (omega arith)
+      | inr past ↦ first k past (omega arith)
+    ]
+last_group test from at last to end bytes (Some index) low high none same first =
+    first_behind test from last end to bytes index low (λ k after less. none k after (omega arith)) (omega arith) first
 
 -- which lanes of two groups are equal
 abbrev pub tests : List ℕ → List ℕ → List Bool

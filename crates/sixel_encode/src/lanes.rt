@@ -9,18 +9,23 @@ use std::simd::prelude::*;
 /// How many columns form a group, which is handled at once. A row has at most 64 groups.
 pub(crate) const LANES: usize = 32;
 
-/// The index of the first byte from `from` on that isn't `byte`, if any.
+/// The index of the first byte from `from` on that isn't `byte`, if any. The last group may begin in the one before it.
 pub(crate) fn first_other(bytes: &[u8], from: usize, byte: u8) -> Option<usize>
     requires { from ≤ length bytes.now }
     ensures { IsFirst (λ b. not (b == byte)) from (length bytes.now) bytes.now result }
 {
-    let groups = (bytes.len() - from) / LANES;
-    for group in 0..groups {
-        if let Some(index) = first_in_group(bytes, from + group * LANES, byte) {
+    if bytes.len() - from < LANES {
+        return first_in_rest(bytes, from, byte);
+    }
+    let last = bytes.len() - LANES;
+    let mut at = from;
+    while at < last {
+        if let Some(index) = first_in_group(bytes, at, byte) {
             return Some(index);
         }
+        at += LANES;
     }
-    first_in_rest(bytes, from + groups * LANES, byte)
+    first_in_group(bytes, last, byte)
 }
 
 #[inline]
