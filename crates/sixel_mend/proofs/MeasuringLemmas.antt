@@ -1,5 +1,5 @@
 -- Measuring a document while its bytes come.
-use Rattle.std.proofs.Common.{◌≡◌, ℕ, ◌++◌, List, Ok, Err, IfErr, MatchResult, OnOk, Some}
+use Rattle.std.proofs.Common.{◌≡◌, ℕ, ◌++◌, List, Ok, Err, IfErr, MatchResult, OnOk, Some, subst}
 use Rattle.std.specs.Prelude.{Result}
 use Rattle.sixel_grammar.specs.declared.command.Event.{Event}
 use Rattle.sixel_grammar.specs.declared.command.Placed.{Placed}
@@ -17,18 +17,21 @@ use Rattle.sixel_mend.proofs.FollowLemmas.{Judges}
 abbrev measures : Extent → Extent → List Event → Type 0
 measures first extent events = Measures extent events
 
-pub measured_more : (result : Result (Unit {0}) Fault) (now next : Measured) (bytes : List ℕ)
-    → OnOk result (FollowsBytes measures now.reader now.extent next.reader next.extent bytes)
+-- what was followed are all of the bytes
+pub measured_more : (result : Result (Unit {0}) Fault) (now next : Measured) (followed bytes : List ℕ)
+    → OnOk result (FollowsBytes measures now.reader now.extent next.reader next.extent followed) → followed ≡ bytes
     → OnOk result ((before : List ℕ) → HasMeasured now before → HasMeasured next (before ++ bytes))
-measured_more (Ok u) now next bytes h = λ before a. h now.extent before a
-measured_more (Err f) now next bytes h = tt
+measured_more (Ok u) now next followed bytes h all = λ before a.
+    subst (λ (t : List ℕ). HasMeasured next (before ++ t)) all (h now.extent before a)
+measured_more (Err f) now next followed bytes h all = tt
 
-pub measured_refused : (result : Result (Unit {0}) Fault) (now : Measured) (bytes : List ℕ)
-    → IfErr result (RefusesBytes measures now.reader now.extent bytes)
+pub measured_refused : (result : Result (Unit {0}) Fault) (now : Measured) (followed bytes : List ℕ)
+    → IfErr result (RefusesBytes measures now.reader now.extent followed) → followed ≡ bytes
     → IfErr result (λ fault. (before : List ℕ) → HasMeasured now before → (rest : List ℕ)
     → IsFaultOf ((before ++ bytes) ++ rest) fault)
-measured_refused (Ok u) now bytes h = tt
-measured_refused (Err f) now bytes h = λ before a rest. h now.extent before a rest
+measured_refused (Ok u) now followed bytes h all = tt
+measured_refused (Err f) now followed bytes h all = λ before a rest.
+    subst (λ (t : List ℕ). IsFaultOf ((before ++ t) ++ rest) f) all (h now.extent before a rest)
 
 pub measured_stopped : (result : Result (Unit {0}) Fault) (now : Measured) (r : Reader)
     → IfErr result (StopsAt measures now.reader now.extent r)

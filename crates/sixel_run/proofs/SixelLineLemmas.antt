@@ -1,30 +1,16 @@
 -- The line of a sixel, from the digits of its offset.
 use Rattle.std.proofs.Common.{◌≡◌, ◌∙◌, ℕ, ◌+◌, ◌-◌, ◌*◌, ◌/◌, ◌%◌, ◌^◌, ◌<◌, ◌≤◌, List, [], ◌∷◌, ◌++◌, ap, append_assoc, arith, drop}
-use Rattle.std.proofs.Common.{inl, inr, length, refl, subst, sym, take}
+use Rattle.std.proofs.Common.{inl, inr, length, refl, set, subst, suc, sym, take}
+use Rattle.std.proofs.Math.ListN.{length-set}
+use Rattle.std.proofs.Math.Seq.{take-suc-set}
 use Rattle.std.specs.Prelude.{codes, decimal}
 use Rattle.std.proofs.lemmas.Bool.{cases_lt}
 use Rattle.std.proofs.lemmas.Fmt.{decimal_digit}
-use Rattle.std.proofs.Math.Seq.{take-append-add}
-use Rattle.std.proofs.lemmas.List.{append-nil, drop-take, drop_at, length-drop, length-take-le, take-take, take_at}
+use Rattle.std.proofs.lemmas.List.{append-nil, drop-take, drop_at, length-take-le, take-take, take_at}
 use Rattle.itoa.proofs.Decimal.{decimal_pair, decimal_two}
 use Rattle.sixel_grammar.specs.declared.command.Command.TheVariants.{Sixel}
 use Rattle.sixel_grammar.specs.declared.command.Event.TheVariants.{Step}
 use Rattle.sixel_run.specs.Texts.{HasTail, command_parts, event_line, line, numbers, spaced, tail_of, two_digits}
-
--- the first bytes of a group that was written over others
-pub group-begins : (at start lanes count : ℕ) (old new text : List ℕ) → at ≤ length old → count ≤ lanes
-    → start + lanes ≤ length text
-    → take (at + length (take lanes (drop start text))) new ≡ take at old ++ take lanes (drop start text)
-    → take (at + count) new ≡ take at old ++ take count (take lanes (drop start text))
-group-begins at start lanes count old new text room few within put =
-    let group = take lanes (drop start text) in
-    let long : length group ≡ lanes = length-take-le lanes (drop start text)
-    (omega (arith, length-drop start text, within)) in
-    let first = length-take-le at old room in
-    sym (take-take (at + count) (at + length group) new (omega (arith, few, long)))
-    ∙ ap (take (at + count)) put
-    ∙ ap (λ (n : ℕ). take (n + count) (take at old ++ group)) (sym first)
-    ∙ take-append-add (take at old) group count
 
 -- digits that end at `end`, with more after them
 pub digits_before : (start end : ℕ) (digits text rest : List ℕ) → start + length digits ≡ end
@@ -75,6 +61,19 @@ repeat-joined place count bits tens ones long fits last =
 -- a number of three digits
 pub decimal_three : (n : ℕ) → 100 ≤ n → n < 1000 → decimal n ≡ (48 + n / 100) ∷ two_digits (n % 100)
 decimal_three n long short = rw (decimal_pair n long (omega arith), decimal_digit (n / 100) (omega arith)) refl
+
+-- two bytes, written one after the other
+pub two-put : (at a b : ℕ) (text : List ℕ) → at + 2 ≤ length text
+    → take (at + 2) (set (set text at a) (at + 1) b) ≡ take at text ++ a ∷ b ∷ []
+two-put at a b text room =
+    let one = set text at a in
+    let last : at + 2 ≡ suc (at + 1) = omega arith in
+    let first : at + 1 ≡ suc at = omega arith in
+    ap (λ (n : ℕ). take n (set one (at + 1) b)) last
+    ∙ take-suc-set one (at + 1) b (omega (arith, room, length-set {A = ℕ}))
+    ∙ ap (λ (t : List ℕ). t ++ b ∷ [])
+    (ap (λ (n : ℕ). take n one) first ∙ take-suc-set text at a (omega (arith, room)))
+    ∙ append_assoc (take at text) (a ∷ []) (b ∷ [])
 
 -- ---- the line of a sixel
 

@@ -8,6 +8,7 @@ ghost use Rattle.sixel_run.specs.Texts.{HasTail, event_line, tail_of, two_digits
 ghost use Rattle.sixel_run.specs.declared.sixel_line.TheConstants.{LAST, MOST_TEXT, ROOM, SIXELS};
 
 use itoa::write_digits;
+use std::simd::prelude::*;
 
 /// The index in `text` of the offset's last two digits. The digits of its hundreds end before it, and aren't more.
 const LAST: usize = 18;
@@ -161,7 +162,8 @@ impl SixelLine {
     {
         self.keep_hundreds(hundreds);
         let count = LAST - self.start;
-        put_at(text, at, &self.text[self.start..self.start + LANES]);
+        let group = &self.text[self.start..self.start + LANES];
+        put_group(text, at, group, count);
         count
     }
 
@@ -177,6 +179,9 @@ impl SixelLine {
 
 /// The most bytes of a tail.
 const LONGEST_TAIL: usize = 10;
+
+/// Where the digits of a tail begin: after the word, with a space on each side.
+const DIGITS: usize = 7;
 
 /// How many bytes lie between the beginnings of two tails.
 const STRIDE: usize = 16;
@@ -215,7 +220,8 @@ impl Tails {
     {
         let count = tail_length(bits);
         let from = STRIDE * bits as usize;
-        put_at(text, at, &self.text[from..from + LANES]);
+        let group = &self.text[from..from + LANES];
+        put_group(text, at, group, count);
         count
     }
 }
@@ -229,22 +235,17 @@ fn put_tail(text: &mut [u8], bits: u8)
     ensures long { length text.new ≡ TAILS_ROOM }
 {
     let at = STRIDE * bits as usize;
+    let mut group = *b" sixel                          ";
     if bits < 10 {
-        let digit = b'0' + bits;
-        put_at(
-            text,
-            at,
-            &[b' ', b's', b'i', b'x', b'e', b'l', b' ', digit, b'\n'],
-        );
+        group[DIGITS] = b'0' + bits;
+        group[DIGITS + 1] = b'\n';
+        put_group(text, at, &group, LONGEST_TAIL - 1);
     } else {
         let (upper, lower) = two_digits(bits);
-        put_at(
-            text,
-            at,
-            &[
-                b' ', b's', b'i', b'x', b'e', b'l', b' ', upper, lower, b'\n',
-            ],
-        );
+        group[DIGITS] = upper;
+        group[DIGITS + 1] = lower;
+        group[DIGITS + 2] = b'\n';
+        put_group(text, at, &group, LONGEST_TAIL);
     }
 }
 
@@ -262,14 +263,16 @@ fn tail_length(bits: u8) -> usize
     }
 }
 
-/// Writes the bytes over those from `at` on.
+/// Writes the first `count` of the bytes over those from `at` on, and behind them the rest of a group.
 #[inline(always)]
-fn put_at(text: &mut [u8], at: usize, bytes: &[u8])
-    requires { at + length bytes.now ≤ length text.old }
-    ensures text { take (at + length bytes.now) text.new ≡ take at text.old ++ bytes.now }
+fn put_group(text: &mut [u8], at: usize, bytes: &[u8], count: usize)
+    requires few { count ≤ LANES }
+    requires whole { LANES ≤ length bytes.now }
+    requires room { at + LANES ≤ length text.old }
+    ensures text { take (at + count) text.new ≡ take at text.old ++ take count bytes.now }
     ensures long { length text.new ≡ length text.old }
 {
-    text[at..at + bytes.len()].copy_from_slice(bytes);
+    u8x32::from_slice(bytes).copy_to_slice(&mut text[at..]);
 }
 
 /// How many sixels' lines are put at once.
@@ -329,7 +332,8 @@ impl SixelLines {
             .put_hundreds(place / 100, &mut self.text[..], self.end);
         let at = self.end + hundreds;
         let (tens, ones) = two_digits((place % 100) as u8);
-        put_at(&mut self.text[..], at, &[tens, ones]);
+        self.text[at] = tens;
+        self.text[at + 1] = ones;
         let tail = self.tails.put(bits, &mut self.text[..], at + 2);
         self.end = at + 2 + tail;
     }

@@ -4,24 +4,24 @@ use Rattle.sixel_run.proofs.sixel_line.put_tail.Goals as goal
 
 pub returns-then-bits-lt10-clause-before : goal.returns-then-bits-lt10-clause-before
 returns-then-bits-lt10-clause-before c =
-    (tail-put c.args.text.now c.put_at.new.text _ c.args.bits (tail-one c.args.bits c.if-bits-lt10.true)
-    (omega (arith, c.requires.bits, c.requires.long)) c.put_at.ensures.text).0
+    (tail-put c.args.text.now c.put_group.new.text _ c.args.bits (tail-one c.args.bits c.if-bits-lt10.true)
+    (omega (arith, c.requires.bits, c.requires.long)) c.put_group.ensures.text).0
 
 pub returns-then-bits-lt10-clause-tail : goal.returns-then-bits-lt10-clause-tail
 returns-then-bits-lt10-clause-tail c =
-    (tail-put c.args.text.now c.put_at.new.text _ c.args.bits (tail-one c.args.bits c.if-bits-lt10.true)
-    (omega (arith, c.requires.bits, c.requires.long)) c.put_at.ensures.text).1
+    (tail-put c.args.text.now c.put_group.new.text _ c.args.bits (tail-one c.args.bits c.if-bits-lt10.true)
+    (omega (arith, c.requires.bits, c.requires.long)) c.put_group.ensures.text).1
 
 pub returns-else-bits-lt10-clause-before : goal.returns-else-bits-lt10-clause-before
 returns-else-bits-lt10-clause-before c =
-    (tail-put c.args.text.now c.put_at-else-bits-lt10.new.text _ c.args.bits
+    (tail-put c.args.text.now c.put_group-else-bits-lt10.new.text _ c.args.bits
     (tail-two c.args.bits c.if-bits-lt10.false (omega (arith, c.requires.bits))
     ∙ ap (λ (p : List ℕ). 32 ∷ 115 ∷ 105 ∷ 120 ∷ 101 ∷ 108 ∷ 32 ∷ (p ++ 10 ∷ [])) (sym c.two_digits-upper.ensures))
-    (omega (arith, c.requires.bits, c.requires.long)) c.put_at-else-bits-lt10.ensures.text).0
+    (omega (arith, c.requires.bits, c.requires.long)) c.put_group-else-bits-lt10.ensures.text).0
 
 pub returns-else-bits-lt10-clause-tail : goal.returns-else-bits-lt10-clause-tail
 returns-else-bits-lt10-clause-tail c =
-    (tail-put c.args.text.now c.put_at-else-bits-lt10.new.text _ c.args.bits
+    (tail-put c.args.text.now c.put_group-else-bits-lt10.new.text _ c.args.bits
     (tail-two c.args.bits c.if-bits-lt10.false (omega (arith, c.requires.bits))
     ∙ ap (λ (p : List ℕ). 32 ∷ 115 ∷ 105 ∷ 120 ∷ 101 ∷ 108 ∷ 32 ∷ (p ++ 10 ∷ [])) (sym c.two_digits-upper.ensures))
-    (omega (arith, c.requires.bits, c.requires.long)) c.put_at-else-bits-lt10.ensures.text).1
+    (omega (arith, c.requires.bits, c.requires.long)) c.put_group-else-bits-lt10.ensures.text).1

@@ -1,7 +1,7 @@
-use Rattle.std.proofs.Common.{◌∙◌, ◌∷◌, ◌++◌, [], List, ℕ, ap}
+use Rattle.std.proofs.Common.{◌∙◌, ◌∷◌, ◌+◌, ◌++◌, [], List, ℕ, ap, arith}
 use Rattle.sixel_run.specs.SixelLines.{lines_of}
 use Rattle.sixel_run.specs.Texts.{tail_of}
-use Rattle.sixel_run.proofs.SixelLineLemmas.{sixel-joined}
+use Rattle.sixel_run.proofs.SixelLineLemmas.{sixel-joined, two-put}
 use Rattle.sixel_run.proofs.sixel_line.SixelLines.push.Goals as goal
 
 pub returns-clause-lines : goal.returns-clause-lines
@@ -9,7 +9,8 @@ returns-clause-lines c =
     let digits = c.two_digits-tens.result in
     c.put-tail.ensures.text
     ∙ ap (λ (t : List ℕ). t ++ tail_of c.args.bits)
-    (c.put_at.ensures.text
+    (two-put (c.args.self.now.end + c.put_hundreds-hundreds.result) digits.0 digits.1 c.put_hundreds-hundreds.new.text
+    (omega (arith, c.args.self.now.within, c.put_hundreds-hundreds.ensures.short, c.put_hundreds-hundreds.ensures.long))
     ∙ ap (λ (t : List ℕ). t ++ digits.0 ∷ digits.1 ∷ []) c.put_hundreds-hundreds.ensures.text)
     ∙ sixel-joined c.args.place c.args.bits digits.0 digits.1 (lines_of c.args.self.now) c.requires.place
     c.ranges.place.fits c.two_digits-tens.ensures
