@@ -381,17 +381,17 @@ group_more w start covered n next register count few bytes lanes ro rm rn co cm 
     (lanes_of bytes lanes count n few most all are) before rows columns
 
 -- a stretch of one group
-pub group_alone : (w start covered register count : ℕ) (bytes lanes ro rn co cn : List ℕ) → count ≤ 16
-    → AreSixelLanes bytes 0 count lanes
+pub group_alone : (w start covered register count few : ℕ) (bytes lanes ro rn co cn : List ℕ) → count ≤ 16
+    → AreSixelLanes bytes 0 few lanes → few ≡ count
     → ArePainted 6 w start 16 (λ j. get_or lanes j 0) register ro rn
     → AreMapped covered 16 (λ j b. bit_or b (get_or lanes j 0)) co cn
     → ArePainted 6 w start 16 (sixel_of bytes count) register ro rn
     × AreMapped covered 16 (λ j b. bit_or b (sixel_of bytes count j)) co cn
-group_alone w start covered register count bytes lanes ro rn co cn few are rows columns =
+group_alone w start covered register count few bytes lanes ro rn co cn room are all rows columns =
     let at_start : start ≡ start + 0 = omega arith in
     let at_covered : covered ≡ covered + 0 = omega arith in
-    group_more w start covered 0 16 register count count bytes lanes ro ro rn co co cn (omega arith) (omega arith)
-    (λ lt. omega arith) are (
+    group_more w start covered 0 16 register count few bytes lanes ro ro rn co co cn (omega arith) (omega (arith, all))
+    (λ lt. omega (arith, all)) are (
       no_groups w start register (sixel_of bytes count) ro,
       no_columns covered (λ j b. bit_or b (sixel_of bytes count j)) co,
     )
@@ -419,17 +419,17 @@ run_more w start covered n next register count few bits lanes ro rm rn co cm cn 
     (λ j lt. are.each j lt ∙ run_there bits count n few j most all lt) before rows columns
 
 -- a run of one group
-pub run_alone : (w start covered register count bits : ℕ) (lanes ro rn co cn : List ℕ) → count ≤ 16
-    → AreEqual bits count lanes
+pub run_alone : (w start covered register count few bits : ℕ) (lanes ro rn co cn : List ℕ) → count ≤ 16
+    → AreEqual bits few lanes → few ≡ count
     → ArePainted 6 w start 16 (λ j. get_or lanes j 0) register ro rn
     → AreMapped covered 16 (λ j b. bit_or b (get_or lanes j 0)) co cn
     → ArePainted 6 w start 16 (run_sixel bits count) register ro rn
     × AreMapped covered 16 (λ j b. bit_or b (run_sixel bits count j)) co cn
-run_alone w start covered register count bits lanes ro rn co cn few are rows columns =
+run_alone w start covered register count few bits lanes ro rn co cn room are all rows columns =
     let at_start : start ≡ start + 0 = omega arith in
     let at_covered : covered ≡ covered + 0 = omega arith in
-    run_more w start covered 0 16 register count count bits lanes ro ro rn co co cn (omega arith) (omega arith)
-    (λ lt. omega arith) are (
+    run_more w start covered 0 16 register count few bits lanes ro ro rn co co cn (omega arith) (omega (arith, all))
+    (λ lt. omega (arith, all)) are (
       no_groups w start register (run_sixel bits count) ro,
       no_columns covered (λ j b. bit_or b (run_sixel bits count j)) co,
     )
