@@ -1,5 +1,5 @@
 -- The entries of the cache of registers.
-use Rattle.std.proofs.Common.{◌≡◌, ℕ, ◌+◌, ◌*◌, ◌<◌, Option, List}
+use Rattle.std.proofs.Common.{◌≡◌, ℕ, ◌+◌, ◌*◌, ◌%◌, ◌<◌, Option, List}
 use Rattle.std.proofs.Common.{length, get_or, replicate, refl, sym, ap, ◌∙◌, arith}
 use Rattle.std.proofs.Common.{inl, inr, length-set}
 use Rattle.std.specs.Prelude.{bit_or, slice_set}
@@ -7,7 +7,7 @@ use Rattle.std.proofs.lemmas.Bool.{cases_eq}
 use Rattle.std.proofs.lemmas.Grind.{get_or-set_at}
 use Rattle.std.proofs.lemmas.List.{get_or-replicate, get_or-set_other, length-replicate}
 use Rattle.std.proofs.lemmas.Nat.{le_or_l, le_or_r}
-use Rattle.sixel_ppm.specs.PpmPixelCache.{IsHit, Knows, entry_of, place_of}
+use Rattle.sixel_ppm.specs.PpmPixelCache.{IsHit, IsPlaceOf, Knows, entry_of, place_of, second_of}
 use Rattle.sixel_model.specs.declared.colour.Parts.{Parts}
 use Rattle.sixel_ppm.specs.declared.ppm.pixel_cache.PixelCache.{PixelCache}
 
@@ -17,6 +17,10 @@ use Rattle.sixel_ppm.specs.declared.ppm.pixel_cache.PixelCache.{PixelCache}
 pub place_within : (key : ℕ) → place_of key < 4096
 unfolding place_of
 place_within key = omega arith
+
+second_within : (key : ℕ) → second_of key < 4096
+unfolding second_of
+second_within key = omega arith
 
 -- an entry with register 0, and that of the same samples with any register
 key_with : (red green blue register : ℕ) → entry_of red green blue 0 + register ≡ entry_of red green blue register
@@ -66,73 +70,108 @@ place_elsewhere : place_of 256 ≡ 887
 unfolding place_of
 place_elsewhere = refl
 
+second_of_nothing : second_of 0 ≡ 0
+unfolding second_of
+second_of_nothing = refl
+
+second_elsewhere : second_of 256 ≡ 3772
+unfolding second_of
+second_elsewhere = refl
+
+-- the samples of black and of the entry that place 0 begins with
+not_black : (red green blue place : ℕ) → entry_of red green blue 0 ≡ 0 → IsPlaceOf red green blue place → place ≡ 0
+not_black red green blue place is (inl at) = at ∙ ap (λ n. place_of n) is ∙ place_of_nothing
+not_black red green blue place is (inr at) = at ∙ ap (λ n. second_of n) is ∙ second_of_nothing
+
+not_first : (red green blue place : ℕ) → entry_of red green blue 0 ≡ 256 → IsPlaceOf red green blue place → 0 < place
+not_first red green blue place is (inl at) = omega (arith, at, ap (λ n. place_of n) is, place_elsewhere)
+not_first red green blue place is (inr at) = omega (arith, at, ap (λ n. second_of n) is, second_elsewhere)
+
+places_within : (red green blue place : ℕ) → IsPlaceOf red green blue place → place < 4096
+places_within red green blue place (inl at) = omega (arith, at, place_within (entry_of red green blue 0))
+places_within red green blue place (inr at) = omega (arith, at, second_within (entry_of red green blue 0))
+
 -- an empty cache: each entry belongs in another place
 pub none_cached : (cache : PixelCache) (maxval : ℕ) (palette : List (Option Parts)) (entry : ℕ)
-    → cache.entries ≡ slice_set (replicate 4096 0) 0 entry → entry ≡ 256 → cache.place ≡ 0
-    → cache.overwritten ≡ 256 → Knows cache maxval palette
-none_cached cache maxval palette entry set elsewhere first none =
+    → cache.entries ≡ slice_set (replicate 4096 0) 0 entry → entry ≡ 256 → Knows cache maxval palette
+none_cached cache maxval palette entry set elsewhere =
     let is : cache.entries ≡ slice_set (replicate 4096 0) 0 256 = rw elsewhere at set in
     let zeros : List ℕ = replicate 4096 0 in
     let many : length zeros ≡ 4096 = length-replicate {A = ℕ} 4096 0 in
     record {
       long = ap (λ (xs : List ℕ). length xs) is ∙ length-set zeros 0 256 ∙ many;
-      hits = λ red green blue register r g b x e.
-          let key = entry_of red green blue 0 in
-          let at : get_or (slice_set zeros 0 256) (place_of key) 0 ≡ entry_of red green blue register =
-          ap (λ (xs : List ℕ). get_or xs (place_of key) 0) (sym is) ∙ e in
-          elim (cases_eq (place_of key) 0) [
-            | inl same ↦
+      hits = λ red green blue register place r g b x there e.
+          let at : get_or (slice_set zeros 0 256) place 0 ≡ entry_of red green blue register =
+          ap (λ (xs : List ℕ). get_or xs place 0) (sym is) ∙ e in
+          elim (cases_eq place 0) [
+            | inl first ↦
                 let its : entry_of red green blue register ≡ 256 * 1 =
-                sym at ∙ get_or-set_at zeros 0 (place_of key) 256 0 same (omega (arith, many)) in
-                let key_is : key ≡ 256 = whole_key red green blue register 1 x its in
-                absurd (omega (arith, same, ap (λ n. place_of n) key_is, place_elsewhere))
+                sym at ∙ get_or-set_at zeros 0 place 256 0 first (omega (arith, many)) in
+                let key_is : entry_of red green blue 0 ≡ 256 = whole_key red green blue register 1 x its in
+                absurd (omega (arith, first, not_first red green blue place key_is there))
             | inr other ↦
                 let its : entry_of red green blue register ≡ 256 * 0 =
-                sym at ∙ get_or-set_other zeros 0 (place_of key) 256 0 other
-                ∙ get_or-replicate {A = ℕ} 4096 (place_of key) 0 0 (place_within key) in
-                let key_is : key ≡ 0 = whole_key red green blue register 0 x its in
-                absurd (other (ap (λ n. place_of n) key_is ∙ place_of_nothing))
+                sym at ∙ get_or-set_other zeros 0 place 256 0 other
+                ∙ get_or-replicate {A = ℕ} 4096 place 0 0 (places_within red green blue place there) in
+                let key_is : entry_of red green blue 0 ≡ 0 = whole_key red green blue register 0 x its in
+                absurd (other (not_black red green blue place key_is there))
           ];
-      earlier = λ red green blue register r g b x at e.
-          let key_is : entry_of red green blue 0 ≡ 256 =
-          whole_key red green blue register 1 x (sym e ∙ none) in
-          absurd (omega (arith, at, first, ap (λ n. place_of n) key_is, place_elsewhere));
     }
 
 pub hit_as : (maxval : ℕ) (palette : List (Option Parts)) (red green blue register r g b x : ℕ) → red ≡ r → green ≡ g
     → blue ≡ b → register ≡ x → IsHit maxval palette red green blue register → IsHit maxval palette r g b x
 hit_as maxval palette red green blue register r g b x e₁ e₂ e₃ e₄ hit = rw (sym e₁, sym e₂, sym e₃, sym e₄) hit
 
--- what was found in the place of a pixel
+-- what was found in a place of a pixel
 pub found_hit : (cache : PixelCache) (maxval : ℕ) (palette : List (Option Parts)) (red green blue key register : ℕ)
     → red < 256 → green < 256 → blue < 256 → register < 256 → key ≡ entry_of red green blue 0
     → get_or cache.entries (place_of key) 0 ≡ key + register → Knows cache maxval palette
     → IsHit maxval palette red green blue register
 found_hit cache maxval palette red green blue key register rs gs bs xs is at knows =
-    knows.hits red green blue register rs gs bs xs
-    (ap (λ n. get_or cache.entries (place_of n) 0) (sym is) ∙ at ∙ ap (λ n. n + register) is
-    ∙ key_with red green blue register)
+    knows.hits red green blue register (place_of key) rs gs bs xs (inl (ap (λ n. place_of n) is))
+    (at ∙ ap (λ n. n + register) is ∙ key_with red green blue register)
 
--- the same in the entry that was overwritten last
-pub overwritten_hit : (cache : PixelCache) (maxval : ℕ) (palette : List (Option Parts))
-    (red green blue key register : ℕ) → red < 256 → green < 256 → blue < 256 → register < 256
-    → key ≡ entry_of red green blue 0 → place_of key ≡ cache.place → cache.overwritten ≡ key + register
-    → Knows cache maxval palette → IsHit maxval palette red green blue register
-overwritten_hit cache maxval palette red green blue key register rs gs bs xs is at entry knows =
-    knows.earlier red green blue register rs gs bs xs (ap (λ n. place_of n) (sym is) ∙ at)
-    (entry ∙ ap (λ n. n + register) is ∙ key_with red green blue register)
+pub second_hit : (cache : PixelCache) (maxval : ℕ) (palette : List (Option Parts)) (red green blue key register : ℕ)
+    → red < 256 → green < 256 → blue < 256 → register < 256 → key ≡ entry_of red green blue 0
+    → get_or cache.entries (second_of key) 0 ≡ key + register → Knows cache maxval palette
+    → IsHit maxval palette red green blue register
+second_hit cache maxval palette red green blue key register rs gs bs xs is at knows =
+    knows.hits red green blue register (second_of key) rs gs bs xs (inr (ap (λ n. second_of n) is))
+    (at ∙ ap (λ n. n + register) is ∙ key_with red green blue register)
+
+-- the cache with an entry in one more place
+pub moved : (cache next : PixelCache) (maxval : ℕ) (palette : List (Option Parts)) (place key second : ℕ)
+    → next.entries ≡ slice_set cache.entries second (get_or cache.entries place 0) → place ≡ place_of key
+    → key + get_or cache.entries place 0 % 256 ≡ get_or cache.entries place 0 → second < 4096
+    → Knows cache maxval palette → Knows next maxval palette
+moved cache next maxval palette place key second entries first whole within knows =
+    let entry = get_or cache.entries place 0 in
+    record {
+      long = ap (λ (es : List ℕ). length es) entries ∙ length-set cache.entries second entry ∙ knows.long;
+      hits = λ r g b x i r₂ g₂ b₂ x₂ there e.
+          let at : get_or (slice_set cache.entries second entry) i 0 ≡ entry_of r g b x =
+          ap (λ (es : List ℕ). get_or es i 0) (sym entries) ∙ e in
+          elim (cases_eq i second) [
+            | inl same ↦
+                let its : entry ≡ entry_of r g b x =
+                sym (get_or-set_at cache.entries second i entry 0 same (omega (arith, knows.long, within))) ∙ at in
+                let key_is : key ≡ entry_of r g b 0 = omega (arith, its, whole, x₂) in
+                knows.hits r g b x place r₂ g₂ b₂ x₂ (inl (first ∙ ap (λ n. place_of n) key_is)) its
+            | inr other ↦
+                knows.hits r g b x i r₂ g₂ b₂ x₂ there
+                (sym (get_or-set_other cache.entries second i entry 0 other) ∙ at)
+          ];
+    }
 
 -- the cache with one more pixel
 pub keeps : (cache next : PixelCache) (maxval : ℕ) (palette : List (Option Parts))
     (place key red green blue register : ℕ)
-    → next.entries ≡ slice_set cache.entries place (key + register) → next.place ≡ place
-    → next.overwritten ≡ get_or cache.entries place 0 → place ≡ place_of key → red < 256 → green < 256
+    → next.entries ≡ slice_set cache.entries place (key + register) → place ≡ place_of key → red < 256 → green < 256
     → blue < 256 → register < 256 → key ≡ entry_of red green blue 0 → Knows cache maxval palette
     → IsHit maxval palette red green blue register → Knows next maxval palette
-keeps cache next maxval palette place key red green blue register entries there old at rs gs bs xs is knows hit = record {
+keeps cache next maxval palette place key red green blue register entries at rs gs bs xs is knows hit = record {
   long = ap (λ (es : List ℕ). length es) entries ∙ length-set cache.entries place (key + register) ∙ knows.long;
-  hits = λ r g b x r₂ g₂ b₂ x₂ e.
-      let i = place_of (entry_of r g b 0) in
+  hits = λ r g b x i r₂ g₂ b₂ x₂ there e.
       let entry : get_or (slice_set cache.entries place (key + register)) i 0 ≡ entry_of r g b x =
       ap (λ (es : List ℕ). get_or es i 0) (sym entries) ∙ e in
       elim (cases_eq i place) [
@@ -147,10 +186,7 @@ keeps cache next maxval palette place key red green blue register entries there 
             (same_blue red green blue register r g b x rs gs bs xs r₂ g₂ b₂ x₂ one)
             (same_register red green blue register r g b x rs gs bs xs r₂ g₂ b₂ x₂ one) hit
         | inr other ↦
-            knows.hits r g b x r₂ g₂ b₂ x₂
+            knows.hits r g b x i r₂ g₂ b₂ x₂ there
             (sym (get_or-set_other cache.entries place i (key + register) 0 other) ∙ entry)
       ];
-  earlier = λ r g b x r₂ g₂ b₂ x₂ same e.
-      knows.hits r g b x r₂ g₂ b₂ x₂
-      (ap (λ n. get_or cache.entries n 0) (same ∙ there) ∙ sym old ∙ e);
 }

@@ -272,16 +272,8 @@ pub still_cached : (cache : PixelCache) (maxval : ℕ) (old new : List (Option P
     → Knows cache maxval old → Knows cache maxval new
 still_cached cache maxval old new kept knows = record {
   long = knows.long;
-  hits = λ red green blue register r g b x e.
-      let hit = knows.hits red green blue register r g b x e in
-      record {
-        good_red = hit.good_red;
-        good_green = hit.good_green;
-        good_blue = hit.good_blue;
-        first = kept (colour_of maxval red green blue) register hit.first;
-      };
-  earlier = λ red green blue register r g b x at e.
-      let hit = knows.earlier red green blue register r g b x at e in
+  hits = λ red green blue register place r g b x there e.
+      let hit = knows.hits red green blue register place r g b x there e in
       record {
         good_red = hit.good_red;
         good_green = hit.good_green;

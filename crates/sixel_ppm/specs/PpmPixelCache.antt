@@ -1,5 +1,5 @@
 -- The cache of registers by samples. Only contracts of private functions cite these.
-use Rattle.std.specs.Prelude.{◌≡◌, ◌<◌, ◌≤◌, ◌+◌, ◌*◌, ◌%◌, ◌/◌, ◌^◌, ℕ, Option, Some, List, [], ◌∷◌, ◌++◌}
+use Rattle.std.specs.Prelude.{◌≡◌, ◌⊎◌, ◌<◌, ◌≤◌, ◌+◌, ◌*◌, ◌%◌, ◌/◌, ◌^◌, ℕ, Option, Some, List, [], ◌∷◌, ◌++◌}
 use Rattle.std.specs.Prelude.{get_or, length, position, take}
 use Rattle.sixel_model.specs.Colours.{is_entry}
 use Rattle.sixel_ppm.specs.PpmReading.{colour_of}
@@ -14,6 +14,10 @@ entry_of red green blue register = 256 * red + 65536 * green + 16777216 * blue +
 unfoldable pub place_of : ℕ → ℕ
 place_of key = key * 2654435761 % 2 ^ 32 / 2 ^ 20
 
+-- its second place
+unfoldable pub second_of : ℕ → ℕ
+second_of key = key * 2246822507 % 2 ^ 32 / 2 ^ 20
+
 -- the pixel's samples are at most the maximum, and its register is the first one of its colour
 pub record IsHit (maxval : ℕ) (palette : List (Option Parts)) (red green blue register : ℕ) : Type 0 where
   pub good_red : red ≤ maxval
@@ -21,14 +25,16 @@ pub record IsHit (maxval : ℕ) (palette : List (Option Parts)) (red green blue 
   pub good_blue : blue ≤ maxval
   pub first : position (is_entry (colour_of maxval red green blue)) palette ≡ Some register
 
--- each register that is in its pixel's place is correct, and so is the one that the last entry overwrote there
+-- one of the two places of the pixel with these samples
+abbrev pub IsPlaceOf : ℕ → ℕ → ℕ → ℕ → Type 0
+IsPlaceOf red green blue place =
+    let key = entry_of red green blue 0 in (place ≡ place_of key) ⊎ (place ≡ second_of key)
+
+-- each register that is in a place of its pixel is correct
 pub record Knows (cache : PixelCache) (maxval : ℕ) (palette : List (Option Parts)) : Type 0 where
   pub long : length cache.entries ≡ 4096
-  pub hits : (red green blue register : ℕ) → red < 256 → green < 256 → blue < 256 → register < 256
-      → get_or cache.entries (place_of (entry_of red green blue 0)) 0 ≡ entry_of red green blue register
-      → IsHit maxval palette red green blue register
-  pub earlier : (red green blue register : ℕ) → red < 256 → green < 256 → blue < 256 → register < 256
-      → place_of (entry_of red green blue 0) ≡ cache.place → cache.overwritten ≡ entry_of red green blue register
+  pub hits : (red green blue register place : ℕ) → red < 256 → green < 256 → blue < 256 → register < 256
+      → IsPlaceOf red green blue place → get_or cache.entries place 0 ≡ entry_of red green blue register
       → IsHit maxval palette red green blue register
 
 -- the pixels with these samples have these registers

@@ -3,6 +3,7 @@
 ghost use Rattle.std.specs.Prelude.{◌≡◌, ◌≤◌, ◌<◌, ◌+◌, ◌-◌, ◌*◌, ◌++◌, ℕ, IfSome, List, Option, true, length};
 ghost use Rattle.std.specs.Prelude.{false, get_or, replicate, slice_index, take, vec_capacity, vec_len};
 ghost use Rattle.sixel_ppm.specs.PpmPixelCache.{AreSame, GoesOn, IsHit, Knows, PutsHits, entry_of, place_of};
+ghost use Rattle.sixel_ppm.specs.PpmPixelCache.{second_of};
 ghost use Rattle.sixel_model.specs.declared.colour.Parts.{Parts};
 
 use std::simd::prelude::*;
@@ -20,19 +21,13 @@ const GROUP: usize = 16;
 /// How many pixels are looked up before one test of all of them.
 const FOUR: usize = 4;
 
-/// What is found of a pixel that the cache doesn't have.
-const NOTHING: u32 = 256;
-
-/// The registers of some earlier pixels. A multiplicative hash of the samples gives the place of a pixel; a pixel with
-/// other samples may have overwritten it.
+/// The registers of some earlier pixels. Two multiplicative hashes of the samples give the places of a pixel. It is kept
+/// in the first one, and the entry there moves to its own second place; a pixel with other samples may overwrite it.
 ///
-/// An entry has the register in its lowest byte, and the samples in those above. The last entry that was overwritten is
-/// still found: pictures of a few colours often alternate between two, and these may share a place.
+/// An entry has the register in its lowest byte, and the samples in those above.
 #[derive(Debug, Drop)]
 pub(crate) struct PixelCache {
     entries: [u32; PLACES],
-    place: usize,
-    overwritten: u32,
 }
 
 /// The entry of a pixel with register 0.
@@ -63,6 +58,16 @@ fn place_of(key: u32) -> usize
     ensures within { result < PLACES }
 {
     (key.wrapping_mul(0x9E37_79B1) >> 20) as usize
+}
+
+/// The second place of a pixel, by its entry with register 0.
+#[inline]
+#[tactic(auto, unfolding(crate::specs::PpmPixelCache::second_of))]
+fn second_of(key: u32) -> usize
+    ensures value { result ≡ second_of key }
+    ensures within { result < PLACES }
+{
+    (key.wrapping_mul(0x85EB_CA6B) >> 20) as usize
 }
 
 /// Whether all four of what was found are registers.
@@ -115,11 +120,7 @@ impl PixelCache {
     {
         let mut entries = [0; PLACES];
         entries[0] = ELSEWHERE;
-        PixelCache {
-            entries,
-            place: 0,
-            overwritten: ELSEWHERE,
-        }
+        PixelCache { entries }
     }
 
     /// The register of a pixel, by its entry with register 0, or a number above 255 if the cache doesn't have it.
@@ -131,18 +132,13 @@ impl PixelCache {
         self.entries[place_of(key)].wrapping_sub(key)
     }
 
-    /// The same, of the entry that was overwritten last.
+    /// The same in its second place.
     #[inline]
-    fn found_overwritten(&self, key: u32) -> u32
+    fn found_second(&self, key: u32) -> u32
         requires { key + 256 ≤ 4294967296 }
-        ensures place { result < 256 → place_of key ≡ self.now.place }
-        ensures entry { result < 256 → self.now.overwritten ≡ key + result }
+        ensures { result < 256 → get_or self.now.entries (second_of key) 0 ≡ key + result }
     {
-        if place_of(key) == self.place {
-            self.overwritten.wrapping_sub(key)
-        } else {
-            NOTHING
-        }
+        self.entries[second_of(key)].wrapping_sub(key)
     }
 
     /// The register of a pixel, if the cache has it.
@@ -155,23 +151,35 @@ impl PixelCache {
         if found < 256 {
             return Some(found as u8);
         }
-        let earlier = self.found_overwritten(key);
-        if earlier < 256 {
-            Some(earlier as u8)
+        let second = self.found_second(key);
+        if second < 256 {
+            Some(second as u8)
         } else {
             None
         }
     }
 
-    /// Stores the register of a pixel, and overwrites what its place held.
+    /// Moves the entry in this place to its second place, if this is its first.
+    fn move_entry(&mut self, place: usize)
+        requires { place < PLACES }
+        ensures { (maxval : ℕ) (palette : List (Option Parts)) → Knows self.old maxval palette →
+            Knows self.new maxval palette }
+    {
+        let entry = self.entries[place];
+        let key = entry - entry % 256;
+        if place_of(key) == place {
+            self.entries[second_of(key)] = entry;
+        }
+    }
+
+    /// Stores the register of a pixel in its first place.
     pub(crate) fn keep(&mut self, red: u8, green: u8, blue: u8, register: u8)
         ensures { (maxval : ℕ) (palette : List (Option Parts)) → Knows self.old maxval palette →
             IsHit maxval palette red green blue register → Knows self.new maxval palette }
     {
         let key = key_of(red, green, blue);
         let place = place_of(key);
-        self.place = place;
-        self.overwritten = self.entries[place];
+        self.move_entry(place);
         self.entries[place] = key + register as u32;
     }
 

@@ -1,5 +1,5 @@
 use Rattle.std.proofs.Common.{arith}
-use Rattle.sixel_ppm.proofs.PpmEntryLemmas.{found_hit, overwritten_hit}
+use Rattle.sixel_ppm.proofs.PpmEntryLemmas.{found_hit, second_hit}
 use Rattle.sixel_ppm.proofs.ppm.pixel_cache.PixelCache.register_of.Goals as goal
 
 pub returns-then-found-lt256 : goal.returns-then-found-lt256
@@ -8,10 +8,9 @@ returns-then-found-lt256 c = λ maxval palette knows.
     (omega (arith, c.ranges.red.fits)) (omega (arith, c.ranges.green.fits)) (omega (arith, c.ranges.blue.fits))
     c.if-found-lt256.true c.key_of-key.ensures.value (c.found-found.ensures c.if-found-lt256.true) knows
 
-pub returns-then-earlier-lt256 : goal.returns-then-earlier-lt256
-returns-then-earlier-lt256 c = λ maxval palette knows.
-    overwritten_hit c.args.self.now maxval palette c.args.red c.args.green c.args.blue c.key_of-key.result
-    c.found_overwritten-earlier.result (omega (arith, c.ranges.red.fits)) (omega (arith, c.ranges.green.fits))
-    (omega (arith, c.ranges.blue.fits)) c.if-earlier-lt256.true c.key_of-key.ensures.value
-    (c.found_overwritten-earlier.ensures.place c.if-earlier-lt256.true)
-    (c.found_overwritten-earlier.ensures.entry c.if-earlier-lt256.true) knows
+pub returns-then-second-lt256 : goal.returns-then-second-lt256
+returns-then-second-lt256 c = λ maxval palette knows.
+    second_hit c.args.self.now maxval palette c.args.red c.args.green c.args.blue c.key_of-key.result
+    c.found_second-second.result (omega (arith, c.ranges.red.fits)) (omega (arith, c.ranges.green.fits))
+    (omega (arith, c.ranges.blue.fits)) c.if-second-lt256.true c.key_of-key.ensures.value
+    (c.found_second-second.ensures c.if-second-lt256.true) knows
