@@ -11,7 +11,7 @@ use std::simd::prelude::*;
 /// How many pixels the cache has room for.
 const PLACES: usize = 4096;
 
-/// What place 0 holds while it is empty: an entry of another place. Any other place is empty with 0, which belongs in
+/// What place 0 holds while it is empty: an entry of other places. Any other place is empty with 0, which belongs only in
 /// place 0.
 const ELSEWHERE: u32 = 256;
 
@@ -50,7 +50,7 @@ fn key_at(bytes: &[u8], at: usize) -> u32
     u32x1::from_le_bytes(u8x4::from_slice(&bytes[at..])).to_array()[0] << 8
 }
 
-/// The place of a pixel, by its entry with register 0. The multiplication spreads those that are near each other.
+/// The first place of a pixel, by its entry with register 0. The multiplication spreads those that are near each other.
 #[inline]
 #[tactic(auto, unfolding(crate::specs::PpmPixelCache::place_of))]
 fn place_of(key: u32) -> usize
@@ -132,7 +132,7 @@ impl PixelCache {
         self.entries[place_of(key)].wrapping_sub(key)
     }
 
-    /// The same in its second place.
+    /// The same, by the pixel's second place.
     #[inline]
     fn found_second(&self, key: u32) -> u32
         requires { key + 256 ≤ 4294967296 }
