@@ -103,7 +103,7 @@ before-tail text other tail at within put =
     ∙ ap (λ (n : ℕ). take n (take at text ++ tail)) (sym long) ∙ take_at (take at text) tail _ refl
 
 -- the tail in a text, and what follows it
-pub tail-taken : (text : List ℕ) (bits lanes : ℕ) → 16 * bits ≤ length text → length (tail_of bits) ≤ lanes
+tail-taken : (text : List ℕ) (bits lanes : ℕ) → 16 * bits ≤ length text → length (tail_of bits) ≤ lanes
     → HasTail text bits → take (length (tail_of bits)) (take lanes (drop (16 * bits) text)) ≡ tail_of bits
 tail-taken text bits lanes within wide has =
     let at = 16 * bits in
@@ -143,6 +143,19 @@ tail-short bits few = elim (cases_lt bits 10) [
   | inl small ↦ omega (arith, ap length (tail-one bits small))
   | inr large ↦ omega (arith, ap length (tail-two bits large (omega (arith, few))))
 ]
+
+-- the tail at the place `at`, written behind some bytes with the rest of its group
+pub tail-there : (text new front : List ℕ) (n bits at count : ℕ) → bits < 64 → 16 * bits ≤ length text
+    → HasTail text bits → count ≡ length (tail_of bits)
+    → take (n + count) new ≡ front ++ take count (take (at + 32 - at) (drop at text)) → at ≡ 16 * bits
+    → take (n + count) new ≡ front ++ tail_of bits
+tail-there text new front n bits at count few within has long put there =
+    let lanes = 16 * bits + 32 - 16 * bits in
+    let wide : length (tail_of bits) ≤ lanes = omega (arith, tail-short bits few) in
+    put
+    ∙ ap (λ (a : ℕ). front ++ take count (take (a + 32 - a) (drop a text))) there
+    ∙ ap (λ (t : List ℕ). front ++ t)
+    (ap (λ (m : ℕ). take m (take lanes (drop (16 * bits) text))) long ∙ tail-taken text bits lanes within wide has)
 
 -- one more tail was put, and those before it stayed
 pub tails-more : (text other : List ℕ) (bits : ℕ) → bits < 64 → take (16 * bits) other ≡ take (16 * bits) text

@@ -10,7 +10,7 @@ ghost use Rattle.sixel_run.specs.declared.sixel_line.TheConstants.{LAST, MOST_TE
 use itoa::write_digits;
 use std::simd::prelude::*;
 
-/// The index in `text` of the offset's last two digits. The digits of its hundreds end before it, and aren't more.
+/// The index in `text` of the last two digits of the offset. Those of its hundreds, at most as many, end before it.
 const LAST: usize = 18;
 
 /// How many bytes are stored at once: no line of a sixel has more.
