@@ -53,7 +53,7 @@ pub fn outside_pixel(
 
 /// Whether `count` columns from `column` on lie inside the box in all six rows of the band.
 #[inline(always)]
-pub(crate) fn is_inside(column: u64, band: u64, count: u64, width: u32, height: u32) -> bool
+pub fn is_inside(column: u64, band: u64, count: u64, width: u32, height: u32) -> bool
     ensures { IsTrue result ↔ (column + count ≤ width) × (band_rows * band + band_rows ≤ height) }
 {
     column <= width as u64

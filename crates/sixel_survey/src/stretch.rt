@@ -26,8 +26,8 @@ use crate::notes::Notes;
 use crate::tally::{Hit, counted, counted_more};
 use crate::tallying::{put, tally_of};
 use sixel_judge::Rule;
-use sixel_judge::outside::outside_pixel;
-use sixel_model::{BAND_ROWS, Profile};
+use sixel_judge::outside::{is_inside, outside_pixel};
+use sixel_model::Profile;
 use sixel_plane::Plane;
 
 /// Whether `count` columns from the current one on lie in the box, with all six rows of their band.
@@ -37,10 +37,13 @@ pub(crate) fn fits<P: Plane>(notes: &Notes, plane: &P, count: usize) -> bool
     ensures column { result ≡ true → notes.now.column ≤ u32.MAX }
     ensures band { result ≡ true → notes.now.band ≤ u32.MAX }
 {
-    let width = plane.width() as u64;
-    notes.column <= width
-        && count as u64 <= width - notes.column
-        && notes.band < (plane.height() / BAND_ROWS) as u64
+    is_inside(
+        notes.column,
+        notes.band,
+        count as u64,
+        plane.width(),
+        plane.height(),
+    )
 }
 
 /// Whether the sixel of the byte paints.
