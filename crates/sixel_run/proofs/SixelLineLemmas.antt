@@ -1,5 +1,6 @@
 -- The line of a sixel, from the digits of its offset.
 use Rattle.std.proofs.Common.{◌≡◌, ◌∙◌, ℕ, ◌+◌, ◌-◌, ◌*◌, ◌/◌, ◌%◌, ◌^◌, ◌<◌, ◌≤◌, List, [], ◌∷◌, ◌++◌, ap, append_assoc, arith, drop}
+use Rattle.std.proofs.Common.{ap₂}
 use Rattle.std.proofs.Common.{inl, inr, length, refl, set, subst, suc, sym, take}
 use Rattle.std.proofs.Math.ListN.{length-set}
 use Rattle.std.proofs.Math.Seq.{take-suc-set}
@@ -63,9 +64,9 @@ pub decimal_three : (n : ℕ) → 100 ≤ n → n < 1000 → decimal n ≡ (48 +
 decimal_three n long short = rw (decimal_pair n long (omega arith), decimal_digit (n / 100) (omega arith)) refl
 
 -- two bytes, written one after the other
-pub two-put : (at a b : ℕ) (text : List ℕ) → at + 2 ≤ length text
-    → take (at + 2) (set (set text at a) (at + 1) b) ≡ take at text ++ a ∷ b ∷ []
-two-put at a b text room =
+pub two-put : (at a b tens ones : ℕ) (text : List ℕ) → at + 2 ≤ length text → a ≡ tens → b ≡ ones
+    → take (at + 2) (set (set text at a) (at + 1) b) ≡ take at text ++ tens ∷ ones ∷ []
+two-put at a b tens ones text room upper lower =
     let one = set text at a in
     let last : at + 2 ≡ suc (at + 1) = omega arith in
     let first : at + 1 ≡ suc at = omega arith in
@@ -74,6 +75,7 @@ two-put at a b text room =
     ∙ ap (λ (t : List ℕ). t ++ b ∷ [])
     (ap (λ (n : ℕ). take n one) first ∙ take-suc-set text at a (omega (arith, room)))
     ∙ append_assoc (take at text) (a ∷ []) (b ∷ [])
+    ∙ ap₂ (λ (x y : ℕ). take at text ++ x ∷ y ∷ []) upper lower
 
 -- ---- the line of a sixel
 

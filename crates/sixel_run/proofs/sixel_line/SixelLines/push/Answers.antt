@@ -9,8 +9,10 @@ returns-clause-lines c =
     let digits = c.two_digits-tens.result in
     c.put-tail.ensures.text
     ∙ ap (λ (t : List ℕ). t ++ tail_of c.args.bits)
-    (two-put (c.args.self.now.end + c.put_hundreds-hundreds.result) digits.0 digits.1 c.put_hundreds-hundreds.new.text
+    (two-put (c.args.self.now.end + c.put_hundreds-hundreds.result) _ _ digits.0 digits.1
+    c.put_hundreds-hundreds.new.text
     (omega (arith, c.args.self.now.within, c.put_hundreds-hundreds.ensures.short, c.put_hundreds-hundreds.ensures.long))
+    (omega arith) (omega arith)
     ∙ ap (λ (t : List ℕ). t ++ digits.0 ∷ digits.1 ∷ []) c.put_hundreds-hundreds.ensures.text)
     ∙ sixel-joined c.args.place c.args.bits digits.0 digits.1 (lines_of c.args.self.now) c.requires.place
     c.ranges.place.fits c.two_digits-tens.ensures
