@@ -294,6 +294,28 @@ pub first-split : (bytes : List ℕ) → 0 < length bytes → bytes ≡ (get_or 
 first-split [] some = absurd (omega arith)
 first-split (b ∷ more) some = refl
 
+-- one byte of the rest of a piece was read, and the lines of its events were put
+pub byte-part : (old new : Reader) (rest : List ℕ) (done : List Placed) (had has : Option (List ℕ))
+    → 0 < length rest → Takes old new (get_or rest 0 0) done → Appends had has (list_text done)
+    → Lists old new (take 1 rest) had has
+byte-part old new rest done had has some takes put events bytes stands = (
+  done,
+  subst (λ (t : List ℕ). StandsAfter new (events ++ done) (bytes ++ t)) (sym (first-byte rest some))
+      (takes events bytes stands),
+  put,
+)
+
+-- it was read, and putting the lines of its events failed
+pub byte-part-stopped : (A : Type 0) (old new : Reader) (rest : List ℕ) (done : List Placed) (had has : Option (List ℕ))
+    → 0 < length rest → Takes old new (get_or rest 0 0) done
+    → ((n : ℕ) × Appends had has (take n (list_text done)))
+    → (events : List Placed) (bytes : List ℕ) → StandsAfter old events bytes
+    → Feeds {A = A} (Err Write) new rest had has events bytes
+byte-part-stopped A old new rest done had has some takes put events bytes stands =
+    fails-longer (Unit {0}) A Write new rest (get_or rest 0 0 ∷ []) (drop 1 rest) had has events bytes
+    (first-split rest some)
+    (byte-stopped old new (get_or rest 0 0) done had has events bytes stands takes put)
+
 -- a run was read, and putting its lines failed
 pub run-stopped : (old new : Reader) (run : Run) (piece : List ℕ) (had has : Option (List ℕ))
     (events : List Placed) (bytes : List ℕ) → StandsAfter old events bytes → TakesRun old new run piece

@@ -1,9 +1,10 @@
 //! Lists the events of a sixel picture, a line each.
 
-ghost use Rattle.std.specs.Prelude.{◌≡◌, ◌≢◌, ◌<◌, ◌≤◌, ◌∷◌, ℕ, List, [], Err, IfOk, IfSome, OnOk, length};
+ghost use Rattle.std.specs.Prelude.{◌≡◌, ◌≢◌, ◌<◌, ◌≤◌, ◌∷◌, ℕ, List, [], Err, IfOk, IfSome, IsNone, OnOk, length};
 ghost use Rattle.sixel_grammar.specs.declared.command.Placed.{Placed as Place};
 ghost use Rattle.sixel_io.specs.Blocks.{TakesMore, in_all};
-ghost use Rattle.sixel_grammar.specs.Standing.{StandsAfter};
+ghost use Rattle.sixel_grammar.specs.Plain.{plain_of};
+ghost use Rattle.sixel_grammar.specs.Standing.{StandsAfter, Takes, completions};
 ghost use Rattle.sixel_run.specs.declared.task.Task.TheVariants.{List as Listing};
 ghost use Rattle.sixel_run.specs.Feeding.{Feeds, FeedsSome};
 ghost use Rattle.sixel_run.specs.Outputs.{CountsWrites, Wrote, failures_by};
@@ -12,7 +13,7 @@ use crate::fault::RunFault;
 use crate::running::list_lines::{Lines, put_lines, put_plain, put_run, put_two};
 use crate::sixel_line::{SixelLine, SixelLines};
 use crate::task::Status;
-use sixel_grammar::Reader;
+use sixel_grammar::{Plain, Reader};
 use sixel_io::{PIECE, Sink, Source};
 
 /// Writes a line for each event when it is complete, also before a fault. It allocates nothing and doesn't flush.
@@ -92,9 +93,32 @@ fn feed_all<K: Sink>(
 {
     let mut read = 0;
     while read < piece.len() {
-        read += feed_some(reader, &piece[read..], sixels, lines, out)?;
+        let rest = &piece[read..];
+        if let Some(plain) = feed_digit(reader, rest[0]) {
+            match put_plain(plain, &mut sixels.line, lines, out) {
+                Ok(()) => {
+                    read += 1;
+                    continue;
+                }
+                Err(_) => return Err(RunFault::Write),
+            }
+        }
+        read += feed_some(reader, rest, sixels, lines, out)?;
     }
     Ok(())
+}
+
+/// Reads the byte if it is a digit and completes at most a command. It is asked first, since a definition has many.
+#[inline(always)]
+fn feed_digit(reader: &mut Reader, byte: u8) -> Option<Plain>
+    ensures accepted { IfSome result (λ plain. Takes reader.old reader.new byte (completions (plain_of plain))) }
+    ensures kept { IsNone result → reader.new ≡ reader.old }
+{
+    if byte.is_ascii_digit() {
+        reader.feed_plain(byte)
+    } else {
+        None
+    }
 }
 
 /// Reads a run of columns at the beginning of `bytes`, or else one byte, and puts the lines of the events that they
