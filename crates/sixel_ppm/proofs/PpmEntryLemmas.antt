@@ -74,7 +74,7 @@ second_of_nothing : second_of 0 ≡ 0
 unfolding second_of
 second_of_nothing = refl
 
-second_elsewhere : second_of 256 ≡ 3772
+second_elsewhere : second_of 256 ≡ 2481
 unfolding second_of
 second_elsewhere = refl
 

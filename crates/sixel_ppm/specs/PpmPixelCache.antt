@@ -16,7 +16,7 @@ place_of key = key * 2654435761 % 2 ^ 32 / 2 ^ 20
 
 -- its second place
 unfoldable pub second_of : ℕ → ℕ
-second_of key = key * 2246822507 % 2 ^ 32 / 2 ^ 20
+second_of key = key * 2654435761 % 2 ^ 32 / 2 ^ 8 % 4096
 
 -- the pixel's samples are at most the maximum, and its register is the first one of its colour
 pub record IsHit (maxval : ℕ) (palette : List (Option Parts)) (red green blue register : ℕ) : Type 0 where

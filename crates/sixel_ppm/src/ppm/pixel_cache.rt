@@ -21,8 +21,8 @@ const GROUP: usize = 16;
 /// How many pixels are looked up before one test of all of them.
 const FOUR: usize = 4;
 
-/// The registers of some earlier pixels. Two multiplicative hashes of the samples give the places of a pixel. It is kept
-/// in the first one, and the entry there moves to its own second place; a pixel with other samples may overwrite it.
+/// The registers of some earlier pixels. A multiplicative hash of the samples gives two places of a pixel. It is kept in
+/// the first one, and the entry there moves to its own second place; a pixel with other samples may overwrite it.
 ///
 /// An entry has the register in its lowest byte, and the samples in those above.
 #[derive(Debug, Drop)]
@@ -60,14 +60,15 @@ fn place_of(key: u32) -> usize
     (key.wrapping_mul(0x9E37_79B1) >> 20) as usize
 }
 
-/// The second place of a pixel, by its entry with register 0.
+/// The second place of a pixel, by its entry with register 0: further bits of the same product. No two pixels have both
+/// places in common.
 #[inline]
 #[tactic(auto, unfolding(crate::specs::PpmPixelCache::second_of))]
 fn second_of(key: u32) -> usize
     ensures value { result ≡ second_of key }
     ensures within { result < PLACES }
 {
-    (key.wrapping_mul(0x85EB_CA6B) >> 20) as usize
+    (key.wrapping_mul(0x9E37_79B1) >> 8) as usize % PLACES
 }
 
 /// Whether all four of what was found are registers.
