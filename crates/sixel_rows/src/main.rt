@@ -1,14 +1,15 @@
 //! Runs the rows of `data/` through `run`, with inputs cut in many ways: the conformance suite of this repository.
 //!
 //! It prints the number of rows of each file. If a run ends in another way than its row says, it prints the row, and
-//! the exit status is 1. The plain judge and the terminals also test the inputs of `check.rows`, and made documents. A
-//! file that can't be read, an empty file and a malformed row are errors.
+//! the exit status is 1. The plain judge and the terminals also test the inputs of `check.rows`, and made documents;
+//! those of `mend.rows` are mended at once too. A file that can't be read, an empty file and a malformed row are errors.
 #![tactic(auto)]
 
 mod devices;
 mod format;
 mod judged;
 mod judges;
+mod mended;
 mod prefixes;
 mod steps;
 mod tasks;
@@ -18,6 +19,7 @@ mod wrong;
 
 use crate::format::{Row, rows_of};
 use crate::judged::{judge_made, judge_rows};
+use crate::mended::mend_rows;
 use crate::prefixes::{has_prefixes, prefix_of};
 use crate::tasks::{Wrong, wrong_in_some_pieces, wrong_of};
 use crate::wrong::wrong_lines;
@@ -40,6 +42,9 @@ const FILES: [&str; 8] = [
 
 /// The file whose rows the plain judge judges too.
 const JUDGED: &str = "check.rows";
+
+/// The file whose inputs are mended at once too.
+const MENDED: &str = "mend.rows";
 
 fn main(rt: HostRuntime) -> Result<ExitCode, anyhow::Error> {
     let mut wrong: u64 = 0;
@@ -70,6 +75,9 @@ fn run_file(rt: &HostRuntime, name: &str) -> Result<u64, anyhow::Error> {
     println!(rt; "{name}: {} rows", rows.len())?;
     if name == JUDGED {
         wrong = wrong.saturating_add(judge_rows(rt, name, rows.as_slice())?);
+    }
+    if name == MENDED {
+        wrong = wrong.saturating_add(mend_rows(rt, name, rows.as_slice())?);
     }
     Ok(wrong)
 }
