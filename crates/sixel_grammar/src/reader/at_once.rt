@@ -81,8 +81,10 @@ impl Reader {
         run
     }
 
-    /// Takes the first `end` bytes: the introducer and the digits of a select, which is open then.
-    #[inline(always)]
+    /// Takes the first `end` bytes: the introducer and the digits of a select, which is open then. It isn't inlined, or
+    /// the loops that read runs with columns would keep more values in memory.
+    #[cold]
+    #[inline(never)]
     fn open_select(&mut self, register: u16, end: usize) -> Run
         requires some { 0 < end }
         requires few { end ≤ self.old.left }
