@@ -10,7 +10,7 @@ ghost use Rattle.sixel_run.specs.Feeding.{Feeds, FeedsSome};
 ghost use Rattle.sixel_run.specs.Outputs.{CountsWrites, Wrote, failures_by};
 
 use crate::fault::RunFault;
-use crate::running::list_lines::{Lines, put_ended, put_lines, put_plain, put_run, put_two};
+use crate::running::list_lines::{Lines, put_lines, put_plain, put_run, put_two};
 use crate::sixel_line::{SixelLine, SixelLines};
 use crate::task::Status;
 use sixel_grammar::{Plain, Reader};
@@ -95,7 +95,7 @@ fn feed_all<K: Sink>(
     while read < piece.len() {
         let rest = &piece[read..];
         if let Some(plain) = feed_digit(reader, rest[0]) {
-            match put_plain(plain, lines, out) {
+            match put_plain(plain, &mut sixels.line, lines, out) {
                 Ok(()) => {
                     read += 1;
                     continue;
@@ -166,11 +166,11 @@ fn feed_byte<K: Sink>(
     ensures failures { CountsWrites result (K.state out.old).failures (K.state out.new).failures }
 {
     match reader.feed_command(byte) {
-        Some(plain) => match put_ended(plain, line, lines, out) {
+        Some(plain) => match put_plain(plain, line, lines, out) {
             Ok(()) => Ok(()),
             Err(_) => Err(RunFault::Write),
         },
-        None => feed_rarely(reader, byte, lines, out),
+        None => feed_rarely(reader, byte, line, lines, out),
     }
 }
 
@@ -179,6 +179,7 @@ fn feed_byte<K: Sink>(
 fn feed_rarely<K: Sink>(
     reader: &mut Reader,
     byte: u8,
+    line: &mut SixelLine,
     lines: &mut Lines,
     out: &mut K,
 ) -> Result<(), RunFault>
@@ -189,7 +190,7 @@ fn feed_rarely<K: Sink>(
     ensures failures { CountsWrites result (K.state out.old).failures (K.state out.new).failures }
 {
     match reader.feed_two(byte) {
-        Some(two) => match put_two(two, lines, out) {
+        Some(two) => match put_two(two, line, lines, out) {
             Ok(()) => Ok(()),
             Err(_) => Err(RunFault::Write),
         },

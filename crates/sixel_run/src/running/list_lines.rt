@@ -25,19 +25,7 @@ pub type Lines = Block<786_432>;
 
 /// Puts the line of the command, if there is one.
 #[inline(always)]
-pub fn put_plain<K: Sink>(plain: Plain, lines: &mut Lines, out: &mut K) -> Result<(), DeviceFault>
-    ensures { WritesThrough result (K.state out.old) (K.state out.new) lines.old lines.new
-        (list_text (completions (plain_of plain))) }
-{
-    match plain {
-        Plain::Nothing => Ok(()),
-        Plain::Command { place, command } => put_command(place, command, lines, out),
-    }
-}
-
-/// As `put_plain`. Nearly all commands that a byte ends are selects, whose lines are made quickly.
-#[inline(always)]
-pub fn put_ended<K: Sink>(
+pub fn put_plain<K: Sink>(
     plain: Plain,
     line: &mut SixelLine,
     lines: &mut Lines,
@@ -48,13 +36,13 @@ pub fn put_ended<K: Sink>(
 {
     match plain {
         Plain::Nothing => Ok(()),
-        Plain::Command { place, command } => put_any(place, command, line, lines, out),
+        Plain::Command { place, command } => put_ended(place, command, line, lines, out),
     }
 }
 
-/// Puts the line of a command, of a select quickly.
+/// Puts the line of a command that a byte ended or is. Nearly all that a byte ends are selects.
 #[inline(always)]
-fn put_any<K: Sink>(
+fn put_ended<K: Sink>(
     place: u64,
     command: Command,
     line: &mut SixelLine,
@@ -70,13 +58,17 @@ fn put_any<K: Sink>(
     }
 }
 
-/// Puts the lines of two commands that a byte completed. It has no line to keep: this is called, and a line that is
-/// handed on to a call would stay in memory for the sixels too.
-pub fn put_two<K: Sink>(two: TwoCommands, lines: &mut Lines, out: &mut K) -> Result<(), DeviceFault>
+/// Puts the lines of two commands that a byte completed.
+pub fn put_two<K: Sink>(
+    two: TwoCommands,
+    line: &mut SixelLine,
+    lines: &mut Lines,
+    out: &mut K,
+) -> Result<(), DeviceFault>
     ensures { WritesThrough result (K.state out.old) (K.state out.new) lines.old lines.new
         (list_text (two_commands two)) }
 {
-    put_command(two.place, two.ended, lines, out)?;
+    put_ended(two.place, two.ended, line, lines, out)?;
     put_command(two.own_place, two.own, lines, out)
 }
 

@@ -8,17 +8,17 @@ use Rattle.sixel_run.proofs.running.list_lines.put_two.Goals as goal
 pub returns : goal.returns
 returns g c =
     let two = c.args.two in
-    through-then c.put_command-2.result
+    through-then c.put_command.result
     (list_text-append (record { place = two.place; event = Step two.ended } ∷ [])
     (record { place = two.own_place; event = Step two.own } ∷ []))
-    c.in_ok-put_command.ensures c.put_command-2.ensures
+    c.in_ok-put_ended.ensures c.put_command.ensures
 
-pub returns-in_err-put_command : goal.returns-in_err-put_command
-returns-in_err-put_command g c =
+pub returns-in_err-put_ended : goal.returns-in_err-put_ended
+returns-in_err-put_ended g c =
     let two = c.args.two in
     let failed = err_from_is_err_and c.from_residual.result c.from_residual.ensures.1 in
     rw failed.1
     (through-cut _
     (list_text-append (record { place = two.place; event = Step two.ended } ∷ [])
     (record { place = two.own_place; event = Step two.own } ∷ []))
-    c.in_err-put_command.ensures)
+    c.in_err-put_ended.ensures)
