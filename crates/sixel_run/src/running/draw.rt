@@ -1,6 +1,6 @@
 //! Draws a document while it is read.
 
-ghost use Rattle.std.specs.Prelude.{◌≡◌, [], IfErr, IfSome, List, OnOk, ℕ};
+ghost use Rattle.std.specs.Prelude.{◌≡◌, [], IfErr, IfSome, List, OnOk};
 ghost use Rattle.sixel_grammar.specs.declared.command.Placed.{Placed as Place};
 ghost use Rattle.sixel_grammar.specs.Document.{Document, events_of};
 ghost use Rattle.sixel_grammar.specs.Reading.{Explains, failures_after};

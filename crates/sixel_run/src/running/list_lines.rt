@@ -282,6 +282,7 @@ fn put_command<K: Sink>(
     put_line(Some(Placed { place, event }), lines, out)
 }
 
+/// Puts the lines of the events that a byte completed.
 pub fn put_lines<K: Sink>(
     completed: Completed,
     lines: &mut Lines,
