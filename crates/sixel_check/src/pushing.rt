@@ -219,8 +219,8 @@ fn push_each<P: Plane>(
     Ok(())
 }
 
-/// Pushes columns whose first byte has the offset `place`: the first `count` of the bytes. `keep_run` hands on only runs
-/// with columns.
+/// Pushes columns whose first byte has the offset `place`: the first `count` of the bytes. `keep_run` hands on only
+/// runs with columns.
 #[inline(always)]
 fn keep_columns<P: Plane>(
     checker: &mut Checker<P>,

@@ -1,7 +1,7 @@
 //! Reads several commands at once.
 
-ghost use Rattle.std.specs.Prelude.{◌≡◌, ◌≢◌, ◌<◌, ◌≤◌, ◌+◌, ◌-◌, IfSome, IsNone, IsSome, IsTrue, length, slice_index, take, ℕ};
-ghost use Rattle.std.specs.Prelude.{[], None, false};
+ghost use Rattle.std.specs.Prelude.{◌≡◌, ◌≢◌, ◌<◌, ◌≤◌, ◌+◌, ◌-◌, IfSome, IsNone, IsSome, IsTrue, length, slice_index, take};
+ghost use Rattle.std.specs.Prelude.{[], None, false, ℕ};
 ghost use Rattle.sixel_grammar.specs.Bytes.{is_data as data_test};
 ghost use Rattle.sixel_grammar.specs.Document.{most_bytes};
 ghost use Rattle.sixel_grammar.specs.Faults.{ColourFields as ColourForm};
@@ -18,11 +18,11 @@ impl Reader {
     ghost use Rattle.sixel_grammar.specs.Stretches.{IsNoSixel};
 
     /// Reads columns at the beginning of the bytes at once: single sixels (`~~~`) or a repeat (`!12~`), perhaps after a
-    /// select (`#3~~~`, `#3!12~`). Of single sixels it reads all that may come. If the bytes begin with `#` and no columns
-    /// follow its digits, it reads these, and the select or definition that they begin is open.
+    /// select (`#3~~~`, `#3!12~`). Of single sixels it reads all that may come. If the bytes begin with `#` and no
+    /// columns follow its digits, it reads these, and the select or definition that they begin is open.
     ///
-    /// `None`: the bytes begin with no such run or only with a part of a repeat, a command is open, or no byte may come.
-    /// Then nothing was read, and nothing has changed: give the first byte to `feed`.
+    /// `None`: the bytes begin with no such run or only with a part of a repeat, a command is open, or no byte may
+    /// come. Then nothing was read, and nothing has changed: give the first byte to `feed`.
     #[inline(always)]
     pub fn feed_run(&mut self, bytes: &[u8]) -> Option<Run>
         ensures within { IfSome result (λ run. (run.start < run.length) × (run.length ≤ length bytes.now)) }
