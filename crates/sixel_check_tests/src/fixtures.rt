@@ -1,9 +1,9 @@
 //! What the tests share: documents with `E` for ESC, answers as text, and the pictures of documents.
 
-use sixel_check::{Finding, Verdict, check_bytes};
+use sixel_check::{Finding, Verdict, check, check_bytes};
 use sixel_grammar::{Fault, InputFault, Placed, read_all};
 use sixel_io::SliceSource;
-use sixel_model::{Colour, Picture, Profile};
+use sixel_model::{Parts, Picture, Profile};
 use std::alloc::{AllocError, Global};
 use std::process::Abort;
 use std::test::Fail;
@@ -24,15 +24,6 @@ pub(crate) fn bytes_of(rt: &impl AllocGlobal, text: &str) -> Result<Vec<u8>, Fai
         bytes.push(byte_of(sign)?)?;
     }
     Ok(bytes)
-}
-
-/// The parts one after another.
-pub(crate) fn joined(rt: &impl AllocGlobal, parts: &[&str]) -> Result<String, AllocError> {
-    let mut text = String::new(rt.alloc());
-    for part in parts {
-        text.push_str(part)?;
-    }
-    Ok(text)
 }
 
 /// A part, `count` times.
@@ -93,32 +84,31 @@ pub(crate) fn is_said(
     Ok(in_words(rt, answer)?.as_str() == expected)
 }
 
-/// Whether this is the answer for the profile, on a text with `E` for ESC.
-pub(crate) fn agrees_by(
-    rt: &impl AllocGlobal,
-    profile: Profile,
-    text: &str,
-    expected: &str,
-) -> Result<bool, Fail> {
+/// Whether this is the answer for 16 registers, on a text with `E` for ESC.
+fn agrees(rt: &impl AllocGlobal, text: &str, expected: &str) -> Result<bool, Fail> {
     let bytes = bytes_of(rt, text)?;
-    is_said(rt, &check_bytes(rt.alloc(), profile, &bytes), expected)
+    let answer = check_bytes(rt.alloc(), Profile::Registers16, &bytes);
+    is_said(rt, &answer, expected)
 }
 
-/// Each text, with `E` for ESC, has its answer, for the profile.
-pub(crate) fn agree_by(
-    rt: &(impl AllocGlobal + Abort),
-    profile: Profile,
-    rows: &[(&str, &str)],
-) -> Result<(), Fail> {
+/// Each text, with `E` for ESC, has its answer, for 16 registers.
+pub(crate) fn agree(rt: &(impl AllocGlobal + Abort), rows: &[(&str, &str)]) -> Result<(), Fail> {
     for (text, expected) in rows {
-        assert!(rt; agrees_by(rt, profile, text, expected)?, "{text}");
+        assert!(rt; agrees(rt, text, expected)?, "{text}");
     }
     Ok(())
 }
 
-/// The same, for 16 registers.
-pub(crate) fn agree(rt: &(impl AllocGlobal + Abort), rows: &[(&str, &str)]) -> Result<(), Fail> {
-    agree_by(rt, Profile::Registers16, rows)
+/// Whether the answer by the profile on the bytes in pieces of a size is so.
+pub(crate) fn agrees_in(
+    rt: &impl AllocGlobal,
+    profile: Profile,
+    bytes: &[u8],
+    piece: usize,
+    expected: &str,
+) -> Result<bool, Fail> {
+    let mut source = SliceSource::new(bytes, piece.max(1), None);
+    is_said(rt, &check(rt.alloc(), profile, &mut source), expected)
 }
 
 /// The picture of a document that is portable for the profile.
@@ -139,11 +129,21 @@ pub(crate) fn picture_of(rt: &impl AllocGlobal, text: &str) -> Result<Picture, F
     picture_by(rt, Profile::Registers16, text)
 }
 
+pub(crate) const BLACK: Option<Parts> = Some(Parts::Rgb(0, 0, 0));
+
+/// The colour of a register in the picture.
+pub(crate) fn colour_of(picture: &Picture, register: u8) -> Option<Parts> {
+    match picture.palette().get(register) {
+        Some(colour) => Some(colour.parts()),
+        None => None,
+    }
+}
+
 /// Whether the first registers have these colours, and no other has one.
-pub(crate) fn has_colours(picture: &Picture, colours: &[Option<Colour>]) -> bool {
+pub(crate) fn has_colours(picture: &Picture, colours: &[Option<Parts>]) -> bool {
     for register in 0..=255u8 {
         let expected = colours.get(register as usize).copied().flatten();
-        if picture.palette().get(register) != expected {
+        if colour_of(picture, register) != expected {
             return false;
         }
     }
@@ -154,15 +154,11 @@ pub(crate) fn has_colours(picture: &Picture, colours: &[Option<Colour>]) -> bool
 pub(crate) fn is_left(
     picture: &Picture,
     register: u8,
-    first: Option<Colour>,
-    second: Option<Colour>,
+    first: Option<Parts>,
+    second: Option<Parts>,
 ) -> bool {
     picture.width() == 1
         && picture.height() == 1
         && picture.register_at(0, 0) == register
         && has_colours(picture, &[first, second])
-}
-
-pub(crate) fn black() -> Option<Colour> {
-    Colour::rgb(0, 0, 0)
 }

@@ -6,7 +6,7 @@ ghost use Rattle.sixel_grammar.specs.Spelling.{IsSpellable};
 ghost use Rattle.sixel_grammar.specs.declared.command.Placed.{Placed as PlacedValue};
 ghost use Rattle.sixel_judge.specs.Standing.{StandsAfter, expects};
 
-use crate::fixtures::{black, is_left};
+use crate::fixtures::{BLACK, is_left};
 use crate::steps::expects_so;
 use sixel_check::{Checker, Rule, Verdict, check, check_bytes};
 use sixel_grammar::{InputFault, Placed, Reader};
@@ -123,7 +123,7 @@ fn is_repeated<P: Plane>(rt: &impl AllocGlobal) -> Result<bool, Fail> {
         return Ok(false);
     }
     match checker.finish()? {
-        Verdict::Portable(picture) => Ok(is_left(&picture, 0, black(), None)),
+        Verdict::Portable(picture) => Ok(is_left(&picture, 0, BLACK, None)),
         Verdict::Broken(_) => Ok(false),
     }
 }

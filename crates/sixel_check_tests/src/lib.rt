@@ -2,8 +2,6 @@
 #![tactic(auto)]
 
 #[cfg(test)]
-mod documents;
-#[cfg(test)]
 mod events;
 #[cfg(test)]
 mod fills;
@@ -12,13 +10,9 @@ mod fixtures;
 #[cfg(test)]
 mod growth;
 #[cfg(test)]
-mod limits;
-#[cfg(test)]
 mod outside;
 #[cfg(test)]
 mod pictures;
-#[cfg(test)]
-mod profiles;
 #[cfg(test)]
 mod runs;
 #[cfg(test)]

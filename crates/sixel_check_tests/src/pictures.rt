@@ -1,58 +1,51 @@
 //! The pictures that portable documents leave, worked out by hand.
 
-use crate::fixtures::{black, has_colours, is_left, picture_by, picture_of};
-use sixel_model::{Colour, Picture, Profile};
+use crate::fixtures::{BLACK, colour_of, has_colours, is_left, picture_by, picture_of};
+use sixel_model::{Parts, Picture, Profile};
 use std::alloc::{AllocError, Global};
-use std::process::Abort;
 use std::test::Fail;
 
-/// The text leaves a picture of one pixel, with this register and these colours.
-fn agree_left(
-    rt: &(impl AllocGlobal + Abort),
-    text: &str,
-    register: u8,
-    first: Option<Colour>,
-    second: Option<Colour>,
-) -> Result<(), Fail> {
-    let picture = picture_of(rt, text)?;
-    assert!(rt; is_left(&picture, register, first, second), "{text}");
-    Ok(())
-}
+const RED: Option<Parts> = Some(Parts::Rgb(100, 0, 0));
 
-fn red() -> Option<Colour> {
-    Colour::rgb(100, 0, 0)
-}
+/// Documents of one pixel, with its register, and the colours of registers 0 and 1.
+const LEFT: &[(&str, u8, Option<Parts>, Option<Parts>)] = &[
+    ("EPq\"1;1;1;1#0;2;0;0;0#0@E\\", 0, BLACK, None),
+    ("EPq\"1;1;1;1#1#0;2;0;0;0#1;2;100;0;0@E\\", 1, BLACK, RED),
+    (
+        "EPq\"1;1;1;1#0;2;0;0;0#1;2;100;0;0#0@$#1@E\\",
+        1,
+        BLACK,
+        RED,
+    ),
+    (
+        "EPq\"1;1;1;1#0;2;0;0;0#1;2;100;0;0#1@$#0@E\\",
+        0,
+        BLACK,
+        RED,
+    ),
+    (
+        "EPq\"1;1;1;1#0;1;360;50;100#0@E\\",
+        0,
+        Some(Parts::Hls(360, 50, 100)),
+        None,
+    ),
+    // an unused register has its last colour too
+    (
+        "EPq\"1;1;1;1#1;2;1;1;1#0;2;0;0;0#0@#1;2;100;0;0E\\",
+        0,
+        BLACK,
+        RED,
+    ),
+];
 
 /// Each pixel has the register that painted it last; the palette has the defined registers, used or not.
 #[test]
 fn pictures_left(rt: HostRuntime) -> Result<(), Fail> {
-    agree_left(&rt, "EPq\"1;1;1;1#0;2;0;0;0#0@E\\", 0, black(), None)?;
-    agree_left(
-        &rt,
-        "EPq\"1;1;1;1#1#0;2;0;0;0#1;2;100;0;0@E\\",
-        1,
-        black(),
-        red(),
-    )?;
-    agree_left(
-        &rt,
-        "EPq\"1;1;1;1#0;2;0;0;0#1;2;100;0;0#0@$#1@E\\",
-        1,
-        black(),
-        red(),
-    )?;
-    agree_left(
-        &rt,
-        "EPq\"1;1;1;1#0;2;0;0;0#1;2;100;0;0#1@$#0@E\\",
-        0,
-        black(),
-        red(),
-    )?;
-    let hue = "EPq\"1;1;1;1#0;1;360;50;100#0@E\\";
-    agree_left(&rt, hue, 0, Colour::hls(360, 50, 100), None)?;
-    // an unused register has its last colour too
-    let unused = "EPq\"1;1;1;1#1;2;1;1;1#0;2;0;0;0#0@#1;2;100;0;0E\\";
-    agree_left(&rt, unused, 0, black(), red())
+    for (text, register, first, second) in LEFT {
+        let picture = picture_of(&rt, text)?;
+        assert!(rt; is_left(&picture, *register, *first, *second), "{text}");
+    }
+    Ok(())
 }
 
 /// The rows of two letters in register 2 on a ground of register 1, a digit for each pixel's register, from the bits:
@@ -100,7 +93,11 @@ fn the_picture_of_two_letters(rt: HostRuntime) -> Result<(), Fail> {
         "EPq\"1;1;14;7#0;2;0;0;0#1;2;100;100;0#2;2;0;100;0#1~~@@vv@@~~@@~~$#2??}}GG}}??}}??-#1!14@E\\",
     )?;
     assert!(rt; has_rows(rt.alloc(), &picture, &LETTERS)?);
-    let colours = [black(), Colour::rgb(100, 100, 0), Colour::rgb(0, 100, 0)];
+    let colours = [
+        BLACK,
+        Some(Parts::Rgb(100, 100, 0)),
+        Some(Parts::Rgb(0, 100, 0)),
+    ];
     assert!(rt; has_colours(&picture, &colours));
     Ok(())
 }
@@ -108,8 +105,8 @@ fn the_picture_of_two_letters(rt: HostRuntime) -> Result<(), Fail> {
 /// Whether this register is black, and no other has a colour.
 fn is_black_alone(picture: &Picture, register: u8) -> bool {
     for other in 0..=255u8 {
-        let expected = if other == register { black() } else { None };
-        if picture.palette().get(other) != expected {
+        let expected = if other == register { BLACK } else { None };
+        if colour_of(picture, other) != expected {
             return false;
         }
     }
@@ -145,64 +142,55 @@ fn a_picture_has_the_profile_of_its_check(rt: HostRuntime) -> Result<(), Fail> {
     Ok(())
 }
 
-/// The text is portable, and register 0 has this colour in the picture.
-fn agree_first(
-    rt: &(impl AllocGlobal + Abort),
-    text: &str,
-    colour: Option<Colour>,
-) -> Result<(), Fail> {
-    let picture = picture_of(rt, text)?;
-    assert!(rt;
-        colour.is_some() && picture.palette().get(0) == colour,
-        "{text}"
-    );
-    Ok(())
-}
+/// Portable documents, and the colour of register 0 in their pictures.
+const DEFINED: &[(&str, Parts)] = &[
+    // defined as A, B, A
+    (
+        "EPq\"1;1;1;1#0;2;0;0;0#0;2;1;0;0#0;2;0;0;0#0@E\\",
+        Parts::Rgb(0, 0, 0),
+    ),
+    // defined as A, B
+    (
+        "EPq\"1;1;1;1#0;2;0;0;0#0;2;1;0;0#0@E\\",
+        Parts::Rgb(1, 0, 0),
+    ),
+    // defined as A, and as B after blank data
+    (
+        "EPq\"1;1;1;1#0;2;0;0;0#0?!9?$#0;2;1;0;0#0@E\\",
+        Parts::Rgb(1, 0, 0),
+    ),
+    // defined as A, B, and as B again after it was painted in
+    (
+        "EPq\"1;1;1;1#0;2;0;0;0#0;2;1;0;0#0@#0;2;1;0;0E\\",
+        Parts::Rgb(1, 0, 0),
+    ),
+    // defined as A, B, and with A's coordinates in the other system
+    (
+        "EPq\"1;1;1;1#0;2;0;0;0#0;2;1;0;0#0;1;0;0;0#0@E\\",
+        Parts::Hls(0, 0, 0),
+    ),
+    // at the edges: a hue is at most 360, lightness and saturation at most 100, and red, green and blue at most 100
+    (
+        "EPq\"1;1;1;1#0;1;360;100;100#0@E\\",
+        Parts::Hls(360, 100, 100),
+    ),
+    ("EPq\"1;1;1;1#0;1;0;0;0#0@E\\", Parts::Hls(0, 0, 0)),
+    (
+        "EPq\"1;1;1;1#0;1;101;100;100#0@E\\",
+        Parts::Hls(101, 100, 100),
+    ),
+    (
+        "EPq\"1;1;1;1#0;2;100;100;100#0@E\\",
+        Parts::Rgb(100, 100, 100),
+    ),
+];
 
 /// A register may be defined any number of times before something is painted in it. It keeps its last colour.
 #[test]
 fn definitions_before_all_painting(rt: HostRuntime) -> Result<(), Fail> {
-    // defined as A, B, A
-    agree_first(
-        &rt,
-        "EPq\"1;1;1;1#0;2;0;0;0#0;2;1;0;0#0;2;0;0;0#0@E\\",
-        Colour::rgb(0, 0, 0),
-    )?;
-    // defined as A, B
-    agree_first(
-        &rt,
-        "EPq\"1;1;1;1#0;2;0;0;0#0;2;1;0;0#0@E\\",
-        Colour::rgb(1, 0, 0),
-    )?;
-    // defined as A, and as B after blank data
-    agree_first(
-        &rt,
-        "EPq\"1;1;1;1#0;2;0;0;0#0?!9?$#0;2;1;0;0#0@E\\",
-        Colour::rgb(1, 0, 0),
-    )?;
-    // defined as A, B, and as B again after it was painted in
-    agree_first(
-        &rt,
-        "EPq\"1;1;1;1#0;2;0;0;0#0;2;1;0;0#0@#0;2;1;0;0E\\",
-        Colour::rgb(1, 0, 0),
-    )?;
-    // defined as A, B, and with A's coordinates in the other system
-    agree_first(
-        &rt,
-        "EPq\"1;1;1;1#0;2;0;0;0#0;2;1;0;0#0;1;0;0;0#0@E\\",
-        Colour::hls(0, 0, 0),
-    )
-}
-
-/// A hue is at most 360, lightness and saturation at most 100, and red, green and blue at most 100.
-#[test]
-fn colours_at_their_edges(rt: HostRuntime) -> Result<(), Fail> {
-    let hue = "EPq\"1;1;1;1#0;1;360;100;100#0@E\\";
-    agree_first(&rt, hue, Colour::hls(360, 100, 100))?;
-    let least = "EPq\"1;1;1;1#0;1;0;0;0#0@E\\";
-    agree_first(&rt, least, Colour::hls(0, 0, 0))?;
-    let hundred_and_one = "EPq\"1;1;1;1#0;1;101;100;100#0@E\\";
-    agree_first(&rt, hundred_and_one, Colour::hls(101, 100, 100))?;
-    let white = "EPq\"1;1;1;1#0;2;100;100;100#0@E\\";
-    agree_first(&rt, white, Colour::rgb(100, 100, 100))
+    for (text, colour) in DEFINED {
+        let picture = picture_of(&rt, text)?;
+        assert!(rt; colour_of(&picture, 0) == Some(*colour), "{text}");
+    }
+    Ok(())
 }

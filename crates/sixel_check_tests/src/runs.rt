@@ -1,11 +1,9 @@
 //! Made documents of runs, selects and moves: the same answer from all bytes at once, from pieces, and event by event.
 
-use crate::documents::agrees_in;
 use crate::events::agrees_on_events;
-use crate::fixtures::in_words;
+use crate::fixtures::{agrees_in, in_words};
 use sixel_check::check_bytes;
 use sixel_model::Profile;
-use std::process::Abort;
 use std::test::Fail;
 
 /// How each made document begins: a box of 8 by 12 pixels, and two colours.

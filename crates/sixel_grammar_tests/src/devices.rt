@@ -9,12 +9,11 @@ use std::io::{Error, ErrorKind, Read, Write};
 use std::test::Fail;
 
 /// What a call of a fake reader or writer does: move at most this many bytes, or fail.
-#[derive(Clone, Copy)]
-enum Call {
-    Moves(usize),
-    Interrupted,
-    Fails,
-}
+type Call = Result<usize, ErrorKind>;
+
+const INTERRUPTED: Call = Err(ErrorKind::Interrupted);
+
+const BROKEN: Call = Err(ErrorKind::Other);
 
 /// The next call of the list; after its end a call moves all it can.
 fn next_call(calls: &mut &'static [Call]) -> io::Result<usize> {
@@ -24,9 +23,8 @@ fn next_call(calls: &mut &'static [Call]) -> io::Result<usize> {
         [call, rest @ ..] => {
             *calls = rest;
             match call {
-                Call::Moves(most) => Ok(*most),
-                Call::Interrupted => Err(Error::new(ErrorKind::Interrupted, "interrupted")),
-                Call::Fails => Err(Error::other("broken")),
+                Ok(most) => Ok(*most),
+                Err(kind) => Err(Error::new(*kind, "refused")),
             }
         }
     }
@@ -66,15 +64,10 @@ impl Write for FakeWriter<'_> {
     }
 }
 
-/// Whether a fill of four bytes gives these and changes no others, and this many calls have failed.
-fn gives(source: &mut FromRead<FakeReader>, bytes: &[u8], failures: u64) -> bool {
+/// Whether a fill of four zeros gives so many bytes, which makes them these, and this many calls have failed.
+fn gives(source: &mut FromRead<FakeReader>, count: usize, bytes: &[u8; 4], failures: u64) -> bool {
     let mut piece = [0; 4];
-    let answer = source.fill(&mut piece);
-    let (prefix, rest) = piece.split_at(bytes.len().min(4));
-    answer == Ok(bytes.len())
-        && prefix == bytes
-        && rest.iter().all(|byte| *byte == 0)
-        && source.failures() == failures
+    source.fill(&mut piece) == Ok(count) && piece == *bytes && source.failures() == failures
 }
 
 /// Whether a fill fails, and this many calls have failed.
@@ -85,22 +78,17 @@ fn fails(source: &mut FromRead<FakeReader>, failures: u64) -> bool {
 
 #[test]
 fn a_reader_is_a_source(rt: HostRuntime) {
-    let calls: &[Call] = &[
-        Call::Moves(2),
-        Call::Interrupted,
-        Call::Moves(1),
-        Call::Fails,
-    ];
+    let calls: &[Call] = &[Ok(2), INTERRUPTED, Ok(1), BROKEN];
     let mut source = FromRead::new(FakeReader {
         rest: b"sixel",
         calls,
     });
-    assert!(rt; gives(&mut source, b"si", 0));
+    assert!(rt; gives(&mut source, 2, b"si\0\0", 0));
     assert!(rt; fails(&mut source, 1));
-    assert!(rt; gives(&mut source, b"x", 1));
+    assert!(rt; gives(&mut source, 1, b"x\0\0\0", 1));
     assert!(rt; fails(&mut source, 2));
-    assert!(rt; gives(&mut source, b"el", 2));
-    assert!(rt; gives(&mut source, b"", 2));
+    assert!(rt; gives(&mut source, 2, b"el\0\0", 2));
+    assert!(rt; gives(&mut source, 0, b"\0\0\0\0", 2));
 }
 
 /// Whether reading the picture from a reader with these calls gives this answer.
@@ -115,63 +103,75 @@ fn agrees(rt: &impl AllocGlobal, calls: &'static [Call], expected: &str) -> Resu
 
 #[test]
 fn a_document_is_read_from_a_reader(rt: HostRuntime) -> Result<(), Fail> {
-    let calls: &[Call] = &[Call::Moves(1), Call::Moves(7), Call::Moves(3)];
-    assert!(rt; agrees(&rt, calls, PICTURE_IN_WORDS)?);
-    assert!(rt; agrees(&rt, &[Call::Fails], "read failed")?);
-    assert!(rt; agrees(&rt, &[Call::Moves(9), Call::Interrupted], "read failed")?);
+    assert!(rt; agrees(&rt, &[Ok(1), Ok(7), Ok(3)], PICTURE_IN_WORDS)?);
+    assert!(rt; agrees(&rt, &[BROKEN], "read failed")?);
+    assert!(rt; agrees(&rt, &[Ok(9), INTERRUPTED], "read failed")?);
     Ok(())
+}
+
+/// Whether putting these bytes succeeds or not, and this many calls have failed.
+fn puts(sink: &mut ToWrite<FakeWriter<'_>>, bytes: &[u8], is_put: bool, failures: u64) -> bool {
+    put_all(sink, bytes).is_ok() == is_put && sink.failures() == failures
+}
+
+/// Whether a flush succeeds or not, and this many calls have failed.
+fn flushes(sink: &mut ToWrite<FakeWriter<'_>>, is_flushed: bool, failures: u64) -> bool {
+    sink.flush().is_ok() == is_flushed && sink.failures() == failures
 }
 
 #[test]
 fn a_writer_is_a_sink(rt: HostRuntime) {
-    let calls: &[Call] = &[
-        Call::Moves(2),
-        Call::Moves(0),
-        Call::Moves(1),
-        Call::Interrupted,
-        Call::Fails,
-    ];
+    let calls: &[Call] = &[Ok(2), Ok(0), Ok(1), INTERRUPTED, BROKEN];
     let mut written = ArrayVec::new();
     let mut sink = ToWrite::new(FakeWriter {
         written: &mut written,
         calls,
     });
-    assert_eq!(rt; put_all(&mut sink, b"sixel"), Err(DeviceFault));
-    assert_eq!(rt; sink.failures(), 1);
-    assert_eq!(rt; put_all(&mut sink, b"xel"), Err(DeviceFault));
-    assert_eq!(rt; sink.flush(), Err(DeviceFault));
-    assert_eq!(rt; sink.failures(), 3);
-    assert_eq!(rt; put_all(&mut sink, b"el"), Ok(()));
-    assert_eq!(rt; sink.flush(), Ok(()));
-    assert_eq!(rt; sink.failures(), 3);
-    assert_eq!(rt; written.as_slice(), b"sixel".as_slice());
+    assert!(rt; puts(&mut sink, b"sixel", false, 1));
+    assert!(rt; puts(&mut sink, b"xel", false, 2));
+    assert!(rt; flushes(&mut sink, false, 3));
+    assert!(rt; puts(&mut sink, b"el", true, 3));
+    assert!(rt; flushes(&mut sink, true, 3));
+    assert!(rt; written.as_slice() == b"sixel".as_slice());
+}
+
+/// Whether a sink of four bytes, of which a call takes at most three and the second fails, takes and flushes in turn.
+fn takes_and_flushes() -> bool {
+    let mut room = [0; 4];
+    let mut sink = SliceSink::new(&mut room, 3, Some(1));
+    sink.take(b"sixel") == Ok(3)
+        && sink.flush() == Err(DeviceFault)
+        && sink.take(b"el") == Ok(1)
+        && sink.take(b"l") == Err(DeviceFault)
+        && sink.flush() == Ok(())
+        && sink.failures() == 2
+        && sink.written() == b"sixe".as_slice()
 }
 
 #[test]
 fn a_slice_sink_counts_takes_and_flushes(rt: HostRuntime) {
-    let mut room = [0; 4];
-    let mut sink = SliceSink::new(&mut room, 3, Some(1));
-    assert_eq!(rt; sink.take(b"sixel"), Ok(3));
-    assert_eq!(rt; sink.flush(), Err(DeviceFault));
-    assert_eq!(rt; sink.take(b"el"), Ok(1));
-    assert_eq!(rt; sink.take(b"l"), Err(DeviceFault));
-    assert_eq!(rt; sink.flush(), Ok(()));
-    assert_eq!(rt; sink.failures(), 2);
-    assert_eq!(rt; sink.written(), b"sixe".as_slice());
+    assert!(rt; takes_and_flushes());
 }
 
-#[test]
-fn a_block_hands_on_in_order(rt: HostRuntime) {
+/// Whether a block of eight bytes hands on these lines with what doesn't fit, and the rest when it is drained.
+fn hands_on_in_order() -> bool {
     let mut room = [0; 32];
     let mut sink = SliceSink::new(&mut room, 32, None);
     let mut block: Block<8> = Block::new();
     for line in [b"one\n".as_slice(), b"two\n", b"", b"seventy\n", b"3\n"] {
-        assert_eq!(rt; block.put(line, &mut sink), Ok(()));
+        if block.put(line, &mut sink).is_err() {
+            return false;
+        }
     }
     // what fits stays in the block
-    assert_eq!(rt; sink.written(), b"one\ntwo\nseventy\n".as_slice());
-    assert_eq!(rt; block.drain(&mut sink), Ok(()));
-    assert_eq!(rt; sink.written(), b"one\ntwo\nseventy\n3\n".as_slice());
+    sink.written() == b"one\ntwo\nseventy\n".as_slice()
+        && block.drain(&mut sink) == Ok(())
+        && sink.written() == b"one\ntwo\nseventy\n3\n".as_slice()
+}
+
+#[test]
+fn a_block_hands_on_in_order(rt: HostRuntime) {
+    assert!(rt; hands_on_in_order());
 }
 
 /// Whether a block whose sink fails at this call keeps the bytes that the sink left, and writes them in order later.

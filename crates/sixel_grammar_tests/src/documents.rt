@@ -1,36 +1,11 @@
 //! Documents and their events, byte by byte and in pieces.
 
+use crate::readers::{fed, read_pieces, reader_after};
 use crate::words::{PICTURE, PICTURE_IN_WORDS, all_in_words, answer_in_words, in_words};
 use arrayvec::ArrayVec;
-use sixel_grammar::{
-    Command, Completed, Event, Fault, InputFault, Placed, Plain, Reader, Reason, read_all,
-};
-use sixel_io::SliceSource;
+use sixel_grammar::{Command, Completed, Event, Fault, InputFault, Placed, Plain, Reader, Reason};
 use std::process::Abort;
 use std::test::Fail;
-
-fn keep(events: &mut Vec<Placed>, placed: Option<Placed>) -> Result<(), Fail> {
-    match placed {
-        Some(placed) => Ok(events.push(placed)?),
-        None => Ok(()),
-    }
-}
-
-/// The events that a reader completes from the bytes, and its fault, of a byte or of the end.
-fn fed(rt: &impl AllocGlobal, bytes: &[u8]) -> Result<(Vec<Placed>, Option<Fault>), Fail> {
-    let mut reader = Reader::new();
-    let mut events = Vec::new(rt.alloc());
-    for byte in bytes {
-        match reader.feed(*byte) {
-            Ok(Completed { first, second }) => {
-                keep(&mut events, first)?;
-                keep(&mut events, second)?;
-            }
-            Err(fault) => return Ok((events, Some(fault))),
-        }
-    }
-    Ok((events, reader.finish().err()))
-}
 
 fn fault(reason: Reason, place: u64) -> Option<Fault> {
     Some(Fault { reason, place })
@@ -58,8 +33,7 @@ fn agrees_read(
     words: &str,
     expected: Option<Fault>,
 ) -> Result<bool, Fail> {
-    let mut source = SliceSource::new(bytes, piece.max(1), None);
-    match read_all(rt.alloc(), &mut source) {
+    match read_pieces(rt, bytes, piece) {
         Ok(events) => {
             Ok(all_in_words(rt, events.as_slice())?.as_str() == words && expected.is_none())
         }
@@ -217,78 +191,76 @@ fn what_is_no_document_has_its_fault(rt: HostRuntime) -> Result<(), Fail> {
     agree(&rt, no_documents())
 }
 
-#[test]
-fn one_byte_completes_two_events(rt: HostRuntime) {
-    let mut reader = Reader::new();
-    for byte in b"\x1bPq#1" {
-        assert!(rt; reader.feed(*byte).is_ok());
-    }
-    let select = Placed {
-        place: 3,
-        event: Event::Step(Command::Select(1)),
-    };
-    let sixel = Placed {
-        place: 5,
-        event: Event::Step(Command::Sixel(63)),
-    };
+/// Whether the byte completes two commands after these bytes.
+fn completes_both(bytes: &[u8], byte: u8, first: Placed, second: Placed) -> bool {
     let completed = Completed {
-        first: Some(select),
-        second: Some(sixel),
+        first: Some(first),
+        second: Some(second),
     };
-    assert_eq!(rt; reader.feed(b'~'), Ok(completed));
+    match reader_after(bytes) {
+        Some(mut reader) => reader.feed(byte) == Ok(completed),
+        None => false,
+    }
 }
 
 #[test]
-fn plain_bytes_are_read_quickly(rt: HostRuntime) -> Result<(), Fail> {
+fn one_byte_completes_two_events(rt: HostRuntime) {
+    let select = step(3, Command::Select(1));
+    let sixel = step(5, Command::Sixel(63));
+    assert!(rt; completes_both(b"\x1bPq#1", b'~', select, sixel));
+}
+
+/// What `feed_plain` makes of the bytes, or `feed_command`: each command with this text after it, `.` where a byte
+/// completes none, and `x` where it is left to `feed`.
+fn read_quickly(
+    rt: &impl AllocGlobal,
+    bytes: &[u8],
+    is_plain: bool,
+    after: &str,
+) -> Result<String, Fail> {
     let mut reader = Reader::new();
     let mut read = String::new(rt.alloc());
-    for byte in b"\x1bPq!3~?#1;2;0;0;0#1$-\x1b\\" {
-        match reader.feed_plain(*byte) {
+    for byte in bytes {
+        let plain = if is_plain {
+            reader.feed_plain(*byte)
+        } else {
+            reader.feed_command(*byte)
+        };
+        match plain {
             Some(Plain::Nothing) => read.push('.')?,
             Some(Plain::Command { place, command }) => {
-                let event = Event::Step(command);
-                read.push_str(in_words(&rt, &Placed { place, event })?.as_str())?;
+                read.push_str(in_words(rt, &step(place, command))?.as_str())?;
+                read.push_str(after)?;
             }
             None => {
-                assert!(rt; reader.feed(*byte).is_ok());
+                reader.feed(*byte).or(Err("a refused byte"))?;
                 read.push('x')?;
             }
         }
     }
-    // Left to `feed` are the last byte of the introducer, the bytes that end a definition and a select, a next line,
-    // and the end.
-    assert_eq!(rt;
-        read.as_str(),
-        "..x..3 repeat 3 636 sixel 0..........x.xx.x"
+    reader.finish().or(Err("a refused end"))?;
+    Ok(read)
+}
+
+/// Left to `feed` are the last byte of the introducer, the bytes that end a definition and a select, a next line, and
+/// the end.
+#[test]
+fn plain_bytes_are_read_quickly(rt: HostRuntime) -> Result<(), Fail> {
+    let read = read_quickly(&rt, b"\x1bPq!3~?#1;2;0;0;0#1$-\x1b\\", true, "")?;
+    assert!(rt;
+        read.as_str() == "..x..3 repeat 3 636 sixel 0..........x.xx.x",
+        "{read}"
     );
-    assert!(rt; reader.finish().is_ok());
     Ok(())
 }
 
+/// Left to `feed` are the last byte of the introducer, a return that ends a select, and the end.
 #[test]
 fn commands_are_read_quickly(rt: HostRuntime) -> Result<(), Fail> {
-    let mut reader = Reader::new();
-    let mut read = String::new(rt.alloc());
-    for byte in b"\x1bPq!3~?#1;2;0;0;0#1$$-\n#2\n\x1b\\" {
-        match reader.feed_command(*byte) {
-            Some(Plain::Nothing) => read.push('.')?,
-            Some(Plain::Command { place, command }) => {
-                let event = Event::Step(command);
-                read.push_str(in_words(&rt, &Placed { place, event })?.as_str())?;
-                read.push(' ')?;
-            }
-            None => {
-                assert!(rt; reader.feed(*byte).is_ok());
-                read.push('x')?;
-            }
-        }
-    }
-    // Left to `feed` are the last byte of the introducer, a return that ends a select, and the end.
-    assert_eq!(rt;
-        read.as_str(),
-        "..x..3 repeat 3 63 6 sixel 0 ..........7 define 1 2 0 0 0 .x20 return 21 newline ...23 select 2 .x"
-    );
-    assert!(rt; reader.finish().is_ok());
+    let read = read_quickly(&rt, b"\x1bPq!3~?#1;2;0;0;0#1$$-\n#2\n\x1b\\", false, " ")?;
+    let expected =
+        "..x..3 repeat 3 63 6 sixel 0 ..........7 define 1 2 0 0 0 .x20 return 21 newline ...23 select 2 .x";
+    assert!(rt; read.as_str() == expected, "{read}");
     Ok(())
 }
 
@@ -311,69 +283,64 @@ fn filled(
 #[test]
 fn many_leading_zeros_are_one_number(rt: HostRuntime) -> Result<(), Fail> {
     let bytes = filled(&rt, b"\x1bPq!", b'0', 100_000, b"3~\x1b\\")?;
-    let mut source = SliceSource::new(bytes.as_slice(), 65_536, None);
-    let answer = read_all(rt.alloc(), &mut source);
-    assert_eq!(rt;
-        answer_in_words(&rt, &answer)?.as_str(),
-        "0 start false [0], 3 repeat 3 63, 100006 finish false"
+    let answer = read_pieces(&rt, bytes.as_slice(), 65_536);
+    let words = answer_in_words(&rt, &answer)?;
+    assert!(rt;
+        words.as_str() == "0 start false [0], 3 repeat 3 63, 100006 finish false",
+        "{words}"
     );
     Ok(())
+}
+
+/// Whether these events have these words.
+fn say(rt: &impl AllocGlobal, events: &[Placed], words: &str) -> Result<bool, Fail> {
+    Ok(all_in_words(rt, events)?.as_str() == words)
 }
 
 /// A start, 200,000 sixels and a finish.
 #[test]
 fn a_long_list_is_read(rt: HostRuntime) -> Result<(), Fail> {
     let bytes = filled(&rt, b"\x90q", b'~', 200_000, b"\x9c")?;
-    let mut source = SliceSource::new(bytes.as_slice(), 65_536, None);
-    match read_all(rt.alloc(), &mut source) {
-        Ok(events) => {
-            assert_eq!(rt; events.len(), 200_002);
-            assert_eq!(rt;
-                all_in_words(&rt, &events[..2])?.as_str(),
-                "0 start true [0], 2 sixel 63"
-            );
-            assert_eq!(rt;
-                all_in_words(&rt, &events[200_000..])?.as_str(),
-                "200001 sixel 63, 200002 finish true"
-            );
-        }
-        Err(fault) => return Err(format!(in rt.alloc(); "{fault:?}")?.into()),
-    }
+    let events = read_pieces(&rt, bytes.as_slice(), 65_536).or(Err("a document"))?;
+    assert!(rt; events.len() == 200_002);
+    assert!(rt; say(&rt, &events[..2], "0 start true [0], 2 sixel 63")?);
+    assert!(rt;
+        say(
+            &rt,
+            &events[200_000..],
+            "200001 sixel 63, 200002 finish true"
+        )?
+    );
     Ok(())
 }
 
-/// Feeds the bytes and then spaces up to the limit. Returns what the reader answers at the end, at one more byte, and
-/// at the end again.
-fn at_the_limit(
-    rt: &impl Abort,
-    bytes: &[u8],
-    too_many: u8,
-) -> (Option<Fault>, Option<Fault>, Option<Fault>) {
-    let mut reader = Reader::new();
-    let mut taken: u64 = 0;
-    for byte in bytes {
-        assert!(rt; reader.feed(*byte).is_ok());
-        taken = taken.wrapping_add(1);
-    }
+/// A reader that has read the bytes and then spaces up to the limit; `None` if it refuses one.
+fn reader_at_the_limit(bytes: &[u8]) -> Option<Reader> {
+    let mut reader = reader_after(bytes)?;
     let mut refused = false;
-    for _ in taken..268_435_456 {
+    for _ in bytes.len() as u64..268_435_456 {
         refused |= reader.feed(b' ').is_err();
     }
-    assert!(rt; !refused);
-    let end = reader.finish().err();
-    (end, reader.feed(too_many).err(), reader.finish().err())
+    if refused { None } else { Some(reader) }
+}
+
+/// Whether that reader has this fault at the end, and one more byte is too many.
+fn ends_at_the_limit(bytes: &[u8], end: Option<Fault>, too_many: u8) -> bool {
+    let Some(mut reader) = reader_at_the_limit(bytes) else {
+        return false;
+    };
+    let too_long = fault(Reason::TooLong, 268_435_456);
+    reader.finish().err() == end
+        && reader.feed(too_many).err() == too_long
+        && reader.finish().err() == too_long
 }
 
 #[test]
 fn a_document_ends_at_the_limit(rt: HostRuntime) {
-    let too_long = fault(Reason::TooLong, 268_435_456);
-    for too_many in [b'x', b' '] {
-        let whole = at_the_limit(&rt, PICTURE, too_many);
-        assert_eq!(rt; whole, (None, too_long, too_long));
-    }
+    assert!(rt; ends_at_the_limit(PICTURE, None, b'x'));
+    assert!(rt; ends_at_the_limit(PICTURE, None, b' '));
     let truncated = fault(Reason::Truncated, 268_435_456);
-    let spaces = at_the_limit(&rt, b"", b' ');
-    assert_eq!(rt; spaces, (truncated, too_long, too_long));
+    assert!(rt; ends_at_the_limit(b"", truncated, b' '));
 }
 
 fn placed(place: u64, event: Event) -> Placed {
@@ -424,12 +391,17 @@ fn smallest() -> [Placed; 6] {
     ]
 }
 
+/// Whether these are the events of the smallest picture.
+fn is_smallest(events: Result<Vec<Placed>, InputFault>) -> bool {
+    match events {
+        Ok(events) => events.as_slice() == smallest().as_slice(),
+        Err(_) => false,
+    }
+}
+
 /// The smallest picture has these events, if no allocation fails.
 #[test]
 fn the_smallest_picture_has_six_events(rt: HostRuntime) {
-    let mut source = SliceSource::new(PICTURE, 64, None);
-    match read_all(rt.alloc(), &mut source) {
-        Ok(events) => assert!(rt; events.as_slice() == smallest().as_slice()),
-        Err(_) => assert!(rt; false),
-    }
+    let events = read_pieces(&rt, PICTURE, 64);
+    assert!(rt; is_smallest(events));
 }

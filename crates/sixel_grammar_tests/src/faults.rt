@@ -1,224 +1,225 @@
 //! Each byte value after each open thing, against the table of what may follow.
 
+use crate::readers::reader_after;
 use sixel_grammar::{Fault, Reader, Reason};
 use std::process::Abort;
 
-/// Byte values.
-#[derive(Clone, Copy)]
-enum Bytes {
-    None,
-    Only(u8),
-    Filler,
-    Digits,
-    /// The digits from `0` to `5`.
-    LowDigits,
-    Data,
-    /// What may come while no command is open.
-    Body,
-}
+/// A set of byte values.
+type Bytes = &'static [u8];
 
-fn is_in(bytes: Bytes, byte: u8) -> bool {
-    match bytes {
-        Bytes::None => false,
-        Bytes::Only(only) => byte == only,
-        Bytes::Filler => byte == 0x09 || byte == 0x0a || byte == 0x0d || byte == 0x20,
-        Bytes::Digits => 0x30 <= byte && byte <= 0x39,
-        Bytes::LowDigits => 0x30 <= byte && byte <= 0x35,
-        Bytes::Data => 0x3f <= byte && byte <= 0x7e,
-        Bytes::Body => is_body(byte),
-    }
-}
+const FILLER: Bytes = b"\t\n\r ";
 
-fn is_body(byte: u8) -> bool {
-    matches!(byte, 0x09 | 0x0a | 0x0d | 0x1b | 0x20..=0x24 | 0x2d | 0x3f..=0x7e | 0x9c)
-}
+const DIGITS: Bytes = b"0123456789";
+
+/// The last digits of the numbers from 65530 to 65535.
+const LOW_DIGITS: Bytes = b"012345";
+
+const DATA: Bytes = b"?@ABCDEFGHIJKLMNOPQRSTUVWXYZ[\\]^_`abcdefghijklmnopqrstuvwxyz{|}~";
+
+/// What may come while no command is open.
+const BODY: Bytes =
+    b"\t\n\r\x1b !\"#$-?@ABCDEFGHIJKLMNOPQRSTUVWXYZ[\\]^_`abcdefghijklmnopqrstuvwxyz{|}~\x9c";
 
 /// Something open, shown by bytes that open it: the bytes that may follow, others with a reason of their own, and the
 /// reason for all others.
-#[derive(Drop)]
-struct Open {
-    bytes: &'static [u8],
-    allowed: [Bytes; 3],
-    apart: [(Bytes, Reason); 2],
-    reason: Reason,
-}
+type Open = (
+    &'static [u8],
+    &'static [Bytes],
+    &'static [(Bytes, Reason)],
+    Reason,
+);
 
 /// Why the byte can't follow; `None` if it can.
 fn expected(open: &Open, byte: u8) -> Option<Reason> {
-    if open.allowed.iter().any(|bytes| is_in(*bytes, byte)) {
-        return None;
-    }
-    for (bytes, reason) in open.apart {
-        if is_in(bytes, byte) {
-            return Some(reason);
+    let (_, allowed, apart, other) = open;
+    for bytes in *allowed {
+        if bytes.contains(&byte) {
+            return None;
         }
     }
-    Some(open.reason)
+    for (bytes, reason) in *apart {
+        if bytes.contains(&byte) {
+            return Some(*reason);
+        }
+    }
+    Some(*other)
 }
 
-/// Feeds the byte after those that open something; its offset is their number.
-fn judge(rt: &impl Abort, open: &Open, byte: u8) {
-    let mut reader = Reader::new();
-    let mut place: u64 = 0;
-    for before in open.bytes {
-        assert!(rt; reader.feed(*before).is_ok());
-        place = place.wrapping_add(1);
-    }
-    let answer = reader.feed(byte).err();
-    let fault = expected(open, byte).map(|reason| Fault { reason, place });
-    assert_eq!(rt; answer, fault, "{byte} after {place} bytes");
-    if let Some(fault) = fault {
-        assert_eq!(rt; reader.feed(b' ').err(), Some(fault));
-        assert_eq!(rt; reader.finish(), Err(fault));
-    }
+/// Whether the reader refuses all that comes with this fault.
+fn is_stopped(reader: &mut Reader, fault: Fault) -> bool {
+    reader.feed(b' ').err() == Some(fault) && reader.finish() == Err(fault)
 }
 
-/// Judges each byte value after these bytes.
-fn after(
-    rt: &impl Abort,
-    bytes: &'static [u8],
-    allowed: [Bytes; 3],
-    apart: [(Bytes, Reason); 2],
-    reason: Reason,
-) {
-    let open = Open {
-        bytes,
-        allowed,
-        apart,
-        reason,
+/// Whether the byte is taken or refused after those that open something; its offset is their number.
+fn is_judged(open: &Open, byte: u8) -> bool {
+    let Some(mut reader) = reader_after(open.0) else {
+        return false;
     };
-    for byte in 0..=255 {
-        judge(rt, &open, byte);
+    let answer = reader.feed(byte).err();
+    let Some(reason) = expected(open, byte) else {
+        return answer.is_none();
+    };
+    let place = open.0.len() as u64;
+    let fault = Fault { reason, place };
+    answer == Some(fault) && is_stopped(&mut reader, fault)
+}
+
+/// Judges each byte value after each open thing.
+fn judge(rt: &impl Abort, table: &[Open]) {
+    for open in table {
+        for byte in 0..=255 {
+            assert!(rt;
+                is_judged(open, byte),
+                "{byte} after {} bytes",
+                open.0.len()
+            );
+        }
     }
 }
 
-const NONE: (Bytes, Reason) = (Bytes::None, Reason::Truncated);
+const LARGE: (Bytes, Reason) = (DIGITS, Reason::NumberTooLarge);
 
-const LARGE: (Bytes, Reason) = (Bytes::Digits, Reason::NumberTooLarge);
+const FIELD_TOO_MANY: (Bytes, Reason) = (b";", Reason::FieldCount);
 
-const SEPARATOR: Bytes = Bytes::Only(b';');
+const FIELDS_TOO_FEW: (Bytes, Reason) = (BODY, Reason::FieldCount);
 
-const FIELD_TOO_MANY: (Bytes, Reason) = (SEPARATOR, Reason::FieldCount);
+const BEFORE: &[Open] = &[
+    (b"", &[FILLER, b"\x1b\x90"], &[], Reason::NotSixel),
+    (b" \n", &[FILLER, b"\x1b\x90"], &[], Reason::NotSixel),
+    (b"\x1b", &[b"P"], &[], Reason::NotSixel),
+    (b"\x1bP", &[DIGITS, b";q"], &[], Reason::NotSixel),
+    (b"\x90", &[DIGITS, b";q"], &[], Reason::NotSixel),
+    (b"\x1bP1;", &[DIGITS, b";q"], &[], Reason::NotSixel),
+    (b"\x901;2;3", &[DIGITS, b";q"], &[], Reason::NotSixel),
+    (
+        b"\x1bP;;;",
+        &[b"q"],
+        &[FIELD_TOO_MANY, (DIGITS, Reason::FieldCount)],
+        Reason::NotSixel,
+    ),
+    (
+        b"\x1bP6553",
+        &[LOW_DIGITS, b";q"],
+        &[LARGE],
+        Reason::NotSixel,
+    ),
+    (b"\x90;65535", &[b";q"], &[LARGE], Reason::NotSixel),
+];
 
-const FIELDS_TOO_FEW: (Bytes, Reason) = (Bytes::Body, Reason::FieldCount);
+const WITHIN: &[Open] = &[
+    (b"\x1bPq", &[BODY], &[], Reason::BadByte),
+    (b"\x1bPq ~$", &[BODY], &[], Reason::BadByte),
+    (b"\x1bPq!", &[DIGITS, DATA], &[], Reason::BadRepeat),
+    (b"\x1bPq!7", &[DIGITS, DATA], &[], Reason::BadRepeat),
+    (b"\x1bPq\"", &[DIGITS, b";", BODY], &[], Reason::BadByte),
+    (b"\x1bPq\"1;", &[DIGITS, b";", BODY], &[], Reason::BadByte),
+    (
+        b"\x1bPq\"1;2;3",
+        &[DIGITS, b";", BODY],
+        &[],
+        Reason::BadByte,
+    ),
+    (
+        b"\x1bPq\"1;2;3;",
+        &[DIGITS, BODY],
+        &[FIELD_TOO_MANY],
+        Reason::BadByte,
+    ),
+    (b"\x1bPq#", &[DIGITS, b";", BODY], &[], Reason::BadByte),
+    (b"\x1bPq#12", &[DIGITS, b";", BODY], &[], Reason::BadByte),
+    (
+        b"\x1bPq#1;",
+        &[DIGITS, b";"],
+        &[FIELDS_TOO_FEW],
+        Reason::BadByte,
+    ),
+    (
+        b"\x1bPq#1;2;",
+        &[DIGITS, b";"],
+        &[FIELDS_TOO_FEW],
+        Reason::BadByte,
+    ),
+    (
+        b"\x1bPq#1;2;3;4",
+        &[DIGITS, b";"],
+        &[FIELDS_TOO_FEW],
+        Reason::BadByte,
+    ),
+    (
+        b"\x1bPq#1;2;3;4;",
+        &[DIGITS, BODY],
+        &[FIELD_TOO_MANY],
+        Reason::BadByte,
+    ),
+];
+
+const LARGE_NUMBERS: &[Open] = &[
+    (
+        b"\x1bPq!6553",
+        &[LOW_DIGITS, DATA],
+        &[LARGE],
+        Reason::BadRepeat,
+    ),
+    (
+        b"\x1bPq\"1;6553",
+        &[LOW_DIGITS, b";", BODY],
+        &[LARGE],
+        Reason::BadByte,
+    ),
+    (
+        b"\x1bPq#6553",
+        &[LOW_DIGITS, b";", BODY],
+        &[LARGE],
+        Reason::BadByte,
+    ),
+    (
+        b"\x1bPq#1;6553",
+        &[LOW_DIGITS, b";"],
+        &[LARGE, FIELDS_TOO_FEW],
+        Reason::BadByte,
+    ),
+];
+
+const AFTER: &[Open] = &[
+    (b"\x1bPq\x1b", &[b"\\"], &[], Reason::BadTerminator),
+    (b"\x1bPq#1\x1b", &[b"\\"], &[], Reason::BadTerminator),
+    (b"\x1bPq\x1b\\", &[FILLER], &[], Reason::Trailing),
+    (b"\x90q\x9c\t", &[FILLER], &[], Reason::Trailing),
+];
+
+/// The tables. Functions, so the proof of a test doesn't read them.
+fn before() -> &'static [Open] {
+    BEFORE
+}
+
+fn within() -> &'static [Open] {
+    WITHIN
+}
+
+fn large_numbers() -> &'static [Open] {
+    LARGE_NUMBERS
+}
+
+fn after() -> &'static [Open] {
+    AFTER
+}
 
 #[test]
 fn bytes_before_the_picture_data(rt: HostRuntime) {
-    let bad = Reason::NotSixel;
-    let begin = [Bytes::Filler, Bytes::Only(0x1b), Bytes::Only(0x90)];
-    let parameters = [Bytes::Digits, SEPARATOR, Bytes::Only(b'q')];
-    let low_parameters = [Bytes::LowDigits, SEPARATOR, Bytes::Only(b'q')];
-    let full_parameters = [Bytes::None, SEPARATOR, Bytes::Only(b'q')];
-    let last = [Bytes::None, Bytes::None, Bytes::Only(b'q')];
-    let escaped = [Bytes::None, Bytes::None, Bytes::Only(b'P')];
-    after(&rt, b"", begin, [NONE, NONE], bad);
-    after(&rt, b" \n", begin, [NONE, NONE], bad);
-    after(&rt, b"\x1b", escaped, [NONE, NONE], bad);
-    after(&rt, b"\x1bP", parameters, [NONE, NONE], bad);
-    after(&rt, b"\x90", parameters, [NONE, NONE], bad);
-    after(&rt, b"\x1bP1;", parameters, [NONE, NONE], bad);
-    after(&rt, b"\x901;2;3", parameters, [NONE, NONE], bad);
-    after(
-        &rt,
-        b"\x1bP;;;",
-        last,
-        [FIELD_TOO_MANY, (Bytes::Digits, Reason::FieldCount)],
-        bad,
-    );
-    after(&rt, b"\x1bP6553", low_parameters, [LARGE, NONE], bad);
-    after(&rt, b"\x90;65535", full_parameters, [LARGE, NONE], bad);
+    judge(&rt, before());
 }
 
 #[test]
 fn bytes_within_the_picture_data(rt: HostRuntime) {
-    let bad = Reason::BadByte;
-    let body = [Bytes::Body, Bytes::None, Bytes::None];
-    let repeat = [Bytes::Digits, Bytes::Data, Bytes::None];
-    let fields = [Bytes::Digits, SEPARATOR, Bytes::Body];
-    let last_field = [Bytes::Digits, Bytes::Body, Bytes::None];
-    after(&rt, b"\x1bPq", body, [NONE, NONE], bad);
-    after(&rt, b"\x1bPq ~$", body, [NONE, NONE], bad);
-    after(&rt, b"\x1bPq!", repeat, [NONE, NONE], Reason::BadRepeat);
-    after(&rt, b"\x1bPq!7", repeat, [NONE, NONE], Reason::BadRepeat);
-    after(&rt, b"\x1bPq\"", fields, [NONE, NONE], bad);
-    after(&rt, b"\x1bPq\"1;", fields, [NONE, NONE], bad);
-    after(&rt, b"\x1bPq\"1;2;3", fields, [NONE, NONE], bad);
-    after(
-        &rt,
-        b"\x1bPq\"1;2;3;",
-        last_field,
-        [FIELD_TOO_MANY, NONE],
-        bad,
-    );
-    after(&rt, b"\x1bPq#", fields, [NONE, NONE], bad);
-    after(&rt, b"\x1bPq#12", fields, [NONE, NONE], bad);
-    let inner_fields = [Bytes::Digits, SEPARATOR, Bytes::None];
-    after(&rt, b"\x1bPq#1;", inner_fields, [FIELDS_TOO_FEW, NONE], bad);
-    after(
-        &rt,
-        b"\x1bPq#1;2;",
-        inner_fields,
-        [FIELDS_TOO_FEW, NONE],
-        bad,
-    );
-    after(
-        &rt,
-        b"\x1bPq#1;2;3;4",
-        inner_fields,
-        [FIELDS_TOO_FEW, NONE],
-        bad,
-    );
-    after(
-        &rt,
-        b"\x1bPq#1;2;3;4;",
-        last_field,
-        [FIELD_TOO_MANY, NONE],
-        bad,
-    );
+    judge(&rt, within());
 }
 
 #[test]
 fn large_numbers_of_the_picture_data(rt: HostRuntime) {
-    let bad = Reason::BadByte;
-    let repeat = [Bytes::LowDigits, Bytes::Data, Bytes::None];
-    let fields = [Bytes::LowDigits, SEPARATOR, Bytes::Body];
-    after(
-        &rt,
-        b"\x1bPq!6553",
-        repeat,
-        [LARGE, NONE],
-        Reason::BadRepeat,
-    );
-    after(&rt, b"\x1bPq\"1;6553", fields, [LARGE, NONE], bad);
-    after(&rt, b"\x1bPq#6553", fields, [LARGE, NONE], bad);
-    let inner_fields = [Bytes::LowDigits, SEPARATOR, Bytes::None];
-    after(
-        &rt,
-        b"\x1bPq#1;6553",
-        inner_fields,
-        [LARGE, FIELDS_TOO_FEW],
-        bad,
-    );
+    judge(&rt, large_numbers());
 }
 
 #[test]
 fn bytes_after_the_picture_data(rt: HostRuntime) {
-    let escaped = [Bytes::None, Bytes::None, Bytes::Only(b'\\')];
-    let ended = [Bytes::Filler, Bytes::None, Bytes::None];
-    after(
-        &rt,
-        b"\x1bPq\x1b",
-        escaped,
-        [NONE, NONE],
-        Reason::BadTerminator,
-    );
-    after(
-        &rt,
-        b"\x1bPq#1\x1b",
-        escaped,
-        [NONE, NONE],
-        Reason::BadTerminator,
-    );
-    after(&rt, b"\x1bPq\x1b\\", ended, [NONE, NONE], Reason::Trailing);
-    after(&rt, b"\x90q\x9c\t", ended, [NONE, NONE], Reason::Trailing);
+    judge(&rt, after());
 }

@@ -1,9 +1,7 @@
 //! How often `read_all` calls its source.
 
+use crate::readers::read_counting;
 use crate::words::{PICTURE, PICTURE_IN_WORDS, answer_in_words};
-use sixel_grammar::read_all;
-use sixel_io::SliceSource;
-use sixel_test_devices::CountingDevice;
 use std::test::Fail;
 
 /// Whether reading the bytes in pieces, with a fill that fails or none, has this answer after so many fills.
@@ -15,9 +13,8 @@ fn agrees_after(
     expected: &str,
     fills: u64,
 ) -> Result<bool, Fail> {
-    let mut source = CountingDevice::new(SliceSource::new(bytes, piece.max(1), fail_at));
-    let answer = read_all(rt.alloc(), &mut source);
-    Ok(answer_in_words(rt, &answer)?.as_str() == expected && source.calls.fills == fills)
+    let (answer, found) = read_counting(rt, bytes, piece, fail_at);
+    Ok(answer_in_words(rt, &answer)?.as_str() == expected && found == fills)
 }
 
 /// CAN at offset 12, in the middle of 26 bytes.

@@ -1,7 +1,8 @@
 //! Each byte of the smallest picture in turn: the input ends before it, or another byte comes that isn't allowed there.
 
+use crate::readers::reader_after;
 use crate::words::PICTURE;
-use sixel_grammar::{Fault, Reader, Reason};
+use sixel_grammar::{Fault, Reason};
 
 /// Why CAN (byte 18) isn't allowed at this offset.
 fn reason_at(place: u64) -> Reason {
@@ -25,10 +26,9 @@ fn end_at(place: u64) -> Result<(), Fault> {
 
 /// Whether the prefix of the picture is read, its end gives this answer, and CAN after it is a fault that stays.
 fn is_refused_after(prefix: &[u8]) -> bool {
-    let mut reader = Reader::new();
-    if prefix.iter().any(|byte| reader.feed(*byte).is_err()) {
+    let Some(mut reader) = reader_after(prefix) else {
         return false;
-    }
+    };
     let place = prefix.len() as u64;
     let reason = reason_at(place);
     let fault = Fault { reason, place };

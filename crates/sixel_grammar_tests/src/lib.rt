@@ -12,6 +12,8 @@ mod fills;
 #[cfg(test)]
 mod in_turn;
 #[cfg(test)]
+mod readers;
+#[cfg(test)]
 mod runs;
 #[cfg(test)]
 mod spelling;

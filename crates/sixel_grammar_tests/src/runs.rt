@@ -1,9 +1,7 @@
 //! Runs and pairs of commands that are read in one step: the same events as byte by byte.
 
-use sixel_grammar::{
-    Columns, Command, Completed, Event, Fault, Placed, Plain, Reader, Run, TwoCommands,
-};
-use std::process::Abort;
+use crate::readers::{fed, feed, keep, reader_after};
+use sixel_grammar::{Columns, Command, Event, Fault, Placed, Plain, Reader, Run, TwoCommands};
 use std::test::Fail;
 
 /// How many parts a made document is put together from.
@@ -60,40 +58,9 @@ fn made(rt: &impl AllocGlobal, seed: u32) -> Result<Vec<u8>, Fail> {
     Ok(bytes)
 }
 
-fn keep(events: &mut Vec<Placed>, placed: Option<Placed>) -> Result<(), Fail> {
-    match placed {
-        Some(placed) => Ok(events.push(placed)?),
-        None => Ok(()),
-    }
-}
-
 fn keep_command(events: &mut Vec<Placed>, place: u64, command: Command) -> Result<(), Fail> {
     let event = Event::Step(command);
-    Ok(events.push(Placed { place, event })?)
-}
-
-/// Feeds one byte.
-fn feed(reader: &mut Reader, events: &mut Vec<Placed>, byte: u8) -> Result<Option<Fault>, Fail> {
-    match reader.feed(byte) {
-        Ok(Completed { first, second }) => {
-            keep(events, first)?;
-            keep(events, second)?;
-            Ok(None)
-        }
-        Err(fault) => Ok(Some(fault)),
-    }
-}
-
-/// The events that a reader completes from the bytes, and its fault, of a byte or of the end.
-fn byte_by_byte(rt: &impl AllocGlobal, bytes: &[u8]) -> Result<(Vec<Placed>, Option<Fault>), Fail> {
-    let mut reader = Reader::new();
-    let mut events = Vec::new(rt.alloc());
-    for byte in bytes {
-        if let Some(fault) = feed(&mut reader, &mut events, *byte)? {
-            return Ok((events, Some(fault)));
-        }
-    }
-    Ok((events, reader.finish().err()))
+    keep(events, Some(Placed { place, event }))
 }
 
 fn keep_run(events: &mut Vec<Placed>, run: Run, bytes: &[u8]) -> Result<(), Fail> {
@@ -150,7 +117,7 @@ fn read(
     Ok(None)
 }
 
-/// The same as `byte_by_byte`, in two pieces.
+/// The same as `fed`, in two pieces.
 fn in_runs(
     rt: &impl AllocGlobal,
     first: &[u8],
@@ -168,7 +135,7 @@ fn in_runs(
 
 /// Whether each cutting of the made document gives the events and the fault that single bytes give.
 fn is_read_alike(rt: &impl AllocGlobal, bytes: &[u8]) -> Result<bool, Fail> {
-    let (events, fault) = byte_by_byte(rt, bytes)?;
+    let (events, fault) = fed(rt, bytes)?;
     for cut in 0..bytes.len() {
         let (found, found_fault) = in_runs(rt, &bytes[..cut], &bytes[cut..])?;
         if found.as_slice() != events.as_slice() || found_fault != fault {
@@ -187,13 +154,12 @@ fn made_documents_are_read_alike(rt: HostRuntime) -> Result<(), Fail> {
     Ok(())
 }
 
-/// The run that a reader finds in the piece after this prefix; `None` also if it refuses the prefix.
-fn run_after(prefix: &[u8], piece: &[u8]) -> Option<Run> {
-    let mut reader = Reader::new();
-    if prefix.iter().any(|byte| reader.feed(*byte).is_err()) {
-        return None;
+/// Whether a reader finds this run, or none, in the piece after this prefix.
+fn finds(prefix: &[u8], piece: &[u8], run: Option<Run>) -> bool {
+    match reader_after(prefix) {
+        Some(mut reader) => reader.feed_run(piece) == run,
+        None => false,
     }
-    reader.feed_run(piece)
 }
 
 fn sixels(place: u64, select: Option<u16>, start: usize, length: usize) -> Option<Run> {
@@ -225,26 +191,6 @@ fn repeat(
     })
 }
 
-#[test]
-fn runs_at_the_beginning_of_a_piece(rt: HostRuntime) {
-    assert_eq!(rt; run_after(b"\x1bPq", b"?~@$"), sixels(3, None, 0, 3));
-    assert_eq!(rt; run_after(b"\x1bPq", b"#12~~$"), sixels(3, Some(12), 3, 5));
-    assert_eq!(rt; run_after(b"\x1bPq~", b"#~"), sixels(4, Some(0), 1, 2));
-    assert_eq!(rt;
-        run_after(b"\x1bPq", b"#65535~"),
-        sixels(3, Some(65_535), 6, 7)
-    );
-    assert_eq!(rt;
-        run_after(b"\x1bPq", b"!12~~"),
-        repeat(3, None, 0, 4, 12, 63)
-    );
-    assert_eq!(rt; run_after(b"\x1bPq", b"!@"), repeat(3, None, 0, 2, 0, 1));
-    assert_eq!(rt;
-        run_after(b"\x1bPq", b"#3!00065535?"),
-        repeat(3, Some(3), 2, 12, 65_535, 0)
-    );
-}
-
 /// A select that is open after so many bytes.
 fn open(place: u64, length: usize) -> Option<Run> {
     let columns = Columns::Missing;
@@ -257,75 +203,81 @@ fn open(place: u64, length: usize) -> Option<Run> {
     })
 }
 
+#[test]
+fn runs_at_the_beginning_of_a_piece(rt: HostRuntime) {
+    assert!(rt; finds(b"\x1bPq", b"?~@$", sixels(3, None, 0, 3)));
+    assert!(rt; finds(b"\x1bPq", b"#12~~$", sixels(3, Some(12), 3, 5)));
+    assert!(rt; finds(b"\x1bPq~", b"#~", sixels(4, Some(0), 1, 2)));
+    assert!(rt; finds(b"\x1bPq", b"#65535~", sixels(3, Some(65_535), 6, 7)));
+    assert!(rt; finds(b"\x1bPq", b"!12~~", repeat(3, None, 0, 4, 12, 63)));
+    assert!(rt; finds(b"\x1bPq", b"!@", repeat(3, None, 0, 2, 0, 1)));
+    let zeros = repeat(3, Some(3), 2, 12, 65_535, 0);
+    assert!(rt; finds(b"\x1bPq", b"#3!00065535?", zeros));
+}
+
 /// Without columns after it, the introducer of a select is read with its digits: as many as make a register.
 #[test]
 fn selects_that_stay_open(rt: HostRuntime) {
-    assert_eq!(rt; run_after(b"\x1bPq", b"#"), open(3, 1));
-    assert_eq!(rt; run_after(b"\x1bPq", b"#12"), open(3, 3));
-    assert_eq!(rt; run_after(b"\x1bPq~", b"#12$"), open(4, 3));
-    assert_eq!(rt; run_after(b"\x1bPq", b"#0012;~"), open(3, 5));
-    assert_eq!(rt; run_after(b"\x1bPq", b"#65536~"), open(3, 5));
-    for piece in [b"#1!".as_slice(), b"#1!2", b"#1!2$", b"#1#2~", b"#1\n~"] {
-        assert_eq!(rt; run_after(b"\x1bPq", piece), open(3, 2));
-    }
+    assert!(rt; finds(b"\x1bPq", b"#", open(3, 1)));
+    assert!(rt; finds(b"\x1bPq", b"#12", open(3, 3)));
+    assert!(rt; finds(b"\x1bPq~", b"#12$", open(4, 3)));
+    assert!(rt; finds(b"\x1bPq", b"#0012;~", open(3, 5)));
+    assert!(rt; finds(b"\x1bPq", b"#65536~", open(3, 5)));
+    assert!(rt; finds(b"\x1bPq", b"#1!", open(3, 2)));
+    assert!(rt; finds(b"\x1bPq", b"#1!2", open(3, 2)));
+    assert!(rt; finds(b"\x1bPq", b"#1!2$", open(3, 2)));
+    assert!(rt; finds(b"\x1bPq", b"#1#2~", open(3, 2)));
+    assert!(rt; finds(b"\x1bPq", b"#1\n~", open(3, 2)));
+}
+
+/// Whether the last of four bytes ends a select of register 12 that is open after the others.
+fn ends_select(bytes: &[u8; 4]) -> bool {
+    let Some(mut reader) = reader_after(b"\x1bPq") else {
+        return false;
+    };
+    let place = 3;
+    let command = Command::Select(12);
+    reader.feed_run(bytes) == open(3, 3)
+        && reader.feed_command(bytes[3]) == Some(Plain::Command { place, command })
 }
 
 /// The next byte ends such a select.
 #[test]
 fn open_selects_end(rt: HostRuntime) {
-    for bytes in [b"#12\n", b"#12#"] {
-        let mut reader = Reader::new();
-        for byte in b"\x1bPq" {
-            assert!(rt; reader.feed(*byte).is_ok());
-        }
-        assert_eq!(rt; reader.feed_run(bytes), open(3, 3));
-        let place = 3;
-        let command = Command::Select(12);
-        assert_eq!(rt;
-            reader.feed_command(bytes[3]),
-            Some(Plain::Command { place, command })
-        );
-    }
+    assert!(rt; ends_select(b"#12\n"));
+    assert!(rt; ends_select(b"#12#"));
+}
+
+/// Whether there is no run after this prefix, although columns come.
+fn finds_none(prefix: &[u8]) -> bool {
+    finds(prefix, b"~~", None) && finds(prefix, b"#1~", None) && finds(prefix, b"!1~", None)
 }
 
 /// What ends within the piece, or is none, is left to `feed`; so is everything while a command is open.
 #[test]
 fn no_runs(rt: HostRuntime) {
-    for piece in [
-        b"".as_slice(),
-        b"!12",
-        b"!12;",
-        b"!65536~",
-        b"$~",
-        b"-~",
-        b"\n~",
-        b"\x7f",
-        b"\"1~",
-    ] {
-        assert_eq!(rt; run_after(b"\x1bPq", piece), None);
-    }
-    for prefix in [
-        b"".as_slice(),
-        b"\x1b",
-        b"\x1bP1",
-        b"\x1bPq#1",
-        b"\x1bPq!1",
-        b"\x1bPq\"1",
-        b"\x1bPq\x1b",
-        b"\x1bPq\x1b\\",
-    ] {
-        assert_eq!(rt; run_after(prefix, b"~~"), None);
-        assert_eq!(rt; run_after(prefix, b"#1~"), None);
-        assert_eq!(rt; run_after(prefix, b"!1~"), None);
-    }
+    assert!(rt; finds(b"\x1bPq", b"", None));
+    assert!(rt; finds(b"\x1bPq", b"!12", None));
+    assert!(rt; finds(b"\x1bPq", b"!12;", None));
+    assert!(rt; finds(b"\x1bPq", b"!65536~", None));
+    assert!(rt; finds(b"\x1bPq", b"$~", None));
+    assert!(rt; finds(b"\x1bPq", b"-~", None));
+    assert!(rt; finds(b"\x1bPq", b"\n~", None));
+    assert!(rt; finds(b"\x1bPq", b"\x7f", None));
+    assert!(rt; finds(b"\x1bPq", b"\"1~", None));
+    assert!(rt; finds_none(b""));
+    assert!(rt; finds_none(b"\x1b"));
+    assert!(rt; finds_none(b"\x1bP1"));
+    assert!(rt; finds_none(b"\x1bPq#1"));
+    assert!(rt; finds_none(b"\x1bPq!1"));
+    assert!(rt; finds_none(b"\x1bPq\"1"));
+    assert!(rt; finds_none(b"\x1bPq\x1b"));
+    assert!(rt; finds_none(b"\x1bPq\x1b\\"));
 }
 
 /// A reader that has read so many bytes that `left` more may come.
-fn near_the_limit(rt: &impl Abort, left: u64) -> Reader {
-    let mut reader = Reader::new();
-    for byte in b"\x1bPq" {
-        assert!(rt; reader.feed(*byte).is_ok());
-    }
+fn near_the_limit(left: u64) -> Option<Reader> {
+    let mut reader = reader_after(b"\x1bPq")?;
     let blanks = [b'?'; 65_536];
     let mut taken: u64 = 3;
     for _ in 0..8192 {
@@ -333,50 +285,51 @@ fn near_the_limit(rt: &impl Abort, left: u64) -> Reader {
         let count = (room as usize).min(65_536);
         taken = taken.wrapping_add(reader.feed_stretch(&blanks[..count]).count as u64);
     }
-    assert_eq!(rt; taken.wrapping_add(left), 268_435_456);
-    reader
+    (taken.wrapping_add(left) == 268_435_456).then_some(reader)
+}
+
+/// Whether a reader finds this run, or none, in the piece if `left` more bytes may come.
+fn finds_near_the_limit(left: u64, piece: &[u8], run: Option<Run>) -> bool {
+    match near_the_limit(left) {
+        Some(mut reader) => reader.feed_run(piece) == run,
+        None => false,
+    }
 }
 
 /// A run takes no more bytes than may come.
 #[test]
 fn runs_end_at_the_limit(rt: HostRuntime) {
-    assert_eq!(rt;
-        near_the_limit(&rt, 3).feed_run(b"~~~~"),
-        sixels(268_435_453, None, 0, 3)
-    );
-    assert_eq!(rt;
-        near_the_limit(&rt, 3).feed_run(b"#1~~"),
-        sixels(268_435_453, Some(1), 2, 3)
-    );
-    assert_eq!(rt;
-        near_the_limit(&rt, 2).feed_run(b"#1~~"),
-        open(268_435_454, 2)
-    );
-    assert_eq!(rt;
-        near_the_limit(&rt, 3).feed_run(b"!1~~"),
-        repeat(268_435_453, None, 0, 3, 1, 63)
-    );
-    assert_eq!(rt; near_the_limit(&rt, 2).feed_run(b"!1~~"), None);
-    assert_eq!(rt; near_the_limit(&rt, 0).feed_run(b"~~"), None);
+    let plain = sixels(268_435_453, None, 0, 3);
+    assert!(rt; finds_near_the_limit(3, b"~~~~", plain));
+    let selected = sixels(268_435_453, Some(1), 2, 3);
+    assert!(rt; finds_near_the_limit(3, b"#1~~", selected));
+    assert!(rt; finds_near_the_limit(2, b"#1~~", open(268_435_454, 2)));
+    let repeated = repeat(268_435_453, None, 0, 3, 1, 63);
+    assert!(rt; finds_near_the_limit(3, b"!1~~", repeated));
+    assert!(rt; finds_near_the_limit(2, b"!1~~", None));
+    assert!(rt; finds_near_the_limit(0, b"~~", None));
+}
+
+/// Whether the byte completes these two commands, or no two.
+fn completes(reader: &mut Reader, byte: u8, two: Option<TwoCommands>) -> bool {
+    reader.feed_two(byte) == two
 }
 
 /// Two commands that one byte completes.
 #[test]
-fn two_commands_at_once(rt: HostRuntime) {
-    let mut reader = Reader::new();
-    for byte in b"\x1bPq#1" {
-        assert!(rt; reader.feed(*byte).is_ok());
-    }
-    assert_eq!(rt; reader.feed_two(b' '), None);
-    assert_eq!(rt; reader.feed_two(b'!'), None);
-    assert_eq!(rt; reader.feed_two(b'2'), None);
-    assert_eq!(rt; reader.feed_two(0x9c), None);
+fn two_commands_at_once(rt: HostRuntime) -> Result<(), Fail> {
+    let mut reader = reader_after(b"\x1bPq#1").ok_or("a select")?;
+    assert!(rt; completes(&mut reader, b' ', None));
+    assert!(rt; completes(&mut reader, b'!', None));
+    assert!(rt; completes(&mut reader, b'2', None));
+    assert!(rt; completes(&mut reader, 0x9c, None));
     let two = TwoCommands {
         place: 3,
         ended: Command::Select(1),
         own_place: 5,
         own: Command::CarriageReturn,
     };
-    assert_eq!(rt; reader.feed_two(b'$'), Some(two));
-    assert_eq!(rt; reader.feed_two(b'$'), None);
+    assert!(rt; completes(&mut reader, b'$', Some(two)));
+    assert!(rt; completes(&mut reader, b'$', None));
+    Ok(())
 }

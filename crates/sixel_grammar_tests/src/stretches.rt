@@ -1,19 +1,14 @@
 //! Stretches of data bytes that are read in one step.
 
-use sixel_grammar::{Reader, Stretch};
+use crate::readers::reader_after;
+use sixel_grammar::Stretch;
 
-/// The stretch that a reader finds in the piece after this prefix; `None` if it refuses the prefix.
-fn stretch_after(prefix: &[u8], piece: &[u8]) -> Option<Stretch> {
-    let mut reader = Reader::new();
-    if prefix.iter().any(|byte| reader.feed(*byte).is_err()) {
-        return None;
-    }
-    Some(reader.feed_stretch(piece))
-}
-
-/// Whether the stretch begins at this offset, and has this many bytes.
+/// Whether a reader finds, in the piece after this prefix, a stretch that begins at this offset and has this many bytes.
 fn is_stretch(prefix: &[u8], piece: &[u8], place: u64, count: usize) -> bool {
-    stretch_after(prefix, piece) == Some(Stretch { place, count })
+    match reader_after(prefix) {
+        Some(mut reader) => reader.feed_stretch(piece) == Stretch { place, count },
+        None => false,
+    }
 }
 
 /// A stretch ends before the first byte that isn't data, or at the end of the piece.

@@ -1,6 +1,5 @@
 //! Events and answers as text.
 
-use arrayvec::ArrayVec;
 use sixel_grammar::{Command, Event, Fault, InputFault, Placed};
 use std::test::Fail;
 
@@ -11,43 +10,37 @@ pub(crate) const PICTURE: &[u8] = b"\x1bPq\"1;1;1;1#0;2;0;0;0#0@\x1b\\";
 pub(crate) const PICTURE_IN_WORDS: &str =
     "0 start false [0], 3 raster 1 1 1 1, 11 define 0 2 0 0 0, 21 select 0, 23 sixel 1, 24 finish false";
 
-fn listed(numbers: &[u16]) -> ArrayVec<u16, 5> {
-    let mut list = ArrayVec::new();
-    let _ = list.try_extend_from_slice(numbers);
-    list
+/// A name and numbers.
+fn with_numbers(rt: &impl AllocGlobal, name: &str, numbers: &[u16]) -> Result<String, Fail> {
+    let mut text = name.to_string(rt.alloc())?;
+    for number in numbers {
+        text.push_str(format!(in rt.alloc(); " {number}")?.as_str())?;
+    }
+    Ok(text)
 }
 
 /// The name of a command, and its numbers.
-fn named(command: &Command) -> (&'static str, ArrayVec<u16, 5>) {
-    match command {
-        Command::Sixel(bits) => ("sixel", listed(&[(*bits).into()])),
-        Command::Repeat { count, bits } => ("repeat", listed(&[*count, (*bits).into()])),
+fn command_in_words(rt: &impl AllocGlobal, command: &Command) -> Result<String, Fail> {
+    match *command {
+        Command::Sixel(bits) => with_numbers(rt, "sixel", &[bits.into()]),
+        Command::Repeat { count, bits } => with_numbers(rt, "repeat", &[count, bits.into()]),
         Command::Raster {
             pan,
             pad,
             width,
             height,
-        } => ("raster", listed(&[*pan, *pad, *width, *height])),
-        Command::Select(register) => ("select", listed(&[*register])),
+        } => with_numbers(rt, "raster", &[pan, pad, width, height]),
+        Command::Select(register) => with_numbers(rt, "select", &[register]),
         Command::Define {
             register,
             system,
             x,
             y,
             z,
-        } => ("define", listed(&[*register, *system, *x, *y, *z])),
-        Command::CarriageReturn => ("return", listed(&[])),
-        Command::NextLine => ("newline", listed(&[])),
+        } => with_numbers(rt, "define", &[register, system, x, y, z]),
+        Command::CarriageReturn => with_numbers(rt, "return", &[]),
+        Command::NextLine => with_numbers(rt, "newline", &[]),
     }
-}
-
-fn command_in_words(rt: &impl AllocGlobal, command: &Command) -> Result<String, Fail> {
-    let (name, numbers) = named(command);
-    let mut text = name.to_string(rt.alloc())?;
-    for number in numbers.as_slice() {
-        text.push_str(format!(in rt.alloc(); " {number}")?.as_str())?;
-    }
-    Ok(text)
 }
 
 /// One event as text: its place, its name, its numbers.

@@ -6,17 +6,17 @@ use sixel_ppm::{PpmFault, PpmReason};
 use std::alloc::{AllocError, Global};
 use std::test::Fail;
 
-/// A prefix, one byte `count` times, and the rest.
-fn filled(
+/// A prefix, the filler `count` times, and the rest.
+pub(crate) fn filled(
     alloc: Global,
     prefix: &[u8],
-    filler: u8,
+    filler: &[u8],
     count: usize,
     rest: &[u8],
 ) -> Result<Vec<u8>, AllocError> {
     let mut bytes = prefix.to_vec(alloc)?;
     for _ in 0..count {
-        bytes.push(filler)?;
+        bytes.extend_from_slice(filler)?;
     }
     bytes.extend_from_slice(rest)?;
     Ok(bytes)
@@ -25,7 +25,7 @@ fn filled(
 /// Whether `P6`, filler of this length and the rest of a file have this fault, or none.
 fn header_agrees(
     alloc: Global,
-    filler: u8,
+    filler: &[u8],
     count: usize,
     rest: &[u8],
     expected: Option<PpmFault>,
@@ -40,7 +40,7 @@ fn headers_have_a_limit(rt: HostRuntime) -> Result<(), Fail> {
     let short = format(PpmReason::Short, 65_536);
     let size = format(PpmReason::Size, 65_534);
     let maxval = format(PpmReason::Maxval, 65_534);
-    let longest = filled(rt.alloc(), b"P6", b' ', 65_526, b"1 1 100\n\x00\x00\x00")?;
+    let longest = filled(rt.alloc(), b"P6", b" ", 65_526, b"1 1 100\n\x00\x00\x00")?;
     let black = [Parts::Rgb(0, 0, 0)];
     for piece in [1, 4_096, 65_536] {
         assert!(rt;
@@ -49,16 +49,16 @@ fn headers_have_a_limit(rt: HostRuntime) -> Result<(), Fail> {
         );
     }
     for (filler, count, rest, expected) in [
-        (b' ', 65_527, b"1 1 100\n\x00\x00\x00".as_slice(), limit),
-        (b' ', 65_527, b"1 1 256\n\x00\x00\x00".as_slice(), limit),
-        (b' ', 65_534, b"".as_slice(), short),
-        (b' ', 65_535, b"".as_slice(), limit),
-        (b'#', 65_534, b"".as_slice(), short),
-        (b'#', 65_534, b"\n1 1 100\n".as_slice(), limit),
-        (b' ', 65_532, b"0 1 100\n".as_slice(), size),
-        (b' ', 65_530, b"1 0 1".as_slice(), size),
-        (b' ', 65_528, b"1 1 0\n".as_slice(), maxval),
-        (b' ', 65_529, b"1 1 0\n".as_slice(), limit),
+        (b" ", 65_527, b"1 1 100\n\x00\x00\x00".as_slice(), limit),
+        (b" ", 65_527, b"1 1 256\n\x00\x00\x00".as_slice(), limit),
+        (b" ", 65_534, b"".as_slice(), short),
+        (b" ", 65_535, b"".as_slice(), limit),
+        (b"#", 65_534, b"".as_slice(), short),
+        (b"#", 65_534, b"\n1 1 100\n".as_slice(), limit),
+        (b" ", 65_532, b"0 1 100\n".as_slice(), size),
+        (b" ", 65_530, b"1 0 1".as_slice(), size),
+        (b" ", 65_528, b"1 1 0\n".as_slice(), maxval),
+        (b" ", 65_529, b"1 1 0\n".as_slice(), limit),
     ] {
         let agrees = header_agrees(rt.alloc(), filler, count, rest, expected)?;
         assert!(rt; agrees, "filler {count}");
@@ -69,7 +69,7 @@ fn headers_have_a_limit(rt: HostRuntime) -> Result<(), Fail> {
 /// Whether `P6 `, this many digits and the rest of a file have this fault, or none.
 fn number_agrees(
     alloc: Global,
-    digit: u8,
+    digit: &[u8],
     count: usize,
     rest: &[u8],
     expected: Option<PpmFault>,
@@ -83,11 +83,11 @@ fn long_numbers_do_not_wrap(rt: HostRuntime) -> Result<(), Fail> {
     let size = format(PpmReason::Size, 3);
     let header = format(PpmReason::Header, 60_003);
     for (digit, count, rest, expected) in [
-        (b'9', 1_000, b" 1 100\n".as_slice(), size),
-        (b'9', 60_000, b" 1 100\n".as_slice(), size),
-        (b'9', 60_000, b"x".as_slice(), header),
-        (b'0', 60_000, b"1 1 1\n\x00\x00\x00".as_slice(), None),
-        (b'0', 60_000, b" 1 1\n\x00\x00\x00".as_slice(), size),
+        (b"9", 1_000, b" 1 100\n".as_slice(), size),
+        (b"9", 60_000, b" 1 100\n".as_slice(), size),
+        (b"9", 60_000, b"x".as_slice(), header),
+        (b"0", 60_000, b"1 1 1\n\x00\x00\x00".as_slice(), None),
+        (b"0", 60_000, b" 1 1\n\x00\x00\x00".as_slice(), size),
     ] {
         let agrees = number_agrees(rt.alloc(), digit, count, rest, expected)?;
         assert!(rt; agrees, "{count} digits");
@@ -97,7 +97,7 @@ fn long_numbers_do_not_wrap(rt: HostRuntime) -> Result<(), Fail> {
 
 /// The longest header, and 2,048 by 16 pixels without the last one, in 16 colours: 163,837 bytes.
 fn wide(alloc: Global) -> Result<Vec<u8>, AllocError> {
-    let mut bytes = filled(alloc, b"P6", b' ', 65_524, b"2048 16 2\n")?;
+    let mut bytes = filled(alloc, b"P6", b" ", 65_524, b"2048 16 2\n")?;
     for colour in 0u8..16 {
         bytes.extend_from_slice(&[colour / 9, colour / 3 % 3, colour % 3])?;
     }
@@ -139,11 +139,11 @@ fn the_largest_picture_is_read(rt: HostRuntime) -> Result<(), Fail> {
     let bytes = filled(
         rt.alloc(),
         b"P6 2048 2048 100\n",
-        0,
+        &[0],
         12_582_909,
         b"\x64\x00\x00",
     )?;
-    let registers = filled(rt.alloc(), b"", 0, 4_194_303, b"\x01")?;
+    let registers = filled(rt.alloc(), b"", &[0], 4_194_303, b"\x01")?;
     let colours = [Parts::Rgb(0, 0, 0), Parts::Rgb(100, 0, 0)];
     assert!(rt;
         reads(

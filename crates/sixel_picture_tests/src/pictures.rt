@@ -40,7 +40,12 @@ pub(crate) fn set(palette: &mut Palette, register: u8, colour: Option<Colour>) {
 
 /// Whether the register has this colour, and no other has one.
 fn holds_alone(palette: &Palette, register: u8, colour: Option<Colour>) -> bool {
-    (0..=255u8).all(|other| palette.get(other) == if other == register { colour } else { None })
+    for other in 0..=255u8 {
+        if other != register && palette.get(other).is_some() {
+            return false;
+        }
+    }
+    palette.get(register) == colour
 }
 
 #[test]
@@ -122,7 +127,7 @@ fn pictures_name_the_first_reason(rt: HostRuntime) -> Result<(), Fail> {
         (2, 1, [3, 15].as_slice(), PictureReason::NoColour),
     ] {
         let reason = reason_of(rt.alloc(), Profile::Registers16, width, height, registers)?;
-        assert_eq!(rt; reason, Some(expected), "{width} by {height}");
+        assert!(rt; reason == Some(expected), "{width} by {height}");
     }
     Ok(())
 }
@@ -136,7 +141,7 @@ fn wide_pictures_have_each_register(rt: HostRuntime) -> Result<(), Fail> {
         (1, 1, [255, 3].as_slice(), PictureReason::Count),
     ] {
         let reason = reason_of(rt.alloc(), Profile::Registers256, width, height, registers)?;
-        assert_eq!(rt; reason, Some(expected), "{width} by {height}");
+        assert!(rt; reason == Some(expected), "{width} by {height}");
     }
     Ok(())
 }

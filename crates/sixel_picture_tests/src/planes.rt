@@ -60,15 +60,10 @@ fn pixel<P: Plane>(plane: &P, x: u32, y: u32) -> Option<u8> {
     }
 }
 
-/// Whether the planes have the same pixel there.
-fn is_same_pixel<P: Plane, Q: Plane>(one: &P, other: &Q, x: u32, y: u32) -> bool {
-    pixel(one, x, y) == pixel(other, x, y)
-}
-
-/// Whether the planes have the same pixels in these columns of a row.
-fn is_same_row<P: Plane, Q: Plane>(one: &P, other: &Q, columns: u32, row: u32) -> bool {
-    for column in 0..columns {
-        if !is_same_pixel(one, other, column, row) {
+/// Whether the planes have the same pixels in this row.
+fn is_same_row(bytes: &BytePlane, bands: &BandPlane, row: u32) -> bool {
+    for column in 0..bytes.width() {
+        if pixel(bytes, column, row) != pixel(bands, column, row) {
             return false;
         }
     }
@@ -76,14 +71,14 @@ fn is_same_row<P: Plane, Q: Plane>(one: &P, other: &Q, columns: u32, row: u32) -
 }
 
 /// Whether the planes have the same pixels.
-fn is_same<P: Plane, Q: Plane>(one: &P, other: &Q) -> bool {
-    let (width, height) = (one.width(), one.height());
-    for row in 0..height {
-        if !is_same_row(one, other, width, row) {
+fn is_same(bytes: &BytePlane, bands: &BandPlane) -> bool {
+    for row in 0..bytes.height() {
+        if !is_same_row(bytes, bands, row) {
             return false;
         }
     }
-    (width, height) == (other.width(), other.height()) && one.first_blank() == other.first_blank()
+    (bytes.width(), bytes.height()) == (bands.width(), bands.height())
+        && bytes.first_blank() == bands.first_blank()
 }
 
 /// Paints a run in both planes. Returns whether both took it and have the same pixels.
@@ -130,7 +125,7 @@ fn both_planes_show_the_same(rt: HostRuntime) -> Result<(), Fail> {
                 "run {index}, {width} wide"
             );
         }
-        assert_eq!(rt; bands.first_blank(), None, "{width} wide");
+        assert!(rt; bands.first_blank().is_none(), "{width} wide");
     }
     Ok(())
 }
@@ -180,6 +175,30 @@ fn columns(plane: &mut BytePlane, column: u32, bytes: &[u8], count: u32, registe
 const SIXELS: &[u8] =
     b"?~@}A|B{CzDyExFwGvHuItJsKrLqMpNoOnPmQlRkSjTiUhVgWfXeYdZc[b\\a]`^_~~~~~~~~~~~~~~~~";
 
+/// Whether a stretch of the bands paints the same as its columns of the bytes one by one.
+fn paint_alike(
+    bytes: &mut BytePlane,
+    bands: &mut BandPlane,
+    column: u32,
+    sixels: &[u8],
+    count: u32,
+    register: u8,
+) -> bool {
+    stretch(bands, column, sixels, count, register)
+        && columns(bytes, column, sixels, count, register)
+        && is_same(bytes, bands)
+}
+
+/// Whether new planes are painted alike by this stretch in register 7, and then by one of 40 columns in register 255.
+fn are_painted_alike(alloc: Global, column: u32, count: u32) -> Result<bool, AllocError> {
+    let mut bytes = BytePlane::blank(alloc, 100, 12)?;
+    let mut bands = BandPlane::blank(alloc, 100, 12)?;
+    Ok(
+        paint_alike(&mut bytes, &mut bands, column, SIXELS, count, 7)
+            && paint_alike(&mut bytes, &mut bands, 0, &SIXELS[1..], 40, 255),
+    )
+}
+
 /// A stretch paints the same as its columns one by one, with whole groups of 16 and without.
 #[test]
 fn stretches_are_their_columns(rt: HostRuntime) -> Result<(), Fail> {
@@ -193,40 +212,46 @@ fn stretches_are_their_columns(rt: HostRuntime) -> Result<(), Fail> {
         (5, 33),
         (36, 64),
     ] {
-        let mut bytes = BytePlane::blank(rt.alloc(), 100, 12)?;
-        let mut bands = BandPlane::blank(rt.alloc(), 100, 12)?;
         assert!(rt;
-            stretch(&mut bands, column, SIXELS, count, 7),
+            are_painted_alike(rt.alloc(), column, count)?,
             "{count} at {column}"
         );
-        assert!(rt; columns(&mut bytes, column, SIXELS, count, 7));
-        assert!(rt; is_same(&bytes, &bands), "{count} at {column}");
-        assert!(rt;
-            stretch(&mut bands, 0, &SIXELS[1..], 40, 255)
-                && columns(&mut bytes, 0, &SIXELS[1..], 40, 255)
-        );
-        assert!(rt; is_same(&bytes, &bands), "over {count} at {column}");
     }
     Ok(())
+}
+
+/// Whether a stretch in a blank plane of 40 by 6 pixels isn't painted, and nothing changes.
+fn is_left_out(plane: &mut BandPlane, column: u32, bytes: &[u8], count: u32) -> bool {
+    !stretch(plane, column, bytes, count, 7) && is_blank(plane, 40, 6)
+}
+
+/// Whether a plane of 40 by 6 pixels leaves out stretches without room after them, and then paints one with room.
+fn wants_room_for_lanes(alloc: Global) -> Result<bool, AllocError> {
+    let mut plane = BandPlane::blank(alloc, 40, 6)?;
+    Ok(
+        is_left_out(&mut plane, 0, &SIXELS[..20], 5)
+            && is_left_out(&mut plane, 20, SIXELS, 20)
+            && stretch(&mut plane, 20, SIXELS, 4, 7)
+            && plane.first_blank() == Some((0, 0)),
+    )
 }
 
 /// Unless 16 more bytes and 16 more columns of the plane follow it, a stretch isn't painted, and nothing changes.
 #[test]
 fn stretches_want_room_for_lanes(rt: HostRuntime) -> Result<(), Fail> {
-    let mut plane = BandPlane::blank(rt.alloc(), 40, 6)?;
-    assert!(rt; !stretch(&mut plane, 0, &SIXELS[..20], 5, 7));
-    assert!(rt; is_blank(&plane, 40, 6));
-    assert!(rt; !stretch(&mut plane, 20, SIXELS, 20, 7));
-    assert!(rt; is_blank(&plane, 40, 6));
-    assert!(rt; stretch(&mut plane, 20, SIXELS, 4, 7));
-    assert_eq!(rt; plane.first_blank(), Some((0, 0)));
+    assert!(rt; wants_room_for_lanes(rt.alloc())?);
     Ok(())
 }
 
-#[test]
-fn the_columns_after_whole_groups_are_looked_at(rt: HostRuntime) -> Result<(), Fail> {
-    let mut plane = BandPlane::blank(rt.alloc(), 33, 6)?;
-    for (column, count, bits, register, expected) in [
+/// Whether the plane takes the run, and then has this first blank pixel.
+fn paints<P: Plane>(plane: &mut P, run: Run, blank: Option<(u32, u32)>) -> bool {
+    paint(plane, run) && plane.first_blank() == blank
+}
+
+/// Whether the first blank pixel of a plane of 33 columns is the first one of the last column until that is painted.
+fn looks_at_the_last_column(alloc: Global) -> Result<bool, AllocError> {
+    let mut plane = BandPlane::blank(alloc, 33, 6)?;
+    for (column, count, bits, register, blank) in [
         (0, 32, 63, 1, Some((32, 0))),
         (32, 1, 62, 2, Some((32, 0))),
         (32, 1, 1, 2, None),
@@ -238,9 +263,16 @@ fn the_columns_after_whole_groups_are_looked_at(rt: HostRuntime) -> Result<(), F
             bits,
             register,
         };
-        assert!(rt; paint(&mut plane, run));
-        assert_eq!(rt; plane.first_blank(), expected, "after column {column}");
+        if !paints(&mut plane, run, blank) {
+            return Ok(false);
+        }
     }
+    Ok(true)
+}
+
+#[test]
+fn the_columns_after_whole_groups_are_looked_at(rt: HostRuntime) -> Result<(), Fail> {
+    assert!(rt; looks_at_the_last_column(rt.alloc())?);
     Ok(())
 }
 
@@ -265,21 +297,19 @@ fn is_made_blank<P: Plane>(alloc: Global, width: u32, height: u32) -> Option<boo
     Some(is_blank(&plane, width, height))
 }
 
+/// Whether new planes of both kinds are blank.
+fn are_made_blank(alloc: Global, width: u32, height: u32) -> bool {
+    is_made_blank::<BytePlane>(alloc, width, height) == Some(true)
+        && is_made_blank::<BandPlane>(alloc, width, height) == Some(true)
+}
+
 #[test]
 fn planes_of_any_size_are_made_blank(rt: HostRuntime) {
-    for (width, height) in [
-        (1, 1),
-        (1_025, 7),
-        (2_047, 5),
-        (2_048, 2_047),
-        (2_048, 2_048),
-    ] {
-        let made = Some(true);
-        let bytes = is_made_blank::<BytePlane>(rt.alloc(), width, height);
-        assert!(rt; bytes == made, "bytes, {width} by {height}");
-        let bands = is_made_blank::<BandPlane>(rt.alloc(), width, height);
-        assert!(rt; bands == made, "bands, {width} by {height}");
-    }
+    assert!(rt; are_made_blank(rt.alloc(), 1, 1));
+    assert!(rt; are_made_blank(rt.alloc(), 1_025, 7));
+    assert!(rt; are_made_blank(rt.alloc(), 2_047, 5));
+    assert!(rt; are_made_blank(rt.alloc(), 2_048, 2_047));
+    assert!(rt; are_made_blank(rt.alloc(), 2_048, 2_048));
 }
 
 /// Whether at least one of two planes is made, and each that is made is blank.
@@ -306,18 +336,6 @@ fn a_refused_growth_of_bands_is_answered(rt: HostRuntime) {
     assert!(rt; one_is_blank::<BandPlane>(rt.alloc()));
 }
 
-/// Whether the plane takes the run, and then has this first blank pixel and these two pixels.
-fn paints<P: Plane>(
-    plane: &mut P,
-    run: Run,
-    blank: Option<(u32, u32)>,
-    shown: (Option<u8>, Option<u8>),
-) -> bool {
-    paint(plane, run)
-        && plane.first_blank() == blank
-        && (pixel(plane, 1, 5), pixel(plane, 0, 6)) == shown
-}
-
 /// Whether runs paint a plane of 2 by 7 pixels as expected, until no pixel is blank.
 fn is_filled<P: Plane>(plane: &mut P) -> bool {
     if (plane.width(), plane.height()) != (2, 7) || plane.first_blank() != Some((0, 0)) {
@@ -335,7 +353,10 @@ fn is_filled<P: Plane>(plane: &mut P) -> bool {
             bits,
             register,
         };
-        if !paints(plane, run, blank, (Some(3), last)) {
+        if !paints(plane, run, blank)
+            || pixel(plane, 1, 5) != Some(3)
+            || pixel(plane, 0, 6) != last
+        {
             return false;
         }
     }

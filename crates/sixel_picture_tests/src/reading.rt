@@ -4,7 +4,7 @@ ghost use Rattle.std.specs.Prelude.{◌<◌, None};
 
 use crate::pictures::{parts_of, register_of};
 use sixel_io::{DeviceFault, SliceSource, Source};
-use sixel_model::{Parts, Picture, Profile};
+use sixel_model::{Palette, Parts, Picture, Profile};
 use sixel_ppm::{PpmFault, PpmReason, read_ppm};
 use std::alloc::{AllocError, Global};
 use std::test::Fail;
@@ -12,14 +12,20 @@ use std::test::Fail;
 /// Five red pixels side by side.
 const RED: &[u8] = b"P6 5 1 100\n\x64\x00\x00\x64\x00\x00\x64\x00\x00\x64\x00\x00\x64\x00\x00";
 
+/// Reads a picture. A function, so the proof of a test doesn't read the contract of `read_ppm`.
+fn read_from(
+    alloc: Global,
+    profile: Profile,
+    source: &mut SliceSource<'_>,
+) -> Result<Picture, PpmFault> {
+    read_ppm(alloc, profile, source)
+}
+
 fn read(alloc: Global, bytes: &[u8], piece: usize) -> Result<Picture, PpmFault>
     requires { 0 < piece }
 {
-    read_ppm(
-        alloc,
-        Profile::Registers16,
-        &mut SliceSource::new(bytes, piece, None),
-    )
+    let mut source = SliceSource::new(bytes, piece, None);
+    read_from(alloc, Profile::Registers16, &mut source)
 }
 
 /// The fault of the bytes, read in pieces of this size.
@@ -147,16 +153,7 @@ fn faults_have_reasons_and_places(rt: HostRuntime) {
     }
 }
 
-/// A header, and `count` pixels (i, 0, 0).
-fn reds(alloc: Global, header: &[u8], count: u8) -> Result<Vec<u8>, AllocError> {
-    let mut bytes = header.to_vec(alloc)?;
-    for red in 0..count {
-        bytes.extend_from_slice(&[red, 0, 0])?;
-    }
-    Ok(bytes)
-}
-
-/// The header, and `count` pixels in one row, all of different colours.
+/// A header, and `count` pixels of different colours: (0, 0, 0), (1, 0, 0) and so on, up to 100 before the next green.
 fn different(alloc: Global, header: &[u8], count: u16) -> Result<Vec<u8>, AllocError> {
     let mut bytes = header.to_vec(alloc)?;
     for pixel in 0..count {
@@ -165,55 +162,72 @@ fn different(alloc: Global, header: &[u8], count: u16) -> Result<Vec<u8>, AllocE
     Ok(bytes)
 }
 
-/// The result of reading the bytes in a profile: the fault, or how many registers have a colour.
-fn count_of(alloc: Global, profile: Profile, bytes: &[u8]) -> Result<usize, PpmFault> {
-    let picture = read_ppm(alloc, profile, &mut SliceSource::new(bytes, 100, None))?;
-    Ok(
-        (0..=255u8)
-            .filter(|register| picture.palette().get(*register).is_some())
-            .count(),
-    )
+/// How many registers of the palette have a colour.
+fn coloured(palette: &Palette) -> usize {
+    let mut count: usize = 0;
+    for register in 0..=255u8 {
+        if palette.get(register).is_some() {
+            count = count.wrapping_add(1);
+        }
+    }
+    count
+}
+
+/// Whether reading the bytes in a profile has this fault, or else gives this many registers a colour.
+fn has_colours(
+    alloc: Global,
+    profile: Profile,
+    bytes: &[u8],
+    expected: Result<usize, PpmFault>,
+) -> bool {
+    match read_from(alloc, profile, &mut SliceSource::new(bytes, 100, None)) {
+        Ok(picture) => Ok(coloured(picture.palette())) == expected,
+        Err(fault) => Err(fault) == expected,
+    }
+}
+
+/// Too many colours, at this offset.
+fn too_many(place: u64) -> Result<usize, PpmFault> {
+    let reason = PpmReason::TooManyColours;
+    Err(PpmFault::Format { reason, place })
 }
 
 #[test]
 fn a_profile_has_room_for_as_many_colours_as_registers(rt: HostRuntime) -> Result<(), Fail> {
-    let too_many = |place| {
-        Err(PpmFault::Format {
-            reason: PpmReason::TooManyColours,
-            place,
-        })
-    };
+    let (narrow, wide) = (Profile::Registers16, Profile::Registers256);
     let more = different(rt.alloc(), b"P6 257 1 100\n", 257)?;
-    assert_eq!(rt;
-        count_of(rt.alloc(), Profile::Registers256, &more),
-        too_many(781)
-    );
-    assert_eq!(rt;
-        count_of(rt.alloc(), Profile::Registers16, &more),
-        too_many(61)
-    );
+    assert!(rt; has_colours(rt.alloc(), wide, &more, too_many(781)));
+    assert!(rt; has_colours(rt.alloc(), narrow, &more, too_many(61)));
     let all = different(rt.alloc(), b"P6 256 1 100\n", 256)?;
-    assert_eq!(rt; count_of(rt.alloc(), Profile::Registers256, &all), Ok(256));
+    assert!(rt; has_colours(rt.alloc(), wide, &all, Ok(256)));
     Ok(())
+}
+
+/// The first 16 of these colours.
+fn reds() -> [Parts; 16] {
+    let mut colours = [Parts::Rgb(0, 0, 0); 16];
+    for red in 0..16u8 {
+        colours[red as usize] = Parts::Rgb(red, 0, 0);
+    }
+    colours
 }
 
 #[test]
 fn a_seventeenth_colour_is_refused(rt: HostRuntime) -> Result<(), Fail> {
-    let bytes = reds(rt.alloc(), b"P6 17 1 100\n", 17)?;
+    let bytes = different(rt.alloc(), b"P6 17 1 100\n", 17)?;
     let expected = format(PpmReason::TooManyColours, 60);
     assert!(rt; agrees(rt.alloc(), &bytes, 64, expected));
-    let bytes = reds(rt.alloc(), b"P6 16 1 100\n", 16)?;
+    let bytes = different(rt.alloc(), b"P6 16 1 100\n", 16)?;
     let registers = [0, 1, 2, 3, 4, 5, 6, 7, 8, 9, 10, 11, 12, 13, 14, 15];
-    let colours = registers.map(|red| Parts::Rgb(red, 0, 0));
     assert!(rt;
-        reads(rt.alloc(), &bytes, 65_536, (16, 1), &registers, &colours),
+        reads(rt.alloc(), &bytes, 65_536, (16, 1), &registers, &reds()),
         "each has its own register"
     );
     // A 17th colour whose sample is too large: the samples are judged first.
-    let mut bytes = reds(rt.alloc(), b"P6 17 1 100\n", 16)?;
+    let mut bytes = different(rt.alloc(), b"P6 17 1 100\n", 16)?;
     bytes.extend_from_slice(&[50, 0, 101])?;
     let expected = format(PpmReason::Sample, 62);
-    assert_eq!(rt; fault(rt.alloc(), &bytes, 65_536), expected);
+    assert!(rt; fault(rt.alloc(), &bytes, 65_536) == expected);
     Ok(())
 }
 
@@ -250,37 +264,39 @@ fn colours_are_numbered_as_they_are_first_seen(rt: HostRuntime) -> Result<(), Fa
     Ok(())
 }
 
-#[test]
-fn filler_stands_wherever_it_may(rt: HostRuntime) -> Result<(), Fail> {
+/// Whether the bytes, in pieces of each size, are a magenta pixel.
+fn is_magenta(alloc: Global, bytes: &[u8]) -> bool {
     let magenta = [Parts::Rgb(100, 0, 100)];
-    for bytes in [
-        b"P6 1 1 1 \x01\x00\x01".as_slice(),
-        b"P6\t1\r1\n1\t\x01\x00\x01".as_slice(),
-        b"P6#\n1#\n1#\n1\r\x01\x00\x01".as_slice(),
-        b"P6# P6 #\n#\n 01\r\n#1\n\t001 \t\r\n0001\n\x01\x00\x01".as_slice(),
-        b"P6 #\xff\x00\n1#1 1\n 1##\n#\n\n1\n\x01\x00\x01".as_slice(),
-    ] {
-        assert!(rt; agrees(rt.alloc(), bytes, 24, None));
-        assert!(rt; reads(rt.alloc(), bytes, 65_536, (1, 1), &[0], &magenta));
-    }
+    agrees(alloc, bytes, 24, None) && reads(alloc, bytes, 65_536, (1, 1), &[0], &magenta)
+}
+
+#[test]
+fn filler_stands_wherever_it_may(rt: HostRuntime) {
+    assert!(rt; is_magenta(rt.alloc(), b"P6 1 1 1 \x01\x00\x01"));
+    assert!(rt; is_magenta(rt.alloc(), b"P6\t1\r1\n1\t\x01\x00\x01"));
+    assert!(rt; is_magenta(rt.alloc(), b"P6#\n1#\n1#\n1\r\x01\x00\x01"));
+    let comments = b"P6# P6 #\n#\n 01\r\n#1\n\t001 \t\r\n0001\n\x01\x00\x01";
+    assert!(rt; is_magenta(rt.alloc(), comments));
+    let any_bytes = b"P6 #\xff\x00\n1#1 1\n 1##\n#\n\n1\n\x01\x00\x01";
+    assert!(rt; is_magenta(rt.alloc(), any_bytes));
     // One whitespace byte ends the header; the next byte is a sample.
     let bytes = b"P6 1 1 100\n \x00\x00";
     let dark = [Parts::Rgb(32, 0, 0)];
     assert!(rt; reads(rt.alloc(), bytes, 65_536, (1, 1), &[0], &dark));
-    Ok(())
+}
+
+/// Whether the first bytes of the five red pixels end too early.
+fn is_short(alloc: Global, count: usize) -> bool {
+    let prefix = &RED[..count.min(RED.len())];
+    agrees(alloc, prefix, 30, format(PpmReason::Short, count as u64))
 }
 
 #[test]
-fn prefixes_are_short(rt: HostRuntime) -> Result<(), Fail> {
+fn prefixes_are_short(rt: HostRuntime) {
     for count in 0..RED.len() {
-        let expected = format(PpmReason::Short, count as u64);
-        assert!(rt;
-            agrees(rt.alloc(), &RED[..count], 30, expected),
-            "prefix {count}"
-        );
+        assert!(rt; is_short(rt.alloc(), count), "prefix {count}");
     }
     assert!(rt; fault(rt.alloc(), RED, 1).is_none());
-    Ok(())
 }
 
 /// How reading five red pixels ends if one call of the source fails, and how many calls failed.
@@ -288,7 +304,7 @@ fn read_failing(alloc: Global, piece: usize, fail_at: u64) -> (Option<PpmFault>,
     requires { 0 < piece }
 {
     let mut source = SliceSource::new(RED, piece, Some(fail_at));
-    let fault = match read_ppm(alloc, Profile::Registers16, &mut source) {
+    let fault = match read_from(alloc, Profile::Registers16, &mut source) {
         Ok(_) => None,
         Err(fault) => Some(fault),
     };
@@ -335,14 +351,11 @@ impl Source for BrokenSource {
 }
 
 #[test]
-fn a_failed_source_is_called_no_more(rt: HostRuntime) -> Result<(), Fail> {
+fn a_failed_source_is_called_no_more(rt: HostRuntime) {
     let mut source = BrokenSource { calls: 0 };
-    match read_ppm(rt.alloc(), Profile::Registers16, &mut source) {
-        Ok(_) => return Err("a picture".into()),
-        Err(fault) => assert_eq!(rt; fault, PpmFault::Read),
-    }
-    assert_eq!(rt; source.calls, 1);
-    Ok(())
+    let read = read_ppm(rt.alloc(), Profile::Registers16, &mut source);
+    assert!(rt; read.err() == Some(PpmFault::Read));
+    assert!(rt; source.calls == 1);
 }
 
 /// Whether five red pixels are read correctly; `None` if an allocation failed.

@@ -2,11 +2,12 @@
 
 ghost use Rattle.std.specs.Prelude.{None};
 
+use crate::limits::filled;
 use crate::pictures::{picture_of, red_and_blue, set};
 use sixel_io::{DeviceFault, Sink, SliceSink};
 use sixel_model::{Colour, Palette, Picture, Profile};
 use sixel_ppm::{PpmFault, write_ppm, write_ppm_colours};
-use std::alloc::{AllocError, Global};
+use std::alloc::Global;
 use std::test::Fail;
 
 /// The PPM of two pixels side by side, red and blue.
@@ -150,15 +151,6 @@ impl Sink for CountingSink {
     }
 }
 
-/// The text of 300 by 200 blue pixels: 180,015 bytes.
-fn large_text(alloc: Global) -> Result<Vec<u8>, AllocError> {
-    let mut text = Vec::from_slice(alloc, b"P6\n300 200\n100\n")?;
-    for _ in 0..60_000 {
-        text.extend_from_slice(&[0, 0, 100])?;
-    }
-    Ok(text)
-}
-
 /// How often a sink is called that takes the picture's whole text in each call; `None` if writing fails.
 fn takes_of(picture: &Picture) -> Option<u32> {
     let mut sink = CountingSink {
@@ -182,7 +174,8 @@ fn large_pictures_leave_in_blocks(rt: HostRuntime) -> Result<(), Fail> {
         red_and_blue(Profile::Registers16),
         registers.as_slice(),
     )?;
-    let text = large_text(rt.alloc())?;
+    // 180,015 bytes.
+    let text = filled(rt.alloc(), b"P6\n300 200\n100\n", &[0, 0, 100], 60_000, b"")?;
     let text = text.as_slice();
     let mut room = vec![in rt.alloc(); 0; 200_000]?;
     assert!(rt;
@@ -195,6 +188,6 @@ fn large_pictures_leave_in_blocks(rt: HostRuntime) -> Result<(), Fail> {
         writes(&picture, &mut room, 100_000, Some(1), failed, first),
         "the first block"
     );
-    assert_eq!(rt; takes_of(&picture), Some(3));
+    assert!(rt; takes_of(&picture) == Some(3));
     Ok(())
 }

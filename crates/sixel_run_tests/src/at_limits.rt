@@ -1,7 +1,6 @@
 //! Runs on long inputs, and on numbers and offsets at their limits.
 
-use crate::runs::{CHECK, ENCODE, Limits, agrees, run_counted};
-use sixel_check::{Finding, Rule};
+use crate::runs::{ENCODE, Limits, agrees, run_counted};
 use sixel_model::Profile;
 use sixel_ppm::PpmReason;
 use sixel_run::{RunFault, Status, Task};
@@ -22,53 +21,6 @@ fn with_many(
     }
     bytes.extend_from_slice(rest)?;
     Ok(bytes)
-}
-
-/// The smallest portable picture without its end, 24 bytes.
-const OPEN_PIXEL: &[u8] = b"\x1bPq\"1;1;1;1#0;2;0;0;0#0@";
-
-/// Whether a check of the bytes writes this line, and answers this.
-fn checks(alloc: Global, bytes: &[u8], line: &str, answer: Result<Status, RunFault>) -> bool {
-    agrees(alloc, CHECK, bytes, 1000, line.as_bytes(), answer)
-}
-
-/// The answer for a pixel outside the box.
-fn outside(place: u64, x: u64, y: u64) -> Result<Status, RunFault> {
-    Ok(Status::Broken(Finding {
-        rule: Rule::Outside,
-        place,
-        pixel: Some((x, y)),
-    }))
-}
-
-/// The column is 1 + 200 * 65535, and the row is 6 * 200. The commands are at 24 + 200 * 7 and at 24 + 200.
-#[test]
-fn pixels_far_outside_are_named(rt: HostRuntime) -> Result<(), Fail> {
-    let bytes = with_many(rt.alloc(), OPEN_PIXEL, 200, b"!65535?", b"\x1b\\")?;
-    let whole = checks(rt.alloc(), &bytes, "portable 1 1\n", Ok(Status::Done));
-    assert!(rt; whole);
-    let bytes = with_many(rt.alloc(), OPEN_PIXEL, 200, b"!65535?", b"@\x1b\\")?;
-    let (line, answer) = (
-        "broken Outside 1424 13107001 0\n",
-        outside(1424, 13_107_001, 0),
-    );
-    assert!(rt; checks(rt.alloc(), &bytes, line, answer));
-    let bytes = with_many(rt.alloc(), OPEN_PIXEL, 200, b"-", b"@\x1b\\")?;
-    let (line, answer) = ("broken Outside 224 0 1200\n", outside(224, 0, 1200));
-    assert!(rt; checks(rt.alloc(), &bytes, line, answer));
-    Ok(())
-}
-
-#[test]
-fn the_greatest_numbers_are_checked(rt: HostRuntime) {
-    let bytes =
-        b"\x1bP65535;65535;65535q\"65535;65535;65535;65535#65535;65535;65535;65535;65535!65535~\x1b\\";
-    let answer = Ok(Status::Broken(Finding {
-        rule: Rule::Ratio,
-        place: 20,
-        pixel: None,
-    }));
-    assert!(rt; checks(rt.alloc(), bytes, "broken Ratio 20\n", answer));
 }
 
 /// The `!` is at 3, 100,000 zeros follow from 4 on, the 3 is at 100,004, and the end at 100,006.
@@ -145,46 +97,5 @@ fn the_longest_header_is_encoded(rt: HostRuntime) -> Result<(), Fail> {
     assert!(rt; encodes(rt.alloc(), &bytes, b"", refused(PpmReason::Header, 65_536),));
     let bytes = with_many(rt.alloc(), b"P6", 65_534, b" ", b"")?;
     assert!(rt; encodes(rt.alloc(), &bytes, b"", refused(PpmReason::Short, 65_536),));
-    Ok(())
-}
-
-#[test]
-fn a_size_of_many_digits_is_refused(rt: HostRuntime) -> Result<(), Fail> {
-    let bytes = with_many(rt.alloc(), b"P6 ", 1000, b"9", b" 1 100\n")?;
-    assert!(rt; encodes(rt.alloc(), &bytes, b"", refused(PpmReason::Size, 3)));
-    Ok(())
-}
-
-/// A comment is skipped. A sample becomes the nearest percentage: 128, 255 and 2 of 255 become 50, 100 and 1.
-#[test]
-fn samples_are_encoded_in_percent(rt: HostRuntime) {
-    assert!(rt;
-        encodes(
-            rt.alloc(),
-            b"P6\n# x\n1 1\n255\n\x80\xff\x02",
-            b"\x1bP0;1q\"1;1;1;1#0;2;50;100;1#0@\x1b\\",
-            Ok(Status::Done),
-        )
-    );
-}
-
-/// The header has 12 bytes, and the 17th colour comes after 16 pixels of three bytes.
-#[test]
-fn a_seventeenth_colour_is_not_encoded(rt: HostRuntime) -> Result<(), Fail> {
-    let mut bytes = Vec::new(rt.alloc());
-    bytes.extend_from_slice(b"P6 17 1 100\n")?;
-    for red in 0..17u8 {
-        bytes.push(red)?;
-        bytes.push(0)?;
-        bytes.push(0)?;
-    }
-    assert!(rt;
-        encodes(
-            rt.alloc(),
-            &bytes,
-            b"",
-            refused(PpmReason::TooManyColours, 60),
-        )
-    );
     Ok(())
 }

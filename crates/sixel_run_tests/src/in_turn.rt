@@ -12,10 +12,9 @@ use sixel_ppm::PpmReason;
 use sixel_run::{RunFault, Status, Task};
 use std::alloc::Global;
 
-/// A task on some bytes, and what it writes and answers if no device fails.
+/// What a task reads, and what it writes and answers if no device fails.
 #[derive(Clone, Copy)]
 pub(crate) struct Case {
-    pub task: Task,
     pub bytes: &'static [u8],
     pub text: &'static [u8],
     pub answer: Result<Status, RunFault>,
@@ -37,7 +36,6 @@ const TOO_LARGE: RunFault = RunFault::Grammar(Fault {
 
 /// One pixel, listed. In pieces of 5 bytes the lines leave as 15, 17, 43 and 12 bytes.
 const LISTED: Case = Case {
-    task: Task::List,
     bytes: PIXEL,
     text: b"0 start 7bit 0\n3 raster 1 1 1 1\n11 define 0 2 0 0 0\n21 select 0\n23 sixel 1\n24 end 7bit\n",
     answer: Ok(Status::Done),
@@ -46,7 +44,6 @@ const LISTED: Case = Case {
 
 /// A fault after a line.
 const LISTED_FAULT: Case = Case {
-    task: Task::List,
     bytes: LARGE,
     text: b"0 start 7bit 0\n",
     answer: Err(TOO_LARGE),
@@ -55,7 +52,6 @@ const LISTED_FAULT: Case = Case {
 
 /// One pixel, checked.
 pub(crate) const CHECKED: Case = Case {
-    task: CHECK,
     bytes: PIXEL,
     text: b"portable 1 1\n",
     answer: Ok(Status::Done),
@@ -64,7 +60,6 @@ pub(crate) const CHECKED: Case = Case {
 
 /// Two letters, checked: 90 bytes.
 const LETTERS: Case = Case {
-    task: CHECK,
     bytes: b"\x1bPq\"1;1;14;7#0;2;0;0;0#1;2;100;100;0#2;2;0;100;0#1~~@@vv@@~~@@~~$#2??}}GG}}??}}??-#1!14@\x1b\\",
     text: b"portable 14 7\n",
     answer: Ok(Status::Done),
@@ -73,7 +68,6 @@ const LETTERS: Case = Case {
 
 /// A box of two pixels, one of them painted, checked.
 const UNCOVERED: Case = Case {
-    task: CHECK,
     bytes: b"\x1bPq\"1;1;2;1#0;2;0;0;0#0@\x1b\\",
     text: b"broken Uncovered 24 1 0\n",
     answer: Ok(Status::Broken(Finding {
@@ -84,42 +78,32 @@ const UNCOVERED: Case = Case {
     calls: [(1, 27, 24), (5, 7, 5), (64, 2, 1)],
 };
 
-/// A fault: no verdict.
-pub(crate) const CHECKED_FAULT: Case = Case {
-    task: CHECK,
+/// A fault, of which nothing is written: no verdict, no picture, no screen.
+pub(crate) const FAULT: Case = Case {
     bytes: LARGE,
     text: b"",
     answer: Err(TOO_LARGE),
     calls: [(1, 9, 0), (5, 2, 0), (64, 1, 0)],
 };
 
-/// One pixel, rendered.
+/// One pixel, rendered, or shown on a screen of its box: 26 bytes.
 const RENDERED: Case = Case {
-    task: RENDER,
     bytes: PIXEL,
     text: b"P6\n1 1\n100\n\x00\x00\x00",
     answer: Ok(Status::Done),
     calls: [(1, 27, 14), (5, 7, 3), (64, 2, 1)],
 };
 
-/// A fault: no picture.
-const RENDERED_FAULT: Case = Case {
-    task: RENDER,
-    ..CHECKED_FAULT
-};
-
 /// Five red pixels, encoded: 26 bytes.
 const RED: Case = Case {
-    task: ENCODE,
     bytes: b"P6 5 1 100\nd\0\0d\0\0d\0\0d\0\0d\0\0",
     text: b"\x1bP0;1q\"1;1;5;1#0;2;100;0;0#0!5@\x1b\\",
     answer: Ok(Status::Done),
     calls: [(1, 27, 33), (5, 7, 7), (64, 2, 1)],
 };
 
-/// Three red pixels, encoded: 20 bytes.
+/// Three red pixels, encoded, in the wide profile as in the narrow one: 20 bytes.
 const SHORT_RED: Case = Case {
-    task: ENCODE,
     bytes: b"P6 3 1 100\nd\0\0d\0\0d\0\0",
     text: b"\x1bP0;1q\"1;1;3;1#0;2;100;0;0#0@@@\x1b\\",
     answer: Ok(Status::Done),
@@ -128,7 +112,6 @@ const SHORT_RED: Case = Case {
 
 /// A file of another kind: its second byte is wrong.
 const ENCODED_FAULT: Case = Case {
-    task: ENCODE,
     bytes: b"P5 1 1 100",
     text: b"",
     answer: Err(RunFault::Ppm {
@@ -150,28 +133,14 @@ const SCREEN: Task = Task::Show {
 
 /// A register that is painted as black and then defined as red, shown: 38 bytes.
 const SHOWN: Case = Case {
-    task: SCREEN,
     bytes: b"\x1bPq\"1;1;1;1#0;2;0;0;0#0@#0;2;100;0;0\x1b\\",
     text: b"P6\n1 1\n100\n\x00\x00\x00",
     answer: Ok(Status::Done),
     calls: [(1, 39, 14), (5, 9, 3), (64, 2, 1)],
 };
 
-/// A fault: no screen.
-const SHOWN_FAULT: Case = Case {
-    task: SCREEN,
-    ..CHECKED_FAULT
-};
-
-/// One pixel, on a screen of its box: 26 bytes.
-const BOXED: Case = Case {
-    task: SHOW_BOX,
-    ..RENDERED
-};
-
 /// A column painted in register 1, the grey of 6 percent, and then the box: 19 bytes.
 const BOXED_LATE: Case = Case {
-    task: SHOW_BOX,
     bytes: b"\x1bPq#1@\"1;1;1;1#2@\x1b\\",
     text: b"P6\n1 1\n100\n\x06\x06\x06",
     answer: Ok(Status::Done),
@@ -180,17 +149,10 @@ const BOXED_LATE: Case = Case {
 
 /// A document of 5 bytes without a box: no screen.
 const UNBOXED: Case = Case {
-    task: SHOW_BOX,
     bytes: b"\x1bPq\x1b\\",
     text: b"",
     answer: Err(RunFault::NoBox),
     calls: [(1, 6, 0), (5, 2, 0), (64, 2, 0)],
-};
-
-/// A fault: no screen.
-const BOXED_FAULT: Case = Case {
-    task: SHOW_BOX,
-    ..CHECKED_FAULT
 };
 
 /// One black pixel in register 16: 28 bytes.
@@ -198,7 +160,6 @@ const WIDE_PIXEL: &[u8] = b"\x1bPq\"1;1;1;1#16;2;0;0;0#16@\x1b\\";
 
 /// That pixel, checked in the wide profile.
 const WIDE_CHECKED: Case = Case {
-    task: WIDE_CHECK,
     bytes: WIDE_PIXEL,
     text: b"portable 1 1\n",
     answer: Ok(Status::Done),
@@ -207,46 +168,42 @@ const WIDE_CHECKED: Case = Case {
 
 /// The same, rendered.
 const WIDE_RENDERED: Case = Case {
-    task: WIDE_RENDER,
     bytes: WIDE_PIXEL,
     text: b"P6\n1 1\n100\n\x00\x00\x00",
     answer: Ok(Status::Done),
     calls: [(1, 29, 14), (5, 7, 3), (64, 2, 1)],
 };
 
+/// The same for the wide profile.
+const WIDE_SCREEN: Task = Task::Show {
+    profile: Profile::Registers256,
+    showing: false,
+    fill: false,
+    selects: false,
+    width: 1,
+    height: 1,
+};
+
 /// A register that shows its starting colour: 9 bytes.
 const WIDE_SHOWN: Case = Case {
-    task: Task::Show {
-        profile: Profile::Registers256,
-        showing: false,
-        fill: false,
-        selects: false,
-        width: 1,
-        height: 1,
-    },
     bytes: b"\x1bPq#17@\x1b\\",
     text: b"P6\n1 1\n100\n\x11\x11\x11",
     answer: Ok(Status::Done),
     calls: [(1, 10, 14), (5, 3, 3), (64, 2, 1)],
 };
 
-/// Three red pixels, encoded in the wide profile as in the narrow one.
-const WIDE_RED: Case = Case {
-    task: WIDE_ENCODE,
-    ..SHORT_RED
-};
-
 /// Runs the task of the case on its bytes, in and out in pieces. Fill number `fill_fails` fails, and take or flush
 /// number `take_fails`.
 fn run_in_pieces(
     alloc: Global,
+    task: &Task,
     case: &Case,
     piece: usize,
     fill_fails: Option<u64>,
     take_fails: Option<u64>,
     room: &mut [u8],
 ) -> Ran
-    requires { HasSides case.now.task }
+    requires { HasSides task.now }
 {
     let limits = Limits {
         piece,
@@ -254,7 +211,7 @@ fn run_in_pieces(
         most: piece,
         take_fails,
     };
-    run_counted(alloc, case.task, case.bytes, limits, room)
+    run_counted(alloc, *task, case.bytes, limits, room)
 }
 
 /// The lines of the events that the first `given` bytes complete, of one pixel or of the number that is too large.
@@ -280,12 +237,12 @@ fn written_text(task: &Task, given: usize) -> &'static [u8] {
 }
 
 /// Whether a run stops at this failing fill, and doesn't fill again.
-fn stops_at_fill(alloc: Global, case: &Case, piece: usize, fill: u64) -> bool
-    requires { HasSides case.now.task }
+fn stops_at_fill(alloc: Global, task: &Task, case: &Case, piece: usize, fill: u64) -> bool
+    requires { HasSides task.now }
 {
     let mut room = [0; 128];
-    let ran = run_in_pieces(alloc, case, piece, Some(fill), None, &mut room);
-    let text = written_text(&case.task, piece.saturating_mul(fill as usize));
+    let ran = run_in_pieces(alloc, task, case, piece, Some(fill), None, &mut room);
+    let text = written_text(task, piece.saturating_mul(fill as usize));
     ran.answer == Err(RunFault::Read)
         && room.get(..ran.written) == Some(text)
         && ran.source.fills == fill.saturating_add(1)
@@ -294,31 +251,46 @@ fn stops_at_fill(alloc: Global, case: &Case, piece: usize, fill: u64) -> bool
 
 /// Whether this much is written if this take fails. A list writes the lines of each piece on their own, so its takes
 /// aren't all full.
-fn is_prefix(case: &Case, piece: usize, take: u64, written: usize) -> bool {
+fn is_prefix(task: &Task, case: &Case, piece: usize, take: u64, written: usize) -> bool {
     let full = piece.saturating_mul(take as usize);
-    (matches!(case.task, Task::List) && piece > 1) || written == full.min(case.text.len())
+    (matches!(task, Task::List) && piece > 1) || written == full.min(case.text.len())
 }
 
 /// Whether a run stops at this failing take or flush, and doesn't call the sink again: a prefix of the text is written.
-fn stops_at_take(alloc: Global, case: &Case, piece: usize, take: u64, flushes: u64) -> bool
-    requires { HasSides case.now.task }
+fn stops_at_take(
+    alloc: Global,
+    task: &Task,
+    case: &Case,
+    piece: usize,
+    take: u64,
+    flushes: u64,
+) -> bool
+    requires { HasSides task.now }
 {
     let mut room = [0; 128];
-    let ran = run_in_pieces(alloc, case, piece, None, Some(take), &mut room);
+    let ran = run_in_pieces(alloc, task, case, piece, None, Some(take), &mut room);
     ran.answer == Err(RunFault::Write)
-        && is_prefix(case, piece, take, ran.written)
+        && is_prefix(task, case, piece, take, ran.written)
         && room.get(..ran.written) == case.text.get(..ran.written)
         && ran.sink.takes.saturating_add(ran.sink.flushes) == take.saturating_add(1)
         && ran.sink.flushes == flushes
 }
 
 /// Whether a run ends with this many fills and takes. Each device would fail at the call after its last.
-fn is_whole(alloc: Global, case: &Case, piece: usize, fills: u64, takes: u64) -> bool
-    requires { HasSides case.now.task }
+fn is_whole(alloc: Global, task: &Task, case: &Case, piece: usize, fills: u64, takes: u64) -> bool
+    requires { HasSides task.now }
 {
     let mut room = [0; 128];
     let never = takes.saturating_add(1);
-    let ran = run_in_pieces(alloc, case, piece, Some(fills), Some(never), &mut room);
+    let ran = run_in_pieces(
+        alloc,
+        task,
+        case,
+        piece,
+        Some(fills),
+        Some(never),
+        &mut room,
+    );
     ran.answer == case.answer
         && room.get(..ran.written) == Some(case.text)
         && ran.source.fills == fills
@@ -327,29 +299,37 @@ fn is_whole(alloc: Global, case: &Case, piece: usize, fills: u64, takes: u64) ->
 }
 
 /// Each call of each device fails in turn, in pieces of this size.
-fn stops_in_pieces(alloc: Global, case: &Case, piece: usize, fills: u64, takes: u64) -> bool
-    requires { HasSides case.now.task }
+fn stops_in_pieces(
+    alloc: Global,
+    task: &Task,
+    case: &Case,
+    piece: usize,
+    fills: u64,
+    takes: u64,
+) -> bool
+    requires { HasSides task.now }
 {
     for fill in 0..fills {
-        if !stops_at_fill(alloc, case, piece, fill) {
+        if !stops_at_fill(alloc, task, case, piece, fill) {
             return false;
         }
     }
     for take in 0..takes {
-        if !stops_at_take(alloc, case, piece, take, 0) {
+        if !stops_at_take(alloc, task, case, piece, take, 0) {
             return false;
         }
     }
-    stops_at_take(alloc, case, piece, takes, 1) && is_whole(alloc, case, piece, fills, takes)
+    stops_at_take(alloc, task, case, piece, takes, 1)
+        && is_whole(alloc, task, case, piece, fills, takes)
 }
 
 /// Whether a sink with room for a part of the text gets that part.
-fn fills_room(alloc: Global, case: &Case, count: usize) -> bool
-    requires { HasSides case.now.task }
+fn fills_room(alloc: Global, task: &Task, case: &Case, count: usize) -> bool
+    requires { HasSides task.now }
 {
     let mut whole = [0; 128];
     let (room, _) = whole.split_at_mut(count.min(128));
-    let ran = run_in_pieces(alloc, case, 5, None, None, room);
+    let ran = run_in_pieces(alloc, task, case, 5, None, None, room);
     ran.answer == Err(RunFault::Write)
         && case.text.get(..count) == Some(&*room)
         && ran.sink.flushes == 0
@@ -357,10 +337,10 @@ fn fills_room(alloc: Global, case: &Case, count: usize) -> bool
 
 /// Whether nothing is written, and no device is called again, if both fail at their first call; for the sink that is
 /// the flush.
-fn stops_at_both(alloc: Global, case: &Case) -> bool
-    requires { HasSides case.now.task }
+fn stops_at_both(alloc: Global, task: &Task, case: &Case) -> bool
+    requires { HasSides task.now }
 {
-    let ran = run_in_pieces(alloc, case, 1, Some(0), Some(0), &mut [0; 128]);
+    let ran = run_in_pieces(alloc, task, case, 1, Some(0), Some(0), &mut [0; 128]);
     ran.answer == Err(RunFault::Write)
         && ran.written == 0
         && ran.source.fills == 1
@@ -369,47 +349,50 @@ fn stops_at_both(alloc: Global, case: &Case) -> bool
 }
 
 /// Each call of each device fails in turn, then both at once; and each room is tried that is too small for the text.
-pub(crate) fn stops(alloc: Global, case: &Case) -> bool
-    requires { HasSides case.now.task }
+pub(crate) fn stops(alloc: Global, task: &Task, case: &Case) -> bool
+    requires { HasSides task.now }
 {
     for (piece, fills, takes) in case.calls {
-        if !stops_in_pieces(alloc, case, piece, fills, takes) {
+        if !stops_in_pieces(alloc, task, case, piece, fills, takes) {
             return false;
         }
     }
     for count in 0..case.text.len() {
-        if !fills_room(alloc, case, count) {
+        if !fills_room(alloc, task, case, count) {
             return false;
         }
     }
-    stops_at_both(alloc, case)
+    stops_at_both(alloc, task, case)
+}
+
+/// The same of the task on the bytes of each case.
+pub(crate) fn all_stop(alloc: Global, task: &Task, cases: &[Case]) -> bool
+    requires { HasSides task.now }
+{
+    for case in cases {
+        if !stops(alloc, task, case) {
+            return false;
+        }
+    }
+    true
 }
 
 #[test]
 fn each_call_of_a_device_fails(rt: HostRuntime) {
-    assert!(rt; stops(rt.alloc(), &LISTED));
-    assert!(rt; stops(rt.alloc(), &LISTED_FAULT));
-    assert!(rt; stops(rt.alloc(), &CHECKED));
-    assert!(rt; stops(rt.alloc(), &LETTERS));
-    assert!(rt; stops(rt.alloc(), &UNCOVERED));
-    assert!(rt; stops(rt.alloc(), &CHECKED_FAULT));
-    assert!(rt; stops(rt.alloc(), &RENDERED));
-    assert!(rt; stops(rt.alloc(), &RENDERED_FAULT));
-    assert!(rt; stops(rt.alloc(), &RED));
-    assert!(rt; stops(rt.alloc(), &SHORT_RED));
-    assert!(rt; stops(rt.alloc(), &ENCODED_FAULT));
-    assert!(rt; stops(rt.alloc(), &SHOWN));
-    assert!(rt; stops(rt.alloc(), &SHOWN_FAULT));
-    assert!(rt; stops(rt.alloc(), &BOXED));
-    assert!(rt; stops(rt.alloc(), &BOXED_LATE));
-    assert!(rt; stops(rt.alloc(), &UNBOXED));
-    assert!(rt; stops(rt.alloc(), &BOXED_FAULT));
+    let alloc = rt.alloc();
+    assert!(rt; all_stop(alloc, &Task::List, &[LISTED, LISTED_FAULT]));
+    assert!(rt; all_stop(alloc, &CHECK, &[CHECKED, LETTERS, UNCOVERED, FAULT]));
+    assert!(rt; all_stop(alloc, &RENDER, &[RENDERED, FAULT]));
+    assert!(rt; all_stop(alloc, &ENCODE, &[RED, SHORT_RED, ENCODED_FAULT]));
+    assert!(rt; all_stop(alloc, &SCREEN, &[SHOWN, FAULT]));
+    assert!(rt; all_stop(alloc, &SHOW_BOX, &[RENDERED, BOXED_LATE, UNBOXED, FAULT]));
 }
 
 #[test]
 fn each_call_of_a_device_fails_in_the_wide_profile(rt: HostRuntime) {
-    assert!(rt; stops(rt.alloc(), &WIDE_CHECKED));
-    assert!(rt; stops(rt.alloc(), &WIDE_RENDERED));
-    assert!(rt; stops(rt.alloc(), &WIDE_SHOWN));
-    assert!(rt; stops(rt.alloc(), &WIDE_RED));
+    let alloc = rt.alloc();
+    assert!(rt; stops(alloc, &WIDE_CHECK, &WIDE_CHECKED));
+    assert!(rt; stops(alloc, &WIDE_RENDER, &WIDE_RENDERED));
+    assert!(rt; stops(alloc, &WIDE_SCREEN, &WIDE_SHOWN));
+    assert!(rt; stops(alloc, &WIDE_ENCODE, &SHORT_RED));
 }

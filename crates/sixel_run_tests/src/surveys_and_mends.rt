@@ -1,23 +1,14 @@
 //! For `survey` and `mend`, each call of a device fails in turn; and the calls of whole runs are counted.
 
-ghost use Rattle.sixel_run.specs.Outputs.{HasSides};
-
-use crate::in_turn::{CHECKED, CHECKED_FAULT, Case, stops};
+use crate::in_turn::{CHECKED, Case, FAULT, all_stop};
 use crate::runs::{SURVEY, mend_on_black};
 use sixel_check::{Finding, Rule};
 use sixel_model::Profile;
 use sixel_run::{RunFault, Status, entry_line};
 use sixel_survey::Entry;
 
-/// One pixel, surveyed: the line of a check.
-const PORTABLE: Case = Case {
-    task: SURVEY,
-    ..CHECKED
-};
-
 /// Three broken rules, surveyed: 15 bytes in, 46 out.
 const THREE: Case = Case {
-    task: SURVEY,
     bytes: b"\x1bPq!0@!65535~\x1b\\",
     text: b"RasterFirst 3 3\nRepeatZero 1 3\nUnselected 2 3\n",
     answer: Ok(Status::Broken(Finding {
@@ -28,59 +19,32 @@ const THREE: Case = Case {
     calls: [(1, 16, 46), (5, 4, 10), (64, 2, 1)],
 };
 
-/// A fault: no survey.
-const SURVEYED_FAULT: Case = Case {
-    task: SURVEY,
-    ..CHECKED_FAULT
-};
-
+/// The survey of one pixel is the line of a check.
 #[test]
 fn each_call_of_a_device_fails_in_a_survey(rt: HostRuntime) {
-    assert!(rt; stops(rt.alloc(), &PORTABLE));
-    assert!(rt; stops(rt.alloc(), &THREE));
-    assert!(rt; stops(rt.alloc(), &SURVEYED_FAULT));
+    assert!(rt; all_stop(rt.alloc(), &SURVEY, &[CHECKED, THREE, FAULT]));
 }
 
 /// One pixel, mended: 26 bytes in, 29 out.
-fn pixel() -> Case
-    ensures { HasSides result.task }
-{
-    Case {
-        task: mend_on_black(Profile::Registers16),
-        text: b"\x1bP0;1q\"1;1;1;1#0;2;0;0;0#0@\x1b\\",
-        calls: [(1, 27, 29), (5, 7, 6), (64, 2, 1)],
-        ..CHECKED
-    }
-}
+const MENDED: Case = Case {
+    text: b"\x1bP0;1q\"1;1;1;1#0;2;0;0;0#0@\x1b\\",
+    calls: [(1, 27, 29), (5, 7, 6), (64, 2, 1)],
+    ..CHECKED
+};
 
 /// Nothing painted and nothing declared: 5 bytes in, and nothing out.
-fn empty() -> Case
-    ensures { HasSides result.task }
-{
-    Case {
-        task: mend_on_black(Profile::Registers16),
-        bytes: b"\x1bPq\x1b\\",
-        text: b"",
-        answer: Err(RunFault::Empty),
-        calls: [(1, 6, 0), (5, 2, 0), (64, 2, 0)],
-    }
-}
+const EMPTY: Case = Case {
+    bytes: b"\x1bPq\x1b\\",
+    text: b"",
+    answer: Err(RunFault::Empty),
+    calls: [(1, 6, 0), (5, 2, 0), (64, 2, 0)],
+};
 
-/// A fault: no picture, and nothing is read after it.
-fn mended_fault() -> Case
-    ensures { HasSides result.task }
-{
-    Case {
-        task: mend_on_black(Profile::Registers16),
-        ..CHECKED_FAULT
-    }
-}
-
+/// Nothing is read after a fault.
 #[test]
 fn each_call_of_a_device_fails_in_a_mend(rt: HostRuntime) {
-    assert!(rt; stops(rt.alloc(), &pixel()));
-    assert!(rt; stops(rt.alloc(), &empty()));
-    assert!(rt; stops(rt.alloc(), &mended_fault()));
+    let task = mend_on_black(Profile::Registers16);
+    assert!(rt; all_stop(rt.alloc(), &task, &[MENDED, EMPTY, FAULT]));
 }
 
 /// The longest line of an entry has 92 bytes.

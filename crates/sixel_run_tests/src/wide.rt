@@ -7,8 +7,7 @@ use crate::runs::{CHECK, WIDE_CHECK, WIDE_ENCODE, WIDE_RENDER, agrees};
 use sixel_check::{Finding, Rule};
 use sixel_io::{SliceSink, SliceSource};
 use sixel_model::{Parts, Profile};
-use sixel_ppm::PpmReason;
-use sixel_run::{RunFault, Status, Task, run};
+use sixel_run::{Status, Task, run};
 use std::alloc::{AllocError, Global};
 use std::test::Fail;
 
@@ -35,22 +34,6 @@ fn row_of(alloc: Global, header: &[u8], count: u16) -> Result<Vec<u8>, AllocErro
         push_pixel(&mut bytes, number)?;
     }
     Ok(bytes)
-}
-
-/// Whether the file is refused at this offset, with too many colours.
-fn refuses(alloc: Global, profile: Profile, bytes: &[u8], place: u64) -> bool {
-    let reason = PpmReason::TooManyColours;
-    let answer = Err(RunFault::Ppm { reason, place });
-    agrees(alloc, Task::Encode { profile }, bytes, 100, b"", answer)
-}
-
-/// The header has 13 bytes; 256 pixels before the colour that is too many have 768, and 16 pixels 48.
-#[test]
-fn a_colour_too_many_is_not_encoded(rt: HostRuntime) -> Result<(), Fail> {
-    let bytes = row_of(rt.alloc(), b"P6 257 1 100\n", 257)?;
-    assert!(rt; refuses(rt.alloc(), Profile::Registers256, &bytes, 781));
-    assert!(rt; refuses(rt.alloc(), Profile::Registers16, &bytes, 61));
-    Ok(())
 }
 
 /// 6 and 10 bytes, ten definitions of 10 bytes and six of 12 come before the definition of register 16.

@@ -6,7 +6,7 @@ use std::alloc::{AllocError, Global};
 use std::test::Fail;
 
 /// A sequence of pseudo-random numbers.
-#[derive(Debug, Drop)]
+#[derive(Drop)]
 pub struct Numbers {
     state: u64,
 }

@@ -35,7 +35,7 @@ const ALL_RULES: [Rule; RULE_COUNT] = [
 ];
 
 /// What a definition of a register says.
-#[derive(Clone, Copy, Debug, PartialEq, Eq)]
+#[derive(Clone, Copy, PartialEq)]
 struct Definition {
     system: u16,
     x: u16,
@@ -44,7 +44,7 @@ struct Definition {
 }
 
 /// The box, and a mark for each pixel that is painted, row by row.
-#[derive(Debug, Drop)]
+#[derive(Drop)]
 struct Box {
     width: u32,
     height: u32,
@@ -97,7 +97,7 @@ impl Box {
 }
 
 /// What a survey knows after some events.
-#[derive(Debug, Drop)]
+#[derive(Drop)]
 pub struct Model {
     profile: Profile,
     column: u64,

@@ -1,4 +1,4 @@
 use Rattle.sixel_scan_tests.proofs.sources.calls_for_the_first.Goals as goal
 
-pub next_in_words-requires : goal.next_in_words-requires
-next_in_words-requires g c = (_, _, _, _, c.new-scan.ensures _)
+pub next_string-requires : goal.next_string-requires
+next_string-requires c = (_, _, _, _, c.new-scan.ensures _)
