@@ -8,3 +8,4 @@ pub mod MeasuringLemmas
 pub mod TerminalLemmas
 pub mod MendLemmas
 pub mod RepeatLemmas
+pub mod RunLemmas

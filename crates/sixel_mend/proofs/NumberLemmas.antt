@@ -39,7 +39,7 @@ all_seen_from seen (c ∷ more) =
 pub all_seen : (colours : List Parts) → AllSeen (distinct colours) colours
 all_seen colours = all_seen_from [] colours
 
-seen_at : (seen colours : List Parts) (i : ℕ) (d : Parts) → AllSeen seen colours → i < length colours
+pub seen_at : (seen colours : List Parts) (i : ℕ) (d : Parts) → AllSeen seen colours → i < length colours
     → list_any (is_same (get_or colours i d)) seen ≡ true
 seen_at seen [] i d all lt = absurd (omega arith)
 seen_at seen (c ∷ colours) zero d all lt = all.0

@@ -14,7 +14,7 @@ use Rattle.sixel_terminal.specs.Screens.{colour_in_ink}
 use Rattle.sixel_mend.specs.declared.numbering.Numbered.{Numbered}
 use Rattle.sixel_mend.specs.Numbering.{KnowsLast}
 
-seen_before : (seen : List Parts) (colour : Parts) → list_any (is_same colour) seen ≡ true
+pub seen_before : (seen : List Parts) (colour : Parts) → list_any (is_same colour) seen ≡ true
     → with_colour seen colour ≡ seen
 seen_before seen colour any = rw any refl
 

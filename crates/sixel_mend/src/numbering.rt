@@ -1,7 +1,7 @@
 //! Makes a picture of pixels, whose colours get registers in the order in which they are first seen.
 
 ghost use Rattle.std.specs.Prelude.{◌≡◌, ◌≤◌, ◌*◌, ◌&&◌, [], IfErr, IfOk, IfSome, IsTrue, List, None, OnSome, Some};
-ghost use Rattle.std.specs.Prelude.{length, map};
+ghost use Rattle.std.specs.Prelude.{◌+◌, ◌-◌, ◌++◌, OnOk, length, map, replicate, vec_capacity, vec_len};
 ghost use Rattle.sixel_model.specs.declared.colour.Parts.{Parts};
 ghost use Rattle.sixel_model.specs.Pictures.{is_side};
 ghost use Rattle.sixel_model.specs.Profiles.{count_of};
@@ -9,7 +9,7 @@ ghost use Rattle.sixel_ppm.specs.PpmColours.{Fills, HasRegister, Numbers};
 ghost use Rattle.sixel_ppm.specs.PpmReading.{distinct, picture_of, with_colour};
 ghost use Rattle.sixel_ppm.specs.PpmSamples.{HoldsPixels};
 ghost use Rattle.sixel_terminal.specs.Screens.{colour_in_ink};
-ghost use Rattle.sixel_mend.specs.Numbering.{IsNumberingFault, KnowsLast};
+ghost use Rattle.sixel_mend.specs.Numbering.{AreAll, AreNumbered, IsNumberingFault, KnowsLast};
 
 use crate::mending::MendFault;
 use sixel_model::{Picture, Profile};
@@ -86,9 +86,100 @@ fn register_of(numbering: &mut Numbering, last: &mut Option<Numbered>, pixel: &P
     }
 }
 
+/// How many pixels are compared at once.
+const LANES: usize = 8;
+
+/// After how many pixels a run is looked for again: after a run the fewest, then twice as many each time that there is
+/// none, up to the most. So a picture without runs pays little for the looks.
+const FEWEST: usize = 4;
+
+const MOST: usize = 64;
+
+/// Whether these pixels from an index on show the same as this one.
+#[inline(always)]
+fn are_same(pixels: &[Pixel], at: usize, pixel: &Pixel) -> bool
+    requires { at + LANES ≤ length pixels.now }
+    ensures { IsTrue result → AreAll pixels.now at (at + LANES) pixel.now }
+{
+    pixels[at].is_same(pixel)
+        && pixels[at + 1].is_same(pixel)
+            & pixels[at + 2].is_same(pixel)
+            & pixels[at + 3].is_same(pixel)
+            & pixels[at + 4].is_same(pixel)
+            & pixels[at + 5].is_same(pixel)
+            & pixels[at + 6].is_same(pixel)
+            & pixels[at + 7].is_same(pixel)
+}
+
+/// Where a run of pixels that show the same as this one ends, if it begins at an index.
+#[inline(never)]
+fn end_of_run(pixels: &[Pixel], at: usize, pixel: &Pixel) -> usize
+    requires { at ≤ length pixels.now }
+    ensures within { (at ≤ result) × (result ≤ length pixels.now) }
+    ensures same { AreAll pixels.now at result pixel.now }
+{
+    let mut end = at;
+    while end + LANES <= pixels.len() && are_same(pixels, end, pixel) {
+        end += LANES;
+    }
+    while end < pixels.len() && pixels[end].is_same(pixel) {
+        end += 1;
+    }
+    end
+}
+
+/// Pushes the registers of the pixels up to an index. `TooManyColours`: there are more different ones than registers.
+#[inline(always)]
+fn number_to(
+    numbering: &mut Numbering,
+    last: &mut Option<Numbered>,
+    pixels: &[Pixel],
+    registers: &mut Vec<u8>,
+    end: usize,
+) -> Result<(), MendFault>
+    requires within { (vec_len registers.old ≤ end) × (end ≤ length pixels.now) }
+    requires room { length pixels.now ≤ vec_capacity registers.old }
+    requires numbered { AreNumbered numbering.old.colours last.old registers.old.items pixels.now
+        (vec_len registers.old) }
+    ensures numbered { OnOk result (AreNumbered numbering.new.colours last.new registers.new.items pixels.now end) }
+    ensures long { OnOk result (vec_len registers.new ≡ end) }
+    ensures room { vec_capacity registers.old ≤ vec_capacity registers.new }
+    ensures profile { length numbering.new.colours.palette ≡ length numbering.old.colours.palette }
+    ensures refused { IfErr result (IsNumberingFault (length numbering.old.colours.palette)
+        (map colour_in_ink pixels.now)) }
+{
+    let mut at = registers.len();
+    while at < end {
+        match register_of(numbering, last, &pixels[at]) {
+            Some(register) => registers.push_reserved(register),
+            None => return Err(MendFault::TooManyColours),
+        }
+        at += 1;
+    }
+    Ok(())
+}
+
+/// Pushes a register until there are so many. There must be room for them.
+///
+/// It isn't `resize`: that call would keep the list's length in memory, where each push would look for it.
+#[inline(always)]
+fn push_until(registers: &mut Vec<u8>, end: usize, register: u8)
+    requires ordered { vec_len registers.old ≤ end }
+    requires room { end ≤ vec_capacity registers.old }
+    ensures items { registers.new.items
+        ≡ registers.old.items ++ replicate (end - vec_len registers.old) register }
+    ensures long { vec_len registers.new ≡ end }
+    ensures room { vec_capacity registers.old ≤ vec_capacity registers.new }
+{
+    while registers.len() < end {
+        registers.push_reserved(register);
+    }
+}
+
 /// The registers of the colours that these pixels show. `TooManyColours`: there are more different ones than registers.
 ///
-/// It isn't inlined, so that its loop keeps all that it needs in the processor's registers.
+/// A group of pixels that repeats the one before it begins a run. It isn't inlined, so that its loops keep all that they
+/// need in the processor's registers.
 #[inline(never)]
 fn registers_of(
     alloc: Global,
@@ -104,10 +195,18 @@ fn registers_of(
 {
     let mut last = None;
     let mut registers = Vec::with_capacity(alloc, pixels.len())?;
-    for pixel in pixels {
-        match register_of(numbering, &mut last, pixel) {
-            Some(register) => registers.push_reserved(register),
-            None => return Err(MendFault::TooManyColours),
+    let mut at = 0;
+    let mut step = FEWEST;
+    while at < pixels.len() {
+        if at > 0 && at + LANES <= pixels.len() && are_same(pixels, at, &pixels[at - 1]) {
+            let register = registers[at - 1];
+            at = end_of_run(pixels, at + LANES, &pixels[at - 1]);
+            push_until(&mut registers, at, register);
+            step = FEWEST;
+        } else {
+            at = (at + step).min(pixels.len());
+            number_to(numbering, &mut last, pixels, &mut registers, at)?;
+            step = (2 * step).min(MOST);
         }
     }
     Ok(registers)
